@@ -1,0 +1,136 @@
+-- Frames on the link: four octets of length, the most significant first, and so many octets.
+use Rattle.std.specs.Prelude.{◌≡◌, ℕ, ◌+◌, ◌-◌, ◌==◌, ◌≤◌, nat_lt, Bool, true, false, List, [], ◌∷◌, ◌++◌, length, take, drop, Option, Some, None, if◌then◌else◌}
+use Rattle.std.specs.Int.{w32, from_be_bytes, to_be_bytes}
+use Rattle.world_face.specs.Limits.{most_from_link, most_to_link}
+use Rattle.world_face.specs.Journal.{Entry, Call, Wait, LinkRead, LinkWrite, CallNow, CallWait, CallLinkOpen, CallLinkRead, CallLinkWrite, CallConnect, CallConnected, CallListen, CallAccept, CallTcpRead, CallTcpWrite, CallTcpEnd, CallClose, CallUdpOpen, CallUdpSend, CallUdpRecv, CallFileLen, CallFileRead, count_of}
+use Rattle.poll_list.specs.Listing.{writes}
+use Rattle.world_face.specs.declared.Io.{Io}
+use Rattle.world_face.specs.declared.Io.TheVariants.{Done, End, NotYet, Failed}
+use Rattle.world_face.specs.declared.Waited.{Waited}
+use Rattle.world_face.specs.declared.Waited.TheVariants.{Ready, Stop, Failed as WaitFailed}
+use Rattle.poll_list.specs.declared.Who.TheVariants.{Link}
+
+-- how many octets are missing of the length, or of the frame with its length
+unfoldable pub missing : List ℕ → ℕ
+missing octets = if nat_lt (length octets) 4 then 4 - length octets else 4 + from_be_bytes w32 (take 4 octets) - length octets
+
+-- the length is there, and no frame may be so long
+unfoldable pub is_too_long : List ℕ → Bool
+is_too_long octets = if nat_lt (length octets) 4 then false else nat_lt most_from_link (from_be_bytes w32 (take 4 octets))
+
+-- a length and its frame are whole
+abbrev pub is_whole : List ℕ → Bool
+is_whole octets = missing octets == 0
+
+-- a frame after its length
+unfoldable pub spelling : List ℕ → List ℕ
+spelling frame = to_be_bytes w32 (length frame) ++ frame
+
+-- the octets read of the length or frame that isn't whole
+abbrev pub partial_after : Entry → List ℕ → List ℕ
+partial_after (LinkRead asked answer octets) so_far = if is_whole (so_far ++ octets) then [] else so_far ++ octets
+partial_after _ so_far = so_far
+
+abbrev pub partial : List Entry → List ℕ
+partial [] = []
+partial (e ∷ past) = partial_after e (partial past)
+
+-- the frame that is whole by an entry
+abbrev pub completes : Entry → List ℕ → Option (List ℕ)
+completes (LinkRead asked answer octets) so_far = if is_whole (so_far ++ octets) then Some (drop 4 (so_far ++ octets)) else None
+completes _ so_far = None
+
+abbrev pub arrives : Entry → List Entry → Option (List ℕ)
+arrives e past = completes e (partial past)
+
+-- and by the newest entry
+abbrev pub arrived : List Entry → Option (List ℕ)
+arrived [] = None
+arrived (e ∷ past) = arrives e past
+
+-- entries by which the link, or a wait, ends a run; so far these octets of a frame had come
+abbrev pub read_ends : Io → List ℕ → Bool
+read_ends (Done n) octets = is_too_long octets
+read_ends End octets = true
+read_ends NotYet octets = false
+read_ends Failed octets = true
+
+abbrev pub write_ends : Io → Bool
+write_ends Failed = true
+write_ends _ = false
+
+abbrev pub wait_ends : Waited → Bool
+wait_ends Ready = false
+wait_ends Stop = true
+wait_ends WaitFailed = true
+
+abbrev pub ends : Entry → List ℕ → Bool
+ends (Wait wants timeout answer ready) so_far = wait_ends answer
+ends (LinkRead asked answer octets) so_far = read_ends answer (so_far ++ octets)
+ends (LinkWrite octets answer) so_far = write_ends answer
+ends _ so_far = false
+
+-- what is left of the frame that went out last
+abbrev pub rest_after : Io → List ℕ → List ℕ → List ℕ
+rest_after (Done n) octets rest = drop n octets
+rest_after End octets rest = rest
+rest_after NotYet octets rest = rest
+rest_after Failed octets rest = rest
+
+abbrev pub tail_after : Entry → List ℕ → List ℕ
+tail_after (LinkWrite octets answer) rest = rest_after answer octets rest
+tail_after _ rest = rest
+
+abbrev pub tail : List Entry → List ℕ
+tail [] = []
+tail (e ∷ past) = tail_after e (tail past)
+
+-- the last write took less than it was offered, and no wait since has reported the link ready for writing
+abbrev pub blocked_after : Entry → Bool → Bool
+blocked_after (Wait wants timeout answer ready) blocked = if writes Link ready then false else blocked
+blocked_after (LinkWrite octets answer) blocked = nat_lt (count_of answer) (length octets)
+blocked_after _ blocked = blocked
+
+abbrev pub is_blocked : List Entry → Bool
+is_blocked [] = false
+is_blocked (e ∷ past) = blocked_after e (is_blocked past)
+
+-- the frame that goes out: by a write that takes something where nothing is left of the frame before
+abbrev pub begun_by : Io → List ℕ → Option (List ℕ)
+begun_by (Done n) octets = Some (drop 4 octets)
+begun_by End octets = None
+begun_by NotYet octets = None
+begun_by Failed octets = None
+
+abbrev pub opens : Entry → List ℕ → Option (List ℕ)
+opens (LinkWrite octets answer) [] = begun_by answer octets
+opens _ _ = None
+
+abbrev pub goes_out : Entry → List Entry → Option (List ℕ)
+goes_out e past = opens e (tail past)
+
+-- what may be offered where this is left of the frame before
+abbrev pub MayOffer : List ℕ → List ℕ → Type 0
+MayOffer [] octets = (octets ≡ spelling (drop 4 octets)) × (length octets ≤ most_to_link)
+MayOffer (x ∷ rest) octets = octets ≡ x ∷ rest
+
+-- A read asks for what is missing. A write offers a frame after its length, or what is left of one, where the link isn't blocked.
+abbrev pub MayFrame : List Entry → Call → Type 0
+MayFrame past CallNow = Unit {0}
+MayFrame past (CallWait wants timeout) = Unit {0}
+MayFrame past (CallLinkOpen at) = Unit {0}
+MayFrame past (CallLinkRead asked) = asked ≡ missing (partial past)
+MayFrame past (CallLinkWrite octets) = MayOffer (tail past) octets × (is_blocked past ≡ false)
+MayFrame past (CallConnect socket to) = Unit {0}
+MayFrame past (CallConnected socket) = Unit {0}
+MayFrame past (CallListen socket at) = Unit {0}
+MayFrame past (CallAccept listener socket) = Unit {0}
+MayFrame past (CallTcpRead socket asked) = Unit {0}
+MayFrame past (CallTcpWrite socket octets) = Unit {0}
+MayFrame past (CallTcpEnd socket) = Unit {0}
+MayFrame past (CallClose socket) = Unit {0}
+MayFrame past (CallUdpOpen socket at) = Unit {0}
+MayFrame past (CallUdpSend socket to octets) = Unit {0}
+MayFrame past (CallUdpRecv socket asked) = Unit {0}
+MayFrame past (CallFileLen name) = Unit {0}
+MayFrame past (CallFileRead name place asked) = Unit {0}

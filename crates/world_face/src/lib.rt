@@ -1,0 +1,177 @@
+//! The outside as the network stack sees it: one call at a time, each with its answer.
+#![tactic(auto)]
+
+mod sink;
+
+ghost use Rattle.std.specs.Prelude.{◌≡◌, ◌<◌, ◌≤◌, length};
+ghost use Rattle.world_face.specs.Journal.{filled, filled_got, place_of, IsPlace, Now, Wait, LinkOpen, LinkRead, LinkWrite, Connect, Connected, Listen, Accept, TcpRead, TcpWrite, TcpEnd, Close, UdpOpen, UdpSend, UdpRecv, FileLen, FileRead};
+ghost use Rattle.world_face.specs.Limits.{most_ready, most_to_link, most_to_flow, most_to_udp, most_wants, most_name};
+ghost use Rattle.poll_list.specs.Listing.{AreWants};
+ghost use Rattle.world_face.specs.Tells.{Telling, Answers};
+
+use arrayvec::ArrayString;
+pub use net_octets::{Endpoint, Fault, FaultKind, Ip4, Mac, NoMemory, NoRoom, Prefix};
+pub use poll_list::{ReadyList, Want, Wants, Who};
+pub use sink::{Failed, Sink, VecSink};
+
+/// What a read or a write answers.
+#[derive(Clone, Copy, Debug, PartialEq, Eq)]
+pub enum Io {
+    Done(usize),
+    End,
+    NotYet,
+    Failed,
+}
+
+impl Io {
+    ghost use Rattle.world_face.specs.Journal.{count_of};
+
+    /// How many octets it moved.
+    pub fn count(&self) -> usize
+        ensures { result ≡ count_of self.now }
+    {
+        match *self {
+            Io::Done(n) => n,
+            _ => 0,
+        }
+    }
+}
+
+#[derive(Clone, Copy, Debug, PartialEq, Eq)]
+pub enum Made {
+    Done,
+    Failed,
+}
+
+#[derive(Clone, Copy, Debug, PartialEq, Eq)]
+pub enum Joined {
+    Yes,
+    NotYet,
+    Failed,
+}
+
+#[derive(Clone, Copy, Debug, PartialEq, Eq)]
+pub enum Accepted {
+    From(Endpoint),
+    NotYet,
+    Failed,
+}
+
+#[derive(Clone, Copy, Debug, PartialEq, Eq)]
+pub enum Sent {
+    Done,
+    NotYet,
+    Failed,
+}
+
+#[derive(Clone, Copy, Debug, PartialEq, Eq)]
+pub enum Got {
+    From(Endpoint, usize),
+    NotYet,
+    Failed,
+}
+
+#[derive(Clone, Copy, Debug, PartialEq, Eq)]
+pub enum FileSize {
+    Length(u64),
+    Missing,
+    Failed,
+}
+
+#[derive(Clone, Copy, Debug, PartialEq, Eq)]
+pub enum Waited {
+    Ready,
+    Stop,
+    Failed,
+}
+
+/// Where the link is.
+#[derive(Drop)]
+pub enum LinkAt {
+    Unix(ArrayString<107>),
+    Tcp(Endpoint),
+}
+
+pub trait World {
+    /// What it tells of the calls made on it.
+    ghost tells: { Self → Telling };
+
+    /// The moment, in milliseconds.
+    fn now(&mut self) -> u64
+        ensures { Answers (tells self.old) (tells self.new) (Now result) };
+
+    /// Waits until one of the wants is ready, or the time is over.
+    fn wait(&mut self, wants: &Wants, timeout: Option<u64>, ready: &mut ReadyList) -> Waited
+        requires some { AreWants wants.now.items }
+        requires few { length wants.now.items ≤ most_wants }
+        requires room { most_ready ≤ ready.old.capacity }
+        ensures answers { Answers (tells self.old) (tells self.new) (Wait wants.now.items timeout result ready.new.items) }
+        ensures capacity { ready.new.capacity ≡ ready.old.capacity };
+
+    fn link_open(&mut self, at: &LinkAt) -> Made
+        requires { IsPlace (place_of at.now) }
+        ensures { Answers (tells self.old) (tells self.new) (LinkOpen (place_of at.now) result) };
+
+    fn link_read(&mut self, into: &mut [u8]) -> Io
+        requires { 0 < length into.old }
+        ensures { Answers (tells self.old) (tells self.new) (LinkRead (length into.old) result (filled result into.new)) };
+
+    fn link_write(&mut self, from: &[u8]) -> Io
+        requires some { 0 < length from.now }
+        requires fits { length from.now ≤ most_to_link }
+        ensures { Answers (tells self.old) (tells self.new) (LinkWrite from.now result) };
+
+    /// Starts a connection.
+    fn connect(&mut self, c: u64, to: Endpoint) -> Made
+        ensures { Answers (tells self.old) (tells self.new) (Connect c to result) };
+
+    /// What became of it.
+    fn connected(&mut self, c: u64) -> Joined
+        ensures { Answers (tells self.old) (tells self.new) (Connected c result) };
+
+    fn listen(&mut self, l: u64, at: Endpoint) -> Made
+        ensures { Answers (tells self.old) (tells self.new) (Listen l at result) };
+
+    fn accept(&mut self, l: u64, c: u64) -> Accepted
+        ensures { Answers (tells self.old) (tells self.new) (Accept l c result) };
+
+    fn tcp_read(&mut self, c: u64, into: &mut [u8]) -> Io
+        requires { 0 < length into.old }
+        ensures { Answers (tells self.old) (tells self.new) (TcpRead c (length into.old) result (filled result into.new)) };
+
+    fn tcp_write(&mut self, c: u64, from: &[u8]) -> Io
+        requires some { 0 < length from.now }
+        requires fits { length from.now ≤ most_to_flow }
+        ensures { Answers (tells self.old) (tells self.new) (TcpWrite c from.now result) };
+
+    /// Ends the writing direction.
+    fn tcp_end(&mut self, c: u64) -> Made
+        ensures { Answers (tells self.old) (tells self.new) (TcpEnd c result) };
+
+    /// Gives up a socket of any kind.
+    fn close(&mut self, s: u64)
+        ensures { Answers (tells self.old) (tells self.new) (Close s) };
+
+    fn udp_open(&mut self, s: u64, at: Endpoint) -> Made
+        ensures { Answers (tells self.old) (tells self.new) (UdpOpen s at result) };
+
+    /// The payload may be empty.
+    fn udp_send(&mut self, s: u64, to: Endpoint, from: &[u8]) -> Sent
+        requires { length from.now ≤ most_to_udp }
+        ensures { Answers (tells self.old) (tells self.new) (UdpSend s to from.now result) };
+
+    fn udp_recv(&mut self, s: u64, into: &mut [u8]) -> Got
+        requires { 0 < length into.old }
+        ensures { Answers (tells self.old) (tells self.new) (UdpRecv s (length into.old) result (filled_got result into.new)) };
+
+    fn file_len(&mut self, name: &str) -> FileSize
+        requires some { 0 < length name.now }
+        requires fits { length name.now ≤ most_name }
+        ensures { Answers (tells self.old) (tells self.new) (FileLen name.now result) };
+
+    fn file_read(&mut self, name: &str, at: u64, into: &mut [u8]) -> Io
+        requires some { 0 < length name.now }
+        requires fits { length name.now ≤ most_name }
+        requires room { 0 < length into.old }
+        ensures { Answers (tells self.old) (tells self.new) (FileRead name.now at (length into.old) result (filled result into.new)) };
+}
