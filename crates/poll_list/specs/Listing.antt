@@ -1,5 +1,5 @@
 -- Lists of wants and of ready items.
-use Rattle.std.specs.Prelude.{ℕ, ◌==◌, ◌||◌, ◌&&◌, not, Bool, true, false, List, [], ◌∷◌, Option, Some, None, IsTrue}
+use Rattle.std.specs.Prelude.{ℕ, ◌==◌, ◌^◌, nat_lt, ◌||◌, ◌&&◌, not, Bool, true, false, List, [], ◌∷◌, Option, Some, None, IsTrue}
 use Rattle.std.specs.List.{list_any}
 use Rattle.poll_list.specs.declared.Who.{Who}
 use Rattle.poll_list.specs.declared.Who.TheVariants.{Link, Listener, Udp, Tcp}
@@ -22,10 +22,17 @@ abbrev pub names : Who → List Want → Bool
 names who [] = false
 names who (want ∷ wants) = same_who who want.of || names who wants
 
+-- the number of a socket has 64 bits
+abbrev pub is_who : Who → Bool
+is_who Link = true
+is_who (Listener socket) = nat_lt socket (2 ^ 64)
+is_who (Udp socket) = nat_lt socket (2 ^ 64)
+is_who (Tcp socket) = nat_lt socket (2 ^ 64)
+
 -- each has a direction
 abbrev pub are_wants : List Want → Bool
 are_wants [] = true
-are_wants (want ∷ wants) = (want.read || want.write) && are_wants wants
+are_wants (want ∷ wants) = (want.read || want.write) && is_who want.of && are_wants wants
 
 abbrev pub AreWants : List Want → Type 0
 AreWants wants = IsTrue (are_wants wants)

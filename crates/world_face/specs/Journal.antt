@@ -1,15 +1,17 @@
 -- The calls on a World and their answers.
-use Rattle.std.specs.Prelude.{◌≡◌, ℕ, ◌^◌, All, ◌<◌, ◌≤◌, true, IsTrue, List, [], ◌∷◌, length, take, Option}
+use Rattle.std.specs.Prelude.{◌≡◌, ℕ, ◌^◌, All, ◌<◌, ◌≤◌, true, IsTrue, List, [], ◌∷◌, length, take, Option, Some, None}
 use Rattle.net_octets.specs.declared.Endpoint.{Endpoint}
 use Rattle.world_face.specs.declared.Io.{Io}
 use Rattle.world_face.specs.declared.Io.TheVariants.{Done, End, NotYet, Failed}
 use Rattle.world_face.specs.declared.Made.{Made}
 use Rattle.world_face.specs.declared.Joined.{Joined}
 use Rattle.world_face.specs.declared.Accepted.{Accepted}
+use Rattle.world_face.specs.declared.Accepted.TheVariants.{From as FromPeer, NotYet as NoPeer, Failed as AcceptFailed}
 use Rattle.world_face.specs.declared.Sent.{Sent}
 use Rattle.world_face.specs.declared.Got.{Got}
 use Rattle.world_face.specs.declared.Got.TheVariants.{From, NotYet as GotNotYet, Failed as GotFailed}
 use Rattle.world_face.specs.declared.FileSize.{FileSize}
+use Rattle.world_face.specs.declared.FileSize.TheVariants.{Length, Missing, Failed as SizeFailed}
 use Rattle.world_face.specs.declared.Waited.{Waited}
 use Rattle.world_face.specs.declared.Waited.TheVariants.{Ready, Stop, Failed as WaitFailed}
 use Rattle.poll_list.specs.declared.Want.{Want}
@@ -26,11 +28,6 @@ pub data Place : Type 0 where
 abbrev pub place_of : LinkAt → Place
 place_of (Unix path) = AtPath path.bytes
 place_of (Tcp at) = AtEndpoint at
-
--- a path isn't empty
-abbrev pub IsPlace : Place → Type 0
-IsPlace (AtPath path) = 0 < length path
-IsPlace (AtEndpoint at) = Unit {0}
 
 -- a call with its arguments and its answer
 pub data Entry : Type 0 where
@@ -114,6 +111,16 @@ filled answer into = take (count_of answer) into
 abbrev pub filled_got : Got → List ℕ → List ℕ
 filled_got answer into = take (count_got answer) into
 
+-- octets, each under 256; a number of 64 bits; an address of 32 bits and a port of 16
+abbrev pub AreOctets : List ℕ → Type 0
+AreOctets octets = All (λ octet. octet < 2 ^ 8) octets
+
+abbrev pub IsNumber : ℕ → Type 0
+IsNumber n = n < 2 ^ 64
+
+abbrev pub IsEndpoint : Endpoint → Type 0
+IsEndpoint e = (e.addr.0 < 2 ^ 32) × (e.port < 2 ^ 16)
+
 -- a read moves something where it is done
 abbrev pub MayRead : ℕ → Io → Type 0
 MayRead asked (Done n) = (0 < n) × (n ≤ asked)
@@ -137,7 +144,7 @@ MayReadFile asked Failed = Unit {0}
 
 -- a datagram may be empty
 abbrev pub MayGet : ℕ → Got → Type 0
-MayGet asked (From peer n) = n ≤ asked
+MayGet asked (From peer n) = (n ≤ asked) × IsEndpoint peer
 MayGet asked GotNotYet = Unit {0}
 MayGet asked GotFailed = Unit {0}
 
@@ -147,30 +154,52 @@ MayWait wants Ready ready = IsTrue (are_wants ready) × (differ wants ≡ true �
 MayWait wants Stop ready = ready ≡ []
 MayWait wants WaitFailed ready = ready ≡ []
 
--- octets, each under 256
-abbrev pub AreOctets : List ℕ → Type 0
-AreOctets octets = All (λ octet. octet < 2 ^ 8) octets
+-- a path isn't empty
+abbrev pub IsPlace : Place → Type 0
+IsPlace (AtPath path) = (0 < length path) × AreOctets path
+IsPlace (AtEndpoint at) = IsEndpoint at
 
--- the answers that a World may give
+abbrev pub IsTimeout : Option ℕ → Type 0
+IsTimeout None = Unit {0}
+IsTimeout (Some timeout) = IsNumber timeout
+
+abbrev pub MayAccept : Accepted → Type 0
+MayAccept (FromPeer peer) = IsEndpoint peer
+MayAccept NoPeer = Unit {0}
+MayAccept AcceptFailed = Unit {0}
+
+abbrev pub MayMeasure : FileSize → Type 0
+MayMeasure (Length n) = IsNumber n
+MayMeasure Missing = Unit {0}
+MayMeasure SizeFailed = Unit {0}
+
+-- the octets that a read or a datagram left are as many as it says
+abbrev pub Leaves : Io → List ℕ → Type 0
+Leaves answer octets = (length octets ≡ count_of answer) × AreOctets octets
+
+abbrev pub LeavesGot : Got → List ℕ → Type 0
+LeavesGot answer octets = (length octets ≡ count_got answer) × AreOctets octets
+
+-- The answers that a World may give; and each argument and answer is of its type's range.
 abbrev pub Allowed : Entry → Type 0
-Allowed (Now moment) = Unit {0}
-Allowed (Wait wants timeout answer ready) = MayWait wants answer ready
-Allowed (LinkOpen at answer) = Unit {0}
-Allowed (LinkRead asked answer octets) = MayRead asked answer × (length octets ≡ count_of answer) × AreOctets octets
-Allowed (LinkWrite octets answer) = MayWrite (length octets) answer
-Allowed (Connect socket to answer) = Unit {0}
-Allowed (Connected socket answer) = Unit {0}
-Allowed (Listen socket at answer) = Unit {0}
-Allowed (Accept listener socket answer) = Unit {0}
-Allowed (TcpRead socket asked answer octets) = MayRead asked answer × (length octets ≡ count_of answer) × AreOctets octets
-Allowed (TcpWrite socket octets answer) = MayWrite (length octets) answer
-Allowed (TcpEnd socket answer) = Unit {0}
-Allowed (Close socket) = Unit {0}
-Allowed (UdpOpen socket at answer) = Unit {0}
-Allowed (UdpSend socket to octets answer) = Unit {0}
-Allowed (UdpRecv socket asked answer octets) = MayGet asked answer × (length octets ≡ count_got answer) × AreOctets octets
-Allowed (FileLen name answer) = Unit {0}
-Allowed (FileRead name place asked answer octets) = MayReadFile asked answer × (length octets ≡ count_of answer) × AreOctets octets
+Allowed (Now moment) = IsNumber moment
+Allowed (Wait wants timeout answer ready) = MayWait wants answer ready × IsTrue (are_wants wants) × IsTimeout timeout
+Allowed (LinkOpen at answer) = IsPlace at
+Allowed (LinkRead asked answer octets) = MayRead asked answer × Leaves answer octets × IsNumber asked
+Allowed (LinkWrite octets answer) = MayWrite (length octets) answer × AreOctets octets
+Allowed (Connect socket to answer) = IsNumber socket × IsEndpoint to
+Allowed (Connected socket answer) = IsNumber socket
+Allowed (Listen socket at answer) = IsNumber socket × IsEndpoint at
+Allowed (Accept listener socket answer) = IsNumber listener × IsNumber socket × MayAccept answer
+Allowed (TcpRead socket asked answer octets) = MayRead asked answer × Leaves answer octets × IsNumber asked × IsNumber socket
+Allowed (TcpWrite socket octets answer) = MayWrite (length octets) answer × AreOctets octets × IsNumber socket
+Allowed (TcpEnd socket answer) = IsNumber socket
+Allowed (Close socket) = IsNumber socket
+Allowed (UdpOpen socket at answer) = IsNumber socket × IsEndpoint at
+Allowed (UdpSend socket to octets answer) = IsNumber socket × IsEndpoint to × AreOctets octets
+Allowed (UdpRecv socket asked answer octets) = MayGet asked answer × LeavesGot answer octets × IsNumber asked × IsNumber socket
+Allowed (FileLen name answer) = AreOctets name × MayMeasure answer
+Allowed (FileRead name place asked answer octets) = MayReadFile asked answer × Leaves answer octets × IsNumber asked × IsNumber place × AreOctets name
 
 -- each answer was one that a World may give
 abbrev pub AreAllowed : List Entry → Type 0
