@@ -1,0 +1,33 @@
+-- What contracts see of a World that answers by a schedule.
+use Rattle.std.specs.Prelude.{◌≡◌, ℕ, zero, suc, ◌<◌, Bool, true, false, List, [], ◌∷◌, ◌++◌, length, Option, None}
+use Rattle.world_face.specs.Journal.{Entry, Call}
+use Rattle.world_face.specs.Tells.{Telling, Counts}
+use Rattle.replay.specs.Text.{line_text}
+
+-- the lines of a schedule, the first one first; how many are used up; whether it still answers by them; the call that fitted none; the faults so far
+pub record Script : Type 0 where
+  pub lines : List Entry
+  pub used : ℕ
+  pub live : Bool
+  pub stop : Option Call
+  pub faults : Counts
+
+-- the first n entries, newest first, before these
+abbrev pub newest_onto : ℕ → List Entry → List Entry → List Entry
+newest_onto zero lines older = older
+newest_onto (suc n) [] older = older
+newest_onto (suc n) (line ∷ lines) older = newest_onto n lines (line ∷ older)
+
+abbrev pub script_tells : Script → Telling
+script_tells script = record { kept = newest_onto script.used script.lines []; live = script.live; stop = script.stop; faults = script.faults }
+
+-- the text of a schedule's lines, in their order
+abbrev pub schedule_text : List Entry → List ℕ
+schedule_text [] = []
+schedule_text (line ∷ lines) = line_text line ++ schedule_text lines
+
+-- nothing is used up, and it answers
+pub record IsFresh (script : Script) : Type 0 where
+  pub used : script.used ≡ 0
+  pub live : script.live ≡ true
+  pub stop : script.stop ≡ None
