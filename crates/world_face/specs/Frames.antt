@@ -7,16 +7,20 @@ use Rattle.poll_list.specs.Listing.{writes}
 use Rattle.world_face.specs.declared.Io.{Io}
 use Rattle.world_face.specs.declared.Io.TheVariants.{Done, End, NotYet, Failed}
 use Rattle.world_face.specs.declared.Waited.{Waited}
-use Rattle.world_face.specs.declared.Waited.TheVariants.{Ready, Stop, Failed as WaitFailed}
+use Rattle.world_face.specs.declared.Waited.TheVariants.{Ready, Stop, Failed as WaitFails}
 use Rattle.poll_list.specs.declared.Who.TheVariants.{Link}
+
+-- the length that the first four octets spell
+unfoldable pub spelt_length : List ℕ → ℕ
+spelt_length octets = from_be_bytes w32 (take 4 octets)
 
 -- how many octets are missing of the length, or of the frame with its length
 unfoldable pub missing : List ℕ → ℕ
-missing octets = if nat_lt (length octets) 4 then 4 - length octets else 4 + from_be_bytes w32 (take 4 octets) - length octets
+missing octets = if nat_lt (length octets) 4 then 4 - length octets else 4 + spelt_length octets - length octets
 
 -- the length is there, and no frame may be so long
 unfoldable pub is_too_long : List ℕ → Bool
-is_too_long octets = if nat_lt (length octets) 4 then false else nat_lt most_from_link (from_be_bytes w32 (take 4 octets))
+is_too_long octets = if nat_lt (length octets) 4 then false else nat_lt most_from_link (spelt_length octets)
 
 -- a length and its frame are whole
 abbrev pub is_whole : List ℕ → Bool
@@ -48,27 +52,39 @@ abbrev pub arrived : List Entry → Option (List ℕ)
 arrived [] = None
 arrived (e ∷ past) = arrives e past
 
--- entries by which the link, or a wait, ends a run; so far these octets of a frame had come
-abbrev pub read_ends : Io → List ℕ → Bool
-read_ends (Done n) octets = is_too_long octets
-read_ends End octets = true
-read_ends NotYet octets = false
-read_ends Failed octets = true
+-- Why a run ends: the link ended between two frames, or inside a length or frame of which so many octets had come;
+-- a length is too great; a call on the link failed; a wait was told to stop, or failed.
+pub data Ending : Type 0 where
+  LinkEnded : Ending
+  LinkCut : (octets : ℕ) → Ending
+  LongFrame : (length : ℕ) → Ending
+  LinkFailed : Ending
+  Stopped : Ending
+  WaitFailed : Ending
 
-abbrev pub write_ends : Io → Bool
-write_ends Failed = true
-write_ends _ = false
+-- the ending by a read, with the octets of a length or frame so far
+abbrev pub read_ending : Io → List ℕ → Option Ending
+read_ending (Done n) octets = if is_too_long octets then Some (LongFrame (spelt_length octets)) else None
+read_ending End [] = Some LinkEnded
+read_ending End (x ∷ octets) = Some (LinkCut (length (x ∷ octets)))
+read_ending NotYet octets = None
+read_ending Failed octets = Some LinkFailed
 
-abbrev pub wait_ends : Waited → Bool
-wait_ends Ready = false
-wait_ends Stop = true
-wait_ends WaitFailed = true
+abbrev pub write_ending : Io → Option Ending
+write_ending Failed = Some LinkFailed
+write_ending _ = None
 
-abbrev pub ends : Entry → List ℕ → Bool
-ends (Wait wants timeout answer ready) so_far = wait_ends answer
-ends (LinkRead asked answer octets) so_far = read_ends answer (so_far ++ octets)
-ends (LinkWrite octets answer) so_far = write_ends answer
-ends _ so_far = false
+abbrev pub wait_ending : Waited → Option Ending
+wait_ending Ready = None
+wait_ending Stop = Some Stopped
+wait_ending WaitFails = Some WaitFailed
+
+-- an entry by which the link, or a wait, ends a run
+abbrev pub ending : Entry → List ℕ → Option Ending
+ending (Wait wants timeout answer ready) so_far = wait_ending answer
+ending (LinkRead asked answer octets) so_far = read_ending answer (so_far ++ octets)
+ending (LinkWrite octets answer) so_far = write_ending answer
+ending _ so_far = None
 
 -- what is left of the frame that went out last
 abbrev pub rest_after : Io → List ℕ → List ℕ → List ℕ

@@ -1,0 +1,4 @@
+pub mod Frames
+pub mod Keeps
+pub mod Offers
+pub mod State

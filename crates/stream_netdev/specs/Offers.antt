@@ -1,0 +1,19 @@
+-- The answers of writes.
+use Rattle.std.specs.Prelude.{ℕ, List, []}
+use Rattle.world_face.specs.declared.Io.{Io}
+use Rattle.world_face.specs.declared.Io.TheVariants.{Done, End, NotYet, Failed as IoFailed}
+use Rattle.stream_netdev.specs.declared.Offered.{Offered}
+use Rattle.stream_netdev.specs.declared.Offered.TheVariants.{Taken, Blocked, Failed}
+
+-- the answer of a write, seen by who offered
+abbrev pub offered : Io → Offered
+offered (Done n) = Taken
+offered End = Blocked
+offered NotYet = Blocked
+offered IoFailed = Failed
+
+-- what is left of a frame of which this was left, or nothing where none of it was taken
+abbrev pub left : Offered → List ℕ → List ℕ
+left Taken rest = rest
+left Blocked rest = []
+left Failed rest = []

@@ -1,0 +1,337 @@
+//! The link to the guest: frames after their lengths on a stream, in whatever pieces its octets come and go (QEMU's stream netdev).
+#![tactic(auto)]
+
+ghost use Rattle.std.specs.Prelude.{◌≡◌, ℕ, ◌+◌, ◌-◌, ◌^◌, ◌<◌, ◌≤◌, List, [], ◌++◌, length, take, drop, nat_lt, true, false, IfOk, if◌then◌else◌};
+ghost use Rattle.world_face.specs.Journal.{LinkRead, count_of};
+ghost use Rattle.world_face.specs.Tells.{Answers};
+ghost use Rattle.world_face.specs.Frames.{spelling};
+ghost use Rattle.stream_netdev.specs.Offers.{offered};
+
+use net_octets::NoMemory;
+use std::alloc::Global;
+use std::marker::Model;
+use world_face::{Io, World};
+
+/// The longest frame.
+const LIMIT: u32 = 69632;
+
+/// Room for it and its length.
+const ROOM: usize = 69636;
+
+/// The most octets that a write offers.
+const OUT: usize = 1518;
+
+#[derive(Clone, Copy, Debug, PartialEq, Eq)]
+pub enum Arrived {
+    Frame,
+    NotYet,
+    End,
+    Cut(usize),
+    TooLong(u32),
+    Failed,
+}
+
+#[derive(Clone, Copy, Debug, PartialEq, Eq)]
+pub enum Offered {
+    Taken,
+    Blocked,
+    Failed,
+}
+
+enum Look {
+    More,
+    Whole,
+    TooLong(u32),
+}
+
+#[derive(Drop)]
+pub struct Link {
+    buffer: Vec<u8>,
+    have: usize,
+    whole: bool,
+    out: Vec<u8>,
+    from: usize,
+    to: usize,
+    blocked: bool,
+}
+
+impl Model for Link {
+    ghost use Rattle.std.specs.Prelude.{◌≡◌, ◌-◌, ◌≤◌, length, take, drop};
+    ghost use Rattle.stream_netdev.specs.State.{LinkState};
+
+    ghost Value = { LinkState };
+
+    ghost view = { λ l. record { octets = take l.have l.buffer.items; whole = l.whole; tail = take (l.to - l.from) (drop l.from l.out.items); blocked = l.blocked } };
+
+    ghost invariant = { λ l. (l.from ≤ l.to) × (l.to ≤ 1518) × (length l.out.items ≡ 1518) × (length l.buffer.items ≡ 69636) × (l.have ≤ 69636) };
+}
+
+impl Link {
+    ghost use Rattle.world_face.specs.Journal.{Entry, LinkWrite};
+    ghost use Rattle.world_face.specs.Tells.{Makes};
+    ghost use Rattle.world_face.specs.Frames.{missing};
+    ghost use Rattle.world_face.specs.Frames.{spelt_length};
+    ghost use Rattle.stream_netdev.specs.State.{under_way, frame_of};
+    ghost use Rattle.stream_netdev.specs.Keeps.{ReadsOn, Keeps, ReadsFrame, GoesOn, Looks, Writes, Settles, ended_after};
+    ghost use Rattle.stream_netdev.specs.Offers.{left};
+
+    /// A link of which nothing was read or written, with room for the greatest frames.
+    pub fn open(alloc: Global) -> Result<Link, NoMemory>
+        ensures { IfOk result (λ link. (under_way link ≡ []) × (link.tail ≡ []) × (link.blocked ≡ false)) }
+    {
+        let Ok(buffer) = vec![in alloc; 0; ROOM] else {
+            return Err(NoMemory);
+        };
+        let Ok(out) = vec![in alloc; 0; OUT] else {
+            return Err(NoMemory);
+        };
+        Ok(Link {
+            buffer,
+            have: 0,
+            whole: false,
+            out,
+            from: 0,
+            to: 0,
+            blocked: false,
+        })
+    }
+
+    // The number that the first four octets spell.
+    #[tactic(auto, unfolding(world_face::specs::Frames::spelt_length))]
+    fn length(&self) -> u32
+        requires { 4 ≤ length self.now.octets }
+        ensures { result ≡ spelt_length self.now.octets }
+    {
+        let (front, _) = self.buffer[..self.have].split_at(4);
+        u32::from_be_bytes([front[0], front[1], front[2], front[3]])
+    }
+
+    // How many octets are missing of the length, or of the frame with its length.
+    #[tactic(auto, unfolding(world_face::specs::Frames::missing))]
+    fn missing(&self) -> usize
+        ensures { result ≡ missing self.now.octets }
+    {
+        if self.have < 4 {
+            4 - self.have
+        } else {
+            (4 + self.length() as usize).saturating_sub(self.have)
+        }
+    }
+
+    // Reads some of what is missing.
+    fn read_some<W: World>(&mut self, world: &mut W) -> Io
+        requires { ReadsOn self.old.octets }
+        ensures read { (octets : List ℕ) × Answers (W.tells world.old) (W.tells world.new) (LinkRead (missing self.old.octets) result octets)
+            × (self.new.octets ≡ self.old.octets ++ octets) }
+        ensures whole { self.new.whole ≡ self.old.whole }
+        ensures same { (self.new.tail ≡ self.old.tail) × (self.new.blocked ≡ self.old.blocked) }
+    {
+        let missing = self.missing();
+        let answer = read_part(world, &mut self.buffer, self.have, missing);
+        self.have += answer.count();
+        answer
+    }
+
+    // Makes way for the next frame.
+    fn begin(&mut self)
+        ensures octets { self.new.octets ≡ under_way self.old }
+        ensures whole { self.new.whole ≡ false }
+        ensures same { (self.new.tail ≡ self.old.tail) × (self.new.blocked ≡ self.old.blocked) }
+    {
+        if self.whole {
+            self.whole = false;
+            self.have = 0;
+        }
+    }
+
+    // The frame is whole.
+    fn finish(&mut self)
+        ensures whole { self.new.whole ≡ true }
+        ensures same { (self.new.octets ≡ self.old.octets) × (self.new.tail ≡ self.old.tail) × (self.new.blocked ≡ self.old.blocked) }
+    {
+        self.whole = true;
+    }
+
+    // The link ended after these octets of a length or frame.
+    fn ended(&self) -> Arrived
+        ensures { result ≡ ended_after self.now.octets }
+    {
+        if self.have == 0 {
+            Arrived::End
+        } else {
+            Arrived::Cut(self.have)
+        }
+    }
+
+    // What the octets so far come to.
+    #[tactic(auto, unfolding(world_face::specs::Frames::missing, world_face::specs::Frames::is_too_long))]
+    fn look(&self) -> Look
+        ensures { Looks result self.now.octets }
+    {
+        if self.have < 4 {
+            return Look::More;
+        }
+        let length = self.length();
+        if length > LIMIT {
+            Look::TooLong(length)
+        } else if self.have < 4 + length as usize {
+            Look::More
+        } else {
+            Look::Whole
+        }
+    }
+
+    /// Reads until a frame is whole, or the World answers otherwise.
+    pub fn read_frame<W: World>(&mut self, world: &mut W) -> Arrived
+        requires { ReadsOn (under_way self.old) }
+        ensures makes { Makes (W.tells world.old) (W.tells world.new) (λ made. (past : List Entry) → Keeps self.old past
+            → Keeps self.new (made ++ past) × ReadsFrame result self.new made past) }
+        ensures same { (self.new.tail ≡ self.old.tail) × (self.new.blocked ≡ self.old.blocked) }
+        ensures on { GoesOn result self.new }
+    {
+        self.begin();
+        loop {
+            match self.read_some(world) {
+                Io::Done(_) => match self.look() {
+                    Look::More => {}
+                    Look::Whole => {
+                        self.finish();
+                        return Arrived::Frame;
+                    }
+                    Look::TooLong(length) => return Arrived::TooLong(length),
+                },
+                Io::End => return self.ended(),
+                Io::NotYet => return Arrived::NotYet,
+                Io::Failed => return Arrived::Failed,
+            }
+        }
+    }
+
+    pub fn blocked(&self) -> bool
+        ensures { result ≡ self.now.blocked }
+    {
+        self.blocked
+    }
+
+    /// How many octets are left of the frame that went out last.
+    pub fn tail(&self) -> usize
+        ensures { result ≡ length self.now.tail }
+    {
+        self.to - self.from
+    }
+
+    /// After a wait that reported the link ready for writing.
+    pub fn unblock(&mut self)
+        ensures free { self.new.blocked ≡ false }
+        ensures same { (self.new.tail ≡ self.old.tail) × (self.new.octets ≡ self.old.octets) × (self.new.whole ≡ self.old.whole) }
+    {
+        self.blocked = false;
+    }
+
+    /// The frame that was read last.
+    pub fn frame(&self) -> &[u8]
+        ensures { result.now ≡ frame_of self.now }
+    {
+        &self.buffer[..self.have][self.have.min(4)..]
+    }
+
+    // Offers the rest.
+    fn send<W: World>(&mut self, world: &mut W) -> Offered
+        requires { 0 < length self.old.tail }
+        ensures sent { (answer : Io) × Answers (W.tells world.old) (W.tells world.new) (LinkWrite self.old.tail answer)
+            × (result ≡ offered answer) × (self.new.tail ≡ drop (count_of answer) self.old.tail)
+            × (self.new.blocked ≡ nat_lt (count_of answer) (length self.old.tail)) }
+        ensures same { under_way self.new ≡ under_way self.old }
+    {
+        let answer = world.link_write(&self.out[self.from..self.to]);
+        let count = answer.count();
+        self.blocked = count < self.tail();
+        self.from += count;
+        offered_of(answer)
+    }
+
+    #[tactic(auto, unfolding(world_face::specs::Frames::spelling))]
+    // Puts a frame and its length where the rest is sent from.
+    fn load(&mut self, frame: &[u8])
+        requires { length frame.now ≤ 1514 }
+        ensures rest { self.new.tail ≡ spelling frame.now }
+        ensures same { (under_way self.new ≡ under_way self.old) × (self.new.blocked ≡ self.old.blocked) }
+    {
+        spell(&mut self.out, frame);
+        self.from = 0;
+        self.to = 4 + frame.len();
+    }
+
+    // Gives up a frame of which nothing was taken.
+    fn settle(&mut self, offer: &Offered)
+        ensures rest { self.new.tail ≡ left offer.now self.old.tail }
+        ensures same { (under_way self.new ≡ under_way self.old) × (self.new.blocked ≡ self.old.blocked) }
+    {
+        match offer {
+            Offered::Taken => {}
+            Offered::Blocked | Offered::Failed => self.from = self.to,
+        }
+    }
+
+    /// Offers the rest of the frame that went out last.
+    pub fn flush<W: World>(&mut self, world: &mut W) -> Offered
+        requires some { 0 < length self.old.tail }
+        requires free { self.old.blocked ≡ false }
+        ensures makes { Makes (W.tells world.old) (W.tells world.new) (λ made. Writes result self.old.tail made
+            × ((past : List Entry) → Keeps self.old past → Keeps self.new (made ++ past))) }
+        ensures settles { Settles result self.new }
+        ensures same { under_way self.new ≡ under_way self.old }
+    {
+        self.send(world)
+    }
+
+    /// Offers a frame.
+    pub fn offer<W: World>(&mut self, world: &mut W, frame: &[u8]) -> Offered
+        requires none { self.old.tail ≡ [] }
+        requires free { self.old.blocked ≡ false }
+        requires fits { length frame.now ≤ 1514 }
+        ensures makes { Makes (W.tells world.old) (W.tells world.new) (λ made. Writes result (spelling frame.now) made
+            × ((past : List Entry) → Keeps self.old past → Keeps self.new (made ++ past))) }
+        ensures settles { Settles result self.new }
+        ensures same { under_way self.new ≡ under_way self.old }
+    {
+        self.load(frame);
+        let result = self.send(world);
+        self.settle(&result);
+        result
+    }
+}
+
+// Reads into a part of a buffer.
+fn read_part<W: World>(world: &mut W, buffer: &mut [u8], from: usize, asked: usize) -> Io
+    requires some { 0 < asked }
+    requires fits { from + asked ≤ length buffer.old }
+    ensures read { (octets : List ℕ) × Answers (W.tells world.old) (W.tells world.new) (LinkRead asked result octets)
+        × (take (from + count_of result) buffer.new ≡ take from buffer.old ++ octets) }
+    ensures count { count_of result ≤ asked }
+{
+    world.link_read(&mut buffer[from..from + asked])
+}
+
+// The answer of a write, seen by who offered.
+fn offered_of(answer: Io) -> Offered
+    ensures { result ≡ offered answer }
+{
+    match answer {
+        Io::Done(_) => Offered::Taken,
+        Io::End | Io::NotYet => Offered::Blocked,
+        Io::Failed => Offered::Failed,
+    }
+}
+
+// Writes a frame's length and the frame to the front of a buffer.
+#[tactic(auto, unfolding(world_face::specs::Frames::spelling))]
+fn spell(into: &mut [u8], frame: &[u8])
+    requires small { length frame.now < 2 ^ 32 }
+    requires fits { 4 + length frame.now ≤ length into.old }
+    ensures { take (4 + length frame.now) into.new ≡ spelling frame.now }
+{
+    let length = (frame.len() as u32).to_be_bytes();
+    into[..4].copy_from_slice(&length);
+    into[4..4 + frame.len()].copy_from_slice(frame);
+}
