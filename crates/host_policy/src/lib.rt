@@ -99,7 +99,10 @@ impl Policy {
         let size = (1 << 32) - self.config.vnetmask.0 as u64;
         let network = self.config.vnetwork.0 as u64;
         let address = a.0 as u64;
-        address / size == network / size && address != network && address != network + size - 1 && !self.is_ours(a)
+        address / size == network / size
+            && address != network
+            && address != network + size - 1
+            && !self.is_ours(a)
     }
 }
 

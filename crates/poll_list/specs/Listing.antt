@@ -54,11 +54,9 @@ abbrev pub differ : List Want → Bool
 differ [] = true
 differ (want ∷ wants) = not (list_any (λ w. same_number (number_of want.of) (number_of w.of)) wants) && differ wants
 
--- this is wanted, for reading or for writing
+-- this is among them for reading, or for writing
 abbrev pub reads : Who → List Want → Bool
-reads who [] = false
-reads who (want ∷ wants) = (same_who who want.of && want.read) || reads who wants
+reads who wants = list_any (λ want. same_who who want.of && want.read) wants
 
 abbrev pub writes : Who → List Want → Bool
-writes who [] = false
-writes who (want ∷ wants) = (same_who who want.of && want.write) || writes who wants
+writes who wants = list_any (λ want. same_who who want.of && want.write) wants

@@ -8,7 +8,7 @@ use Rattle.world_face.proofs.Telling.{makes_next, makes_as}
 use Rattle.world_face.specs.declared.Io.{Io}
 use Rattle.world_face.specs.declared.Io.TheVariants.{Done, End}
 use Rattle.world_face.specs.Frames.{LongFrame, missing, spelt_length, is_whole, is_too_long, partial, arrived, read_ending, tail, is_blocked, MayFrame}
-use Rattle.stream_netdev.specs.Frames.{cut, ended, Pieces, Reads}
+use Rattle.stream_netdev.specs.Frames.{cut, ended, IsDone, Pieces, Reads}
 use Rattle.stream_netdev.specs.Keeps.{ReadsOn, Keeps, ReadsFrame, hands, ending_of, ended_after}
 use Rattle.stream_netdev.specs.State.{LinkState, under_way}
 use Rattle.stream_netdev.specs.declared.Arrived.{Arrived}
@@ -31,7 +31,7 @@ pub record Read (link : LinkState) (answer : Io) (made past : List Entry) (octet
   pub reads : Reads made past
   pub frame : arrived (made ++ past) ≡ (if is_whole octets then Some (drop 4 octets) else None)
   pub last : ended (made ++ past) ≡ read_ending answer octets
-  pub pieces : is_whole octets ≡ false → read_ending answer octets ≡ None → Pieces made past
+  pub pieces : IsDone answer → is_whole octets ≡ false → read_ending answer octets ≡ None → Pieces made past
 
 one_more : (link : LinkState) (made past : List Entry) (octets got new : List ℕ) (answer : Io) → Middle link made past octets → new ≡ octets ++ got
     → Read link answer (LinkRead (missing octets) answer got ∷ made) past new
@@ -46,7 +46,7 @@ one_more link made past octets got new answer middle joined =
       reads = (tt, middle.pieces);
       frame = frame;
       last = ap (read_ending answer) here;
-      pieces = λ open_end goes_on. (tt, frame ∙ ap (λ b. cond b (Some (drop 4 new)) None) open_end, ap (read_ending answer) here ∙ goes_on, middle.pieces);
+      pieces = λ done open_end goes_on. (done, frame ∙ ap (λ b. cond b (Some (drop 4 new)) None) open_end, ap (read_ending answer) here ∙ goes_on, middle.pieces);
     }
 
 module _ (a b c : Telling) (link : LinkState) (octets new : List ℕ) (answer : Io)
@@ -65,8 +65,8 @@ module _ (a b c : Telling) (link : LinkState) (octets new : List ℕ) (answer : 
       empty (x ∷ got) is = absurd (omega arith)
 
 -- the reads so far, where no frame is whole
-pub read_middle : (link : LinkState) (answer : Io) (made past : List Entry) (octets : List ℕ) → is_whole octets ≡ false → read_ending answer octets ≡ None → Read link answer made past octets → Middle link made past octets
-read_middle link answer made past octets open_end goes_on r = record { framed = r.framed; partly = r.partly ∙ ap (λ b. cond b [] octets) open_end; rest = r.rest; blocked = r.blocked; pieces = r.pieces open_end goes_on }
+pub read_middle : (link : LinkState) (answer : Io) (made past : List Entry) (octets : List ℕ) → IsDone answer → is_whole octets ≡ false → read_ending answer octets ≡ None → Read link answer made past octets → Middle link made past octets
+read_middle link answer made past octets done open_end goes_on r = record { framed = r.framed; partly = r.partly ∙ ap (λ b. cond b [] octets) open_end; rest = r.rest; blocked = r.blocked; pieces = r.pieces done open_end goes_on }
 
 -- what is kept where no frame is whole, and where one is
 pub read_open : (old link : LinkState) (answer : Io) (made past : List Entry) → link.whole ≡ false → (link.tail ≡ old.tail) × (link.blocked ≡ old.blocked) → is_whole link.octets ≡ false

@@ -5,6 +5,7 @@ use Rattle.world_face.proofs.Telling.{makes_as}
 use Rattle.stream_netdev.specs.Keeps.{Keeps, ReadsFrame, ended_after}
 use Rattle.world_face.specs.Frames.{missing, is_whole}
 use Rattle.stream_netdev.proofs.Reading.{a_read, the_same, read_middle, no_frame, unfinished_of, goes_on, ends_long, read_whole, reads_next, ends_hand, ends_tell}
+use Rattle.world_face.specs.declared.Io.TheVariants.{Done}
 use Rattle.stream_netdev.specs.declared.Arrived.TheVariants.{NotYet, End, Cut, TooLong, Failed}
 use Rattle.stream_netdev.proofs.Link.read_frame.Goals as goal
 
@@ -13,7 +14,7 @@ loop-self-preserved g c =
     let new = c.read_some.new.self in
     let read = a_read _ _ _ c.args.self.now _ new.octets _ c.loop-self.invariant.makes c.in-Done.ensures.read in
     record {
-      makes = makes_as _ _ _ _ read (λ made holds past keeps. read_middle _ _ made past new.octets (unfinished_of _ c.in-More.ensures.0.some) (goes_on c.in-Done.field-0 new.octets c.in-More.ensures.1) (holds past keeps));
+      makes = makes_as _ _ _ _ read (λ made holds past keeps. read_middle _ (Done c.in-Done.field-0) made past new.octets tt (unfinished_of _ c.in-More.ensures.0.some) (goes_on c.in-Done.field-0 new.octets c.in-More.ensures.1) (holds past keeps));
       on = c.in-More.ensures.0;
       begun = c.in-Done.ensures.whole ∙ c.loop-self.invariant.begun;
       same = (c.in-Done.ensures.same.0 ∙ c.loop-self.invariant.same.0, c.in-Done.ensures.same.1 ∙ c.loop-self.invariant.same.1);
@@ -58,7 +59,7 @@ returns-in-End-clause-makes g c =
     let read = a_read _ _ _ c.args.self.now _ new.octets _ now.makes c.in-End.ensures.read in
     let none = the_same _ _ _ c.args.self.now c.loop-self.self.octets new.octets _ now.makes c.in-End.ensures.read refl in
     subst (λ r. Makes (g.W.World.tells c.args.world.now) (g.W.World.tells c.read_some.new.world) (λ made. (past : List Entry) → Keeps c.args.self.now past → Keeps new (made ++ past) × ReadsFrame r new made past)) (sym c.ended.ensures)
-      (no_frame _ _ c.args.self.now new _ (ended_after new.octets) (c.in-End.ensures.whole ∙ now.begun) (c.in-End.ensures.same.0 ∙ now.same.0, c.in-End.ensures.same.1 ∙ now.same.1) (ap is_whole none ∙ unfinished_of _ now.on.some) (ends_hand new.octets new) (ends_tell new.octets) read)
+    (no_frame _ _ c.args.self.now new _ (ended_after new.octets) (c.in-End.ensures.whole ∙ now.begun) (c.in-End.ensures.same.0 ∙ now.same.0, c.in-End.ensures.same.1 ∙ now.same.1) (ap is_whole none ∙ unfinished_of _ now.on.some) (ends_hand new.octets new) (ends_tell new.octets) read)
 
 pub returns-in-Whole-clause-on : goal.returns-in-Whole-clause-on
 returns-in-Whole-clause-on g c = reads_next c.finish.new.self c.finish.ensures.whole

@@ -11,7 +11,7 @@ returns-clause-sent g c =
     let answer = c.link_write-answer.result in
     let tail_is = ap (λ q. q.tail) c.self.view_is in
     let answers = subst (λ l. Answers (g.W.World.tells c.args.world.now) (g.W.World.tells c.link_write-answer.new.self) (LinkWrite l answer))
-      (ap (λ l. take (inside.to - inside.from) (drop inside.from l)) c.deref.ensures.value ∙ tail_is) c.link_write-answer.ensures in
+    (ap (λ l. take (inside.to - inside.from) (drop inside.from l)) c.deref.ensures.value ∙ tail_is) c.link_write-answer.ensures in
     let room = length-rest inside.from inside.to inside.out.items c.self.invariant.0 c.self.invariant.1 c.self.invariant.2 in
     let most : count_of answer ≤ inside.to - inside.from = omega (arith, write_most (length rest) answer answers.allowed.0, room, ap length tail_is) in
     let fits : c.count-count.result ≤ inside.to - inside.from = omega (arith, c.count-count.ensures) in (

@@ -1,0 +1,3 @@
+mod Pumping
+mod Serving
+mod Turning

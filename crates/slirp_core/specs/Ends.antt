@@ -1,0 +1,34 @@
+-- The ends of a run.
+use Rattle.std.specs.Prelude.{ℕ}
+use Rattle.world_face.specs.Frames.{Ending, LinkEnded, LinkCut, LongFrame, LinkFailed, Stopped, WaitFailed}
+use Rattle.host_policy.specs.Addresses.{Config}
+use Rattle.slirp_laws.specs.Shape.{Cause, By, Refused, Phase, Opening, Woken, Working, Over}
+use Rattle.slirp_core.specs.declared.slirp.Pumped.{Pumped}
+use Rattle.slirp_core.specs.declared.slirp.Pumped.TheVariants.{Clear, Blocked, Failed as PumpFailed}
+use Rattle.slirp_core.specs.declared.service.Turn.{Turn}
+use Rattle.slirp_core.specs.declared.service.Turn.TheVariants.{Again, Ended}
+use Rattle.slirp_core.specs.declared.service.End.{End}
+use Rattle.slirp_core.specs.declared.service.End.TheVariants.{Done, TooLong, Cut, LinkFault, WaitFault, TurnsSpent}
+
+-- the end by an ending entry: the link ended between frames or a wait was told to stop; and so on
+abbrev pub end_by : Ending → End
+end_by LinkEnded = Done
+end_by (LinkCut octets) = Cut octets
+end_by (LongFrame length) = TooLong length
+end_by LinkFailed = LinkFault
+end_by Stopped = Done
+end_by WaitFailed = WaitFault
+
+-- a pump ends a turn where the link failed
+abbrev pub turn_of : Pumped → Turn
+turn_of Clear = Again
+turn_of Blocked = Again
+turn_of PumpFailed = Ended LinkFault
+
+-- where no entry ended a run that is finished, its turns are spent
+abbrev pub end_of : Config → Phase → End
+end_of config (Over (By why)) = end_by why
+end_of config (Over (Refused forward)) = TurnsSpent config.turns
+end_of config (Opening opened forwards) = TurnsSpent config.turns
+end_of config Woken = TurnsSpent config.turns
+end_of config Working = TurnsSpent config.turns

@@ -1,0 +1,6 @@
+pub mod Ends
+pub mod Holds
+pub mod Packets
+pub mod Pumps
+pub mod Served
+pub mod State

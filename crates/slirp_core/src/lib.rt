@@ -1,0 +1,8 @@
+//! The core of the network, and the loop that serves a guest.
+#![tactic(auto)]
+
+mod service;
+mod slirp;
+
+pub use service::{End, Service, Turn};
+pub use slirp::{Pumped, Slirp};

@@ -1,0 +1,6 @@
+pub mod Answers
+pub mod Guests
+pub mod Laws
+pub mod Readiness
+pub mod Served
+pub mod Shape
