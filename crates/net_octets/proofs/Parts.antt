@@ -1,6 +1,6 @@
 -- Octets taken apart are what they were.
-use Rattle.std.proofs.Common.{◌≡◌, ℕ, ◌+◌, ◌<◌, ◌≤◌, List, [], ◌∷◌, ◌++◌, length, get_or, take, drop, refl, sym, ap, ◌∙◌, ◌^◌, inl, inr, arith}
-use Rattle.std.proofs.lemmas.List.{drop-drop, take-append-drop, length-take, get_or-take, get_or_past, drop_more}
+use Rattle.std.proofs.Common.{◌≡◌, ℕ, ◌+◌, ◌-◌, ◌<◌, ◌≤◌, List, [], ◌∷◌, ◌++◌, length, get_or, take, drop, refl, sym, ap, ◌∙◌, ◌^◌, inl, inr, arith}
+use Rattle.std.proofs.lemmas.List.{drop-drop, take-append-drop, length-take, get_or-take, get_or_past, drop_more, drop-take, take-take}
 use Rattle.std.proofs.Common.{length-drop}
 use Rattle.std.proofs.lemmas.List.{get_or-drop}
 use Rattle.std.proofs.lemmas.Bool.{cases_lt}
@@ -39,3 +39,15 @@ four_at-fits octets i fits = omega (arith, part_fits octets i 4 0 fits, part_fit
 pub part_two : (octets : List ℕ) (i : ℕ) → i + 2 ≤ length octets → part octets i 2 ≡ one_at octets i ∷ one_at octets (i + 1) ∷ []
 part_two octets i le =
     ap (take 2) (drop_more octets i 0 (omega arith)) ∙ ap (λ (xs : List ℕ). get_or octets i 0 ∷ take 1 xs) (drop_more octets (i + 1) 0 (omega arith))
+
+-- a part of a front
+pub part-take : (octets : List ℕ) (i n k : ℕ) → i + n ≤ k → part (take k octets) i n ≡ part octets i n
+part-take octets i n k le =
+    let same : i + (k - i) ≡ k = omega arith in
+    ap (λ (m : ℕ). take n (drop i (take m octets))) (sym same)
+    ∙ ap (take n) (drop-take i (k - i) octets)
+    ∙ take-take n (k - i) (drop i octets) (omega arith)
+
+-- the octets of a front
+pub IsOctets-take : (octets : List ℕ) (k : ℕ) → IsOctets octets → IsOctets (take k octets)
+IsOctets-take octets k fits = λ i. part_fits octets 0 k i fits
