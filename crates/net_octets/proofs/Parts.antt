@@ -1,11 +1,11 @@
 -- Octets taken apart are what they were.
-use Rattle.std.proofs.Common.{◌≡◌, ℕ, ◌+◌, ◌<◌, ◌≤◌, List, ◌++◌, length, get_or, drop, refl, sym, ap, ◌∙◌, ◌^◌, inl, inr, arith}
-use Rattle.std.proofs.lemmas.List.{drop-drop, take-append-drop, length-take, get_or-take, get_or_past}
+use Rattle.std.proofs.Common.{◌≡◌, ℕ, ◌+◌, ◌-◌, ◌<◌, ◌≤◌, List, [], ◌∷◌, ◌++◌, length, get_or, take, drop, refl, sym, ap, ◌∙◌, ◌^◌, inl, inr, arith}
+use Rattle.std.proofs.lemmas.List.{drop-drop, take-append-drop, length-take, get_or-take, get_or_past, drop_more, drop-take, take-take}
 use Rattle.std.proofs.Common.{length-drop}
 use Rattle.std.proofs.lemmas.List.{get_or-drop}
 use Rattle.std.proofs.lemmas.Bool.{cases_lt}
 use Rattle.std.proofs.lemmas.Nat.{be_bytes_2, be_bytes_4}
-use Rattle.net_octets.specs.Octets.{IsOctets, part, two, four, two_at, four_at}
+use Rattle.net_octets.specs.Octets.{IsOctets, one_at, part, two, four, two_at, four_at}
 
 -- what stands from a place on begins with some octets, and goes on from the place behind them
 pub parted : (octets : List ℕ) (i n j : ℕ) → i + n ≡ j → drop i octets ≡ part octets i n ++ drop j octets
@@ -35,3 +35,19 @@ two_at-fits octets i fits = omega (arith, part_fits octets i 2 0 fits, part_fits
 
 pub four_at-fits : (octets : List ℕ) (i : ℕ) → IsOctets octets → four_at octets i < 2 ^ 32
 four_at-fits octets i fits = omega (arith, part_fits octets i 4 0 fits, part_fits octets i 4 1 fits, part_fits octets i 4 2 fits, part_fits octets i 4 3 fits)
+
+pub part_two : (octets : List ℕ) (i : ℕ) → i + 2 ≤ length octets → part octets i 2 ≡ one_at octets i ∷ one_at octets (i + 1) ∷ []
+part_two octets i le =
+    ap (take 2) (drop_more octets i 0 (omega arith)) ∙ ap (λ (xs : List ℕ). get_or octets i 0 ∷ take 1 xs) (drop_more octets (i + 1) 0 (omega arith))
+
+-- a part of a front
+pub part-take : (octets : List ℕ) (i n k : ℕ) → i + n ≤ k → part (take k octets) i n ≡ part octets i n
+part-take octets i n k le =
+    let same : i + (k - i) ≡ k = omega arith in
+    ap (λ (m : ℕ). take n (drop i (take m octets))) (sym same)
+    ∙ ap (take n) (drop-take i (k - i) octets)
+    ∙ take-take n (k - i) (drop i octets) (omega arith)
+
+-- the octets of a front
+pub IsOctets-take : (octets : List ℕ) (k : ℕ) → IsOctets octets → IsOctets (take k octets)
+IsOctets-take octets k fits = λ i. part_fits octets 0 k i fits

@@ -1,5 +1,5 @@
 -- A checksum that is written holds when it is read (RFC 1071).
-use Rattle.std.proofs.Common.{◌≡◌, ℕ, zero, suc, ◌+◌, ◌-◌, ◌*◌, ◌/◌, ◌%◌, ◌<◌, ◌==◌, true, false, if◌then◌else◌, refl, ◌∙◌, ap, subst, arith, mod-lt, lit<}
+use Rattle.std.proofs.Common.{◌≡◌, ℕ, zero, suc, ◌+◌, ◌-◌, ◌*◌, ◌/◌, ◌%◌, ◌<◌, ◌^◌, ◌==◌, true, false, if◌then◌else◌, refl, ◌∙◌, ap, subst, arith, mod-lt, lit<}
 use Rattle.std.proofs.lemmas.Bool.Decides.{nat_tests}
 use Rattle.std.proofs.lemmas.Nat.{mod-mul-add}
 use Rattle.std.proofs.Math.Nat.{mod-add-div'}
@@ -26,3 +26,9 @@ sum_holds (suc n) = subst (λ k. sum_ok (k + checksum k) ≡ true) (one n) (some
   where
     one : (n : ℕ) → n + 1 ≡ suc n
     one n = omega arith
+
+pub checksum_fits : (sum : ℕ) → checksum sum < 2 ^ 16
+checksum_fits sum = below (with_carries sum)
+  where
+    below : (n : ℕ) → 65535 - n < 2 ^ 16
+    below n = omega arith

@@ -14,11 +14,11 @@ pub struct NoMemory;
 pub struct NoRoom;
 
 /// An IPv4 address as a number, its first octet the most significant (RFC 791, 3.2).
-#[derive(Clone, Copy, Debug, PartialEq, Eq)]
+#[derive(Clone, Copy, Debug, Default, PartialEq, Eq)]
 pub struct Ip4(pub u32);
 
 /// A hardware address of Ethernet, its octets in the order in which they are sent.
-#[derive(Clone, Copy, Debug, PartialEq, Eq)]
+#[derive(Clone, Copy, Debug, Default, PartialEq, Eq)]
 pub struct Mac(pub [u8; 6]);
 
 /// An IPv4 address and a port of UDP or TCP.
