@@ -7,7 +7,7 @@ struct Quiet;
 impl World for Quiet {
     ghost use Rattle.std.specs.Prelude.{[], None, false};
 
-    ghost tells = { λ q. record { kept = []; live = false; stop = None; faults = record { link = 0; wait = 0; socket = 0; file = 0 } } };
+    ghost tells = { λ q. record { source = []; kept = []; live = false; stop = None; faults = record { link = 0; wait = 0; socket = 0; file = 0 } } };
 
     fn now(&mut self) -> u64 {
         0
