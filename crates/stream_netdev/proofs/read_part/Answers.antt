@@ -1,7 +1,7 @@
 use Rattle.std.proofs.Common.{◌≤◌, length, arith, length-take, subst}
 use Rattle.world_face.specs.Journal.{LinkRead, filled, count_of}
 use Rattle.world_face.specs.Tells.{Answers}
-use Rattle.stream_netdev.proofs.Bytes.{length_part, fill}
+use Rattle.world_face.proofs.Bytes.{length_part, fill}
 use Rattle.stream_netdev.proofs.read_part.Goals as goal
 
 pub returns-clause-read : goal.returns-clause-read

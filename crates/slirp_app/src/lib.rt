@@ -1,0 +1,14 @@
+//! The program without its outside: `slirp_main` over any World and any sinks, and the parts of the outside that a replay needs.
+#![tactic(auto)]
+
+mod fetching;
+mod file_world;
+// running
+// status
+mod std_sink;
+
+
+
+pub use file_world::FileWorld;
+
+pub use std_sink::StdSink;
