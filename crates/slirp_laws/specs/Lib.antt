@@ -1,4 +1,5 @@
 pub mod Answers
+pub mod Check
 pub mod Guests
 pub mod Laws
 pub mod Readiness

@@ -1,0 +1,161 @@
+-- Runs written out: those that are lawful, and those that break one sentence each.
+use Rattle.std.proofs.Common.{◌≡◌, ℕ, ◌+◌, ◌-◌, ◌*◌, nat_lt, true, false, List, [], ◌∷◌, ◌++◌, length, reverse, codes, Some, None, if◌then◌else◌, refl}
+use Prim.Native.String.{String}
+use Rattle.poll_list.specs.declared.Want.{Want}
+use Rattle.poll_list.specs.declared.Who.{Who}
+use Rattle.poll_list.specs.declared.Who.TheVariants.{Link}
+use Rattle.world_face.specs.declared.Io.TheVariants.{Done, NotYet, End}
+use Rattle.world_face.specs.declared.Waited.TheVariants.{Ready, Stop}
+use Rattle.world_face.specs.Journal.{Entry, Now, Wait, LinkRead, LinkWrite, CallNow, CallWait, CallLinkRead, CallLinkWrite}
+use Rattle.world_face.specs.Frames.{spelling, missing, is_too_long, spelt_length, tail, is_blocked}
+use Rattle.net_octets.specs.Octets.{four}
+use Rattle.host_policy.specs.Settings.{usual}
+use Rattle.slirp_laws.specs.Answers.{left}
+use Rattle.slirp_laws.specs.Check.{may, is_lawful}
+use Rattle.slirp_laws.specs.Laws.{Lawful}
+use Rattle.slirp_laws.specs.Shape.{Finished}
+use Rattle.slirp_laws.proofs.Checks.{is_sound}
+
+abbrev pub digit : ℕ → ℕ
+digit c = if nat_lt c 58 then c - 48 else c - 87
+
+abbrev pub pairs : List ℕ → List ℕ
+pairs [] = []
+pairs (a ∷ []) = []
+pairs (a ∷ b ∷ rest) = (16 * digit a + digit b) ∷ pairs rest
+
+abbrev pub hex : String → List ℕ
+hex text = pairs (codes text)
+
+-- an ARP request for the host's address, the same for another guest's, and the reply with its length
+abbrev pub request : List ℕ
+request = hex "ffffffffffff525400123456080600010800060400015254001234560a00020f0000000000000a000202"
+
+abbrev pub request_for_other : List ℕ
+request_for_other = hex "ffffffffffff525400123456080600010800060400015254001234560a00020f0000000000000a000209"
+
+abbrev pub reply : List ℕ
+reply = hex "0000002a52540012345652550a0002020806000108000604000252550a0002020a0002025254001234560a00020f"
+
+abbrev pub reading : Who → Want
+reading who = record { of = who; read = true; write = false }
+
+abbrev pub writing : Who → Want
+writing who = record { of = who; read = false; write = true }
+
+-- two reads, by which this frame comes
+abbrev pub comes : List ℕ → List Entry
+comes frame = LinkRead 4 (Done 4) (four (length frame)) ∷ LinkRead (length frame) (Done (length frame)) frame ∷ []
+
+-- a record, written oldest first
+abbrev pub run : List Entry → List Entry
+run entries = reverse entries
+
+abbrev pub begins : List Entry
+begins = Now 0 ∷ Wait (reading Link ∷ []) None Ready (reading Link ∷ []) ∷ Now 5 ∷ []
+
+-- nothing comes, and the run is stopped
+abbrev pub idle : List Entry
+idle = run (Now 0 ∷ Wait (reading Link ∷ []) None Stop [] ∷ [])
+
+idle_lawful : Lawful usual idle
+idle_lawful = is_sound usual idle refl
+
+idle_finished : Finished usual idle
+idle_finished = (refl, refl)
+
+-- the request is answered in one write
+abbrev pub answered : List Entry
+answered = run (begins ++ comes request ++ LinkWrite reply (Done 46) ∷ Wait (reading Link ∷ []) None Stop [] ∷ [])
+
+answered_lawful : Lawful usual answered
+unfolding missing spelling is_too_long spelt_length
+answered_lawful = is_sound usual answered refl
+
+answered_finished : Finished usual answered
+unfolding missing is_too_long spelt_length
+answered_finished = (refl, refl)
+
+-- one for another guest isn't
+abbrev pub not_ours : List Entry
+not_ours = run (begins ++ comes request_for_other ++ Wait (reading Link ∷ []) None Stop [] ∷ [])
+
+not_ours_lawful : Lawful usual not_ours
+unfolding missing spelling is_too_long spelt_length
+not_ours_lawful = is_sound usual not_ours refl
+
+-- two octets of the reply are taken; when the link is ready the other 44 go, and nothing before them
+abbrev pub taken_in_part : List Entry
+taken_in_part =
+    run (begins ++ comes request ++ LinkWrite reply (Done 2) ∷ Wait (writing Link ∷ []) None Ready (writing Link ∷ []) ∷ Now 6
+    ∷ LinkWrite (hex "002a52540012345652550a0002020806000108000604000252550a0002020a0002025254001234560a00020f") (Done 44) ∷ Wait (reading Link ∷ []) None Stop [] ∷ [])
+
+taken_in_part_lawful : Lawful usual taken_in_part
+unfolding missing spelling is_too_long spelt_length
+taken_in_part_lawful = is_sound usual taken_in_part refl
+
+-- none is taken: the whole reply is offered again
+abbrev pub not_taken : List Entry
+not_taken = run (begins ++ comes request ++ LinkWrite reply NotYet ∷ Wait (writing Link ∷ []) None Ready (writing Link ∷ []) ∷ Now 6 ∷ LinkWrite reply (Done 46) ∷ Wait (reading Link ∷ []) None Stop [] ∷ [])
+
+not_taken_lawful : Lawful usual not_taken
+unfolding missing spelling is_too_long spelt_length
+not_taken_lawful = is_sound usual not_taken refl
+
+-- What may not come: the next frame before the answer is out; another hardware address in it; another length before it; an answer that nobody asked for;
+reads_on_unanswered : may usual (run (begins ++ comes request)) (CallLinkRead 4) ≡ false
+unfolding missing spelling is_too_long spelt_length
+reads_on_unanswered = refl
+
+other_address : may usual (run (begins ++ comes request)) (CallLinkWrite (hex "0000002a52540012345652550a0002020806000108000604000252550a0002030a0002025254001234560a00020f")) ≡ false
+unfolding missing spelling is_too_long spelt_length
+other_address = refl
+
+no_length : may usual (run (begins ++ comes request)) (CallLinkWrite (hex "52540012345652550a0002020806000108000604000252550a0002020a0002025254001234560a00020f")) ≡ false
+unfolding missing spelling is_too_long spelt_length
+no_length = refl
+
+unasked : may usual (run (begins ++ comes request_for_other)) (CallLinkWrite reply) ≡ false
+unfolding missing spelling is_too_long spelt_length
+unasked = refl
+
+-- the answer twice; the rest from its start again; a write while the link is blocked;
+twice : may usual (run (begins ++ comes request ++ LinkWrite reply (Done 46) ∷ [])) (CallLinkWrite reply) ≡ false
+unfolding missing spelling is_too_long spelt_length
+twice = refl
+
+from_the_start : may usual (run (begins ++ comes request ++ LinkWrite reply (Done 2) ∷ Wait (writing Link ∷ []) None Ready (writing Link ∷ []) ∷ Now 6 ∷ [])) (CallLinkWrite reply) ≡ false
+unfolding missing spelling is_too_long spelt_length
+from_the_start = refl
+
+while_blocked : may usual (run (begins ++ comes request ++ LinkWrite reply NotYet ∷ [])) (CallLinkWrite reply) ≡ false
+unfolding missing spelling is_too_long spelt_length
+while_blocked = refl
+
+-- a second frame for one report; a read of another size; a read that wasn't reported;
+second_frame : may usual (run (begins ++ comes request_for_other)) (CallLinkRead 4) ≡ false
+unfolding missing spelling is_too_long spelt_length
+second_frame = refl
+
+other_size : may usual (run begins) (CallLinkRead 5) ≡ false
+unfolding missing
+other_size = refl
+
+unreported : may usual (run (Now 0 ∷ Wait (reading Link ∷ []) None Ready [] ∷ Now 5 ∷ [])) (CallLinkRead 4) ≡ false
+unfolding missing
+unreported = refl
+
+-- no clock after a wait; a call after the end; a wait past the last
+no_clock : may usual (run (Now 0 ∷ Wait (reading Link ∷ []) None Ready (reading Link ∷ []) ∷ [])) (CallLinkRead 4) ≡ false
+unfolding missing
+no_clock = refl
+
+after_end : may usual idle CallNow ≡ false
+after_end = refl
+
+after_link_end : may usual (run (begins ++ LinkRead 4 End [] ∷ [])) (CallWait [] None) ≡ false
+unfolding missing is_too_long spelt_length
+after_link_end = refl
+
+past_the_last : may (record usual { turns = 1 }) (run begins) (CallWait [] None) ≡ false
+past_the_last = refl
