@@ -1,2 +1,5 @@
+pub mod Fitting
+pub mod Lines
+pub mod Names
 pub mod Script
 pub mod Text
