@@ -1,11 +1,13 @@
 -- How a World that answers by a schedule goes on at a call.
-use Rattle.std.specs.Prelude.{◌≡◌, ℕ, ◌+◌, ◌||◌, Bool, true, false, List, [], Option, Some, None, min, max, slice_get, option_map, if◌then◌else◌}
+use Rattle.std.specs.Prelude.{◌≡◌, ℕ, ◌+◌, ◌||◌, Bool, true, false, List, [], Option, Some, None, min, max, slice_get, if◌then◌else◌}
+use Rattle.std.specs.Option.{option_map}
 use Rattle.world_face.specs.Journal.{Entry, Call, call_of, Allowed}
 use Rattle.world_face.specs.Tells.{Telling, Counts}
 use Rattle.world_face.specs.Faults.{link_failed, wait_failed, socket_failed, file_failed}
 use Rattle.world_face.specs.Limits.{last_count}
 use Rattle.replay.specs.Script.{Script}
 use Rattle.replay.specs.Names.{name_of}
+use Rattle.replay.specs.declared.Divergence.{Divergence}
 use Rattle.replay.specs.declared.CallName.{CallName}
 use Rattle.replay.specs.declared.CallName.TheVariants.{Now, Wait, LinkOpen, LinkRead, LinkWrite, Connect, Connected, Listen, Accept, TcpRead, TcpWrite, TcpEnd, Close, UdpOpen, UdpSend, UdpRecv, FileLen, FileRead}
 
@@ -64,3 +66,7 @@ pub record Ceases (old new : Script) (call : Call) : Type 0 where
   pub first : old.live ≡ true → new.stop ≡ Some call
   pub later : old.live ≡ false → new.stop ≡ old.stop
   pub faults : new.faults ≡ raised (name_of call) old.faults
+
+-- where the schedule was left: the line after those used up, the call that fitted none, and the call of that line
+abbrev pub divergence_of : Script → Option Divergence
+divergence_of script = option_map (λ call. record { line = script.used + 1; made = name_of call; wanted = option_map (λ e. name_of (call_of e)) (slice_get script.lines script.used) }) script.stop

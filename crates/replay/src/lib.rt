@@ -2,6 +2,8 @@
 #![tactic(auto)]
 
 mod line;
+mod printing;
+mod reading;
 mod tokens;
 mod world;
 

@@ -1,6 +1,10 @@
 // The parts of a line, as octets.
 ghost use Rattle.std.specs.Prelude.{◌≡◌, ◌==◌, ◌++◌, ◌∷◌, [], IfSome, IfOk, OnOk, IsTrue, ◌↔◌, codes, decimal, position, length, ◌<◌};
+ghost use Rattle.std.specs.Prelude.{slice_index, nat_lt, ◌&&◌};
+ghost use Rattle.std.specs.List.{list_all};
+ghost use Rattle.hex.specs.Hex.{decode_of};
 ghost use Rattle.replay.specs.Names.{name_text};
+ghost use Rattle.replay.specs.Spelling.{is_lower, IsReadAs};
 ghost use Rattle.replay.specs.Text.{hexadecimal, endpoint_text, who_text, want_text, joined_text, wants_text, timeout_text, direction_text};
 
 use crate::CallName;
@@ -22,11 +26,13 @@ fn place_of(text: &[u8], octet: u8) -> Option<usize>
 }
 
 // What stands before the first such octet, and what after it.
-pub fn split_at(text: &[u8], octet: u8) -> Option<(&[u8], &[u8])>
-    ensures { IfSome result (λ parts. text.now ≡ parts.0.now ++ octet ∷ parts.1.now) }
+pub fn split_at(text: &[u8], octet: u8) -> Result<(&[u8], &[u8]), Unread>
+    ensures { IfOk result (λ parts. text.now ≡ parts.0.now ++ octet ∷ parts.1.now) }
 {
-    let at = place_of(text, octet)?;
-    Some((&text[..at], &text[at + 1..]))
+    let Some(at) = place_of(text, octet) else {
+        return Err(Unread::NoReading);
+    };
+    Ok((&text[..at], &text[at + 1..]))
 }
 
 // A dash, which stands for nothing.
@@ -37,50 +43,83 @@ fn is_dash(text: &[u8]) -> bool
 }
 
 // A number in decimal digits, the first of them no needless zero.
-pub fn read_number(text: &[u8]) -> Option<u64>
-    ensures { IfSome result (λ n. text.now ≡ decimal n) }
+pub fn read_number(text: &[u8]) -> Result<u64, Unread>
+    ensures { IfOk result (λ n. text.now ≡ decimal n) }
 {
-    match text {
-        [b'0'] => Some(0),
-        [b'1'..=b'9', ..] => std::str::from_utf8(text).ok()?.parse::<u64>().ok(),
-        _ => None,
+    if text.is_empty() {
+        return Err(Unread::NoReading);
     }
+    if text[0] == b'+' {
+        return Err(Unread::NoReading);
+    }
+    if has_needless_zero(text) {
+        return Err(Unread::NoReading);
+    }
+    let Some(digits) = as_text(text) else {
+        return Err(Unread::NoReading);
+    };
+    let Some(n) = parse(digits) else {
+        return Err(Unread::NoReading);
+    };
+    Ok(n)
 }
 
-fn read_part(text: &[u8]) -> Option<u32>
-    ensures number { IfSome result (λ n. text.now ≡ decimal n) }
-    ensures small { IfSome result (λ n. n < 256) }
+fn has_needless_zero(text: &[u8]) -> bool
+    requires { 0 < length text.now }
+    ensures { result ≡ (slice_index text.now 0 == 48 && nat_lt 1 (length text.now)) }
+{
+    text[0] == b'0' && text.len() > 1
+}
+
+fn as_text(text: &[u8]) -> Option<&str>
+    ensures { IfSome result (λ s. s.now ≡ text.now) }
+{
+    std::str::from_utf8(text).ok()
+}
+
+fn parse(text: &str) -> Option<u64>
+    ensures { IsReadAs text.now result }
+{
+    text.parse::<u64>().ok()
+}
+
+fn read_part(text: &[u8]) -> Result<u32, Unread>
+    ensures number { IfOk result (λ n. text.now ≡ decimal n) }
+    ensures small { IfOk result (λ n. n < 256) }
 {
     let n = read_number(text)?;
     if n > 255 {
-        return None;
+        return Err(Unread::NoReading);
     }
-    Some(n as u32)
+    Ok(n as u32)
 }
 
-fn read_port(text: &[u8]) -> Option<u16>
-    ensures { IfSome result (λ n. text.now ≡ decimal n) }
+fn read_port(text: &[u8]) -> Result<u16, Unread>
+    ensures { IfOk result (λ n. text.now ≡ decimal n) }
 {
     let n = read_number(text)?;
     if n > 65535 {
-        return None;
+        return Err(Unread::NoReading);
     }
-    Some(n as u16)
+    Ok(n as u16)
 }
 
 // Four parts and a port.
-pub fn read_endpoint(text: &[u8]) -> Option<Endpoint>
-    ensures { IfSome result (λ at. text.now ≡ endpoint_text at) }
+pub fn read_endpoint(text: &[u8]) -> Result<Endpoint, Unread>
+    ensures { IfOk result (λ at. text.now ≡ endpoint_text at) }
 {
-    let (address, port) = split_at(text, b':')?;
-    let (first, rest) = split_at(address, b'.')?;
-    let (second, rest) = split_at(rest, b'.')?;
-    let (third, fourth) = split_at(rest, b'.')?;
-    let high = read_part(first)? * 0x100_0000 + read_part(second)? * 0x1_0000;
-    let low = read_part(third)? * 0x100 + read_part(fourth)?;
-    Some(Endpoint {
-        addr: Ip4(high + low),
-        port: read_port(port)?,
+    let (address, last) = split_at(text, b':')?;
+    let (one, after_one) = split_at(address, b'.')?;
+    let (two, after_two) = split_at(after_one, b'.')?;
+    let (three, four) = split_at(after_two, b'.')?;
+    let first = read_part(one)?;
+    let second = read_part(two)?;
+    let third = read_part(three)?;
+    let fourth = read_part(four)?;
+    let port = read_port(last)?;
+    Ok(Endpoint {
+        addr: Ip4(first * 0x100_0000 + second * 0x1_0000 + (third * 0x100 + fourth)),
+        port,
     })
 }
 
@@ -91,49 +130,66 @@ pub fn read_octets(alloc: Global, text: &[u8]) -> Result<Vec<u8>, Unread>
     if is_dash(text) {
         return Ok(Vec::new(alloc));
     }
-    if text.is_empty() || text.iter().any(|x| x.is_ascii_uppercase()) {
+    if text.is_empty() {
         return Err(Unread::NoReading);
     }
-    match hex::decode(alloc, text) {
-        Ok(octets) => Ok(octets),
-        Err(FromHexError::OutOfMemory) => Err(Unread::NoMemory),
-        Err(_) => Err(Unread::NoReading),
+    if !is_lower_case(text) {
+        return Err(Unread::NoReading);
+    }
+    let octets = decode(alloc, text)?;
+    Ok(octets)
+}
+
+fn decode(alloc: Global, text: &[u8]) -> Result<Vec<u8>, Unread>
+    ensures { IfOk result (λ octets. decode_of text.now ≡ Ok octets.items) }
+{
+    hex::decode(alloc, text).map_err(unread_of)
+}
+
+// No capital letter from A to F stands in it.
+fn is_lower_case(text: &[u8]) -> bool
+    ensures { result ≡ list_all is_lower text.now }
+{
+    text.iter().all(|x| *x < b'A' || *x > b'F')
+}
+
+fn unread_of(fault: FromHexError) -> Unread {
+    match fault {
+        FromHexError::OutOfMemory => Unread::NoMemory,
+        _ => Unread::NoReading,
     }
 }
 
-fn read_who(text: &[u8]) -> Option<Who>
-    ensures { IfSome result (λ who. text.now ≡ who_text who) }
+fn read_who(text: &[u8]) -> Result<Who, Unread>
+    ensures { IfOk result (λ who. text.now ≡ who_text who) }
 {
     match text {
-        b"link" => Some(Who::Link),
-        [b'l', number @ ..] => Some(Who::Listener(read_number(number)?)),
-        [b'u', number @ ..] => Some(Who::Udp(read_number(number)?)),
-        [b't', number @ ..] => Some(Who::Tcp(read_number(number)?)),
-        _ => None,
+        b"link" => Ok(Who::Link),
+        [b'l', number @ ..] => Ok(Who::Listener(read_number(number)?)),
+        [b'u', number @ ..] => Ok(Who::Udp(read_number(number)?)),
+        [b't', number @ ..] => Ok(Who::Tcp(read_number(number)?)),
+        _ => Err(Unread::NoReading),
     }
 }
 
-fn read_want(text: &[u8]) -> Option<Want>
-    ensures { IfSome result (λ want. text.now ≡ want_text want) }
+fn read_direction(text: &[u8]) -> Result<(bool, bool), Unread>
+    ensures { IfOk result (λ d. text.now ≡ direction_text d.0 d.1) }
+{
+    match text {
+        b"r" => Ok((true, false)),
+        b"w" => Ok((false, true)),
+        b"rw" => Ok((true, true)),
+        _ => Err(Unread::NoReading),
+    }
+}
+
+fn read_want(text: &[u8]) -> Result<Want, Unread>
+    ensures { IfOk result (λ want. text.now ≡ want_text want) }
 {
     let (who, direction) = split_at(text, b':')?;
+    let of = read_who(who)?;
     let (read, write) = read_direction(direction)?;
-    Some(Want {
-        of: read_who(who)?,
-        read,
-        write,
-    })
-}
-
-fn read_direction(text: &[u8]) -> Option<(bool, bool)>
-    ensures { IfSome result (λ d. text.now ≡ direction_text d.0 d.1) }
-{
-    match text {
-        b"r" => Some((true, false)),
-        b"w" => Some((false, true)),
-        b"rw" => Some((true, true)),
-        _ => None,
-    }
+    Ok(Want { of, read, write })
 }
 
 // Items joined by commas, at least one.
@@ -143,12 +199,12 @@ pub fn read_items(alloc: Global, text: &[u8]) -> Result<Vec<Want>, Unread>
 {
     let mut items = Vec::new(alloc);
     let mut rest = text;
-    while let Some((item, after)) = split_at(rest, b',') {
-        let want = read_want(item).ok_or(Unread::NoReading)?;
+    while let Ok((item, after)) = split_at(rest, b',') {
+        let want = read_want(item)?;
         push(&mut items, want)?;
         rest = after;
     }
-    let want = read_want(rest).ok_or(Unread::NoReading)?;
+    let want = read_want(rest)?;
     push(&mut items, want)?;
     Ok(items)
 }
@@ -169,40 +225,41 @@ pub fn read_wants(alloc: Global, text: &[u8]) -> Result<Vec<Want>, Unread>
     if is_dash(text) {
         return Ok(Vec::new(alloc));
     }
-    read_items(alloc, text)
+    let wants = read_items(alloc, text)?;
+    Ok(wants)
 }
 
-pub fn read_timeout(text: &[u8]) -> Option<Option<u64>>
-    ensures { IfSome result (λ timeout. text.now ≡ timeout_text timeout) }
+pub fn read_timeout(text: &[u8]) -> Result<Option<u64>, Unread>
+    ensures { IfOk result (λ timeout. text.now ≡ timeout_text timeout) }
 {
     if is_dash(text) {
-        return Some(None);
+        return Ok(None);
     }
-    Some(Some(read_number(text)?))
+    Ok(Some(read_number(text)?))
 }
 
-pub fn read_name(text: &[u8]) -> Option<CallName>
-    ensures { IfSome result (λ name. text.now ≡ name_text name) }
+pub fn read_name(text: &[u8]) -> Result<CallName, Unread>
+    ensures { IfOk result (λ name. text.now ≡ name_text name) }
 {
     match text {
-        b"now" => Some(CallName::Now),
-        b"wait" => Some(CallName::Wait),
-        b"lopen" => Some(CallName::LinkOpen),
-        b"lread" => Some(CallName::LinkRead),
-        b"lwrite" => Some(CallName::LinkWrite),
-        b"connect" => Some(CallName::Connect),
-        b"connected" => Some(CallName::Connected),
-        b"listen" => Some(CallName::Listen),
-        b"accept" => Some(CallName::Accept),
-        b"tread" => Some(CallName::TcpRead),
-        b"twrite" => Some(CallName::TcpWrite),
-        b"tend" => Some(CallName::TcpEnd),
-        b"close" => Some(CallName::Close),
-        b"uopen" => Some(CallName::UdpOpen),
-        b"usend" => Some(CallName::UdpSend),
-        b"urecv" => Some(CallName::UdpRecv),
-        b"flen" => Some(CallName::FileLen),
-        b"fread" => Some(CallName::FileRead),
-        _ => None,
+        b"now" => Ok(CallName::Now),
+        b"wait" => Ok(CallName::Wait),
+        b"lopen" => Ok(CallName::LinkOpen),
+        b"lread" => Ok(CallName::LinkRead),
+        b"lwrite" => Ok(CallName::LinkWrite),
+        b"connect" => Ok(CallName::Connect),
+        b"connected" => Ok(CallName::Connected),
+        b"listen" => Ok(CallName::Listen),
+        b"accept" => Ok(CallName::Accept),
+        b"tread" => Ok(CallName::TcpRead),
+        b"twrite" => Ok(CallName::TcpWrite),
+        b"tend" => Ok(CallName::TcpEnd),
+        b"close" => Ok(CallName::Close),
+        b"uopen" => Ok(CallName::UdpOpen),
+        b"usend" => Ok(CallName::UdpSend),
+        b"urecv" => Ok(CallName::UdpRecv),
+        b"flen" => Ok(CallName::FileLen),
+        b"fread" => Ok(CallName::FileRead),
+        _ => Err(Unread::NoReading),
     }
 }

@@ -5,19 +5,30 @@ ghost use Rattle.std.specs.Prelude.{◌||◌, ◌&&◌};
 ghost use Rattle.std.specs.List.{list_any};
 ghost use Rattle.poll_list.specs.Listing.{are_wants, differ, is_who, number_of, same_number};
 ghost use Rattle.world_face.specs.Journal.{MayRead, MayReadFile, MayWrite, AreOctets, MayAccept, MayMeasure, MayGet, MayWait, IsPlace, count_of, count_got, place_of};
-ghost use Rattle.replay.specs.Lines.{place_at};
+ghost use Rattle.std.specs.Prelude.{IfOk, OnOk, IsNone, ◌++◌, ◌∷◌, []};
+ghost use Rattle.replay.specs.Lines.{place_at, entries_of};
+ghost use Rattle.replay.specs.Script.{schedule_text};
 ghost use Rattle.replay.specs.Fitting.{raise};
 
-use crate::CallName;
 use crate::line::{Line, Seat, Stop, has_failed, name_of};
+use crate::printing::put_lines;
+use crate::reading::read_line;
+use crate::tokens::{Unread, split_at};
+use crate::{CallName, Divergence, ScriptFault};
+use std::alloc::Global;
 use std::marker::Model;
 use world_face::{
-    Accepted, Endpoint, FileSize, Got, Io, Joined, LinkAt, Made, ReadyList, Sent, Waited, Want,
-    Wants, Who, World,
+    Accepted, Endpoint, Failed, FileSize, Got, Io, Joined, LinkAt, Made, ReadyList, Sent, Sink,
+    Waited, Want, Wants, Who, World,
 };
 
 // Items of what a wait answers as ready.
 const MOST_READY: usize = 5155;
+
+// What a call may bring at most: octets and wants.
+const MOST_OCTETS: usize = 65507;
+
+const MOST_WANTS: usize = 5155;
 
 /// A World that answers by a schedule, line by line. From the first call that fits no line on it answers nothing but failures.
 #[derive(Drop)]
@@ -258,6 +269,39 @@ fn list(into: &mut ReadyList, items: &[Want])
     into.clear();
     for item in items {
         into.add(*item);
+    }
+}
+
+// The lines of a schedule.
+fn read_lines(alloc: Global, octets: &[u8]) -> Result<Vec<Line>, ScriptFault>
+    requires { length octets.now ≤ 67108864 }
+    ensures text { IfOk result (λ lines. schedule_text (entries_of lines.items) ≡ octets.now) }
+    ensures few { IfOk result (λ lines. length lines.items ≤ 67108864) }
+{
+    let mut lines = Vec::new(alloc);
+    let mut rest = octets;
+    while !rest.is_empty() {
+        let number = lines.len() as u64 + 1;
+        let Ok((text, after)) = split_at(rest, b'\n') else {
+            return Err(ScriptFault::Line(number));
+        };
+        let line = match read_line(alloc, text) {
+            Ok(line) => line,
+            Err(Unread::NoReading) => return Err(ScriptFault::Line(number)),
+            Err(Unread::NoMemory) => return Err(ScriptFault::NoMemory),
+        };
+        push_line(&mut lines, line)?;
+        rest = after;
+    }
+    Ok(lines)
+}
+
+fn push_line(lines: &mut Vec<Line>, line: Line) -> Result<(), ScriptFault>
+    ensures { OnOk result (lines.new.items ≡ lines.old.items ++ line ∷ []) }
+{
+    match lines.push(line) {
+        Ok(()) => Ok(()),
+        Err(_) => Err(ScriptFault::NoMemory),
     }
 }
 
@@ -793,5 +837,86 @@ impl World for ScriptWorld {
                 Io::Failed
             }
         }
+    }
+}
+
+impl ScriptWorld {
+    ghost use Rattle.std.specs.Prelude.{true, false, None, IfOk, IsSome, slice_get};
+    ghost use Rattle.std.specs.Option.{option_map};
+    ghost use Rattle.world_face.specs.Journal.{call_of};
+    ghost use Rattle.replay.specs.Names.{name_of as call_name_of};
+    ghost use Rattle.world_face.specs.Puts.{Puts};
+    ghost use Rattle.replay.specs.Text.{text};
+    ghost use Rattle.replay.specs.Script.{IsFresh, schedule_text, script_tells};
+    ghost use Rattle.replay.specs.Fitting.{divergence_of};
+
+    /// Reads a schedule: no line or more, each ended by a line feed, of at most 64 MiB in all.
+    /// All room that the World will need is taken here.
+    pub fn read(alloc: Global, octets: &[u8]) -> Result<ScriptWorld, ScriptFault>
+        requires { length octets.now ≤ 67108864 }
+        ensures fresh { IfOk result (λ world. IsFresh world) }
+        ensures text { IfOk result (λ world. schedule_text world.lines ≡ octets.now) }
+    {
+        let lines = read_lines(alloc, octets)?;
+        let Ok(stop_octets) = Vec::with_capacity(alloc, MOST_OCTETS) else {
+            return Err(ScriptFault::NoMemory);
+        };
+        let Ok(stop_wants) = Vec::with_capacity(alloc, MOST_WANTS) else {
+            return Err(ScriptFault::NoMemory);
+        };
+        Ok(ScriptWorld {
+            lines,
+            used: 0,
+            stop: None,
+            octets: stop_octets,
+            wants: stop_wants,
+            moment: 0,
+            link_faults: 0,
+            wait_faults: 0,
+            socket_faults: 0,
+            file_faults: 0,
+        })
+    }
+
+    /// Puts the text of the lines that are used up.
+    pub fn print<K: Sink>(&self, out: &mut K) -> Result<(), Failed>
+        ensures { Puts (K.holds out.old) (K.holds out.new) (K.faults out.old) (K.faults out.new) (text (script_tells self.now).kept) result }
+    {
+        put_lines(self.used_lines(), out)
+    }
+
+    #[tactic(auto, using(crate::proofs::Scheduling::taken))]
+    fn used_lines(&self) -> &[Line]
+        ensures { entries_of result.now ≡ take self.now.used self.now.lines }
+    {
+        &self.lines[..self.used]
+    }
+
+    /// Where the schedule was left: nowhere exactly where the World still answers by it. A World has ceased exactly where it names the call at which it did.
+    pub fn divergence(&self) -> Option<Divergence>
+        ensures value { result ≡ divergence_of self.now }
+        ensures live { IsNone result ↔ (self.now.live ≡ true) }
+        ensures stopped { IsSome self.now.stop ↔ (self.now.live ≡ false) }
+    {
+        let wanted = self.wanted();
+        let line = self.used as u64 + 1;
+        match self.stop {
+            None => None,
+            Some(stop) => Some(Divergence {
+                line,
+                made: stop.name(),
+                wanted,
+            }),
+        }
+    }
+
+    // The call of the next line.
+    fn wanted(&self) -> Option<CallName>
+        ensures { result ≡ option_map (λ e. call_name_of (call_of e)) (slice_get self.now.lines self.now.used) }
+    {
+        if self.used >= self.lines.len() {
+            return None;
+        }
+        Some(name_of(&self.lines[self.used]))
     }
 }
