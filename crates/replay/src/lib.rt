@@ -1,6 +1,17 @@
 //! Records of host calls as text, and a World that answers by such a text.
 #![tactic(auto)]
 
+mod line;
+mod printing;
+mod reading;
+mod tokens;
+mod world;
+
+ghost use Rattle.std.specs.Prelude.{◌≡◌};
+ghost use Rattle.replay.specs.Names.{name_text};
+
+pub use world::ScriptWorld;
+
 /// The names of the calls, as they stand in a line.
 #[derive(Clone, Copy, Debug, PartialEq, Eq)]
 pub enum CallName {
@@ -22,4 +33,52 @@ pub enum CallName {
     UdpRecv,
     FileLen,
     FileRead,
+}
+
+impl CallName {
+    /// The name as it stands in a line.
+    pub fn name(&self) -> &'static str
+        ensures { result.now ≡ name_text self.now }
+    {
+        match self {
+            CallName::Now => "now",
+            CallName::Wait => "wait",
+            CallName::LinkOpen => "lopen",
+            CallName::LinkRead => "lread",
+            CallName::LinkWrite => "lwrite",
+            CallName::Connect => "connect",
+            CallName::Connected => "connected",
+            CallName::Listen => "listen",
+            CallName::Accept => "accept",
+            CallName::TcpRead => "tread",
+            CallName::TcpWrite => "twrite",
+            CallName::TcpEnd => "tend",
+            CallName::Close => "close",
+            CallName::UdpOpen => "uopen",
+            CallName::UdpSend => "usend",
+            CallName::UdpRecv => "urecv",
+            CallName::FileLen => "flen",
+            CallName::FileRead => "fread",
+        }
+    }
+}
+
+/// Why a text is no schedule.
+#[derive(Clone, Copy, Debug, PartialEq, Eq)]
+pub enum ScriptFault {
+    /// The first line, counted from 1, that has no reading.
+    Line(u64),
+    /// There was no memory left.
+    NoMemory,
+}
+
+/// Where a run left its schedule.
+#[derive(Clone, Copy, Debug, PartialEq, Eq)]
+pub struct Divergence {
+    /// The line, counted from 1, that stood next.
+    pub line: u64,
+    /// The call that didn't fit it.
+    pub made: CallName,
+    /// The call of that line, where there is one.
+    pub wanted: Option<CallName>,
 }

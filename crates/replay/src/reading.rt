@@ -1,0 +1,423 @@
+// Lines, read whole.
+#![tactic(auto, unfolding(crate::specs::Text::call_text, crate::specs::Text::answer_text))]
+ghost use Rattle.std.specs.Prelude.{◌≡◌, ◌++◌, ◌∷◌, [], ℕ, List, IfOk, IsTrue, ◌↔◌, codes, decimal};
+ghost use Rattle.replay.specs.Names.{name_text};
+ghost use Rattle.replay.specs.Lines.{entry_of, place_at};
+ghost use Rattle.replay.specs.Text.{hexadecimal, endpoint_text, place_text, made_text, read_text, written_text, joined_answer, accepted_text, sent_text, got_text, size_text, waited_text, line_text};
+ghost use Rattle.replay.specs.Spelling.{IsSpelt};
+
+use crate::CallName;
+use crate::line::{Line, Seat};
+use crate::tokens::{
+    Unread, read_endpoint, read_items, read_name, read_number, read_octets, read_timeout,
+    read_wants, split_at,
+};
+use std::alloc::Global;
+use world_face::{Accepted, Endpoint, FileSize, Got, Io, Joined, Made, Sent, Waited, Want};
+
+// A line without its line feed.
+pub fn read_line(alloc: Global, text: &[u8]) -> Result<Line, Unread>
+    ensures { IfOk result (λ line. text.now ++ 10 ∷ [] ≡ line_text (entry_of line)) }
+{
+    let (call, answer) = split_answer(text)?;
+    let line = read_call(alloc, call, answer)?;
+    Ok(line)
+}
+
+fn split_answer(text: &[u8]) -> Result<(&[u8], &[u8]), Unread>
+    ensures { IfOk result (λ parts. text.now ≡ parts.0.now ++ codes " = " ++ parts.1.now) }
+{
+    let (before, after) = split_at(text, b'=')?;
+    let call = before_space(before)?;
+    let answer = after_space(after)?;
+    Ok((call, answer))
+}
+
+fn before_space(text: &[u8]) -> Result<&[u8], Unread>
+    ensures { IfOk result (λ rest. text.now ≡ rest.now ++ 32 ∷ []) }
+{
+    match text {
+        [rest @ .., b' '] => Ok(rest),
+        _ => Err(Unread::NoReading),
+    }
+}
+
+fn after_space(text: &[u8]) -> Result<&[u8], Unread>
+    ensures { IfOk result (λ rest. text.now ≡ 32 ∷ rest.now) }
+{
+    match text {
+        [b' ', rest @ ..] => Ok(rest),
+        _ => Err(Unread::NoReading),
+    }
+}
+
+fn read_call(alloc: Global, call: &[u8], answer: &[u8]) -> Result<Line, Unread>
+    ensures { IfOk result (λ line. IsSpelt call.now answer.now (entry_of line)) }
+{
+    if is_now(call) {
+        return read_now(answer);
+    }
+    let (word, args) = split_at(call, b' ')?;
+    let name = read_name(word)?;
+    let line = read_named(alloc, name, args, answer)?;
+    Ok(line)
+}
+
+fn is_now(call: &[u8]) -> bool
+    ensures { IsTrue result ↔ (call.now ≡ codes "now") }
+{
+    matches!(call, b"now")
+}
+
+fn read_named(alloc: Global, name: CallName, args: &[u8], answer: &[u8]) -> Result<Line, Unread>
+    ensures { IfOk result (λ line. IsSpelt (name_text name ++ 32 ∷ args.now) answer.now (entry_of line)) }
+{
+    match name {
+        CallName::Now => Err(Unread::NoReading),
+        CallName::Wait => read_wait(alloc, args, answer),
+        CallName::LinkOpen => read_link_open(alloc, args, answer),
+        CallName::LinkRead => read_link_read(alloc, args, answer),
+        CallName::LinkWrite => read_link_write(alloc, args, answer),
+        CallName::Connect => read_connect(args, answer),
+        CallName::Connected => read_connected(args, answer),
+        CallName::Listen => read_listen(args, answer),
+        CallName::Accept => read_accept(args, answer),
+        CallName::TcpRead => read_tcp_read(alloc, args, answer),
+        CallName::TcpWrite => read_tcp_write(alloc, args, answer),
+        CallName::TcpEnd => read_tcp_end(args, answer),
+        CallName::Close => read_close(args, answer),
+        CallName::UdpOpen => read_udp_open(args, answer),
+        CallName::UdpSend => read_udp_send(alloc, args, answer),
+        CallName::UdpRecv => read_udp_recv(alloc, args, answer),
+        CallName::FileLen => read_file_len(alloc, args, answer),
+        CallName::FileRead => read_file_read(alloc, args, answer),
+    }
+}
+
+fn read_now(answer: &[u8]) -> Result<Line, Unread>
+    ensures { IfOk result (λ line. IsSpelt (codes "now") answer.now (entry_of line)) }
+{
+    let moment = read_number(answer)?;
+    Ok(Line::Now(moment))
+}
+
+fn read_wait(alloc: Global, args: &[u8], answer: &[u8]) -> Result<Line, Unread>
+    ensures { IfOk result (λ line. IsSpelt (codes "wait" ++ 32 ∷ args.now) answer.now (entry_of line)) }
+{
+    let (time, list) = split_at(args, b' ')?;
+    let timeout = read_timeout(time)?;
+    let wants = read_wants(alloc, list)?;
+    let (waited, ready) = read_waited(alloc, answer)?;
+    Ok(Line::Wait(wants, timeout, waited, ready))
+}
+
+fn read_link_open(alloc: Global, args: &[u8], answer: &[u8]) -> Result<Line, Unread>
+    ensures { IfOk result (λ line. IsSpelt (codes "lopen" ++ 32 ∷ args.now) answer.now (entry_of line)) }
+{
+    let text = read_octets(alloc, args)?;
+    let seat = read_seat(alloc, &text)?;
+    let made = read_made(answer)?;
+    Ok(Line::LinkOpen(seat, made))
+}
+
+fn read_link_read(alloc: Global, args: &[u8], answer: &[u8]) -> Result<Line, Unread>
+    ensures { IfOk result (λ line. IsSpelt (codes "lread" ++ 32 ∷ args.now) answer.now (entry_of line)) }
+{
+    let asked = read_number(args)?;
+    let (read, octets) = read_read(alloc, answer)?;
+    Ok(Line::LinkRead(asked as usize, read, octets))
+}
+
+fn read_link_write(alloc: Global, args: &[u8], answer: &[u8]) -> Result<Line, Unread>
+    ensures { IfOk result (λ line. IsSpelt (codes "lwrite" ++ 32 ∷ args.now) answer.now (entry_of line)) }
+{
+    let octets = read_octets(alloc, args)?;
+    let written = read_written(answer)?;
+    Ok(Line::LinkWrite(octets, written))
+}
+
+fn read_connect(args: &[u8], answer: &[u8]) -> Result<Line, Unread>
+    ensures { IfOk result (λ line. IsSpelt (codes "connect" ++ 32 ∷ args.now) answer.now (entry_of line)) }
+{
+    let (socket, to) = read_socket_at(args)?;
+    let made = read_made(answer)?;
+    Ok(Line::Connect(socket, to, made))
+}
+
+fn read_connected(args: &[u8], answer: &[u8]) -> Result<Line, Unread>
+    ensures { IfOk result (λ line. IsSpelt (codes "connected" ++ 32 ∷ args.now) answer.now (entry_of line)) }
+{
+    let socket = read_number(args)?;
+    let joined = read_joined(answer)?;
+    Ok(Line::Connected(socket, joined))
+}
+
+fn read_listen(args: &[u8], answer: &[u8]) -> Result<Line, Unread>
+    ensures { IfOk result (λ line. IsSpelt (codes "listen" ++ 32 ∷ args.now) answer.now (entry_of line)) }
+{
+    let (socket, at) = read_socket_at(args)?;
+    let made = read_made(answer)?;
+    Ok(Line::Listen(socket, at, made))
+}
+
+fn read_accept(args: &[u8], answer: &[u8]) -> Result<Line, Unread>
+    ensures { IfOk result (λ line. IsSpelt (codes "accept" ++ 32 ∷ args.now) answer.now (entry_of line)) }
+{
+    let (listener, socket) = read_two_numbers(args)?;
+    let accepted = read_accepted(answer)?;
+    Ok(Line::Accept(listener, socket, accepted))
+}
+
+fn read_tcp_read(alloc: Global, args: &[u8], answer: &[u8]) -> Result<Line, Unread>
+    ensures { IfOk result (λ line. IsSpelt (codes "tread" ++ 32 ∷ args.now) answer.now (entry_of line)) }
+{
+    let (socket, asked) = read_two_numbers(args)?;
+    let (read, octets) = read_read(alloc, answer)?;
+    Ok(Line::TcpRead(socket, asked as usize, read, octets))
+}
+
+fn read_tcp_write(alloc: Global, args: &[u8], answer: &[u8]) -> Result<Line, Unread>
+    ensures { IfOk result (λ line. IsSpelt (codes "twrite" ++ 32 ∷ args.now) answer.now (entry_of line)) }
+{
+    let (first, second) = split_at(args, b' ')?;
+    let socket = read_number(first)?;
+    let octets = read_octets(alloc, second)?;
+    let written = read_written(answer)?;
+    Ok(Line::TcpWrite(socket, octets, written))
+}
+
+fn read_tcp_end(args: &[u8], answer: &[u8]) -> Result<Line, Unread>
+    ensures { IfOk result (λ line. IsSpelt (codes "tend" ++ 32 ∷ args.now) answer.now (entry_of line)) }
+{
+    let socket = read_number(args)?;
+    let made = read_made(answer)?;
+    Ok(Line::TcpEnd(socket, made))
+}
+
+fn read_close(args: &[u8], answer: &[u8]) -> Result<Line, Unread>
+    ensures { IfOk result (λ line. IsSpelt (codes "close" ++ 32 ∷ args.now) answer.now (entry_of line)) }
+{
+    let socket = read_number(args)?;
+    match answer {
+        b"done" => Ok(Line::Close(socket)),
+        _ => Err(Unread::NoReading),
+    }
+}
+
+fn read_udp_open(args: &[u8], answer: &[u8]) -> Result<Line, Unread>
+    ensures { IfOk result (λ line. IsSpelt (codes "uopen" ++ 32 ∷ args.now) answer.now (entry_of line)) }
+{
+    let (socket, at) = read_socket_at(args)?;
+    let made = read_made(answer)?;
+    Ok(Line::UdpOpen(socket, at, made))
+}
+
+fn read_udp_send(alloc: Global, args: &[u8], answer: &[u8]) -> Result<Line, Unread>
+    ensures { IfOk result (λ line. IsSpelt (codes "usend" ++ 32 ∷ args.now) answer.now (entry_of line)) }
+{
+    let (first, rest) = split_at(args, b' ')?;
+    let (second, third) = split_at(rest, b' ')?;
+    let socket = read_number(first)?;
+    let to = read_endpoint(second)?;
+    let octets = read_octets(alloc, third)?;
+    let sent = read_sent(answer)?;
+    Ok(Line::UdpSend(socket, to, octets, sent))
+}
+
+fn read_udp_recv(alloc: Global, args: &[u8], answer: &[u8]) -> Result<Line, Unread>
+    ensures { IfOk result (λ line. IsSpelt (codes "urecv" ++ 32 ∷ args.now) answer.now (entry_of line)) }
+{
+    let (socket, asked) = read_two_numbers(args)?;
+    let (got, octets) = read_got(alloc, answer)?;
+    Ok(Line::UdpRecv(socket, asked as usize, got, octets))
+}
+
+fn read_file_len(alloc: Global, args: &[u8], answer: &[u8]) -> Result<Line, Unread>
+    ensures { IfOk result (λ line. IsSpelt (codes "flen" ++ 32 ∷ args.now) answer.now (entry_of line)) }
+{
+    let name = read_octets(alloc, args)?;
+    let size = read_size(answer)?;
+    Ok(Line::FileLen(name, size))
+}
+
+fn read_file_read(alloc: Global, args: &[u8], answer: &[u8]) -> Result<Line, Unread>
+    ensures { IfOk result (λ line. IsSpelt (codes "fread" ++ 32 ∷ args.now) answer.now (entry_of line)) }
+{
+    let (first, rest) = split_at(args, b' ')?;
+    let (second, third) = split_at(rest, b' ')?;
+    let name = read_octets(alloc, first)?;
+    let place = read_number(second)?;
+    let asked = read_number(third)?;
+    let (read, octets) = read_file_answer(alloc, answer)?;
+    Ok(Line::FileRead(name, place, asked as usize, read, octets))
+}
+
+fn read_socket_at(args: &[u8]) -> Result<(u64, Endpoint), Unread>
+    ensures { IfOk result (λ pair. args.now ≡ decimal pair.0 ++ 32 ∷ endpoint_text pair.1) }
+{
+    let (first, second) = split_at(args, b' ')?;
+    let socket = read_number(first)?;
+    let at = read_endpoint(second)?;
+    Ok((socket, at))
+}
+
+fn read_two_numbers(args: &[u8]) -> Result<(u64, u64), Unread>
+    ensures { IfOk result (λ pair. args.now ≡ decimal pair.0 ++ 32 ∷ decimal pair.1) }
+{
+    let (first, second) = split_at(args, b' ')?;
+    let one = read_number(first)?;
+    let other = read_number(second)?;
+    Ok((one, other))
+}
+
+// The place of the link, as on the command line.
+fn read_seat(alloc: Global, text: &[u8]) -> Result<Seat, Unread>
+    ensures { IfOk result (λ seat. text.now ≡ place_text (place_at seat)) }
+{
+    let (kind, place) = split_at(text, b':')?;
+    match kind {
+        b"unix" => copy_path(alloc, place),
+        b"tcp" => Ok(Seat::At(read_endpoint(place)?)),
+        _ => Err(Unread::NoReading),
+    }
+}
+
+fn copy_path(alloc: Global, path: &[u8]) -> Result<Seat, Unread>
+    ensures { IfOk result (λ seat. codes "unix:" ++ path.now ≡ place_text (place_at seat)) }
+{
+    match Vec::from_slice(alloc, path) {
+        Ok(path) => Ok(Seat::Path(path)),
+        Err(_) => Err(Unread::NoMemory),
+    }
+}
+
+fn read_waited(alloc: Global, text: &[u8]) -> Result<(Waited, Vec<Want>), Unread>
+    ensures { IfOk result (λ pair. text.now ≡ waited_text pair.0 pair.1.items) }
+{
+    match text {
+        b"ready" => Ok((Waited::Ready, Vec::new(alloc))),
+        b"stop" => Ok((Waited::Stop, Vec::new(alloc))),
+        b"fail" => Ok((Waited::Failed, Vec::new(alloc))),
+        [b'r', b'e', b'a', b'd', b'y', b' ', items @ ..] => {
+            Ok((Waited::Ready, read_items(alloc, items)?))
+        }
+        _ => Err(Unread::NoReading),
+    }
+}
+
+fn read_made(text: &[u8]) -> Result<Made, Unread>
+    ensures { IfOk result (λ answer. text.now ≡ made_text answer) }
+{
+    match text {
+        b"done" => Ok(Made::Done),
+        b"fail" => Ok(Made::Failed),
+        _ => Err(Unread::NoReading),
+    }
+}
+
+fn read_read(alloc: Global, text: &[u8]) -> Result<(Io, Vec<u8>), Unread>
+    ensures { IfOk result (λ pair. text.now ≡ read_text pair.0 pair.1.items) }
+{
+    match text {
+        b"end" => Ok((Io::End, Vec::new(alloc))),
+        b"notyet" => Ok((Io::NotYet, Vec::new(alloc))),
+        _ => read_file_done(alloc, text),
+    }
+}
+
+fn read_file_answer(alloc: Global, text: &[u8]) -> Result<(Io, Vec<u8>), Unread>
+    ensures { IfOk result (λ pair. text.now ≡ read_text pair.0 pair.1.items) }
+{
+    match text {
+        b"end" => Ok((Io::End, Vec::new(alloc))),
+        _ => read_file_done(alloc, text),
+    }
+}
+
+fn read_file_done(alloc: Global, text: &[u8]) -> Result<(Io, Vec<u8>), Unread>
+    ensures { IfOk result (λ pair. text.now ≡ read_text pair.0 pair.1.items) }
+{
+    match text {
+        b"fail" => Ok((Io::Failed, Vec::new(alloc))),
+        [b'd', b'o', b'n', b'e', b' ', octets @ ..] => {
+            let octets = read_octets(alloc, octets)?;
+            Ok((Io::Done(octets.len()), octets))
+        }
+        _ => Err(Unread::NoReading),
+    }
+}
+
+fn read_written(text: &[u8]) -> Result<Io, Unread>
+    ensures { IfOk result (λ answer. text.now ≡ written_text answer) }
+{
+    match text {
+        b"notyet" => Ok(Io::NotYet),
+        b"fail" => Ok(Io::Failed),
+        [b'd', b'o', b'n', b'e', b' ', count @ ..] => Ok(Io::Done(read_number(count)? as usize)),
+        _ => Err(Unread::NoReading),
+    }
+}
+
+fn read_joined(text: &[u8]) -> Result<Joined, Unread>
+    ensures { IfOk result (λ answer. text.now ≡ joined_answer answer) }
+{
+    match text {
+        b"yes" => Ok(Joined::Yes),
+        b"notyet" => Ok(Joined::NotYet),
+        b"fail" => Ok(Joined::Failed),
+        _ => Err(Unread::NoReading),
+    }
+}
+
+fn read_accepted(text: &[u8]) -> Result<Accepted, Unread>
+    ensures { IfOk result (λ answer. text.now ≡ accepted_text answer) }
+{
+    match text {
+        b"notyet" => Ok(Accepted::NotYet),
+        b"fail" => Ok(Accepted::Failed),
+        [b'f', b'r', b'o', b'm', b' ', peer @ ..] => Ok(Accepted::From(read_endpoint(peer)?)),
+        _ => Err(Unread::NoReading),
+    }
+}
+
+fn read_sent(text: &[u8]) -> Result<Sent, Unread>
+    ensures { IfOk result (λ answer. text.now ≡ sent_text answer) }
+{
+    match text {
+        b"done" => Ok(Sent::Done),
+        b"notyet" => Ok(Sent::NotYet),
+        b"fail" => Ok(Sent::Failed),
+        _ => Err(Unread::NoReading),
+    }
+}
+
+fn read_got(alloc: Global, text: &[u8]) -> Result<(Got, Vec<u8>), Unread>
+    ensures { IfOk result (λ pair. text.now ≡ got_text pair.0 pair.1.items) }
+{
+    match text {
+        b"notyet" => Ok((Got::NotYet, Vec::new(alloc))),
+        b"fail" => Ok((Got::Failed, Vec::new(alloc))),
+        [b'f', b'r', b'o', b'm', b' ', rest @ ..] => read_datagram(alloc, rest),
+        _ => Err(Unread::NoReading),
+    }
+}
+
+fn read_datagram(alloc: Global, text: &[u8]) -> Result<(Got, Vec<u8>), Unread>
+    ensures { IfOk result (λ pair. codes "from " ++ text.now ≡ got_text pair.0 pair.1.items) }
+{
+    let (first, second) = split_at(text, b' ')?;
+    let peer = read_endpoint(first)?;
+    let octets = read_octets(alloc, second)?;
+    Ok((Got::From(peer, octets.len()), octets))
+}
+
+fn read_size(text: &[u8]) -> Result<FileSize, Unread>
+    ensures { IfOk result (λ answer. text.now ≡ size_text answer) }
+{
+    match text {
+        b"missing" => Ok(FileSize::Missing),
+        b"fail" => Ok(FileSize::Failed),
+        [b'l', b'e', b'n', b' ', count @ ..] => Ok(FileSize::Length(read_number(count)?)),
+        _ => Err(Unread::NoReading),
+    }
+}
