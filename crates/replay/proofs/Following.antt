@@ -4,7 +4,7 @@ use Rattle.world_face.specs.Journal.{Entry, Call, call_of, Allowed, Now, Wait, L
 use Rattle.world_face.specs.Tells.{Telling, Told, on, ceased, silent, Counts, Counted, Answers}
 use Rattle.world_face.specs.Faults.{failures, io_failed, made_failed, join_failed, accept_failed, sent_failed, got_failed, size_failed, waited_failed}
 use Rattle.world_face.specs.Limits.{last_count}
-use Rattle.replay.specs.Script.{Script, script_tells, newest_onto}
+use Rattle.replay.specs.Script.{Script, script_tells, newest_onto, schedule_text}
 use Rattle.replay.specs.Names.{name_of}
 use Rattle.replay.specs.Fitting.{FitsNext, Advances, Ceases, raise, raised, counted, has_failed}
 
@@ -81,6 +81,7 @@ fits old new e next advances =
     let step : newest_onto (old.used + 1) old.lines [] ≡ e ∷ newest_onto old.used old.lines [] = rw add-one (one_more old.used old.lines [] e next.next) in
     let kept : newest_onto new.used new.lines [] ≡ e ∷ newest_onto old.used old.lines [] = rw (to.used, to.lines) step in
     record {
+      same = ap schedule_text to.lines;
       allowed = next.allowed;
       told = on next.live (to.live ∙ next.live) kept;
       counted = rw to.faults (counts e old.faults);
@@ -90,6 +91,7 @@ pub ceases : (old new : Script) (e : Entry) → Allowed e → Ceases old new (ca
 ceases old new e allowed to =
     let kept : newest_onto new.used new.lines [] ≡ newest_onto old.used old.lines [] = rw (to.used, to.lines) refl in
     record {
+      same = ap schedule_text to.lines;
       allowed = allowed;
       told = elim old.live as (λ b. old.live ≡ b → Told (script_tells old) (script_tells new) (e ∷ [])) [
         | true ↦ λ is. ceased is to.dead [] [] e refl kept (subst (λ o. IfSome o (λ s. s ≡ call_of e)) (sym (to.first is)) refl)

@@ -18,13 +18,13 @@ newest_onto zero lines older = older
 newest_onto (suc n) [] older = older
 newest_onto (suc n) (line ∷ lines) older = newest_onto n lines (line ∷ older)
 
-abbrev pub script_tells : Script → Telling
-script_tells script = record { kept = newest_onto script.used script.lines []; live = script.live; stop = script.stop; faults = script.faults }
-
 -- the text of a schedule's lines, in their order
 abbrev pub schedule_text : List Entry → List ℕ
 schedule_text [] = []
 schedule_text (line ∷ lines) = line_text line ++ schedule_text lines
+
+abbrev pub script_tells : Script → Telling
+script_tells script = record { source = schedule_text script.lines; kept = newest_onto script.used script.lines []; live = script.live; stop = script.stop; faults = script.faults }
 
 -- nothing is used up, and it answers
 pub record IsFresh (script : Script) : Type 0 where
