@@ -1,6 +1,10 @@
 //! Addresses of the Internet protocol and of Ethernet, faults of packets, and want of memory or room.
 #![tactic(auto)]
 
+ghost use Rattle.std.specs.Prelude.{◌≡◌, ◌+◌, ◌*◌, ◌≤◌, ◌==◌, length};
+ghost use Rattle.net_octets.specs.Octets.{four, word_sum, with_carries, checksum, sum_ok, before_sum, first_bits};
+ghost use Rattle.net_octets.specs.Quads.{quad_sum};
+
 /// There was no memory left.
 #[derive(Clone, Copy, Debug, PartialEq, Eq)]
 pub struct NoMemory;
@@ -48,4 +52,160 @@ pub enum FaultKind {
     BadLength,
     /// A checksum doesn't hold.
     BadSum,
+}
+
+impl Prefix {
+    /// Whether the address is one of these: its first `length` bits are those of `net`.
+    /// `length` is at most 32 (RFC 4632, 3.1).
+    pub fn holds(&self, a: Ip4) -> bool
+        requires { self.now.length ≤ 32 }
+        ensures { result ≡ (first_bits self.now.length a.0 == first_bits self.now.length self.now.net.0) }
+    {
+        let rest = 32 - self.length;
+        (a.0 as u64 >> rest) == (self.net.0 as u64 >> rest)
+    }
+}
+
+/// Whether the octets hold their own checksum: the one's complement sum of their words is
+/// 0xFFFF (RFC 1071, 1). At most 65,535 octets.
+pub fn sum_ok(octets: &[u8]) -> bool
+    requires { length octets.now ≤ 65535 }
+    ensures { result ≡ sum_ok (word_sum octets.now) }
+{
+    sum_after(0, octets) == 65535
+}
+
+/// The one's complement of the one's complement sum of the 16-bit words; an odd last octet is
+/// the high half of a word (RFC 1071, 1). At most 65,535 octets.
+pub fn checksum(octets: &[u8]) -> u16
+    requires { length octets.now ≤ 65535 }
+    ensures { result ≡ checksum (word_sum octets.now) }
+{
+    65535 - sum_after(0, octets)
+}
+
+/// The plain sum of the words that stand before a datagram for its checksum: the two addresses,
+/// the protocol and the length in octets (RFC 793, 3.1; RFC 768). At most 0x5FFFA.
+pub fn pseudo(from: Ip4, to: Ip4, proto: u8, length: u16) -> u32
+    ensures sum { result ≡ before_sum from.0 to.0 proto length }
+    ensures small { result ≤ 393210 }
+{
+    words_of(from) + words_of(to) + proto as u32 + length as u32
+}
+
+/// The checksum of octets before which other words stand, whose plain sum is `start`, at most
+/// 0xFFFFF (RFC 1071, 1). At most 65,535 octets.
+pub fn checksum_after(start: u32, octets: &[u8]) -> u16
+    requires few { length octets.now ≤ 65535 }
+    requires small { start ≤ 1048575 }
+    ensures { result ≡ checksum (start + word_sum octets.now) }
+{
+    65535 - sum_after(start, octets)
+}
+
+/// The one's complement sum of the words of the octets and of words before them, whose plain
+/// sum is `start`.
+fn sum_after(start: u32, octets: &[u8]) -> u16
+    requires { length octets.now ≤ 65535 }
+    ensures { result ≡ with_carries (start + word_sum octets.now) }
+{
+    fold(start as u64 + sum_of_quads(octets))
+}
+
+/// The sum of the two 16-bit words of an address.
+fn words_of(address: Ip4) -> u32
+    ensures sum { result ≡ word_sum (four address.0) }
+    ensures small { result ≤ 131070 }
+{
+    address.0 / 65536 + address.0 % 65536
+}
+
+/// The sum of the 16-bit words, two octets at a time.
+fn sum_of_words(octets: &[u8]) -> u64
+    requires { length octets.now ≤ 65535 }
+    ensures sum { result ≡ word_sum octets.now }
+    ensures small { result ≤ 65536 * length octets.now }
+{
+    let mut sum: u64 = 0;
+    let mut rest = octets;
+    while let [high, low, tail @ ..] = rest {
+        sum += *high as u64 * 256 + *low as u64;
+        rest = tail;
+    }
+    match rest {
+        [last, ..] => sum + *last as u64 * 256,
+        [] => sum,
+    }
+}
+
+/// The sum of the 32-bit words, and of the 16-bit words of the last one to three octets.
+fn sum_of_quads(octets: &[u8]) -> u64
+    requires { length octets.now ≤ 65535 }
+    ensures sum { result ≡ quad_sum octets.now }
+    ensures small { result ≤ 4294967296 * length octets.now }
+{
+    let mut sum: u64 = 0;
+    let mut rest = octets;
+    while let [a, b, c, d, tail @ ..] = rest {
+        sum += u32::from_be_bytes([*a, *b, *c, *d]) as u64;
+        rest = tail;
+    }
+    sum + sum_of_words(rest)
+}
+
+/// The one's complement sum that a plain sum of words comes to.
+fn fold(sum: u64) -> u16
+    ensures { result ≡ with_carries sum }
+{
+    if sum == 0 {
+        0
+    } else {
+        ((sum - 1) % 65535) as u16 + 1
+    }
+}
+
+#[cfg(test)]
+mod tests {
+    use super::*;
+
+    #[test]
+    fn sums_the_example_of_rfc_1071(rt: HostRuntime) {
+        let octets = [0x00u8, 0x01, 0xf2, 0x03, 0xf4, 0xf5, 0xf6, 0xf7];
+        assert_eq!(rt; checksum(&octets), 0x220d);
+        assert_eq!(rt; checksum(&[]), 0xffff);
+        assert_eq!(rt; checksum(&[0x12]), 0xedff);
+    }
+
+    #[test]
+    fn header_holds_its_sum(rt: HostRuntime) {
+        let mut head =
+            *b"\x45\x00\x00\x1e\x00\x01\x00\x00\x40\x11\xac\xb8\x0a\x00\x02\x0f\xc0\x00\x02\x07";
+        assert!(rt; sum_ok(&head));
+        head[11] = 0xb9;
+        assert!(rt; !sum_ok(&head));
+    }
+
+    #[test]
+    fn pseudo_header_of_a_datagram_with_its_sum(rt: HostRuntime) {
+        let datagram = *b"\x00\x07\x0f\xa0\x00\x0a\x00\x00\x6f\x6b";
+        let start = pseudo(Ip4(0xc6336401), Ip4(0x0a00020f), 17, 10);
+        assert_eq!(rt; checksum_after(start, &datagram), 0x4a84);
+    }
+
+    #[test]
+    fn prefix_by_its_first_bits(rt: HostRuntime) {
+        let network = Prefix {
+            net: Ip4(0x0a000200),
+            length: 24,
+        };
+        assert!(rt; network.holds(Ip4(0x0a0002ff)));
+        assert!(rt; !network.holds(Ip4(0x0a000300)));
+        assert!(rt;
+            Prefix {
+                net: Ip4(7),
+                length: 0
+            }
+            .holds(Ip4(u32::MAX))
+        );
+    }
 }
