@@ -1,2 +1,5 @@
 pub mod Folds
+pub mod Parts
+pub mod Six
 pub mod Sums
+pub mod Writing

@@ -2,7 +2,7 @@
 #![tactic(auto)]
 
 ghost use Rattle.std.specs.Prelude.{◌≡◌, ◌+◌, ◌*◌, ◌≤◌, ◌==◌, length};
-ghost use Rattle.net_octets.specs.Octets.{four, word_sum, with_carries, checksum, sum_ok, before_sum, first_bits};
+ghost use Rattle.net_octets.specs.Octets.{part, four, word_sum, with_carries, checksum, sum_ok, before_sum, first_bits};
 ghost use Rattle.net_octets.specs.Quads.{quad_sum};
 
 /// There was no memory left.
@@ -14,11 +14,11 @@ pub struct NoMemory;
 pub struct NoRoom;
 
 /// An IPv4 address as a number, its first octet the most significant (RFC 791, 3.2).
-#[derive(Clone, Copy, Debug, PartialEq, Eq)]
+#[derive(Clone, Copy, Debug, Default, PartialEq, Eq)]
 pub struct Ip4(pub u32);
 
 /// A hardware address of Ethernet, its octets in the order in which they are sent.
-#[derive(Clone, Copy, Debug, PartialEq, Eq)]
+#[derive(Clone, Copy, Debug, Default, PartialEq, Eq)]
 pub struct Mac(pub [u8; 6]);
 
 /// An IPv4 address and a port of UDP or TCP.
@@ -52,6 +52,18 @@ pub enum FaultKind {
     BadLength,
     /// A checksum doesn't hold.
     BadSum,
+}
+
+impl Mac {
+    /// The hardware address in the 6 octets from a place on.
+    pub fn at(octets: &[u8], place: usize) -> Mac
+        requires { place + 6 ≤ length octets.now }
+        ensures { result.0 ≡ part octets.now place 6 }
+    {
+        let mut mac = [0; 6];
+        mac.copy_from_slice(&octets[place..place + 6]);
+        Mac(mac)
+    }
 }
 
 impl Prefix {
@@ -190,6 +202,14 @@ mod tests {
         let datagram = *b"\x00\x07\x0f\xa0\x00\x0a\x00\x00\x6f\x6b";
         let start = pseudo(Ip4(0xc6336401), Ip4(0x0a00020f), 17, 10);
         assert_eq!(rt; checksum_after(start, &datagram), 0x4a84);
+    }
+
+    #[test]
+    fn hardware_address_at_its_place(rt: HostRuntime) {
+        assert_eq!(rt;
+            Mac::at(&[9, 1, 2, 3, 4, 5, 6, 9], 1),
+            Mac([1, 2, 3, 4, 5, 6])
+        );
     }
 
     #[test]

@@ -1,0 +1,219 @@
+//! The protocol that asks for the hardware address of an IPv4 address (RFC 826), and a table of
+//! the answers.
+#![tactic(auto)]
+
+ghost use Rattle.std.specs.Prelude.{◌≡◌, ℕ, List, [], None, ◌+◌, ◌≤◌, ◌↔◌, ◌++◌, length, take, drop, IsOk, IfOk, OnErr, MatchResult, Some, if◌then◌else◌};
+ghost use Rattle.std.specs.Result.{result_ok, result_err};
+ghost use Rattle.arp_table.specs.Arp.{Arp, IsArp, read_arp, arp_fault, arp_octets, arp_of};
+ghost use Rattle.arp_table.specs.Table.{learnt, mac_of};
+ghost use Rattle.net_octets.specs.Octets.{IsOctets};
+
+use arrayvec::ArrayVec;
+use byteorder::{BigEndian, ByteOrder};
+use net_octets::{Fault, FaultKind, Ip4, Mac, NoRoom};
+use std::marker::Model;
+
+/// The octets of a packet.
+const LENGTH: usize = 28;
+
+/// A packet: a reply or else a request, and the addresses of who sends it and of who is asked or
+/// told.
+#[derive(Clone, Copy, Debug, PartialEq, Eq)]
+pub struct ArpView {
+    pub reply: bool,
+    pub sender_mac: Mac,
+    pub sender_ip: Ip4,
+    pub target_mac: Mac,
+    pub target_ip: Ip4,
+}
+
+/// Reads a packet for IPv4 over Ethernet; octets behind it are passed over. The fault is the first
+/// of these: Short under 28 octets, with their number as its place; BadKind 0 and 2, where the
+/// hardware isn't Ethernet or the protocol isn't IPv4; BadLength 4 and 5, where their addresses
+/// haven't 6 and 4 octets; BadKind 6, where it is neither a request nor a reply.
+pub fn decode(octets: &[u8]) -> Result<ArpView, Fault>
+    ensures packet { MatchResult result (λ v. IsArp octets.now (arp_of v))
+        (λ _. (arp : Arp) → IsArp octets.now arp → ⊥) }
+    ensures fields { MatchResult result (λ v. read_arp octets.now ≡ Some (arp_of v))
+        (λ _. read_arp octets.now ≡ None) }
+    ensures fault { result_err result ≡ arp_fault octets.now }
+{
+    check(octets)?;
+    Ok(ArpView {
+        reply: BigEndian::read_u16(&octets[6..8]) == 2,
+        sender_mac: Mac::at(octets, 8),
+        sender_ip: Ip4(BigEndian::read_u32(&octets[14..18])),
+        target_mac: Mac::at(octets, 18),
+        target_ip: Ip4(BigEndian::read_u32(&octets[24..LENGTH])),
+    })
+}
+
+/// The first fault of the octets.
+fn check(octets: &[u8]) -> Result<(), Fault>
+    ensures { result_err result ≡ arp_fault octets.now }
+{
+    let bad = |kind, at| Err(Fault { kind, at });
+    if octets.len() < LENGTH {
+        return bad(FaultKind::Short, octets.len());
+    }
+    if BigEndian::read_u16(&octets[..2]) != 1 {
+        return bad(FaultKind::BadKind, 0);
+    }
+    if BigEndian::read_u16(&octets[2..4]) != 0x0800 {
+        return bad(FaultKind::BadKind, 2);
+    }
+    if octets[4] != 6 {
+        return bad(FaultKind::BadLength, 4);
+    }
+    if octets[5] != 4 {
+        return bad(FaultKind::BadLength, 5);
+    }
+    match BigEndian::read_u16(&octets[6..8]) {
+        1 | 2 => Ok(()),
+        _ => bad(FaultKind::BadKind, 6),
+    }
+}
+
+/// Writes a packet at the front of `into`, and answers its length in octets. `into` is unchanged
+/// where it is too short, and past the packet.
+pub fn encode(v: &ArpView, into: &mut [u8]) -> Result<usize, NoRoom>
+    ensures written { IfOk result (λ n. into.new ≡ arp_octets (arp_of v.now) ++ drop n into.old) }
+    ensures length { IfOk result (λ n. n ≡ 28) }
+    ensures packet { IfOk result (λ n. IsArp (take n into.new) (arp_of v.now)) }
+    ensures room { IsOk result ↔ (28 ≤ length into.old) }
+    ensures unchanged { OnErr result (into.new ≡ into.old) }
+{
+    if into.len() < LENGTH {
+        return Err(NoRoom);
+    }
+    let (sender, target) = (v.sender_ip.0, v.target_ip.0);
+    into[..8].copy_from_slice(&[0, 1, 8, 0, 6, 4, 0, operation(v.reply)]);
+    into[8..14].copy_from_slice(&v.sender_mac.0);
+    BigEndian::write_u32(&mut into[14..18], sender);
+    into[18..24].copy_from_slice(&v.target_mac.0);
+    BigEndian::write_u32(&mut into[24..LENGTH], target);
+    Ok(LENGTH)
+}
+
+/// What a packet does: 1 asks, 2 answers.
+fn operation(reply: bool) -> u8
+    ensures { result ≡ (if reply then 2 else 1) }
+{
+    if reply { 2 } else { 1 }
+}
+
+/// The grammar of packets holds of octets and fields exactly where these fields are read.
+pub fn grammar_is_what_is_read()
+    ensures { (octets : List ℕ) (arp : Arp) → IsOctets octets
+        → (IsArp octets arp ↔ (read_arp octets ≡ Some arp)) }
+{}
+
+/// Two packets with the same fields, behind which nothing follows, have the same octets.
+pub fn same_fields_same_octets()
+    ensures { (first second : List ℕ) (arp : Arp) (one : IsArp first arp) (other : IsArp second arp)
+        → one.rest ≡ [] → other.rest ≡ [] → first ≡ second }
+{}
+
+/// The hardware addresses of at most 64 IPv4 addresses, the one learnt last first.
+#[derive(Drop)]
+pub struct ArpTable {
+    pairs: ArrayVec<(Ip4, Mac), 64>,
+}
+
+impl Model for ArpTable {
+    ghost use Rattle.std.specs.Prelude.{List};
+    ghost use Rattle.net_octets.specs.declared.Ip4.{Ip4};
+    ghost use Rattle.net_octets.specs.declared.Mac.{Mac};
+
+    ghost Value = { List (Ip4 × Mac) };
+
+    ghost view = { λ table. table.pairs.items };
+}
+
+impl ArpTable {
+    /// A table without pairs.
+    pub fn new() -> ArpTable
+        ensures { result ≡ [] }
+    {
+        ArpTable {
+            pairs: ArrayVec::new(),
+        }
+    }
+
+    /// Takes an older pair of the address out, and puts the new pair first. The last of 65 pairs
+    /// is dropped.
+    pub fn learn(&mut self, ip: Ip4, mac: Mac)
+        ensures { self.new ≡ learnt ip mac self.old }
+    {
+        self.pairs.retain(|pair| pair.0.0 != ip.0);
+        self.pairs.truncate(63);
+        self.pairs.insert(0, (ip, mac));
+    }
+
+    /// The hardware address that was learnt last for the address. None exactly where no pair has
+    /// the address.
+    pub fn find(&self, ip: Ip4) -> Option<Mac>
+        ensures { result ≡ mac_of ip self.now }
+    {
+        let found = self.pairs.as_slice().iter().find(|pair| pair.0.0 == ip.0);
+        found.map(|pair| pair.1)
+    }
+}
+
+#[cfg(test)]
+mod tests {
+    use super::*;
+
+    const GUEST: Mac = Mac([0x52, 0x54, 0, 0x12, 0x34, 0x56]);
+
+    const REQUEST_FOR_GATEWAY: &[u8] =
+        b"\x00\x01\x08\x00\x06\x04\x00\x01\x52\x54\x00\x12\x34\x56\x0a\x00\x02\x0f\x00\x00\x00\x00\x00\x00\x0a\x00\x02\x02";
+
+    #[test]
+    fn request_is_read_and_written(rt: HostRuntime) {
+        let packet = decode(REQUEST_FOR_GATEWAY).expect(&rt, "a packet");
+        assert_eq!(rt; packet.reply, false);
+        assert_eq!(rt; packet.sender_mac, GUEST);
+        assert_eq!(rt; packet.sender_ip, Ip4(0x0a00020f));
+        assert_eq!(rt; packet.target_ip, Ip4(0x0a000202));
+        let mut written = [7; 30];
+        assert_eq!(rt; encode(&packet, &mut written), Ok(28));
+        assert_eq!(rt; &written[..28], REQUEST_FOR_GATEWAY);
+    }
+
+    #[test]
+    fn hardware_of_kind_six_is_refused(rt: HostRuntime) {
+        let mut packet = [0; 28];
+        packet.copy_from_slice(REQUEST_FOR_GATEWAY);
+        packet[1] = 6;
+        let fault = decode(&packet).err();
+        assert_eq!(rt;
+            fault,
+            Some(Fault {
+                kind: FaultKind::BadKind,
+                at: 0
+            })
+        );
+    }
+
+    #[test]
+    fn address_learnt_last_is_found(rt: HostRuntime) {
+        let mut table = ArpTable::new();
+        assert_eq!(rt; table.find(Ip4(7)), None);
+        table.learn(Ip4(7), Mac([1; 6]));
+        table.learn(Ip4(8), Mac([2; 6]));
+        table.learn(Ip4(7), GUEST);
+        assert_eq!(rt; table.find(Ip4(7)), Some(GUEST));
+        assert_eq!(rt; table.find(Ip4(8)), Some(Mac([2; 6])));
+    }
+
+    #[test]
+    fn oldest_of_65_addresses_is_dropped(rt: HostRuntime) {
+        let mut table = ArpTable::new();
+        for last in 0..65 {
+            table.learn(Ip4(last), GUEST);
+        }
+        assert_eq!(rt; table.find(Ip4(0)), None);
+        assert_eq!(rt; table.find(Ip4(1)), Some(GUEST));
+    }
+}
