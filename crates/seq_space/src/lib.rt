@@ -1,0 +1,75 @@
+//! Sequence numbers of 32 bits (RFC 9293, 3.4), and the places in a stream for which they stand.
+#![tactic(auto)]
+
+ghost use Rattle.std.specs.Prelude.{◌≡◌, ◌≤◌, ◌^◌};
+ghost use Rattle.seq_space.specs.Places.{IsAhead, IsPlace, number_of, place as place_of};
+
+/// A sequence number.
+#[derive(Clone, Copy, Debug, PartialEq, Eq)]
+pub struct Seq(pub u32);
+
+/// How far `a` is ahead of `b`, the short way round: the one number from -2^31 on and below 2^31
+/// that differs from `a - b` by a multiple of 2^32. Where it is negative, `a` is behind `b`.
+pub fn ahead(a: Seq, b: Seq) -> i32
+    ensures { IsAhead a.0 b.0 result }
+{
+    a.0.wrapping_sub(b.0).cast_signed()
+}
+
+/// The number at a place of the stream whose SYN has the number `first`. The first octet after the
+/// SYN has the place 0.
+pub fn number_at(first: Seq, place: u64) -> Seq
+    ensures { result.0 ≡ number_of first.0 place }
+{
+    Seq(
+        first
+            .0
+            .wrapping_add(1)
+            .wrapping_add((place % (1 << 32)) as u32),
+    )
+}
+
+/// The place nearest to `top` for which the number may stand, in the stream whose SYN has the
+/// number `first`. It is from `top - 2^31` on and below `top + 2^31`, and that of the SYN is -1.
+pub fn nearest(number: Seq, first: Seq, top: u64) -> i64
+    requires { top ≤ 2 ^ 62 }
+    ensures near { IsPlace number.0 first.0 top result }
+    ensures value { result ≡ place_of number.0 first.0 top }
+{
+    top as i64 + i64::from(ahead(number, number_at(first, top)))
+}
+
+#[cfg(test)]
+mod tests {
+    use super::*;
+
+    #[test]
+    fn nearest_past_the_wrap(rt: HostRuntime) {
+        assert_eq!(rt; nearest(Seq(8), Seq(0xFFFF_FFFB), 0), 12);
+    }
+
+    #[test]
+    fn nearest_of_the_syn(rt: HostRuntime) {
+        assert_eq!(rt; nearest(Seq(77), Seq(77), 0), -1);
+    }
+
+    #[test]
+    fn nearest_one_round_on(rt: HostRuntime) {
+        assert_eq!(rt; nearest(Seq(78), Seq(77), 1 << 32), 1 << 32);
+    }
+
+    #[test]
+    fn ahead_past_the_wrap(rt: HostRuntime) {
+        assert_eq!(rt; ahead(Seq(0), Seq(0xFFFF_FFFF)), 1);
+    }
+
+    #[test]
+    fn ahead_half_way_round(rt: HostRuntime) {
+        assert_eq!(rt; ahead(Seq(0x8000_0000), Seq(0)), i32::MIN);
+    }
+
+    #[test]
+    fn number_past_the_wrap(rt: HostRuntime) {
+        assert_eq!(rt; number_at(Seq(0xFFFF_FFFB), 12), Seq(8));
+    }
+}

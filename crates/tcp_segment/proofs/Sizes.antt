@@ -1,0 +1,25 @@
+-- What the options of a segment say.
+use Rattle.std.proofs.Common.{◌≡◌, ℕ, ◌≤◌, List, [], ◌∷◌, length, Option, Some, refl, sym, ◌∙◌, ap, subst, Bor}
+use Rattle.std.specs.Option.{option_copied}
+use Rattle.net_octets.specs.Octets.{two}
+use Rattle.tlv_table.specs.Tables.{Rules}
+use Rattle.tlv_table.specs.Reading.{Found, first_body, read_on}
+use Rattle.tlv_table.specs.Grammar.{IsListOf}
+use Rattle.tlv_table.proofs.Laws.{read_list, first_in_range}
+use Rattle.tcp_segment.specs.Tcp.{tcp_form, tcp_rows, mss_row}
+
+-- the body of a greatest segment size has two octets
+pub two_octets : (table : Rules) (options : List ℕ) (found : List Found) (first : Option (Bor (List ℕ))) (body : Bor (List ℕ)) → table ≡ record { form = tcp_form; rows = tcp_rows } → IsListOf table.form table.rows options found
+    → option_copied first ≡ first_body 2 found → first ≡ Some body → 2 ≤ length body.now
+two_octets table options found first body table_is lists first_is is =
+    let lists_tcp : IsListOf tcp_form tcp_rows options found = subst (λ (t : Rules). IsListOf t.form t.rows options found) table_is lists in
+    (first_in_range tcp_form tcp_rows options found 2 mss_row body.now lists_tcp refl (sym first_is ∙ ap option_copied is)).0
+
+-- what we write is a list of options
+pub no_options : IsListOf tcp_form tcp_rows [] []
+unfolding read_on
+no_options = read_list tcp_form tcp_rows [] [] refl
+
+pub one_option : (mss : ℕ) → IsListOf tcp_form tcp_rows (2 ∷ 4 ∷ two mss) (record { code = 2; place = 0; body = two mss } ∷ [])
+unfolding read_on
+one_option mss = read_list tcp_form tcp_rows (2 ∷ 4 ∷ two mss) (record { code = 2; place = 0; body = two mss } ∷ []) refl

@@ -1,0 +1,150 @@
+-- Segments of TCP (RFC 9293, 3.1).
+use Rattle.std.specs.Prelude.{◌≡◌, ℕ, ◌+◌, ◌-◌, ◌*◌, ◌/◌, ◌^◌, ◌<◌, ◌≤◌, ◌||◌, not, true, false, nat_lt, List, [], ◌∷◌, ◌++◌, length, drop, Option, Some, None, option_map, Result, Ok, Err, if◌then◌else◌}
+use Rattle.std.specs.Result.{result_ok, result_err}
+use Rattle.net_octets.specs.Kinds.{tcp_proto}
+use Rattle.net_octets.specs.Octets.{one_at, two_at, four_at, part, two, four, word_sum, checksum, sum_ok, before_sum}
+use Rattle.net_octets.specs.declared.Fault.{Fault}
+use Rattle.net_octets.specs.declared.FaultKind.TheVariants.{Short, BadLength, BadSum}
+use Rattle.tlv_table.specs.declared.Form.{Form}
+use Rattle.tlv_table.specs.declared.Row.{Row}
+use Rattle.tlv_table.specs.declared.TlvFault.{TlvFault}
+use Rattle.tlv_table.specs.Reading.{Found, first_body, reading}
+use Rattle.tlv_table.specs.Grammar.{IsListOf}
+use Rattle.tcp_segment.specs.declared.TcpView.{TcpView}
+
+-- what a segment says: ports, numbers, the eight flags, the window, the greatest segment size where it is said, and the octets that it carries
+pub record Tcp : Type 0 where
+  pub from_port : ℕ
+  pub to_port : ℕ
+  pub seq : ℕ
+  pub ack : ℕ
+  pub flags : ℕ
+  pub window : ℕ
+  pub mss : Option ℕ
+  pub body : List ℕ
+
+-- the options (RFC 9293, 3.2): 0 ends them, 1 is a pad, and a length counts its code and itself; the code 2 says the greatest segment size
+abbrev pub tcp_form : Form
+tcp_form = record { end = 0; pad = 1; end_needed = false; counts_head = true }
+
+abbrev pub mss_row : Row
+mss_row = record { code = 2; least = 2; greatest = 2; repeats = true }
+
+abbrev pub tcp_rows : List Row
+tcp_rows = mss_row ∷ []
+
+-- the first greatest segment size among options
+abbrev pub mss_in : List Found → Option ℕ
+mss_in found = option_map (λ body. two_at body 0) (first_body 2 found)
+
+-- the header and what it carries: words counts its words of four octets, the reserved bits and the urgent pointer say nothing here
+abbrev pub segment_with : (words reserved sum urgent : ℕ) → List ℕ → Tcp → List ℕ
+segment_with words reserved sum urgent options tcp =
+    two tcp.from_port ++ two tcp.to_port ++ four tcp.seq ++ four tcp.ack
+    ++ (16 * words + reserved) ∷ tcp.flags ∷ two tcp.window ++ two sum ++ two urgent ++ options ++ tcp.body
+
+-- the ranges of the fields
+pub record Fits (tcp : Tcp) : Type 0 where
+  pub from_port : tcp.from_port < 2 ^ 16
+  pub to_port : tcp.to_port < 2 ^ 16
+  pub seq : tcp.seq < 2 ^ 32
+  pub ack : tcp.ack < 2 ^ 32
+  pub window : tcp.window < 2 ^ 16
+
+-- the words that the checksum is over: the addresses, the protocol and the length stand before the segment
+abbrev pub summed : (from to : ℕ) → List ℕ → ℕ
+summed from to octets = before_sum from to tcp_proto (length octets) + word_sum octets
+
+-- the grammar: the fields in their order, options to a whole number of words, a sum that holds, and all the rest is the body
+pub record IsTcp (from to : ℕ) (octets : List ℕ) (tcp : Tcp) : Type 0 where
+  pub words : ℕ
+  pub words_fit : (5 ≤ words) × (words < 16)
+  pub reserved : ℕ
+  pub reserved_fits : reserved < 16
+  pub sum : ℕ
+  pub sum_fits : sum < 2 ^ 16
+  pub urgent : ℕ
+  pub urgent_fits : urgent < 2 ^ 16
+  pub options : List ℕ
+  pub options_size : 20 + length options ≡ 4 * words
+  pub found : List Found
+  pub lists : IsListOf tcp_form tcp_rows options found
+  pub fits : Fits tcp
+  pub mss : tcp.mss ≡ mss_in found
+  pub is : octets ≡ segment_with words reserved sum urgent options tcp
+  pub holds : sum_ok (summed from to octets) ≡ true
+
+-- the length of the header, in octets
+abbrev pub head_length : List ℕ → ℕ
+head_length octets = 4 * (one_at octets 12 / 16)
+
+-- it, or the first fault of the header and the sum
+abbrev pub head_reading : (from to : ℕ) → List ℕ → Result ℕ Fault
+head_reading from to octets =
+    if nat_lt (length octets) 20 then Err (record { kind = Short; at = length octets })
+    else (if nat_lt (head_length octets) 20 || nat_lt (length octets) (head_length octets) then Err (record { kind = BadLength; at = 12 })
+    else (if not (sum_ok (summed from to octets)) then Err (record { kind = BadSum; at = 16 })
+    else Ok (head_length octets)))
+
+-- the greatest segment size of options, or their fault
+abbrev pub mss_found : Result (List Found) TlvFault → Result (Option ℕ) Fault
+mss_found (Ok found) = Ok (mss_in found)
+mss_found (Err fault) = Err (record { kind = BadLength; at = 20 })
+
+abbrev pub mss_reading : List ℕ → Result (Option ℕ) Fault
+mss_reading options = mss_found (reading tcp_form tcp_rows options)
+
+-- the fields of a segment whose header has this length and whose options say this size
+abbrev pub fields_of : List ℕ → ℕ → Option ℕ → Tcp
+fields_of octets head mss = record {
+  from_port = two_at octets 0;
+  to_port = two_at octets 2;
+  seq = four_at octets 4;
+  ack = four_at octets 8;
+  flags = one_at octets 13;
+  window = two_at octets 14;
+  mss = mss;
+  body = drop head octets;
+}
+
+infixl 10 ◌>>=◌
+abbrev pub ◌>>=◌ : {A B : Type 0} → Result A Fault → (A → Result B Fault) → Result B Fault
+(Ok x) >>= go_on = go_on x
+(Err fault) >>= go_on = Err fault
+
+-- the fields that octets spell, or the first fault
+abbrev pub tcp_reading : (from to : ℕ) → List ℕ → Result Tcp Fault
+tcp_reading from to octets =
+    head_reading from to octets >>= λ head. mss_reading (part octets 20 (head - 20)) >>= λ mss. Ok (fields_of octets head mss)
+
+abbrev pub read_tcp : (from to : ℕ) → List ℕ → Option Tcp
+read_tcp from to octets = result_ok (tcp_reading from to octets)
+
+abbrev pub tcp_fault : (from to : ℕ) → List ℕ → Option Fault
+tcp_fault from to octets = result_err (tcp_reading from to octets)
+
+-- the options that we write: the greatest segment size, where there is one
+abbrev pub options_octets : Option ℕ → List ℕ
+options_octets None = []
+options_octets (Some mss) = 2 ∷ 4 ∷ two mss
+
+-- the header that we write, without options and with 0 in the place of the sum
+abbrev pub head_octets : Tcp → List ℕ
+head_octets tcp =
+    two tcp.from_port ++ two tcp.to_port ++ four tcp.seq ++ four tcp.ack
+    ++ (16 * ((20 + length (options_octets tcp.mss)) / 4) + 0) ∷ tcp.flags ∷ two tcp.window ++ two 0 ++ two 0
+
+-- the length of a segment that we write, in octets
+abbrev pub tcp_length : Tcp → ℕ
+tcp_length tcp = 20 + length (options_octets tcp.mss) + length tcp.body
+
+-- a segment that we write, with this sum, and with the one that holds
+abbrev pub tcp_with : ℕ → Tcp → List ℕ
+tcp_with sum tcp = segment_with ((20 + length (options_octets tcp.mss)) / 4) 0 sum 0 (options_octets tcp.mss) tcp
+
+abbrev pub tcp_octets : (from to : ℕ) → Tcp → List ℕ
+tcp_octets from to tcp = tcp_with (checksum (summed from to (tcp_with 0 tcp))) tcp
+
+-- a segment without where its octets lie in memory
+abbrev pub tcp_of : TcpView → Tcp
+tcp_of v = record { from_port = v.from_port; to_port = v.to_port; seq = v.seq.0; ack = v.ack.0; flags = v.flags; window = v.window; mss = v.mss; body = v.body.now }

@@ -1,0 +1,353 @@
+//! Segments of TCP (RFC 9293, 3.1).
+#![tactic(auto)]
+
+ghost use Rattle.std.specs.Prelude.{◌≡◌, ℕ, List, [], None, Some, Ok, Err, ◌+◌, ◌-◌, ◌*◌, ◌/◌, ◌≤◌, ◌<◌, ◌^◌, ◌↔◌, ◌++◌, ◌∷◌, length, take, drop, IsOk, IfOk, IfSome, OnErr, MatchResult};
+ghost use Rattle.std.specs.Result.{result_err};
+ghost use Rattle.net_octets.specs.Octets.{IsOctets, two};
+ghost use Rattle.tcp_segment.specs.Tcp.{Tcp, Fits, IsTcp, head_length, head_reading, mss_reading, fields_of, tcp_reading, read_tcp, tcp_fault, options_octets, head_octets, tcp_length, tcp_with, tcp_octets, tcp_of};
+
+use byteorder::{BigEndian, ByteOrder};
+use net_octets::{Fault, FaultKind, Ip4, NoRoom, checksum_after, pseudo};
+use seq_space::Seq;
+use tlv_table::{Form, Table, rows};
+
+/// The octets of a header without options.
+const HEAD: usize = 20;
+
+/// The number of the protocol in an IPv4 header.
+const PROTOCOL: u8 = 6;
+
+/// The options: 0 ends them, 1 is a pad, and a length counts its code and itself (RFC 9293, 3.2).
+const FORM: Form = Form {
+    end: 0,
+    pad: 1,
+    end_needed: false,
+    counts_head: true,
+};
+
+/// A segment. `flags` has the eight bits from CWR down to FIN, and `mss` is the greatest segment
+/// size that its options say first.
+#[derive(Clone, Copy, Debug, PartialEq, Eq)]
+pub struct TcpView<'a> {
+    pub from_port: u16,
+    pub to_port: u16,
+    pub seq: Seq,
+    pub ack: Seq,
+    pub flags: u8,
+    pub window: u16,
+    pub mss: Option<u16>,
+    pub body: &'a [u8],
+}
+
+/// Reads a segment between two addresses, of at most 65,535 octets. The fault is the first of
+/// these: Short under 20 octets, with their number as its place; BadLength 12, where the header
+/// has under 5 words or more than there are octets; BadSum 16, where the sum over the addresses
+/// and the octets doesn't hold; BadLength 20, where the options are wrong.
+pub fn decode(octets: &[u8], from: Ip4, to: Ip4) -> Result<TcpView<'_>, Fault>
+    requires { length octets.now ≤ 65535 }
+    ensures packet { MatchResult result (λ v. IsTcp from.0 to.0 octets.now (tcp_of v))
+        (λ _. (tcp : Tcp) → IsTcp from.0 to.0 octets.now tcp → ⊥) }
+    ensures fields { MatchResult result (λ v. read_tcp from.0 to.0 octets.now ≡ Some (tcp_of v))
+        (λ _. read_tcp from.0 to.0 octets.now ≡ None) }
+    ensures fault { result_err result ≡ tcp_fault from.0 to.0 octets.now }
+{
+    segment_in(octets, from, to)
+}
+
+fn segment_in(octets: &[u8], from: Ip4, to: Ip4) -> Result<TcpView<'_>, Fault>
+    requires { length octets.now ≤ 65535 }
+    ensures { MatchResult result (λ v. tcp_reading from.0 to.0 octets.now ≡ Ok (tcp_of v))
+        (λ fault. tcp_reading from.0 to.0 octets.now ≡ Err fault) }
+{
+    let head = head_in(octets, from, to)?;
+    let mss = mss_in(&octets[HEAD..head])?;
+    Ok(fields_in(octets, head, mss))
+}
+
+/// The length of the header, once the header and the sum are right.
+fn head_in(octets: &[u8], from: Ip4, to: Ip4) -> Result<usize, Fault>
+    requires { length octets.now ≤ 65535 }
+    ensures exact { result ≡ head_reading from.0 to.0 octets.now }
+    ensures bounds { IfOk result (λ head. (20 ≤ head) × (head ≤ length octets.now)) }
+{
+    let bad = |kind, at| Err(Fault { kind, at });
+    if octets.len() < HEAD {
+        return bad(FaultKind::Short, octets.len());
+    }
+    let head = (octets[12] / 16) as usize * 4;
+    if head < HEAD || octets.len() < head {
+        return bad(FaultKind::BadLength, 12);
+    }
+    let start = pseudo(from, to, PROTOCOL, octets.len() as u16);
+    if checksum_after(start, octets) != 0 {
+        return bad(FaultKind::BadSum, 16);
+    }
+    Ok(head)
+}
+
+/// The first greatest segment size that options say.
+fn mss_in(options: &[u8]) -> Result<Option<u16>, Fault>
+    ensures { result ≡ mss_reading options.now }
+{
+    let Some(table) = Table::new(FORM, rows![2: 2 to 2, repeats]) else {
+        unreachable!();
+    };
+    let Ok(fields) = table.read(options) else {
+        return Err(Fault {
+            kind: FaultKind::BadLength,
+            at: HEAD,
+        });
+    };
+    Ok(fields.first(2).map(|body| BigEndian::read_u16(body)))
+}
+
+fn fields_in(octets: &[u8], head: usize, mss: Option<u16>) -> TcpView<'_>
+    requires { (20 ≤ head) × (head ≤ length octets.now) }
+    ensures { tcp_of result ≡ fields_of octets.now head mss }
+{
+    TcpView {
+        from_port: BigEndian::read_u16(&octets[..2]),
+        to_port: BigEndian::read_u16(&octets[2..4]),
+        seq: Seq(BigEndian::read_u32(&octets[4..8])),
+        ack: Seq(BigEndian::read_u32(&octets[8..12])),
+        flags: octets[13],
+        window: BigEndian::read_u16(&octets[14..16]),
+        mss,
+        body: &octets[head..],
+    }
+}
+
+/// Writes a segment between two addresses at the front of `into`, with the greatest segment size
+/// where there is one, and answers its length in octets. The whole has under 65,536 octets. `into`
+/// is unchanged where it is too short, and past the segment.
+pub fn encode(v: &TcpView<'_>, from: Ip4, to: Ip4, into: &mut [u8]) -> Result<usize, NoRoom>
+    requires { tcp_length (tcp_of v.now) < 2 ^ 16 }
+    ensures written { IfOk result (λ n. into.new
+        ≡ tcp_octets from.0 to.0 (tcp_of v.now) ++ drop n into.old) }
+    ensures length { IfOk result (λ n. n ≡ tcp_length (tcp_of v.now)) }
+    ensures packet { IfOk result (λ n. IsTcp from.0 to.0 (take n into.new) (tcp_of v.now)) }
+    ensures room { IsOk result ↔ (tcp_length (tcp_of v.now) ≤ length into.old) }
+    ensures unchanged { OnErr result (into.new ≡ into.old) }
+{
+    let length = length_of(v);
+    if into.len() < length {
+        return Err(NoRoom);
+    }
+    write(v, from, to, &mut into[..length]);
+    Ok(length)
+}
+
+/// The octets that a segment takes.
+fn length_of(v: &TcpView<'_>) -> usize
+    requires { tcp_length (tcp_of v.now) < 2 ^ 16 }
+    ensures { result ≡ tcp_length (tcp_of v.now) }
+{
+    HEAD + options_size(v.mss) + v.body.len()
+}
+
+fn options_size(mss: Option<u16>) -> usize
+    ensures { result ≡ length (options_octets mss) }
+{
+    if mss.is_some() { 4 } else { 0 }
+}
+
+/// Writes a segment into exactly as many octets as it takes. Its octets are summed once, with 0 in
+/// the place of the sum.
+fn write(v: &TcpView<'_>, from: Ip4, to: Ip4, segment: &mut [u8])
+    requires size { tcp_length (tcp_of v.now) < 2 ^ 16 }
+    requires room { length segment.old ≡ tcp_length (tcp_of v.now) }
+    ensures written { segment.new ≡ tcp_octets from.0 to.0 (tcp_of v.now) }
+    ensures fits { Fits (tcp_of v.now) }
+    ensures mss { IfSome v.now.mss (λ mss. mss < 2 ^ 16) }
+{
+    let options = options(v.mss);
+    put(&head(v), &options[..options_size(v.mss)], v.body, segment);
+    let start = pseudo(from, to, PROTOCOL, segment.len() as u16);
+    let sum = checksum_after(start, segment);
+    BigEndian::write_u16(&mut segment[16..18], sum);
+}
+
+/// Writes three parts one after another.
+fn put(head: &[u8], options: &[u8], body: &[u8], segment: &mut [u8])
+    requires { length segment.old ≡ length head.now + length options.now + length body.now }
+    ensures { segment.new ≡ head.now ++ options.now ++ body.now }
+{
+    let options_end = head.len() + options.len();
+    segment[..head.len()].copy_from_slice(head);
+    segment[head.len()..options_end].copy_from_slice(options);
+    segment[options_end..].copy_from_slice(body);
+}
+
+/// The header without options and with 0 in the place of the sum.
+fn head(v: &TcpView<'_>) -> [u8; HEAD]
+    ensures octets { result ≡ head_octets (tcp_of v.now) }
+    ensures fits { Fits (tcp_of v.now) }
+{
+    let mut head = [0; HEAD];
+    BigEndian::write_u16(&mut head[..2], v.from_port);
+    BigEndian::write_u16(&mut head[2..4], v.to_port);
+    BigEndian::write_u32(&mut head[4..8], v.seq.0);
+    BigEndian::write_u32(&mut head[8..12], v.ack.0);
+    head[12] = words_of(v.mss) * 16;
+    head[13] = v.flags;
+    BigEndian::write_u16(&mut head[14..16], v.window);
+    head
+}
+
+/// The words of four octets that a header takes.
+fn words_of(mss: Option<u16>) -> u8
+    ensures { result ≡ (20 + length (options_octets mss)) / 4 }
+{
+    ((HEAD + options_size(mss)) / 4) as u8
+}
+
+/// The option that says the greatest segment size.
+fn options(mss: Option<u16>) -> [u8; 4]
+    ensures octets { options_octets mss ≡ take (length (options_octets mss)) result }
+    ensures fits { IfSome mss (λ mss. mss < 2 ^ 16) }
+{
+    let [high, low] = mss.unwrap_or(0).to_be_bytes();
+    [2, 4, high, low]
+}
+
+/// The grammar of segments holds of octets and fields exactly where these fields are read.
+pub fn grammar_is_what_is_read()
+    ensures { (from to : ℕ) (octets : List ℕ) (tcp : Tcp) → IsOctets octets
+        → (IsTcp from to octets tcp ↔ (read_tcp from to octets ≡ Some tcp)) }
+{}
+
+#[cfg(test)]
+mod tests {
+    use super::*;
+
+    const GUEST: Ip4 = Ip4(0x0a00_020f);
+
+    const PEER: Ip4 = Ip4(0xc000_0207);
+
+    const SYN: &[u8] =
+        b"\x0f\xa0\x00\x50\x00\x00\x03\xe8\x00\x00\x00\x00\x60\x02\xff\xff\xb6\x38\x00\x00\x02\x04\x05\xb4";
+
+    const SYN_ACK: &[u8] =
+        b"\x00\x50\x0f\xa0\x00\x03\xd0\x90\x00\x00\x03\xe9\x60\x12\xff\xff\xe5\x93\x00\x00\x02\x04\x05\xb4";
+
+    const RESET: &[u8] =
+        b"\x00\x50\x0f\xa0\x00\x00\x00\x00\x00\x00\x03\xe9\x50\x14\x00\x00\xcd\xe1\x00\x00";
+
+    const WITH_WINDOW_SCALE: &[u8] =
+        b"\x0f\xa0\x00\x50\x00\x00\x03\xe8\x00\x00\x00\x00\x70\x02\xff\xff\xa2\x2a\x00\x00\x02\x04\x05\xb4\x01\x03\x03\x07";
+
+    const WRONG_OPTIONS: &[u8] =
+        b"\x0f\xa0\x00\x50\x00\x00\x03\xe8\x00\x00\x00\x00\x60\x02\xff\xff\xb6\xed\x00\x00\x02\x03\x05\x00";
+
+    const FOUR_WORDS: &[u8] =
+        b"\x0f\xa0\x00\x50\x00\x00\x03\xe8\x00\x00\x00\x00\x40\x02\xff\xff\xb6\x38\x00\x00\x02\x04\x05\xb4";
+
+    const OTHER_SUM: &[u8] =
+        b"\x0f\xa0\x00\x50\x00\x00\x03\xe8\x00\x00\x00\x00\x60\x02\xff\xff\xb6\x38\x00\x00\x02\x04\x05\xb5";
+
+    fn fault(octets: &[u8]) -> Option<Fault>
+        requires { length octets.now ≤ 65535 }
+    {
+        decode(octets, GUEST, PEER).err()
+    }
+
+    #[test]
+    fn syn_with_mss(rt: HostRuntime) {
+        let syn = decode(SYN, GUEST, PEER).expect(&rt, "a segment");
+        assert_eq!(rt; (syn.from_port, syn.to_port), (4000, 80));
+        assert_eq!(rt; (syn.seq, syn.ack), (Seq(1000), Seq(0)));
+        assert_eq!(rt; (syn.flags, syn.window), (2, 65535));
+        assert_eq!(rt; syn.mss, Some(1460));
+        assert_eq!(rt; syn.body.len(), 0);
+    }
+
+    #[test]
+    fn syn_with_mss_written(rt: HostRuntime) {
+        let syn = TcpView {
+            from_port: 4000,
+            to_port: 80,
+            seq: Seq(1000),
+            ack: Seq(0),
+            flags: 2,
+            window: 65535,
+            mss: Some(1460),
+            body: &[],
+        };
+        let mut written = [7; 25];
+        assert_eq!(rt; encode(&syn, GUEST, PEER, &mut written), Ok(24));
+        assert_eq!(rt; &written[..24], SYN);
+        assert_eq!(rt; written[24], 7);
+    }
+
+    #[test]
+    fn syn_ack_at_250000(rt: HostRuntime) {
+        let answer = decode(SYN_ACK, PEER, GUEST).expect(&rt, "a segment");
+        assert_eq!(rt; (answer.seq, answer.ack), (Seq(250_000), Seq(1001)));
+        assert_eq!(rt; (answer.flags, answer.mss), (0x12, Some(1460)));
+    }
+
+    #[test]
+    fn syn_ack_at_250000_written(rt: HostRuntime) {
+        let answer = TcpView {
+            from_port: 80,
+            to_port: 4000,
+            seq: Seq(250_000),
+            ack: Seq(1001),
+            flags: 0x12,
+            window: 65535,
+            mss: Some(1460),
+            body: &[],
+        };
+        let mut written = [0; 24];
+        assert_eq!(rt; encode(&answer, PEER, GUEST, &mut written), Ok(24));
+        assert_eq!(rt; written.as_slice(), SYN_ACK);
+    }
+
+    #[test]
+    fn reset_after_refused_connect(rt: HostRuntime) {
+        let reset = decode(RESET, PEER, GUEST).expect(&rt, "a segment");
+        assert_eq!(rt; (reset.seq, reset.ack), (Seq(0), Seq(1001)));
+        assert_eq!(rt; (reset.flags, reset.window, reset.mss), (0x14, 0, None));
+    }
+
+    #[test]
+    fn reset_after_refused_connect_written(rt: HostRuntime) {
+        let reset = TcpView {
+            from_port: 80,
+            to_port: 4000,
+            seq: Seq(0),
+            ack: Seq(1001),
+            flags: 0x14,
+            window: 0,
+            mss: None,
+            body: &[],
+        };
+        let mut written = [0; 20];
+        assert_eq!(rt; encode(&reset, PEER, GUEST, &mut written), Ok(20));
+        assert_eq!(rt; written.as_slice(), RESET);
+    }
+
+    #[test]
+    fn unknown_options_are_passed_over(rt: HostRuntime) {
+        let syn = decode(WITH_WINDOW_SCALE, GUEST, PEER).expect(&rt, "a segment");
+        assert_eq!(rt; syn.mss, Some(1460));
+    }
+
+    #[test]
+    fn segments_that_are_wrong(rt: HostRuntime) {
+        let at = |kind, at| Some(Fault { kind, at });
+        assert_eq!(rt; fault(&SYN[..19]), at(FaultKind::Short, 19));
+        assert_eq!(rt; fault(FOUR_WORDS), at(FaultKind::BadLength, 12));
+        assert_eq!(rt; fault(&SYN[..20]), at(FaultKind::BadLength, 12));
+        assert_eq!(rt; fault(OTHER_SUM), at(FaultKind::BadSum, 16));
+        assert_eq!(rt; fault(WRONG_OPTIONS), at(FaultKind::BadLength, 20));
+    }
+
+    #[test]
+    fn no_room_changes_nothing(rt: HostRuntime) {
+        let syn = decode(SYN, GUEST, PEER).expect(&rt, "a segment");
+        let mut short = [7; 23];
+        assert_eq!(rt; encode(&syn, GUEST, PEER, &mut short), Err(NoRoom));
+        assert_eq!(rt; short, [7; 23]);
+    }
+}

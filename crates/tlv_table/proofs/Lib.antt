@@ -1,0 +1,4 @@
+pub mod Walks
+pub mod Marks
+pub mod Firsts
+pub mod Laws

@@ -1,0 +1,436 @@
+//! Lists of options, each a code, a length and a body, read by a table of the codes that are known,
+//! as in TCP (RFC 9293, 3.1) and DHCP (RFC 2132, 2). Nothing is allocated.
+#![tactic(auto)]
+
+ghost use Rattle.std.specs.Prelude.{◌≡◌, ℕ, ◌+◌, ◌==◌, true, false, List, length, replicate, Option, Ok, Err, is_ok, is_some, option_copied, position, IfSome, IfOk, OnOk, IfErr, MatchResult};
+ghost use Rattle.tlv_table.specs.Tables.{is_below, is_rising, is_row, are_rows, is_table, row_of};
+ghost use Rattle.tlv_table.specs.Reading.{Found, first_body, body_in, judged, option_step, Agrees, Takes, reading, found_in};
+ghost use Rattle.tlv_table.specs.Grammar.{IsListOf, IsNoList};
+ghost use Rattle.tlv_table.specs.declared.Row.{Row};
+ghost use Rattle.tlv_table.specs.declared.TlvFault.{TlvFault};
+
+use std::marker::Model;
+
+/// What is known of one code.
+#[derive(Clone, Copy, Debug, PartialEq, Eq)]
+pub struct Row {
+    pub code: u8,
+    /// The least number of octets in a body.
+    pub least: u8,
+    /// The greatest number of octets in a body.
+    pub greatest: u8,
+    /// Whether the code may stand more than once.
+    pub repeats: bool,
+}
+
+/// What the options of a protocol look like.
+#[derive(Clone, Copy, Debug, PartialEq, Eq)]
+pub struct Form {
+    /// The code after which nothing is read. It has no length.
+    pub end: u8,
+    /// The code that is one octet long and says nothing.
+    pub pad: u8,
+    /// Whether the end code has to be there.
+    pub end_needed: bool,
+    /// Whether the length of an option counts its code and its length too.
+    pub counts_head: bool,
+}
+
+/// Why octets are no list of options, with the offset of the code of the first option that is wrong.
+#[derive(Clone, Copy, Debug, PartialEq, Eq)]
+pub enum TlvFault {
+    /// The length or the body isn't all there.
+    Cut { at: usize },
+    /// The length counts the head and is under 2, or a known code's body is outside its range.
+    BadLength { at: usize },
+    /// A known code that may not repeat stands again.
+    Repeated { at: usize },
+    /// The end code isn't there, and the form needs it.
+    NoEnd,
+}
+
+/// The rows of a table, each written `CODE: LEAST to GREATEST, repeats` or `.., once`, with `;`
+/// between them, by rising code.
+#[macro_export]
+macro_rules! rows {
+    ($($code:literal : $least:literal to $greatest:literal, $often:ident);* $(;)?) => {
+        [$($crate::Row {
+            code: $code,
+            least: $least,
+            greatest: $greatest,
+            repeats: $crate::rows!(@ $often),
+        }),*]
+    };
+    (@ repeats) => { true };
+    (@ once) => { false };
+}
+
+/// A form and the rows of the codes that are known.
+#[derive(Clone, Copy, Debug)]
+pub struct Table<const N: usize> {
+    form: Form,
+    rows: [Row; N],
+}
+
+impl<const N: usize> Model for Table<N> {
+    ghost use Rattle.std.specs.Prelude.{◌≡◌, true};
+    ghost use Rattle.tlv_table.specs.Tables.{Rules, is_table};
+
+    ghost Value = { Rules };
+
+    ghost view = { λ t. record { form = t.form; rows = t.rows } };
+
+    ghost inverse = { λ r. record { form = r.form; rows = r.rows } };
+
+    ghost invariant = { λ t. is_table t.form t.rows ≡ true };
+}
+
+/// The options that a table read in some octets.
+#[derive(Debug, Drop)]
+pub struct Fields<'a, const N: usize> {
+    table: Table<N>,
+    octets: &'a [u8],
+}
+
+impl<'a, const N: usize> Model for Fields<'a, N> {
+    ghost use Rattle.std.specs.Prelude.{◌≡◌, true, List, is_ok};
+    ghost use Rattle.tlv_table.specs.Reading.{Found, reading, found_in};
+
+    ghost Value = { List Found };
+
+    ghost view = { λ f. found_in (reading f.table.form f.table.rows f.octets.now) };
+
+    ghost invariant = { λ f. is_ok (reading f.table.form f.table.rows f.octets.now) ≡ true };
+}
+
+impl<const N: usize> Table<N> {
+    /// The table of this form and these rows. It is None exactly where the codes aren't strictly
+    /// rising, a code is the end or pad code, or a row's least exceeds its greatest.
+    pub fn new(form: Form, rows: [Row; N]) -> Option<Table<N>>
+        ensures exactly { is_some result ≡ is_table form rows.entry }
+        ensures table { IfSome result (λ table. table ≡ record { form = form; rows = rows.entry }) }
+    {
+        if is_table(&form, &rows) {
+            Some(Table { form, rows })
+        } else {
+            None
+        }
+    }
+
+    /// Reads options from the front on, up to the end code. Options of codes without a row are passed
+    /// over. The fault is the first in the order of the octets; of one option, first Cut, then
+    /// BadLength, then Repeated.
+    pub fn read<'a>(&self, octets: &'a [u8]) -> Result<Fields<'a, N>, TlvFault>
+        ensures exact { result ≡ reading self.now.form self.now.rows octets.now }
+        // What is found is what the octets list.
+        ensures found { IfOk result (λ found. IsListOf self.now.form self.now.rows octets.now found) }
+        ensures only { (found : List Found) → IsListOf self.now.form self.now.rows octets.now found
+            → result ≡ Ok found }
+        // A fault is the first one, after options that are right.
+        ensures fault { IfErr result (λ fault. IsNoList self.now.form self.now.rows octets.now fault) }
+        ensures only_fault { (fault : TlvFault) → IsNoList self.now.form self.now.rows octets.now fault
+            → result ≡ Err fault }
+    {
+        self.fields_of(octets)
+    }
+
+    fn fields_of<'a>(&self, octets: &'a [u8]) -> Result<Fields<'a, N>, TlvFault>
+        ensures { result ≡ reading self.now.form self.now.rows octets.now }
+    {
+        check(&self.form, &self.rows, &mut [false; N], octets)?;
+        Ok(Fields {
+            table: *self,
+            octets,
+        })
+    }
+
+    fn first_in<'a>(&self, octets: &'a [u8], code: u8) -> Option<&'a [u8]>
+        requires { is_ok (reading self.now.form self.now.rows octets.now) ≡ true }
+        ensures { option_copied result ≡ first_body code (found_in (reading self.now.form self.now.rows octets.now)) }
+    {
+        first_body(&self.form, &self.rows, octets, code)
+    }
+}
+
+impl<'a, const N: usize> Fields<'a, N> {
+    /// The body of the first option of this code, and None exactly where none was found.
+    pub fn first(&self, code: u8) -> Option<&'a [u8]>
+        ensures { option_copied result ≡ first_body code self.now }
+    {
+        self.table.first_in(self.octets, code)
+    }
+}
+
+fn is_table(form: &Form, rows: &[Row]) -> bool
+    ensures { result ≡ is_table form.now rows.now }
+{
+    is_rising(rows) && are_rows(form, rows)
+}
+
+fn is_rising(rows: &[Row]) -> bool
+    ensures { result ≡ is_rising rows.now }
+{
+    let mut rest = rows;
+    while let [row, tail @ ..] = rest {
+        if !is_below(row, tail) {
+            return false;
+        }
+        rest = tail;
+    }
+    true
+}
+
+fn is_below(row: &Row, tail: &[Row]) -> bool
+    ensures { result ≡ is_below row.now tail.now }
+{
+    match tail {
+        [] => true,
+        [next, ..] => row.code < next.code,
+    }
+}
+
+fn are_rows(form: &Form, rows: &[Row]) -> bool
+    ensures { result ≡ are_rows form.now rows.now }
+{
+    let mut rest = rows;
+    while let [row, tail @ ..] = rest {
+        if !is_row(form, row) {
+            return false;
+        }
+        rest = tail;
+    }
+    true
+}
+
+fn is_row(form: &Form, row: &Row) -> bool
+    ensures { result ≡ is_row form.now row.now }
+{
+    row.code != form.end && row.code != form.pad && row.least <= row.greatest
+}
+
+fn find_row(rows: &[Row], code: u8) -> Option<usize>
+    ensures { result ≡ position (λ (row : Row). row.code == code) rows.now }
+{
+    rows.iter().position(|row| row.code == code)
+}
+
+// The body of an option, by what follows its code.
+fn body_of<'a>(form: &Form, tail: &'a [u8], at: usize) -> Result<&'a [u8], TlvFault>
+    ensures { MatchResult result
+        (λ body. body_in form.now at tail.now ≡ Ok body.now)
+        (λ fault. body_in form.now at tail.now ≡ Err fault) }
+{
+    let [size, rest @ ..] = tail else {
+        return Err(TlvFault::Cut { at });
+    };
+    let counted = if form.counts_head { 2 } else { 0 };
+    let Some(size) = usize::from(*size).checked_sub(counted) else {
+        return Err(TlvFault::BadLength { at });
+    };
+    rest.get(..size).ok_or(TlvFault::Cut { at })
+}
+
+// Whether an option of a known code is right.
+fn judge(row: &Row, again: bool, size: usize, at: usize) -> Result<(), TlvFault>
+    ensures ok { OnOk result (judged row.now again size at ≡ None) }
+    ensures err { IfErr result (λ fault. judged row.now again size at ≡ Some fault) }
+{
+    if size < usize::from(row.least) || size > usize::from(row.greatest) {
+        return Err(TlvFault::BadLength { at });
+    }
+    if again && !row.repeats {
+        return Err(TlvFault::Repeated { at });
+    }
+    Ok(())
+}
+
+// Takes an option, and marks the row of its code.
+fn take(rows: &[Row], marks: &mut [bool], code: u8, body: &[u8], at: usize) -> Result<(), TlvFault>
+    requires { length marks.old ≡ length rows.now }
+    ensures { (found : List Found) → Agrees rows.now marks.old found
+        → Takes rows.now marks.new found (record { code = code; place = at; body = body.now }) result }
+{
+    if let Some(row) = find_row(rows, code) {
+        judge(&rows[row], marks[row], body.len(), at)?;
+        marks[row] = true;
+    }
+    Ok(())
+}
+
+fn check(form: &Form, rows: &[Row], marks: &mut [bool], octets: &[u8]) -> Result<(), TlvFault>
+    requires { marks.old ≡ replicate (length rows.now) false }
+    ensures ok { OnOk result (is_ok (reading form.now rows.now octets.now) ≡ true) }
+    ensures err { IfErr result (λ fault. reading form.now rows.now octets.now ≡ Err fault) }
+{
+    let mut rest = octets;
+    while let [code, tail @ ..] = rest {
+        if *code == form.end {
+            return Ok(());
+        }
+        if *code == form.pad {
+            rest = tail;
+            continue;
+        }
+        let at = octets.len() - rest.len();
+        let body = body_of(form, tail, at)?;
+        take(rows, marks, *code, body, at)?;
+        rest = &tail[1 + body.len()..];
+    }
+    if form.end_needed {
+        Err(TlvFault::NoEnd)
+    } else {
+        Ok(())
+    }
+}
+
+fn first_body<'a>(form: &Form, rows: &[Row], octets: &'a [u8], code: u8) -> Option<&'a [u8]>
+    requires { is_ok (reading form.now rows.now octets.now) ≡ true }
+    ensures { option_copied result ≡ first_body code (found_in (reading form.now rows.now octets.now)) }
+{
+    find_row(rows, code)?;
+    let mut rest = octets;
+    while let [front, tail @ ..] = rest {
+        if *front == form.end {
+            return None;
+        }
+        if *front == form.pad {
+            rest = tail;
+            continue;
+        }
+        let Ok(body) = body_of(form, tail, 0) else {
+            return None;
+        };
+        if *front == code {
+            return Some(body);
+        }
+        rest = &tail[1 + body.len()..];
+    }
+    None
+}
+
+#[cfg(test)]
+mod tests {
+    use super::*;
+    use std::array;
+
+    const TCP: Form = Form {
+        end: 0,
+        pad: 1,
+        end_needed: false,
+        counts_head: true,
+    };
+
+    const DHCP: Form = Form {
+        end: 255,
+        pad: 0,
+        end_needed: true,
+        counts_head: false,
+    };
+
+    fn tcp_fault(octets: &[u8]) -> Option<TlvFault> {
+        Table::new(TCP, rows![2: 2 to 2, repeats])?
+            .read(octets)
+            .err()
+    }
+
+    fn tcp_body(octets: &[u8], code: u8) -> Option<&[u8]> {
+        let fields = Table::new(TCP, rows![2: 2 to 2, repeats])?
+            .read(octets)
+            .ok()?;
+        fields.first(code)
+    }
+
+    fn dhcp_fault(octets: &[u8]) -> Option<TlvFault> {
+        let rows = rows![
+            50: 4 to 4, once;
+            53: 1 to 1, once;
+            55: 1 to 32, repeats;
+        ];
+        Table::new(DHCP, rows)?.read(octets).err()
+    }
+
+    fn made(rows: [Row; 2]) -> bool {
+        Table::new(TCP, rows).is_some()
+    }
+
+    #[test]
+    fn segment_size_before_an_unknown_option(rt: HostRuntime) {
+        assert_eq!(rt; tcp_fault(b"\x02\x04\x05\xb4\x01\x08\x02"), None);
+        assert_eq!(rt;
+            tcp_body(b"\x02\x04\x05\xb4\x01\x08\x02", 2),
+            Some(b"\x05\xb4".as_slice())
+        );
+        assert_eq!(rt; tcp_body(b"\x02\x04\x05\xb4\x01\x08\x02", 8), None);
+    }
+
+    #[test]
+    fn first_of_two_segment_sizes(rt: HostRuntime) {
+        assert_eq!(rt;
+            tcp_body(b"\x02\x04\x05\xb4\x02\x04\x02\x00", 2),
+            Some(b"\x05\xb4".as_slice())
+        );
+    }
+
+    #[test]
+    fn segment_sizes_that_are_wrong(rt: HostRuntime) {
+        assert_eq!(rt; tcp_fault(b"\x02\x04\x05"), Some(TlvFault::Cut { at: 0 }));
+        assert_eq!(rt;
+            tcp_fault(b"\x02\x03\x05"),
+            Some(TlvFault::BadLength { at: 0 })
+        );
+        assert_eq!(rt; tcp_fault(b"\x08\x01"), Some(TlvFault::BadLength { at: 0 }));
+        assert_eq!(rt; tcp_fault(b"\x01\x08"), Some(TlvFault::Cut { at: 1 }));
+    }
+
+    #[test]
+    fn nothing_is_read_after_the_end(rt: HostRuntime) {
+        assert_eq!(rt; tcp_fault(b"\x00\x02"), None);
+        assert_eq!(rt; tcp_body(b"\x00\x02\x04\x05\xb4", 2), None);
+    }
+
+    #[test]
+    fn options_of_dhcp_that_are_wrong(rt: HostRuntime) {
+        assert_eq!(rt; dhcp_fault(b"\x35\x01\x01"), Some(TlvFault::NoEnd));
+        assert_eq!(rt;
+            dhcp_fault(b"\x35\x01\x01\x00\x35\x01\x01\xff"),
+            Some(TlvFault::Repeated { at: 4 })
+        );
+        assert_eq!(rt; dhcp_fault(b"\x37\x01\x01\x37\x01\x03\xff"), None);
+        assert_eq!(rt;
+            dhcp_fault(b"\x35\x02\x01\x01\xff"),
+            Some(TlvFault::BadLength { at: 0 })
+        );
+    }
+
+    #[test]
+    fn tables_that_are_refused(rt: HostRuntime) {
+        assert!(rt; made(rows![2: 2 to 2, repeats; 3: 1 to 1, once]));
+        assert!(rt; !made(rows![3: 1 to 1, once; 2: 2 to 2, repeats]));
+        assert!(rt; !made(rows![1: 1 to 1, once; 2: 2 to 2, repeats]));
+        assert!(rt; !made(rows![2: 2 to 2, repeats; 3: 2 to 1, once]));
+    }
+
+    #[test]
+    fn table_of_no_rows(rt: HostRuntime) {
+        let table = Table::new(DHCP, rows![]).expect(&rt, "no rows");
+        let fields = table
+            .read(b"\x05\x01\x07\xff")
+            .expect(&rt, "an unknown option");
+        assert_eq!(rt; fields.first(5), None);
+    }
+
+    #[test]
+    fn table_of_64_rows(rt: HostRuntime) {
+        let rows: [Row; 64] = array::from_fn(|i| Row {
+            code: i as u8 + 1,
+            least: 0,
+            greatest: 255,
+            repeats: false,
+        });
+        let table = Table::new(DHCP, rows).expect(&rt, "64 rows");
+        let fields = table
+            .read(b"\x40\x01\x07\xff")
+            .expect(&rt, "the last row's option");
+        assert_eq!(rt; fields.first(64), Some(b"\x07".as_slice()));
+    }
+}
