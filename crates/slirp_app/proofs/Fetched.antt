@@ -8,8 +8,7 @@ use Rattle.slirp_app.specs.Fetching.{MayFetch, Fetched, file_length, octets_read
 pub may_read : (name : List ℕ) (whole have asked : ℕ) (octets : List ℕ) (made : List Entry) → Fetched name whole have octets made → have < whole → whole ≤ 67108864 → length octets ≡ whole → asked ≡ min (whole - have) 16384
     → (have ≡ length (octets_read made)) × IsSomeAnd (file_length made) (λ w. (have < w) × (w ≤ 67108864) × (asked ≡ min (w - have) 16384))
 may_read name whole have asked octets made fetched less few size is =
-    let le : have ≤ length octets = omega (arith, less, size) in
-    (
+    let le : have ≤ length octets = omega (arith, less, size) in (
       sym (ap length fetched.2 ∙ length-take-le have octets le),
       subst (λ o. IsSomeAnd o (λ w. (have < w) × (w ≤ 67108864) × (asked ≡ min (w - have) 16384))) (sym fetched.1) (less, few, is),
     )

@@ -1,1 +1,4 @@
 pub mod Fetching
+pub mod Ran
+pub mod Statuses
+pub mod Words

@@ -63,7 +63,13 @@ fn fetch<W: World>(world: &mut W, name: &str, octets: &mut [u8]) -> bool
 }
 
 // Reads into a part of the octets.
-fn read_part<W: World>(world: &mut W, name: &str, octets: &mut [u8], from: usize, asked: usize) -> Io
+fn read_part<W: World>(
+    world: &mut W,
+    name: &str,
+    octets: &mut [u8],
+    from: usize,
+    asked: usize,
+) -> Io
     requires some { 0 < length name.now }
     requires fits { length name.now ≤ 1280 }
     requires room { 0 < asked }

@@ -47,8 +47,13 @@ impl<'a, R: Files> Drop for FileWorld<'a, R> {
 impl<'a, R: Files> World for FileWorld<'a, R> {
     ghost use Rattle.std.specs.Prelude.{[], None, false};
 
-    ghost tells = { λ w. record { source = []; kept = []; live = false; stop = None;
-        faults = record { link = w.link_faults; wait = w.wait_faults; socket = w.socket_faults; file = w.file_faults } } };
+    ghost tells = { λ w. record {
+      source = [];
+      kept = [];
+      live = false;
+      stop = None;
+      faults = record { link = w.link_faults; wait = w.wait_faults; socket = w.socket_faults; file = w.file_faults };
+    } };
 
     fn now(&mut self) -> u64 {
         0

@@ -3,12 +3,10 @@
 
 mod fetching;
 mod file_world;
-// running
-// status
+mod running;
+mod status;
 mod std_sink;
 
-
-
 pub use file_world::FileWorld;
-
+pub use running::slirp_main;
 pub use std_sink::StdSink;

@@ -13,7 +13,10 @@ pub struct StdSink<T: Write> {
 
 impl<T: Write> StdSink<T> {
     pub fn new(w: T) -> StdSink<T> {
-        StdSink { writer: w, faults: 0 }
+        StdSink {
+            writer: w,
+            faults: 0,
+        }
     }
 }
 

@@ -19,9 +19,9 @@ use Rattle.slirp_core.specs.declared.service.End.{End}
 use Rattle.slirp_core.specs.declared.service.End.TheVariants.{TurnsSpent}
 
 -- before the first turn
-pub started : (config : Config) (service : ServiceState) (moment : ℕ) → IsNew config service → Holds config 0 service.slirp service.link (Now moment ∷ [])
-started config service moment new = record {
-  settings = new.settings;
+pub started : (service : ServiceState) (moment : ℕ) → IsNew service → Holds service.slirp.config 0 service.slirp service.link (Now moment ∷ [])
+started service moment new = record {
+  settings = refl;
   lawful = record {
     framed = (tt, tt);
     due = (subst (λ f. MatchOption (due_in (Opening 0 f) []) (Unit {0}) (λ d. CallNow ≡ d)) (sym new.forwards) refl, tt);
@@ -38,8 +38,8 @@ started config service moment new = record {
   closed = refl;
 }
 
-pub reads_new : (config : Config) (service : ServiceState) → IsNew config service → ReadsOn (under_way service.link)
-reads_new config service new = subst ReadsOn (sym new.input) reads_first
+pub reads_new : (service : ServiceState) → IsNew service → ReadsOn (under_way service.link)
+reads_new service new = subst ReadsOn (sym new.input) reads_first
 
 -- a run that is over: it is lawful and finished, and this is how it ended
 abbrev pub Ran : Config → End → List Entry → Type 0

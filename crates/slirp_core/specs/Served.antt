@@ -1,6 +1,5 @@
 -- A service, and one that has served nothing.
 use Rattle.std.specs.Prelude.{◌≡◌, [], false}
-use Rattle.host_policy.specs.Addresses.{Config}
 use Rattle.stream_netdev.specs.State.{LinkState, under_way}
 use Rattle.slirp_core.specs.State.{SlirpState}
 
@@ -10,9 +9,8 @@ pub record ServiceState : Type 0 where
   pub link : LinkState
 
 -- nothing was read or written, no guest is known and nothing is owed; no port of the host is given to a guest yet
-pub record IsNew (config : Config) (service : ServiceState) : Type 0 where
-  pub settings : service.slirp.config ≡ config
-  pub forwards : config.forwards ≡ []
+pub record IsNew (service : ServiceState) : Type 0 where
+  pub forwards : service.slirp.config.forwards ≡ []
   pub known : service.slirp.known ≡ []
   pub pending : service.slirp.pending ≡ []
   pub input : under_way service.link ≡ []

@@ -85,7 +85,8 @@ impl Service {
 
     /// A network with these settings that has served nothing. It takes all the memory that it will ever need.
     pub fn open(alloc: Global, c: &SlirpConfig) -> Result<Service, NoMemory>
-        ensures { IfOk result (λ service. IsNew (settings c.now) service) }
+        ensures new { IfOk result (λ service. IsNew service) }
+        ensures config { IfOk result (λ service. service.slirp.config ≡ settings c.now) }
     {
         let link = Link::open(alloc)?;
         let (Ok(wants), Ok(ready)) = (
@@ -206,7 +207,7 @@ impl Service {
 
     /// Runs until the link ends, a wait is told to stop, or the turns are spent.
     pub fn serve<W: World>(&mut self, world: &mut W) -> End
-        requires { IsNew self.old.slirp.config self.old }
+        requires { IsNew self.old }
         // The calls that it makes are lawful, nothing more is to be done, and the end is the one that they tell.
         ensures makes { let config = self.old.slirp.config in
             Makes (W.tells world.old) (W.tells world.new) (λ made. Lawful config made × Finished config made × (result ≡ end_of config (phase config made))) }

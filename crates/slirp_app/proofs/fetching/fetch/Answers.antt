@@ -33,8 +33,8 @@ returns-in_default g c =
     let asked : c.min-asked.result ≡ min (whole - have) 16384 = c.min-asked.ensures ∙ ap (λ n. min (n - have) 16384) size in
     record {
       brings = brings_then c.loop-have.invariant.brings (brings_one read.1 (λ allowed past fetched.
-      let may = may_read name whole have c.min-asked.result before past fetched less c.requires.few size asked in
-      (((refl, may.0, may.1), fetched.0), tt)));
+          let may = may_read name whole have c.min-asked.result before past fetched less c.requires.few size asked in
+          (((refl, may.0, may.1), fetched.0), tt)));
     }
 
 pub returns : goal.returns

@@ -10,9 +10,8 @@ returns-clause-read g c =
     let into = c.file_read.new.into in
     let read = c.file_read.ensures in
     let asked = length_part c.args.octets.now c.args.from c.args.asked c.requires.within in
-    let moved : count_of answer ≤ length into = omega (arith, length-take (count_of answer) into, read.allowed.1.0) in
-    (
+    let moved : count_of answer ≤ length into = omega (arith, length-take (count_of answer) into, read.allowed.1.0) in (
       filled answer into,
       subst (λ n. Answers (g.W.World.tells c.args.world.now) (g.W.World.tells c.file_read.new.self) (FileRead c.args.name.now c.args.from n answer (filled answer into))) asked read,
-      fill c.args.octets.now into _ c.args.from (count_of answer) (omega (arith, c.requires.within)) moved
+      fill c.args.octets.now into _ c.args.from (count_of answer) (omega (arith, c.requires.within)) moved,
     )

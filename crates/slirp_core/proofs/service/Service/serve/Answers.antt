@@ -8,8 +8,8 @@ use Rattle.slirp_core.proofs.service.Service.serve.Goals as goal
 
 pub loop-count-init : goal.loop-count-init
 loop-count-init g c = record {
-  makes = makes_one _ _ _ _ c.now.ensures (λ allowed. started c.args.self.now.slirp.config c.args.self.now c.now.result c.requires);
-  on = reads_new c.args.self.now.slirp.config c.args.self.now c.requires;
+  makes = makes_one _ _ _ _ c.now.ensures (λ allowed. started c.args.self.now c.now.result c.requires);
+  on = reads_new c.args.self.now c.requires;
   config = refl;
 }
 

@@ -1,0 +1,25 @@
+use Rattle.std.proofs.Common.{◌≡◌, ◌++◌, List, sym, ◌∙◌, ap, subst}
+use Rattle.std.specs.Result.{is_ok}
+use Rattle.world_face.specs.Puts.{added}
+use Rattle.world_face.specs.Tells.{Makes}
+use Rattle.host_policy.specs.Addresses.{Config}
+use Rattle.host_policy.specs.Settings.{usual}
+use Rattle.slirp_laws.specs.Laws.{Lawful}
+use Rattle.slirp_laws.specs.Shape.{Finished, phase}
+use Rattle.slirp_core.specs.Ends.{end_of}
+use Rattle.replay.specs.Script.{script_tells}
+use Rattle.replay.specs.Text.{text}
+use Rattle.slirp_app.specs.Ran.{end_line}
+use Rattle.slirp_app.specs.Statuses.{code_of}
+use Rattle.slirp_app.proofs.Replaying.{Ran, replayed}
+use Rattle.slirp_app.proofs.running.run.Goals as goal
+
+pub returns-in-Ok-put_record-clause-replayed : goal.returns-in-Ok-put_record-clause-replayed
+returns-in-Ok-put_record-clause-replayed g c is_run =
+    let new = c.serve-end.new.world in
+    let end = c.serve-end.result in
+    let status = code_of c.ended-outcome.result in
+    let settings : c.in-Ok.service.slirp.config ≡ usual = c.in-Ok.ensures.config ∙ c.usual.ensures in
+    let makes = subst (λ (k : Config). Makes (script_tells c.args.script) (script_tells new) (λ made. Lawful k made × Finished k made × (end ≡ end_of k (phase k made)))) settings c.serve-end.ensures.makes in
+    let put = c.put_record.ensures.ok (ap is_ok c.in-Ok-put_record.is) ∙ ap (λ n. added (text (script_tells new).kept ++ end_line n) (g.K.Sink.holds c.args.out.now)) c.code.ensures in
+    replayed c.args.script new end status (g.K.Sink.holds c.args.out.now) (g.K.Sink.holds c.put_record.new.out) c.requires c.ended-outcome.ensures put makes

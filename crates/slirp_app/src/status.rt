@@ -1,0 +1,127 @@
+// The statuses of the program, and their texts.
+ghost use Rattle.std.specs.Prelude.{◌≡◌};
+ghost use Rattle.slirp_app.specs.Statuses.{code_of, outcome_of};
+
+use itoa::Buffer;
+use replay::Divergence;
+use slirp_core::End;
+use world_face::{Failed, Sink};
+
+/// What the program came to.
+#[derive(Clone, Copy, Debug, PartialEq, Eq)]
+pub enum Outcome {
+    Done,
+    Usage,
+    ScheduleRead,
+    ScheduleLine(u64),
+    Diverged(Divergence),
+    FrameTooLong(u32),
+    FrameCut(usize),
+    LinkFault,
+    WaitFault,
+    TurnsSpent(u64),
+    SinkFault,
+    NoMemory,
+}
+
+impl Outcome {
+    /// The status with which the program ends.
+    pub fn code(&self) -> u8
+        ensures { result ≡ code_of self.now }
+    {
+        match self {
+            Outcome::Done => 0,
+            Outcome::Usage => 1,
+            Outcome::ScheduleRead => 3,
+            Outcome::ScheduleLine(_) => 4,
+            Outcome::Diverged(_) => 5,
+            Outcome::FrameTooLong(_) => 6,
+            Outcome::FrameCut(_) => 7,
+            Outcome::LinkFault => 8,
+            Outcome::WaitFault => 9,
+            Outcome::TurnsSpent(_) => 10,
+            Outcome::SinkFault => 12,
+            Outcome::NoMemory => 13,
+        }
+    }
+
+    /// Puts the text that tells it, with a line feed. There is none where all went well or a sink failed.
+    pub fn tell<E: Sink>(&self, err: &mut E) -> Result<(), Failed> {
+        match self {
+            Outcome::Done | Outcome::SinkFault => Ok(()),
+            Outcome::Usage => err.put(USAGE),
+            Outcome::ScheduleRead => err.put(b"slirpd: schedule cannot be read\n"),
+            Outcome::ScheduleLine(line) => tell_number(
+                err,
+                b"slirpd: schedule line ",
+                *line,
+                b"\n",
+            ),
+            Outcome::Diverged(divergence) => tell_divergence(err, divergence),
+            Outcome::FrameTooLong(length) => tell_number(
+                err,
+                b"slirpd: frame of ",
+                *length as u64,
+                b" octets\n",
+            ),
+            Outcome::FrameCut(octets) => tell_number(
+                err,
+                b"slirpd: link ended inside a frame, ",
+                *octets as u64,
+                b" octets\n",
+            ),
+            Outcome::LinkFault => err.put(b"slirpd: link fault\n"),
+            Outcome::WaitFault => err.put(b"slirpd: wait fault\n"),
+            Outcome::TurnsSpent(turns) => tell_number(err, b"slirpd: ", *turns, b" turns spent\n"),
+            Outcome::NoMemory => err.put(b"slirpd: out of memory\n"),
+        }
+    }
+}
+
+const USAGE: &[u8] =
+    b"usage: slirpd serve --link AT [OPTIONS] [RULE]... | replay FILE [OPTIONS] [RULE]... | drive NUMBER OCTETS\n";
+
+/// The outcome of a run that ended so.
+pub fn outcome_of(end: End) -> Outcome
+    ensures { result ≡ outcome_of end }
+{
+    match end {
+        End::Done => Outcome::Done,
+        End::TooLong(length) => Outcome::FrameTooLong(length),
+        End::Cut(octets) => Outcome::FrameCut(octets),
+        End::LinkFault => Outcome::LinkFault,
+        End::WaitFault => Outcome::WaitFault,
+        End::TurnsSpent(turns) => Outcome::TurnsSpent(turns),
+    }
+}
+
+// A number between two texts.
+fn tell_number<E: Sink>(
+    err: &mut E,
+    before: &[u8],
+    number: u64,
+    after: &[u8],
+) -> Result<(), Failed> {
+    let mut digits = Buffer::new();
+    err.put(before)?;
+    err.put(digits.format(number).as_bytes())?;
+    err.put(after)
+}
+
+fn tell_divergence<E: Sink>(err: &mut E, divergence: &Divergence) -> Result<(), Failed> {
+    tell_number(
+        err,
+        b"slirpd: diverged at line ",
+        divergence.line,
+        b": made ",
+    )?;
+    err.put(divergence.made.name().as_bytes())?;
+    match divergence.wanted {
+        Some(wanted) => {
+            err.put(b", schedule has ")?;
+            err.put(wanted.name().as_bytes())?;
+            err.put(b"\n")
+        }
+        None => err.put(b", no line left\n"),
+    }
+}
