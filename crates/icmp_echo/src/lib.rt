@@ -7,7 +7,7 @@ ghost use Rattle.icmp_echo.specs.Icmp.{Icmp, IsIcmp, read_icmp, icmp_fault, icmp
 ghost use Rattle.net_octets.specs.Octets.{IsOctets, word_sum};
 
 use byteorder::{BigEndian, ByteOrder};
-use net_octets::{Fault, FaultKind, NoRoom, checksum_after, sum_ok};
+use net_octets::{Fault, FaultKind, NoRoom, checksum_after, sum_ok, write_packet};
 
 /// The octets before what a message carries.
 const HEAD: usize = 8;
@@ -90,13 +90,8 @@ pub fn encode(v: &IcmpView<'_>, into: &mut [u8]) -> Result<usize, NoRoom>
     ensures unchanged { OnErr result (into.new ≡ into.old) }
 {
     let parts = parts_of(v);
-    let length = HEAD + parts.body.len();
-    if into.len() < length {
-        return Err(NoRoom);
-    }
     let sum = checksum_after(words_of(&parts), parts.body);
-    put(&head(&parts, sum), parts.body, into);
-    Ok(length)
+    write_packet(&head(&parts, sum), parts.body, into)
 }
 
 /// The grammar of messages holds of octets and fields exactly where these fields are read.
@@ -124,7 +119,8 @@ struct Parts<'a> {
 
 /// The octets of a message, its sum aside.
 fn parts_of<'a>(v: &IcmpView<'a>) -> Parts<'a>
-    ensures octets { (sum : ℕ) → head_with sum result ++ result.body.now ≡ icmp_with sum (icmp_of v.now) }
+    ensures octets { (sum : ℕ)
+        → head_with sum result ++ result.body.now ≡ icmp_with sum (icmp_of v.now) }
     ensures fits { Fits (icmp_of v.now) }
 {
     match *v {
@@ -174,15 +170,6 @@ fn head(parts: &Parts<'_>, sum: u16) -> [u8; HEAD]
     BigEndian::write_u16(&mut head[4..6], parts.first);
     BigEndian::write_u16(&mut head[6..], parts.second);
     head
-}
-
-/// Writes a header and what follows it.
-fn put(head: &[u8], body: &[u8], into: &mut [u8])
-    requires { length head.now + length body.now ≤ length into.old }
-    ensures { into.new ≡ head.now ++ body.now ++ drop (length head.now + length body.now) into.old }
-{
-    into[..head.len()].copy_from_slice(head);
-    into[head.len()..head.len() + body.len()].copy_from_slice(body);
 }
 
 #[cfg(test)]

@@ -7,7 +7,7 @@ ghost use Rattle.ipv4_head.specs.Ip.{Ip, IsIp, IsPlain, IsDatagram, SameFields, 
 ghost use Rattle.net_octets.specs.Octets.{IsOctets, one_at};
 
 use byteorder::{BigEndian, ByteOrder};
-use net_octets::{Fault, FaultKind, Ip4, NoRoom, checksum, sum_ok};
+use net_octets::{Fault, FaultKind, Ip4, NoRoom, checksum, sum_ok, write_packet};
 
 /// The octets of a header without options.
 const HEAD: usize = 20;
@@ -113,38 +113,26 @@ pub fn encode(v: &IpView<'_>, into: &mut [u8]) -> Result<usize, NoRoom>
     ensures room { IsOk result ↔ (20 + length v.now.body.now ≤ length into.old) }
     ensures unchanged { OnErr result (into.new ≡ into.old) }
 {
-    let length = HEAD + v.body.len();
-    if into.len() < length {
-        return Err(NoRoom);
-    }
     let sum = checksum(&head(v, 0));
-    put(&head(v, sum), v.body, into);
-    Ok(length)
-}
-
-/// Writes a header and what follows it.
-fn put(head: &[u8], body: &[u8], into: &mut [u8])
-    requires { length head.now + length body.now ≤ length into.old }
-    ensures { into.new ≡ head.now ++ body.now ++ drop (length head.now + length body.now) into.old }
-{
-    into[..head.len()].copy_from_slice(head);
-    into[head.len()..head.len() + body.len()].copy_from_slice(body);
+    write_packet(&head(v, sum), v.body, into)
 }
 
 /// The header of a datagram, with this sum.
 fn head(v: &IpView<'_>, sum: u16) -> [u8; HEAD]
     requires size { 20 + length v.now.body.now < 2 ^ 16 }
     requires place { v.now.offset < 2 ^ 13 }
-    ensures octets { result ≡ head_with v.now.ttl sum v.now.ident (fragment_of v.now.more v.now.offset)
-        v.now.proto v.now.from.0 v.now.to.0 (length v.now.body.now) }
+    ensures octets { result ≡ head_with v.now.ttl sum v.now.ident
+        (fragment_of v.now.more v.now.offset) v.now.proto v.now.from.0 v.now.to.0
+        (length v.now.body.now) }
+    ensures ident { v.now.ident < 2 ^ 16 }
     ensures from { v.now.from.0 < 2 ^ 32 }
     ensures to { v.now.to.0 < 2 ^ 32 }
 {
-    let (from, to) = (v.from.0, v.to.0);
+    let (ident, from, to) = (v.ident, v.from.0, v.to.0);
     let mut head = [0; HEAD];
     head[0] = 0x45;
     BigEndian::write_u16(&mut head[2..4], (HEAD + v.body.len()) as u16);
-    BigEndian::write_u16(&mut head[4..6], v.ident);
+    BigEndian::write_u16(&mut head[4..6], ident);
     BigEndian::write_u16(&mut head[6..8], fragment(v.more, v.offset));
     head[8] = v.ttl;
     head[9] = v.proto;

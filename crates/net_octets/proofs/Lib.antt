@@ -1,4 +1,5 @@
 pub mod Folds
+pub mod Oks
 pub mod Parts
 pub mod Six
 pub mod Sums

@@ -1,8 +1,8 @@
 //! Addresses of the Internet protocol and of Ethernet, faults of packets, and want of memory or room.
 #![tactic(auto)]
 
-ghost use Rattle.std.specs.Prelude.{◌≡◌, ◌+◌, ◌*◌, ◌≤◌, ◌==◌, length};
-ghost use Rattle.net_octets.specs.Octets.{part, four, word_sum, with_carries, checksum, sum_ok, before_sum, first_bits};
+ghost use Rattle.std.specs.Prelude.{ℕ, true, ◌<◌, ◌^◌, ◌↔◌, ◌∷◌, ◌++◌, drop, IsOk, IfOk, OnErr, ◌≡◌, ◌+◌, ◌*◌, ◌≤◌, ◌==◌, length};
+ghost use Rattle.net_octets.specs.Octets.{part, two, four, word_sum, with_carries, checksum, sum_ok, before_sum, first_bits};
 ghost use Rattle.net_octets.specs.Quads.{quad_sum};
 
 /// There was no memory left.
@@ -115,6 +115,35 @@ pub fn checksum_after(start: u32, octets: &[u8]) -> u16
     65535 - sum_after(start, octets)
 }
 
+/// Writes a header and what it carries at the front of `into`, and answers how many octets they
+/// have. `into` is unchanged where it is too short, and past them.
+pub fn write_packet(head: &[u8], body: &[u8], into: &mut [u8]) -> Result<usize, NoRoom>
+    ensures written { IfOk result (λ n. into.new ≡ head.now ++ body.now ++ drop n into.old) }
+    ensures length { IfOk result (λ n. n ≡ length head.now + length body.now) }
+    ensures room { IsOk result ↔ (length head.now + length body.now ≤ length into.old) }
+    ensures unchanged { OnErr result (into.new ≡ into.old) }
+{
+    let length = head.len() + body.len();
+    if into.len() < length {
+        return Err(NoRoom);
+    }
+    into[..head.len()].copy_from_slice(head);
+    into[head.len()..length].copy_from_slice(body);
+    Ok(length)
+}
+
+/// A checksum that is written where a 0 stood holds when it is read.
+pub fn written_checksum_holds()
+    ensures { (sum : ℕ) → sum_ok (sum + checksum sum) ≡ true }
+{}
+
+/// What stands before a datagram for its checksum is 12 octets: the addresses, a 0, the protocol
+/// and the length.
+pub fn pseudo_header_is_twelve_octets()
+    ensures { (from to proto size : ℕ) → size < 2 ^ 16
+        → before_sum from to proto size ≡ word_sum (four from ++ four to ++ 0 ∷ proto ∷ two size) }
+{}
+
 /// The one's complement sum of the words of the octets and of words before them, whose plain
 /// sum is `start`.
 fn sum_after(start: u32, octets: &[u8]) -> u16
@@ -202,6 +231,14 @@ mod tests {
         let datagram = *b"\x00\x07\x0f\xa0\x00\x0a\x00\x00\x6f\x6b";
         let start = pseudo(Ip4(0xc6336401), Ip4(0x0a00020f), 17, 10);
         assert_eq!(rt; checksum_after(start, &datagram), 0x4a84);
+    }
+
+    #[test]
+    fn packet_needs_room(rt: HostRuntime) {
+        let mut into = [7; 4];
+        assert_eq!(rt; write_packet(&[1, 2], &[3], &mut into), Ok(3));
+        assert_eq!(rt; into, [1, 2, 3, 7]);
+        assert_eq!(rt; write_packet(&[1, 2], &[3, 4, 5], &mut into), Err(NoRoom));
     }
 
     #[test]
