@@ -4,6 +4,8 @@
 mod line;
 mod printing;
 mod reading;
+#[cfg(test)]
+mod tests;
 mod tokens;
 mod world;
 
