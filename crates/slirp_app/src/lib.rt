@@ -6,6 +6,8 @@ mod file_world;
 mod running;
 mod status;
 mod std_sink;
+#[cfg(test)]
+mod tests;
 
 pub use file_world::FileWorld;
 pub use running::slirp_main;
