@@ -1,9 +1,7 @@
 -- The entries of lines.
-use Rattle.std.proofs.Common.{◌≡◌, ℕ, suc, ◌+◌, ◌<◌, ◌≤◌, List, [], ◌∷◌, ◌++◌, length, get_or, map, take, Option, Some, None, refl, sym, ◌∙◌, ap, arith, slice_get}
+use Rattle.std.proofs.Common.{◌≡◌, ℕ, ◌<◌, ◌≤◌, List, length, get_or, map, Some, None, refl, ◌∙◌, ap, slice_get}
 use Rattle.std.specs.Option.{option_map}
 use Rattle.std.proofs.lemmas.Option.{slice_get-map, slice_get_read, slice_get_past}
-use Rattle.std.proofs.lemmas.List.{length-map}
-use Rattle.world_face.specs.Journal.{Entry}
 use Rattle.replay.specs.Lines.{entry_of}
 use Rattle.replay.specs.declared.line.Line.{Line}
 

@@ -1,8 +1,8 @@
 -- What is told of a call that a line fits, and of one that none fits.
-use Rattle.std.proofs.Common.{◌≡◌, ℕ, zero, suc, ◌+◌, ◌<◌, ◌≤◌, min, max, Bool, true, false, cond, ◌||◌, List, [], ◌∷◌, ◌++◌, length, Option, Some, None, IfSome, refl, sym, ◌∙◌, ap, subst, arith, add-one, slice_get}
-use Rattle.world_face.specs.Journal.{Entry, Call, call_of, Allowed, Now, Wait, LinkOpen, LinkRead, LinkWrite, Connect, Connected, Listen, Accept, TcpRead, TcpWrite, TcpEnd, Close, UdpOpen, UdpSend, UdpRecv, FileLen, FileRead}
-use Rattle.world_face.specs.Tells.{Telling, Told, on, ceased, silent, Counts, Counted, Answers}
-use Rattle.world_face.specs.Faults.{failures, io_failed, made_failed, join_failed, accept_failed, sent_failed, got_failed, size_failed, waited_failed}
+use Rattle.std.proofs.Common.{◌≡◌, ℕ, zero, suc, ◌+◌, ◌≤◌, min, max, Bool, true, false, cond, ◌||◌, List, [], ◌∷◌, Some, IfSome, refl, sym, ◌∙◌, ap, subst, arith, add-one, slice_get}
+use Rattle.world_face.specs.Journal.{Entry, call_of, Allowed, Now, Wait, LinkOpen, LinkRead, LinkWrite, Connect, Connected, Listen, Accept, TcpRead, TcpWrite, TcpEnd, Close, UdpOpen, UdpSend, UdpRecv, FileLen, FileRead}
+use Rattle.world_face.specs.Tells.{Told, on, ceased, silent, Counts, Counted, Answers}
+use Rattle.world_face.specs.Faults.{io_failed, made_failed, join_failed, accept_failed, sent_failed, got_failed, size_failed, waited_failed}
 use Rattle.world_face.specs.Limits.{last_count}
 use Rattle.replay.specs.Script.{Script, script_tells, newest_onto, schedule_text}
 use Rattle.replay.specs.Names.{name_of}

@@ -1,8 +1,8 @@
 -- Lower case hexadecimal that decodes is what its octets encode to.
-use Rattle.std.proofs.Common.{◌≡◌, ℕ, ◌+◌, ◌*◌, ◌/◌, ◌%◌, ◌<◌, zero, suc, ◌-◌, ◌≤◌, ◌⊎◌, inl, inr, Bool, true, false, ◌&&◌, List, [], ◌∷◌, ◌++◌, length, slice_index, Option, Some, None, Result, Ok, Err, refl, sym, ◌∙◌, ap, subst, arith, rules}
+use Rattle.std.proofs.Common.{◌≡◌, ℕ, ◌+◌, ◌*◌, ◌/◌, ◌%◌, ◌<◌, zero, suc, ◌-◌, inl, inr, Bool, true, false, ◌&&◌, List, [], ◌∷◌, length, slice_index, Option, Some, None, Result, Ok, Err, refl, sym, ◌∙◌, ap, subst, arith}
 use Rattle.std.specs.List.{list_all}
 use Rattle.std.proofs.lemmas.Bool.{cases_lt}
-use Rattle.hex.specs.Hex.{encode_with, encode_lower, lower_digits, decode_pairs, decode_of, pair_value, value_at, digit_or_error, hex_digit_value, ◌>>=◌}
+use Rattle.hex.specs.Hex.{encode_with, lower_digits, decode_pairs, decode_of, pair_value, value_at, digit_or_error, hex_digit_value, ◌>>=◌}
 use Rattle.hex.specs.declared.error.FromHexError.{FromHexError}
 use Rattle.hex.proofs.HexLemmas.{decode_of-ok, decode_of-even}
 use Rattle.std.specs.Result.{result_unwrap_or}
@@ -80,8 +80,8 @@ pairs i (a ∷ b ∷ rest) octets h low =
     let high : p0.0 / 16 ≡ p1.0 = omega (arith, octet, ga.0, gb.0) in
     let low_half : p0.0 % 16 ≡ p2.0 = omega (arith, octet, ga.0, gb.0) in
     subst (λ (o : List ℕ). encode_with lower_digits o ≡ a ∷ b ∷ rest) (ap (λ (r : Result (List ℕ) FromHexError). result_unwrap_or r []) p3.2)
-      (two (slice_index lower_digits (p0.0 / 16)) (slice_index lower_digits (p0.0 % 16)) a b (encode_with lower_digits p3.0) rest
-        (ap (slice_index lower_digits) high ∙ ga.1) (ap (slice_index lower_digits) low_half ∙ gb.1) (pairs (i + 2) rest p3.0 p3.1 lb.1))
+    (two (slice_index lower_digits (p0.0 / 16)) (slice_index lower_digits (p0.0 % 16)) a b (encode_with lower_digits p3.0) rest
+    (ap (slice_index lower_digits) high ∙ ga.1) (ap (slice_index lower_digits) low_half ∙ gb.1) (pairs (i + 2) rest p3.0 p3.1 lb.1))
 
 of_some : (s octets : List ℕ) → encode_with lower_digits octets ≡ s → 0 < length octets → s ≡ hexadecimal octets
 of_some s [] is some = absurd (omega arith)

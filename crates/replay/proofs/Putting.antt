@@ -1,5 +1,5 @@
 -- Pieces put one after another.
-use Rattle.std.proofs.Common.{◌≡◌, ℕ, suc, ◌+◌, ◌/◌, ◌%◌, ◌<◌, ◌≤◌, min, List, [], ◌∷◌, ◌++◌, length, take, drop, get_or, slice_index, add-one, append-nil, Option, Some, None, Result, Ok, Err, IsOk, IsErr, refl, sym, ◌∙◌, ap, subst, arith, append_assoc}
+use Rattle.std.proofs.Common.{◌≡◌, ℕ, ◌+◌, ◌/◌, ◌%◌, ◌<◌, ◌≤◌, List, [], ◌∷◌, ◌++◌, length, take, drop, get_or, slice_index, add-one, append-nil, Option, Some, None, Result, Ok, Err, IsOk, IsErr, refl, sym, ◌∙◌, ap, subst, arith, append_assoc}
 use Rattle.std.proofs.Math.Seq.{take-suc}
 use Rattle.std.proofs.lemmas.List.{take-append-drop}
 use Rattle.hex.specs.Hex.{encode_with, encode_lower, lower_digits}
@@ -7,7 +7,6 @@ use Rattle.poll_list.specs.declared.Want.{Want}
 use Rattle.replay.specs.Text.{want_text, joined_text}
 use Rattle.replay.specs.Pieces.{more_text}
 use Rattle.world_face.specs.Puts.{Puts, added}
-use Rattle.world_face.specs.Limits.{last_count}
 use Rattle.world_face.specs.declared.sink.Failed.{Failed}
 
 added_then : (a b : List ℕ) (got : Option (List ℕ)) → added b (added a got) ≡ added (a ++ b) got
@@ -66,7 +65,7 @@ more_push [] want = sym (append-nil (44 ∷ want_text want))
 more_push (w ∷ ws) want = append_assoc (44 ∷ want_text w) (more_text ws) (44 ∷ want_text want) ∙ ap (λ t. (44 ∷ want_text w) ++ t) (more_push ws want)
 
 pub more_items : (items : List Want) (i : ℕ) (item : Want) → i < length items → item ≡ get_or items i item → more_text (take i items) ++ (44 ∷ want_text item) ≡ more_text (take (i + 1) items)
-more_items items i item lt is = more_push (take i items) item ∙ ap more_text (sym (rw add-one (take-suc items i item lt)  ∙ ap (λ w. take i items ++ w ∷ []) (sym is)))
+more_items items i item lt is = more_push (take i items) item ∙ ap more_text (sym (rw add-one (take-suc items i item lt) ∙ ap (λ w. take i items ++ w ∷ []) (sym is)))
 
 pub joined_more : (want : Want) (wants : List Want) → want_text want ++ more_text wants ≡ joined_text (want ∷ wants)
 joined_more want [] = append-nil (want_text want)

@@ -1,13 +1,12 @@
 -- Parts of a text, and the numbers that they spell.
-use Rattle.std.proofs.Common.{◌≡◌, ◌≢◌, ℕ, ◌+◌, ◌*◌, ◌/◌, ◌%◌, ◌^◌, ◌-◌, ◌<◌, Bool, true, false, ◌&&◌, eqb, ltb, List, [], ◌∷◌, ◌++◌, length, take, drop, get_or, position, decimal, Option, Some, None, IfSome, suc, add-one, refl, sym, ◌∙◌, ap, subst, arith, rules, append_assoc, length-drop, drop-cons}
+use Rattle.std.proofs.Common.{◌≡◌, ◌≢◌, ℕ, ◌+◌, ◌*◌, ◌/◌, ◌%◌, ◌^◌, ◌-◌, ◌<◌, false, ◌&&◌, eqb, ltb, List, [], ◌∷◌, ◌++◌, length, take, drop, get_or, position, decimal, Option, Some, None, IfSome, suc, add-one, sym, ◌∙◌, ap, subst, arith, rules, append_assoc, length-drop, drop-cons}
 use Rattle.replay.specs.Spelling.{IsReadAs}
 use Rattle.std.proofs.lemmas.Bool.Decides.{nat_tests}
-use Rattle.std.specs.Str.Parse.{IsNumeral, AllDigits, digits_value, without_leading_plus}
+use Rattle.std.specs.Str.Parse.{AllDigits, digits_value, without_leading_plus}
 use Rattle.std.proofs.lemmas.List.Quantifiers.{position-Some}
 use Rattle.std.proofs.lemmas.List.{take-append-drop, take_all}
 use Rattle.std.proofs.lemmas.Str.Parse.{IsNumeralModel, numerals_by_value}
 use Rattle.std.proofs.lemmas.Fmt.{decimal-digits_value}
-use Rattle.net_octets.specs.declared.Endpoint.{Endpoint}
 use Rattle.replay.specs.Text.{endpoint_text}
 
 -- the first such octet parts a text in two
@@ -17,7 +16,7 @@ split_place text octet at is =
     let here : get_or text at 0 ≡ octet = grind (arith, nat_tests, found.1) in
     let tail : take (length text - (at + 1)) (drop (at + 1) text) ≡ drop (at + 1) text = take_all (length text - (at + 1)) (drop (at + 1) text) (omega (arith, length-drop (at + 1) text)) in
     rw tail
-      (sym (take-append-drop at text) ∙ ap (λ t. take at text ++ t) (drop-cons text at 0 found.0 ∙ ap (λ x. x ∷ drop (suc at) text) here ∙ ap (λ n. octet ∷ drop n text) (sym (add-one at))))
+    (sym (take-append-drop at text) ∙ ap (λ t. take at text ++ t) (drop-cons text at 0 found.0 ∙ ap (λ x. x ∷ drop (suc at) text) here ∙ ap (λ n. octet ∷ drop n text) (sym (add-one at))))
 
 own : IsNumeralModel (AllDigits 10) (digits_value 10)
 own = numerals_by_value (AllDigits 10) (search rules)

@@ -1,8 +1,8 @@
 -- How a World that answers by a schedule goes on at a call.
-use Rattle.std.specs.Prelude.{◌≡◌, ℕ, ◌+◌, ◌||◌, Bool, true, false, List, [], Option, Some, None, min, max, slice_get, if◌then◌else◌}
+use Rattle.std.specs.Prelude.{◌≡◌, ℕ, ◌+◌, ◌||◌, Bool, true, false, List, Option, Some, min, max, slice_get, if◌then◌else◌}
 use Rattle.std.specs.Option.{option_map}
 use Rattle.world_face.specs.Journal.{Entry, Call, call_of, Allowed}
-use Rattle.world_face.specs.Tells.{Telling, Counts}
+use Rattle.world_face.specs.Tells.{Counts}
 use Rattle.world_face.specs.Faults.{link_failed, wait_failed, socket_failed, file_failed}
 use Rattle.world_face.specs.Limits.{last_count}
 use Rattle.replay.specs.Script.{Script}
@@ -16,6 +16,14 @@ pub record FitsNext (script : Script) (e : Entry) : Type 0 where
   pub live : script.live ≡ true
   pub next : slice_get script.lines script.used ≡ Some e
   pub allowed : Allowed e
+
+-- no line there is of this call, with an answer that a World may give
+abbrev pub FitsNone : List Entry → ℕ → Call → Type 0
+FitsNone lines used call = (e : Entry) → slice_get lines used ≡ Some e → call_of e ≡ call → ¬ Allowed e
+
+-- where it has stopped, the call fitted no line
+abbrev pub StopsRightly : List Entry → ℕ → Option Call → Type 0
+StopsRightly lines used stop = (call : Call) → stop ≡ Some call → FitsNone lines used call
 
 -- one more, up to the last count
 abbrev pub raise : ℕ → ℕ

@@ -1,5 +1,5 @@
 -- What contracts see of a World that answers by a schedule.
-use Rattle.std.specs.Prelude.{◌≡◌, ℕ, zero, suc, ◌<◌, Bool, true, false, List, [], ◌∷◌, ◌++◌, length, Option, None}
+use Rattle.std.specs.Prelude.{◌≡◌, ℕ, zero, suc, Bool, true, List, [], ◌∷◌, ◌++◌, Option, None}
 use Rattle.world_face.specs.Journal.{Entry, Call}
 use Rattle.world_face.specs.Tells.{Telling, Counts}
 use Rattle.replay.specs.Text.{line_text}

@@ -1,5 +1,6 @@
 // The text of lines, put piece by piece.
 #![tactic(auto, using(crate::proofs::Putting::puts_then, crate::proofs::Putting::puts_failed), unfolding(crate::specs::Text::call_text, crate::specs::Text::answer_text))]
+
 ghost use Rattle.std.specs.Prelude.{◌≡◌, ◌++◌, ◌∷◌, [], ℕ, List, codes, decimal};
 ghost use Rattle.std.specs.Prelude.{◌+◌, ◌≤◌, ◌<◌, length, IfSome, IfNone};
 ghost use Rattle.arrayvec.specs.ArrayString.{array_string_len};
@@ -15,7 +16,7 @@ use crate::line::{Line, Seat};
 use arrayvec::ArrayString;
 use itoa::Buffer;
 use world_face::{
-    Accepted, Endpoint, Failed, FileSize, Got, Io, Joined, Made, Ip4, Sent, Sink, Waited, Want, Who,
+    Accepted, Endpoint, Failed, FileSize, Got, Io, Ip4, Joined, Made, Sent, Sink, Waited, Want, Who,
 };
 
 // Octets that are put in hexadecimal at a time.
@@ -169,7 +170,12 @@ fn put_tcp_write<K: Sink>(socket: u64, octets: &[u8], out: &mut K) -> Result<(),
     put_octets(octets, out)
 }
 
-fn put_udp_send<K: Sink>(socket: u64, to: Endpoint, octets: &[u8], out: &mut K) -> Result<(), Failed>
+fn put_udp_send<K: Sink>(
+    socket: u64,
+    to: Endpoint,
+    octets: &[u8],
+    out: &mut K,
+) -> Result<(), Failed>
     ensures { Puts (K.holds out.old) (K.holds out.new) (K.faults out.old) (K.faults out.new) (codes "usend " ++ decimal socket ++ codes " " ++ endpoint_text to ++ codes " " ++ hexadecimal octets.now) result }
 {
     put_socket_at(b"usend ", socket, to, out)?;

@@ -1,5 +1,6 @@
 // Lines, read whole.
 #![tactic(auto, unfolding(crate::specs::Text::call_text, crate::specs::Text::answer_text))]
+
 ghost use Rattle.std.specs.Prelude.{◌≡◌, ◌++◌, ◌∷◌, [], ℕ, List, IfOk, IsTrue, ◌↔◌, codes, decimal};
 ghost use Rattle.replay.specs.Names.{name_text};
 ghost use Rattle.replay.specs.Lines.{entry_of, place_at};

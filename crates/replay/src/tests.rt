@@ -189,7 +189,8 @@ fn first_fault(alloc: Global, text: &[u8]) -> u64
 
 #[test]
 fn each_answer_has_a_reading(rt: HostRuntime) {
-    let text = b"wait 0 - = ready\nwait 1 t1:w = fail\nlread 1 = notyet\nlread 1 = end\nlread 1 = fail\nlread 1 = done -\nlwrite - = fail\nconnected 1 = yes\nconnected 1 = fail\naccept 1 2 = notyet\naccept 1 2 = fail\nusend 1 0.0.0.0:0 00 = notyet\nurecv 1 1 = fail\nflen - = missing\nflen 00 = fail\nfread 00 1 2 = end\n";
+    let text =
+        b"wait 0 - = ready\nwait 1 t1:w = fail\nlread 1 = notyet\nlread 1 = end\nlread 1 = fail\nlread 1 = done -\nlwrite - = fail\nconnected 1 = yes\nconnected 1 = fail\naccept 1 2 = notyet\naccept 1 2 = fail\nusend 1 0.0.0.0:0 00 = notyet\nurecv 1 1 = fail\nflen - = missing\nflen 00 = fail\nfread 00 1 2 = end\n";
     assert_eq!(rt; first_fault(rt.alloc(), text), 0);
     assert_eq!(rt; first_fault(rt.alloc(), b""), 0);
 }
@@ -198,14 +199,23 @@ fn each_answer_has_a_reading(rt: HostRuntime) {
 fn other_spellings_have_no_reading(rt: HostRuntime) {
     assert_eq!(rt; first_fault(rt.alloc(), b"now = 00\n"), 1);
     assert_eq!(rt; first_fault(rt.alloc(), b"now = 18446744073709551616\n"), 1);
-    assert_eq!(rt; first_fault(rt.alloc(), b"now = 0\nlwrite 0A = done 1\n"), 2);
+    assert_eq!(rt;
+        first_fault(rt.alloc(), b"now = 0\nlwrite 0A = done 1\n"),
+        2
+    );
     assert_eq!(rt; first_fault(rt.alloc(), b"now = 0\nlread  4 = end\n"), 2);
     assert_eq!(rt; first_fault(rt.alloc(), b"now = 0\nnow = 1"), 2);
     assert_eq!(rt; first_fault(rt.alloc(), b"wait - - = ready -\n"), 1);
     assert_eq!(rt; first_fault(rt.alloc(), b"lwrite * = done 1\n"), 1);
     assert_eq!(rt; first_fault(rt.alloc(), b"lwrite 00 = all\n"), 1);
     assert_eq!(rt; first_fault(rt.alloc(), b"lwrite 00 = end\n"), 1);
-    assert_eq!(rt; first_fault(rt.alloc(), b"connect 1 1.2.3.256:1 = done\n"), 1);
-    assert_eq!(rt; first_fault(rt.alloc(), b"connect 1 1.2.3.4:65536 = done\n"), 1);
+    assert_eq!(rt;
+        first_fault(rt.alloc(), b"connect 1 1.2.3.256:1 = done\n"),
+        1
+    );
+    assert_eq!(rt;
+        first_fault(rt.alloc(), b"connect 1 1.2.3.4:65536 = done\n"),
+        1
+    );
     assert_eq!(rt; first_fault(rt.alloc(), b"\xff\n"), 1);
 }

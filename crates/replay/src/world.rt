@@ -53,11 +53,18 @@ impl Model for ScriptWorld {
     ghost Value = { Script };
 
     ghost use Rattle.replay.specs.Lines.{entries_of, stop_of};
+    ghost use Rattle.replay.specs.Fitting.{StopsRightly};
 
-    ghost view = { λ w. record { lines = entries_of w.lines.items; used = w.used; live = is_none w.stop; stop = stop_of w.stop w.octets.items w.wants.items;
-        faults = record { link = w.link_faults; wait = w.wait_faults; socket = w.socket_faults; file = w.file_faults } } };
+    ghost view = { λ w. record {
+      lines = entries_of w.lines.items;
+      used = w.used;
+      live = is_none w.stop;
+      stop = stop_of w.stop w.octets.items w.wants.items;
+      faults = record { link = w.link_faults; wait = w.wait_faults; socket = w.socket_faults; file = w.file_faults };
+    } };
 
-    ghost invariant = { λ w. (w.used ≤ length w.lines.items) × (length w.lines.items ≤ 67108864) × (65507 ≤ vec_capacity w.octets) × (5155 ≤ vec_capacity w.wants) };
+    ghost invariant = { λ w. (w.used ≤ length w.lines.items) × (length w.lines.items ≤ 67108864) × (65507 ≤ vec_capacity w.octets) × (5155 ≤ vec_capacity w.wants)
+        × StopsRightly (entries_of w.lines.items) w.used (stop_of w.stop w.octets.items w.wants.items) };
 }
 
 fn may_read(asked: usize, answer: Io, len: usize) -> bool
@@ -317,7 +324,7 @@ impl ScriptWorld {
     ghost use Rattle.std.specs.Prelude.{true, false, Some, None, IfSome, IfNone, slice_get};
     ghost use Rattle.world_face.specs.Journal.{Entry, CallLinkOpen};
     ghost use Rattle.replay.specs.Lines.{entry_of, call_at};
-    ghost use Rattle.replay.specs.Fitting.{Advances, Ceases, raised};
+    ghost use Rattle.replay.specs.Fitting.{Advances, Ceases, FitsNone, raised};
 
     // The next line, while it answers.
     fn next(&self) -> Option<&Line>
@@ -348,7 +355,8 @@ impl ScriptWorld {
 
     // Uses up the next line.
     fn advance(&mut self)
-        requires { self.old.used < length self.old.lines }
+        requires within { self.old.used < length self.old.lines }
+        requires live { self.old.live ≡ true }
         ensures { (e : Entry) → slice_get self.old.lines self.old.used ≡ Some e → Advances self.old self.new e }
     {
         let line = &self.lines[self.used];
@@ -364,6 +372,7 @@ impl ScriptWorld {
     fn stop_at(&mut self, stop: Stop, octets: &[u8], wants: &[Want])
         requires octets { length octets.now ≤ 65507 }
         requires wants { length wants.now ≤ 5155 }
+        requires fits_none { self.old.live ≡ true → FitsNone self.old.lines self.old.used (call_at stop octets.now wants.now) }
         ensures first { self.old.live ≡ true → self.new ≡ record self.old { live = false; stop = Some (call_at stop octets.now wants.now) } }
         ensures later { self.old.live ≡ false → self.new ≡ self.old }
     {
@@ -376,6 +385,7 @@ impl ScriptWorld {
 
     // The same at an opening of the link.
     fn cease_open(&mut self, at: &LinkAt)
+        requires { self.old.live ≡ true → FitsNone self.old.lines self.old.used (CallLinkOpen (place_of at.now)) }
         ensures { Ceases self.old self.new (CallLinkOpen (place_of at.now)) }
     {
         match at {
@@ -388,6 +398,7 @@ impl ScriptWorld {
     fn cease(&mut self, stop: Stop, octets: &[u8], wants: &[Want])
         requires octets { length octets.now ≤ 65507 }
         requires wants { length wants.now ≤ 5155 }
+        requires fits_none { self.old.live ≡ true → FitsNone self.old.lines self.old.used (call_at stop octets.now wants.now) }
         ensures ceases { Ceases self.old self.new (call_at stop octets.now wants.now) }
         ensures octets { AreOctets octets.now }
     {
@@ -397,14 +408,15 @@ impl ScriptWorld {
 }
 
 impl ScriptWorld {
-    ghost use Rattle.std.specs.Prelude.{true, Some, None, IfSome};
-    ghost use Rattle.world_face.specs.Journal.{Now, Wait, LinkOpen, LinkRead, LinkWrite, Connect, Connected, Listen, Accept};
+    ghost use Rattle.std.specs.Prelude.{true, Some, None, IfSome, IfNone};
+    ghost use Rattle.world_face.specs.Journal.{CallNow, CallWait, CallLinkOpen, CallLinkRead, CallLinkWrite, CallConnect, CallConnected, CallListen, CallAccept, Now, Wait, LinkOpen, LinkRead, LinkWrite, Connect, Connected, Listen, Accept};
     ghost use Rattle.poll_list.specs.Listing.{AreWants};
-    ghost use Rattle.replay.specs.Fitting.{FitsNext};
+    ghost use Rattle.replay.specs.Fitting.{FitsNext, FitsNone};
 
     // What the next line answers to a call that fits it.
     fn next_now(&self) -> Option<u64>
-        ensures { IfSome result (λ moment. FitsNext self.now (Now moment)) }
+        ensures found { IfSome result (λ moment. FitsNext self.now (Now moment)) }
+        ensures none { IfNone result (self.now.live ≡ true → FitsNone self.now.lines self.now.used CallNow) }
     {
         match self.next()? {
             Line::Now(moment) => Some(*moment),
@@ -414,186 +426,198 @@ impl ScriptWorld {
 
     fn next_wait(&self, wants: &[Want], timeout: Option<u64>) -> Option<(Waited, &[Want])>
         requires { AreWants wants.now }
-        ensures { IfSome result (λ found. FitsNext self.now (Wait wants.now timeout found.0 found.1.now)) }
+        ensures found { IfSome result (λ found. FitsNext self.now (Wait wants.now timeout found.0 found.1.now)) }
+        ensures none { IfNone result (self.now.live ≡ true → FitsNone self.now.lines self.now.used (CallWait wants.now timeout)) }
     {
         match self.next()? {
-            Line::Wait(w, t, answer, ready) if same_wants(w, wants) && *t == timeout && may_wait(wants, *answer, ready) => {
-                Some((*answer, ready.as_slice()))
-            }
+            Line::Wait(w, t, answer, ready) => (same_wants(w, wants)
+                && *t == timeout
+                && may_wait(wants, *answer, ready)).then_some((*answer, ready.as_slice())),
             _ => None,
         }
     }
 
     fn next_link_open(&self, at: &LinkAt) -> Option<Made>
         requires { IsPlace (place_of at.now) }
-        ensures { IfSome result (λ answer. FitsNext self.now (LinkOpen (place_of at.now) answer)) }
+        ensures found { IfSome result (λ answer. FitsNext self.now (LinkOpen (place_of at.now) answer)) }
+        ensures none { IfNone result (self.now.live ≡ true → FitsNone self.now.lines self.now.used (CallLinkOpen (place_of at.now))) }
     {
         match self.next()? {
-            Line::LinkOpen(seat, answer) if is_at(seat, at) => Some(*answer),
+            Line::LinkOpen(seat, answer) => is_at(seat, at).then_some(*answer),
             _ => None,
         }
     }
 
     fn next_link_read(&self, asked: usize) -> Option<(Io, &[u8])>
-        ensures { IfSome result (λ found. FitsNext self.now (LinkRead asked found.0 found.1.now)) }
+        ensures found { IfSome result (λ found. FitsNext self.now (LinkRead asked found.0 found.1.now)) }
+        ensures none { IfNone result (self.now.live ≡ true → FitsNone self.now.lines self.now.used (CallLinkRead asked)) }
     {
         match self.next()? {
-            Line::LinkRead(n, answer, octets) if *n == asked && may_read(asked, *answer, octets.len()) => {
-                Some((*answer, octets_of(octets)))
-            }
+            Line::LinkRead(n, answer, octets) => (*n == asked
+                && may_read(asked, *answer, octets.len())).then_some((*answer, octets_of(octets))),
             _ => None,
         }
     }
 
     fn next_link_write(&self, from: &[u8]) -> Option<Io>
-        ensures { IfSome result (λ answer. FitsNext self.now (LinkWrite from.now answer)) }
+        ensures found { IfSome result (λ answer. FitsNext self.now (LinkWrite from.now answer)) }
+        ensures none { IfNone result (self.now.live ≡ true → FitsNone self.now.lines self.now.used (CallLinkWrite from.now)) }
     {
         match self.next()? {
-            Line::LinkWrite(octets, answer) if same(octets, from) && may_write(from.len(), *answer) => Some(*answer),
+            Line::LinkWrite(octets, answer) => (same(octets, from)
+                && may_write(from.len(), *answer)).then_some(*answer),
             _ => None,
         }
     }
 
     fn next_connect(&self, c: u64, to: Endpoint) -> Option<Made>
-        ensures { IfSome result (λ answer. FitsNext self.now (Connect c to answer)) }
+        ensures found { IfSome result (λ answer. FitsNext self.now (Connect c to answer)) }
+        ensures none { IfNone result (self.now.live ≡ true → FitsNone self.now.lines self.now.used (CallConnect c to)) }
     {
         match self.next()? {
-            Line::Connect(socket, at, answer) if *socket == c && *at == to => Some(*answer),
+            Line::Connect(socket, at, answer) => (*socket == c && *at == to).then_some(*answer),
             _ => None,
         }
     }
 
     fn next_connected(&self, c: u64) -> Option<Joined>
-        ensures { IfSome result (λ answer. FitsNext self.now (Connected c answer)) }
+        ensures found { IfSome result (λ answer. FitsNext self.now (Connected c answer)) }
+        ensures none { IfNone result (self.now.live ≡ true → FitsNone self.now.lines self.now.used (CallConnected c)) }
     {
         match self.next()? {
-            Line::Connected(socket, answer) if *socket == c => Some(*answer),
+            Line::Connected(socket, answer) => (*socket == c).then_some(*answer),
             _ => None,
         }
     }
 
     fn next_listen(&self, l: u64, at: Endpoint) -> Option<Made>
-        ensures { IfSome result (λ answer. FitsNext self.now (Listen l at answer)) }
+        ensures found { IfSome result (λ answer. FitsNext self.now (Listen l at answer)) }
+        ensures none { IfNone result (self.now.live ≡ true → FitsNone self.now.lines self.now.used (CallListen l at)) }
     {
         match self.next()? {
-            Line::Listen(socket, here, answer) if *socket == l && *here == at => Some(*answer),
+            Line::Listen(socket, here, answer) => (*socket == l && *here == at).then_some(*answer),
             _ => None,
         }
     }
 
     fn next_accept(&self, l: u64, c: u64) -> Option<Accepted>
-        ensures { IfSome result (λ answer. FitsNext self.now (Accept l c answer)) }
+        ensures found { IfSome result (λ answer. FitsNext self.now (Accept l c answer)) }
+        ensures none { IfNone result (self.now.live ≡ true → FitsNone self.now.lines self.now.used (CallAccept l c)) }
     {
         match self.next()? {
-            Line::Accept(listener, socket, answer) if *listener == l && *socket == c => Some(peer_of(*answer)),
+            Line::Accept(listener, socket, answer) => (*listener == l && *socket == c).then_some(
+                peer_of(*answer),
+            ),
             _ => None,
         }
     }
 }
 
 impl ScriptWorld {
-    ghost use Rattle.std.specs.Prelude.{true, Some, None, IfSome, IsTrue};
-    ghost use Rattle.world_face.specs.Journal.{TcpRead, TcpWrite, TcpEnd, Close, UdpOpen, UdpSend, UdpRecv, FileLen, FileRead};
-    ghost use Rattle.replay.specs.Fitting.{FitsNext};
+    ghost use Rattle.std.specs.Prelude.{true, Some, None, IfSome, IfNone};
+    ghost use Rattle.world_face.specs.Journal.{CallTcpRead, CallTcpWrite, CallTcpEnd, CallClose, CallUdpOpen, CallUdpSend, CallUdpRecv, CallFileLen, CallFileRead, TcpRead, TcpWrite, TcpEnd, Close, UdpOpen, UdpSend, UdpRecv, FileLen, FileRead};
+    ghost use Rattle.replay.specs.Fitting.{FitsNext, FitsNone};
 
     fn next_tcp_read(&self, c: u64, asked: usize) -> Option<(Io, &[u8])>
-        ensures { IfSome result (λ found. FitsNext self.now (TcpRead c asked found.0 found.1.now)) }
+        ensures found { IfSome result (λ found. FitsNext self.now (TcpRead c asked found.0 found.1.now)) }
+        ensures none { IfNone result (self.now.live ≡ true → FitsNone self.now.lines self.now.used (CallTcpRead c asked)) }
     {
         match self.next()? {
-            Line::TcpRead(socket, n, answer, octets)
-                if *socket == c && *n == asked && may_read(asked, *answer, octets.len()) =>
-            {
-                Some((*answer, octets_of(octets)))
-            }
+            Line::TcpRead(socket, n, answer, octets) => (*socket == c
+                && *n == asked
+                && may_read(asked, *answer, octets.len())).then_some((*answer, octets_of(octets))),
             _ => None,
         }
     }
 
     fn next_tcp_write(&self, c: u64, from: &[u8]) -> Option<Io>
-        ensures { IfSome result (λ answer. FitsNext self.now (TcpWrite c from.now answer)) }
+        ensures found { IfSome result (λ answer. FitsNext self.now (TcpWrite c from.now answer)) }
+        ensures none { IfNone result (self.now.live ≡ true → FitsNone self.now.lines self.now.used (CallTcpWrite c from.now)) }
     {
         match self.next()? {
-            Line::TcpWrite(socket, octets, answer)
-                if *socket == c && same(octets, from) && may_write(from.len(), *answer) =>
-            {
-                Some(*answer)
-            }
+            Line::TcpWrite(socket, octets, answer) => (*socket == c
+                && same(octets, from)
+                && may_write(from.len(), *answer)).then_some(*answer),
             _ => None,
         }
     }
 
     fn next_tcp_end(&self, c: u64) -> Option<Made>
-        ensures { IfSome result (λ answer. FitsNext self.now (TcpEnd c answer)) }
+        ensures found { IfSome result (λ answer. FitsNext self.now (TcpEnd c answer)) }
+        ensures none { IfNone result (self.now.live ≡ true → FitsNone self.now.lines self.now.used (CallTcpEnd c)) }
     {
         match self.next()? {
-            Line::TcpEnd(socket, answer) if *socket == c => Some(*answer),
+            Line::TcpEnd(socket, answer) => (*socket == c).then_some(*answer),
             _ => None,
         }
     }
 
     fn next_close(&self, s: u64) -> Option<()>
-        ensures { IfSome result (λ _. FitsNext self.now (Close s)) }
+        ensures found { IfSome result (λ _. FitsNext self.now (Close s)) }
+        ensures none { IfNone result (self.now.live ≡ true → FitsNone self.now.lines self.now.used (CallClose s)) }
     {
         match self.next()? {
-            Line::Close(socket) if *socket == s => Some(()),
+            Line::Close(socket) => (*socket == s).then_some(()),
             _ => None,
         }
     }
 
     fn next_udp_open(&self, s: u64, at: Endpoint) -> Option<Made>
-        ensures { IfSome result (λ answer. FitsNext self.now (UdpOpen s at answer)) }
+        ensures found { IfSome result (λ answer. FitsNext self.now (UdpOpen s at answer)) }
+        ensures none { IfNone result (self.now.live ≡ true → FitsNone self.now.lines self.now.used (CallUdpOpen s at)) }
     {
         match self.next()? {
-            Line::UdpOpen(socket, here, answer) if *socket == s && *here == at => Some(*answer),
+            Line::UdpOpen(socket, here, answer) => (*socket == s && *here == at).then_some(*answer),
             _ => None,
         }
     }
 
     fn next_udp_send(&self, s: u64, to: Endpoint, from: &[u8]) -> Option<Sent>
-        ensures { IfSome result (λ answer. FitsNext self.now (UdpSend s to from.now answer)) }
+        ensures found { IfSome result (λ answer. FitsNext self.now (UdpSend s to from.now answer)) }
+        ensures none { IfNone result (self.now.live ≡ true → FitsNone self.now.lines self.now.used (CallUdpSend s to from.now)) }
     {
         match self.next()? {
-            Line::UdpSend(socket, at, octets, answer) if *socket == s && *at == to && same(octets, from) => {
-                Some(*answer)
-            }
+            Line::UdpSend(socket, at, octets, answer) => (*socket == s
+                && *at == to
+                && same(octets, from)).then_some(*answer),
             _ => None,
         }
     }
 
     fn next_udp_recv(&self, s: u64, asked: usize) -> Option<(Got, &[u8])>
-        ensures { IfSome result (λ found. FitsNext self.now (UdpRecv s asked found.0 found.1.now)) }
+        ensures found { IfSome result (λ found. FitsNext self.now (UdpRecv s asked found.0 found.1.now)) }
+        ensures none { IfNone result (self.now.live ≡ true → FitsNone self.now.lines self.now.used (CallUdpRecv s asked)) }
     {
         match self.next()? {
-            Line::UdpRecv(socket, n, answer, octets)
-                if *socket == s && *n == asked && may_get(asked, *answer, octets.len()) =>
-            {
-                Some((*answer, octets_of(octets)))
-            }
+            Line::UdpRecv(socket, n, answer, octets) => (*socket == s
+                && *n == asked
+                && may_get(asked, *answer, octets.len())).then_some((*answer, octets_of(octets))),
             _ => None,
         }
     }
 
     fn next_file_len(&self, name: &[u8]) -> Option<FileSize>
-        ensures { IfSome result (λ answer. FitsNext self.now (FileLen name.now answer)) }
+        ensures found { IfSome result (λ answer. FitsNext self.now (FileLen name.now answer)) }
+        ensures none { IfNone result (self.now.live ≡ true → FitsNone self.now.lines self.now.used (CallFileLen name.now)) }
     {
         match self.next()? {
-            Line::FileLen(file, answer) if same(file, name) => Some(size_of(*answer)),
+            Line::FileLen(file, answer) => same(file, name).then_some(size_of(*answer)),
             _ => None,
         }
     }
 
     fn next_file_read(&self, name: &[u8], at: u64, asked: usize) -> Option<(Io, &[u8])>
-        ensures { IfSome result (λ found. FitsNext self.now (FileRead name.now at asked found.0 found.1.now)) }
+        ensures found { IfSome result (λ found. FitsNext self.now (FileRead name.now at asked found.0 found.1.now)) }
+        ensures none { IfNone result (self.now.live ≡ true → FitsNone self.now.lines self.now.used (CallFileRead name.now at asked)) }
     {
         match self.next()? {
-            Line::FileRead(file, place, n, answer, octets)
-                if same(file, name)
-                    && *place == at
-                    && *n == asked
-                    && may_read_file(asked, *answer, octets.len()) =>
-            {
-                Some((*answer, octets_of(octets)))
-            }
+            Line::FileRead(file, place, n, answer, octets) => (same(file, name)
+                && *place == at
+                && *n == asked
+                && may_read_file(asked, *answer, octets.len())).then_some((
+                *answer,
+                octets_of(octets),
+            )),
             _ => None,
         }
     }
@@ -619,7 +643,8 @@ impl World for ScriptWorld {
     }
 
     fn wait(&mut self, wants: &Wants, timeout: Option<u64>, ready: &mut ReadyList) -> Waited {
-        match self.next_wait(wants.items(), timeout) {
+        let items = wants.items();
+        match self.next_wait(items, timeout) {
             Some((answer, found)) => {
                 list(ready, found);
                 self.advance();
@@ -627,7 +652,7 @@ impl World for ScriptWorld {
             }
             None => {
                 ready.clear();
-                self.cease(Stop::Wait(timeout), &[], wants.items());
+                self.cease(Stop::Wait(timeout), &[], items);
                 Waited::Failed
             }
         }
@@ -813,27 +838,29 @@ impl World for ScriptWorld {
     }
 
     fn file_len(&mut self, name: &str) -> FileSize {
-        match self.next_file_len(name.as_bytes()) {
+        let file = name.as_bytes();
+        match self.next_file_len(file) {
             Some(answer) => {
                 self.advance();
                 answer
             }
             None => {
-                self.cease(Stop::FileLen, name.as_bytes(), &[]);
+                self.cease(Stop::FileLen, file, &[]);
                 FileSize::Failed
             }
         }
     }
 
     fn file_read(&mut self, name: &str, at: u64, into: &mut [u8]) -> Io {
-        match self.next_file_read(name.as_bytes(), at, into.len()) {
+        let file = name.as_bytes();
+        match self.next_file_read(file, at, into.len()) {
             Some((answer, octets)) => {
                 fill(into, octets);
                 self.advance();
                 answer
             }
             None => {
-                self.cease(Stop::FileRead(at, into.len()), name.as_bytes(), &[]);
+                self.cease(Stop::FileRead(at, into.len()), file, &[]);
                 Io::Failed
             }
         }
@@ -848,7 +875,7 @@ impl ScriptWorld {
     ghost use Rattle.world_face.specs.Puts.{Puts};
     ghost use Rattle.replay.specs.Text.{text};
     ghost use Rattle.replay.specs.Script.{IsFresh, schedule_text, script_tells};
-    ghost use Rattle.replay.specs.Fitting.{divergence_of};
+    ghost use Rattle.replay.specs.Fitting.{StopsRightly, divergence_of};
 
     /// Reads a schedule: no line or more, each ended by a line feed, of at most 64 MiB in all.
     /// All room that the World will need is taken here.
@@ -892,11 +919,12 @@ impl ScriptWorld {
         &self.lines[..self.used]
     }
 
-    /// Where the schedule was left: nowhere exactly where the World still answers by it. A World has ceased exactly where it names the call at which it did.
+    /// Where the schedule was left: nowhere exactly where the World still answers by it. A World has ceased exactly where it names the call at which it did, and the next line doesn't fit that call.
     pub fn divergence(&self) -> Option<Divergence>
         ensures value { result ≡ divergence_of self.now }
         ensures live { IsNone result ↔ (self.now.live ≡ true) }
         ensures stopped { IsSome self.now.stop ↔ (self.now.live ≡ false) }
+        ensures fits_none { StopsRightly self.now.lines self.now.used self.now.stop }
     {
         let wanted = self.wanted();
         let line = self.used as u64 + 1;

@@ -1,4 +1,4 @@
-use Rattle.std.proofs.Common.{ℕ, List, [], ◌++◌, refl, sym, ◌∙◌, ap, arith}
+use Rattle.std.proofs.Common.{[], ◌++◌, refl, sym, ◌∙◌, ap, arith}
 use Rattle.std.specs.Result.{is_ok}
 use Rattle.world_face.specs.Puts.{added}
 use Rattle.hex.specs.Hex.{encode_lower}

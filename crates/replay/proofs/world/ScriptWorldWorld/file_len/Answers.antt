@@ -8,12 +8,12 @@ use Rattle.replay.proofs.world.ScriptWorldWorld.file_len.Goals as goal
 
 pub returns-in-Some : goal.returns-in-Some
 returns-in-Some c =
-    subst (λ (n : List ℕ). Answers (script_tells c.args.self.now) (script_tells c.advance.new.self) (FileLen n c.in-Some.answer)) c.as_bytes.ensures.value
-      (fits c.args.self.now c.advance.new.self (FileLen c.as_bytes.result.now c.in-Some.answer) c.in-Some.ensures c.advance.ensures)
+    subst (λ (n : List ℕ). Answers (script_tells c.args.self.now) (script_tells c.advance.new.self) (FileLen n c.in-Some.answer)) c.as_bytes-file.ensures.value
+    (fits c.args.self.now c.advance.new.self (FileLen c.as_bytes-file.result.now c.in-Some.answer) c.in-Some.ensures.found c.advance.ensures)
 
 pub returns-in-None : goal.returns-in-None
 returns-in-None c =
-    let name = c.as_bytes-in-None.result.now in
+    let name = c.as_bytes-file.result.now in
     let allowed : Allowed (FileLen name SizeFailed) = search rules in
-    subst (λ (n : List ℕ). Answers (script_tells c.args.self.now) (script_tells c.cease.new.self) (FileLen n SizeFailed)) c.as_bytes-in-None.ensures.value
-      (ceases c.args.self.now c.cease.new.self (FileLen name SizeFailed) allowed c.cease.ensures.ceases)
+    subst (λ (n : List ℕ). Answers (script_tells c.args.self.now) (script_tells c.cease.new.self) (FileLen n SizeFailed)) c.as_bytes-file.ensures.value
+    (ceases c.args.self.now c.cease.new.self (FileLen name SizeFailed) allowed c.cease.ensures.ceases)

@@ -8,7 +8,7 @@ use Rattle.replay.proofs.world.ScriptWorldWorld.now.Goals as goal
 pub returns-in-Some : goal.returns-in-Some
 returns-in-Some c =
     subst (λ (s : Script). Answers (script_tells c.args.self.now) (script_tells s) (Now c.in-Some.moment)) (sym c.self.view_is)
-      (fits c.args.self.now c.advance.new.self (Now c.in-Some.moment) c.in-Some.ensures c.advance.ensures)
+    (fits c.args.self.now c.advance.new.self (Now c.in-Some.moment) c.in-Some.ensures.found c.advance.ensures)
 
 pub returns-in-None : goal.returns-in-None
 returns-in-None c =

@@ -5,7 +5,7 @@ use Rattle.replay.proofs.Following.{fits, ceases}
 use Rattle.replay.proofs.world.ScriptWorldWorld.udp_send.Goals as goal
 
 pub returns-in-Some : goal.returns-in-Some
-returns-in-Some c = fits c.args.self.now c.advance.new.self (UdpSend c.args.s c.args.to c.args.from.now c.in-Some.answer) c.in-Some.ensures c.advance.ensures
+returns-in-Some c = fits c.args.self.now c.advance.new.self (UdpSend c.args.s c.args.to c.args.from.now c.in-Some.answer) c.in-Some.ensures.found c.advance.ensures
 
 pub returns-in-None : goal.returns-in-None
 returns-in-None c =
