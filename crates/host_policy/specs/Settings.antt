@@ -1,5 +1,5 @@
 -- The settings as the laws read them.
-use Rattle.std.specs.Prelude.{ℕ, []}
+use Rattle.std.specs.Prelude.{[]}
 use Rattle.host_policy.specs.Addresses.{Config}
 use Rattle.host_policy.specs.declared.SlirpConfig.{SlirpConfig}
 

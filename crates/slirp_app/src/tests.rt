@@ -42,16 +42,22 @@ fn replayed(alloc: Global, content: &str, fails: Option<u64>) -> Result<Outputs,
 /// Whether the content's replay has this status and puts this.
 fn gives(alloc: Global, content: &str, status: u8, out: &str, err: &str) -> Result<bool, Fail> {
     let ran = replayed(alloc, content, None)?;
-    Ok(ran.status == status && ran.out.octets() == out.as_bytes() && ran.err.octets() == err.as_bytes())
+    Ok(
+        ran.status == status
+            && ran.out.octets() == out.as_bytes()
+            && ran.err.octets() == err.as_bytes(),
+    )
 }
 
 const IDLE: &str = "now = 0\nwait - link:r = stop\n";
 
 const BEGINS: &str = "now = 0\nwait - link:r = ready link:r\nnow = 5\n";
 
-const ARP_REQUEST: &str = "lread 4 = done 0000002a\nlread 42 = done ffffffffffff525400123456080600010800060400015254001234560a00020f0000000000000a0002";
+const ARP_REQUEST: &str =
+    "lread 4 = done 0000002a\nlread 42 = done ffffffffffff525400123456080600010800060400015254001234560a00020f0000000000000a0002";
 
-const ARP_REPLY: &str = "lwrite 0000002a52540012345652550a0002020806000108000604000252550a0002020a0002025254001234560a00020f = done 46\n";
+const ARP_REPLY: &str =
+    "lwrite 0000002a52540012345652550a0002020806000108000604000252550a0002020a0002025254001234560a00020f = done 46\n";
 
 #[test]
 fn an_idle_run_prints_itself(rt: HostRuntime) -> Result<(), Fail> {
@@ -62,7 +68,9 @@ fn an_idle_run_prints_itself(rt: HostRuntime) -> Result<(), Fail> {
 
 #[test]
 fn an_arp_request_for_the_host_is_answered(rt: HostRuntime) -> Result<(), Fail> {
-    let schedule = format!(in rt.alloc(); "{BEGINS}{ARP_REQUEST}02\n{ARP_REPLY}wait - link:r = stop\n")?;
+    let schedule = format!(in rt.alloc();
+        "{BEGINS}{ARP_REQUEST}02\n{ARP_REPLY}wait - link:r = stop\n"
+    )?;
     let out = format!(in rt.alloc(); "{schedule}end 0\n")?;
     assert!(rt; gives(rt.alloc(), schedule.as_str(), 0, out.as_str(), "")?);
     Ok(())
@@ -78,8 +86,15 @@ fn one_for_another_guest_is_not(rt: HostRuntime) -> Result<(), Fail> {
 
 #[test]
 fn words_without_a_reading(rt: HostRuntime) -> Result<(), Fail> {
-    let usage = "usage: slirpd serve --link AT [OPTIONS] [RULE]... | replay FILE [OPTIONS] [RULE]... | drive NUMBER OCTETS\n";
-    for words in [&[][..], &["replay"][..], &["replay", "-f"][..], &["replay", "f", "g"][..], &["serve", "f"][..]] {
+    let usage =
+        "usage: slirpd serve --link AT [OPTIONS] [RULE]... | replay FILE [OPTIONS] [RULE]... | drive NUMBER OCTETS\n";
+    for words in [
+        &[][..],
+        &["replay"][..],
+        &["replay", "-f"][..],
+        &["replay", "f", "g"][..],
+        &["serve", "f"][..],
+    ] {
         let ran = ran(rt.alloc(), words, "", None)?;
         assert_eq!(rt; ran.status, 1);
         assert_eq!(rt; ran.err.octets(), usage.as_bytes());
@@ -89,18 +104,43 @@ fn words_without_a_reading(rt: HostRuntime) -> Result<(), Fail> {
 
 #[test]
 fn a_file_that_cannot_be_read(rt: HostRuntime) -> Result<(), Fail> {
-    for outer in ["flen 66 = missing\n", "flen 66 = fail\n", "flen 66 = len 67108865\n", "flen 66 = len 2\nfread 66 0 2 = end\n", "flen 66 = len 2\nfread 66 0 2 = fail\n"] {
+    for outer in [
+        "flen 66 = missing\n",
+        "flen 66 = fail\n",
+        "flen 66 = len 67108865\n",
+        "flen 66 = len 2\nfread 66 0 2 = end\n",
+        "flen 66 = len 2\nfread 66 0 2 = fail\n",
+    ] {
         let ran = ran(rt.alloc(), &["replay", "f"], outer, None)?;
         assert_eq!(rt; ran.status, 3);
-        assert_eq!(rt; ran.err.octets(), b"slirpd: schedule cannot be read\n".as_slice());
+        assert_eq!(rt;
+            ran.err.octets(),
+            b"slirpd: schedule cannot be read\n".as_slice()
+        );
     }
     Ok(())
 }
 
 #[test]
 fn a_line_without_a_reading(rt: HostRuntime) -> Result<(), Fail> {
-    assert!(rt; gives(rt.alloc(), "now = 0\nwait - link:r = stop\nnow = x\n", 4, "", "slirpd: schedule line 3\n")?);
-    assert!(rt; gives(rt.alloc(), "now = 0\nwait - link:r = stop", 4, "", "slirpd: schedule line 2\n")?);
+    assert!(rt;
+        gives(
+            rt.alloc(),
+            "now = 0\nwait - link:r = stop\nnow = x\n",
+            4,
+            "",
+            "slirpd: schedule line 3\n"
+        )?
+    );
+    assert!(rt;
+        gives(
+            rt.alloc(),
+            "now = 0\nwait - link:r = stop",
+            4,
+            "",
+            "slirpd: schedule line 2\n"
+        )?
+    );
     Ok(())
 }
 
@@ -108,14 +148,38 @@ fn a_line_without_a_reading(rt: HostRuntime) -> Result<(), Fail> {
 fn a_schedule_with_another_call(rt: HostRuntime) -> Result<(), Fail> {
     let schedule = format!(in rt.alloc(); "{BEGINS}close 0 = done\n")?;
     let out = format!(in rt.alloc(); "{BEGINS}end 5\n")?;
-    assert!(rt; gives(rt.alloc(), schedule.as_str(), 5, out.as_str(), "slirpd: diverged at line 4: made lread, schedule has close\n")?);
+    assert!(rt;
+        gives(
+            rt.alloc(),
+            schedule.as_str(),
+            5,
+            out.as_str(),
+            "slirpd: diverged at line 4: made lread, schedule has close\n"
+        )?
+    );
     Ok(())
 }
 
 #[test]
 fn a_schedule_that_ends_early(rt: HostRuntime) -> Result<(), Fail> {
-    assert!(rt; gives(rt.alloc(), "now = 0\n", 5, "now = 0\nend 5\n", "slirpd: diverged at line 2: made wait, no line left\n")?);
-    assert!(rt; gives(rt.alloc(), "", 5, "end 5\n", "slirpd: diverged at line 1: made now, no line left\n")?);
+    assert!(rt;
+        gives(
+            rt.alloc(),
+            "now = 0\n",
+            5,
+            "now = 0\nend 5\n",
+            "slirpd: diverged at line 2: made wait, no line left\n"
+        )?
+    );
+    assert!(rt;
+        gives(
+            rt.alloc(),
+            "",
+            5,
+            "end 5\n",
+            "slirpd: diverged at line 1: made now, no line left\n"
+        )?
+    );
     Ok(())
 }
 
@@ -123,7 +187,15 @@ fn a_schedule_that_ends_early(rt: HostRuntime) -> Result<(), Fail> {
 fn a_frame_that_is_too_long(rt: HostRuntime) -> Result<(), Fail> {
     let schedule = format!(in rt.alloc(); "{BEGINS}lread 4 = done 00011001\n")?;
     let out = format!(in rt.alloc(); "{schedule}end 6\n")?;
-    assert!(rt; gives(rt.alloc(), schedule.as_str(), 6, out.as_str(), "slirpd: frame of 69633 octets\n")?);
+    assert!(rt;
+        gives(
+            rt.alloc(),
+            schedule.as_str(),
+            6,
+            out.as_str(),
+            "slirpd: frame of 69633 octets\n"
+        )?
+    );
     Ok(())
 }
 
