@@ -102,6 +102,42 @@ not_taken_lawful : Lawful usual not_taken
 unfolding missing spelling is_too_long spelt_length
 not_taken_lawful = is_sound usual not_taken refl
 
+-- an echo request for the host, the same with another last octet, and the reply with its length; the second reply has the next identification
+abbrev pub ping : List ℕ
+ping = hex "52550a00020252540012345608004500001e00040000400162cb0a00020f0a00020208008f94000100016869"
+
+abbrev pub spoilt_ping : List ℕ
+spoilt_ping = hex "52550a00020252540012345608004500001e00040000400162cb0a00020f0a00020208008f9400010001686a"
+
+abbrev pub pong : List ℕ
+pong = hex "0000002c52540012345652550a00020208004500001e00000000400162cf0a0002020a00020f00009794000100016869"
+
+abbrev pub second_pong : List ℕ
+second_pong = hex "0000002c52540012345652550a00020208004500001e00010000400162ce0a0002020a00020f00009794000100016869"
+
+-- both are answered
+abbrev pub pinged : List Entry
+pinged =
+    run (begins ++ comes ping ++ LinkWrite pong (Done 48) ∷ Wait (reading Link ∷ []) None Ready (reading Link ∷ []) ∷ Now 6 ∷ []
+    ++ comes ping ++ LinkWrite second_pong (Done 48) ∷ Wait (reading Link ∷ []) None Stop [] ∷ [])
+
+pinged_lawful : Lawful usual pinged
+unfolding missing spelling is_too_long spelt_length
+pinged_lawful = is_sound usual pinged refl
+
+-- one whose sum doesn't hold isn't
+spoilt_may_pass : may usual (run (begins ++ comes spoilt_ping)) (CallWait (reading Link ∷ []) None) ≡ true
+unfolding missing spelling is_too_long spelt_length
+spoilt_may_pass = refl
+
+spoilt_unanswered : may usual (run (begins ++ comes spoilt_ping)) (CallLinkWrite pong) ≡ false
+unfolding missing spelling is_too_long spelt_length
+spoilt_unanswered = refl
+
+same_identification : may usual (run (begins ++ comes ping ++ LinkWrite pong (Done 48) ∷ Wait (reading Link ∷ []) None Ready (reading Link ∷ []) ∷ Now 6 ∷ [] ++ comes ping)) (CallLinkWrite pong) ≡ false
+unfolding missing spelling is_too_long spelt_length
+same_identification = refl
+
 -- What may not come: the next frame before the answer is out; another hardware address in it; another length before it; an answer that nobody asked for;
 reads_on_unanswered : may usual (run (begins ++ comes request)) (CallLinkRead 4) ≡ false
 unfolding missing spelling is_too_long spelt_length

@@ -5,7 +5,7 @@ use Rattle.world_face.specs.Frames.{missing, partial, spelling, tail, is_blocked
 use Rattle.world_face.specs.Limits.{most_to_link}
 use Rattle.net_octets.specs.declared.Endpoint.{Endpoint}
 use Rattle.host_policy.specs.Addresses.{Config, address}
-use Rattle.slirp_laws.specs.Answers.{left, is_first}
+use Rattle.slirp_laws.specs.Answers.{left, identification, is_first}
 use Rattle.slirp_laws.specs.Laws.{due, may_close}
 use Rattle.slirp_laws.specs.Readiness.{is_readable}
 use Rattle.slirp_laws.specs.Shape.{Phase, Opening, Woken, Working, Over, phase, waits, next_number}
@@ -104,7 +104,7 @@ is_empty [] = true
 is_empty (x ∷ xs) = false
 
 abbrev pub may_begin : Config → List Entry → List ℕ → List ℕ → Bool
-may_begin config past [] octets = is_first (drop 4 octets) (left config past)
+may_begin config past [] octets = is_first config (identification past) (drop 4 octets) (left config past)
 may_begin config past (x ∷ rest) octets = true
 
 abbrev pub may_answer : Config → List Entry → Call → Bool
