@@ -1,3 +1,4 @@
 mod Pumping
 mod Serving
+mod Taking
 mod Turning

@@ -1,13 +1,13 @@
 -- A run from its first call to its last.
-use Rattle.std.proofs.Common.{◌≡◌, ℕ, ◌+◌, ◌<◌, ◌≤◌, ◌||◌, nat_le, Bool, true, List, [], ◌∷◌, MatchOption, Some, refl, sym, ◌∙◌, ap, subst, arith}
+use Rattle.std.proofs.Common.{◌≡◌, ℕ, ◌≤◌, ◌||◌, nat_le, true, List, [], ◌∷◌, MatchOption, refl, sym, ◌∙◌, ap, subst, arith}
 use Rattle.std.proofs.lemmas.Bool.Decides.{nat_tests}
-use Rattle.world_face.specs.Journal.{Entry, Follows, Now, CallNow}
+use Rattle.world_face.specs.Journal.{Entry, Now, CallNow}
 use Rattle.world_face.specs.Tells.{Telling, Makes}
 use Rattle.world_face.proofs.Telling.{makes_as}
 use Rattle.host_policy.specs.Addresses.{Config}
 use Rattle.slirp_laws.specs.Laws.{Lawful}
 use Rattle.slirp_laws.specs.Served.{Served}
-use Rattle.slirp_laws.specs.Shape.{Opening, Working, Finished, is_over, phase, waits, due_in}
+use Rattle.slirp_laws.specs.Shape.{Opening, Finished, is_over, phase, waits, due_in}
 use Rattle.slirp_laws.proofs.Sentences.{served}
 use Rattle.stream_netdev.specs.Keeps.{ReadsOn}
 use Rattle.stream_netdev.specs.State.{under_way}
@@ -31,6 +31,7 @@ started service moment new = record {
     answer = (tt, tt);
   };
   keeps = record { framed = (tt, tt); partly = sym new.input; rest = sym new.output; blocked = sym new.free };
+  sent = sym new.sent;
   pending = sym new.pending;
   guests = sym new.known;
   working = refl;

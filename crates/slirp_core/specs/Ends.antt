@@ -1,8 +1,7 @@
 -- The ends of a run.
-use Rattle.std.specs.Prelude.{ℕ}
 use Rattle.world_face.specs.Frames.{Ending, LinkEnded, LinkCut, LongFrame, LinkFailed, Stopped, WaitFailed}
 use Rattle.host_policy.specs.Addresses.{Config}
-use Rattle.slirp_laws.specs.Shape.{Cause, By, Refused, Phase, Opening, Woken, Working, Over}
+use Rattle.slirp_laws.specs.Shape.{By, Refused, Phase, Opening, Woken, Working, Over}
 use Rattle.slirp_core.specs.declared.slirp.Pumped.{Pumped}
 use Rattle.slirp_core.specs.declared.slirp.Pumped.TheVariants.{Clear, Blocked, Failed as PumpFailed}
 use Rattle.slirp_core.specs.declared.service.Turn.{Turn}

@@ -1,9 +1,9 @@
 -- What the core keeps of the calls made on the World.
-use Rattle.std.specs.Prelude.{◌≡◌, ℕ, Bool, true, false, List, []}
+use Rattle.std.specs.Prelude.{◌≡◌, ℕ, true, false, List, []}
 use Rattle.world_face.specs.Journal.{Entry}
 use Rattle.world_face.specs.Frames.{Ending, LinkFailed, Stopped, WaitFailed}
 use Rattle.host_policy.specs.Addresses.{Config}
-use Rattle.slirp_laws.specs.Answers.{left}
+use Rattle.slirp_laws.specs.Answers.{left, frames_of, identification}
 use Rattle.slirp_laws.specs.Guests.{known}
 use Rattle.slirp_laws.specs.Laws.{Lawful}
 use Rattle.slirp_laws.specs.Readiness.{is_readable}
@@ -25,7 +25,8 @@ pub record Holds (config : Config) (count : ℕ) (slirp : SlirpState) (link : Li
   pub settings : slirp.config ≡ config
   pub lawful : Lawful config past
   pub keeps : Keeps link past
-  pub pending : left config past ≡ slirp.pending
+  pub sent : identification past ≡ slirp.sent
+  pub pending : frames_of config (identification past) (left config past) ≡ slirp.pending
   pub guests : known config past ≡ slirp.known
   pub working : phase config past ≡ Working
   pub counted : waits past ≡ count

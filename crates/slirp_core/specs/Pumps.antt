@@ -1,8 +1,7 @@
 -- The answers of pumps, and what is waited for.
-use Rattle.std.specs.Prelude.{◌&&◌, ◌||◌, not, ◌==◌, nat_lt, List, [], ◌∷◌, Bool, true, false, length, if◌then◌else◌}
+use Rattle.std.specs.Prelude.{ℕ, ◌&&◌, ◌||◌, not, ◌==◌, nat_lt, List, [], ◌∷◌, Bool, length, if◌then◌else◌}
 use Rattle.poll_list.specs.declared.Want.{Want}
 use Rattle.poll_list.specs.declared.Who.TheVariants.{Link}
-use Rattle.slirp_laws.specs.Answers.{Packet}
 use Rattle.stream_netdev.specs.State.{LinkState}
 use Rattle.stream_netdev.specs.declared.Offered.{Offered}
 use Rattle.stream_netdev.specs.declared.Offered.TheVariants.{Taken, Blocked as OfferBlocked, Failed as OfferFailed}
@@ -16,8 +15,8 @@ pumped_of Taken blocked = if blocked then Blocked else Clear
 pumped_of OfferBlocked blocked = if blocked then Blocked else Clear
 pumped_of OfferFailed blocked = Failed
 
--- the packets that are left after an offer of the first one
-abbrev pub keep : Offered → List Packet → List Packet
+-- the frames that are left after an offer of the first one
+abbrev pub keep : Offered → List (List ℕ) → List (List ℕ)
 keep Taken pending = []
 keep OfferBlocked pending = pending
 keep OfferFailed pending = pending

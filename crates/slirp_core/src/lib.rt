@@ -1,6 +1,7 @@
 //! The core of the network, and the loop that serves a guest.
 #![tactic(auto)]
 
+mod outgoing;
 mod service;
 mod slirp;
 

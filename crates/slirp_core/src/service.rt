@@ -95,8 +95,9 @@ impl Service {
         ) else {
             return Err(NoMemory);
         };
+        let slirp = Slirp::new(alloc, c)?;
         Ok(Service {
-            slirp: Slirp::new(c),
+            slirp,
             link,
             wants,
             ready,

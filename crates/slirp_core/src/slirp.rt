@@ -1,24 +1,25 @@
 // What a guest's frames ask for, and what isn't out yet.
-ghost use Rattle.std.specs.Prelude.{◌≡◌};
+ghost use Rattle.std.specs.Prelude.{◌≡◌, ℕ, ◌≤◌, length, true, Bool};
 ghost use Rattle.arp_table.specs.Arp.{arp_of};
-ghost use Rattle.slirp_laws.specs.Answers.{our_mac, frame_of, owed_for_arp};
+ghost use Rattle.ipv4_head.specs.Ip.{ip_of, is_unbroken};
+ghost use Rattle.slirp_laws.specs.Answers.{our_mac, owed_for_arp, is_message_to_us};
 ghost use Rattle.slirp_core.specs.Pumps.{pumped_of};
-ghost use Rattle.slirp_core.specs.Packets.{packet_of, packets_of};
+ghost use Rattle.slirp_core.specs.Packets.{packets_of, reply_to};
 
+use crate::outgoing::{ARP, Course, ICMP, IPV4, Outgoing, datagrams_in};
 use arp_table::{ArpTable, ArpView};
-use ether_frame::EtherView;
 use host_policy::{Policy, SlirpConfig};
-use net_octets::{Ip4, Mac};
+use icmp_echo::IcmpView;
+use ipv4_head::IpView;
+use net_octets::{Ip4, Mac, NoMemory};
 use poll_list::{Want, Wants, Who};
+use std::alloc::Global;
 use std::marker::Model;
 use stream_netdev::{Link, Offered};
 use world_face::World;
 
-/// The kind of a frame that carries ARP (RFC 826).
-const ARP: u16 = 0x0806;
-
-/// The octets of a frame with an ARP packet.
-const ARP_FRAME: usize = 42;
+/// The most octets of a message whose answer fits a frame.
+const MOST_BODY: usize = 1480;
 
 /// What a pump came to.
 #[derive(Clone, Copy, Debug, PartialEq, Eq)]
@@ -31,89 +32,141 @@ pub enum Pumped {
     Failed,
 }
 
-/// The virtual network: who its guests are, and the packet that is owed to one and isn't out yet.
+/// The virtual network: who its guests are, how many datagrams went out, and the frame that is owed to a guest and isn't out yet.
 #[derive(Drop)]
 pub struct Slirp {
     policy: Policy,
     guests: ArpTable,
-    pending: Option<ArpView>,
+    sent: u16,
+    outgoing: Outgoing,
 }
 
 impl Model for Slirp {
     ghost use Rattle.slirp_core.specs.State.{SlirpState};
-    ghost use Rattle.slirp_core.specs.Packets.{packets_of};
 
     ghost Value = { SlirpState };
 
-    ghost view = { λ s. record { config = s.policy; known = s.guests; pending = packets_of s.pending } };
+    ghost view = { λ s. record { config = s.policy; known = s.guests; sent = s.sent; pending = s.outgoing } };
 }
 
 impl Slirp {
-    ghost use Rattle.std.specs.Prelude.{ℕ, ◌≤◌, [], nat_lt, length, false};
+    ghost use Rattle.std.specs.Prelude.{◌<◌, [], nat_lt, false, IfOk};
     ghost use Rattle.host_policy.specs.Addresses.{Config};
     ghost use Rattle.host_policy.specs.Settings.{settings};
     ghost use Rattle.ether_frame.specs.Ether.{read_ether};
     ghost use Rattle.arp_table.specs.Arp.{read_arp};
-    ghost use Rattle.slirp_laws.specs.Guests.{with_pair, with_arp, with_ether};
-    ghost use Rattle.slirp_laws.specs.Answers.{owed_for, owed_for_frame};
+    ghost use Rattle.ipv4_head.specs.Ip.{read_ip};
+    ghost use Rattle.icmp_echo.specs.Icmp.{Icmp, icmp_of, read_icmp};
+    ghost use Rattle.slirp_laws.specs.Guests.{with_pair, with_arp, with_ip, with_ether};
+    ghost use Rattle.slirp_laws.specs.Answers.{frames_of, owed_for, owed_for_ip, owed_for_icmp, owed_for_frame};
     ghost use Rattle.world_face.specs.Tells.{Brings};
     ghost use Rattle.stream_netdev.specs.State.{under_way};
+    ghost use Rattle.slirp_core.specs.Outgoing.{sent_after};
     ghost use Rattle.slirp_core.specs.Pumps.{keep, wants_of};
     ghost use Rattle.slirp_core.specs.Holds.{Holds, AfterPump, Leaves, LeavesRest};
 
-    /// A network in which no guest is known and nothing is owed.
-    pub fn new(c: &SlirpConfig) -> Slirp
-        ensures config { result.config ≡ settings c.now }
-        ensures known { result.known ≡ [] }
-        ensures pending { result.pending ≡ [] }
+    /// A network in which no guest is known and nothing is owed. It takes all the memory that it will ever need.
+    pub fn new(alloc: Global, c: &SlirpConfig) -> Result<Slirp, NoMemory>
+        ensures config { IfOk result (λ slirp. slirp.config ≡ settings c.now) }
+        ensures known { IfOk result (λ slirp. slirp.known ≡ []) }
+        ensures sent { IfOk result (λ slirp. slirp.sent ≡ 0) }
+        ensures pending { IfOk result (λ slirp. slirp.pending ≡ []) }
     {
-        Slirp {
+        let outgoing = Outgoing::open(alloc)?;
+        Ok(Slirp {
             policy: Policy::new(c),
             guests: ArpTable::new(),
-            pending: None,
-        }
+            sent: 0,
+            outgoing,
+        })
     }
 
-    /// Whether a packet is owed that isn't out yet.
+    /// Whether a frame is owed that isn't out yet.
     pub fn pending(&self) -> bool
         ensures { result ≡ nat_lt 0 (length self.now.pending) }
     {
-        self.pending.is_some()
+        self.outgoing.is_some()
     }
 
     /// Takes in a frame: its sender is learnt, and what it asks for is owed from now on.
     pub fn input(&mut self, frame: &[u8])
-        ensures pending { self.new.pending ≡ owed_for_frame self.old.config frame.now }
+        ensures pending { self.new.pending ≡ frames_of self.old.config self.old.sent (owed_for_frame self.old.config frame.now) }
         ensures known { self.new.known ≡ with_ether self.old.config (read_ether frame.now) self.old.known }
         ensures config { self.new.config ≡ self.old.config }
+        ensures sent { self.new.sent ≡ self.old.sent }
     {
-        self.pending = None;
+        self.outgoing.clear();
         let Ok(ether) = ether_frame::decode(frame) else {
             return;
         };
         if ether.kind == ARP {
             self.take_arp(ether.body);
+        } else if ether.kind == IPV4 {
+            self.take_ip(ether.from, ether.body);
         }
     }
 
     // Takes in an ARP packet.
     fn take_arp(&mut self, body: &[u8])
         requires { self.old.pending ≡ [] }
-        ensures pending { self.new.pending ≡ owed_for (owed_for_arp self.old.config) (read_arp body.now) }
+        ensures pending { self.new.pending ≡ frames_of self.old.config self.old.sent (owed_for (owed_for_arp self.old.config) (read_arp body.now)) }
         ensures known { self.new.known ≡ with_arp self.old.config (read_arp body.now) self.old.known }
         ensures config { self.new.config ≡ self.old.config }
+        ensures sent { self.new.sent ≡ self.old.sent }
     {
         let Ok(packet) = arp_table::decode(body) else {
             return;
         };
         self.learn(packet.sender_ip, packet.sender_mac);
-        self.pending = answer(&self.policy, &packet);
+        if let Some(reply) = answer(&self.policy, &packet) {
+            self.outgoing.put_arp(&reply);
+        }
+    }
+
+    // Takes in a datagram that came from this hardware address.
+    fn take_ip(&mut self, mac: Mac, body: &[u8])
+        requires { self.old.pending ≡ [] }
+        ensures pending { self.new.pending ≡ frames_of self.old.config self.old.sent (owed_for (owed_for_ip self.old.config mac.0) (read_ip body.now)) }
+        ensures known { self.new.known ≡ with_ip self.old.config mac.0 (read_ip body.now) self.old.known }
+        ensures config { self.new.config ≡ self.old.config }
+        ensures sent { self.new.sent ≡ self.old.sent }
+    {
+        let Ok(datagram) = ipv4_head::decode(body) else {
+            return;
+        };
+        self.learn(datagram.from, mac);
+        if is_message_to_us(&self.policy, &datagram) {
+            self.take_icmp(mac, &datagram);
+        }
+    }
+
+    // Takes in a datagram with a message to one of ours.
+    fn take_icmp(&mut self, mac: Mac, datagram: &IpView<'_>)
+        requires none { self.old.pending ≡ [] }
+        requires size { length datagram.now.body.now ≤ 1480 }
+        ensures pending { self.new.pending ≡ frames_of self.old.config self.old.sent
+            (owed_for (owed_for_icmp mac.0 (ip_of datagram.now)) (read_icmp datagram.now.body.now)) }
+        ensures same { (self.new.known ≡ self.old.known) × (self.new.config ≡ self.old.config) × (self.new.sent ≡ self.old.sent) }
+    {
+        let Ok(message) = icmp_echo::decode(datagram.body) else {
+            return;
+        };
+        if let Some(reply) = echo_reply(&message) {
+            let course = Course {
+                to_mac: mac,
+                from_mac: our_mac(self.policy.vhost()),
+                ident: self.sent,
+                from: datagram.to,
+                to: datagram.from,
+            };
+            self.outgoing.put_message(&course, &reply);
+        }
     }
 
     // The guest's address is known from now on.
     fn learn(&mut self, ip: Ip4, mac: Mac)
         ensures known { self.new.known ≡ with_pair self.old.config ip.0 mac.0 self.old.known }
-        ensures same { (self.new.config ≡ self.old.config) × (self.new.pending ≡ self.old.pending) }
+        ensures same { (self.new.config ≡ self.old.config) × (self.new.pending ≡ self.old.pending) × (self.new.sent ≡ self.old.sent) }
     {
         if self.policy.is_guest(ip) {
             self.guests.learn(ip, mac);
@@ -155,7 +208,7 @@ impl Slirp {
         outcome(offered, link.blocked())
     }
 
-    // Sends the pending packet.
+    // Sends the pending frame.
     fn pump_pending<W: World>(&mut self, world: &mut W, link: &mut Link) -> Pumped
         requires free { link.old.blocked ≡ false }
         requires none { link.old.tail ≡ [] }
@@ -165,25 +218,28 @@ impl Slirp {
         ensures same { under_way link.new ≡ under_way link.old }
         ensures config { self.new.config ≡ self.old.config }
     {
-        let Some(packet) = self.pending else {
+        if !self.pending() {
             return Pumped::Clear;
-        };
-        let offered = link.offer(world, &arp_frame(&packet));
+        }
+        let offered = link.offer(world, self.outgoing.frame());
         self.settle(offered);
         outcome(offered, link.blocked())
     }
 
-    // The packet is out where something of it was taken.
+    // The frame is out where something of it was taken.
     fn settle(&mut self, offer: Offered)
+        requires { 0 < length self.old.pending }
         ensures pending { self.new.pending ≡ keep offer self.old.pending }
+        ensures sent { self.new.sent ≡ sent_after offer self.old.pending self.old.sent }
         ensures same { (self.new.config ≡ self.old.config) × (self.new.known ≡ self.old.known) }
     {
         if offer == Offered::Taken {
-            self.pending = None;
+            self.sent = self.sent.wrapping_add(datagrams_in(self.outgoing.frame()));
+            self.outgoing.clear();
         }
     }
 
-    /// Sends what is owed, until the link is blocked: the rest of the frame before, then the pending packet.
+    /// Sends what is owed, until the link is blocked: the rest of the frame before, then the pending one.
     pub fn pump<W: World>(&mut self, world: &mut W, link: &mut Link) -> Pumped
         ensures makes { (config : Config) (count : ℕ) → Brings (W.tells world.old) (W.tells world.new)
             (Holds config count self.old link.old) (AfterPump result config count self.new link.new) }
@@ -223,25 +279,37 @@ fn our_mac(address: Ip4) -> Mac
     Mac([0x52, 0x55, a, b, c, d])
 }
 
-// The frame of an ARP packet.
-fn arp_frame(packet: &ArpView) -> [u8; ARP_FRAME]
-    ensures { result ≡ frame_of (packet_of packet.now) }
+// The message that answers an echo request.
+fn echo_reply<'a>(message: &IcmpView<'a>) -> Option<IcmpView<'a>>
+    ensures { result ≡ reply_to message.now }
 {
-    let mut body = [0; 28];
-    let mut frame = [0; ARP_FRAME];
-    if arp_table::encode(packet, &mut body).is_err() {
-        unreachable!()
+    match *message {
+        IcmpView::Echo {
+            reply: false,
+            ident,
+            number,
+            body,
+        } => Some(IcmpView::Echo {
+            reply: true,
+            ident,
+            number,
+            body,
+        }),
+        _ => None,
     }
-    let ether = EtherView {
-        to: packet.target_mac,
-        from: packet.sender_mac,
-        kind: ARP,
-        body: &body,
-    };
-    if ether_frame::encode(&ether, &mut frame).is_err() {
-        unreachable!()
-    }
-    frame
+}
+
+// Whether a datagram is a guest's, to one of ours, whole, with a message whose answer fits a frame.
+fn is_message_to_us(policy: &Policy, datagram: &IpView<'_>) -> bool
+    ensures asked { result ≡ is_message_to_us policy.now (ip_of datagram.now) }
+    ensures size { result ≡ true → length datagram.now.body.now ≤ 1480 }
+{
+    policy.is_guest(datagram.from)
+        && policy.is_ours(datagram.to)
+        && datagram.proto == ICMP
+        && !datagram.more
+        && datagram.offset == 0
+        && datagram.body.len() <= MOST_BODY
 }
 
 // What an offer comes to.

@@ -1,10 +1,7 @@
-use Rattle.std.proofs.Common.{[], Some, refl, sym, ◌∙◌, ap, subst}
+use Rattle.std.proofs.Common.{Some, refl, sym, ◌∙◌, ap, subst}
 use Rattle.world_face.specs.Frames.{LinkEnded, LinkCut, LongFrame, LinkFailed}
 use Rattle.world_face.specs.Tells.{Brings}
 use Rattle.world_face.proofs.Telling.{brings_from}
-use Rattle.ether_frame.specs.Ether.{read_ether}
-use Rattle.slirp_laws.specs.Answers.{owed_for_frame}
-use Rattle.slirp_laws.specs.Guests.{with_ether}
 use Rattle.stream_netdev.specs.declared.Arrived.TheVariants.{Frame, NotYet, End, Cut, TooLong, Failed}
 use Rattle.slirp_core.specs.Holds.{HoldsToRead, AfterTurn}
 use Rattle.slirp_core.specs.Served.{ServiceState}
@@ -21,7 +18,7 @@ returns-in-Frame-clause-makes g c config count =
     let none = ap (λ (s : ServiceState). s.slirp.pending) c.self.view_is ∙ c.requires.none in
     let out = ap (λ (s : ServiceState). s.link.tail) c.self.view_is ∙ c.requires.rest in
     subst (λ (s : ServiceState). Brings (g.W.World.tells c.args.world.now) (g.W.World.tells new.world) (HoldsToRead config count s.slirp s.link) (AfterTurn (Again) config count c.input.new.self new.self)) c.self.view_is
-    (brings_from c.in-Frame.ensures.makes (λ made read past holds. taken_in config count slirp link new.self Frame none out made past read holds c.input.new.self c.frame.result.now (ap Some (sym c.frame.ensures)) refl c.input.ensures.config c.input.ensures.pending c.input.ensures.known))
+    (brings_from c.in-Frame.ensures.makes (λ made read past holds. taken_in config count slirp link new.self Frame none out made past read holds c.input.new.self c.frame.result.now (ap Some (sym c.frame.ensures)) refl c.input.ensures.config c.input.ensures.sent c.input.ensures.pending c.input.ensures.known))
 
 pub returns-in-NotYet-clause-makes : goal.returns-in-NotYet-clause-makes
 returns-in-NotYet-clause-makes g c config count =

@@ -1,9 +1,9 @@
-use Rattle.std.proofs.Common.{◌≡◌, ℕ, ◌<◌, ◌≤◌, refl, ◌∙◌, ap, subst}
+use Rattle.std.proofs.Common.{◌<◌, ◌≤◌, refl, ◌∙◌, ap, subst}
 use Rattle.world_face.proofs.Telling.{makes_one, makes_as, makes_from}
 use Rattle.host_policy.specs.Addresses.{Config}
 use Rattle.slirp_core.specs.Served.{ServiceState}
 use Rattle.slirp_core.specs.declared.service.End.TheVariants.{TurnsSpent}
-use Rattle.slirp_core.proofs.Serving.{Ran, started, ran, spent, told, reads_new}
+use Rattle.slirp_core.proofs.Serving.{started, ran, spent, told, reads_new}
 use Rattle.slirp_core.proofs.service.Service.serve.Goals as goal
 
 pub loop-count-init : goal.loop-count-init

@@ -1,7 +1,6 @@
 use Rattle.std.proofs.Common.{◌∙◌, ap, sym}
 use Rattle.world_face.proofs.Telling.{brings_from}
 use Rattle.slirp_core.specs.Pumps.{pumped_of}
-use Rattle.slirp_core.specs.Packets.{packet_of, packets_of}
 use Rattle.slirp_core.specs.State.{SlirpState}
 use Rattle.slirp_core.proofs.Pumping.{after_offer}
 use Rattle.slirp_core.proofs.slirp.Slirp.pump_pending.Goals as goal
@@ -12,5 +11,5 @@ returns-clause-makes g c config count =
     let new = c.offer-offered.new.self in
     let comes = c.outcome.ensures ∙ ap (pumped_of c.offer-offered.result) c.blocked.ensures in
     brings_from c.offer-offered.ensures.makes (λ made writes past holds.
-    after_offer config count c.args.self.now c.settle.new.self old new made past c.arp_frame.result (packet_of c.in-Some.packet) c.offer-offered.result c.outcome.result c.requires.none
-    (sym (ap (λ (s : SlirpState). s.pending) c.self.view_is) ∙ ap packets_of c.in-Some.is) c.arp_frame.ensures writes.0 writes.1 comes c.settle.ensures.pending c.settle.ensures.same.0 c.settle.ensures.same.1 holds)
+    after_offer config count c.args.self.now c.settle.new.self old new made past c.frame.result.now c.offer-offered.result c.outcome.result c.requires.none
+    (sym (ap (λ (s : SlirpState). s.pending) c.self.view_is) ∙ c.frame.ensures.frame) writes.0 writes.1 comes c.settle.ensures.pending c.settle.ensures.sent c.settle.ensures.same.0 c.settle.ensures.same.1 holds)

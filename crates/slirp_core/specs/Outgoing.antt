@@ -1,0 +1,19 @@
+-- The frame that isn't out yet.
+use Rattle.std.specs.Prelude.{ℕ, ◌+◌, ◌%◌, ◌^◌, ◌==◌, List, [], ◌∷◌, take, if◌then◌else◌}
+use Rattle.slirp_laws.specs.Answers.{datagrams_in}
+use Rattle.stream_netdev.specs.declared.Offered.{Offered}
+use Rattle.stream_netdev.specs.declared.Offered.TheVariants.{Taken, Blocked, Failed}
+
+-- a frame of this length at the front of the octets, or none
+abbrev pub frames_in : ℕ → List ℕ → List (List ℕ)
+frames_in length octets = if length == 0 then [] else take length octets ∷ []
+
+-- the identification after a frame was offered
+abbrev pub sent_with : List (List ℕ) → ℕ → ℕ
+sent_with [] sent = sent
+sent_with (frame ∷ frames) sent = (datagrams_in frame + sent) % 2 ^ 16
+
+abbrev pub sent_after : Offered → List (List ℕ) → ℕ → ℕ
+sent_after Taken pending sent = sent_with pending sent
+sent_after Blocked pending sent = sent
+sent_after Failed pending sent = sent
