@@ -8,7 +8,7 @@ use Rattle.replay.specs.Script.{Script, script_tells, newest_onto, schedule_text
 use Rattle.replay.specs.Names.{name_of}
 use Rattle.replay.specs.Fitting.{FitsNext, Advances, Ceases, raise, raised, counted, has_failed}
 
-one_more : (n : ℕ) (lines older : List Entry) (e : Entry) → slice_get lines n ≡ Some e → newest_onto (suc n) lines older ≡ e ∷ newest_onto n lines older
+pub one_more : (n : ℕ) (lines older : List Entry) (e : Entry) → slice_get lines n ≡ Some e → newest_onto (suc n) lines older ≡ e ∷ newest_onto n lines older
 one_more zero [] older e is = cc
 one_more zero (l ∷ lines) older e is = let same : l ≡ e = cc in ap (λ x. x ∷ older) same
 one_more (suc n) [] older e is = cc

@@ -1,7 +1,7 @@
 -- How a World that answers by a schedule goes on at a call.
-use Rattle.std.specs.Prelude.{◌≡◌, ℕ, ◌+◌, ◌||◌, Bool, true, false, List, Option, Some, min, max, slice_get, if◌then◌else◌}
+use Rattle.std.specs.Prelude.{◌≡◌, ℕ, ◌+◌, ◌||◌, Bool, true, false, List, Option, Some, min, max, slice_get, if◌then◌else◌, [], ◌∷◌}
 use Rattle.std.specs.Option.{option_map}
-use Rattle.world_face.specs.Journal.{Entry, Call, call_of, Allowed}
+use Rattle.world_face.specs.Journal.{Entry, Now as EntryNow, Call, call_of, Allowed}
 use Rattle.world_face.specs.Tells.{Counts}
 use Rattle.world_face.specs.Faults.{link_failed, wait_failed, socket_failed, file_failed}
 use Rattle.world_face.specs.Limits.{last_count}
@@ -78,3 +78,12 @@ pub record Ceases (old new : Script) (call : Call) : Type 0 where
 -- where the schedule was left: the line after those used up, the call that fitted none, and the call of that line
 abbrev pub divergence_of : Script → Option Divergence
 divergence_of script = option_map (λ call. record { line = script.used + 1; made = name_of call; wanted = option_map (λ e. name_of (call_of e)) (slice_get script.lines script.used) }) script.stop
+
+-- the moment after an entry, and after a record of calls
+abbrev pub moment_after : Entry → ℕ → ℕ
+moment_after (EntryNow moment) before = moment
+moment_after _ before = before
+
+abbrev pub last_moment : List Entry → ℕ
+last_moment [] = 0
+last_moment (e ∷ past) = moment_after e (last_moment past)

@@ -3,7 +3,7 @@ ghost use Rattle.std.specs.Prelude.{◌≡◌};
 ghost use Rattle.world_face.specs.Journal.{call_of};
 ghost use Rattle.replay.specs.Lines.{entry_of};
 ghost use Rattle.replay.specs.Names.{name_of};
-ghost use Rattle.replay.specs.Fitting.{has_failed};
+ghost use Rattle.replay.specs.Fitting.{has_failed, moment_after};
 
 use crate::CallName;
 use world_face::{Accepted, Endpoint, FileSize, Got, Io, Joined, Made, Sent, Waited, Want};
@@ -85,6 +85,16 @@ pub fn name_of(line: &Line) -> CallName
         Line::UdpRecv(_, _, _, _) => CallName::UdpRecv,
         Line::FileLen(_, _) => CallName::FileLen,
         Line::FileRead(_, _, _, _, _) => CallName::FileRead,
+    }
+}
+
+// The moment after it.
+pub fn moment_after(line: &Line, before: u64) -> u64
+    ensures { result ≡ moment_after (entry_of line.now) before }
+{
+    match line {
+        Line::Now(moment) => *moment,
+        _ => before,
     }
 }
 

@@ -10,7 +10,7 @@ ghost use Rattle.replay.specs.Lines.{place_at, entries_of};
 ghost use Rattle.replay.specs.Script.{schedule_text};
 ghost use Rattle.replay.specs.Fitting.{raise};
 
-use crate::line::{Line, Seat, Stop, has_failed, name_of};
+use crate::line::{Line, Seat, Stop, has_failed, moment_after, name_of};
 use crate::printing::put_lines;
 use crate::reading::read_line;
 use crate::tokens::{Unread, split_at};
@@ -46,14 +46,14 @@ pub struct ScriptWorld {
 }
 
 impl Model for ScriptWorld {
-    ghost use Rattle.std.specs.Prelude.{◌≤◌, length, is_none};
+    ghost use Rattle.std.specs.Prelude.{◌≡◌, ◌≤◌, [], length, is_none};
     ghost use Rattle.std.specs.Vec.{vec_capacity};
-    ghost use Rattle.replay.specs.Script.{Script};
+    ghost use Rattle.replay.specs.Script.{Script, newest_onto};
 
     ghost Value = { Script };
 
     ghost use Rattle.replay.specs.Lines.{entries_of, stop_of};
-    ghost use Rattle.replay.specs.Fitting.{StopsRightly};
+    ghost use Rattle.replay.specs.Fitting.{StopsRightly, last_moment};
 
     ghost view = { λ w. record {
       lines = entries_of w.lines.items;
@@ -64,7 +64,8 @@ impl Model for ScriptWorld {
     } };
 
     ghost invariant = { λ w. (w.used ≤ length w.lines.items) × (length w.lines.items ≤ 67108864) × (65507 ≤ vec_capacity w.octets) × (5155 ≤ vec_capacity w.wants)
-        × StopsRightly (entries_of w.lines.items) w.used (stop_of w.stop w.octets.items w.wants.items) };
+        × StopsRightly (entries_of w.lines.items) w.used (stop_of w.stop w.octets.items w.wants.items)
+        × (w.moment ≡ last_moment (newest_onto w.used (entries_of w.lines.items) [])) };
 }
 
 fn may_read(asked: usize, answer: Io, len: usize) -> bool
@@ -362,10 +363,20 @@ impl ScriptWorld {
         let line = &self.lines[self.used];
         let name = name_of(line);
         let failed = has_failed(line);
-        self.used += 1;
+        self.go_on();
         if failed {
             self.count(name);
         }
+    }
+
+    // The next line is used up, and its moment is the last.
+    fn go_on(&mut self)
+        requires within { self.old.used < length self.old.lines }
+        requires live { self.old.live ≡ true }
+        ensures { self.new ≡ record self.old { used = self.old.used + 1 } }
+    {
+        self.moment = moment_after(&self.lines[self.used], self.moment);
+        self.used += 1;
     }
 
     // Ceases at this call, with its octets and its wants, unless it had ceased before.
@@ -625,14 +636,21 @@ impl ScriptWorld {
 
 impl World for ScriptWorld {
     ghost use Rattle.replay.specs.Script.{script_tells};
+    ghost use Rattle.std.specs.Prelude.{false};
+    ghost use Rattle.world_face.specs.Journal.{Now};
+    ghost use Rattle.world_face.specs.Tells.{Answers};
+    ghost use Rattle.replay.specs.Fitting.{last_moment};
 
     ghost tells = { script_tells };
 
-    fn now(&mut self) -> u64 {
+    /// Where no line answers it is the last moment that one told, or 0.
+    fn now(&mut self) -> u64
+        ensures answers { Answers (script_tells self.old) (script_tells self.new) (Now result) }
+        ensures last { self.new.live ≡ false → result ≡ last_moment (script_tells self.new).kept }
+    {
         match self.next_now() {
             Some(moment) => {
                 self.advance();
-                self.moment = moment;
                 moment
             }
             None => {

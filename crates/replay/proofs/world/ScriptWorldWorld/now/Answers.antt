@@ -1,16 +1,24 @@
-use Rattle.std.proofs.Common.{rules, sym, subst}
+use Rattle.std.proofs.Common.{[], rules, sym, ◌∙◌, ap}
 use Rattle.world_face.specs.Journal.{Allowed, Now}
-use Rattle.world_face.specs.Tells.{Answers}
-use Rattle.replay.specs.Script.{Script, script_tells}
+use Rattle.replay.specs.Script.{Script, newest_onto}
+use Rattle.replay.specs.Fitting.{last_moment}
 use Rattle.replay.proofs.Following.{fits, ceases}
 use Rattle.replay.proofs.world.ScriptWorldWorld.now.Goals as goal
 
-pub returns-in-Some : goal.returns-in-Some
-returns-in-Some c =
-    subst (λ (s : Script). Answers (script_tells c.args.self.now) (script_tells s) (Now c.in-Some.moment)) (sym c.self.view_is)
-    (fits c.args.self.now c.advance.new.self (Now c.in-Some.moment) c.in-Some.ensures.found c.advance.ensures)
+pub returns-in-Some-clause-answers : goal.returns-in-Some-clause-answers
+returns-in-Some-clause-answers c =
+    fits c.args.self.now c.advance.new.self (Now c.in-Some.moment) c.in-Some.ensures.found c.advance.ensures
 
-pub returns-in-None : goal.returns-in-None
-returns-in-None c =
-    let allowed : Allowed (Now c.self-in-None.inside.moment) = search rules in
-    ceases c.args.self.now c.cease.new.self (Now c.self-in-None.inside.moment) allowed c.cease.ensures.ceases
+pub returns-in-None-clause-answers : goal.returns-in-None-clause-answers
+returns-in-None-clause-answers c =
+    let allowed : Allowed (Now c.self.inside.moment) = search rules in
+    ceases c.args.self.now c.cease.new.self (Now c.self.inside.moment) allowed c.cease.ensures.ceases
+
+pub returns-in-Some-clause-last : goal.returns-in-Some-clause-last
+returns-in-Some-clause-last c = λ dead.
+    let to = c.advance.ensures (Now c.in-Some.moment) c.in-Some.ensures.found.next in
+    absurd (cc (sym (to.live ∙ c.in-Some.ensures.found.live) ∙ dead))
+
+pub returns-in-None-clause-last : goal.returns-in-None-clause-last
+returns-in-None-clause-last c = λ dead.
+    c.self.invariant.5 ∙ ap (λ (s : Script). last_moment (newest_onto s.used s.lines [])) c.self.view_is

@@ -1,0 +1,237 @@
+//! The receiving half of a TCP connection: which octets of a segment come next, whether its FIN is
+//! the end of the stream, and whether an acknowledgement is owed (RFC 9293, 3.10.7.4).
+#![tactic(auto)]
+
+ghost use Rattle.std.specs.Prelude.{◌≡◌, ◌+◌, ◌-◌, ◌^◌, ◌<◌, ◌≤◌, ◌++◌, length, take, min, pos, ◌+ℤ◌, ◌<ℤ◌, ◌≤ℤ◌, IsTrue, ◌↔◌, ◌⊎◌, ◌||◌, false};
+ghost use Rattle.seq_space.specs.Places.{place as place_of};
+ghost use Rattle.tcp_receive.specs.Received.{received, next_number, next_octets, octets_from, places_taken, IsAckOwed, IsEndTaken};
+
+use seq_space::{Seq, nearest, number_at};
+use sock_buffers::Up;
+use std::marker::Model;
+
+/// What has been taken of a guest's stream. A contract sees the number of the guest's SYN, the
+/// count of octets that were taken, and whether the end was.
+#[derive(Drop)]
+pub struct Receive {
+    first: Seq,
+    taken: u64,
+    ended: bool,
+}
+
+impl Model for Receive {
+    ghost use Rattle.tcp_receive.specs.Received.{Received, received};
+
+    ghost Value = { Received };
+
+    ghost view = { λ r. received r.first.0 r.taken r.ended };
+}
+
+/// What was taken of a segment: the count of its octets, whether its FIN was, and whether an
+/// acknowledgement is owed for it.
+#[derive(Clone, Copy, Debug, PartialEq, Eq)]
+pub struct Took {
+    pub octets: usize,
+    pub fin: bool,
+    pub ack_owed: bool,
+}
+
+impl Receive {
+    /// The stream whose SYN has the number `first`, of which nothing is taken yet.
+    pub fn new(first: Seq) -> Receive
+        ensures { result ≡ received first.0 0 false }
+    {
+        Receive {
+            first,
+            taken: 0,
+            ended: false,
+        }
+    }
+
+    /// A segment arrived. Takes into `up` those of its octets that come next and fit, none once the
+    /// end was taken, and takes its FIN where every octet before it is taken. A FIN needs no room.
+    /// Octets past a gap are not kept.
+    pub fn arrive(&mut self, up: &mut Up, seq: Seq, octets: &[u8], fin: bool) -> Took
+        requires { self.old.taken + length octets.now < 2 ^ 62 }
+        ensures octets { let next = next_octets self.old seq.0 octets.now in
+            result.octets ≡ min (length next) (up.old.size - length up.old.held) }
+        ensures few { result.octets ≤ length octets.now }
+        ensures appended { let next = next_octets self.old seq.0 octets.now in
+            up.new ≡ record up.old { held = up.old.held ++ take result.octets next } }
+        ensures fin { let taken_now = self.old.taken + result.octets in
+            IsTrue result.fin ↔ IsEndTaken self.old seq.0 octets.now fin taken_now }
+        ensures taken { self.new ≡ record self.old {
+          taken = self.old.taken + result.octets;
+          ended = self.old.ended || result.fin;
+        } }
+        ensures ack_owed { IsTrue result.ack_owed ↔ IsAckOwed self.old seq.0 octets.now fin }
+    {
+        let carries = !octets.is_empty() || fin;
+        let ack_owed = is_ack_owed(self.first, seq, self.taken, self.places(), carries);
+        if self.ended {
+            return Took {
+                octets: 0,
+                fin: false,
+                ack_owed,
+            };
+        }
+        let place = nearest(seq, self.first, self.taken);
+        let count = up.take(from_place(octets, place, self.taken));
+        self.taken += count as u64;
+        self.ended = fin && place + octets.len() as i64 == self.taken as i64;
+        Took {
+            octets: count,
+            fin: self.ended,
+            ack_owed,
+        }
+    }
+
+    /// The number that comes next, and so the one to acknowledge.
+    pub fn expected(&self) -> Seq
+        requires { self.now.taken < 2 ^ 62 }
+        ensures { result.0 ≡ next_number self.now }
+    {
+        number_at(self.first, self.places())
+    }
+
+    /// Whether the end was taken.
+    pub fn ended(&self) -> bool
+        ensures { result ≡ self.now.ended }
+    {
+        self.ended
+    }
+
+    /// How many places were taken, the end counted as one.
+    fn places(&self) -> u64
+        requires { self.now.taken < 2 ^ 62 }
+        ensures { result ≡ places_taken self.now }
+    {
+        self.taken + u64::from(self.ended)
+    }
+}
+
+/// Whether an acknowledgement is owed: what carries octets or a FIN owes one, and so does a number
+/// before the next expected one.
+fn is_ack_owed(first: Seq, seq: Seq, taken: u64, places: u64, carries: bool) -> bool
+    requires taken { taken ≤ 2 ^ 62 }
+    requires places { places ≤ 2 ^ 62 }
+    ensures { IsTrue result ↔ (IsTrue carries ⊎ (place_of seq.0 first.0 taken <ℤ pos places)) }
+{
+    carries || nearest(seq, first, taken) < places as i64
+}
+
+/// Of octets that begin at `place`, those from the place `taken` on; none where one before them is
+/// missing.
+fn from_place(octets: &[u8], place: i64, taken: u64) -> &[u8]
+    requires low { pos 0 ≤ℤ (place +ℤ pos (2 ^ 32)) }
+    requires taken { taken < 2 ^ 62 }
+    ensures { result.now ≡ octets_from place octets.now taken }
+{
+    let at = taken as i64;
+    if place > at {
+        return &octets[octets.len()..];
+    }
+    let skip = ((at - place) as usize).min(octets.len());
+    &octets[skip..]
+}
+
+#[cfg(test)]
+mod tests {
+    use super::*;
+    use std::test::Fail;
+
+    #[test]
+    fn twelve_octets_past_the_wrap(rt: HostRuntime) -> Result<(), Fail> {
+        let mut up = Up::open(rt.alloc(), 65_535)?;
+        let mut receive = Receive::new(Seq(0xFFFF_FFFB));
+        receive.arrive(&mut up, Seq(0xFFFF_FFFC), b"twelve octet", false);
+        assert_eq!(rt; receive.expected(), Seq(8));
+        assert_eq!(rt; up.held(), 12);
+        Ok(())
+    }
+
+    #[test]
+    fn octets_that_come_again_are_taken_once(rt: HostRuntime) -> Result<(), Fail> {
+        let mut up = Up::open(rt.alloc(), 65_535)?;
+        let mut receive = Receive::new(Seq(100));
+        receive.arrive(&mut up, Seq(101), b"0123456789", false);
+        assert_eq!(rt; receive.expected(), Seq(111));
+        receive.arrive(&mut up, Seq(101), b"0123456789", false);
+        receive.arrive(&mut up, Seq(101), b"0123456789", false);
+        assert_eq!(rt; receive.expected(), Seq(111));
+        receive.arrive(&mut up, Seq(107), b"6789abcd", false);
+        assert_eq!(rt; receive.expected(), Seq(115));
+        let probe = receive.arrive(&mut up, Seq(114), b"", false);
+        assert_eq!(rt;
+            probe,
+            Took {
+                octets: 0,
+                fin: false,
+                ack_owed: true
+            }
+        );
+        assert_eq!(rt; receive.expected(), Seq(115));
+        let mut piece = [0; 20];
+        assert_eq!(rt; up.front_piece(&mut piece), 14);
+        assert_eq!(rt; piece, *b"0123456789abcd\0\0\0\0\0\0");
+        Ok(())
+    }
+
+    #[test]
+    fn a_segment_fits_in_part(rt: HostRuntime) -> Result<(), Fail> {
+        let mut up = Up::open(rt.alloc(), 5)?;
+        let mut receive = Receive::new(Seq(100));
+        let took = receive.arrive(&mut up, Seq(101), b"01234567", true);
+        assert_eq!(rt;
+            took,
+            Took {
+                octets: 5,
+                fin: false,
+                ack_owed: true
+            }
+        );
+        assert_eq!(rt; receive.expected(), Seq(106));
+        up.written(up.held());
+        let took = receive.arrive(&mut up, Seq(101), b"01234567", true);
+        assert_eq!(rt;
+            took,
+            Took {
+                octets: 3,
+                fin: true,
+                ack_owed: true
+            }
+        );
+        assert_eq!(rt; receive.expected(), Seq(110));
+        Ok(())
+    }
+
+    #[test]
+    fn a_fin_waits_for_the_gap(rt: HostRuntime) -> Result<(), Fail> {
+        let mut up = Up::open(rt.alloc(), 6)?;
+        let mut receive = Receive::new(Seq(100));
+        let took = receive.arrive(&mut up, Seq(104), b"345", true);
+        assert_eq!(rt;
+            took,
+            Took {
+                octets: 0,
+                fin: false,
+                ack_owed: true
+            }
+        );
+        assert_eq!(rt; receive.expected(), Seq(101));
+        receive.arrive(&mut up, Seq(101), b"012", false);
+        assert!(rt; !receive.ended());
+        let took = receive.arrive(&mut up, Seq(104), b"345", true);
+        assert_eq!(rt;
+            took,
+            Took {
+                octets: 3,
+                fin: true,
+                ack_owed: true
+            }
+        );
+        assert_eq!(rt; receive.expected(), Seq(108));
+        assert!(rt; receive.ended());
+        Ok(())
+    }
+}
