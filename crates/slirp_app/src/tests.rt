@@ -84,6 +84,22 @@ fn one_for_another_guest_is_not(rt: HostRuntime) -> Result<(), Fail> {
     Ok(())
 }
 
+const PING: &str =
+    "lread 4 = done 0000002c\nlread 44 = done 52550a00020252540012345608004500001e00040000400162cb0a00020f0a00020208008f940001000168";
+
+const PONG: &str =
+    "lwrite 0000002c52540012345652550a00020208004500001e00000000400162cf0a0002020a00020f00009794000100016869 = done 48\n";
+
+#[test]
+fn a_ping_is_answered_and_a_changed_one_is_not(rt: HostRuntime) -> Result<(), Fail> {
+    let schedule = format!(in rt.alloc();
+        "{BEGINS}{PING}69\n{PONG}wait - link:r = ready link:r\nnow = 6\n{PING}6a\nwait - link:r = stop\n"
+    )?;
+    let out = format!(in rt.alloc(); "{schedule}end 0\n")?;
+    assert!(rt; gives(rt.alloc(), schedule.as_str(), 0, out.as_str(), "")?);
+    Ok(())
+}
+
 #[test]
 fn words_without_a_reading(rt: HostRuntime) -> Result<(), Fail> {
     let usage =
