@@ -1,4 +1,5 @@
 pub mod Calls
+pub mod Lawful
 pub mod Lines
 pub mod Parting
 pub mod Tokens
