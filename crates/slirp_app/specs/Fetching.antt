@@ -1,6 +1,8 @@
 -- The calls on the outer World by which a file is read.
-use Rattle.std.specs.Prelude.{◌≡◌, ℕ, ◌-◌, ◌<◌, ◌≤◌, min, List, [], ◌∷◌, ◌++◌, length, take, Option, None, Some, IsSomeAnd}
+use Rattle.std.specs.Prelude.{◌≡◌, ℕ, ◌-◌, ◌<◌, ◌≤◌, min, List, [], ◌∷◌, ◌++◌, length, take, nat_lt, ◌==◌, ◌||◌, not, Bool, true, false, IsTrue, Option, None, Some, IsSomeAnd}
 use Rattle.world_face.specs.Journal.{Entry, Follows, FileLen, FileRead, Call, CallFileLen, CallFileRead}
+use Rattle.world_face.specs.declared.Io.{Io}
+use Rattle.world_face.specs.declared.Io.TheVariants.{Done}
 use Rattle.world_face.specs.declared.FileSize.{FileSize}
 use Rattle.world_face.specs.declared.FileSize.TheVariants.{Length, Missing, Failed}
 
@@ -31,3 +33,34 @@ MayFetch name past _ = ⊥
 -- the octets up to a place were read
 abbrev pub Fetched : (name : List ℕ) (whole have : ℕ) (octets : List ℕ) → List Entry → Type 0
 Fetched name whole have octets past = Follows (MayFetch name) past × (file_length past ≡ Some whole) × (octets_read past ≡ take have octets)
+
+-- as many octets were read as the length said
+abbrev pub IsWhole : List Entry → Type 0
+IsWhole past = file_length past ≡ Some (length (octets_read past))
+
+-- the file isn't there, is longer than 64 MiB, ended before its length, or a call on it failed
+abbrev pub is_unmeasured : FileSize → Bool
+is_unmeasured (Length n) = nat_lt 67108864 n
+is_unmeasured Missing = true
+is_unmeasured Failed = true
+
+abbrev pub is_unread : Io → Bool
+is_unread (Done n) = false
+is_unread _ = true
+
+abbrev pub is_unreadable : List Entry → Bool
+is_unreadable (FileLen name answer ∷ past) = is_unmeasured answer
+is_unreadable (FileRead name place asked answer octets ∷ past) = is_unread answer
+is_unreadable _ = false
+
+abbrev pub IsUnreadable : List Entry → Type 0
+IsUnreadable past = is_unreadable past ≡ true
+
+-- FILE was read to its end: not where the words have no reading, where FILE has none, and where there was no memory
+abbrev pub is_read : ℕ → Bool
+is_read status = not ((status == 1) || (status == 3) || (status == 13))
+
+-- what the status tells of how FILE was read
+pub record FetchedBy (status : ℕ) (made : List Entry) : Type 0 where
+  pub unreadable : status ≡ 3 → IsUnreadable made
+  pub whole : IsTrue (is_read status) → IsWhole made

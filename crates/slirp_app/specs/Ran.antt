@@ -1,6 +1,7 @@
 -- What a replay did.
-use Rattle.std.specs.Prelude.{◌≡◌, ◌≢◌, ℕ, List, [], ◌∷◌, ◌++◌, codes, decimal, Option, MatchOption}
+use Rattle.std.specs.Prelude.{◌≡◌, ◌≢◌, ℕ, ◌+◌, ◌≤◌, min, List, [], ◌∷◌, ◌++◌, codes, decimal, Option, MatchOption}
 use Rattle.world_face.specs.Journal.{Entry, Call, AreAllowed, Follows}
+use Rattle.world_face.specs.Limits.{last_count}
 use Rattle.world_face.specs.Puts.{added}
 use Rattle.host_policy.specs.Settings.{usual}
 use Rattle.slirp_laws.specs.Laws.{May, Lawful}
@@ -14,6 +15,10 @@ use Rattle.slirp_app.specs.Words.{file_of}
 -- on the outer World only the named file is read, and nothing at all where the words have no reading
 abbrev pub FetchesFile : List (List ℕ) → List Entry → Type 0
 FetchesFile words made = MatchOption (file_of words) (made ≡ []) (λ name. Follows (MayFetch name) made)
+
+-- a count of faults rose, if it wasn't at its last
+abbrev pub Rose : (old new : ℕ) → Type 0
+Rose old new = min last_count (old + 1) ≤ new
 
 -- the last line of a transcript
 abbrev pub end_line : ℕ → List ℕ

@@ -1,9 +1,9 @@
 // The schedule's octets, through the outer World.
-ghost use Rattle.std.specs.Prelude.{◌≡◌, ℕ, ◌+◌, ◌<◌, ◌≤◌, ◌++◌, List, IfOk, length, take};
-ghost use Rattle.std.specs.Bool.{OnTrue};
+ghost use Rattle.std.specs.Prelude.{◌≡◌, ℕ, ◌+◌, ◌<◌, ◌≤◌, ◌++◌, List, IfOk, IfErr, IfSome, MatchOption, true, length, take};
+ghost use Rattle.std.specs.Bool.{MatchBool};
 ghost use Rattle.world_face.specs.Journal.{Follows, FileRead, count_of};
 ghost use Rattle.world_face.specs.Tells.{Makes, Brings, Answers};
-ghost use Rattle.slirp_app.specs.Fetching.{MayFetch, Fetched, octets_read};
+ghost use Rattle.slirp_app.specs.Fetching.{MayFetch, Fetched, IsWhole, IsUnreadable, is_unmeasured, octets_read};
 
 use std::alloc::Global;
 use world_face::{FileSize, Io, World};
@@ -26,12 +26,12 @@ pub enum Unread {
 pub fn read_file<W: World>(alloc: Global, world: &mut W, name: &str) -> Result<Vec<u8>, Unread>
     requires some { 0 < length name.now }
     requires fits { length name.now ≤ 1280 }
-    ensures makes { Makes (W.tells world.old) (W.tells world.new) (λ made. Follows (MayFetch name.now) made × IfOk result (λ octets. octets.items ≡ octets_read made)) }
+    ensures makes { Makes (W.tells world.old) (W.tells world.new) (λ made. Follows (MayFetch name.now) made
+        × IfOk result (λ octets. (octets.items ≡ octets_read made) × IsWhole made) × IfErr result (λ fault. fault ≡ Unread.Unreadable → IsUnreadable made)) }
     ensures few { IfOk result (λ octets. length octets.items ≤ 67108864) }
 {
-    let length = match world.file_len(name) {
-        FileSize::Length(length) if length <= MOST_OCTETS => length as usize,
-        _ => return Err(Unread::Unreadable),
+    let Some(length) = measured(world.file_len(name)) else {
+        return Err(Unread::Unreadable);
     };
     let Ok(mut octets) = vec![in alloc; 0; length] else {
         return Err(Unread::NoMemory);
@@ -43,20 +43,31 @@ pub fn read_file<W: World>(alloc: Global, world: &mut W, name: &str) -> Result<V
     }
 }
 
+// The length of a file that can be read.
+fn measured(size: FileSize) -> Option<usize>
+    ensures length { MatchOption result (is_unmeasured size ≡ true) (λ length. size ≡ FileSize.Length length) }
+    ensures few { IfSome result (λ length. length ≤ 67108864) }
+{
+    match size {
+        FileSize::Length(length) if length <= MOST_OCTETS => Some(length as usize),
+        _ => None,
+    }
+}
+
 // Reads all octets of a file whose length was asked.
 fn fetch<W: World>(world: &mut W, name: &str, octets: &mut [u8]) -> bool
     requires some { 0 < length name.now }
     requires fits { length name.now ≤ 1280 }
     requires few { length octets.old ≤ 67108864 }
     ensures brings { Brings (W.tells world.old) (W.tells world.new) (Fetched name.now (length octets.old) 0 octets.old)
-        (λ past. Follows (MayFetch name.now) past × OnTrue result (octets.new ≡ octets_read past)) }
+        (λ past. Follows (MayFetch name.now) past × MatchBool result ((octets.new ≡ octets_read past) × IsWhole past) (IsUnreadable past)) }
 {
     let mut have = 0;
     while have < octets.len() {
         let asked = (octets.len() - have).min(MOST_READ);
         match read_part(world, name, octets, have, asked) {
             Io::Done(count) => have += count,
-            _ => return false,
+            Io::End | Io::NotYet | Io::Failed => return false,
         }
     }
     true

@@ -1,13 +1,13 @@
 // The program's main call.
-ghost use Rattle.std.specs.Prelude.{◌≡◌, ◌++◌, ◌≤◌, ◌<◌, IsTrue, length, map, if◌then◌else◌};
+ghost use Rattle.std.specs.Prelude.{◌≡◌, ◌++◌, ◌≤◌, ◌<◌, ◌↔◌, None, IsTrue, length, map, if◌then◌else◌};
 ghost use Rattle.std.specs.Option.{option_copied};
 ghost use Rattle.std.specs.String.{string_bytes};
 ghost use Rattle.world_face.specs.Journal.{Follows};
 ghost use Rattle.world_face.specs.Tells.{Makes};
 ghost use Rattle.replay.specs.Script.{IsFresh, schedule_text, script_tells};
 ghost use Rattle.replay.specs.Text.{text};
-ghost use Rattle.slirp_app.specs.Fetching.{MayFetch, octets_read};
-ghost use Rattle.slirp_app.specs.Ran.{FetchesFile, Replayed, end_line};
+ghost use Rattle.slirp_app.specs.Fetching.{MayFetch, FetchedBy, octets_read};
+ghost use Rattle.slirp_app.specs.Ran.{FetchesFile, Replayed, Rose, end_line};
 ghost use Rattle.slirp_app.specs.Statuses.{code_of, outcome_of, is_run, is_unrun};
 ghost use Rattle.slirp_app.specs.Words.{file_of, is_file};
 ghost use Rattle.world_face.specs.Puts.{Puts};
@@ -32,9 +32,13 @@ pub fn slirp_main<W: World, K: Sink, E: Sink>(
 ) -> u8
     // With words that have no reading no call is made on the outer World; else only FILE is read. A run's record is lawful and fits what was read.
     ensures calls { Makes (W.tells world.old) (W.tells world.new) (λ made. FetchesFile (map string_bytes words.now.items) made
-        × (IsTrue (is_run result) → Replayed result (octets_read made) (K.holds out.old) (K.holds out.new))) }
+        × FetchedBy result made × (IsTrue (is_run result) → Replayed result (octets_read made) (K.holds out.old) (K.holds out.new))) }
     // Where nothing was run nothing was put.
     ensures nothing { IsTrue (is_unrun result) → K.holds out.new ≡ K.holds out.old }
+    // The status is 1 exactly where the words have no reading.
+    ensures usage { (result ≡ 1) ↔ (file_of (map string_bytes words.now.items) ≡ None) }
+    // It is 12 only where a put to `out` failed.
+    ensures refused { result ≡ 12 → Rose (K.faults out.old) (K.faults out.new) }
 {
     let outcome = run_words(alloc, words, world, out);
     let _told = outcome.tell(err);
@@ -46,8 +50,10 @@ fn replay_file<W: World, K: Sink>(alloc: Global, name: &str, world: &mut W, out:
     requires some { 0 < length name.now }
     requires fits { length name.now ≤ 1280 }
     ensures calls { Makes (W.tells world.old) (W.tells world.new) (λ made. Follows (MayFetch name.now) made
-        × (IsTrue (is_run (code_of result)) → Replayed (code_of result) (octets_read made) (K.holds out.old) (K.holds out.new))) }
+        × FetchedBy (code_of result) made × (IsTrue (is_run (code_of result)) → Replayed (code_of result) (octets_read made) (K.holds out.old) (K.holds out.new))) }
     ensures nothing { IsTrue (is_unrun (code_of result)) → K.holds out.new ≡ K.holds out.old }
+    ensures read { code_of result ≡ 1 → ⊥ }
+    ensures refused { code_of result ≡ 12 → Rose (K.faults out.old) (K.faults out.new) }
 {
     match read_file(alloc, world, name) {
         Ok(octets) => replay(alloc, octets, out),
@@ -61,6 +67,8 @@ fn replay<K: Sink>(alloc: Global, octets: Vec<u8>, out: &mut K) -> Outcome
     requires { length octets.items ≤ 67108864 }
     ensures replayed { IsTrue (is_run (code_of result)) → Replayed (code_of result) octets.items (K.holds out.old) (K.holds out.new) }
     ensures nothing { IsTrue (is_unrun (code_of result)) → K.holds out.new ≡ K.holds out.old }
+    ensures read { (code_of result ≡ 1 → ⊥) × (code_of result ≡ 3 → ⊥) }
+    ensures refused { code_of result ≡ 12 → Rose (K.faults out.old) (K.faults out.new) }
 {
     match ScriptWorld::read(alloc, &octets) {
         Ok(script) => run(alloc, script, out),
@@ -74,6 +82,8 @@ fn run<K: Sink>(alloc: Global, mut script: ScriptWorld, out: &mut K) -> Outcome
     requires { IsFresh script }
     ensures replayed { IsTrue (is_run (code_of result)) → Replayed (code_of result) (schedule_text script.lines) (K.holds out.old) (K.holds out.new) }
     ensures nothing { IsTrue (is_unrun (code_of result)) → K.holds out.new ≡ K.holds out.old }
+    ensures read { (code_of result ≡ 1 → ⊥) × (code_of result ≡ 3 → ⊥) }
+    ensures refused { code_of result ≡ 12 → Rose (K.faults out.old) (K.faults out.new) }
 {
     let Ok(mut service) = Service::open(alloc, &SlirpConfig::usual()) else {
         return Outcome::NoMemory;
@@ -88,7 +98,8 @@ fn run<K: Sink>(alloc: Global, mut script: ScriptWorld, out: &mut K) -> Outcome
 
 // What a run came to.
 fn ended(script: &ScriptWorld, end: End) -> Outcome
-    ensures { code_of result ≡ (if script.now.live then code_of (outcome_of end) else 5) }
+    ensures code { code_of result ≡ (if script.now.live then code_of (outcome_of end) else 5) }
+    ensures ran { IsTrue (is_run (code_of result)) }
 {
     match script.divergence() {
         Some(divergence) => Outcome::Diverged(divergence),
@@ -115,8 +126,10 @@ fn run_words<W: World, K: Sink>(
     out: &mut K,
 ) -> Outcome
     ensures calls { Makes (W.tells world.old) (W.tells world.new) (λ made. FetchesFile (map string_bytes words.now.items) made
-        × (IsTrue (is_run (code_of result)) → Replayed (code_of result) (octets_read made) (K.holds out.old) (K.holds out.new))) }
+        × FetchedBy (code_of result) made × (IsTrue (is_run (code_of result)) → Replayed (code_of result) (octets_read made) (K.holds out.old) (K.holds out.new))) }
     ensures nothing { IsTrue (is_unrun (code_of result)) → K.holds out.new ≡ K.holds out.old }
+    ensures usage { (code_of result ≡ 1) ↔ (file_of (map string_bytes words.now.items) ≡ None) }
+    ensures refused { code_of result ≡ 12 → Rose (K.faults out.old) (K.faults out.new) }
 {
     match file_of(words) {
         Some(name) => replay_file(alloc, name, world, out),

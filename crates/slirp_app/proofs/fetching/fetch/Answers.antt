@@ -1,8 +1,8 @@
-use Rattle.std.proofs.Common.{◌≡◌, ◌-◌, ◌+◌, ◌<◌, ◌≤◌, min, length, refl, sym, ◌∙◌, ap, arith}
+use Rattle.std.proofs.Common.{◌≡◌, ◌-◌, ◌+◌, ◌<◌, ◌≤◌, min, length, Some, refl, sym, ◌∙◌, ap, arith}
 use Rattle.std.proofs.lemmas.List.{take_all}
 use Rattle.world_face.specs.declared.Io.TheVariants.{Done}
 use Rattle.world_face.proofs.Telling.{brings_one, brings_then, brings_as}
-use Rattle.slirp_app.proofs.Fetched.{may_read, read_more}
+use Rattle.slirp_app.proofs.Fetched.{may_read, read_more, unread}
 use Rattle.slirp_app.proofs.fetching.fetch.Goals as goal
 
 pub loop-have-preserved : goal.loop-have-preserved
@@ -21,8 +21,8 @@ loop-have-preserved g c =
       size = c.read_part.auto.octets ∙ size;
     }
 
-pub returns-in_default : goal.returns-in_default
-returns-in_default g c =
+pub returns-in-End : goal.returns-in-End
+returns-in-End g c =
     let name = c.args.name.now in
     let whole = length c.args.octets.now in
     let have = c.loop-have.have in
@@ -34,10 +34,12 @@ returns-in_default g c =
     record {
       brings = brings_then c.loop-have.invariant.brings (brings_one read.1 (λ allowed past fetched.
           let may = may_read name whole have c.min-asked.result before past fetched less c.requires.few size asked in
-          (((refl, may.0, may.1), fetched.0), tt)));
+          (((refl, may.0, may.1), fetched.0), unread c.read_part.result c.in-End.is)));
     }
 
 pub returns : goal.returns
 returns g c = record {
-  brings = brings_as c.loop-have.invariant.brings (λ past fetched. (fetched.0, sym (fetched.2 ∙ take_all c.loop-have.have c.loop-have.octets c.loop-have-test.false)));
+  brings = brings_as c.loop-have.invariant.brings (λ past fetched.
+      let all = fetched.2 ∙ take_all c.loop-have.have c.loop-have.octets c.loop-have-test.false in
+      (fetched.0, (sym all, fetched.1 ∙ ap Some (sym (ap length all ∙ c.loop-have.invariant.size)))));
 }

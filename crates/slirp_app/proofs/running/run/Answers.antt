@@ -1,5 +1,5 @@
 use Rattle.std.proofs.Common.{◌≡◌, ◌++◌, List, sym, ◌∙◌, ap, subst}
-use Rattle.std.specs.Result.{is_ok}
+use Rattle.std.specs.Result.{is_ok, is_err}
 use Rattle.world_face.specs.Puts.{added}
 use Rattle.world_face.specs.Tells.{Makes}
 use Rattle.host_policy.specs.Addresses.{Config}
@@ -22,4 +22,7 @@ returns-in-Ok-put_record-clause-replayed g c is_run =
     let settings : c.in-Ok.service.slirp.config ≡ usual = c.in-Ok.ensures.config ∙ c.usual.ensures in
     let makes = subst (λ (k : Config). Makes (script_tells c.args.script) (script_tells new) (λ made. Lawful k made × Finished k made × (end ≡ end_of k (phase k made)))) settings c.serve-end.ensures.makes in
     let put = c.put_record.ensures.ok (ap is_ok c.in-Ok-put_record.is) ∙ ap (λ n. added (text (script_tells new).kept ++ end_line n) (g.K.Sink.holds c.args.out.now)) c.code.ensures in
-    replayed c.args.script new end status (g.K.Sink.holds c.args.out.now) (g.K.Sink.holds c.put_record.new.out) c.requires c.ended-outcome.ensures put makes
+    replayed c.args.script new end status (g.K.Sink.holds c.args.out.now) (g.K.Sink.holds c.put_record.new.out) c.requires c.ended-outcome.ensures.code put makes
+
+pub returns-clause-refused : goal.returns-clause-refused
+returns-clause-refused g c is = c.put_record.ensures.err (ap is_err c.in-Err.is)
