@@ -1,5 +1,5 @@
 -- What has been taken of a guest's stream, and what a segment brings (RFC 9293, 3.10.7.4).
-use Rattle.std.specs.Prelude.{◌≡◌, ℕ, ◌+◌, ◌-◌, ◌<◌, List, [], length, drop, Bool, false, ℤ, pos, negsuc, ◌+ℤ◌, ◌<ℤ◌, IsTrue, ◌⊎◌, suc, if◌then◌else◌, nat_le}
+use Rattle.std.specs.Prelude.{◌≡◌, ℕ, ◌+◌, ◌-◌, ◌<◌, List, [], length, drop, Bool, false, ℤ, pos, negsuc, ◌+ℤ◌, ◌<ℤ◌, IsTrue, ◌⊎◌, suc, if◌then◌else◌, nat_le, Some, slice_get}
 use Rattle.seq_space.specs.Places.{number_of, place}
 
 -- the number of the guest's SYN, how many octets after it were taken, and whether the end was
@@ -23,6 +23,10 @@ next_number r = number_of r.first (places_taken r)
 abbrev pub octets_from : ℤ → List ℕ → ℕ → List ℕ
 octets_from (pos o) octets taken = if nat_le o taken then drop (taken - o) octets else []
 octets_from (negsuc n) octets taken = drop (taken + suc n) octets
+
+-- x is the octet at a place of the stream, among octets that begin at the place from
+abbrev pub StandsAt : ℤ → List ℕ → ℕ → ℕ → Type 0
+StandsAt from octets place x = (j : ℕ) × ((slice_get octets j ≡ Some x) × (pos place ≡ from +ℤ pos j))
 
 -- the place of a segment with this number, the one nearest to what was taken
 abbrev pub place_in : Received → ℕ → ℤ

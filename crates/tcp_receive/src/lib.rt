@@ -2,9 +2,9 @@
 //! the end of the stream, and whether an acknowledgement is owed (RFC 9293, 3.10.7.4).
 #![tactic(auto)]
 
-ghost use Rattle.std.specs.Prelude.{◌≡◌, ◌+◌, ◌-◌, ◌^◌, ◌<◌, ◌≤◌, ◌++◌, length, take, min, pos, ◌+ℤ◌, ◌<ℤ◌, ◌≤ℤ◌, IsTrue, ◌↔◌, ◌⊎◌, ◌||◌, false};
+ghost use Rattle.std.specs.Prelude.{◌≡◌, ℕ, List, slice_get, ◌+◌, ◌-◌, ◌^◌, ◌<◌, ◌≤◌, ◌++◌, length, take, min, pos, ◌+ℤ◌, ◌<ℤ◌, ◌≤ℤ◌, IsTrue, ◌↔◌, ◌⊎◌, ◌||◌, false};
 ghost use Rattle.seq_space.specs.Places.{place as place_of};
-ghost use Rattle.tcp_receive.specs.Received.{received, next_number, next_octets, octets_from, places_taken, IsAckOwed, IsEndTaken};
+ghost use Rattle.tcp_receive.specs.Received.{Received, StandsAt, place_in, received, next_number, next_octets, octets_from, places_taken, IsAckOwed, IsEndTaken};
 
 use seq_space::{Seq, nearest, number_at};
 use sock_buffers::Up;
@@ -109,6 +109,18 @@ impl Receive {
         self.taken + u64::from(self.ended)
     }
 }
+
+/// The octets of a segment that come next are those that it has at the places from the next on.
+pub fn next_octets_stand_at_their_places()
+    ensures each { (r : Received) (number : ℕ) (octets : List ℕ) (k x : ℕ)
+        → slice_get (next_octets r number octets) k ≡ Some x
+        → StandsAt (place_in r number) octets (r.taken + k) x }
+    ensures all { (r : Received) (number : ℕ) (octets : List ℕ) (k x : ℕ)
+        → r.ended ≡ false
+        → place_in r number ≤ℤ pos r.taken
+        → StandsAt (place_in r number) octets (r.taken + k) x
+        → slice_get (next_octets r number octets) k ≡ Some x }
+{}
 
 /// Whether an acknowledgement is owed: what carries octets or a FIN owes one, and so does a number
 /// before the next expected one.
