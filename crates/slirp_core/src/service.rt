@@ -192,6 +192,18 @@ impl Service {
         }
     }
 
+    /// Begins a run of a network that has served nothing: the moment is asked for.
+    pub fn start<W: World>(&mut self, world: &mut W) -> Turn
+        requires { IsNew self.old }
+        ensures makes { Makes (W.tells world.old) (W.tells world.new) (Holds self.old.slirp.config 0 self.new.slirp self.new.link) }
+        ensures on { ReadsOn (under_way self.new.link) }
+        ensures config { self.new.slirp.config ≡ self.old.slirp.config }
+        ensures again { result ≡ Turn.Again }
+    {
+        world.now();
+        Turn::Again
+    }
+
     /// One turn: what is owed is sent, then it waits, then what the wait reported is served, with what is then owed.
     pub fn turn<W: World>(&mut self, world: &mut W) -> Turn
         requires { ReadsOn (under_way self.old.link) }
@@ -215,7 +227,7 @@ impl Service {
         // What a World that was live tells of them.
         ensures served { Served self.old.slirp.config (W.tells world.old) (W.tells world.new) }
     {
-        world.now();
+        let _begun = self.start(world);
         for _count in 0..self.turns {
             match self.turn(world) {
                 Turn::Again => {}

@@ -8,15 +8,15 @@ use Rattle.slirp_core.proofs.service.Service.serve.Goals as goal
 
 pub loop-count-init : goal.loop-count-init
 loop-count-init g c = record {
-  makes = makes_one _ _ _ _ c.now.ensures (λ allowed. started c.args.self.now c.now.result c.requires);
-  on = reads_new c.args.self.now c.requires;
-  config = refl;
+  makes = c.start-begun.ensures.makes;
+  on = c.start-begun.ensures.on;
+  config = c.start-begun.ensures.config;
 }
 
 pub loop-count-preserved : goal.loop-count-preserved
 loop-count-preserved g c =
     let config = c.args.self.now.slirp.config in
-    let turns = c.self.invariant.0 ∙ ap (λ (s : ServiceState). s.slirp.config.turns) c.self.view_is in
+    let turns = c.self.invariant.0 ∙ ap (λ (s : ServiceState). s.slirp.config.turns) c.self.view_is ∙ ap (λ (k : Config). k.turns) c.start-begun.ensures.config in
     let few = subst (λ n. c.loop-count._count < n) turns c.loop-count-test.true in
     record {
       makes = makes_from c.loop-count.invariant.makes (c.in-Again.ensures.makes config c.loop-count._count few);
@@ -27,7 +27,7 @@ loop-count-preserved g c =
 pub returns-in-Ended-clause-makes : goal.returns-in-Ended-clause-makes
 returns-in-Ended-clause-makes g c =
     let config = c.args.self.now.slirp.config in
-    let turns = c.self.invariant.0 ∙ ap (λ (s : ServiceState). s.slirp.config.turns) c.self.view_is in
+    let turns = c.self.invariant.0 ∙ ap (λ (s : ServiceState). s.slirp.config.turns) c.self.view_is ∙ ap (λ (k : Config). k.turns) c.start-begun.ensures.config in
     let few = subst (λ n. c.loop-count._count < n) turns c.loop-count-test.true in
     makes_as _ _ _ _ (makes_from c.loop-count.invariant.makes (c.in-Ended.ensures.makes config c.loop-count._count few)) (λ made ended. ran config c.in-Ended.end made ended)
 
@@ -37,7 +37,7 @@ returns-in-Ended-clause-served g c = told c.args.self.now.slirp.config c.in-Ende
 pub returns-clause-makes : goal.returns-clause-makes
 returns-clause-makes g c =
     let config = c.args.self.now.slirp.config in
-    let turns = c.self.invariant.0 ∙ ap (λ (s : ServiceState). s.slirp.config.turns) c.self.view_is in
+    let turns = c.self.invariant.0 ∙ ap (λ (s : ServiceState). s.slirp.config.turns) c.self.view_is ∙ ap (λ (k : Config). k.turns) c.start-begun.ensures.config in
     let all = subst (λ n. n ≤ c.loop-count._count) turns c.loop-count-test.false in
     let most = c.self-2.invariant.0 ∙ ap (λ (s : ServiceState). s.slirp.config.turns) c.self-2.view_is ∙ ap (λ (k : Config). k.turns) c.loop-count.invariant.config in
     makes_as _ _ _ _ c.loop-count.invariant.makes (λ made holds. spent config c.loop-count._count c.self-2.inside.turns c.loop-count.self made all most holds)
