@@ -25,7 +25,6 @@ use Rattle.world_face.specs.declared.Waited.TheVariants.{Ready, Stop, Failed as 
 use Rattle.world_face.specs.Journal.{MayAccept, MayMeasure, MayWrite, MayGet, MayWait, Leaves, LeavesGot, Allowed, AreAllowed, Entry, call_of, Now, Wait, LinkOpen, LinkRead, LinkWrite, Connect, Connected, Listen, Accept, TcpRead, TcpWrite, TcpEnd, Close, UdpOpen, UdpSend, UdpRecv, FileLen, FileRead}
 use Rattle.replay.specs.Script.{schedule_text}
 use Rattle.replay.specs.Text.{hexadecimal, endpoint_text, joined_text, made_text, ready_text, waited_text, read_text, written_text, joined_answer, accepted_text, sent_text, got_text, size_text, call_text, answer_text, line_text, text}
-use Rattle.replay_laws.specs.Short.{IsShort, AreShort}
 use Rattle.replay_laws.proofs.Parting.{is_word, is_plain, is_line, fit_append, fit_weaker, parts_once, word_is_line, plain_is_line, decimal_word, hexadecimal_word}
 use Rattle.replay_laws.proofs.Tokens.{same_octets, same_endpoint, endpoint_word, same_joined, joined_word}
 use Rattle.replay_laws.proofs.Calls.{InRange, call_plain, same_call}
@@ -142,73 +141,73 @@ allowed_call (UdpRecv socket asked answer octets) h = (h.3, h.2)
 allowed_call (FileLen name answer) h = h.0
 allowed_call (FileRead name place asked answer octets) h = (h.4, h.3, h.2)
 
-same_entry : (e f : Entry) → Allowed e → Allowed f → IsShort e → IsShort f → call_of e ≡ call_of f → answer_text e ≡ answer_text f → e ≡ f
+same_entry : (e f : Entry) → Allowed e → Allowed f → call_of e ≡ call_of f → answer_text e ≡ answer_text f → e ≡ f
 unfolding answer_text
-same_entry (Now moment) (Now moment') ha hb sa sb calls is = ap Now (decimal_injective moment moment' ha hb is)
-same_entry (Wait wants timeout answer ready) (Wait wants' timeout' answer' ready') ha hb sa sb calls is =
+same_entry (Now moment) (Now moment') ha hb calls is = ap Now (decimal_injective moment moment' ha hb is)
+same_entry (Wait wants timeout answer ready) (Wait wants' timeout' answer' ready') ha hb calls is =
     let both_are = same_waited wants wants' answer answer' ready ready' ha.0 hb.0 is in
     let a = both_are.0 in
     let o = both_are.1 in
     cc
-same_entry (LinkOpen at answer) (LinkOpen at' answer') ha hb sa sb calls is =
+same_entry (LinkOpen at answer) (LinkOpen at' answer') ha hb calls is =
     let a = same_made answer answer' is in
     cc
-same_entry (LinkRead asked answer octets) (LinkRead asked' answer' octets') ha hb sa sb calls is =
+same_entry (LinkRead asked answer octets) (LinkRead asked' answer' octets') ha hb calls is =
     let both_are = same_read answer answer' octets octets' ha.1 hb.1 is in
     let a = both_are.0 in
     let o = both_are.1 in
     cc
-same_entry (LinkWrite octets answer) (LinkWrite octets' answer') ha hb sa sb calls is =
+same_entry (LinkWrite octets answer) (LinkWrite octets' answer') ha hb calls is =
     let offered : octets ≡ octets' = cc in
     let other : MayWrite (length octets) answer' = subst (λ (o : List ℕ). MayWrite (length o) answer') (sym offered) hb.0 in
-    let a = same_written (length octets) answer answer' sa ha.0 other is in
+    let a = same_written (length octets) answer answer' ha.2 ha.0 other is in
     cc
-same_entry (Connect socket to answer) (Connect socket' to' answer') ha hb sa sb calls is =
+same_entry (Connect socket to answer) (Connect socket' to' answer') ha hb calls is =
     let a = same_made answer answer' is in
     cc
-same_entry (Connected socket answer) (Connected socket' answer') ha hb sa sb calls is =
+same_entry (Connected socket answer) (Connected socket' answer') ha hb calls is =
     let a = same_joining answer answer' is in
     cc
-same_entry (Listen socket at answer) (Listen socket' at' answer') ha hb sa sb calls is =
+same_entry (Listen socket at answer) (Listen socket' at' answer') ha hb calls is =
     let a = same_made answer answer' is in
     cc
-same_entry (Accept listener socket answer) (Accept listener' socket' answer') ha hb sa sb calls is =
+same_entry (Accept listener socket answer) (Accept listener' socket' answer') ha hb calls is =
     let a = same_accepted answer answer' ha.2 hb.2 is in
     cc
-same_entry (TcpRead socket asked answer octets) (TcpRead socket' asked' answer' octets') ha hb sa sb calls is =
+same_entry (TcpRead socket asked answer octets) (TcpRead socket' asked' answer' octets') ha hb calls is =
     let both_are = same_read answer answer' octets octets' ha.1 hb.1 is in
     let a = both_are.0 in
     let o = both_are.1 in
     cc
-same_entry (TcpWrite socket octets answer) (TcpWrite socket' octets' answer') ha hb sa sb calls is =
+same_entry (TcpWrite socket octets answer) (TcpWrite socket' octets' answer') ha hb calls is =
     let offered : octets ≡ octets' = cc in
     let other : MayWrite (length octets) answer' = subst (λ (o : List ℕ). MayWrite (length o) answer') (sym offered) hb.0 in
-    let a = same_written (length octets) answer answer' sa ha.0 other is in
+    let a = same_written (length octets) answer answer' ha.3 ha.0 other is in
     cc
-same_entry (TcpEnd socket answer) (TcpEnd socket' answer') ha hb sa sb calls is =
+same_entry (TcpEnd socket answer) (TcpEnd socket' answer') ha hb calls is =
     let a = same_made answer answer' is in
     cc
-same_entry (Close socket) (Close socket') ha hb sa sb calls is = cc
-same_entry (UdpOpen socket at answer) (UdpOpen socket' at' answer') ha hb sa sb calls is =
+same_entry (Close socket) (Close socket') ha hb calls is = cc
+same_entry (UdpOpen socket at answer) (UdpOpen socket' at' answer') ha hb calls is =
     let a = same_made answer answer' is in
     cc
-same_entry (UdpSend socket to octets answer) (UdpSend socket' to' octets' answer') ha hb sa sb calls is =
+same_entry (UdpSend socket to octets answer) (UdpSend socket' to' octets' answer') ha hb calls is =
     let a = same_sent answer answer' is in
     cc
-same_entry (UdpRecv socket asked answer octets) (UdpRecv socket' asked' answer' octets') ha hb sa sb calls is =
+same_entry (UdpRecv socket asked answer octets) (UdpRecv socket' asked' answer' octets') ha hb calls is =
     let both_are = same_got answer answer' asked asked' octets octets' ha.0 hb.0 ha.1 hb.1 is in
     let a = both_are.0 in
     let o = both_are.1 in
     cc
-same_entry (FileLen name answer) (FileLen name' answer') ha hb sa sb calls is =
+same_entry (FileLen name answer) (FileLen name' answer') ha hb calls is =
     let a = same_size answer answer' ha.1 hb.1 is in
     cc
-same_entry (FileRead name place asked answer octets) (FileRead name' place' asked' answer' octets') ha hb sa sb calls is =
+same_entry (FileRead name place asked answer octets) (FileRead name' place' asked' answer' octets') ha hb calls is =
     let both_are = same_read answer answer' octets octets' ha.1 hb.1 is in
     let a = both_are.0 in
     let o = both_are.1 in
     cc
-same_entry _ _ ha hb sa sb calls is = cc calls
+same_entry _ _ ha hb calls is = cc calls
 
 -- no line feed stands in an answer
 in_line : (xs : List ℕ) → list_all is_word xs ≡ true → list_all is_line xs ≡ true
@@ -264,26 +263,26 @@ waited_line wants Ready (w ∷ ws) h = in_line (joined_text (w ∷ ws)) (joined_
 waited_line wants Stop r h = refl
 waited_line wants WaitFailed r h = refl
 
-answer_line : (e : Entry) → Allowed e → IsShort e → list_all is_line (answer_text e) ≡ true
+answer_line : (e : Entry) → Allowed e → list_all is_line (answer_text e) ≡ true
 unfolding answer_text
-answer_line (Now moment) h s = in_line (decimal moment) (decimal_word moment h)
-answer_line (Wait wants timeout answer ready) h s = waited_line wants answer ready h.0
-answer_line (LinkOpen at answer) h s = made_line answer
-answer_line (LinkRead asked answer octets) h s = read_line answer octets h.1
-answer_line (LinkWrite octets answer) h s = written_line (length octets) answer s h.0
-answer_line (Connect socket to answer) h s = made_line answer
-answer_line (Connected socket answer) h s = joining_line answer
-answer_line (Listen socket at answer) h s = made_line answer
-answer_line (Accept listener socket answer) h s = accepted_line answer h.2
-answer_line (TcpRead socket asked answer octets) h s = read_line answer octets h.1
-answer_line (TcpWrite socket octets answer) h s = written_line (length octets) answer s h.0
-answer_line (TcpEnd socket answer) h s = made_line answer
-answer_line (Close socket) h s = refl
-answer_line (UdpOpen socket at answer) h s = made_line answer
-answer_line (UdpSend socket to octets answer) h s = sent_line answer
-answer_line (UdpRecv socket asked answer octets) h s = got_line asked answer octets h.0 h.1
-answer_line (FileLen name answer) h s = size_line answer h.1
-answer_line (FileRead name place asked answer octets) h s = read_line answer octets h.1
+answer_line (Now moment) h = in_line (decimal moment) (decimal_word moment h)
+answer_line (Wait wants timeout answer ready) h = waited_line wants answer ready h.0
+answer_line (LinkOpen at answer) h = made_line answer
+answer_line (LinkRead asked answer octets) h = read_line answer octets h.1
+answer_line (LinkWrite octets answer) h = written_line (length octets) answer h.2 h.0
+answer_line (Connect socket to answer) h = made_line answer
+answer_line (Connected socket answer) h = joining_line answer
+answer_line (Listen socket at answer) h = made_line answer
+answer_line (Accept listener socket answer) h = accepted_line answer h.2
+answer_line (TcpRead socket asked answer octets) h = read_line answer octets h.1
+answer_line (TcpWrite socket octets answer) h = written_line (length octets) answer h.3 h.0
+answer_line (TcpEnd socket answer) h = made_line answer
+answer_line (Close socket) h = refl
+answer_line (UdpOpen socket at answer) h = made_line answer
+answer_line (UdpSend socket to octets answer) h = sent_line answer
+answer_line (UdpRecv socket asked answer octets) h = got_line asked answer octets h.0 h.1
+answer_line (FileLen name answer) h = size_line answer h.1
+answer_line (FileRead name place asked answer octets) h = read_line answer octets h.1
 
 regroup : (c a : List ℕ) → ((c ++ (32 ∷ 61 ∷ 32 ∷ [])) ++ a) ++ 10 ∷ [] ≡ ((c ++ 32 ∷ []) ++ 61 ∷ 32 ∷ a) ++ 10 ∷ []
 regroup c a = simp append_assoc
@@ -292,37 +291,37 @@ regroup c a = simp append_assoc
 line_form : (e : Entry) → line_text e ≡ ((call_text (call_of e) ++ 32 ∷ []) ++ 61 ∷ 32 ∷ answer_text e) ++ 10 ∷ []
 line_form e = regroup (call_text (call_of e)) (answer_text e)
 
-body_line : (e : Entry) → Allowed e → IsShort e → list_all is_line ((call_text (call_of e) ++ 32 ∷ []) ++ 61 ∷ 32 ∷ answer_text e) ≡ true
-body_line e h s = fit_append is_line (call_text (call_of e) ++ 32 ∷ []) (61 ∷ 32 ∷ answer_text e) (fit_weaker is_plain is_line plain_is_line (call_text (call_of e) ++ 32 ∷ []) (call_plain (call_of e) (allowed_call e h))) (answer_line e h s)
+body_line : (e : Entry) → Allowed e → list_all is_line ((call_text (call_of e) ++ 32 ∷ []) ++ 61 ∷ 32 ∷ answer_text e) ≡ true
+body_line e h = fit_append is_line (call_text (call_of e) ++ 32 ∷ []) (61 ∷ 32 ∷ answer_text e) (fit_weaker is_plain is_line plain_is_line (call_text (call_of e) ++ 32 ∷ []) (call_plain (call_of e) (allowed_call e h))) (answer_line e h)
 
 tail_of : (a b : List ℕ) → 32 ∷ a ≡ 32 ∷ b → a ≡ b
 tail_of a b is = cc
 
-same_body : (e f : Entry) → Allowed e → Allowed f → IsShort e → IsShort f → (call_text (call_of e) ++ 32 ∷ []) ++ 61 ∷ 32 ∷ answer_text e ≡ (call_text (call_of f) ++ 32 ∷ []) ++ 61 ∷ 32 ∷ answer_text f → e ≡ f
-same_body e f ha hb sa sb is =
+same_body : (e f : Entry) → Allowed e → Allowed f → (call_text (call_of e) ++ 32 ∷ []) ++ 61 ∷ 32 ∷ answer_text e ≡ (call_text (call_of f) ++ 32 ∷ []) ++ 61 ∷ 32 ∷ answer_text f → e ≡ f
+same_body e f ha hb is =
     let parted = parts_once 61 is_plain refl (call_text (call_of e) ++ 32 ∷ []) (call_text (call_of f) ++ 32 ∷ []) (32 ∷ answer_text e) (32 ∷ answer_text f) (call_plain (call_of e) (allowed_call e ha)) (call_plain (call_of f) (allowed_call f hb)) is in
     let answers : answer_text e ≡ answer_text f = tail_of (answer_text e) (answer_text f) parted.1 in
-    same_entry e f ha hb sa sb (same_call (call_of e) (call_of f) (allowed_call e ha) (allowed_call f hb) parted.0) answers
+    same_entry e f ha hb (same_call (call_of e) (call_of f) (allowed_call e ha) (allowed_call f hb) parted.0) answers
 
 then_more : (e : Entry) (r : List ℕ) → line_text e ++ r ≡ ((call_text (call_of e) ++ 32 ∷ []) ++ 61 ∷ 32 ∷ answer_text e) ++ 10 ∷ r
 then_more e r = ap (λ t. t ++ r) (line_form e) ∙ append_assoc ((call_text (call_of e) ++ 32 ∷ []) ++ 61 ∷ 32 ∷ answer_text e) (10 ∷ []) r
 
 -- the first line of a text is of one entry
-same_first : (e f : Entry) (r s : List ℕ) → Allowed e → Allowed f → IsShort e → IsShort f → line_text e ++ r ≡ line_text f ++ s → (e ≡ f) × (r ≡ s)
-same_first e f r s ha hb sa sb is =
-    let parted = parts_once 10 is_line refl ((call_text (call_of e) ++ 32 ∷ []) ++ 61 ∷ 32 ∷ answer_text e) ((call_text (call_of f) ++ 32 ∷ []) ++ 61 ∷ 32 ∷ answer_text f) r s (body_line e ha sa) (body_line f hb sb) (sym (then_more e r) ∙ is ∙ then_more f s) in
-    (same_body e f ha hb sa sb parted.0, parted.1)
+same_first : (e f : Entry) (r s : List ℕ) → Allowed e → Allowed f → line_text e ++ r ≡ line_text f ++ s → (e ≡ f) × (r ≡ s)
+same_first e f r s ha hb is =
+    let parted = parts_once 10 is_line refl ((call_text (call_of e) ++ 32 ∷ []) ++ 61 ∷ 32 ∷ answer_text e) ((call_text (call_of f) ++ 32 ∷ []) ++ 61 ∷ 32 ∷ answer_text f) r s (body_line e ha) (body_line f hb) (sym (then_more e r) ∙ is ∙ then_more f s) in
+    (same_body e f ha hb parted.0, parted.1)
 
 some_line : (e : Entry) (r : List ℕ) → [] ≡ line_text e ++ r → ⊥
 some_line e r is = omega (arith, length-append ((call_text (call_of e) ++ 32 ∷ []) ++ 61 ∷ 32 ∷ answer_text e) (10 ∷ r), ap length (is ∙ then_more e r))
 
-same_schedule : (xs ys : List Entry) → AreAllowed xs → AreAllowed ys → AreShort xs → AreShort ys → schedule_text xs ≡ schedule_text ys → xs ≡ ys
-same_schedule [] [] ha hb sa sb is = refl
-same_schedule [] (f ∷ fs) ha hb sa sb is = absurd (some_line f (schedule_text fs) is)
-same_schedule (e ∷ es) [] ha hb sa sb is = absurd (some_line e (schedule_text es) (sym is))
-same_schedule (e ∷ es) (f ∷ fs) ha hb sa sb is =
-    let one = same_first e f (schedule_text es) (schedule_text fs) ha.0 hb.0 sa.0 sb.0 is in
-    let more = same_schedule es fs ha.1 hb.1 sa.1 sb.1 one.1 in
+same_schedule : (xs ys : List Entry) → AreAllowed xs → AreAllowed ys → schedule_text xs ≡ schedule_text ys → xs ≡ ys
+same_schedule [] [] ha hb is = refl
+same_schedule [] (f ∷ fs) ha hb is = absurd (some_line f (schedule_text fs) is)
+same_schedule (e ∷ es) [] ha hb is = absurd (some_line e (schedule_text es) (sym is))
+same_schedule (e ∷ es) (f ∷ fs) ha hb is =
+    let one = same_first e f (schedule_text es) (schedule_text fs) ha.0 hb.0 is in
+    let more = same_schedule es fs ha.1 hb.1 one.1 in
     ap (λ x. x ∷ es) one.0 ∙ ap (λ x. f ∷ x) more
 
 -- the other way round
@@ -338,19 +337,11 @@ allowed_push : (es : List Entry) (e : Entry) → AreAllowed es → Allowed e →
 allowed_push [] e hs h = (h, tt)
 allowed_push (x ∷ es) e hs h = (hs.0, allowed_push es e hs.1 h)
 
-short_push : (es : List Entry) (e : Entry) → AreShort es → IsShort e → AreShort (es ++ e ∷ [])
-short_push [] e hs h = (h, tt)
-short_push (x ∷ es) e hs h = (hs.0, short_push es e hs.1 h)
-
 allowed_turned : (past : List Entry) → AreAllowed past → AreAllowed (reverse past)
 allowed_turned [] h = tt
 allowed_turned (e ∷ past) h = subst AreAllowed (sym (reverse-cons e past)) (allowed_push (reverse past) e (allowed_turned past h.1) h.0)
 
-short_turned : (past : List Entry) → AreShort past → AreShort (reverse past)
-short_turned [] h = tt
-short_turned (e ∷ past) h = subst AreShort (sym (reverse-cons e past)) (short_push (reverse past) e (short_turned past h.1) h.0)
-
-pub one_to_one : (a b : List Entry) → AreAllowed a → AreAllowed b → AreShort a → AreShort b → text a ≡ text b → a ≡ b
-one_to_one a b ha hb sa sb is =
-    let same = same_schedule (reverse a) (reverse b) (allowed_turned a ha) (allowed_turned b hb) (short_turned a sa) (short_turned b sb) (sym (turned a) ∙ is ∙ turned b) in
+pub one_to_one : (a b : List Entry) → AreAllowed a → AreAllowed b → text a ≡ text b → a ≡ b
+one_to_one a b ha hb is =
+    let same = same_schedule (reverse a) (reverse b) (allowed_turned a ha) (allowed_turned b hb) (sym (turned a) ∙ is ∙ turned b) in
     sym (reverse-reverse a) ∙ ap reverse same ∙ reverse-reverse b

@@ -180,19 +180,19 @@ Leaves answer octets = (length octets ≡ count_of answer) × AreOctets octets
 abbrev pub LeavesGot : Got → List ℕ → Type 0
 LeavesGot answer octets = (length octets ≡ count_got answer) × AreOctets octets
 
--- The answers that a World may give; and each argument and answer is of its type's range.
+-- The answers that a World may give; each argument and answer is of its type's range, and so is the count of what a write offers.
 abbrev pub Allowed : Entry → Type 0
 Allowed (Now moment) = IsNumber moment
 Allowed (Wait wants timeout answer ready) = MayWait wants answer ready × IsTrue (are_wants wants) × IsTimeout timeout
 Allowed (LinkOpen at answer) = IsPlace at
 Allowed (LinkRead asked answer octets) = MayRead asked answer × Leaves answer octets × IsNumber asked
-Allowed (LinkWrite octets answer) = MayWrite (length octets) answer × AreOctets octets
+Allowed (LinkWrite octets answer) = MayWrite (length octets) answer × AreOctets octets × IsNumber (length octets)
 Allowed (Connect socket to answer) = IsNumber socket × IsEndpoint to
 Allowed (Connected socket answer) = IsNumber socket
 Allowed (Listen socket at answer) = IsNumber socket × IsEndpoint at
 Allowed (Accept listener socket answer) = IsNumber listener × IsNumber socket × MayAccept answer
 Allowed (TcpRead socket asked answer octets) = MayRead asked answer × Leaves answer octets × IsNumber asked × IsNumber socket
-Allowed (TcpWrite socket octets answer) = MayWrite (length octets) answer × AreOctets octets × IsNumber socket
+Allowed (TcpWrite socket octets answer) = MayWrite (length octets) answer × AreOctets octets × IsNumber socket × IsNumber (length octets)
 Allowed (TcpEnd socket answer) = IsNumber socket
 Allowed (Close socket) = IsNumber socket
 Allowed (UdpOpen socket at answer) = IsNumber socket × IsEndpoint at
