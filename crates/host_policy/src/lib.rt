@@ -1,10 +1,13 @@
 //! The settings of the virtual network, and whose its addresses are.
 #![tactic(auto)]
 
-ghost use Rattle.std.specs.Prelude.{◌≡◌};
+ghost use Rattle.std.specs.Prelude.{◌≡◌, ◌==◌, ◌||◌, ◌<◌, Some, None, if◌then◌else◌};
 
 use net_octets::{Endpoint, Ip4};
 use std::marker::Model;
+
+/// 127.0.0.1, by which the host reaches itself (RFC 1122, 3.2.1.3).
+const LOOPBACK: u32 = 0x7f00_0001;
 
 /// A protocol that carries ports.
 #[derive(Clone, Copy, Debug, PartialEq, Eq)]
@@ -19,6 +22,15 @@ pub struct Forward {
     pub proto: Proto,
     pub host: Endpoint,
     pub guest: Endpoint,
+}
+
+/// What becomes of a packet of a guest.
+#[derive(Clone, Copy, Debug, PartialEq, Eq)]
+pub enum Verdict {
+    /// It goes to this endpoint of the host's network.
+    Go(Endpoint),
+    /// It goes nowhere, by the rule with this number.
+    Denied(u8),
 }
 
 /// The settings of the virtual network.
@@ -69,8 +81,9 @@ impl Model for Policy {
 }
 
 impl Policy {
-    ghost use Rattle.host_policy.specs.Addresses.{is_guest, is_ours};
+    ghost use Rattle.host_policy.specs.Addresses.{is_guest, is_ours, in_network, network_size, last_address};
     ghost use Rattle.host_policy.specs.Settings.{settings};
+    ghost use Rattle.host_policy.specs.Targets.{target, shown, is_hidden, is_group_or_reserved};
 
     pub fn new(c: &SlirpConfig) -> Policy
         ensures { result ≡ settings c.now }
@@ -92,17 +105,78 @@ impl Policy {
         self.config.vhost
     }
 
+    /// Where a packet of a guest to this endpoint goes. The first rule that fits denies it: port 0 (2), the name server's address, as there is none (3), another address of the virtual network than the host's (5), one in 0/8, 127/8, 224/4 or 240/4 (6). The host's address is 127.0.0.1.
+    pub fn target(&self, _proto: Proto, to: Endpoint) -> Verdict
+        ensures { result ≡ target self.now to }
+    {
+        let Ip4(address) = to.addr;
+        if to.port == 0 {
+            Verdict::Denied(2)
+        } else if to.addr == self.config.vnameserver {
+            Verdict::Denied(3)
+        } else if to.addr == self.config.vhost {
+            Verdict::Go(Endpoint {
+                addr: Ip4(LOOPBACK),
+                port: to.port,
+            })
+        } else if self.is_inside(to.addr) {
+            Verdict::Denied(5)
+        } else if address >> 24 == 0 || address >> 24 == 127 || address >> 28 >= 14 {
+            Verdict::Denied(6)
+        } else {
+            Verdict::Go(to)
+        }
+    }
+
+    /// How a peer is shown to a guest: with the host's address, where its own is in 127/8; not at all, where it is another address of the virtual network.
+    pub fn shown(&self, peer: Endpoint) -> Option<Endpoint>
+        ensures { result ≡ (if is_hidden self.now peer then None else Some (shown self.now peer)) }
+    {
+        let addr = if peer.addr.0 >> 24 == 127 {
+            self.config.vhost
+        } else {
+            peer.addr
+        };
+        if self.is_inside(addr) && addr != self.config.vhost {
+            return None;
+        }
+        Some(Endpoint {
+            addr,
+            port: peer.port,
+        })
+    }
+
+    /// Whether the address is one of many: of a group, reserved, or the network's last.
+    pub fn is_of_many(&self, a: Ip4) -> bool
+        ensures { result ≡ (is_group_or_reserved a.0 || (a.0 == last_address self.now)) }
+    {
+        a.0 >> 28 >= 14 || a.0 as u64 == self.config.vnetwork.0 as u64 + self.size() - 1
+    }
+
+    /// Whether the address is in the virtual network.
+    fn is_inside(&self, a: Ip4) -> bool
+        ensures { result ≡ in_network self.now a.0 }
+    {
+        a.0 as u64 / self.size() == self.config.vnetwork.0 as u64 / self.size()
+    }
+
     /// Whether the address is a guest's: in the network, and neither its first nor its last address, the host's nor the name server's.
     pub fn is_guest(&self, a: Ip4) -> bool
         ensures { result ≡ is_guest self.now a.0 }
     {
-        let size = (1 << 32) - self.config.vnetmask.0 as u64;
         let network = self.config.vnetwork.0 as u64;
-        let address = a.0 as u64;
-        address / size == network / size
-            && address != network
-            && address != network + size - 1
+        self.is_inside(a)
+            && a.0 as u64 != network
+            && a.0 as u64 != network + self.size() - 1
             && !self.is_ours(a)
+    }
+
+    /// How many addresses the virtual network has.
+    fn size(&self) -> u64
+        ensures { result ≡ network_size self.now }
+        ensures some { 0 < result }
+    {
+        (1 << 32) - self.config.vnetmask.0 as u64
     }
 }
 
