@@ -2,6 +2,7 @@
 #![tactic(auto)]
 
 ghost use Rattle.std.specs.Prelude.{◌≡◌, ◌==◌, ◌||◌, ◌<◌, Some, None, if◌then◌else◌};
+ghost use Rattle.host_policy.specs.Targets.{first_octet, is_loopback, is_group_or_reserved};
 
 use net_octets::{Endpoint, Ip4};
 use std::marker::Model;
@@ -83,7 +84,7 @@ impl Model for Policy {
 impl Policy {
     ghost use Rattle.host_policy.specs.Addresses.{is_guest, is_ours, in_network, network_size, last_address};
     ghost use Rattle.host_policy.specs.Settings.{settings};
-    ghost use Rattle.host_policy.specs.Targets.{target, shown, is_hidden, is_group_or_reserved};
+    ghost use Rattle.host_policy.specs.Targets.{target, shown, is_hidden};
 
     pub fn new(c: &SlirpConfig) -> Policy
         ensures { result ≡ settings c.now }
@@ -109,7 +110,6 @@ impl Policy {
     pub fn target(&self, _proto: Proto, to: Endpoint) -> Verdict
         ensures { result ≡ target self.now to }
     {
-        let Ip4(address) = to.addr;
         if to.port == 0 {
             Verdict::Denied(2)
         } else if to.addr == self.config.vnameserver {
@@ -121,7 +121,10 @@ impl Policy {
             })
         } else if self.is_inside(to.addr) {
             Verdict::Denied(5)
-        } else if address >> 24 == 0 || address >> 24 == 127 || address >> 28 >= 14 {
+        } else if first_octet(to.addr) == 0
+            || is_loopback(to.addr)
+            || is_group_or_reserved(to.addr)
+        {
             Verdict::Denied(6)
         } else {
             Verdict::Go(to)
@@ -132,7 +135,7 @@ impl Policy {
     pub fn shown(&self, peer: Endpoint) -> Option<Endpoint>
         ensures { result ≡ (if is_hidden self.now peer then None else Some (shown self.now peer)) }
     {
-        let addr = if peer.addr.0 >> 24 == 127 {
+        let addr = if is_loopback(peer.addr) {
             self.config.vhost
         } else {
             peer.addr
@@ -150,7 +153,7 @@ impl Policy {
     pub fn is_of_many(&self, a: Ip4) -> bool
         ensures { result ≡ (is_group_or_reserved a.0 || (a.0 == last_address self.now)) }
     {
-        a.0 >> 28 >= 14 || a.0 as u64 == self.config.vnetwork.0 as u64 + self.size() - 1
+        is_group_or_reserved(a) || a.0 as u64 == self.config.vnetwork.0 as u64 + self.size() - 1
     }
 
     /// Whether the address is in the virtual network.
@@ -173,11 +176,32 @@ impl Policy {
 
     /// How many addresses the virtual network has.
     fn size(&self) -> u64
-        ensures { result ≡ network_size self.now }
+        ensures exact { result ≡ network_size self.now }
         ensures some { 0 < result }
     {
         (1 << 32) - self.config.vnetmask.0 as u64
     }
+}
+
+// The first octet of an address.
+fn first_octet(a: Ip4) -> u32
+    ensures { result ≡ first_octet a.0 }
+{
+    a.0 / (1 << 24)
+}
+
+// Whether an address is in 127/8.
+fn is_loopback(a: Ip4) -> bool
+    ensures { result ≡ is_loopback a.0 }
+{
+    first_octet(a) == 127
+}
+
+// Whether an address is in 224/4 or 240/4.
+fn is_group_or_reserved(a: Ip4) -> bool
+    ensures { result ≡ is_group_or_reserved a.0 }
+{
+    a.0 / (1 << 28) == 14 || a.0 / (1 << 28) == 15
 }
 
 #[cfg(test)]
