@@ -185,7 +185,7 @@ mod tests {
     }
 
     fn fault_with(place: usize, octet: u8) -> Option<Fault>
-        requires { place < 28 }
+        requires { place ≤ 27 }
     {
         let mut packet = [0; 28];
         packet.copy_from_slice(REQUEST_FOR_GATEWAY);
