@@ -322,6 +322,8 @@ impl Transmit {
     fn next(&self, down: &Down) -> Piece
         requires { Feeds self.now down.now }
         ensures next { result ≡ next self.now down.now }
+        ensures mss { 0 < self.now.mss }
+        ensures within { self.now.acked ≤ self.now.sent }
     {
         match self.timer {
             Timer::Expired => {
@@ -481,7 +483,8 @@ impl Transmit {
     /// Sets or clears the timer of a closed window, where nothing is under way.
     fn watch(&mut self, unsent: bool, now: u64)
         requires { now ≤ 2 ^ 62 }
-        ensures { self.new ≡ watched self.old unsent now }
+        ensures timer { self.new ≡ watched self.old unsent now }
+        ensures within { self.old.acked ≤ self.old.sent }
     {
         if self.acked < self.sent {
             return;
