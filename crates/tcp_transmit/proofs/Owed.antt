@@ -92,21 +92,22 @@ chosen true false a b c P f g h = g refl refl
 chosen false under a b c P f g h = h refl
 
 -- what goes next lies in the stream, where it has a number
-pub next_lies : (t : Transmission) (down : Downward) → Feeds t down → t.acked ≤ t.sent → 0 < numbers (next t down)
+pub next_lies : (t : Transmission) (down : Downward) → Feeds t down → 0 < numbers (next t down)
     → Lies t.end down.first t.acked t.sent (octets_read down) (next t down)
-next_lies t down feeds within some =
+next_lies t down feeds some =
+    let order = feeds.sound.order in
     chosen (is_expired t.timer) (nat_lt t.acked t.sent) (oldest t down) (probe t down) (fresh t down)
         (λ p. 0 < numbers p → Lies t.end down.first t.acked t.sent (octets_read down) p)
         (λ _ under _. oldest_lies t.end t.mss down.first t.acked t.sent (octets_read down) (oldest_length t down) refl feeds.all (grind (arith, nat_tests)) feeds.first)
         (λ _ not_under some. probe_lies t.end (nat_lt t.sent (octets_read down)) down.first t.acked t.sent (octets_read down) refl feeds.all (grind (arith, nat_tests)) feeds.first some)
-        (λ _ some. fresh_lies t.end t.mss down.first t.acked t.sent (octets_read down) (edge_of t.window) (fresh_length t down) refl feeds.all within feeds.first some)
+        (λ _ some. fresh_lies t.end t.mss down.first t.acked t.sent (octets_read down) (edge_of t.window) (fresh_length t down) refl feeds.all feeds.sound.order feeds.first some)
         some
 
 -- so it is a piece of the stream
-pub next_of_stream : (t : Transmission) (down : Downward) → Feeds t down → t.acked ≤ t.sent → 0 < numbers (next t down)
+pub next_of_stream : (t : Transmission) (down : Downward) → Feeds t down → 0 < numbers (next t down)
     → IsOfStream t down (next t down)
-next_of_stream t down feeds within some =
-    let lies = next_lies t down feeds within some in
+next_of_stream t down feeds some =
+    let lies = next_lies t down feeds some in
     record {
       low = lies.low;
       high = lies.high;
@@ -144,12 +145,13 @@ not_off Off is = cc
 not_off (Until at) is = cc
 not_off Expired is = refl
 
-pub next_none : (t : Transmission) (down : Downward) → Feeds t down → t.acked ≤ t.sent → 0 < t.mss
+pub next_none : (t : Transmission) (down : Downward) → Feeds t down
     → numbers (next t down) ≡ 0 → OwesNothing t down
-next_none t down feeds within mss none =
+next_none t down feeds none =
+    let order = feeds.sound.order in
     chosen (is_expired t.timer) (nat_lt t.acked t.sent) (oldest t down) (probe t down) (fresh t down)
         (λ p. numbers p ≡ 0 → OwesNothing t down)
-        (λ _ under none. absurd (oldest_some t.end t.mss t.acked t.sent (octets_read down) (oldest_length t down) refl mss feeds.all (grind (arith, nat_tests)) none))
+        (λ _ under none. absurd (oldest_some t.end t.mss t.acked t.sent (octets_read down) (oldest_length t down) refl feeds.sound.mss feeds.all (grind (arith, nat_tests)) none))
         (λ expired not_under none. absurd (probe_some t.end (nat_lt t.sent (octets_read down)) t.sent (octets_read down) refl feeds.all (feeds.rests (grind (arith, nat_tests)) (not_off t.timer expired)).1 none))
-        (λ on none. (on, fresh_none t.end t.mss t.sent (octets_read down) (edge_of t.window) (fresh_length t down) refl mss feeds.all none))
+        (λ on none. (on, fresh_none t.end t.mss t.sent (octets_read down) (edge_of t.window) (fresh_length t down) refl feeds.sound.mss feeds.all none))
         none

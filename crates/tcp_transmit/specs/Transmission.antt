@@ -1,6 +1,6 @@
 -- What a contract sees of the sending half of a connection (RFC 9293, 3.3.1). It speaks of places in the host's stream:
 -- octets have the places from 0 on, and the end of the stream, our FIN, has the place after its last octet.
-use Rattle.std.specs.Prelude.{◌≡◌, ℕ, ◌+◌, ◌<◌, ◌≤◌, ◌^◌, length, Bool, true, false, ◌&&◌, nat_lt, nat_le, is_some, Option, None, Some, min}
+use Rattle.std.specs.Prelude.{◌≡◌, ℕ, ◌+◌, ◌*◌, ◌<◌, ◌≤◌, ◌^◌, length, Bool, true, false, ◌&&◌, nat_lt, nat_le, is_some, Option, None, Some, min}
 use Rattle.retransmit.specs.Estimate.{Estimate, at_first}
 use Rattle.sock_buffers.specs.Downward.{Downward}
 use Rattle.tcp_transmit.specs.declared.End.{End}
@@ -90,10 +90,22 @@ IsSentOf Open sent octets = sent ≤ octets
 IsSentOf Unsent sent octets = sent ≤ octets
 IsSentOf Sent sent octets = sent ≡ octets + 1
 
+-- What holds of every connection. What was acknowledged was sent; the timer is set while numbers are under way (RFC 6298,
+-- 5.1). The oldest piece goes again at most eight times, and the wait is doubled each time, from a second up to a minute
+-- (5.5).
+pub record IsSound (t : Transmission) : Type 0 where
+  pub mss : 0 < t.mss
+  pub order : t.acked ≤ t.sent
+  pub set : t.acked < t.sent → is_off t.timer ≡ false
+  pub resent : t.resent ≤ 8
+  pub doubled : min 60000 (1000 * 2 ^ t.resent) ≤ t.estimate.wait
+  pub longest : t.estimate.wait ≤ 60000
+
 -- The buffer is that of this connection: it holds the stream from the first octet on that isn't acknowledged, all that
 -- was sent is of the stream, and the stream has under 2^62 octets. Where nothing is under way, the timer is set exactly
 -- where something waits for a closed window.
 pub record Feeds (t : Transmission) (down : Downward) : Type 0 where
+  pub sound : IsSound t
   pub first : down.first ≡ min t.acked (octets_read down)
   pub all : IsSentOf t.end t.sent (octets_read down)
   pub few : octets_read down < 2 ^ 62

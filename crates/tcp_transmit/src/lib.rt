@@ -231,6 +231,7 @@ impl Transmit {
         requires now { now ≤ 2 ^ 62 }
         ensures seen { IsSeenAs self.old down.old (place_acked self.old ack.0) result }
         ensures dropped { down.new ≡ without (octets_acked result) down.old }
+        ensures read { octets_read down.new ≡ octets_read down.old }
         ensures change { self.new ≡ after_ack self.old down.new seq window now result }
         ensures feeds { Feeds self.new down.new }
     {
@@ -321,9 +322,7 @@ impl Transmit {
     /// What goes next, with no number where nothing is owed.
     fn next(&self, down: &Down) -> Piece
         requires { Feeds self.now down.now }
-        ensures next { result ≡ next self.now down.now }
-        ensures mss { 0 < self.now.mss }
-        ensures within { self.now.acked ≤ self.now.sent }
+        ensures { result ≡ next self.now down.now }
     {
         match self.timer {
             Timer::Expired => {
@@ -483,8 +482,7 @@ impl Transmit {
     /// Sets or clears the timer of a closed window, where nothing is under way.
     fn watch(&mut self, unsent: bool, now: u64)
         requires { now ≤ 2 ^ 62 }
-        ensures timer { self.new ≡ watched self.old unsent now }
-        ensures within { self.old.acked ≤ self.old.sent }
+        ensures { self.new ≡ watched self.old unsent now }
     {
         if self.acked < self.sent {
             return;
