@@ -91,9 +91,9 @@ more_feeds t down more now on feeds few =
     let is : down.first + length (down.octets ++ more) ≡ octets_read down + length more = omega (arith, length-append down.octets more) in
     let both = open_on t.end t.acked t.sent (octets_read down) down.first (length more) on feeds.sound.order feeds.all feeds.first in
     watched_feeds t (record down { octets = down.octets ++ more }) now feeds.sound
-        (subst (λ n. down.first ≡ min t.acked n) (sym is) both.0)
-        (subst (λ n. IsSentOf t.end t.sent n) (sym is) both.1)
-        (omega arith)
+    (subst (λ n. down.first ≡ min t.acked n) (sym is) both.0)
+    (subst (λ n. IsSentOf t.end t.sent n) (sym is) both.1)
+    (omega arith)
 
 -- the piece that is owed goes next, and has a number
 owed_next : (p q : Piece) → (if nat_lt 0 (numbers q) then Some q else None) ≡ Some p → (q ≡ p) × (0 < numbers q)
@@ -171,25 +171,25 @@ measured_keeps : (timed : Option Timed) (t : Transmission) (place now : ℕ) →
 measured_keeps None t place now = record { mss = refl; acked = refl; sent = refl; end = refl }
 measured_keeps (Some m) t place now =
     kept_by_test (nat_le m.end place) t (record t { estimate = after_sample t.estimate (min (now - m.at) (2 ^ 40)); timed = None })
-        (record { mss = refl; acked = refl; sent = refl; end = refl })
+    (record { mss = refl; acked = refl; sent = refl; end = refl })
 
 windowed_keeps : (t : Transmission) (seq : Seq) (window : ℕ) → Keeps t (windowed t seq window)
 windowed_keeps t seq window =
     kept_by_test (is_newer t.window seq.0 t.acked) t
-        (record t { window = Some (record { edge = t.acked + window; seq = seq; ack = t.acked }) })
-        (record { mss = refl; acked = refl; sent = refl; end = refl })
+    (record t { window = Some (record { edge = t.acked + window; seq = seq; ack = t.acked }) })
+    (record { mss = refl; acked = refl; sent = refl; end = refl })
 
 windowed_sound : (t : Transmission) (seq : Seq) (window : ℕ) → IsSound t → IsSound (windowed t seq window)
 windowed_sound t seq window sound =
     by_test (is_newer t.window seq.0 t.acked) (record t { window = Some (record { edge = t.acked + window; seq = seq; ack = t.acked }) })
-        (record {
-          mss = sound.mss;
-          order = sound.order;
-          set = sound.set;
-          resent = sound.resent;
-          doubled = sound.doubled;
-          longest = sound.longest;
-        })
+    (record {
+      mss = sound.mss;
+      order = sound.order;
+      set = sound.set;
+      resent = sound.resent;
+      doubled = sound.doubled;
+      longest = sound.longest;
+    })
   where
     by_test : (b : Bool) (u : Transmission) → IsSound u → IsSound (if b then u else t)
     by_test true u is = is
@@ -204,7 +204,7 @@ measured_wait : (timed : Option Timed) (t : Transmission) (place now : ℕ) → 
 measured_wait None t place now sound = (a_second t.resent t.estimate.wait sound.doubled, sound.longest)
 measured_wait (Some m) t place now sound =
     by_test (nat_le m.end place) (record t { estimate = after_sample t.estimate (min (now - m.at) (2 ^ 40)); timed = None })
-        (omega arith, omega arith)
+    (omega arith, omega arith)
   where
     by_test : (b : Bool) (u : Transmission) → (1000 ≤ u.estimate.wait) × (u.estimate.wait ≤ 60000)
         → (1000 ≤ (if b then u else t).estimate.wait) × ((if b then u else t).estimate.wait ≤ 60000)
@@ -246,11 +246,11 @@ dropped_feeds : (t u : Transmission) (down : Downward) (n now : ℕ) → Feeds t
 dropped_feeds t u down n now feeds sent end sound first within =
     let read : octets_read (without n down) ≡ octets_read down = omega (arith, length-drop n down.octets) in
     watched_feeds u (without n down) now sound
-        (subst (λ k. down.first + n ≡ min u.acked k) (sym read) first)
-        (subst (λ k. IsSentOf u.end u.sent k) (sym read)
-            (subst (λ e. IsSentOf e u.sent (octets_read down)) (sym end)
-                (subst (λ k. IsSentOf t.end k (octets_read down)) (sym sent) feeds.all)))
-        (let few = feeds.few in omega arith)
+    (subst (λ k. down.first + n ≡ min u.acked k) (sym read) first)
+    (subst (λ k. IsSentOf u.end u.sent k) (sym read)
+    (subst (λ e. IsSentOf e u.sent (octets_read down)) (sym end)
+    (subst (λ k. IsSentOf t.end k (octets_read down)) (sym sent) feeds.all)))
+    (let few = feeds.few in omega arith)
 
 windowed_feeds : (t u : Transmission) (down : Downward) (seq : Seq) (window n now : ℕ) → Feeds t down → u.sent ≡ t.sent → u.end ≡ t.end
     → IsSound u → down.first + n ≡ min u.acked (octets_read down) → n ≤ length down.octets
@@ -258,8 +258,8 @@ windowed_feeds : (t u : Transmission) (down : Downward) (seq : Seq) (window n no
 windowed_feeds t u down seq window n now feeds sent end sound first within =
     let keeps = windowed_keeps u seq window in
     dropped_feeds t (windowed u seq window) down n now feeds (sym keeps.sent ∙ sent) (sym keeps.end ∙ end)
-        (windowed_sound u seq window sound)
-        (subst (λ a. down.first + n ≡ min a (octets_read down)) keeps.acked first) within
+    (windowed_sound u seq window sound)
+    (subst (λ a. down.first + n ≡ min a (octets_read down)) keeps.acked first) within
 
 -- an acceptable acknowledgement
 pub ack_feeds : (t : Transmission) (down : Downward) (seq : Seq) (window now : ℕ) (at : ℤ) (seen : AckSeen) → Feeds t down
@@ -274,13 +274,13 @@ ack_feeds t down seq window now at (Forward n) feeds is acceptable =
     let high = is.2 in
     let keeps = measured_keeps t.timed t (t.acked + n) now in
     windowed_feeds t (acknowledged t (Forward n) now) down seq window n now feeds (sym keeps.sent) (sym keeps.end)
-        (moved_sound t (t.acked + n) now feeds.sound (omega arith)) (omega arith) (omega arith)
+    (moved_sound t (t.acked + n) now feeds.sound (omega arith)) (omega arith) (omega arith)
 ack_feeds t down seq window now at (FinToo n) feeds is acceptable =
     let from = feeds.first in
     let high = is.2 in
     let keeps = measured_keeps t.timed t (t.acked + n + 1) now in
     windowed_feeds t (acknowledged t (FinToo n) now) down seq window n now feeds (sym keeps.sent) (sym keeps.end)
-        (moved_sound t (t.acked + n + 1) now feeds.sound (omega arith)) (omega arith) (omega arith)
+    (moved_sound t (t.acked + n + 1) now feeds.sound (omega arith)) (omega arith) (omega arith)
 ack_feeds t down seq window now at TooFar feeds is acceptable = cc
 
 -- no octet of the stream is lost by it

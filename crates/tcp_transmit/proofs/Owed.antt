@@ -97,11 +97,11 @@ pub next_lies : (t : Transmission) (down : Downward) → Feeds t down → 0 < nu
 next_lies t down feeds some =
     let order = feeds.sound.order in
     chosen (is_expired t.timer) (nat_lt t.acked t.sent) (oldest t down) (probe t down) (fresh t down)
-        (λ p. 0 < numbers p → Lies t.end down.first t.acked t.sent (octets_read down) p)
-        (λ _ under _. oldest_lies t.end t.mss down.first t.acked t.sent (octets_read down) (oldest_length t down) refl feeds.all (grind (arith, nat_tests)) feeds.first)
-        (λ _ not_under some. probe_lies t.end (nat_lt t.sent (octets_read down)) down.first t.acked t.sent (octets_read down) refl feeds.all (grind (arith, nat_tests)) feeds.first some)
-        (λ _ some. fresh_lies t.end t.mss down.first t.acked t.sent (octets_read down) (edge_of t.window) (fresh_length t down) refl feeds.all feeds.sound.order feeds.first some)
-        some
+    (λ p. 0 < numbers p → Lies t.end down.first t.acked t.sent (octets_read down) p)
+    (λ _ under _. oldest_lies t.end t.mss down.first t.acked t.sent (octets_read down) (oldest_length t down) refl feeds.all (grind (arith, nat_tests)) feeds.first)
+    (λ _ not_under some. probe_lies t.end (nat_lt t.sent (octets_read down)) down.first t.acked t.sent (octets_read down) refl feeds.all (grind (arith, nat_tests)) feeds.first some)
+    (λ _ some. fresh_lies t.end t.mss down.first t.acked t.sent (octets_read down) (edge_of t.window) (fresh_length t down) refl feeds.all feeds.sound.order feeds.first some)
+    some
 
 -- so it is a piece of the stream
 pub next_of_stream : (t : Transmission) (down : Downward) → Feeds t down → 0 < numbers (next t down)
@@ -150,8 +150,8 @@ pub next_none : (t : Transmission) (down : Downward) → Feeds t down
 next_none t down feeds none =
     let order = feeds.sound.order in
     chosen (is_expired t.timer) (nat_lt t.acked t.sent) (oldest t down) (probe t down) (fresh t down)
-        (λ p. numbers p ≡ 0 → OwesNothing t down)
-        (λ _ under none. absurd (oldest_some t.end t.mss t.acked t.sent (octets_read down) (oldest_length t down) refl feeds.sound.mss feeds.all (grind (arith, nat_tests)) none))
-        (λ expired not_under none. absurd (probe_some t.end (nat_lt t.sent (octets_read down)) t.sent (octets_read down) refl feeds.all (feeds.rests (grind (arith, nat_tests)) (not_off t.timer expired)).1 none))
-        (λ on none. (on, fresh_none t.end t.mss t.sent (octets_read down) (edge_of t.window) (fresh_length t down) refl feeds.sound.mss feeds.all none))
-        none
+    (λ p. numbers p ≡ 0 → OwesNothing t down)
+    (λ _ under none. absurd (oldest_some t.end t.mss t.acked t.sent (octets_read down) (oldest_length t down) refl feeds.sound.mss feeds.all (grind (arith, nat_tests)) none))
+    (λ expired not_under none. absurd (probe_some t.end (nat_lt t.sent (octets_read down)) t.sent (octets_read down) refl feeds.all (feeds.rests (grind (arith, nat_tests)) (not_off t.timer expired)).1 none))
+    (λ on none. (on, fresh_none t.end t.mss t.sent (octets_read down) (edge_of t.window) (fresh_length t down) refl feeds.sound.mss feeds.all none))
+    none

@@ -343,7 +343,9 @@ impl Transmit {
     {
         let octets = octets_read(down);
         let edge = self.edge();
-        let left = octets.saturating_sub(self.sent).min(edge.saturating_sub(self.sent));
+        let left = octets
+            .saturating_sub(self.sent)
+            .min(edge.saturating_sub(self.sent));
         let length = left.min(u64::from(self.mss));
         let end = self.sent + length;
         Piece {

@@ -19,4 +19,4 @@ returns-clause-feeds c =
 pub returns-clause-read : goal.returns-clause-read
 returns-clause-read c =
     subst (λ (d : Downward). octets_read d ≡ octets_read c.args.down.now) (sym c.acknowledge.ensures.dropped)
-        (ack_reads c.args.self.now c.args.down.now (place_acked c.args.self.now c.args.ack.0) c.seen-seen.result c.requires.feeds c.seen-seen.ensures)
+    (ack_reads c.args.self.now c.args.down.now (place_acked c.args.self.now c.args.ack.0) c.seen-seen.result c.requires.feeds c.seen-seen.ensures)

@@ -8,7 +8,7 @@ pub returns-then-numbers-gt0-clause-stream : goal.returns-then-numbers-gt0-claus
 returns-then-numbers-gt0-clause-stream c =
     let is = ap (λ (p : Piece). numbers p) c.next-piece.ensures in
     subst (λ p. IsOfStream c.args.self.now c.args.down.now p) (sym c.next-piece.ensures)
-        (next_of_stream c.args.self.now c.args.down.now c.requires (omega (arith, is)))
+    (next_of_stream c.args.self.now c.args.down.now c.requires (omega (arith, is)))
 
 pub returns-else-numbers-gt0-clause-none : goal.returns-else-numbers-gt0-clause-none
 returns-else-numbers-gt0-clause-none c =

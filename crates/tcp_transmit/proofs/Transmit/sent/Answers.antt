@@ -22,9 +22,9 @@ invariant_of-self c =
     let few = c.requires.owed.1.few in
     let on : is_off c.kept_running-self-inside.result ≡ false = ap is_off c.kept_running-self-inside.ensures ∙ running_on c.if-p.self-inside.timer (c.args.now + c.wait.result) in
     elim c.if-p.branch [
-        then-p w ↦ rw w.self-inside-is (c.self.invariant.0, omega arith, omega arith, λ off. cc)
-        | else-p w ↦ rw w.self-inside-is (c.self.invariant.0, omega arith, omega arith, λ off. cc)
-        ]
+      | then-p w ↦ rw w.self-inside-is (c.self.invariant.0, omega arith, omega arith, λ off. cc)
+      | else-p w ↦ rw w.self-inside-is (c.self.invariant.0, omega arith, omega arith, λ off. cc)
+    ]
 
 pub returns-clause-sent : goal.returns-clause-sent
 returns-clause-sent c = grind (arith, common_steps)
