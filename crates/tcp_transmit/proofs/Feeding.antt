@@ -1,13 +1,13 @@
 -- The buffer stays that of its connection.
-use Rattle.std.proofs.Common.{◌≡◌, ℕ, ◌+◌, ◌*◌, ◌-◌, ◌^◌, ◌<◌, ◌≤◌, List, ◌++◌, length, drop, Bool, true, false, ◌&&◌, nat_lt, nat_le, Option, None, Some, min, max, if◌then◌else◌, arith, rules, refl, ap, subst, sym, ◌∙◌, ℤ, length-append, length-drop}
+use Rattle.std.proofs.Common.{◌≡◌, ℕ, ◌+◌, ◌*◌, ◌-◌, ◌^◌, ◌<◌, ◌≤◌, List, ◌++◌, length, Bool, true, false, ◌&&◌, nat_lt, nat_le, Option, None, Some, min, max, if◌then◌else◌, arith, rules, refl, subst, sym, ◌∙◌, ℤ, length-append, length-drop}
 use Rattle.std.proofs.lemmas.Bool.Decides.{nat_tests}
-use Rattle.sock_buffers.specs.Downward.{Downward, downward}
+use Rattle.sock_buffers.specs.Downward.{Downward}
 use Rattle.seq_space.specs.declared.Seq.{Seq}
-use Rattle.tcp_transmit.specs.Acks.{IsSeenAs, acknowledged, after_ack, is_acceptable, is_newer, moved, octets_acked, windowed, without}
+use Rattle.tcp_transmit.specs.Acks.{IsSeenAs, acknowledged, is_acceptable, is_newer, moved, octets_acked, windowed, without}
 use Rattle.tcp_transmit.specs.Pieces.{end_of, next, numbers, piece_owed}
 use Rattle.retransmit.specs.Estimate.{after_sample}
-use Rattle.tcp_transmit.specs.Timing.{after_sent, begun, kept_running, measured, measured_by, set_now, watched, watched_over}
-use Rattle.tcp_transmit.specs.Transmission.{Feeds, IsSentOf, IsSound, Transmission, is_closed, is_off, octets_read, places, end_places}
+use Rattle.tcp_transmit.specs.Timing.{after_sent, begun, kept_running, measured, measured_by, set_now, watched_over}
+use Rattle.tcp_transmit.specs.Transmission.{Feeds, IsSentOf, IsSound, Transmission, is_closed, is_off, octets_read, places}
 use Rattle.tcp_transmit.specs.declared.AckSeen.{AckSeen}
 use Rattle.tcp_transmit.specs.declared.AckSeen.TheVariants.{Old, Same, Forward, FinToo, TooFar}
 use Rattle.tcp_transmit.specs.declared.End.{End}

@@ -1,9 +1,9 @@
 -- The piece that is owed is one of the stream.
-use Rattle.std.proofs.Common.{◌≡◌, ℕ, ◌+◌, ◌-◌, ◌<◌, ◌≤◌, Bool, true, false, ◌&&◌, ◌⊎◌, nat_lt, nat_eq, Option, None, Some, min, max, if◌then◌else◌, arith, refl, ap, inl, inr}
+use Rattle.std.proofs.Common.{◌≡◌, ℕ, ◌+◌, ◌-◌, ◌<◌, ◌≤◌, Bool, true, false, ◌&&◌, ◌⊎◌, nat_lt, nat_eq, min, max, if◌then◌else◌, arith, refl, ap, inl}
 use Rattle.std.proofs.lemmas.Bool.Decides.{nat_tests}
 use Rattle.sock_buffers.specs.Downward.{Downward}
-use Rattle.tcp_transmit.specs.Pieces.{IsOfStream, OwesNothing, end_of, fresh, fresh_length, next, numbers, oldest, oldest_length, piece, piece_owed, probe}
-use Rattle.tcp_transmit.specs.Transmission.{Feeds, IsSentOf, Transmission, edge_of, is_closed, is_expired, is_off, is_sent, is_unsent, octets_read, places, end_places}
+use Rattle.tcp_transmit.specs.Pieces.{IsOfStream, OwesNothing, end_of, fresh, fresh_length, next, numbers, oldest, oldest_length, piece, probe}
+use Rattle.tcp_transmit.specs.Transmission.{Feeds, IsSentOf, Transmission, edge_of, is_expired, is_off, is_sent, is_unsent, octets_read, end_places}
 use Rattle.tcp_transmit.specs.declared.End.{End}
 use Rattle.tcp_transmit.specs.declared.End.TheVariants.{Open, Unsent, Sent}
 use Rattle.tcp_transmit.specs.declared.Piece.{Piece}
@@ -111,6 +111,7 @@ next_of_stream t down feeds some =
     record {
       low = lies.low;
       high = lies.high;
+      joins = lies.start;
       last = λ yes. ((lies.last yes).0, ap (λ n. octets_read down + n) (lies.last yes).1);
     }
 

@@ -1,5 +1,5 @@
 -- What an acknowledgement does (RFC 9293, 3.10.7.4; RFC 6298, 5.2 and 5.3).
-use Rattle.std.specs.Prelude.{◌≡◌, ℕ, ◌+◌, ◌-◌, ◌<◌, ◌≤◌, ◌^◌, Bool, true, false, ◌&&◌, ◌||◌, nat_lt, nat_le, nat_eq, Option, None, Some, drop, ℤ, pos, ◌<ℤ◌, if◌then◌else◌}
+use Rattle.std.specs.Prelude.{◌≡◌, ℕ, ◌+◌, ◌<◌, ◌≤◌, ◌^◌, Bool, true, false, ◌&&◌, ◌||◌, nat_lt, nat_le, nat_eq, Option, None, Some, drop, ℤ, pos, ◌<ℤ◌, if◌then◌else◌}
 use Rattle.seq_space.specs.Places.{place, steps_up}
 use Rattle.seq_space.specs.declared.Seq.{Seq}
 use Rattle.sock_buffers.specs.Downward.{Downward}
@@ -7,7 +7,6 @@ use Rattle.tcp_transmit.specs.Timing.{measured, set_now, watched_over}
 use Rattle.tcp_transmit.specs.Transmission.{Transmission, octets_read}
 use Rattle.tcp_transmit.specs.declared.AckSeen.{AckSeen}
 use Rattle.tcp_transmit.specs.declared.AckSeen.TheVariants.{Old, Same, Forward, FinToo, TooFar}
-use Rattle.tcp_transmit.specs.declared.Timer.{Timer}
 use Rattle.tcp_transmit.specs.declared.Timer.TheVariants.{Off}
 use Rattle.tcp_transmit.specs.declared.Window.{Window}
 

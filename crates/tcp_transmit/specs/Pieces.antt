@@ -1,5 +1,5 @@
 -- What is sent next (RFC 9293, 3.8).
-use Rattle.std.specs.Prelude.{◌≡◌, ℕ, ◌+◌, ◌-◌, ◌<◌, ◌≤◌, Bool, true, false, ◌&&◌, ◌⊎◌, nat_lt, nat_eq, Option, None, Some, min, max, if◌then◌else◌}
+use Rattle.std.specs.Prelude.{◌≡◌, ℕ, ◌+◌, ◌-◌, ◌≤◌, Bool, true, false, ◌&&◌, ◌⊎◌, nat_lt, nat_eq, Option, None, Some, min, if◌then◌else◌}
 use Rattle.sock_buffers.specs.Downward.{Downward}
 use Rattle.tcp_transmit.specs.Transmission.{Transmission, octets_read, places, edge_of, is_unsent, is_sent, is_expired}
 use Rattle.tcp_transmit.specs.declared.Piece.{Piece}
@@ -51,8 +51,10 @@ piece_owed t down = if nat_lt 0 (numbers (next t down)) then Some (next t down) 
 abbrev pub OwesNothing : Transmission → Downward → Type 0
 OwesNothing t down = (is_expired t.timer ≡ false) × ((places t down ≤ t.sent) ⊎ (edge_of t.window ≤ t.sent))
 
--- the octets of a piece are held at its place, and FIN comes after the last octet of an ended stream
+-- the octets of a piece are held at its place, which leaves no gap after what was sent, and FIN comes after the last octet
+-- of an ended stream
 pub record IsOfStream (t : Transmission) (down : Downward) (p : Piece) : Type 0 where
   pub low : down.first ≤ p.place
   pub high : p.place + p.length ≤ octets_read down
+  pub joins : p.place ≤ t.sent
   pub last : p.fin ≡ true → (p.place + p.length ≡ octets_read down) × (places t down ≡ octets_read down + 1)

@@ -1,10 +1,9 @@
 -- The timer of pieces (RFC 6298, 5) and of probes (RFC 9293, 3.8.6.1), and the round trip that is measured (RFC 6298, 3).
-use Rattle.std.specs.Prelude.{◌≡◌, ℕ, ◌+◌, ◌-◌, ◌<◌, ◌≤◌, ◌≢◌, ◌^◌, Bool, true, false, ◌&&◌, ◌⊎◌, nat_lt, nat_le, Option, None, Some, min, max, if◌then◌else◌}
-use Rattle.retransmit.specs.Estimate.{Estimate, after_sample, after_expiry}
+use Rattle.std.specs.Prelude.{◌≡◌, ℕ, ◌+◌, ◌-◌, ◌<◌, ◌^◌, Bool, true, false, ◌&&◌, ◌⊎◌, nat_lt, nat_le, Option, None, Some, min, max, if◌then◌else◌}
+use Rattle.retransmit.specs.Estimate.{after_sample, after_expiry}
 use Rattle.sock_buffers.specs.Downward.{Downward}
-use Rattle.tcp_transmit.specs.Pieces.{numbers, end_of}
+use Rattle.tcp_transmit.specs.Pieces.{end_of}
 use Rattle.tcp_transmit.specs.Transmission.{Transmission, places, is_closed, is_expired}
-use Rattle.tcp_transmit.specs.declared.End.{End}
 use Rattle.tcp_transmit.specs.declared.End.TheVariants.{Sent}
 use Rattle.tcp_transmit.specs.declared.Piece.{Piece}
 use Rattle.tcp_transmit.specs.declared.Timed.{Timed}

@@ -198,6 +198,7 @@ impl Transmit {
         ensures carries { IfSome result (λ p. 0 < numbers p) }
         ensures few { IfSome result (λ p. p.length ≤ self.now.mss) }
         ensures window { IfSome result (λ p. is_expired self.now.timer ≡ false → end_of p ≤ edge_of self.now.window) }
+        ensures new { IfSome result (λ p. is_expired self.now.timer ≡ false → p.place ≡ self.now.sent) }
     {
         let piece = self.next(down);
         if piece.numbers() > 0 {
@@ -275,6 +276,13 @@ impl Transmit {
             Timer::Until(at) => Some(at),
             Timer::Off | Timer::Expired => None,
         }
+    }
+
+    /// What is known of our end.
+    pub fn end(&self) -> End
+        ensures { result ≡ self.now.end }
+    {
+        self.end
     }
 
     /// The number after all that was sent (SND.NXT).

@@ -79,6 +79,18 @@ fn expire(transmit: &mut Transmit, down: &Down) -> Option<bool>
     Some(transmit.expired())
 }
 
+/// Gives octets of the host, unless it ended.
+fn give(transmit: &mut Transmit, down: &mut Down, octets: &[u8], now: u32) -> Option<usize>
+    requires feeds { Feeds transmit.old down.old }
+    requires few { octets_read down.old + length octets.now < 2 ^ 62 }
+    ensures { Feeds transmit.new down.new }
+{
+    match transmit.end() {
+        End::Open => Some(transmit.more(down, octets, u64::from(now))),
+        End::Unsent | End::Sent => None,
+    }
+}
+
 /// A connection whose SYN has the number 99 and whose pieces have at most 1,460 octets, with octets of the host to send.
 fn opened(alloc: Global, octets: &[u8], ended: bool) -> Result<(Transmit, Down), AllocError>
     requires { length octets.now < 2 ^ 32 }
@@ -153,7 +165,10 @@ fn a_closed_window_opens(rt: HostRuntime) -> Result<(), Fail> {
     let (mut transmit, mut down) = opened(rt.alloc(), &[], false)?;
     let closed = [Acks(0, 100, 0, AckSeen::Same), Rests];
     follow(&rt, &mut transmit, &mut down, &closed);
-    assert_eq!(rt; transmit.more(&mut down, &[7; 2_000], 100), 2_000);
+    assert_eq!(rt;
+        give(&mut transmit, &mut down, &[7; 2_000], 100),
+        Some(2_000)
+    );
     let opens = [
         Due(1_100),
         OwesNothing,
@@ -254,6 +269,7 @@ fn fin_of_an_empty_stream(rt: HostRuntime) -> Result<(), Fail> {
     let (mut transmit, mut down) = opened(rt.alloc(), &[], false)?;
     let closed = [Acks(0, 100, 0, AckSeen::Same), Rests];
     follow(&rt, &mut transmit, &mut down, &closed);
+    assert_eq!(rt; transmit.end(), End::Open);
     transmit.ended(7);
     let ends = [
         Due(1_007),

@@ -1,6 +1,6 @@
-use Rattle.std.proofs.Common.{◌≡◌, ℕ, ◌<◌, ◌≤◌, ◌+◌, ◌^◌, Bool, true, false, take, length, arith, ap, subst, sym, ◌∙◌}
+use Rattle.std.proofs.Common.{◌≡◌, Bool, true, arith, ap, subst, sym, ◌∙◌}
 use Rattle.sock_buffers.specs.Downward.{Downward}
-use Rattle.tcp_transmit.specs.Acks.{acknowledged, is_acceptable, octets_acked, place_acked, windowed, without}
+use Rattle.tcp_transmit.specs.Acks.{acknowledged, is_acceptable, place_acked, windowed}
 use Rattle.tcp_transmit.specs.Timing.{watched, watched_over}
 use Rattle.tcp_transmit.specs.Transmission.{Feeds, Transmission, octets_read}
 use Rattle.tcp_transmit.proofs.Feeding.{ack_feeds, ack_reads}

@@ -1,4 +1,4 @@
-use Rattle.std.proofs.Common.{◌≡◌, ℕ, ◌<◌, ◌≤◌, ◌+◌, ◌^◌, Bool, take, length, arith, ap, subst, sym, ◌∙◌, length-take}
+use Rattle.std.proofs.Common.{◌<◌, ◌+◌, ◌^◌, Bool, take, length, arith, ap, subst, sym, ◌∙◌, length-take}
 use Rattle.sock_buffers.specs.Downward.{Downward}
 use Rattle.tcp_transmit.specs.Timing.{watched, watched_over}
 use Rattle.tcp_transmit.specs.Transmission.{Feeds, Transmission, octets_read}

@@ -1,5 +1,5 @@
-use Rattle.std.proofs.Common.{◌≡◌, ◌<◌, ◌≤◌, arith, ap, subst, sym, ◌∙◌}
-use Rattle.tcp_transmit.specs.Pieces.{IsOfStream, OwesNothing, numbers, next}
+use Rattle.std.proofs.Common.{arith, ap, subst, sym}
+use Rattle.tcp_transmit.specs.Pieces.{IsOfStream, numbers}
 use Rattle.tcp_transmit.specs.declared.Piece.{Piece}
 use Rattle.tcp_transmit.proofs.Owed.{next_of_stream, next_none}
 use Rattle.tcp_transmit.proofs.Transmit.next_piece.Goals as goal

@@ -1,8 +1,6 @@
-use Rattle.std.proofs.Common.{◌≡◌, ℕ, ◌<◌, ◌≤◌, ◌+◌, ◌^◌, Bool, take, length, arith, ap, subst, sym, ◌∙◌, false}
+use Rattle.std.proofs.Common.{◌≡◌, ◌≤◌, ◌+◌, arith, ap, subst, sym, ◌∙◌, false}
 use Rattle.std.proofs.lemmas.Grind.{common_steps}
-use Rattle.sock_buffers.specs.Downward.{Downward}
 use Rattle.tcp_transmit.specs.Pieces.{end_of}
-use Rattle.tcp_transmit.specs.Timing.{after_sent}
 use Rattle.tcp_transmit.specs.Transmission.{Feeds, Transmission, is_off, octets_read}
 use Rattle.tcp_transmit.proofs.Feeding.{sent_feeds, owed_ends, running_on}
 use Rattle.tcp_transmit.proofs.Transmit.sent.Goals as goal
