@@ -2,7 +2,10 @@
 //! acknowledgement changes (RFC 9293, 3.8 and 3.10.7.4; RFC 6298).
 //!
 //! A place is one of the host's stream: its octets have the places from 0 on, and its end, our FIN, has the place after
-//! the last octet. The number of a place is that of our SYN, and so many after it. Moments are in milliseconds.
+//! the last octet. The octet at place 0 has the number after our SYN's. Moments are in milliseconds, at most 2^62.
+//!
+//! The octets lie in a `Down` that each call is passed. It is to be the connection's own: empty at first, changed by the
+//! calls here alone, and with under 2^62 octets of the stream in all. Each call says that it stays so (`Feeds`).
 #![tactic(auto)]
 
 ghost use Rattle.std.specs.Prelude.{◌≡◌, ℕ, ℤ, [], ◌+◌, ◌-◌, ◌^◌, ◌<◌, ◌≤◌, ◌++◌, ◌⊎◌, ◌↔◌, length, take, min, max, pos, ◌<ℤ◌, IsTrue, IsSome, IfSome, IfNone, true, false, nat_lt, is_some, if◌then◌else◌};
@@ -135,8 +138,8 @@ impl AckSeen {
 }
 
 impl Transmit {
-    /// A connection whose SYN has the number `first`, and whose pieces have at most `mss` octets. Nothing goes before the
-    /// SYN is acknowledged.
+    /// A connection whose SYN has the number `first`, and whose pieces have at most `mss` octets, from 64 to 1,460
+    /// (RFC 9293, 3.7.1). Nothing goes before the SYN is acknowledged.
     pub fn new(first: Seq, mss: u16) -> Transmit
         requires low { 64 ≤ mss }
         requires high { mss ≤ 1460 }
@@ -157,8 +160,8 @@ impl Transmit {
         }
     }
 
-    /// Octets of the host: keeps the longest front that fits, and answers its length. Where the window is closed and
-    /// nothing is under way, the timer of its probe starts with the first of them.
+    /// Octets of the host, which has not ended its stream: keeps the longest front that fits, and answers its length.
+    /// Where the window is closed and nothing is under way, the timer of a probe starts (RFC 9293, 3.8.6.1).
     pub fn more(&mut self, down: &mut Down, octets: &[u8], now: u64) -> usize
         requires feeds { Feeds self.old down.old }
         requires on { self.old.end ≡ End.Open }
@@ -176,7 +179,7 @@ impl Transmit {
         count
     }
 
-    /// The host ended the stream after the octets that it gave.
+    /// The host ended the stream after the octets that it gave: FIN is to go after them (RFC 9293, 3.6).
     pub fn ended(&mut self, now: u64)
         requires on { self.old.end ≡ End.Open }
         requires now { now ≤ 2 ^ 62 }
@@ -187,8 +190,8 @@ impl Transmit {
         self.watch(true, now);
     }
 
-    /// The piece that is to be sent next: what goes again first, then what wasn't sent yet and the window has room for.
-    /// `None` exactly where nothing is owed.
+    /// The piece that is to be sent next (RFC 9293, 3.8; RFC 6298, 5.4): what the expired timer owes, and else what wasn't
+    /// sent yet and the window has room for. `None` exactly where nothing is owed.
     pub fn next_piece(&self, down: &Down) -> Option<Piece>
         requires { Feeds self.now down.now }
         ensures piece { result ≡ piece_owed self.now down.now }
@@ -196,7 +199,7 @@ impl Transmit {
         ensures some { IsSome result → ¬ OwesNothing self.now down.now }
         ensures stream { IfSome result (λ p. IsOfStream self.now down.now p) }
         ensures carries { IfSome result (λ p. 0 < numbers p) }
-        ensures few { IfSome result (λ p. p.length ≤ self.now.mss) }
+        ensures mss { IfSome result (λ p. p.length ≤ self.now.mss) }
         ensures window { IfSome result (λ p. is_expired self.now.timer ≡ false → end_of p ≤ edge_of self.now.window) }
         ensures new { IfSome result (λ p. is_expired self.now.timer ≡ false → p.place ≡ self.now.sent) }
     {
@@ -208,7 +211,8 @@ impl Transmit {
         }
     }
 
-    /// A piece was sent: one that `next_piece` gives in this state.
+    /// A piece was sent: one that `next_piece` gives in this state. The timer is set where it doesn't run (RFC 6298, 5.1),
+    /// and the piece is measured where none is and it went for the first time (3).
     pub fn sent(&mut self, p: &Piece, now: u64)
         requires owed { (down : Downward) × Feeds self.old down × (piece_owed self.old down ≡ Some p.now) }
         requires now { now ≤ 2 ^ 62 }
@@ -225,8 +229,9 @@ impl Transmit {
         self.timer = kept_running(self.timer, now + self.rto.wait());
     }
 
-    /// An acknowledgement of the guest, with the number and the window of its segment. Of `down` the octets that are
-    /// acknowledged now are given up.
+    /// An acceptable or other acknowledgement of the guest, with the number and the window of its segment (RFC 9293,
+    /// 3.10.7.4). Octets that are acknowledged for the first time leave `down`, and the timer is set again, or cleared
+    /// where nothing is left under way (RFC 6298, 5.2 and 5.3). What isn't acceptable changes nothing.
     pub fn acked(&mut self, down: &mut Down, seq: Seq, ack: Seq, window: u16, now: u64) -> AckSeen
         requires feeds { Feeds self.old down.old }
         requires now { now ≤ 2 ^ 62 }
@@ -248,8 +253,8 @@ impl Transmit {
     }
 
     /// The timer expired. True where the connection is given up, since the oldest piece went again eight times with no
-    /// acceptable acknowledgement between; nothing changes then. Else that piece, or where nothing is under way a probe,
-    /// is owed.
+    /// acceptable acknowledgement between (RFC 9293, 3.8.3); nothing changes then. Else the wait is doubled, and that
+    /// piece, or where nothing is under way a probe, is owed (RFC 6298, 5.4 and 5.5).
     pub fn expired(&mut self) -> bool
         requires runs { IsSome (moment_of self.old.timer) }
         ensures given_up { IsTrue result ↔ ((self.old.acked < self.old.sent) × (8 ≤ self.old.resent)) }
