@@ -1,0 +1,4 @@
+pub mod Acks
+pub mod Pieces
+pub mod Timing
+pub mod Transmission
