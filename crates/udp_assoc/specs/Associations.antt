@@ -1,6 +1,6 @@
 -- The associations: open sockets, each for the datagrams of one port of a guest, the longest unused first.
-use Rattle.std.specs.Prelude.{ℕ, ◌+◌, ◌==◌, ◌&&◌, not, nat_le, nat_lt, true, Bool, List, [], ◌∷◌, ◌++◌, map, filter, find, Option, Some, None, option_map, if◌then◌else◌}
-use Rattle.std.specs.List.{list_any}
+use Rattle.std.specs.Prelude.{◌≡◌, ◌<◌, ◌≤◌, All, false, slice_index_or, length, ℕ, ◌+◌, ◌==◌, ◌&&◌, not, nat_le, nat_lt, true, Bool, List, [], ◌∷◌, ◌++◌, map, filter, find, Option, Some, None, option_map, if◌then◌else◌}
+use Rattle.std.specs.List.{list_any, remove}
 use Rattle.net_octets.specs.declared.Endpoint.{Endpoint}
 use Rattle.net_octets.specs.declared.Mac.{Mac}
 use Rattle.host_policy.specs.Targets.{same_endpoint}
@@ -64,3 +64,23 @@ put_back change (Some a) before rest = rest ++ (change a ∷ [])
 abbrev pub is_less : ℕ → Option ℕ → Bool
 is_less number None = true
 is_less number (Some least) = nat_lt number least
+
+-- the place of the first with this number, where there is one
+abbrev pub IsPlaceOf : ℕ → List Association → Option ℕ → Type 0
+IsPlaceOf number associations None = (numbered number associations ≡ None) × ((change : Association → Association) → moved_last change number associations ≡ associations)
+IsPlaceOf number associations (Some place) = (place < length associations) × (a : Association) × ((other : Association) → slice_index_or associations place other ≡ a)
+    × (numbered number associations ≡ Some a) × ((change : Association → Association) → moved_last change number associations ≡ remove associations place ++ (change a ∷ []))
+
+-- the least number of those that pass a test, where one does
+abbrev pub IsLeast : (Association → Bool) → List Association → Option ℕ → Type 0
+IsLeast test associations None = All (λ a. test a ≡ false) associations
+IsLeast test associations (Some number) = (list_any (λ a. is_numbered number a && test a) associations ≡ true) × All (λ a. test a ≡ true → number ≤ a.number) associations
+
+-- the number, where it is meant and less than the least so far
+abbrev pub lesser : Bool → ℕ → Option ℕ → Option ℕ
+lesser meant number least = if meant && is_less number least then Some number else least
+
+-- those whose idle life is over, or all
+abbrev pub is_meant : Option ℕ → Association → Bool
+is_meant None a = true
+is_meant (Some now) a = is_over now a
