@@ -169,6 +169,9 @@ mod tests {
     const REQUEST_FOR_GATEWAY: &[u8] =
         b"\x00\x01\x08\x00\x06\x04\x00\x01\x52\x54\x00\x12\x34\x56\x0a\x00\x02\x0f\x00\x00\x00\x00\x00\x00\x0a\x00\x02\x02";
 
+    const REPLY_OF_GATEWAY: &[u8] =
+        b"\x00\x01\x08\x00\x06\x04\x00\x02\x52\x55\x0a\x00\x02\x02\x0a\x00\x02\x02\x52\x54\x00\x12\x34\x56\x0a\x00\x02\x0f";
+
     #[test]
     fn request_is_read_and_written(rt: HostRuntime) {
         let packet = decode(REQUEST_FOR_GATEWAY).expect(&rt, "a packet");
@@ -181,19 +184,38 @@ mod tests {
         assert_eq!(rt; &written[..28], REQUEST_FOR_GATEWAY);
     }
 
-    #[test]
-    fn hardware_of_kind_six_is_refused(rt: HostRuntime) {
+    fn fault_with(place: usize, octet: u8) -> Option<Fault>
+        requires { place < 28 }
+    {
         let mut packet = [0; 28];
         packet.copy_from_slice(REQUEST_FOR_GATEWAY);
-        packet[1] = 6;
-        let fault = decode(&packet).err();
-        assert_eq!(rt;
-            fault,
-            Some(Fault {
-                kind: FaultKind::BadKind,
-                at: 0
-            })
-        );
+        packet[place] = octet;
+        decode(&packet).err()
+    }
+
+    fn at(kind: FaultKind, at: usize) -> Option<Fault> {
+        Some(Fault { kind, at })
+    }
+
+    #[test]
+    fn packets_that_are_wrong(rt: HostRuntime) {
+        let short = decode(&REQUEST_FOR_GATEWAY[..27]).err();
+        assert_eq!(rt; short, at(FaultKind::Short, 27));
+        assert_eq!(rt; decode(&[]).err(), at(FaultKind::Short, 0));
+        assert_eq!(rt; fault_with(1, 6), at(FaultKind::BadKind, 0));
+        assert_eq!(rt; fault_with(3, 6), at(FaultKind::BadKind, 2));
+        assert_eq!(rt; fault_with(4, 8), at(FaultKind::BadLength, 4));
+        assert_eq!(rt; fault_with(5, 6), at(FaultKind::BadLength, 5));
+        assert_eq!(rt; fault_with(7, 3), at(FaultKind::BadKind, 6));
+    }
+
+    #[test]
+    fn reply_is_read(rt: HostRuntime) {
+        let packet = decode(REPLY_OF_GATEWAY).expect(&rt, "a packet");
+        assert_eq!(rt; packet.reply, true);
+        assert_eq!(rt; packet.sender_ip, Ip4(0x0a000202));
+        assert_eq!(rt; packet.target_mac, GUEST);
+        assert_eq!(rt; packet.target_ip, Ip4(0x0a00020f));
     }
 
     #[test]

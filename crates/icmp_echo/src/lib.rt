@@ -223,15 +223,16 @@ mod tests {
         assert_eq!(rt; decode(&octets), Ok(IcmpView::Other { kind: 13, code: 0 }));
     }
 
+    fn at(kind: FaultKind, at: usize) -> Option<Fault> {
+        Some(Fault { kind, at })
+    }
+
     #[test]
-    fn sum_that_does_not_hold_is_a_fault(rt: HostRuntime) {
-        let fault = decode(b"\x08\x00\x8f\x94\x00\x01\x00\x01hj").err();
-        assert_eq!(rt;
-            fault,
-            Some(Fault {
-                kind: FaultKind::BadSum,
-                at: 2
-            })
-        );
+    fn messages_that_are_wrong(rt: HostRuntime) {
+        let short = decode(&REQUEST[..7]).err();
+        assert_eq!(rt; short, at(FaultKind::Short, 7));
+        assert_eq!(rt; decode(&[]).err(), at(FaultKind::Short, 0));
+        let sum = decode(b"\x08\x00\x8f\x94\x00\x01\x00\x01hj").err();
+        assert_eq!(rt; sum, at(FaultKind::BadSum, 2));
     }
 }

@@ -1,5 +1,5 @@
 -- Datagrams of UDP (RFC 768).
-use Rattle.std.specs.Prelude.{◌≡◌, ℕ, ◌+◌, ◌-◌, ◌^◌, ◌<◌, ◌≤◌, ◌==◌, ◌&&◌, ◌||◌, not, true, nat_le, nat_lt, Bool, List, [], ◌++◌, length, take, Option, Some, None, if◌then◌else◌}
+use Rattle.std.specs.Prelude.{◌≡◌, ℕ, ◌+◌, ◌-◌, ◌^◌, ◌<◌, ◌==◌, ◌&&◌, ◌||◌, not, true, nat_le, nat_lt, Bool, List, [], ◌++◌, length, take, Option, Some, None, if◌then◌else◌}
 use Rattle.net_octets.specs.Kinds.{udp_proto}
 use Rattle.net_octets.specs.Octets.{two_at, part, two, word_sum, checksum, sum_ok, before_sum}
 use Rattle.net_octets.specs.declared.Fault.{Fault}

@@ -5,7 +5,7 @@ mod assocs;
 
 ghost use Rattle.std.specs.Prelude.{◌≡◌, ℕ, List, None, ◌+◌, ◌≤◌, ◌<◌, ◌^◌, ◌↔◌, ◌++◌, length, take, drop, IsOk, IfOk, OnErr, MatchResult, Some};
 ghost use Rattle.std.specs.Result.{result_ok, result_err};
-ghost use Rattle.udp_assoc.specs.Udp.{Udp, IsUdp, IsPlain, read_udp, udp_fault, udp_with, udp_octets, udp_of, summed};
+ghost use Rattle.udp_assoc.specs.Udp.{Udp, IsUdp, IsPlain, read_udp, udp_fault, udp_with, udp_octets, udp_of, summed, written_sum};
 ghost use Rattle.net_octets.specs.Octets.{IsOctets};
 
 pub use assocs::{Association, Associations, IDLE_LIFE, MOST_ASSOCIATIONS};
@@ -26,7 +26,10 @@ const HEAD: usize = 8;
 /// The protocol of a datagram that carries UDP.
 const PROTOCOL: u8 = 17;
 
-/// Reads a datagram of at most 65,535 octets between two addresses; octets past its length are passed over. A sum of 0 says that there is none. The fault is the first of these: Short under 8 octets, with their number as its place; BadLength 4, where the length is under 8 or over what came; BadSum 6, where a sum is there and doesn't hold.
+/// Reads a datagram of at most 65,535 octets between two addresses; octets past its length are
+/// passed over. A sum of 0 says that there is none. The fault is the first of these: Short under 8
+/// octets, with their number as its place; BadLength 4, where the length is under 8 or over what
+/// came; BadSum 6, where a sum is there and doesn't hold.
 pub fn decode(octets: &[u8], from: Ip4, to: Ip4) -> Result<UdpView<'_>, Fault>
     requires { length octets.now ≤ 65535 }
     ensures packet { MatchResult result (λ v. IsUdp from.0 to.0 octets.now (udp_of v))
@@ -34,6 +37,20 @@ pub fn decode(octets: &[u8], from: Ip4, to: Ip4) -> Result<UdpView<'_>, Fault>
     ensures fields { MatchResult result (λ v. read_udp from.0 to.0 octets.now ≡ Some (udp_of v))
         (λ _. read_udp from.0 to.0 octets.now ≡ None) }
     ensures fault { result_err result ≡ udp_fault from.0 to.0 octets.now }
+{
+    check(octets, from, to)?;
+    let length = BigEndian::read_u16(&octets[4..6]) as usize;
+    Ok(UdpView {
+        from_port: BigEndian::read_u16(&octets[..2]),
+        to_port: BigEndian::read_u16(&octets[2..4]),
+        body: &octets[HEAD..length],
+    })
+}
+
+/// The first fault of the octets.
+fn check(octets: &[u8], from: Ip4, to: Ip4) -> Result<(), Fault>
+    requires { length octets.now ≤ 65535 }
+    ensures { result_err result ≡ udp_fault from.0 to.0 octets.now }
 {
     let bad = |kind, at| Err(Fault { kind, at });
     if octets.len() < HEAD {
@@ -43,19 +60,17 @@ pub fn decode(octets: &[u8], from: Ip4, to: Ip4) -> Result<UdpView<'_>, Fault>
     if (length as usize) < HEAD || octets.len() < length as usize {
         return bad(FaultKind::BadLength, 4);
     }
-    let datagram = &octets[..length as usize];
     let start = pseudo(from, to, PROTOCOL, length);
-    if BigEndian::read_u16(&octets[6..HEAD]) != 0 && checksum_after(start, datagram) != 0 {
+    let sum = BigEndian::read_u16(&octets[6..HEAD]);
+    if sum != 0 && checksum_after(start, &octets[..length as usize]) != 0 {
         return bad(FaultKind::BadSum, 6);
     }
-    Ok(UdpView {
-        from_port: BigEndian::read_u16(&octets[..2]),
-        to_port: BigEndian::read_u16(&octets[2..4]),
-        body: &datagram[HEAD..],
-    })
+    Ok(())
 }
 
-/// Writes a datagram between two addresses at the front of `into`, and answers its length in octets. The payload has at most 65,527 octets. `into` is unchanged where it is too short, and past the datagram.
+/// Writes a datagram between two addresses at the front of `into`, and answers its length in
+/// octets. The payload has at most 65,527 octets. `into` is unchanged where it is too short, and
+/// past the datagram.
 pub fn encode(v: &UdpView<'_>, from: Ip4, to: Ip4, into: &mut [u8]) -> Result<usize, NoRoom>
     requires { length v.now.body.now ≤ 65527 }
     ensures written { IfOk result (λ n. into.new ≡ udp_octets from.0 to.0 (udp_of v.now) ++ drop n into.old) }
@@ -65,35 +80,173 @@ pub fn encode(v: &UdpView<'_>, from: Ip4, to: Ip4, into: &mut [u8]) -> Result<us
     ensures room { IsOk result ↔ (8 + length v.now.body.now ≤ length into.old) }
     ensures unchanged { OnErr result (into.new ≡ into.old) }
 {
-    let length = (HEAD + v.body.len()) as u16;
-    let start = pseudo(from, to, PROTOCOL, length)
-        + v.from_port as u32
-        + v.to_port as u32
-        + length as u32;
-    let sum = match checksum_after(start, v.body) {
-        0 => 0xffff,
-        sum => sum,
-    };
-    write_packet(&head(v.from_port, v.to_port, length, sum), v.body, into)
+    write_packet(&head(v, sum_of(v, from, to)), v.body, into)
 }
 
-/// The grammar of datagrams holds of octets and fields, with some octets behind, exactly where these fields are read.
+/// The sum that is written: a 0 would say that there is none.
+fn sum_of(v: &UdpView<'_>, from: Ip4, to: Ip4) -> u16
+    requires { length v.now.body.now ≤ 65527 }
+    ensures { result ≡ written_sum (summed from.0 to.0 (udp_with 0 (udp_of v.now))) }
+{
+    let length = (HEAD + v.body.len()) as u16;
+    let ports = v.from_port as u32 + v.to_port as u32;
+    let start = pseudo(from, to, PROTOCOL, length) + ports + length as u32;
+    match checksum_after(start, v.body) {
+        0 => 0xffff,
+        sum => sum,
+    }
+}
+
+/// The octets before the payload, with this sum.
+fn head(v: &UdpView<'_>, sum: u16) -> [u8; HEAD]
+    requires { length v.now.body.now ≤ 65527 }
+    ensures octets { result ++ v.now.body.now ≡ udp_with sum (udp_of v.now) }
+    ensures from_port { v.now.from_port < 2 ^ 16 }
+    ensures to_port { v.now.to_port < 2 ^ 16 }
+{
+    let (from_port, to_port) = (v.from_port, v.to_port);
+    let mut head = [0; HEAD];
+    BigEndian::write_u16(&mut head[..2], from_port);
+    BigEndian::write_u16(&mut head[2..4], to_port);
+    BigEndian::write_u16(&mut head[4..6], (HEAD + v.body.len()) as u16);
+    BigEndian::write_u16(&mut head[6..], sum);
+    head
+}
+
+/// The grammar of datagrams holds of octets and fields, with some octets behind, exactly where
+/// these fields are read.
 pub fn grammar_is_what_is_read()
     ensures { (from to : ℕ) (octets : List ℕ) (udp : Udp) → IsOctets octets
         → (IsUdp from to octets udp ↔ (read_udp from to octets ≡ Some udp)) }
 {}
 
-/// Two datagrams with the same fields between the same addresses have the same octets, where they are as we write them: with the sum that a checksum gives, and no octets behind.
+/// Two datagrams with the same fields between the same addresses have the same octets, where they
+/// are as we write them: with the sum that a checksum gives, and no octets behind.
 pub fn same_fields_same_octets()
     ensures { (from to : ℕ) (first second : List ℕ) (udp : Udp) (g : IsUdp from to first udp) (h : IsUdp from to second udp)
         → IsPlain from to first udp g → IsPlain from to second udp h → first ≡ second }
 {}
 
-/// The eight octets before a payload.
-fn head(from_port: u16, to_port: u16, length: u16, sum: u16) -> [u8; 8] {
-    let [a, b] = from_port.to_be_bytes();
-    let [c, d] = to_port.to_be_bytes();
-    let [e, f] = length.to_be_bytes();
-    let [g, h] = sum.to_be_bytes();
-    [a, b, c, d, e, f, g, h]
+#[cfg(test)]
+mod tests {
+    use super::*;
+
+    const GUEST: Ip4 = Ip4(0x0a00020f);
+
+    const PEER: Ip4 = Ip4(0xc0000207);
+
+    const LOOPBACK: Ip4 = Ip4(0x7f000001);
+
+    const SENDER: Ip4 = Ip4(0xc6336401);
+
+    const HI: &[u8] = b"\x0f\xa0\x00\x09\x00\x0a\x00\x00hi";
+
+    const OK: &[u8] = b"\x00\x07\x0f\xa0\x00\x0a\x4a\x84ok";
+
+    const OK_AND_MORE: &[u8] = b"\x00\x07\x0f\xa0\x00\x0a\x4a\x84ok\x12\x34\x56";
+
+    const ON: &[u8] = b"\x00\x07\x0f\xa0\x00\x0a\x4a\x84on";
+
+    const LENGTH_7: &[u8] = b"\x0f\xa0\x00\x09\x00\x07\x00\x00hi";
+
+    const LENGTH_11: &[u8] = b"\x0f\xa0\x00\x09\x00\x0b\x00\x00hi";
+
+    const ODD: &[u8] = b"\x00\x07\x0f\xa0\x00\x09\x4a\xf1o";
+
+    const EMPTY: &[u8] = b"\x00\x07\x0f\xa0\x00\x08\xb9\xf3";
+
+    const WHOLE_SUM: &[u8] = b"\x00\x07\x0f\xa0\x00\x0a\xff\xff\xb9\xef";
+
+    fn to_echo() -> UdpView<'static> {
+        UdpView {
+            from_port: 4000,
+            to_port: 9,
+            body: b"hi",
+        }
+    }
+
+    fn answer(body: &[u8]) -> UdpView<'_>
+        ensures { result.body.now ≡ body.now }
+    {
+        UdpView {
+            from_port: 7,
+            to_port: 4000,
+            body,
+        }
+    }
+
+    fn fault(octets: &[u8]) -> Option<Fault>
+        requires { length octets.now ≤ 65535 }
+    {
+        decode(octets, SENDER, GUEST).err()
+    }
+
+    fn at(kind: FaultKind, at: usize) -> Option<Fault> {
+        Some(Fault { kind, at })
+    }
+
+    #[test]
+    fn sum_of_0_says_none(rt: HostRuntime) {
+        assert_eq!(rt; decode(HI, GUEST, PEER), Ok(to_echo()));
+        assert_eq!(rt; decode(HI, GUEST, LOOPBACK), Ok(to_echo()));
+    }
+
+    #[test]
+    fn answer_is_read_and_written(rt: HostRuntime) {
+        assert_eq!(rt; decode(OK, SENDER, GUEST), Ok(answer(b"ok")));
+        let mut written = [7; 11];
+        let length = encode(&answer(b"ok"), SENDER, GUEST, &mut written);
+        assert_eq!(rt; length, Ok(10));
+        assert_eq!(rt; &written[..10], OK);
+        assert_eq!(rt; written[10], 7);
+    }
+
+    #[test]
+    fn octets_past_the_length_are_passed_over(rt: HostRuntime) {
+        assert_eq!(rt; decode(OK_AND_MORE, SENDER, GUEST), Ok(answer(b"ok")));
+    }
+
+    #[test]
+    fn datagrams_that_are_wrong(rt: HostRuntime) {
+        assert_eq!(rt; fault(&OK[..7]), at(FaultKind::Short, 7));
+        assert_eq!(rt; fault(LENGTH_7), at(FaultKind::BadLength, 4));
+        assert_eq!(rt; fault(LENGTH_11), at(FaultKind::BadLength, 4));
+        assert_eq!(rt; fault(ON), at(FaultKind::BadSum, 6));
+        assert_eq!(rt; decode(OK, PEER, GUEST).err(), at(FaultKind::BadSum, 6));
+    }
+
+    #[test]
+    fn odd_octet_is_summed(rt: HostRuntime) {
+        assert_eq!(rt; decode(ODD, SENDER, GUEST), Ok(answer(b"o")));
+        let mut written = [0; 9];
+        let length = encode(&answer(b"o"), SENDER, GUEST, &mut written);
+        assert_eq!(rt; length, Ok(9));
+        assert_eq!(rt; written.as_slice(), ODD);
+    }
+
+    #[test]
+    fn empty_payload(rt: HostRuntime) {
+        assert_eq!(rt; decode(EMPTY, SENDER, GUEST), Ok(answer(b"")));
+        let mut written = [0; 8];
+        let length = encode(&answer(b""), SENDER, GUEST, &mut written);
+        assert_eq!(rt; length, Ok(8));
+        assert_eq!(rt; written.as_slice(), EMPTY);
+    }
+
+    #[test]
+    fn computed_sum_of_0_is_written_as_ffff(rt: HostRuntime) {
+        let whole = answer(b"\xb9\xef");
+        let mut written = [0; 10];
+        assert_eq!(rt; encode(&whole, SENDER, GUEST, &mut written), Ok(10));
+        assert_eq!(rt; written.as_slice(), WHOLE_SUM);
+        assert_eq!(rt; decode(WHOLE_SUM, SENDER, GUEST), Ok(whole));
+    }
+
+    #[test]
+    fn no_room_changes_nothing(rt: HostRuntime) {
+        let mut short = [7; 9];
+        let length = encode(&answer(b"ok"), SENDER, GUEST, &mut short);
+        assert_eq!(rt; length, Err(NoRoom));
+        assert_eq!(rt; short, [7; 9]);
+    }
 }
