@@ -8,12 +8,15 @@ pub record ServiceState : Type 0 where
   pub slirp : SlirpState
   pub link : LinkState
 
--- nothing was read or written, no datagram was sent, no guest is known and nothing is owed; no port of the host is given to a guest yet
+-- nothing was read or written, no datagram was sent, no guest is known, no socket is open, no moment was told and nothing is owed; no port of the host is given to a guest yet
 pub record IsNew (service : ServiceState) : Type 0 where
   pub forwards : service.slirp.config.forwards ≡ []
   pub known : service.slirp.known ≡ []
   pub sent : service.slirp.sent ≡ 0
   pub pending : service.slirp.pending ≡ []
+  pub now : service.slirp.now ≡ 0
+  pub number : service.slirp.number ≡ 0
+  pub associations : service.slirp.associations ≡ []
   pub input : under_way service.link ≡ []
   pub output : service.link.tail ≡ []
   pub free : service.link.blocked ≡ false

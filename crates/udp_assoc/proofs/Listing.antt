@@ -3,7 +3,7 @@ use Rattle.std.proofs.Common.{◌≡◌, ℕ, suc, ◌+◌, ◌<◌, ◌≤◌, 
 use Rattle.std.proofs.lemmas.Bool.Decides.{nat_tests}
 use Rattle.std.proofs.Math.Seq.{drop-cons, take-suc}
 use Rattle.std.proofs.lemmas.List.{append-nil, take_all, drop_all}
-use Rattle.std.specs.List.{remove}
+use Rattle.std.specs.List.{remove, refill}
 use Rattle.std.specs.List.Retain.{RetainsInTurn}
 use Rattle.udp_assoc.specs.Associations.{numbered, moved_last}
 use Rattle.udp_assoc.specs.declared.assocs.Association.{Association}
@@ -78,3 +78,10 @@ all_over number list place all over change =
     ∙ ap (λ l. l ++ moved_last change number (drop place list)) (take_all place list all)
     ∙ ap (λ l. list ++ moved_last change number l) (drop_all place list all)
     ∙ append-nil list
+
+-- a list put in the place of another one as long
+pub filled_up : (xs ws : List ℕ) → length ws ≡ length xs → refill (length xs) xs ws ≡ ws
+filled_up xs ws same =
+    let none : length xs ≤ length ws = omega (arith, same) in
+    let all : length ws ≤ length xs = omega (arith, same) in
+    ap (λ r. take (length xs) (ws ++ r)) (drop_all (length ws) xs none) ∙ ap (take (length xs)) (append-nil ws) ∙ take_all (length xs) ws all

@@ -1,6 +1,6 @@
 // Which sockets are open for which ports of guests.
 ghost use Rattle.std.specs.Prelude.{◌≡◌, ◌≤◌, ◌<◌, [], ◌∷◌, ◌++◌, length, true, All, IfSome};
-ghost use Rattle.udp_assoc.specs.Associations.{is_over, is_of, lesser, is_meant, put_back, IsPlaceOf, IsLeast};
+ghost use Rattle.udp_assoc.specs.Associations.{numbers, is_over, is_of, lesser, is_meant, put_back, IsPlaceOf, IsLeast};
 
 use arrayvec::ArrayVec;
 use net_octets::{Endpoint, Ip4, Mac};
@@ -52,9 +52,10 @@ impl Model for Associations {
 }
 
 impl Associations {
-    ghost use Rattle.std.specs.Prelude.{Some, None, nat_le};
+    ghost use Rattle.std.specs.Prelude.{Some, None, nat_le, IsPermutation};
+    ghost use Rattle.std.specs.List.Sorted.{IsNonDecreasing};
     ghost use Rattle.udp_assoc.specs.declared.assocs.Association.{Association};
-    ghost use Rattle.udp_assoc.specs.Associations.{most_associations, numbers, numbered, socket_of, without, moved_last, sent_from, heard_at};
+    ghost use Rattle.udp_assoc.specs.Associations.{most_associations, numbered, socket_of, without, moved_last, sent_from, heard_at};
 
     /// No association.
     pub fn new() -> Associations
@@ -146,6 +147,16 @@ impl Associations {
         least_of(self.list.as_slice(), None)
     }
 
+    /// The numbers of all sockets, the least first.
+    pub fn rising(&self) -> ArrayVec<u64, 512>
+        ensures all { IsPermutation (numbers self.now) result.items }
+        ensures rising { IsNonDecreasing result.items }
+    {
+        let mut rising = numbers_of(self.list.as_slice());
+        rising.as_mut_slice().sort_unstable();
+        rising
+    }
+
     // Takes the association with this number out.
     fn take(&mut self, number: u64) -> Option<Association>
         ensures moved { (change : Association → Association) → moved_last change number self.old ≡ put_back change result self.old self.new }
@@ -155,6 +166,18 @@ impl Associations {
         let place = place_of(self.list.as_slice(), number)?;
         Some(self.list.remove(place))
     }
+}
+
+// The numbers of sockets, in the order of the list.
+fn numbers_of(list: &[Association]) -> ArrayVec<u64, 512>
+    requires { length list.now ≤ 512 }
+    ensures { result.items ≡ numbers list.now }
+{
+    let mut numbers = ArrayVec::new();
+    for place in 0..list.len() {
+        numbers.push(list[place].number);
+    }
+    numbers
 }
 
 // The place of the association with this number.
