@@ -1,4 +1,0 @@
-mod Pumping
-mod Serving
-mod Taking
-mod Turning

@@ -1,6 +1,6 @@
 -- What the core keeps of the calls made on the World.
-use Rattle.std.specs.Prelude.{◌≡◌, ℕ, ◌&&◌, Bool, true, false, List, []}
-use Rattle.poll_list.specs.Listing.{reads}
+use Rattle.std.specs.Prelude.{◌≡◌, ℕ, ◌&&◌, not, Bool, true, false, List, []}
+use Rattle.poll_list.specs.Listing.{same_who, reads}
 use Rattle.poll_list.specs.declared.Want.{Want}
 use Rattle.poll_list.specs.declared.Who.TheVariants.{Link}
 use Rattle.world_face.specs.Journal.{Entry}
@@ -40,10 +40,10 @@ pub record HoldsAt (config : Config) (at : Standing) (step : Step) (slirp : Slir
   pub pending : frames_of config (identification past) (left config past) ≡ slirp.pending
   pub guests : known config past ≡ slirp.known
   pub relayed : relay config past ≡ record { associations = slirp.associations; step = step }
-  pub clock : moment past ≡ slirp.now
+  pub clock : moment past ≡ slirp.moment
   pub number : next_number past ≡ slirp.number
   pub rising : IsRising (next_number past) (open_sockets past)
-  pub open : AreThoseOf slirp.associations (open_sockets past)
+  pub sockets : AreThoseOf slirp.associations (open_sockets past)
   pub working : phase config past ≡ Working
   pub counted : waits past ≡ at.count
   pub readable : at.to_read ≡ true → is_readable past ≡ true
@@ -51,6 +51,16 @@ pub record HoldsAt (config : Config) (at : Standing) (step : Step) (slirp : Slir
 -- the same, and it asks for nothing
 abbrev pub Holds : Config → Standing → SlirpState → LinkState → List Entry → Type 0
 Holds config at slirp link past = HoldsAt config at Settled slirp link past
+
+abbrev pub standing : ℕ → Bool → Standing
+standing count to_read = record { count = count; to_read = to_read }
+
+-- whether an item is the frame that is to be read, and whether one is still to be read after it
+abbrev pub is_read_now : Bool → Want → Bool
+is_read_now to_read item = to_read && same_who Link item.of && item.read
+
+abbrev pub still : Bool → Want → Bool
+still to_read item = to_read && not (same_who Link item.of && item.read)
 
 -- after so many waits, and no frame is to be read
 abbrev pub after : ℕ → Standing
@@ -61,7 +71,7 @@ pub record Ended (config : Config) (why : Ending) (associations : List Associati
   pub lawful : Lawful config past
   pub over : phase config past ≡ Over (By why)
   pub rising : IsRising (next_number past) (open_sockets past)
-  pub open : AreThoseOf associations (open_sockets past)
+  pub sockets : AreThoseOf associations (open_sockets past)
 
 -- after a pump
 abbrev pub AfterPump : Pumped → Config → Standing → SlirpState → LinkState → List Entry → Type 0
@@ -114,7 +124,7 @@ pub record Closing (config : Config) (end : End) (associations : List Associatio
   pub is : end ≡ end_of config (phase config past)
   pub rests : Rests config past
   pub rising : IsRising (next_number past) (open_sockets past)
-  pub open : AreThoseOf associations (open_sockets past)
+  pub sockets : AreThoseOf associations (open_sockets past)
 
 -- a run that is over: it is lawful and finished, and this is how it ended
 abbrev pub Ran : Config → End → List Entry → Type 0

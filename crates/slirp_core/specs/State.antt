@@ -11,6 +11,6 @@ pub record SlirpState : Type 0 where
   pub known : List (Ip4 × Mac)
   pub sent : ℕ
   pub pending : List (List ℕ)
-  pub now : ℕ
+  pub moment : ℕ
   pub number : ℕ
   pub associations : List Association

@@ -175,12 +175,7 @@ fn write_message(
 }
 
 // Writes the frame of a datagram of UDP, and answers its length.
-fn write_udp(
-    course: &Course,
-    datagram: &UdpView<'_>,
-    frame: &mut [u8],
-    packet: &mut [u8],
-) -> usize
+fn write_udp(course: &Course, datagram: &UdpView<'_>, frame: &mut [u8], packet: &mut [u8]) -> usize
     requires room { (length frame.old ≡ 1514) × (length packet.old ≡ 1514) }
     requires size { length datagram.now.body.now ≤ 1472 }
     ensures frame { take result frame.new ≡ ether_octets course.now.to_mac.0 course.now.from_mac.0 ipv4_kind

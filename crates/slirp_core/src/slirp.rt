@@ -28,6 +28,7 @@ const MOST_PAYLOAD: usize = 1472;
 
 /// Why a destination can't be reached: the network can't (RFC 792), and communication is prohibited (RFC 1122, 3.2.2.1).
 const NO_NETWORK: u8 = 0;
+
 const PROHIBITED: u8 = 10;
 
 /// Every address and port of the host.
@@ -58,7 +59,7 @@ pub struct Slirp {
     associations: Associations,
     sent: u16,
     outgoing: Outgoing,
-    now: u64,
+    moment: u64,
     number: u64,
 }
 
@@ -67,7 +68,7 @@ impl Model for Slirp {
 
     ghost Value = { SlirpState };
 
-    ghost view = { λ s. record { config = s.policy; known = s.guests; sent = s.sent; pending = s.outgoing; now = s.now; number = s.number; associations = s.associations } };
+    ghost view = { λ s. record { config = s.policy; known = s.guests; sent = s.sent; pending = s.outgoing; moment = s.moment; number = s.number; associations = s.associations } };
 }
 
 impl Slirp {
@@ -98,7 +99,7 @@ impl Slirp {
         ensures known { IfOk result (λ slirp. slirp.known ≡ []) }
         ensures sent { IfOk result (λ slirp. slirp.sent ≡ 0) }
         ensures pending { IfOk result (λ slirp. slirp.pending ≡ []) }
-        ensures now { IfOk result (λ slirp. slirp.now ≡ 0) }
+        ensures moment { IfOk result (λ slirp. slirp.moment ≡ 0) }
         ensures number { IfOk result (λ slirp. slirp.number ≡ 0) }
         ensures associations { IfOk result (λ slirp. slirp.associations ≡ []) }
     {
@@ -109,7 +110,7 @@ impl Slirp {
             associations: Associations::new(),
             sent: 0,
             outgoing,
-            now: 0,
+            moment: 0,
             number: 0,
         })
     }
@@ -130,18 +131,20 @@ impl Slirp {
 
     /// The clock told a moment, in milliseconds: the moment in force is the greatest so far, at most 2^62.
     pub fn tell_moment(&mut self, told: u64)
-        ensures { self.new ≡ record self.old { now = max (min told (2 ^ 62)) self.old.now } }
+        ensures { self.new ≡ record self.old { moment = max (min told (2 ^ 62)) self.old.moment } }
     {
-        self.now = told.min(LAST_MOMENT).max(self.now);
+        self.moment = told.min(LAST_MOMENT).max(self.moment);
     }
 
     /// Takes in a frame: its sender is learnt, what it asks for is owed from now on, and a datagram that goes out is answered, to be sent by `relay`.
     pub fn input<'a>(&mut self, frame: &'a [u8]) -> Option<ErrandView<'a>>
         ensures errand { option_map errand_of result ≡ errand_in self.old.config frame.now }
         ensures fits { IfSome result (λ e. FitsErrand e) }
+        ensures none { IfSome result (λ e. self.new.pending ≡ []) }
         ensures changes { self.new ≡ record self.old {
-            pending = frames_of self.old.config self.old.sent (owed_for_frame self.old.config frame.now);
-            known = with_ether self.old.config (read_ether frame.now) self.old.known } }
+          pending = frames_of self.old.config self.old.sent (owed_for_frame self.old.config frame.now);
+          known = with_ether self.old.config (read_ether frame.now) self.old.known;
+        } }
     {
         self.outgoing.clear();
         let Ok(ether) = ether_frame::decode(frame) else {
@@ -161,8 +164,9 @@ impl Slirp {
     fn take_arp(&mut self, body: &[u8])
         requires { self.old.pending ≡ [] }
         ensures { self.new ≡ record self.old {
-            pending = frames_of self.old.config self.old.sent (owed_for (owed_for_arp self.old.config) (read_arp body.now));
-            known = with_arp self.old.config (read_arp body.now) self.old.known } }
+          pending = frames_of self.old.config self.old.sent (owed_for (owed_for_arp self.old.config) (read_arp body.now));
+          known = with_arp self.old.config (read_arp body.now) self.old.known;
+        } }
     {
         let Ok(packet) = arp_table::decode(body) else {
             return;
@@ -178,9 +182,11 @@ impl Slirp {
         requires { self.old.pending ≡ [] }
         ensures errand { option_map errand_of result ≡ option_and_then (errand_of_ip self.old.config mac.0) (read_ip body.now) }
         ensures fits { IfSome result (λ e. FitsErrand e) }
+        ensures none { IfSome result (λ e. self.new.pending ≡ []) }
         ensures changes { self.new ≡ record self.old {
-            pending = frames_of self.old.config self.old.sent (owed_for (owed_for_ip self.old.config mac.0) (read_ip body.now));
-            known = with_ip self.old.config mac.0 (read_ip body.now) self.old.known } }
+          pending = frames_of self.old.config self.old.sent (owed_for (owed_for_ip self.old.config mac.0) (read_ip body.now));
+          known = with_ip self.old.config mac.0 (read_ip body.now) self.old.known;
+        } }
     {
         let Ok(packet) = ipv4_head::decode(body) else {
             return None;
@@ -198,8 +204,10 @@ impl Slirp {
     fn take_icmp(&mut self, mac: Mac, datagram: &IpView<'_>)
         requires none { self.old.pending ≡ [] }
         requires size { length datagram.now.body.now ≤ 1480 }
-        ensures { self.new ≡ record self.old { pending = frames_of self.old.config self.old.sent
-            (owed_for (owed_for_icmp mac.0 (ip_of datagram.now)) (read_icmp datagram.now.body.now)) } }
+        ensures { self.new ≡ record self.old {
+          pending = frames_of self.old.config self.old.sent
+              (owed_for (owed_for_icmp mac.0 (ip_of datagram.now)) (read_icmp datagram.now.body.now));
+        } }
     {
         let Ok(message) = icmp_echo::decode(datagram.body) else {
             return;
@@ -216,6 +224,7 @@ impl Slirp {
         requires quote { length datagram.now.quote.now ≤ 68 }
         ensures errand { option_map errand_of result ≡ errand_by_law self.old.config (datagram_of datagram.now) }
         ensures same { IfSome result (λ e. e.datagram ≡ datagram.now) }
+        ensures none { IfSome result (λ e. self.new.pending ≡ []) }
         ensures changes { self.new ≡ record self.old { pending = frames_of self.old.config self.old.sent (owed_for_datagram self.old.config (datagram_of datagram.now)) } }
     {
         match fate(&self.policy, datagram) {
@@ -294,7 +303,7 @@ impl Slirp {
     /// What the network waits for, and how long at most: the link for reading, and each open socket by rising number, where nothing is left to be sent; the link for writing where it is blocked; until the idle life of the longest unused socket is over.
     pub fn pollfds_fill(&self, link: &Link, wants: &mut Wants) -> Option<u64>
         requires { 513 ≤ wants.old.capacity }
-        ensures timeout { result ≡ time_left self.now.now self.now.associations }
+        ensures timeout { result ≡ time_left self.now.moment self.now.associations }
         ensures items { WantsOf self.now link.now wants.new.items }
         ensures capacity { wants.new.capacity ≡ wants.old.capacity }
     {
@@ -312,7 +321,7 @@ impl Slirp {
             add_sockets(self.associations.rising().as_slice(), wants);
         }
         let oldest = self.associations.as_slice().first()?;
-        Some(IDLE_LIFE.saturating_sub(self.now.saturating_sub(oldest.used)))
+        Some(IDLE_LIFE.saturating_sub(self.moment.saturating_sub(oldest.used)))
     }
 
     // Sends the rest of the frame before.
@@ -432,7 +441,7 @@ impl Slirp {
                     number,
                     guest: errand.datagram.from,
                     mac: errand.datagram.mac,
-                    used: self.now,
+                    used: self.moment,
                 });
                 self.send(world, number, errand);
             }
@@ -450,7 +459,8 @@ impl Slirp {
         ensures config { self.new.config ≡ self.old.config }
     {
         let sent = world.udp_send(number, errand.to, errand.datagram.body);
-        self.associations.sent(number, errand.datagram.mac, self.now);
+        self.associations
+            .sent(number, errand.datagram.mac, self.moment);
         match sent {
             Sent::Done | Sent::NotYet => {}
             Sent::Failed => self.tell_about(NO_NETWORK, &errand.datagram),
@@ -472,7 +482,7 @@ impl Slirp {
         };
         match world.udp_recv(number, into) {
             Got::From(peer, count) => {
-                self.associations.heard(number, self.now);
+                self.associations.heard(number, self.moment);
                 self.answer_peer(peer, &into[..count], &association);
             }
             Got::NotYet | Got::Failed => {}
@@ -483,10 +493,10 @@ impl Slirp {
     pub fn tick<W: World>(&mut self, world: &mut W)
         ensures makes { (config : Config) (at : Standing) (link : LinkState) → Brings (W.tells world.old) (W.tells world.new)
             (Holds config at self.old link) (Holds config at self.new link) }
-        ensures none { All (λ a. is_over self.new.now a ≡ false) self.new.associations }
+        ensures none { All (λ a. is_over self.new.moment a ≡ false) self.new.associations }
         ensures same { self.new ≡ record self.old { associations = self.new.associations } }
     {
-        while let Some(number) = self.associations.idle(self.now) {
+        while let Some(number) = self.associations.idle(self.moment) {
             world.close(number);
             self.associations.close(number);
         }
