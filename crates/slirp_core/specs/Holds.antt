@@ -129,3 +129,8 @@ pub record Closing (config : Config) (end : End) (associations : List Associatio
 -- a run that is over: it is lawful and finished, and this is how it ended
 abbrev pub Ran : Config → End → List Entry → Type 0
 Ran config end made = Lawful config made × Finished config made × (end ≡ end_of config (phase config made))
+
+-- after a socket was closed, or none was left
+abbrev pub AfterClosing : Bool → Config → End → List Association → List Entry → Type 0
+AfterClosing true config end associations past = Closing config end associations past
+AfterClosing false config end associations past = Ran config end past

@@ -90,7 +90,7 @@ impl Slirp {
     ghost use Rattle.slirp_core.specs.Datagrams.{datagram_of, errand_of, FitsErrand};
     ghost use Rattle.slirp_core.specs.Outgoing.{sent_after};
     ghost use Rattle.slirp_core.specs.Pumps.{keep, time_left, WantsOf};
-    ghost use Rattle.slirp_core.specs.Holds.{Standing, Holds, HoldsAt, AfterPump, Leaves, LeavesRest, Closing, Ran};
+    ghost use Rattle.slirp_core.specs.Holds.{Standing, Holds, HoldsAt, AfterPump, Leaves, LeavesRest, Closing, AfterClosing, Ran};
     ghost use Rattle.slirp_core.specs.declared.service.End.{End};
 
     /// A network in which no guest is known, no socket is open and nothing is owed. It takes all the memory that it will ever need.
@@ -462,7 +462,8 @@ impl Slirp {
         self.associations
             .sent(number, errand.datagram.mac, self.moment);
         match sent {
-            Sent::Done | Sent::NotYet => {}
+            Sent::Done => {}
+            Sent::NotYet => {}
             Sent::Failed => self.tell_about(NO_NETWORK, &errand.datagram),
         }
     }
@@ -485,7 +486,8 @@ impl Slirp {
                 self.associations.heard(number, self.moment);
                 self.answer_peer(peer, &into[..count], &association);
             }
-            Got::NotYet | Got::Failed => {}
+            Got::NotYet => {}
+            Got::Failed => {}
         }
     }
 
@@ -496,20 +498,43 @@ impl Slirp {
         ensures none { All (λ a. is_over self.new.moment a ≡ false) self.new.associations }
         ensures same { self.new ≡ record self.old { associations = self.new.associations } }
     {
-        while let Some(number) = self.associations.idle(self.moment) {
-            world.close(number);
-            self.associations.close(number);
-        }
+        while self.close_idle(world) {}
+    }
+
+    // Closes the first socket whose idle life is over, and answers whether there was one.
+    fn close_idle<W: World>(&mut self, world: &mut W) -> bool
+        ensures makes { (config : Config) (at : Standing) (link : LinkState) → Brings (W.tells world.old) (W.tells world.new)
+            (Holds config at self.old link) (Holds config at self.new link) }
+        ensures fewer { result ≡ true → length self.new.associations < length self.old.associations }
+        ensures none { result ≡ false → All (λ a. is_over self.new.moment a ≡ false) self.new.associations }
+        ensures same { self.new ≡ record self.old { associations = self.new.associations } }
+    {
+        let Some(number) = self.associations.idle(self.moment) else {
+            return false;
+        };
+        world.close(number);
+        self.associations.close(number);
+        true
     }
 
     /// Closes all sockets, by rising number.
     pub fn close_all<W: World>(&mut self, world: &mut W)
         ensures { (config : Config) (end : End) → Brings (W.tells world.old) (W.tells world.new) (Closing config end self.old.associations) (Ran config end) }
     {
-        while let Some(number) = self.associations.least() {
-            world.close(number);
-            self.associations.close(number);
-        }
+        while self.close_first(world) {}
+    }
+
+    // Closes the first socket, and answers whether there was one.
+    fn close_first<W: World>(&mut self, world: &mut W) -> bool
+        ensures makes { (config : Config) (end : End) → Brings (W.tells world.old) (W.tells world.new) (Closing config end self.old.associations) (AfterClosing result config end self.new.associations) }
+        ensures fewer { result ≡ true → length self.new.associations < length self.old.associations }
+    {
+        let Some(number) = self.associations.least() else {
+            return false;
+        };
+        world.close(number);
+        self.associations.close(number);
+        true
     }
 }
 
