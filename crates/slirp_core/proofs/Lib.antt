@@ -1,0 +1,2 @@
+mod Datagramming
+mod Taking
