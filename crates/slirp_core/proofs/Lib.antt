@@ -1,2 +1,3 @@
 mod Datagramming
+mod Filling
 mod Taking

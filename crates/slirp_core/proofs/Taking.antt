@@ -4,8 +4,8 @@ use Rattle.std.proofs.lemmas.Bool.Decides.{nat_tests}
 use Rattle.std.specs.Option.{option_and_then}
 use Rattle.net_octets.specs.Kinds.{arp_kind, ipv4_kind, icmp_proto, udp_proto}
 use Rattle.net_octets.specs.declared.Endpoint.{Endpoint}
-use Rattle.host_policy.specs.Addresses.{Config, address, last_address, is_ours, is_guest}
-use Rattle.host_policy.specs.Targets.{is_group_or_reserved, shown, is_hidden}
+use Rattle.host_policy.specs.Addresses.{Config, address, is_ours, is_guest}
+use Rattle.host_policy.specs.Targets.{shown, is_hidden}
 use Rattle.ether_frame.specs.Ether.{Ether, read_ether, ether_octets}
 use Rattle.arp_table.specs.Arp.{read_arp}
 use Rattle.ipv4_head.specs.Ip.{Ip, read_ip, ip_octets, is_unbroken}
@@ -42,8 +42,8 @@ module _ (s : SlirpState) (frame : List ℕ) (ether : Ether) (read : read_ether 
 
   pub errand_of_packet : option_and_then (errand_of_ip s.config ether.from) (read_ip ether.body) ≡ errand_in s.config frame
   errand_of_packet = sym (
-    ap (option_and_then (errand_of_ether s.config)) read
-    ∙ ap (λ (k : ℕ). if k == ipv4_kind then option_and_then (errand_of_ip s.config ether.from) (read_ip ether.body) else None) kind)
+      ap (option_and_then (errand_of_ether s.config)) read
+      ∙ ap (λ (k : ℕ). if k == ipv4_kind then option_and_then (errand_of_ip s.config ether.from) (read_ip ether.body) else None) kind)
 
 message_proto : (a b : Bool) (proto : ℕ) (c d : Bool) → (a && b && (proto == 1) && c && d) ≡ true → proto ≡ 1
 message_proto a b proto c d is = grind (arith, nat_tests)
@@ -59,16 +59,16 @@ module _ (s : SlirpState) (mac octets : List ℕ) (ip : Ip) (read : read_ip octe
       (record s { pending = frames_of s.config s.sent (owed_for (owed_for_icmp mac ip) (read_icmp ip.body)); known = with_pair s.config ip.from mac s.known })
       (record s { pending = frames_of s.config s.sent (owed_for (owed_for_ip s.config mac) (read_ip octets)); known = with_ip s.config mac (read_ip octets) s.known })
   message_to_us asked = sym (
-    ap (λ (o : Option Ip). record s { pending = frames_of s.config s.sent (owed_for (owed_for_ip s.config mac) o); known = with_ip s.config mac o s.known }) read
-    ∙ ap (λ (b : Bool). record s { pending = frames_of s.config s.sent (if b then owed_for (owed_for_icmp mac ip) (read_icmp ip.body) else owed_for (owed_for_datagram s.config) (udp_of s.config mac ip)); known = with_pair s.config ip.from mac s.known }) asked)
+      ap (λ (o : Option Ip). record s { pending = frames_of s.config s.sent (owed_for (owed_for_ip s.config mac) o); known = with_ip s.config mac o s.known }) read
+      ∙ ap (λ (b : Bool). record s { pending = frames_of s.config s.sent (if b then owed_for (owed_for_icmp mac ip) (read_icmp ip.body) else owed_for (owed_for_datagram s.config) (udp_of s.config mac ip)); known = with_pair s.config ip.from mac s.known }) asked)
 
   pub no_message : is_message_to_us s.config ip ≡ false → (d : Option Datagram) → d ≡ udp_of s.config mac ip → ◌≡◌ {A = SlirpState}
       (record s { pending = frames_of s.config s.sent (owed_for (owed_for_datagram s.config) d); known = with_pair s.config ip.from mac s.known })
       (record s { pending = frames_of s.config s.sent (owed_for (owed_for_ip s.config mac) (read_ip octets)); known = with_ip s.config mac (read_ip octets) s.known })
   no_message asked d udp = sym (
-    ap (λ (o : Option Ip). record s { pending = frames_of s.config s.sent (owed_for (owed_for_ip s.config mac) o); known = with_ip s.config mac o s.known }) read
-    ∙ ap (λ (b : Bool). record s { pending = frames_of s.config s.sent (if b then owed_for (owed_for_icmp mac ip) (read_icmp ip.body) else owed_for (owed_for_datagram s.config) (udp_of s.config mac ip)); known = with_pair s.config ip.from mac s.known }) asked
-    ∙ ap (λ (o : Option Datagram). record s { pending = frames_of s.config s.sent (owed_for (owed_for_datagram s.config) o); known = with_pair s.config ip.from mac s.known }) (sym udp))
+      ap (λ (o : Option Ip). record s { pending = frames_of s.config s.sent (owed_for (owed_for_ip s.config mac) o); known = with_ip s.config mac o s.known }) read
+      ∙ ap (λ (b : Bool). record s { pending = frames_of s.config s.sent (if b then owed_for (owed_for_icmp mac ip) (read_icmp ip.body) else owed_for (owed_for_datagram s.config) (udp_of s.config mac ip)); known = with_pair s.config ip.from mac s.known }) asked
+      ∙ ap (λ (o : Option Datagram). record s { pending = frames_of s.config s.sent (owed_for (owed_for_datagram s.config) o); known = with_pair s.config ip.from mac s.known }) (sym udp))
 
   pub no_errand : is_message_to_us s.config ip ≡ true → ◌≡◌ {A = Option Errand} None (option_and_then (errand_of_ip s.config mac) (read_ip octets))
   no_errand asked = ap (option_and_then (errand_of s.config)) (none_of_others s.config mac ip (no_udp s.config ip asked)) ∙ sym (ap (option_and_then (errand_of_ip s.config mac)) read)
@@ -97,7 +97,7 @@ reply_packet from octets a =
 pub answered : (config : Config) (ident : ℕ) (peer from : Endpoint) (octets : List ℕ) (a : Association)
     → Some from ≡ (if is_hidden config peer then None else Some (shown config peer)) → length octets ≤ 1472
     → ether_octets a.mac.0 (our_mac config.vhost) ipv4_kind (ip_octets ident 0 udp_proto (address from) (address a.guest) (udp_octets (address from) (address a.guest) (record { from_port = from.port; to_port = a.guest.port; body = octets }))) ∷ []
-        ≡ frames_of config ident (reply config peer octets a)
+    ≡ frames_of config ident (reply config peer octets a)
 answered config ident peer from octets a is fits =
     let p = shown_parts (is_hidden config peer) from (shown config peer) is in
     ap (λ (e : Endpoint). frames_of config ident (reply_packet e octets a ∷ [])) p.1

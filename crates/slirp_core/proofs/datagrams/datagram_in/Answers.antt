@@ -1,4 +1,4 @@
-use Rattle.std.proofs.Common.{◌≤◌, length, arith}
+use Rattle.std.proofs.Common.{arith}
 use Rattle.net_octets.specs.Octets.{IsOctets}
 use Rattle.ipv4_head.specs.Ip.{ip_of}
 use Rattle.udp_assoc.specs.Udp.{udp_of}
@@ -12,9 +12,9 @@ returns-then-packet-ne-UDP-clause-datagram c =
     let mac = c.args.mac.0 in
     let ip = ip_of c.args.packet.now in
     elim c.then-packet-ne-UDP.branch [
-      then-packet-ne-UDP-via-then-packet-ne-UDP w ↦ none_of_others config mac ip w.if-packet-ne-UDP.true
-    | then-packet-ne-UDP-via-else-packet-ne-UDP+then-packet w ↦ none_with_more config mac ip w.if-packet.true
-    | then-packet-ne-UDP-via-else-packet-ne-UDP+else-packet+then-packet-ne0 w ↦ none_of_later config mac ip w.if-packet-ne0.true
+      | then-packet-ne-UDP-via-then-packet-ne-UDP w ↦ none_of_others config mac ip w.if-packet-ne-UDP.true
+      | then-packet-ne-UDP-via-else-packet-ne-UDP+then-packet w ↦ none_with_more config mac ip w.if-packet.true
+      | then-packet-ne-UDP-via-else-packet-ne-UDP+else-packet+then-packet-ne0 w ↦ none_of_later config mac ip w.if-packet-ne0.true
     ]
 
 pub decode-requires : goal.decode-requires

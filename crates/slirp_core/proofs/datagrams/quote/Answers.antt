@@ -1,4 +1,4 @@
-use Rattle.std.proofs.Common.{◌≡◌, ℕ, ◌+◌, ◌≤◌, min, length, take, ap, ◌∙◌, arith}
+use Rattle.std.proofs.Common.{◌+◌, length, take, ap, ◌∙◌, arith}
 use Rattle.std.proofs.lemmas.List.{length-take}
 use Rattle.net_octets.specs.Octets.{IsOctets}
 use Rattle.ipv4_head.specs.Ip.{ip_of}

@@ -1,4 +1,4 @@
-use Rattle.std.proofs.Common.{ℕ, ◌+◌, List, length, take, drop, sym, ◌∙◌, ap, arith}
+use Rattle.std.proofs.Common.{ℕ, List, take, drop, ◌∙◌, ap, arith}
 use Rattle.std.proofs.lemmas.List.{take_at}
 use Rattle.net_octets.specs.Kinds.{ipv4_kind, udp_proto}
 use Rattle.ether_frame.specs.Ether.{ether_octets}
