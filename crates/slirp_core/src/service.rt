@@ -117,7 +117,7 @@ impl Service {
     fn is_settled(&self) -> bool
         ensures { result ≡ is_settled self.now.slirp self.now.link }
     {
-        self.link.tail() == 0 && !self.slirp.pending()
+        self.slirp.is_settled(&self.link)
     }
 
     // Waits, and asks for the moment where it was woken.

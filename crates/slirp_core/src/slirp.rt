@@ -3,7 +3,7 @@ ghost use Rattle.std.specs.Prelude.{◌≡◌, ℕ, ◌+◌, ◌^◌, ◌<◌, �
 ghost use Rattle.arp_table.specs.Arp.{arp_of};
 ghost use Rattle.ipv4_head.specs.Ip.{ip_of, is_unbroken};
 ghost use Rattle.slirp_laws.specs.Answers.{our_mac, owed_for_arp, is_message_to_us};
-ghost use Rattle.slirp_core.specs.Pumps.{pumped_of, udp_want};
+ghost use Rattle.slirp_core.specs.Pumps.{pumped_of, link_want, udp_want};
 ghost use Rattle.slirp_core.specs.Packets.{packets_of, reply_to};
 
 use crate::datagrams::{DatagramView, ErrandView, Outcome, datagram_in, fate};
@@ -89,7 +89,7 @@ impl Slirp {
     ghost use Rattle.stream_netdev.specs.State.{LinkState, under_way};
     ghost use Rattle.slirp_core.specs.Datagrams.{datagram_of, errand_of, FitsErrand};
     ghost use Rattle.slirp_core.specs.Outgoing.{sent_after};
-    ghost use Rattle.slirp_core.specs.Pumps.{keep, time_left, WantsOf};
+    ghost use Rattle.slirp_core.specs.Pumps.{keep, is_settled, time_left, WantsOf};
     ghost use Rattle.slirp_core.specs.Holds.{Standing, Holds, HoldsAt, AfterPump, Leaves, LeavesRest, Closing, AfterClosing, Ran};
     ghost use Rattle.slirp_core.specs.declared.service.End.{End};
 
@@ -307,21 +307,31 @@ impl Slirp {
         ensures items { WantsOf self.now link.now wants.new.items }
         ensures capacity { wants.new.capacity ≡ wants.old.capacity }
     {
-        wants.clear();
-        let read = link.tail() == 0 && !self.pending();
-        let write = link.blocked();
-        if read || write {
-            wants.add(Want {
-                of: Who::Link,
-                read,
-                write,
-            });
-        }
-        if read {
-            add_sockets(self.associations.rising().as_slice(), wants);
-        }
+        self.fill(link, wants);
         let oldest = self.associations.as_slice().first()?;
         Some(IDLE_LIFE.saturating_sub(self.moment.saturating_sub(oldest.used)))
+    }
+
+    // What is waited for.
+    fn fill(&self, link: &Link, wants: &mut Wants)
+        requires { 513 ≤ wants.old.capacity }
+        ensures items { WantsOf self.now link.now wants.new.items }
+        ensures capacity { wants.new.capacity ≡ wants.old.capacity }
+    {
+        wants.clear();
+        let read = self.is_settled(link);
+        add_link(read, link.blocked(), wants);
+        let rising = self.associations.rising();
+        if read {
+            add_sockets(rising.as_slice(), wants);
+        }
+    }
+
+    /// Whether nothing is left to be sent.
+    pub fn is_settled(&self, link: &Link) -> bool
+        ensures { result ≡ is_settled self.now link.now }
+    {
+        link.tail() == 0 && !self.pending()
     }
 
     // Sends the rest of the frame before.
@@ -593,6 +603,21 @@ fn is_message_to_us(policy: &Policy, datagram: &IpView<'_>) -> bool
         && !datagram.more
         && datagram.offset == 0
         && datagram.body.len() <= MOST_BODY
+}
+
+// Puts the link at the end, in the directions in which it is wanted.
+fn add_link(read: bool, write: bool, wants: &mut Wants)
+    requires { length wants.old.items < wants.old.capacity }
+    ensures items { wants.new.items ≡ wants.old.items ++ link_want read write }
+    ensures capacity { wants.new.capacity ≡ wants.old.capacity }
+{
+    if read || write {
+        wants.add(Want {
+            of: Who::Link,
+            read,
+            write,
+        });
+    }
 }
 
 // Puts the sockets of these numbers at the end, for reading.
