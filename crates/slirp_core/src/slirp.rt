@@ -1,5 +1,6 @@
 // What a guest's frames ask for, and what isn't out yet.
-ghost use Rattle.std.specs.Prelude.{◌≡◌, ℕ, ◌+◌, ◌^◌, ◌<◌, ◌≤◌, ◌++◌, map, All, length, true, Bool};
+ghost use Rattle.std.specs.Prelude.{[], ◌≡◌, ℕ, ◌+◌, ◌^◌, ◌<◌, ◌≤◌, ◌++◌, map, All, length, true, Bool};
+ghost use Rattle.poll_list.specs.Listing.{AreWants};
 ghost use Rattle.arp_table.specs.Arp.{arp_of};
 ghost use Rattle.ipv4_head.specs.Ip.{ip_of, is_unbroken};
 ghost use Rattle.slirp_laws.specs.Answers.{our_mac, owed_for_arp, is_message_to_us};
@@ -72,7 +73,7 @@ impl Model for Slirp {
 }
 
 impl Slirp {
-    ghost use Rattle.std.specs.Prelude.{[], nat_lt, false, Some, IfOk, IfSome, min, max};
+    ghost use Rattle.std.specs.Prelude.{nat_lt, false, Some, IfOk, IfSome, min, max};
     ghost use Rattle.std.specs.Option.{option_map, option_and_then};
     ghost use Rattle.host_policy.specs.Addresses.{Config};
     ghost use Rattle.host_policy.specs.Settings.{settings};
@@ -305,6 +306,8 @@ impl Slirp {
         requires { 513 ≤ wants.old.capacity }
         ensures timeout { result ≡ time_left self.now.moment self.now.associations }
         ensures items { WantsOf self.now link.now wants.new.items }
+        ensures wants { AreWants wants.new.items }
+        ensures few { length wants.new.items ≤ 513 }
         ensures capacity { wants.new.capacity ≡ wants.old.capacity }
     {
         self.fill(link, wants);
@@ -316,6 +319,8 @@ impl Slirp {
     fn fill(&self, link: &Link, wants: &mut Wants)
         requires { 513 ≤ wants.old.capacity }
         ensures items { WantsOf self.now link.now wants.new.items }
+        ensures wants { AreWants wants.new.items }
+        ensures few { length wants.new.items ≤ 513 }
         ensures capacity { wants.new.capacity ≡ wants.old.capacity }
     {
         wants.clear();
@@ -607,8 +612,11 @@ fn is_message_to_us(policy: &Policy, datagram: &IpView<'_>) -> bool
 
 // Puts the link at the end, in the directions in which it is wanted.
 fn add_link(read: bool, write: bool, wants: &mut Wants)
-    requires { length wants.old.items < wants.old.capacity }
-    ensures items { wants.new.items ≡ wants.old.items ++ link_want read write }
+    requires none { wants.old.items ≡ [] }
+    requires room { 1 ≤ wants.old.capacity }
+    ensures items { wants.new.items ≡ link_want read write }
+    ensures wants { AreWants wants.new.items }
+    ensures few { length wants.new.items ≤ 1 }
     ensures capacity { wants.new.capacity ≡ wants.old.capacity }
 {
     if read || write {
@@ -622,10 +630,12 @@ fn add_link(read: bool, write: bool, wants: &mut Wants)
 
 // Puts the sockets of these numbers at the end, for reading.
 fn add_sockets(numbers: &[u64], wants: &mut Wants)
-    requires { length wants.old.items + length numbers.now ≤ wants.old.capacity }
+    requires wants { AreWants wants.old.items }
+    requires room { length wants.old.items + length numbers.now ≤ wants.old.capacity }
     ensures items { wants.new.items ≡ wants.old.items ++ map udp_want numbers.now }
+    ensures wants { AreWants wants.new.items }
+    ensures room { length wants.new.items ≡ length wants.old.items + length numbers.now }
     ensures capacity { wants.new.capacity ≡ wants.old.capacity }
-    ensures fit { All (λ number. number < 2 ^ 64) numbers.now }
 {
     for &number in numbers {
         wants.add(Want {
