@@ -1,5 +1,5 @@
 -- A run from its first call to its last.
-use Rattle.std.proofs.Common.{◌≡◌, ℕ, ◌^◌, ◌≤◌, ◌||◌, min, max, nat_le, true, List, [], ◌∷◌, MatchOption, refl, sym, ◌∙◌, ap, subst, arith}
+use Rattle.std.proofs.Common.{◌≡◌, ℕ, ◌^◌, ◌≤◌, ◌||◌, min, max, nat_le, true, List, [], ◌∷◌, MatchOption, None, refl, sym, ◌∙◌, ap, subst, arith}
 use Rattle.std.proofs.lemmas.Bool.Decides.{nat_tests}
 use Rattle.world_face.specs.Journal.{Entry, Now, CallNow}
 use Rattle.world_face.specs.Tells.{Telling, Makes}
@@ -28,8 +28,8 @@ started service told new = record {
   settings = refl;
   lawful = record {
     framed = (tt, tt);
-    due = (subst (λ f. MatchOption (due_in (Opening 0 f) []) (Unit {0}) (λ d. CallNow ≡ d)) (sym new.forwards) refl, tt);
-    shape = (ap (λ f. due_in (Opening 0 f) []) new.forwards, tt);
+    due = (subst (λ f. MatchOption (unless_due (due_in (Opening 0 f) []) None) (Unit {0}) (λ d. CallNow ≡ d)) (sym new.forwards) refl, tt);
+    shape = (ap (λ f. unless_due (due_in (Opening 0 f) []) None) new.forwards, tt);
     socket = (tt, tt);
     read = (tt, tt);
     answer = (tt, tt);

@@ -1,9 +1,9 @@
 -- Waits and reads.
-use Rattle.std.proofs.Common.{◌≡◌, ℕ, ◌+◌, ◌^◌, ◌<◌, ◌==◌, ◌&&◌, not, nat_lt, min, max, Bool, true, false, List, [], ◌∷◌, ◌++◌, drop, length, Option, Some, None, sym, ◌∙◌, ap, subst, arith, refl, if◌then◌else◌}
+use Rattle.std.proofs.Common.{◌≡◌, ℕ, ◌+◌, ◌^◌, ◌<◌, ◌≤◌, ◌==◌, ◌&&◌, not, nat_lt, min, max, Bool, true, false, List, [], ◌∷◌, ◌++◌, drop, length, Option, Some, None, sym, ◌∙◌, ap, subst, arith, refl, if◌then◌else◌}
 use Rattle.std.proofs.lemmas.Bool.Decides.{nat_tests}
-use Rattle.poll_list.specs.Listing.{reads, writes}
+use Rattle.poll_list.specs.Listing.{same_who, reads, writes}
 use Rattle.poll_list.specs.declared.Want.{Want}
-use Rattle.poll_list.specs.declared.Who.TheVariants.{Link as TheLink}
+use Rattle.poll_list.specs.declared.Who.TheVariants.{Link as TheLink, Udp}
 use Rattle.world_face.specs.Journal.{Entry, Follows, Now, Wait, LinkRead, CallWait, CallLinkRead}
 use Rattle.world_face.specs.declared.Io.TheVariants.{Done, End as IoEnd, NotYet as IoNotYet, Failed as IoFailed}
 use Rattle.world_face.specs.declared.Waited.{Waited}
@@ -22,7 +22,7 @@ use Rattle.stream_netdev.specs.Frames.{ended, Pieces, Reads}
 use Rattle.stream_netdev.specs.Keeps.{Keeps, ReadsFrame, hands, ending_of}
 use Rattle.stream_netdev.specs.State.{LinkState, under_way}
 use Rattle.stream_netdev.specs.declared.Arrived.{Arrived}
-use Rattle.slirp_core.specs.Holds.{Standing, HoldsAt, Holds, after, standing, Ended, EndedAs, AfterPump, AfterTurn}
+use Rattle.slirp_core.specs.Holds.{Standing, HoldsAt, Holds, after, standing, still, Ended, EndedAs, AfterPump, AfterTurn}
 use Rattle.slirp_core.specs.Pumps.{is_settled, link_want, socket_wants, WantsOf}
 use Rattle.slirp_core.specs.Sockets.{IsRising, AreThoseOf}
 use Rattle.slirp_core.specs.State.{SlirpState}
@@ -335,3 +335,22 @@ pumped PumpFailed config at slirp link past ended = ended_as config LinkFailed s
 -- the same octets are under way
 pub same_under_way : (old new : LinkState) → new.octets ≡ old.octets → new.whole ≡ old.whole → under_way new ≡ under_way old
 same_under_way old new octets whole = ap (λ b. if b then [] else new.octets) whole ∙ ap (λ l. if old.whole then [] else l) octets
+
+-- a socket isn't the link
+pub still_by_socket : (to_read : Bool) (item : Want) (number : ℕ) → item.of ≡ Udp number → still to_read item ≡ to_read
+still_by_socket to_read item number is = ap (λ who. to_read && not (same_who TheLink who && item.read)) is ∙ and_true to_read
+  where
+    and_true : (b : Bool) → (b && true) ≡ b
+    and_true true = refl
+    and_true false = refl
+
+-- numbers of sockets: at most one is drawn for the frame that is read
+pub enough : (number limit : ℕ) (to_read : Bool) → to_read ≡ true → number + (if to_read then 1 else 0) ≤ limit + 1 → limit + 1 < 2 ^ 64 → number + 1 < 2 ^ 64
+enough number limit true is few fits = omega (arith, few, fits)
+enough number limit false is few fits = cc
+
+pub counts_on : (new old limit : ℕ) (to_read of_link read : Bool) → new ≤ old + (if to_read && of_link && read then 1 else 0) → old + (if to_read then 1 else 0) ≤ limit + 1 → new + (if to_read && not (of_link && read) then 1 else 0) ≤ limit + 1
+counts_on new old limit true true true less few = omega (arith, less, few)
+counts_on new old limit true true false less few = omega (arith, less, few)
+counts_on new old limit true false read less few = omega (arith, less, few)
+counts_on new old limit false of_link read less few = omega (arith, less, few)

@@ -208,7 +208,7 @@ impl Service {
         hears: bool,
     ) -> Turn
         requires on { ReadsOn (under_way self.old.link) }
-        requires number { self.old.slirp.number + 1 < 2 ^ 64 }
+        requires number { to_read ≡ true → self.old.slirp.number + 1 < 2 ^ 64 }
         ensures makes { (config : Config) (count : ℕ) → Brings (W.tells world.old) (W.tells world.new)
             (Holds config (standing count to_read) self.old.slirp self.old.link) (AfterTurn result config (standing count (still to_read item.now)) self.new.slirp self.new.link) }
         ensures on { GoesOnAfter result self.new.link }
@@ -229,7 +229,7 @@ impl Service {
     // The same, and sends what is then owed.
     fn attend<W: World>(&mut self, world: &mut W, item: &Want, to_read: bool, hears: bool) -> Turn
         requires on { ReadsOn (under_way self.old.link) }
-        requires number { self.old.slirp.number + 1 < 2 ^ 64 }
+        requires number { to_read ≡ true → self.old.slirp.number + 1 < 2 ^ 64 }
         ensures makes { (config : Config) (count : ℕ) → Brings (W.tells world.old) (W.tells world.new)
             (Holds config (standing count to_read) self.old.slirp self.old.link) (AfterTurn result config (standing count (still to_read item.now)) self.new.slirp self.new.link) }
         ensures on { GoesOnAfter result self.new.link }
@@ -321,7 +321,8 @@ impl Service {
         ensures config { self.new.slirp.config ≡ self.old.slirp.config }
     {
         let _begun = self.start(world);
-        for _count in 0..self.turns {
+        let turns = self.turns;
+        for _count in 0..turns {
             match self.turn(world) {
                 Turn::Again => {}
                 Turn::Ended(end) => return end,

@@ -534,7 +534,8 @@ impl Slirp {
 
     /// Closes all sockets, by rising number.
     pub fn close_all<W: World>(&mut self, world: &mut W)
-        ensures { (config : Config) (end : End) → Brings (W.tells world.old) (W.tells world.new) (Closing config end self.old.associations) (Ran config end) }
+        ensures makes { (config : Config) (end : End) → Brings (W.tells world.old) (W.tells world.new) (Closing config end self.old.associations) (Ran config end) }
+        ensures config { self.new.config ≡ self.old.config }
     {
         while self.close_first(world) {}
     }
@@ -543,6 +544,7 @@ impl Slirp {
     fn close_first<W: World>(&mut self, world: &mut W) -> bool
         ensures makes { (config : Config) (end : End) → Brings (W.tells world.old) (W.tells world.new) (Closing config end self.old.associations) (AfterClosing result config end self.new.associations) }
         ensures fewer { result ≡ true → length self.new.associations < length self.old.associations }
+        ensures config { self.new.config ≡ self.old.config }
     {
         let Some(number) = self.associations.least() else {
             return false;

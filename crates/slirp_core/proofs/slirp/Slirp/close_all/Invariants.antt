@@ -6,7 +6,10 @@ use Rattle.slirp_core.specs.declared.service.End.{End}
 use Rattle.slirp_core.proofs.slirp.Slirp.close_all.Given as goal
 
 abbrev pub invariant-loop : goal.invariant-loop
-invariant-loop g l = (config : Config) (end : End) → Brings (g.W.World.tells l.fn.world) (g.W.World.tells l.world) (Closing config end l.fn.self.associations) (Closing config end l.self.associations)
+invariant-loop g l = record {
+  makes : (config : Config) (end : End) → Brings (g.W.World.tells l.fn.world) (g.W.World.tells l.world) (Closing config end l.fn.self.associations) (Closing config end l.self.associations);
+  config : l.self.config ≡ l.fn.self.config;
+}
 
 abbrev pub decreases-loop : goal.decreases-loop
 decreases-loop g l = length l.self.associations
