@@ -1,13 +1,13 @@
 -- The sockets of a run that is over are closed.
-use Rattle.std.proofs.Common.{◌≡◌, ℕ, ◌==◌, ◌&&◌, ◌||◌, true, List, [], ◌∷◌, MatchOption, Option, Some, None, refl, sym, ◌∙◌, ap, subst}
+use Rattle.std.proofs.Common.{◌≡◌, ℕ, true, List, ◌∷◌, MatchOption, Some, None, refl, sym, ◌∙◌, ap, subst}
 use Rattle.std.specs.Option.{option_map}
 use Rattle.world_face.specs.Journal.{Entry, Close, CallClose}
 use Rattle.host_policy.specs.Addresses.{Config}
 use Rattle.udp_assoc.specs.Associations.{IsLeast, is_idle, without}
 use Rattle.udp_assoc.specs.declared.assocs.Association.{Association}
-use Rattle.slirp_laws.specs.Datagrams.{Settled, relay, after_call, due_for}
-use Rattle.slirp_laws.specs.Laws.{MayDue, unless_due, may_close, gives_way}
-use Rattle.slirp_laws.specs.Shape.{Working, Over, By, phase, due_in, is_ended, is_among, first, moment, next_number, open_sockets}
+use Rattle.slirp_laws.specs.Datagrams.{relay, after_call, due_for}
+use Rattle.slirp_laws.specs.Laws.{MayDue, unless_due, gives_way}
+use Rattle.slirp_laws.specs.Shape.{due_in, is_ended, is_among, first, moment, next_number, open_sockets}
 use Rattle.slirp_laws.proofs.Sentences.{lawful_next}
 use Rattle.slirp_core.specs.Holds.{Closing, Ran, Rests, OverBy, AllWaited}
 use Rattle.slirp_core.specs.declared.service.End.{End}

@@ -1,10 +1,10 @@
 -- Calls on sockets.
-use Rattle.std.proofs.Common.{◌≡◌, ℕ, ◌+◌, ◌<◌, ◌≤◌, ◌==◌, ◌&&◌, ◌||◌, not, Bool, true, false, nat_le, List, [], ◌∷◌, ◌++◌, length, slice_get, MatchOption, Option, Some, None, is_some, if◌then◌else◌, refl, sym, ◌∙◌, ap, subst, arith}
+use Rattle.std.proofs.Common.{◌≡◌, ℕ, ◌+◌, ◌<◌, ◌≤◌, ◌&&◌, ◌||◌, Bool, true, false, nat_le, List, [], ◌∷◌, ◌++◌, length, slice_get, MatchOption, Some, is_some, if◌then◌else◌, refl, sym, ◌∙◌, ap, subst, arith}
 use Rattle.std.specs.List.{list_any}
 use Rattle.world_face.specs.Journal.{Entry, Call, Close, UdpOpen, UdpSend, UdpRecv, CallClose, CallUdpOpen, CallUdpSend, CallUdpRecv}
 use Rattle.world_face.specs.declared.Made.TheVariants.{Done as MadeDone, Failed as MadeFailed}
 use Rattle.world_face.specs.declared.Sent.{Sent}
-use Rattle.world_face.specs.declared.Sent.TheVariants.{Done as SentDone, NotYet as SentNotYet, Failed as SentFailed}
+use Rattle.world_face.specs.declared.Sent.TheVariants.{Failed as SentFailed}
 use Rattle.world_face.specs.declared.Got.{Got}
 use Rattle.world_face.specs.declared.Got.TheVariants.{From, NotYet as GotNotYet, Failed as GotFailed}
 use Rattle.net_octets.specs.declared.Endpoint.{Endpoint}
@@ -15,11 +15,11 @@ use Rattle.udp_assoc.specs.declared.assocs.Association.{Association}
 use Rattle.slirp_laws.specs.Answers.{Packet, frames_of, identification, left, told_about, no_network, unsent, unless_sent, reply, owed_for_peer}
 use Rattle.slirp_laws.specs.Datagrams.{Errand, Step, Settled, NeedsRoom, NeedsSocket, NeedsSending, relay, association, after_call, due_for, without_socket}
 use Rattle.slirp_laws.specs.Laws.{Lawful, MayDue, due, unless_due, may_close, carries, gives_way}
-use Rattle.slirp_laws.specs.Shape.{Working, phase, due_in, opened, is_ended, is_among, moment, next_number, open_sockets}
+use Rattle.slirp_laws.specs.Shape.{Working, phase, due_in, opened, is_among, moment, next_number, open_sockets}
 use Rattle.stream_netdev.specs.Keeps.{Keeps}
 use Rattle.stream_netdev.specs.State.{LinkState}
 use Rattle.slirp_core.specs.Holds.{Standing, HoldsAt, Holds}
-use Rattle.slirp_core.specs.Sockets.{IsRising, AreThoseOf}
+use Rattle.slirp_core.specs.Sockets.{IsRising}
 use Rattle.slirp_core.specs.State.{SlirpState}
 use Rattle.slirp_core.proofs.Sockets.{same, fewer, among_numbered, those_last, those_moved, those_without, idle_among, rising_last, rising_up, rising_without}
 

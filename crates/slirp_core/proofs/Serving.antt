@@ -10,7 +10,7 @@ use Rattle.udp_assoc.specs.declared.assocs.Association.{Association}
 use Rattle.slirp_laws.specs.Datagrams.{Settled}
 use Rattle.slirp_laws.specs.Laws.{Lawful, unless_due}
 use Rattle.slirp_laws.specs.Served.{Served}
-use Rattle.slirp_laws.specs.Shape.{Opening, Finished, is_over, is_among, phase, waits, due_in}
+use Rattle.slirp_laws.specs.Shape.{Opening, Finished, is_over, is_among, waits, due_in}
 use Rattle.slirp_laws.proofs.Sentences.{served}
 use Rattle.stream_netdev.specs.Keeps.{ReadsOn}
 use Rattle.stream_netdev.specs.State.{under_way}
@@ -18,7 +18,6 @@ use Rattle.stream_netdev.proofs.Reading.{reads_first}
 use Rattle.slirp_core.specs.Ends.{end_of}
 use Rattle.slirp_core.specs.Holds.{Holds, after, EndedAs, Closing, OverBy, AllWaited, Ran}
 use Rattle.slirp_core.specs.Served.{IsNew, ServiceState}
-use Rattle.slirp_core.specs.State.{SlirpState}
 use Rattle.slirp_core.specs.declared.service.End.{End}
 use Rattle.slirp_core.specs.declared.service.End.TheVariants.{TurnsSpent}
 

@@ -1,4 +1,4 @@
-use Rattle.std.proofs.Common.{◌≡◌, ◌<◌, ◌≤◌, ◌∙◌, ap, subst, arith}
+use Rattle.std.proofs.Common.{◌<◌, ◌≤◌, ◌∙◌, ap, subst, arith}
 use Rattle.world_face.proofs.Telling.{makes_as, makes_from}
 use Rattle.host_policy.specs.Addresses.{Config}
 use Rattle.slirp_core.specs.Served.{ServiceState}

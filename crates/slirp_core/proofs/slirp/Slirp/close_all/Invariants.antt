@@ -1,4 +1,4 @@
-use Rattle.std.proofs.Common.{◌≡◌, ℕ, length}
+use Rattle.std.proofs.Common.{◌≡◌, length}
 use Rattle.world_face.specs.Tells.{Brings}
 use Rattle.host_policy.specs.Addresses.{Config}
 use Rattle.slirp_core.specs.Holds.{Closing}

@@ -1,8 +1,7 @@
-use Rattle.std.proofs.Common.{◌≡◌, ℕ, List, ◌∷◌, length, true, None, ◌<◌, refl, sym, ◌∙◌, ap, subst}
+use Rattle.std.proofs.Common.{List, ◌∷◌, length, true, ◌<◌, sym, subst}
 use Rattle.world_face.specs.Tells.{Brings}
 use Rattle.world_face.specs.Journal.{Close}
 use Rattle.world_face.proofs.Telling.{brings_one, brings_none}
-use Rattle.udp_assoc.specs.Associations.{IsLeast}
 use Rattle.udp_assoc.specs.declared.assocs.Association.{Association}
 use Rattle.slirp_core.specs.Holds.{Closing, Ran}
 use Rattle.slirp_core.specs.State.{SlirpState}

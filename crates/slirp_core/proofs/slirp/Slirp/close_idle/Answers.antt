@@ -1,9 +1,9 @@
-use Rattle.std.proofs.Common.{◌≡◌, ℕ, List, [], ◌∷◌, length, true, ◌<◌, refl, sym, ◌∙◌, ap, subst}
+use Rattle.std.proofs.Common.{List, ◌∷◌, length, ◌<◌, sym, subst}
 use Rattle.world_face.specs.Tells.{Brings}
 use Rattle.slirp_core.specs.State.{SlirpState}
 use Rattle.world_face.specs.Journal.{Close}
 use Rattle.world_face.proofs.Telling.{brings_one}
-use Rattle.udp_assoc.specs.Associations.{is_over, IsLeast}
+use Rattle.udp_assoc.specs.Associations.{is_over}
 use Rattle.udp_assoc.specs.declared.assocs.Association.{Association}
 use Rattle.slirp_core.specs.Holds.{Holds}
 use Rattle.slirp_core.proofs.Relaying.{after_idling}

@@ -1,4 +1,4 @@
-use Rattle.std.proofs.Common.{◌≡◌, ℕ, List, [], ◌∷◌, length, take, refl, rules, Some, sym, ◌∙◌, ap, subst}
+use Rattle.std.proofs.Common.{◌≡◌, List, [], ◌∷◌, length, take, refl, rules, Some, sym, ◌∙◌, ap, subst}
 use Rattle.world_face.specs.Tells.{Brings}
 use Rattle.slirp_core.specs.State.{SlirpState}
 use Rattle.world_face.specs.Journal.{UdpRecv}
@@ -32,8 +32,8 @@ returns-in-NotYet g c =
     let found : numbered c.args.number slirp.associations ≡ Some c.in-Some.association = sym (c.in-Some.ensures ∙ ap (λ (s : SlirpState). numbered c.args.number s.associations) c.self.view_is) in
     record {
       makes = λ config at link out.
-      brings_one c.in-NotYet.ensures (λ allowed past holds.
-      after_not_yet config at slirp link past c.args.number (length c.args.into.now) c.in-Some.association found c.requires.room c.requires.none out (numbered_among c.args.number slirp.associations c.in-Some.association found) holds []);
+          brings_one c.in-NotYet.ensures (λ allowed past holds.
+          after_not_yet config at slirp link past c.args.number (length c.args.into.now) c.in-Some.association found c.requires.room c.requires.none out (numbered_among c.args.number slirp.associations c.in-Some.association found) holds []);
       number = refl;
       config = refl;
       room = search rules;

@@ -1,14 +1,14 @@
-use Rattle.std.proofs.Common.{◌≡◌, ◌≤◌, List, ◌∷◌, length, slice_get, ◌<◌, nat_le, true, false, sym, ◌∙◌, ap, subst}
+use Rattle.std.proofs.Common.{◌≡◌, ◌≤◌, List, ◌∷◌, length, slice_get, ◌<◌, nat_le, true, sym, ◌∙◌, ap, subst}
 use Rattle.world_face.specs.Tells.{Brings}
 use Rattle.slirp_core.specs.State.{SlirpState}
 use Rattle.slirp_core.specs.Datagrams.{errand_of}
 use Rattle.world_face.specs.Journal.{Close}
-use Rattle.world_face.proofs.Telling.{brings_one, brings_none}
-use Rattle.udp_assoc.specs.Associations.{most_associations, without}
+use Rattle.world_face.proofs.Telling.{brings_one}
+use Rattle.udp_assoc.specs.Associations.{most_associations}
 use Rattle.udp_assoc.specs.declared.assocs.Association.{Association}
 use Rattle.slirp_laws.specs.Datagrams.{Step, NeedsSocket, without_socket}
 use Rattle.slirp_core.specs.Holds.{HoldsAt}
-use Rattle.slirp_core.proofs.Relaying.{after_yielding, yields_first, has_room, fewer_left}
+use Rattle.slirp_core.proofs.Relaying.{after_yielding, yields_first, fewer_left}
 use Rattle.slirp_core.proofs.slirp.Slirp.make_room.Goals as goal
 
 pub returns-in-Some-clause-makes : goal.returns-in-Some-clause-makes

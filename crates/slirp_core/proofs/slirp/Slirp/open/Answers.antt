@@ -1,4 +1,4 @@
-use Rattle.std.proofs.Common.{◌≡◌, List, ◌∷◌, ◌++◌, ◌+◌, sym, ◌∙◌, ap, subst}
+use Rattle.std.proofs.Common.{List, ◌∷◌, ◌+◌, sym, ◌∙◌, ap, subst}
 use Rattle.world_face.specs.Tells.{Brings}
 use Rattle.slirp_core.specs.State.{SlirpState}
 use Rattle.slirp_core.specs.Datagrams.{errand_of}

@@ -1,4 +1,4 @@
-use Rattle.std.proofs.Common.{◌≡◌, List, ◌∷◌, sym, refl, ◌∙◌, ap, subst}
+use Rattle.std.proofs.Common.{List, ◌∷◌, sym, refl, ◌∙◌, ap, subst}
 use Rattle.world_face.specs.Tells.{Brings}
 use Rattle.slirp_core.specs.State.{SlirpState}
 use Rattle.slirp_core.specs.Datagrams.{errand_of}
@@ -22,11 +22,11 @@ returns-in-Done g c =
     let errand = errand_of c.args.errand.now in
     record {
       makes = λ config at link among.
-      let here = ap (λ (s : SlirpState). is_among number (numbers s.associations)) c.self.view_is ∙ among in
-      subst (λ (s : SlirpState). Brings (g.W.World.tells c.args.world.now) (g.W.World.tells c.udp_send-sent.new.self) (HoldsAt config at (NeedsSending number errand) s link) (Holds config at (record slirp { associations = c.sent.new.self }) link)) c.self.view_is
-      (brings_one c.in-Done.ensures (λ allowed past holds.
-      subst (λ (l : List Association). Holds config at (record slirp { associations = l }) link (UdpSend number errand.to errand.datagram.body Done ∷ past)) (sym c.sent.ensures)
-      (after_sent config at slirp link past number errand here holds Done refl)));
+          let here = ap (λ (s : SlirpState). is_among number (numbers s.associations)) c.self.view_is ∙ among in
+          subst (λ (s : SlirpState). Brings (g.W.World.tells c.args.world.now) (g.W.World.tells c.udp_send-sent.new.self) (HoldsAt config at (NeedsSending number errand) s link) (Holds config at (record slirp { associations = c.sent.new.self }) link)) c.self.view_is
+          (brings_one c.in-Done.ensures (λ allowed past holds.
+          subst (λ (l : List Association). Holds config at (record slirp { associations = l }) link (UdpSend number errand.to errand.datagram.body Done ∷ past)) (sym c.sent.ensures)
+          (after_sent config at slirp link past number errand here holds Done refl)));
       number = ap (λ (s : SlirpState). s.number) c.self.view_is;
       config = ap (λ (s : SlirpState). s.config) c.self.view_is;
     }
@@ -39,11 +39,11 @@ returns-in-NotYet g c =
     let errand = errand_of c.args.errand.now in
     record {
       makes = λ config at link among.
-      let here = ap (λ (s : SlirpState). is_among number (numbers s.associations)) c.self.view_is ∙ among in
-      subst (λ (s : SlirpState). Brings (g.W.World.tells c.args.world.now) (g.W.World.tells c.udp_send-sent.new.self) (HoldsAt config at (NeedsSending number errand) s link) (Holds config at (record slirp { associations = c.sent.new.self }) link)) c.self.view_is
-      (brings_one c.in-NotYet.ensures (λ allowed past holds.
-      subst (λ (l : List Association). Holds config at (record slirp { associations = l }) link (UdpSend number errand.to errand.datagram.body NotYet ∷ past)) (sym c.sent.ensures)
-      (after_sent config at slirp link past number errand here holds NotYet refl)));
+          let here = ap (λ (s : SlirpState). is_among number (numbers s.associations)) c.self.view_is ∙ among in
+          subst (λ (s : SlirpState). Brings (g.W.World.tells c.args.world.now) (g.W.World.tells c.udp_send-sent.new.self) (HoldsAt config at (NeedsSending number errand) s link) (Holds config at (record slirp { associations = c.sent.new.self }) link)) c.self.view_is
+          (brings_one c.in-NotYet.ensures (λ allowed past holds.
+          subst (λ (l : List Association). Holds config at (record slirp { associations = l }) link (UdpSend number errand.to errand.datagram.body NotYet ∷ past)) (sym c.sent.ensures)
+          (after_sent config at slirp link past number errand here holds NotYet refl)));
       number = ap (λ (s : SlirpState). s.number) c.self.view_is;
       config = ap (λ (s : SlirpState). s.config) c.self.view_is;
     }
