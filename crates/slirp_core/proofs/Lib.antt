@@ -1,4 +1,9 @@
-mod Pumping
-mod Serving
+pub mod Closing
+mod Datagramming
+mod Filling
+pub mod Pumping
+pub mod Relaying
+pub mod Serving
+pub mod Sockets
 mod Taking
-mod Turning
+pub mod Turning

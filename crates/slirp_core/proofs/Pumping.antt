@@ -1,28 +1,27 @@
 -- Writes of a pump.
-use Rattle.std.proofs.Common.{◌≡◌, ℕ, ◌+◌, ◌%◌, ◌^◌, ◌<◌, ◌==◌, ◌&&◌, Bool, true, false, List, [], ◌∷◌, ◌++◌, drop, length, bytes_eq, MatchOption, None, sym, ◌∙◌, ap, subst, arith, cond, refl}
+use Rattle.std.proofs.Common.{◌≡◌, ℕ, ◌+◌, ◌%◌, ◌^◌, ◌<◌, ◌==◌, ◌&&◌, Bool, true, false, List, [], ◌∷◌, ◌++◌, drop, length, bytes_eq, None, sym, ◌∙◌, ap, subst, arith, cond, refl}
 use Rattle.std.proofs.lemmas.Bool.Decides.{nat_tests}
-use Rattle.world_face.specs.Journal.{Entry, Call, LinkWrite, CallLinkWrite}
+use Rattle.world_face.specs.Journal.{Entry, LinkWrite, CallLinkWrite}
 use Rattle.world_face.specs.declared.Io.{Io}
 use Rattle.world_face.specs.declared.Io.TheVariants.{Done, End, NotYet, Failed}
 use Rattle.world_face.specs.Frames.{LinkFailed, tail, spelling, opens}
 use Rattle.host_policy.specs.Addresses.{Config}
 use Rattle.slirp_laws.specs.Answers.{Packet, frame_of, frames_of, identification, datagrams_in, datagrams_out, with_datagrams, left, left_by_call, taken, is_first}
-use Rattle.slirp_laws.specs.Laws.{Lawful, MayDue, MayAnswer, MayBegin}
-use Rattle.slirp_laws.specs.Shape.{Working, phase, due_in, unless_over}
+use Rattle.slirp_laws.specs.Datagrams.{Settled}
+use Rattle.slirp_laws.specs.Laws.{Lawful, MayAnswer, MayBegin}
+use Rattle.slirp_laws.specs.Shape.{phase, open_sockets, unless_over}
 use Rattle.stream_netdev.specs.Keeps.{Keeps, Writes, Settles}
 use Rattle.stream_netdev.specs.Offers.{offered}
 use Rattle.stream_netdev.specs.State.{LinkState}
 use Rattle.stream_netdev.specs.declared.Offered.{Offered}
 use Rattle.stream_netdev.specs.declared.Offered.TheVariants.{Taken, Blocked as OfferBlocked, Failed as OfferFailed}
-use Rattle.slirp_core.specs.Holds.{Holds, AfterPump, Leaves, LeavesRest}
+use Rattle.slirp_core.specs.Holds.{Standing, Holds, AfterPump, Leaves, LeavesRest}
 use Rattle.slirp_core.specs.Outgoing.{sent_after}
 use Rattle.slirp_core.specs.Pumps.{pumped_of, keep}
+use Rattle.slirp_core.specs.Sockets.{AreThoseOf}
 use Rattle.slirp_core.specs.State.{SlirpState}
 use Rattle.slirp_core.specs.declared.slirp.Pumped.{Pumped}
-
--- between ending entries no call is due
-pub any_call : (config : Config) (past : List Entry) (call : Call) → phase config past ≡ Working → MayDue config past call
-any_call config past call working = subst (λ p. MatchOption (due_in p past) (Unit {0}) (λ d. call ≡ d)) (sym working) tt
+use Rattle.slirp_core.proofs.Relaying.{any_call}
 
 -- what is owed after a write is what the network then has
 record Left (config : Config) (past : List Entry) (octets : List ℕ) (answer : Io) (slirp : SlirpState) : Type 0 where
@@ -30,56 +29,66 @@ record Left (config : Config) (past : List Entry) (octets : List ℕ) (answer : 
   pending : frames_of config (identification (LinkWrite octets answer ∷ past)) (left_by_call config past (LinkWrite octets answer) (left config past)) ≡ slirp.pending
 
 -- after a lawful write, by its answer
-after_write : (config : Config) (count : ℕ) (slirp new_slirp : SlirpState) (old new : LinkState) (past : List Entry) (octets : List ℕ) (answer : Io) (blocked : Bool)
-    → Holds config count slirp old past → Keeps new (LinkWrite octets answer ∷ past) → MayAnswer config past (CallLinkWrite octets)
-    → Left config past octets answer new_slirp → new_slirp.config ≡ slirp.config → new_slirp.known ≡ slirp.known
-    → AfterPump (pumped_of (offered answer) blocked) config count new_slirp new (LinkWrite octets answer ∷ past)
-after_write config count slirp new_slirp old new past octets answer blocked holds keeps may remains same_config same_known = by_answer answer blocked keeps remains
+after_write : (config : Config) (at : Standing) (slirp new_slirp : SlirpState) (old new : LinkState) (past : List Entry) (octets : List ℕ) (answer : Io) (blocked : Bool)
+    → Holds config at slirp old past → Keeps new (LinkWrite octets answer ∷ past) → MayAnswer config past (CallLinkWrite octets)
+    → Left config past octets answer new_slirp → new_slirp ≡ record slirp { pending = new_slirp.pending; sent = new_slirp.sent }
+    → AfterPump (pumped_of (offered answer) blocked) config at new_slirp new (LinkWrite octets answer ∷ past)
+after_write config at slirp new_slirp old new past octets answer blocked holds keeps may remains same = by_answer answer blocked keeps remains
   where
     lawful : (a : Io) → Keeps new (LinkWrite octets a ∷ past) → Lawful config (LinkWrite octets a ∷ past)
     lawful a k = record {
       framed = k.framed;
-      due = (any_call config past (CallLinkWrite octets) holds.working, holds.lawful.due);
+      due = (any_call config past (CallLinkWrite octets) holds.working (ap (λ r. r.step) holds.relayed), holds.lawful.due);
       shape = (holds.working, holds.lawful.shape);
       socket = (tt, holds.lawful.socket);
       read = (tt, holds.lawful.read);
       answer = (may, holds.lawful.answer);
     }
 
-    goes_on : (a : Io) → Keeps new (LinkWrite octets a ∷ past) → phase config (LinkWrite octets a ∷ past) ≡ phase config past → Left config past octets a new_slirp → Holds config count new_slirp new (LinkWrite octets a ∷ past)
+    goes_on : (a : Io) → Keeps new (LinkWrite octets a ∷ past) → phase config (LinkWrite octets a ∷ past) ≡ phase config past → Left config past octets a new_slirp → Holds config at new_slirp new (LinkWrite octets a ∷ past)
     goes_on a k on l = record {
-      settings = same_config ∙ holds.settings;
+      settings = ap (λ (s : SlirpState). s.config) same ∙ holds.settings;
       lawful = lawful a k;
       keeps = k;
       sent = l.sent;
       pending = l.pending;
-      guests = holds.guests ∙ sym same_known;
+      guests = holds.guests ∙ sym (ap (λ (s : SlirpState). s.known) same);
+      relayed = holds.relayed ∙ sym (ap (λ (s : SlirpState). record { associations = s.associations; step = Settled }) same);
+      clock = holds.clock ∙ sym (ap (λ (s : SlirpState). s.moment) same);
+      number = holds.number ∙ sym (ap (λ (s : SlirpState). s.number) same);
+      rising = holds.rising;
+      sockets = subst (λ (s : SlirpState). AreThoseOf s.associations (open_sockets past)) (sym same) holds.sockets;
       working = on ∙ holds.working;
       counted = holds.counted;
-      closed = holds.closed;
+      readable = holds.readable;
     }
 
-    by_answer : (a : Io) (b : Bool) → Keeps new (LinkWrite octets a ∷ past) → Left config past octets a new_slirp → AfterPump (pumped_of (offered a) b) config count new_slirp new (LinkWrite octets a ∷ past)
+    by_answer : (a : Io) (b : Bool) → Keeps new (LinkWrite octets a ∷ past) → Left config past octets a new_slirp → AfterPump (pumped_of (offered a) b) config at new_slirp new (LinkWrite octets a ∷ past)
     by_answer (Done n) true k l = goes_on (Done n) k refl l
     by_answer (Done n) false k l = goes_on (Done n) k refl l
     by_answer End true k l = goes_on End k refl l
     by_answer End false k l = goes_on End k refl l
     by_answer NotYet true k l = goes_on NotYet k refl l
     by_answer NotYet false k l = goes_on NotYet k refl l
-    by_answer Failed b k l = record { lawful = lawful Failed k; over = ap (λ p. unless_over p LinkFailed) holds.working; closed = holds.closed }
+    by_answer Failed b k l = record {
+      lawful = lawful Failed k;
+      over = ap (λ p. unless_over p LinkFailed) holds.working;
+      rising = holds.rising;
+      sockets = subst (λ (s : SlirpState). AreThoseOf s.associations (open_sockets past)) (sym same) holds.sockets;
+    }
 
 -- a write of the rest of a frame
-pub after_flush : (config : Config) (count : ℕ) (slirp : SlirpState) (old new : LinkState) (made past : List Entry) (result : Offered) (pumped : Pumped) → 0 < length old.tail → Writes result old.tail made
+pub after_flush : (config : Config) (at : Standing) (slirp : SlirpState) (old new : LinkState) (made past : List Entry) (result : Offered) (pumped : Pumped) → 0 < length old.tail → Writes result old.tail made
     → ((past : List Entry) → Keeps old past → Keeps new (made ++ past)) → pumped ≡ pumped_of result new.blocked
-    → Holds config count slirp old past → AfterPump pumped config count slirp new (made ++ past)
-after_flush config count slirp old new made past result pumped some (answer, is, was) keeps comes holds =
-    let Goal : List Entry → Type 0 = λ made. AfterPump pumped config count slirp new (made ++ past) in
+    → Holds config at slirp old past → AfterPump pumped config at slirp new (made ++ past)
+after_flush config at slirp old new made past result pumped some (answer, is, was) keeps comes holds =
+    let Goal : List Entry → Type 0 = λ made. AfterPump pumped config at slirp new (made ++ past) in
     let k = subst (λ m. Keeps new (m ++ past)) is (keeps past holds.keeps) in
     subst Goal (sym is)
-    (subst (λ p. AfterPump p config count slirp new (LinkWrite old.tail answer ∷ past)) (sym (comes ∙ ap (λ r. pumped_of r new.blocked) was))
-    (after_write config count slirp slirp old new past old.tail answer new.blocked holds k
+    (subst (λ p. AfterPump p config at slirp new (LinkWrite old.tail answer ∷ past)) (sym (comes ∙ ap (λ r. pumped_of r new.blocked) was))
+    (after_write config at slirp slirp old new past old.tail answer new.blocked holds k
     (begins (tail past) old.tail some holds.keeps.rest)
-    (remains answer (none_opens answer old.tail (tail past) some holds.keeps.rest)) refl refl))
+    (remains answer (none_opens answer old.tail (tail past) some holds.keeps.rest)) refl))
   where
     begins : (t rest : List ℕ) → 0 < length rest → t ≡ rest → MayBegin config past t rest
     begins [] rest some is = absurd (omega (arith, ap length is))
@@ -122,13 +131,16 @@ counts_on : (more out : ℕ) → (more + out) % 2 ^ 16 ≡ (more + out % 2 ^ 16)
 counts_on more out = omega arith
 
 -- a write of the frame that is owed
-pub after_offer : (config : Config) (count : ℕ) (slirp new_slirp : SlirpState) (old new : LinkState) (made past : List Entry) (frame : List ℕ) (result : Offered) (pumped : Pumped)
+pub after_offer : (config : Config) (at : Standing) (slirp new_slirp : SlirpState) (old new : LinkState) (made past : List Entry) (frame : List ℕ) (result : Offered) (pumped : Pumped)
     → old.tail ≡ [] → slirp.pending ≡ frame ∷ [] → Writes result (spelling frame) made
     → ((past : List Entry) → Keeps old past → Keeps new (made ++ past)) → pumped ≡ pumped_of result new.blocked
-    → new_slirp.pending ≡ keep result slirp.pending → new_slirp.sent ≡ sent_after result slirp.pending slirp.sent → new_slirp.config ≡ slirp.config → new_slirp.known ≡ slirp.known
-    → Holds config count slirp old past → AfterPump pumped config count new_slirp new (made ++ past)
-after_offer config count slirp new_slirp old new made past frame result pumped none is_pending (answer, is, was) keeps comes kept counted same_config same_known holds =
-    let Goal : List Entry → Type 0 = λ made. AfterPump pumped config count new_slirp new (made ++ past) in
+    → new_slirp ≡ record slirp { pending = keep result slirp.pending; sent = sent_after result slirp.pending slirp.sent }
+    → Holds config at slirp old past → AfterPump pumped config at new_slirp new (made ++ past)
+after_offer config at slirp new_slirp old new made past frame result pumped none is_pending (answer, is, was) keeps comes changed holds =
+    let kept = ap (λ (s : SlirpState). s.pending) changed in
+    let counted = ap (λ (s : SlirpState). s.sent) changed in
+    let same = changed ∙ ap (λ p. record slirp { pending = p; sent = sent_after result slirp.pending slirp.sent }) (sym kept) ∙ ap (λ n. record slirp { pending = new_slirp.pending; sent = n }) (sym counted) in
+    let Goal : List Entry → Type 0 = λ made. AfterPump pumped config at new_slirp new (made ++ past) in
     let k = subst (λ m. Keeps new (m ++ past)) is (keeps past holds.keeps) in
     let tail_is : tail past ≡ [] = holds.keeps.rest ∙ none in
     let one = one_frame config (identification past) frame (left config past) (holds.pending ∙ is_pending) in
@@ -138,9 +150,9 @@ after_offer config count slirp new_slirp old new made past frame result pumped n
     let new_sent : new_slirp.sent ≡ sent_after (offered answer) (frame ∷ []) (identification past) =
     counted ∙ ap (λ r. sent_after r slirp.pending slirp.sent) was ∙ ap (λ p. sent_after (offered answer) p slirp.sent) is_pending ∙ ap (sent_after (offered answer) (frame ∷ [])) (sym holds.sent) in
     subst Goal (sym is)
-    (subst (λ p. AfterPump p config count new_slirp new (LinkWrite (spelling frame) answer ∷ past)) (sym (comes ∙ ap (λ r. pumped_of r new.blocked) was))
-    (after_write config count slirp new_slirp old new past (spelling frame) answer new.blocked holds k (subst (λ t. MayBegin config past t (spelling frame)) (sym tail_is) first)
-    (remains answer one.0 one.1 first tail_is new_pending new_sent) same_config same_known))
+    (subst (λ p. AfterPump p config at new_slirp new (LinkWrite (spelling frame) answer ∷ past)) (sym (comes ∙ ap (λ r. pumped_of r new.blocked) was))
+    (after_write config at slirp new_slirp old new past (spelling frame) answer new.blocked holds k (subst (λ t. MayBegin config past t (spelling frame)) (sym tail_is) first)
+    (remains answer one.0 one.1 first tail_is new_pending new_sent) same))
   where
     sent_by : (a : Io) → with_datagrams (opens (LinkWrite (spelling frame) a) []) (datagrams_out past) % 2 ^ 16 ≡ sent_after (offered a) (frame ∷ []) (identification past)
     sent_by (Done n) = ap (λ f. (datagrams_in f + datagrams_out past) % 2 ^ 16) (spelt frame) ∙ counts_on (datagrams_in frame) (datagrams_out past)

@@ -1,22 +1,104 @@
--- What a frame owes, by the kind of what it carries.
-use Rattle.std.proofs.Common.{◌≡◌, ℕ, ◌==◌, List, [], Some, sym, ◌∙◌, ap, if◌then◌else◌}
-use Rattle.net_octets.specs.Kinds.{arp_kind, ipv4_kind}
-use Rattle.host_policy.specs.Addresses.{Config}
-use Rattle.ether_frame.specs.Ether.{Ether, read_ether}
+-- What a frame asks for, by the kind of what it carries.
+use Rattle.std.proofs.Common.{◌≡◌, ℕ, ◌≤◌, ◌==◌, ◌&&◌, ◌||◌, not, nat_le, Bool, true, false, List, [], ◌∷◌, length, Option, Some, None, if◌then◌else◌, refl, sym, ◌∙◌, ap, arith}
+use Rattle.std.proofs.lemmas.Bool.Decides.{nat_tests}
+use Rattle.std.specs.Option.{option_and_then}
+use Rattle.net_octets.specs.Kinds.{arp_kind, ipv4_kind, icmp_proto, udp_proto}
+use Rattle.net_octets.specs.declared.Endpoint.{Endpoint}
+use Rattle.host_policy.specs.Addresses.{Config, address, is_ours, is_guest}
+use Rattle.host_policy.specs.Targets.{shown, is_hidden}
+use Rattle.ether_frame.specs.Ether.{Ether, read_ether, ether_octets}
 use Rattle.arp_table.specs.Arp.{read_arp}
-use Rattle.ipv4_head.specs.Ip.{read_ip}
-use Rattle.slirp_laws.specs.Answers.{Packet, frames_of, owed_for, owed_for_arp, owed_for_ip, owed_for_ether, owed_for_frame}
+use Rattle.ipv4_head.specs.Ip.{Ip, read_ip, ip_octets, is_unbroken}
+use Rattle.icmp_echo.specs.Icmp.{read_icmp, unreachable_octets}
+use Rattle.udp_assoc.specs.Udp.{udp_octets}
+use Rattle.udp_assoc.specs.declared.assocs.Association.{Association}
+use Rattle.slirp_laws.specs.Answers.{Packet, IpPacket, our_mac, most_body, is_message_to_us, is_untold, told_about, reply, frames_of, owed_for, owed_for_arp, owed_for_icmp, owed_for_datagram, owed_for_ip, owed_for_ether, owed_for_frame}
+use Rattle.slirp_laws.specs.Datagrams.{Datagram, udp_of, Errand, errand_of, errand_of_ip, errand_of_ether, errand_in}
+use Rattle.slirp_laws.specs.Guests.{with_pair, with_arp, with_ip, with_ether}
+use Rattle.slirp_core.specs.State.{SlirpState}
+use Rattle.slirp_core.proofs.Datagramming.{none_of_others}
 
-module _ (config : Config) (ident : ℕ) (frame : List ℕ) (ether : Ether) (read : read_ether frame ≡ Some ether) where
-  by_kind : ℕ → List Packet
-  by_kind kind =
-      if kind == arp_kind then owed_for (owed_for_arp config) (read_arp ether.body)
-      else (if kind == ipv4_kind then owed_for (owed_for_ip config ether.from) (read_ip ether.body) else [])
+-- a frame that carries a packet asks for what the packet does
+abbrev after_kind : SlirpState → Ether → ℕ → SlirpState
+after_kind s ether kind = record s {
+  pending = frames_of s.config s.sent
+      (if kind == arp_kind then owed_for (owed_for_arp s.config) (read_arp ether.body)
+      else (if kind == ipv4_kind then owed_for (owed_for_ip s.config ether.from) (read_ip ether.body) else []));
+  known = if kind == arp_kind then with_arp s.config (read_arp ether.body) s.known
+      else (if kind == ipv4_kind then with_ip s.config ether.from (read_ip ether.body) s.known else s.known);
+}
 
-  pub owes_for_arp : ether.kind ≡ arp_kind → frames_of config ident (owed_for (owed_for_arp config) (read_arp ether.body)) ≡ frames_of config ident (owed_for_frame config frame)
-  unfolding by_kind
-  owes_for_arp kind = sym (ap (λ o. frames_of config ident (owed_for (owed_for_ether config) o)) read ∙ ap (λ k. frames_of config ident (by_kind k)) kind)
+module _ (s : SlirpState) (frame : List ℕ) (ether : Ether) (read : read_ether frame ≡ Some ether) (kind : ether.kind ≡ ipv4_kind) where
+  pub frame_of_packet : ◌≡◌ {A = SlirpState}
+      (record s {
+        pending = frames_of s.config s.sent (owed_for (owed_for_ip s.config ether.from) (read_ip ether.body));
+        known = with_ip s.config ether.from (read_ip ether.body) s.known;
+      })
+      (record s {
+        pending = frames_of s.config s.sent (owed_for_frame s.config frame);
+        known = with_ether s.config (read_ether frame) s.known;
+      })
+  frame_of_packet = sym (ap (λ (o : Option Ether). record s { pending = frames_of s.config s.sent (owed_for (owed_for_ether s.config) o); known = with_ether s.config o s.known }) read ∙ ap (after_kind s ether) kind)
 
-  pub owes_for_ip : ether.kind ≡ ipv4_kind → frames_of config ident (owed_for (owed_for_ip config ether.from) (read_ip ether.body)) ≡ frames_of config ident (owed_for_frame config frame)
-  unfolding by_kind
-  owes_for_ip kind = sym (ap (λ o. frames_of config ident (owed_for (owed_for_ether config) o)) read ∙ ap (λ k. frames_of config ident (by_kind k)) kind)
+  pub errand_of_packet : option_and_then (errand_of_ip s.config ether.from) (read_ip ether.body) ≡ errand_in s.config frame
+  errand_of_packet = sym (
+      ap (option_and_then (errand_of_ether s.config)) read
+      ∙ ap (λ (k : ℕ). if k == ipv4_kind then option_and_then (errand_of_ip s.config ether.from) (read_ip ether.body) else None) kind)
+
+message_proto : (a b : Bool) (proto : ℕ) (c d : Bool) → (a && b && (proto == 1) && c && d) ≡ true → proto ≡ 1
+message_proto a b proto c d is = grind (arith, nat_tests)
+
+pub no_udp : (config : Config) (ip : Ip) → is_message_to_us config ip ≡ true → ip.proto ≡ 17 → ⊥
+no_udp config ip asked udp =
+    let one : ip.proto ≡ 1 = message_proto (is_guest config ip.from) (is_ours config ip.to) ip.proto (is_unbroken ip) (nat_le (length ip.body) most_body) asked in
+    omega arith
+
+-- what a packet asks for
+module _ (s : SlirpState) (mac octets : List ℕ) (ip : Ip) (read : read_ip octets ≡ Some ip) where
+  pub message_to_us : is_message_to_us s.config ip ≡ true → ◌≡◌ {A = SlirpState}
+      (record s { pending = frames_of s.config s.sent (owed_for (owed_for_icmp mac ip) (read_icmp ip.body)); known = with_pair s.config ip.from mac s.known })
+      (record s { pending = frames_of s.config s.sent (owed_for (owed_for_ip s.config mac) (read_ip octets)); known = with_ip s.config mac (read_ip octets) s.known })
+  message_to_us asked = sym (
+      ap (λ (o : Option Ip). record s { pending = frames_of s.config s.sent (owed_for (owed_for_ip s.config mac) o); known = with_ip s.config mac o s.known }) read
+      ∙ ap (λ (b : Bool). record s { pending = frames_of s.config s.sent (if b then owed_for (owed_for_icmp mac ip) (read_icmp ip.body) else owed_for (owed_for_datagram s.config) (udp_of s.config mac ip)); known = with_pair s.config ip.from mac s.known }) asked)
+
+  pub no_message : is_message_to_us s.config ip ≡ false → (d : Option Datagram) → d ≡ udp_of s.config mac ip → ◌≡◌ {A = SlirpState}
+      (record s { pending = frames_of s.config s.sent (owed_for (owed_for_datagram s.config) d); known = with_pair s.config ip.from mac s.known })
+      (record s { pending = frames_of s.config s.sent (owed_for (owed_for_ip s.config mac) (read_ip octets)); known = with_ip s.config mac (read_ip octets) s.known })
+  no_message asked d udp = sym (
+      ap (λ (o : Option Ip). record s { pending = frames_of s.config s.sent (owed_for (owed_for_ip s.config mac) o); known = with_ip s.config mac o s.known }) read
+      ∙ ap (λ (b : Bool). record s { pending = frames_of s.config s.sent (if b then owed_for (owed_for_icmp mac ip) (read_icmp ip.body) else owed_for (owed_for_datagram s.config) (udp_of s.config mac ip)); known = with_pair s.config ip.from mac s.known }) asked
+      ∙ ap (λ (o : Option Datagram). record s { pending = frames_of s.config s.sent (owed_for (owed_for_datagram s.config) o); known = with_pair s.config ip.from mac s.known }) (sym udp))
+
+  pub no_errand : is_message_to_us s.config ip ≡ true → ◌≡◌ {A = Option Errand} None (option_and_then (errand_of_ip s.config mac) (read_ip octets))
+  no_errand asked = ap (option_and_then (errand_of s.config)) (none_of_others s.config mac ip (no_udp s.config ip asked)) ∙ sym (ap (option_and_then (errand_of_ip s.config mac)) read)
+
+-- a guest that may be told is told
+pub told : (config : Config) (ident code : ℕ) (d : Datagram) → is_untold config d ≡ false
+    → ether_octets d.mac (our_mac config.vhost) ipv4_kind (ip_octets ident 0 icmp_proto config.vhost (address d.from) (unreachable_octets code d.quote)) ∷ [] ≡ frames_of config ident (told_about config code d)
+told config ident code d may =
+    sym (ap (λ (b : Bool). frames_of config ident (if b then [] else IpPacket d.mac icmp_proto config.vhost (address d.from) (unreachable_octets code d.quote) ∷ [])) may)
+
+pub both_false : (a b c : Bool) → a ≡ false → (b || c) ≡ false → ((a || b) || c) ≡ false
+both_false a b c p q = ap (λ (x : Bool). (x || b) || c) p ∙ q
+
+-- a peer that is shown, and whose payload fits a frame, is heard
+shown_parts : (b : Bool) (from peer : Endpoint) → Some from ≡ (if b then None else Some peer) → (b ≡ false) × (from ≡ peer)
+shown_parts true from peer is = absurd cc
+shown_parts false from peer is = (refl, cc)
+
+fits_frame : (b : Bool) (n : ℕ) → b ≡ false → n ≤ 1472 → (b || not (nat_le n 1472)) ≡ false
+fits_frame b n is fits = grind (arith, nat_tests)
+
+abbrev reply_packet : Endpoint → List ℕ → Association → Packet
+reply_packet from octets a =
+    IpPacket a.mac.0 udp_proto (address from) (address a.guest) (udp_octets (address from) (address a.guest) (record { from_port = from.port; to_port = a.guest.port; body = octets }))
+
+pub answered : (config : Config) (ident : ℕ) (peer from : Endpoint) (octets : List ℕ) (a : Association)
+    → Some from ≡ (if is_hidden config peer then None else Some (shown config peer)) → length octets ≤ 1472
+    → ether_octets a.mac.0 (our_mac config.vhost) ipv4_kind (ip_octets ident 0 udp_proto (address from) (address a.guest) (udp_octets (address from) (address a.guest) (record { from_port = from.port; to_port = a.guest.port; body = octets }))) ∷ []
+    ≡ frames_of config ident (reply config peer octets a)
+answered config ident peer from octets a is fits =
+    let p = shown_parts (is_hidden config peer) from (shown config peer) is in
+    ap (λ (e : Endpoint). frames_of config ident (reply_packet e octets a ∷ [])) p.1
+    ∙ sym (ap (λ (b : Bool). frames_of config ident (if b then [] else reply_packet (shown config peer) octets a ∷ [])) (fits_frame (is_hidden config peer) (length octets) p.0 fits))

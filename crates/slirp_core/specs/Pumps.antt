@@ -1,8 +1,11 @@
 -- The answers of pumps, and what is waited for.
-use Rattle.std.specs.Prelude.{ℕ, ◌&&◌, ◌||◌, not, ◌==◌, nat_lt, List, [], ◌∷◌, Bool, length, if◌then◌else◌}
+use Rattle.std.specs.Prelude.{◌≡◌, ℕ, ◌-◌, ◌&&◌, ◌||◌, not, ◌==◌, nat_lt, List, [], ◌∷◌, ◌++◌, Bool, true, false, map, length, IsPermutation, Option, Some, None, if◌then◌else◌}
+use Rattle.std.specs.List.Sorted.{IsNonDecreasing}
 use Rattle.poll_list.specs.declared.Want.{Want}
-use Rattle.poll_list.specs.declared.Who.TheVariants.{Link}
+use Rattle.poll_list.specs.declared.Who.TheVariants.{Link, Udp}
 use Rattle.stream_netdev.specs.State.{LinkState}
+use Rattle.udp_assoc.specs.Associations.{idle_life, numbers}
+use Rattle.udp_assoc.specs.declared.assocs.Association.{Association}
 use Rattle.stream_netdev.specs.declared.Offered.{Offered}
 use Rattle.stream_netdev.specs.declared.Offered.TheVariants.{Taken, Blocked as OfferBlocked, Failed as OfferFailed}
 use Rattle.slirp_core.specs.State.{SlirpState}
@@ -29,5 +32,21 @@ is_settled slirp link = (length link.tail == 0) && not (nat_lt 0 (length slirp.p
 abbrev pub link_want : Bool → Bool → List Want
 link_want read write = if read || write then record { of = Link; read = read; write = write } ∷ [] else []
 
-abbrev pub wants_of : SlirpState → LinkState → List Want
-wants_of slirp link = link_want (is_settled slirp link) link.blocked
+abbrev pub udp_want : ℕ → Want
+udp_want number = record { of = Udp number; read = true; write = false }
+
+-- and then the open sockets for reading, where nothing is left to be sent
+abbrev pub socket_wants : Bool → List ℕ → List Want
+socket_wants read numbers = if read then map udp_want numbers else []
+
+-- each socket once, by rising number
+pub record WantsOf (slirp : SlirpState) (link : LinkState) (wants : List Want) : Type 0 where
+  pub sockets : List ℕ
+  pub all : IsPermutation (numbers slirp.associations) sockets
+  pub rising : IsNonDecreasing sockets
+  pub is : wants ≡ link_want (is_settled slirp link) link.blocked ++ socket_wants (is_settled slirp link) sockets
+
+-- what is left of the idle life of the longest unused socket
+abbrev pub time_left : ℕ → List Association → Option ℕ
+time_left now [] = None
+time_left now (oldest ∷ associations) = Some (idle_life - (now - oldest.used))

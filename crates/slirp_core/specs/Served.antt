@@ -1,19 +1,24 @@
 -- A service, and one that has served nothing.
-use Rattle.std.specs.Prelude.{◌≡◌, [], false}
+use Rattle.std.specs.Prelude.{◌≡◌, List, [], false}
+use Rattle.poll_list.specs.declared.Want.{Want}
 use Rattle.stream_netdev.specs.State.{LinkState, under_way}
 use Rattle.slirp_core.specs.State.{SlirpState}
 
--- what contracts see of a service: its network and its link
+-- what contracts see of a service: its network, its link, and what the last wait reported
 pub record ServiceState : Type 0 where
   pub slirp : SlirpState
   pub link : LinkState
+  pub ready : List Want
 
--- nothing was read or written, no datagram was sent, no guest is known and nothing is owed; no port of the host is given to a guest yet
+-- nothing was read or written, no datagram was sent, no guest is known, no socket is open, no moment was told and nothing is owed; no port of the host is given to a guest yet
 pub record IsNew (service : ServiceState) : Type 0 where
   pub forwards : service.slirp.config.forwards ≡ []
   pub known : service.slirp.known ≡ []
   pub sent : service.slirp.sent ≡ 0
   pub pending : service.slirp.pending ≡ []
+  pub moment : service.slirp.moment ≡ 0
+  pub number : service.slirp.number ≡ 0
+  pub associations : service.slirp.associations ≡ []
   pub input : under_way service.link ≡ []
   pub output : service.link.tail ≡ []
   pub free : service.link.blocked ≡ false

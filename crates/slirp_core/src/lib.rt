@@ -1,6 +1,7 @@
 //! The core of the network, and the loop that serves a guest.
 #![tactic(auto)]
 
+mod datagrams;
 mod outgoing;
 mod service;
 mod slirp;

@@ -1,12 +1,14 @@
 // The frame that is owed to a guest and isn't out yet.
 ghost use Rattle.std.specs.Prelude.{◌≡◌, ℕ, ◌+◌, ◌≤◌, ◌<◌, List, [], ◌∷◌, length, take};
-ghost use Rattle.net_octets.specs.Kinds.{ipv4_kind, arp_kind, icmp_proto};
+ghost use Rattle.net_octets.specs.Kinds.{ipv4_kind, arp_kind, icmp_proto, udp_proto};
 ghost use Rattle.arp_table.specs.Arp.{arp_of, arp_octets};
 ghost use Rattle.ether_frame.specs.Ether.{ether_octets};
 ghost use Rattle.ipv4_head.specs.Ip.{ip_octets};
 ghost use Rattle.icmp_echo.specs.Icmp.{CanWrite, icmp_of, icmp_with, icmp_octets};
+ghost use Rattle.udp_assoc.specs.Udp.{udp_of, udp_octets};
 ghost use Rattle.slirp_laws.specs.Answers.{datagrams_in};
 
+use crate::datagrams::UDP;
 use arp_table::ArpView;
 use byteorder::{BigEndian, ByteOrder};
 use ether_frame::EtherView;
@@ -15,6 +17,7 @@ use ipv4_head::IpView;
 use net_octets::{Ip4, Mac, NoMemory};
 use std::alloc::Global;
 use std::marker::Model;
+use udp_assoc::UdpView;
 
 /// The kind of a frame that carries IPv4 (RFC 894).
 pub const IPV4: u16 = 0x0800;
@@ -116,6 +119,15 @@ impl Outgoing {
     {
         self.used = write_message(course, message, &mut self.frame, &mut self.packet);
     }
+
+    /// From now on the frame is that of a datagram of UDP, whose payload has at most 1,472 octets.
+    pub fn put_udp(&mut self, course: &Course, datagram: &UdpView<'_>)
+        requires { length datagram.now.body.now ≤ 1472 }
+        ensures { self.new ≡ ether_octets course.now.to_mac.0 course.now.from_mac.0 ipv4_kind
+            (ip_octets course.now.ident 0 udp_proto course.now.from.0 course.now.to.0 (udp_octets course.now.from.0 course.now.to.0 (udp_of datagram.now))) ∷ [] }
+    {
+        self.used = write_udp(course, datagram, &mut self.frame, &mut self.packet);
+    }
 }
 
 // Writes the frame of an ARP packet, and answers its length.
@@ -158,24 +170,31 @@ fn write_message(
     let Ok(carried) = icmp_echo::encode(message, frame) else {
         unreachable!()
     };
-    let datagram = write_datagram(course, &frame[..carried], packet);
-    let ether = EtherView {
-        to: course.to_mac,
-        from: course.from_mac,
-        kind: IPV4,
-        body: &packet[..datagram],
-    };
-    let Ok(length) = ether_frame::encode(&ether, frame) else {
-        unreachable!()
-    };
-    length
+    let datagram = write_datagram(course, ICMP, &frame[..carried], packet);
+    write_frame(course, &packet[..datagram], frame)
 }
 
-// Writes a datagram that carries ICMP, and answers its length.
-fn write_datagram(course: &Course, body: &[u8], packet: &mut [u8]) -> usize
+// Writes the frame of a datagram of UDP, and answers its length.
+fn write_udp(course: &Course, datagram: &UdpView<'_>, frame: &mut [u8], packet: &mut [u8]) -> usize
+    requires room { (length frame.old ≡ 1514) × (length packet.old ≡ 1514) }
+    requires size { length datagram.now.body.now ≤ 1472 }
+    ensures frame { take result frame.new ≡ ether_octets course.now.to_mac.0 course.now.from_mac.0 ipv4_kind
+        (ip_octets course.now.ident 0 udp_proto course.now.from.0 course.now.to.0 (udp_octets course.now.from.0 course.now.to.0 (udp_of datagram.now))) }
+    ensures length { (0 < result) × (result ≤ 1514) }
+    ensures room { (length frame.new ≡ 1514) × (length packet.new ≡ 1514) }
+{
+    let Ok(carried) = udp_assoc::encode(datagram, course.from, course.to, frame) else {
+        unreachable!()
+    };
+    let datagram = write_datagram(course, UDP, &frame[..carried], packet);
+    write_frame(course, &packet[..datagram], frame)
+}
+
+// Writes a datagram with this protocol, and answers its length.
+fn write_datagram(course: &Course, proto: u8, body: &[u8], packet: &mut [u8]) -> usize
     requires room { length packet.old ≡ 1514 }
     requires size { length body.now ≤ 1480 }
-    ensures datagram { take result packet.new ≡ ip_octets course.now.ident 0 icmp_proto course.now.from.0 course.now.to.0 body.now }
+    ensures datagram { take result packet.new ≡ ip_octets course.now.ident 0 proto course.now.from.0 course.now.to.0 body.now }
     ensures length { result ≡ 20 + length body.now }
     ensures room { length packet.new ≡ 1514 }
 {
@@ -184,13 +203,33 @@ fn write_datagram(course: &Course, body: &[u8], packet: &mut [u8]) -> usize
         more: false,
         offset: 0,
         ttl: 64,
-        proto: ICMP,
+        proto,
         from: course.from,
         to: course.to,
         head: &[],
         body,
     };
     let Ok(length) = ipv4_head::encode(&datagram, packet) else {
+        unreachable!()
+    };
+    length
+}
+
+// Writes the frame of a datagram, and answers its length.
+fn write_frame(course: &Course, datagram: &[u8], frame: &mut [u8]) -> usize
+    requires room { length frame.old ≡ 1514 }
+    requires size { length datagram.now ≤ 1500 }
+    ensures frame { take result frame.new ≡ ether_octets course.now.to_mac.0 course.now.from_mac.0 ipv4_kind datagram.now }
+    ensures length { (0 < result) × (result ≤ 1514) }
+    ensures room { length frame.new ≡ 1514 }
+{
+    let ether = EtherView {
+        to: course.to_mac,
+        from: course.from_mac,
+        kind: IPV4,
+        body: datagram,
+    };
+    let Ok(length) = ether_frame::encode(&ether, frame) else {
         unreachable!()
     };
     length

@@ -1,5 +1,6 @@
 // The loop of turns.
 ghost use Rattle.std.specs.Prelude.{◌≡◌, ◌&&◌, false, if◌then◌else◌};
+ghost use Rattle.slirp_core.specs.Holds.{Standing, still, is_read_now};
 ghost use Rattle.poll_list.specs.Listing.{reads, writes};
 ghost use Rattle.slirp_core.specs.Ends.{turn_of};
 ghost use Rattle.poll_list.specs.declared.Who.TheVariants.{Link as TheLink};
@@ -12,6 +13,9 @@ use std::alloc::Global;
 use std::marker::Model;
 use stream_netdev::{Arrived, Link};
 use world_face::{Waited, World};
+
+/// The most octets of a datagram's payload.
+const MOST_PAYLOAD: usize = 65507;
 
 /// The most items that a wait can report.
 const MOST_READY: usize = 5155;
@@ -40,7 +44,7 @@ pub enum Turn {
     Ended(End),
 }
 
-// What came of a wait. `Ready` says whether a frame is to be read.
+// What came of a wait. `Ready` says whether frames and datagrams were waited for.
 #[derive(Clone, Copy, Debug, PartialEq, Eq)]
 pub enum Slept {
     Ready(bool),
@@ -55,22 +59,23 @@ pub struct Service {
     link: Link,
     wants: Wants,
     ready: ReadyList,
+    payload: Vec<u8>,
     turns: u64,
 }
 
 impl Model for Service {
-    ghost use Rattle.std.specs.Prelude.{◌≡◌};
+    ghost use Rattle.std.specs.Prelude.{◌≡◌, length};
     ghost use Rattle.slirp_core.specs.Served.{ServiceState};
 
     ghost Value = { ServiceState };
 
-    ghost view = { λ s. record { slirp = s.slirp; link = s.link } };
+    ghost view = { λ s. record { slirp = s.slirp; link = s.link; ready = s.ready.items } };
 
-    ghost invariant = { λ s. (s.turns ≡ s.slirp.config.turns) × (s.wants.capacity ≡ 5155) × (s.ready.capacity ≡ 5155) };
+    ghost invariant = { λ s. (s.turns ≡ s.slirp.config.turns) × (s.wants.capacity ≡ 5155) × (s.ready.capacity ≡ 5155) × (length s.payload.items ≡ 65507) };
 }
 
 impl Service {
-    ghost use Rattle.std.specs.Prelude.{ℕ, ◌+◌, ◌<◌, [], true, IfOk};
+    ghost use Rattle.std.specs.Prelude.{ℕ, ◌+◌, ◌<◌, ◌≤◌, ◌^◌, [], true, if◌then◌else◌, IfOk};
     ghost use Rattle.world_face.specs.Tells.{Makes, Brings};
     ghost use Rattle.host_policy.specs.Addresses.{Config};
     ghost use Rattle.host_policy.specs.Settings.{settings};
@@ -80,7 +85,8 @@ impl Service {
     ghost use Rattle.stream_netdev.specs.Keeps.{ReadsOn};
     ghost use Rattle.stream_netdev.specs.State.{under_way};
     ghost use Rattle.slirp_core.specs.Ends.{end_of};
-    ghost use Rattle.slirp_core.specs.Holds.{Holds, HoldsToRead, AfterPump, AfterSleep, AfterTurn, GoesOnAfter, SettledToRead};
+    ghost use Rattle.slirp_core.specs.Holds.{Holds, Closing, after, standing, AfterSleep, AfterTurn, GoesOnAfter};
+    ghost use Rattle.slirp_core.specs.Pumps.{is_settled};
     ghost use Rattle.slirp_core.specs.Served.{IsNew};
 
     /// A network with these settings that has served nothing. It takes all the memory that it will ever need.
@@ -89,9 +95,10 @@ impl Service {
         ensures config { IfOk result (λ service. service.slirp.config ≡ settings c.now) }
     {
         let link = Link::open(alloc)?;
-        let (Ok(wants), Ok(ready)) = (
+        let (Ok(wants), Ok(ready), Ok(payload)) = (
             Wants::open(alloc, MOST_READY),
             ReadyList::open(alloc, MOST_READY),
+            vec![in alloc; 0; MOST_PAYLOAD],
         ) else {
             return Err(NoMemory);
         };
@@ -101,43 +108,59 @@ impl Service {
             link,
             wants,
             ready,
+            payload,
             turns: c.turns,
         })
+    }
+
+    // Whether nothing is left to be sent.
+    fn is_settled(&self) -> bool
+        ensures { result ≡ is_settled self.now.slirp self.now.link }
+    {
+        self.slirp.is_settled(&self.link)
     }
 
     // Waits, and asks for the moment where it was woken.
     fn sleep<W: World>(&mut self, world: &mut W) -> Slept
         ensures makes { (config : Config) (count : ℕ) → count < config.turns → Brings (W.tells world.old) (W.tells world.new)
-            (Holds config count self.old.slirp self.old.link) (AfterSleep result config (count + 1) self.new.slirp self.new.link) }
-        ensures settled { SettledToRead result self.new.slirp self.new.link }
+            (Holds config (after count) self.old.slirp self.old.link) (AfterSleep result config (count + 1) self.new.ready self.new.slirp self.new.link) }
         ensures on { under_way self.new.link ≡ under_way self.old.link }
-        ensures slirp { self.new.slirp ≡ self.old.slirp }
+        ensures config { self.new.slirp.config ≡ self.old.slirp.config }
+        ensures number { self.new.slirp.number ≡ self.old.slirp.number }
     {
-        self.slirp.pollfds_fill(&self.link, &mut self.wants);
-        match world.wait(&self.wants, None, &mut self.ready) {
+        let listened = self.is_settled();
+        let timeout = self.slirp.pollfds_fill(&self.link, &mut self.wants);
+        match world.wait(&self.wants, timeout, &mut self.ready) {
             Waited::Ready => {
-                world.now();
+                let told = world.now();
+                self.slirp.tell_moment(told);
                 report(&mut self.link, self.ready.items());
-                Slept::Ready(is_to_be_read(self.wants.items(), self.ready.items()))
+                Slept::Ready(listened)
             }
             Waited::Stop => Slept::Stopped,
             Waited::Failed => Slept::Failed,
         }
     }
 
-    // Reads a frame, and takes it in.
+    // Reads a frame where nothing is left to be sent, takes it in, and sends its datagram on.
     fn receive<W: World>(&mut self, world: &mut W) -> Turn
         requires on { ReadsOn (under_way self.old.link) }
-        requires none { self.old.slirp.pending ≡ [] }
-        requires rest { self.old.link.tail ≡ [] }
+        requires number { self.old.slirp.number + 1 < 2 ^ 64 }
         ensures makes { (config : Config) (count : ℕ) → Brings (W.tells world.old) (W.tells world.new)
-            (HoldsToRead config count self.old.slirp self.old.link) (AfterTurn result config count self.new.slirp self.new.link) }
+            (Holds config (standing count true) self.old.slirp self.old.link) (AfterTurn result config (after count) self.new.slirp self.new.link) }
         ensures on { GoesOnAfter result self.new.link }
         ensures config { self.new.slirp.config ≡ self.old.slirp.config }
+        ensures number { self.new.slirp.number ≤ self.old.slirp.number + 1 }
+        ensures ready { self.new.ready ≡ self.old.ready }
     {
+        if !self.is_settled() {
+            return Turn::Again;
+        }
         match self.link.read_frame(world) {
             Arrived::Frame => {
-                self.slirp.input(self.link.frame());
+                if let Some(errand) = self.slirp.input(self.link.frame()) {
+                    self.slirp.relay(world, &errand);
+                }
                 Turn::Again
             }
             Arrived::NotYet => Turn::Again,
@@ -148,45 +171,113 @@ impl Service {
         }
     }
 
+    // Receives a datagram on a socket where nothing is left to be sent.
+    fn hear<W: World>(&mut self, world: &mut W, number: u64)
+        ensures makes { (config : Config) (at : Standing) → Brings (W.tells world.old) (W.tells world.new)
+            (Holds config at self.old.slirp self.old.link) (Holds config at self.new.slirp self.new.link) }
+        ensures link { self.new.link ≡ self.old.link }
+        ensures config { self.new.slirp.config ≡ self.old.slirp.config }
+        ensures number { self.new.slirp.number ≡ self.old.slirp.number }
+        ensures ready { self.new.ready ≡ self.old.ready }
+    {
+        if self.is_settled() {
+            self.slirp.hear(world, number, &mut self.payload);
+        }
+    }
+
     // Sends what is owed.
     fn pump<W: World>(&mut self, world: &mut W) -> Turn
         requires { ReadsOn (under_way self.old.link) }
-        ensures makes { (config : Config) (count : ℕ) → Brings (W.tells world.old) (W.tells world.new)
-            (Holds config count self.old.slirp self.old.link) (AfterTurn result config count self.new.slirp self.new.link) }
+        ensures makes { (config : Config) (at : Standing) → Brings (W.tells world.old) (W.tells world.new)
+            (Holds config at self.old.slirp self.old.link) (AfterTurn result config at self.new.slirp self.new.link) }
         ensures on { GoesOnAfter result self.new.link }
         ensures config { self.new.slirp.config ≡ self.old.slirp.config }
+        ensures number { self.new.slirp.number ≡ self.old.slirp.number }
+        ensures ready { self.new.ready ≡ self.old.ready }
     {
         let pumped = self.slirp.pump(world, &mut self.link);
         turn_of(pumped)
     }
 
-    // What follows a wait that was woken.
-    fn work<W: World>(&mut self, world: &mut W) -> Turn
+    // Serves an item of what a wait reported: the link where a frame is still to be read, or a socket where sockets may be heard.
+    fn serve_item<W: World>(
+        &mut self,
+        world: &mut W,
+        item: &Want,
+        to_read: bool,
+        hears: bool,
+    ) -> Turn
         requires on { ReadsOn (under_way self.old.link) }
-        requires none { self.old.slirp.pending ≡ [] }
-        requires rest { self.old.link.tail ≡ [] }
+        requires number { to_read ≡ true → self.old.slirp.number + 1 < 2 ^ 64 }
         ensures makes { (config : Config) (count : ℕ) → Brings (W.tells world.old) (W.tells world.new)
-            (HoldsToRead config count self.old.slirp self.old.link) (AfterTurn result config count self.new.slirp self.new.link) }
+            (Holds config (standing count to_read) self.old.slirp self.old.link) (AfterTurn result config (standing count (still to_read item.now)) self.new.slirp self.new.link) }
         ensures on { GoesOnAfter result self.new.link }
         ensures config { self.new.slirp.config ≡ self.old.slirp.config }
+        ensures number { self.new.slirp.number ≤ self.old.slirp.number + (if is_read_now to_read item.now then 1 else 0) }
+        ensures ready { self.new.ready ≡ self.old.ready }
     {
-        match self.receive(world) {
+        match item.of {
+            Who::Link if item.read && to_read => self.receive(world),
+            Who::Udp(number) if item.read && hears => {
+                self.hear(world, number);
+                Turn::Again
+            }
+            _ => Turn::Again,
+        }
+    }
+
+    // The same, and sends what is then owed.
+    fn attend<W: World>(&mut self, world: &mut W, item: &Want, to_read: bool, hears: bool) -> Turn
+        requires on { ReadsOn (under_way self.old.link) }
+        requires number { to_read ≡ true → self.old.slirp.number + 1 < 2 ^ 64 }
+        ensures makes { (config : Config) (count : ℕ) → Brings (W.tells world.old) (W.tells world.new)
+            (Holds config (standing count to_read) self.old.slirp self.old.link) (AfterTurn result config (standing count (still to_read item.now)) self.new.slirp self.new.link) }
+        ensures on { GoesOnAfter result self.new.link }
+        ensures config { self.new.slirp.config ≡ self.old.slirp.config }
+        ensures number { self.new.slirp.number ≤ self.old.slirp.number + (if is_read_now to_read item.now then 1 else 0) }
+        ensures ready { self.new.ready ≡ self.old.ready }
+    {
+        match self.serve_item(world, item, to_read, hears) {
             Turn::Again => self.pump(world),
             Turn::Ended(end) => Turn::Ended(end),
         }
     }
 
-    // A wait and what follows it.
-    fn wake<W: World>(&mut self, world: &mut W) -> Turn
-        requires { ReadsOn (under_way self.old.link) }
-        ensures makes { (config : Config) (count : ℕ) → count < config.turns → Brings (W.tells world.old) (W.tells world.new)
-            (Holds config count self.old.slirp self.old.link) (AfterTurn result config (count + 1) self.new.slirp self.new.link) }
+    // What follows a wait that was woken, where frames and datagrams were waited for or not: each item that it reported is served, in their order. A socket that was opened since wasn't waited for.
+    fn work<W: World>(&mut self, world: &mut W, listened: bool) -> Turn
+        requires on { ReadsOn (under_way self.old.link) }
+        requires number { self.old.slirp.number + 1 < 2 ^ 64 }
+        ensures makes { (config : Config) (count : ℕ) → Brings (W.tells world.old) (W.tells world.new)
+            (Holds config (standing count (listened && reads TheLink self.old.ready)) self.old.slirp self.old.link) (AfterTurn result config (after count) self.new.slirp self.new.link) }
         ensures on { GoesOnAfter result self.new.link }
         ensures config { self.new.slirp.config ≡ self.old.slirp.config }
+        ensures number { self.new.slirp.number ≤ self.old.slirp.number + 1 }
+    {
+        let opened = self.slirp.next_number();
+        let mut to_read = listened && reads_link(self.ready.items());
+        for place in 0..self.ready.items().len() {
+            let item = self.ready.items()[place];
+            let hears = listened && is_before(&item, opened);
+            match self.attend(world, &item, to_read, hears) {
+                Turn::Again => to_read = still(to_read, &item),
+                Turn::Ended(end) => return Turn::Ended(end),
+            }
+        }
+        Turn::Again
+    }
+
+    // A wait and what follows it.
+    fn wake<W: World>(&mut self, world: &mut W) -> Turn
+        requires on { ReadsOn (under_way self.old.link) }
+        requires number { self.old.slirp.number + 1 < 2 ^ 64 }
+        ensures makes { (config : Config) (count : ℕ) → count < config.turns → Brings (W.tells world.old) (W.tells world.new)
+            (Holds config (after count) self.old.slirp self.old.link) (AfterTurn result config (after (count + 1)) self.new.slirp self.new.link) }
+        ensures on { GoesOnAfter result self.new.link }
+        ensures config { self.new.slirp.config ≡ self.old.slirp.config }
+        ensures number { self.new.slirp.number ≤ self.old.slirp.number + 1 }
     {
         match self.sleep(world) {
-            Slept::Ready(true) => self.work(world),
-            Slept::Ready(false) => self.pump(world),
+            Slept::Ready(listened) => self.work(world, listened),
             Slept::Stopped => Turn::Ended(End::Done),
             Slept::Failed => Turn::Ended(End::WaitFault),
         }
@@ -195,30 +286,52 @@ impl Service {
     /// Begins a run of a network that has served nothing: the moment is asked for.
     pub fn start<W: World>(&mut self, world: &mut W) -> Turn
         requires { IsNew self.old }
-        ensures makes { Makes (W.tells world.old) (W.tells world.new) (Holds self.old.slirp.config 0 self.new.slirp self.new.link) }
+        ensures makes { Makes (W.tells world.old) (W.tells world.new) (Holds self.old.slirp.config (after 0) self.new.slirp self.new.link) }
         ensures on { ReadsOn (under_way self.new.link) }
         ensures config { self.new.slirp.config ≡ self.old.slirp.config }
+        ensures number { self.new.slirp.number ≡ 0 }
         ensures again { result ≡ Turn.Again }
     {
-        world.now();
+        let told = world.now();
+        self.slirp.tell_moment(told);
         Turn::Again
     }
 
-    /// One turn: what is owed is sent, then it waits, then what the wait reported is served, with what is then owed.
+    /// One turn: sockets that were idle for long are closed and what is owed is sent, then it waits, then what the wait reported is served, with what is then owed. A turn opens at most one socket, and needs a number for it under 2^64.
     pub fn turn<W: World>(&mut self, world: &mut W) -> Turn
-        requires { ReadsOn (under_way self.old.link) }
+        requires on { ReadsOn (under_way self.old.link) }
+        requires number { self.old.slirp.number + 1 < 2 ^ 64 }
         ensures makes { (config : Config) (count : ℕ) → count < config.turns → Brings (W.tells world.old) (W.tells world.new)
-            (Holds config count self.old.slirp self.old.link) (AfterTurn result config (count + 1) self.new.slirp self.new.link) }
+            (Holds config (after count) self.old.slirp self.old.link) (AfterTurn result config (after (count + 1)) self.new.slirp self.new.link) }
         ensures on { GoesOnAfter result self.new.link }
         ensures config { self.new.slirp.config ≡ self.old.slirp.config }
+        ensures number { self.new.slirp.number ≤ self.old.slirp.number + 1 }
     {
+        self.slirp.tick(world);
         match self.pump(world) {
             Turn::Again => self.wake(world),
             Turn::Ended(end) => Turn::Ended(end),
         }
     }
 
-    /// Runs until the link ends, a wait is told to stop, or the turns are spent.
+    // Takes turns until the run ends.
+    fn run<W: World>(&mut self, world: &mut W) -> End
+        requires { IsNew self.old }
+        ensures makes { Makes (W.tells world.old) (W.tells world.new) (Closing self.old.slirp.config result self.new.slirp.associations) }
+        ensures config { self.new.slirp.config ≡ self.old.slirp.config }
+    {
+        let _begun = self.start(world);
+        let turns = self.turns;
+        for _count in 0..turns {
+            match self.turn(world) {
+                Turn::Again => {}
+                Turn::Ended(end) => return end,
+            }
+        }
+        End::TurnsSpent(self.turns)
+    }
+
+    /// Runs until the link ends, a wait is told to stop, or the turns are spent; then all sockets are closed.
     pub fn serve<W: World>(&mut self, world: &mut W) -> End
         requires { IsNew self.old }
         // The calls that it makes are lawful, nothing more is to be done, and the end is the one that they tell.
@@ -227,14 +340,9 @@ impl Service {
         // What a World that was live tells of them.
         ensures served { Served self.old.slirp.config (W.tells world.old) (W.tells world.new) }
     {
-        let _begun = self.start(world);
-        for _count in 0..self.turns {
-            match self.turn(world) {
-                Turn::Again => {}
-                Turn::Ended(end) => return end,
-            }
-        }
-        End::TurnsSpent(self.turns)
+        let end = self.run(world);
+        self.slirp.close_all(world);
+        end
     }
 }
 
@@ -258,11 +366,16 @@ fn report(link: &mut Link, ready: &[Want])
     }
 }
 
-// Whether the link was wanted and is reported for reading.
-fn is_to_be_read(wants: &[Want], ready: &[Want]) -> bool
-    ensures { result ≡ (reads TheLink wants.now && reads TheLink ready.now) }
+// Whether a frame is still to be read after this item.
+fn still(to_read: bool, item: &Want) -> bool
+    ensures { result ≡ still to_read item.now }
 {
-    reads_link(wants) && reads_link(ready)
+    to_read && !(item.of == Who::Link && item.read)
+}
+
+// Whether the item is a socket with a number under this one.
+fn is_before(item: &Want, number: u64) -> bool {
+    matches!(item.of, Who::Udp(socket) if socket < number)
 }
 
 // Whether the link is among these for reading.

@@ -1,14 +1,15 @@
 -- What the test passes is lawful.
-use Rattle.std.proofs.Common.{◌≡◌, ℕ, ◌<◌, ◌≤◌, ◌==◌, ◌&&◌, not, nat_lt, nat_le, Bool, true, false, List, [], ◌∷◌, drop, length, bytes_eq, MatchOption, Option, Some, None, refl, sym, ◌∙◌, ap, subst, arith}
+use Rattle.std.proofs.Common.{◌≡◌, ℕ, ◌<◌, ◌≤◌, ◌==◌, ◌&&◌, not, nat_lt, nat_le, Bool, true, false, List, [], ◌∷◌, drop, length, bytes_eq, MatchOption, Option, Some, None, refl, sym, ap, arith}
 use Rattle.std.proofs.lemmas.Bool.Decides.{nat_tests}
-use Rattle.world_face.specs.Journal.{Entry, Call, call_of, CallNow, CallWait, CallLinkOpen, CallLinkRead, CallLinkWrite, CallConnect, CallConnected, CallListen, CallAccept, CallTcpRead, CallTcpWrite, CallTcpEnd, CallClose, CallUdpOpen, CallUdpSend, CallUdpRecv, CallFileLen, CallFileRead}
+use Rattle.world_face.specs.Journal.{Entry, Call, call_of, CallNow, CallWait, CallLinkOpen, CallLinkRead, CallLinkWrite, CallListen, CallClose, CallUdpOpen, CallUdpSend, CallUdpRecv}
 use Rattle.world_face.specs.Frames.{missing, partial, spelling, tail, is_blocked, MayOffer, MayFrame}
-use Rattle.world_face.specs.Limits.{most_to_link}
+use Rattle.world_face.specs.Limits.{most_to_link, most_to_udp}
 use Rattle.net_octets.specs.declared.Endpoint.{Endpoint}
 use Rattle.host_policy.specs.Addresses.{Config}
 use Rattle.slirp_laws.specs.Answers.{left}
-use Rattle.slirp_laws.specs.Check.{same_endpoint, may_offer, may_frame, is_now, is_close, is_listen, is_udp_open, is_call, is_due, may_due, is_working, may_shape, may_socket, may_read, is_empty, may_begin, may_answer, may, is_lawful}
-use Rattle.slirp_laws.specs.Laws.{due, MayDue, MayShape, MaySocket, MayRead, MayBegin, MayAnswer, May, Lawful}
+use Rattle.host_policy.specs.Targets.{same_endpoint}
+use Rattle.slirp_laws.specs.Check.{may_offer, may_frame, is_now, is_close, is_listen, is_udp_open, is_udp_send, is_call, is_due, may_due, is_working, may_shape, may_socket, may_read, is_empty, may_begin, may_answer, may, is_lawful}
+use Rattle.slirp_laws.specs.Laws.{due, carries, MayShape, MaySocket, MayRead, MayBegin, MayAnswer, May, Lawful}
 use Rattle.slirp_laws.specs.Shape.{Phase, Opening, Woken, Working, Over, phase, waits, next_number}
 use Rattle.slirp_laws.proofs.Sentences.{lawful_none, lawful_next}
 
@@ -90,11 +91,19 @@ this_udp_open socket at (CallUdpOpen s a) is =
     λ i. CallUdpOpen (equal s socket parts.0 i) (equal_endpoints a at parts.1 i)
 this_udp_open socket at _ is = cc
 
+this_udp_send : (socket : ℕ) (to : Endpoint) (octets : List ℕ) (call : Call) → is_udp_send socket to octets call ≡ true → call ≡ CallUdpSend socket to octets
+this_udp_send socket to octets (CallUdpSend s t o) is =
+    let parts = both ((s == socket) && same_endpoint t to) (bytes_eq o octets) is in
+    let more = both (s == socket) (same_endpoint t to) parts.0 in
+    λ i. CallUdpSend (equal s socket more.0 i) (equal_endpoints t to more.1 i) (equal_octets o octets parts.1 i)
+this_udp_send socket to octets _ is = cc
+
 this : (d call : Call) → is_call d call ≡ true → call ≡ d
 this CallNow call is = this_now call is
 this (CallClose socket) call is = this_close socket call is
 this (CallListen socket at) call is = this_listen socket at call is
 this (CallUdpOpen socket at) call is = this_udp_open socket at call is
+this (CallUdpSend socket to octets) call is = this_udp_send socket to octets call is
 this _ call is = cc
 
 dues : (o : Option Call) (call : Call) → may_due o call ≡ true → MatchOption o (Unit {0}) (λ d. call ≡ d)
@@ -114,6 +123,8 @@ shapes config past (CallLinkRead asked) is = working (phase config past) is
 shapes config past (CallLinkWrite octets) is = working (phase config past) is
 shapes config past (CallListen socket at) is = due_is (due config past) (CallListen socket at) is
 shapes config past (CallUdpOpen socket at) is = due_is (due config past) (CallUdpOpen socket at) is
+shapes config past (CallUdpSend socket to octets) is = due_is (due config past) (CallUdpSend socket to octets) is
+shapes config past (CallUdpRecv socket asked) is = working (phase config past) is
 shapes config past (CallClose socket) is = tt
 shapes config past _ is = cc
 
@@ -121,6 +132,10 @@ sockets : (config : Config) (past : List Entry) (call : Call) → may_socket con
 sockets config past (CallListen socket at) is = equal socket (next_number past) is
 sockets config past (CallClose socket) is = is
 sockets config past (CallUdpOpen socket at) is = equal socket (next_number past) is
+sockets config past (CallUdpSend socket to octets) is = is
+sockets config past (CallUdpRecv socket asked) is =
+    let parts = both (carries config past socket) (asked == most_to_udp) is in
+    (parts.0, equal asked most_to_udp parts.1)
 sockets config past CallNow is = tt
 sockets config past (CallWait wants timeout) is = tt
 sockets config past (CallLinkOpen at) is = tt

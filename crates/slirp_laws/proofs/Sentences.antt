@@ -1,6 +1,6 @@
 -- Lawful runs, sentence by sentence or call by call.
-use Rattle.std.proofs.Common.{◌≡◌, true, List, [], ◌∷◌}
-use Rattle.world_face.specs.Journal.{Entry, Call, call_of, Follows}
+use Rattle.std.proofs.Common.{List, [], ◌∷◌}
+use Rattle.world_face.specs.Journal.{Entry, call_of, Follows}
 use Rattle.world_face.specs.Tells.{Telling, Makes}
 use Rattle.world_face.proofs.Telling.{makes_as}
 use Rattle.world_face.proofs.Following.{heard}

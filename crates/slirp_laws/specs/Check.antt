@@ -2,16 +2,14 @@
 use Rattle.std.specs.Prelude.{ℕ, ◌==◌, ◌&&◌, not, nat_lt, nat_le, Bool, true, false, List, [], ◌∷◌, drop, length, bytes_eq, Option, Some, None}
 use Rattle.world_face.specs.Journal.{Entry, Call, call_of, CallNow, CallWait, CallLinkOpen, CallLinkRead, CallLinkWrite, CallConnect, CallConnected, CallListen, CallAccept, CallTcpRead, CallTcpWrite, CallTcpEnd, CallClose, CallUdpOpen, CallUdpSend, CallUdpRecv, CallFileLen, CallFileRead}
 use Rattle.world_face.specs.Frames.{missing, partial, spelling, tail, is_blocked}
-use Rattle.world_face.specs.Limits.{most_to_link}
+use Rattle.world_face.specs.Limits.{most_to_link, most_to_udp}
 use Rattle.net_octets.specs.declared.Endpoint.{Endpoint}
-use Rattle.host_policy.specs.Addresses.{Config, address}
+use Rattle.host_policy.specs.Addresses.{Config}
+use Rattle.host_policy.specs.Targets.{same_endpoint}
 use Rattle.slirp_laws.specs.Answers.{left, identification, is_first}
-use Rattle.slirp_laws.specs.Laws.{due, may_close}
+use Rattle.slirp_laws.specs.Laws.{due, may_close, carries}
 use Rattle.slirp_laws.specs.Readiness.{is_readable}
 use Rattle.slirp_laws.specs.Shape.{Phase, Opening, Woken, Working, Over, phase, waits, next_number}
-
-abbrev pub same_endpoint : Endpoint → Endpoint → Bool
-same_endpoint a b = (address a == address b) && (a.port == b.port)
 
 -- framing
 abbrev pub may_offer : List ℕ → List ℕ → Bool
@@ -40,11 +38,16 @@ abbrev pub is_udp_open : ℕ → Endpoint → Call → Bool
 is_udp_open socket at (CallUdpOpen s a) = (s == socket) && same_endpoint a at
 is_udp_open socket at _ = false
 
+abbrev pub is_udp_send : ℕ → Endpoint → List ℕ → Call → Bool
+is_udp_send socket to octets (CallUdpSend s t o) = (s == socket) && same_endpoint t to && bytes_eq o octets
+is_udp_send socket to octets _ = false
+
 abbrev pub is_call : Call → Call → Bool
 is_call CallNow call = is_now call
 is_call (CallClose socket) call = is_close socket call
 is_call (CallListen socket at) call = is_listen socket at call
 is_call (CallUdpOpen socket at) call = is_udp_open socket at call
+is_call (CallUdpSend socket to octets) call = is_udp_send socket to octets call
 is_call _ call = false
 
 abbrev pub is_due : Option Call → Call → Bool
@@ -77,8 +80,8 @@ may_shape config past (CallTcpWrite socket octets) = false
 may_shape config past (CallTcpEnd socket) = false
 may_shape config past (CallClose socket) = true
 may_shape config past (CallUdpOpen socket at) = is_due (due config past) (CallUdpOpen socket at)
-may_shape config past (CallUdpSend socket to octets) = false
-may_shape config past (CallUdpRecv socket asked) = false
+may_shape config past (CallUdpSend socket to octets) = is_due (due config past) (CallUdpSend socket to octets)
+may_shape config past (CallUdpRecv socket asked) = is_working (phase config past)
 may_shape config past (CallFileLen name) = false
 may_shape config past (CallFileRead name place asked) = false
 
@@ -87,6 +90,8 @@ abbrev pub may_socket : Config → List Entry → Call → Bool
 may_socket config past (CallListen socket at) = socket == next_number past
 may_socket config past (CallClose socket) = may_close config past socket
 may_socket config past (CallUdpOpen socket at) = socket == next_number past
+may_socket config past (CallUdpSend socket to octets) = carries config past socket
+may_socket config past (CallUdpRecv socket asked) = carries config past socket && (asked == most_to_udp)
 may_socket config past CallNow = true
 may_socket config past (CallWait wants timeout) = true
 may_socket config past (CallLinkOpen at) = true

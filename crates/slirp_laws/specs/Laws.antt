@@ -1,21 +1,28 @@
 -- What call may follow what past. Each sentence has a case for each of the eighteen calls.
-use Rattle.std.specs.Prelude.{◌≡◌, ℕ, ◌==◌, ◌<◌, ◌&&◌, Bool, true, List, [], ◌∷◌, drop, slice_index, MatchOption, Option, Some, None}
+use Rattle.std.specs.Prelude.{◌≡◌, ℕ, ◌==◌, ◌<◌, ◌&&◌, ◌||◌, Bool, true, false, is_some, List, [], ◌∷◌, drop, slice_index, MatchOption, Option, Some, None}
 use Rattle.world_face.specs.Journal.{Entry, Call, Follows, CallNow, CallWait, CallLinkOpen, CallLinkRead, CallLinkWrite, CallConnect, CallConnected, CallListen, CallAccept, CallTcpRead, CallTcpWrite, CallTcpEnd, CallClose, CallUdpOpen, CallUdpSend, CallUdpRecv, CallFileLen, CallFileRead}
 use Rattle.world_face.specs.Frames.{MayFrame, tail}
 use Rattle.host_policy.specs.Addresses.{Config}
-use Rattle.slirp_laws.specs.Shape.{Working, phase, is_ended, waits, open_sockets, is_among, next_number, due_in}
+use Rattle.world_face.specs.Limits.{most_to_udp}
+use Rattle.udp_assoc.specs.Associations.{numbered, is_idle}
+use Rattle.slirp_laws.specs.Datagrams.{Step, Settled, NeedsRoom, NeedsSocket, NeedsSending, relay, due_for}
+use Rattle.slirp_laws.specs.Shape.{Working, phase, is_ended, waits, moment, open_sockets, is_among, next_number, due_in}
 use Rattle.slirp_laws.specs.Answers.{left, Explained}
 use Rattle.slirp_laws.specs.Readiness.{is_readable}
 
 -- the call that must come next, if one must
+abbrev pub unless_due : Option Call → Option Call → Option Call
+unless_due None other = other
+unless_due (Some call) other = Some call
+
 abbrev pub due : Config → List Entry → Option Call
-due config past = due_in (phase config past) past
+due config past = unless_due (due_in (phase config past) past) (due_for (relay config past).step (next_number past))
 
 -- Where a call is due, it is the one that comes.
 abbrev pub MayDue : Config → List Entry → Call → Type 0
 MayDue config past call = MatchOption (due config past) (Unit {0}) (λ d. call ≡ d)
 
--- The shape of a run. The clock is asked, and ports are opened, only where that is due. There are only so many waits. What isn't built yet doesn't come.
+-- The shape of a run. The clock is asked, ports are opened and datagrams are sent only where that is due. There are only so many waits. What isn't built yet doesn't come.
 abbrev pub MayShape : Config → List Entry → Call → Type 0
 MayShape config past CallNow = due config past ≡ Some CallNow
 MayShape config past (CallWait wants timeout) = (phase config past ≡ Working) × (waits past < config.turns)
@@ -31,14 +38,27 @@ MayShape config past (CallTcpWrite socket octets) = ⊥
 MayShape config past (CallTcpEnd socket) = ⊥
 MayShape config past (CallClose socket) = Unit {0}
 MayShape config past (CallUdpOpen socket at) = due config past ≡ Some (CallUdpOpen socket at)
-MayShape config past (CallUdpSend socket to octets) = ⊥
-MayShape config past (CallUdpRecv socket asked) = ⊥
+MayShape config past (CallUdpSend socket to octets) = due config past ≡ Some (CallUdpSend socket to octets)
+MayShape config past (CallUdpRecv socket asked) = phase config past ≡ Working
 MayShape config past (CallFileLen name) = ⊥
 MayShape config past (CallFileRead name place asked) = ⊥
 
--- a socket is closed once, after the end, by rising number
+-- the longest unused of as many as may be open gives way
+abbrev pub gives_way : ℕ → Step → Bool
+gives_way socket Settled = false
+gives_way socket (NeedsRoom oldest errand) = socket == oldest
+gives_way socket (NeedsSocket errand) = false
+gives_way socket (NeedsSending number errand) = false
+
+-- a socket is closed once: after the end by rising number, before it only after its idle life, or as the longest unused
 abbrev pub may_close : Config → List Entry → ℕ → Bool
-may_close config past socket = is_among socket (open_sockets past) && is_ended config past && (slice_index (open_sockets past) 0 == socket)
+may_close config past socket =
+    is_among socket (open_sockets past)
+    && ((is_ended config past && (slice_index (open_sockets past) 0 == socket)) || gives_way socket (relay config past).step || is_idle socket (moment past) (relay config past).associations)
+
+-- an open socket that carries a guest's datagrams
+abbrev pub carries : Config → List Entry → ℕ → Bool
+carries config past socket = is_among socket (open_sockets past) && is_some (numbered socket (relay config past).associations)
 
 -- Numbers of sockets are drawn upward; calls on sockets are on such as are open.
 abbrev pub MaySocket : Config → List Entry → Call → Type 0
@@ -56,8 +76,8 @@ MaySocket config past (CallTcpWrite socket octets) = ⊥
 MaySocket config past (CallTcpEnd socket) = ⊥
 MaySocket config past (CallClose socket) = may_close config past socket ≡ true
 MaySocket config past (CallUdpOpen socket at) = socket ≡ next_number past
-MaySocket config past (CallUdpSend socket to octets) = ⊥
-MaySocket config past (CallUdpRecv socket asked) = ⊥
+MaySocket config past (CallUdpSend socket to octets) = carries config past socket ≡ true
+MaySocket config past (CallUdpRecv socket asked) = (carries config past socket ≡ true) × (asked ≡ most_to_udp)
 MaySocket config past (CallFileLen name) = ⊥
 MaySocket config past (CallFileRead name place asked) = ⊥
 

@@ -1,5 +1,6 @@
 pub mod Answers
 pub mod Check
+pub mod Datagrams
 pub mod Guests
 pub mod Laws
 pub mod Readiness

@@ -1,3 +1,4 @@
+pub mod Listing
 pub mod Passing
 pub mod Spelling
 pub mod Writing

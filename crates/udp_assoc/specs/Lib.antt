@@ -1,1 +1,2 @@
 pub mod Udp
+pub mod Associations

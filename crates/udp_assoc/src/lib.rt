@@ -1,11 +1,14 @@
 //! Datagrams of UDP (RFC 768).
 #![tactic(auto)]
 
+mod assocs;
+
 ghost use Rattle.std.specs.Prelude.{◌≡◌, ℕ, List, None, ◌+◌, ◌≤◌, ◌<◌, ◌^◌, ◌↔◌, ◌++◌, length, take, drop, IsOk, IfOk, OnErr, MatchResult, Some};
 ghost use Rattle.std.specs.Result.{result_ok, result_err};
 ghost use Rattle.udp_assoc.specs.Udp.{Udp, IsUdp, IsPlain, read_udp, udp_fault, udp_with, udp_octets, udp_of, summed, written_sum};
 ghost use Rattle.net_octets.specs.Octets.{IsOctets};
 
+pub use assocs::{Association, Associations, IDLE_LIFE, MOST_ASSOCIATIONS};
 use byteorder::{BigEndian, ByteOrder};
 use net_octets::{Fault, FaultKind, Ip4, NoRoom, checksum_after, pseudo, write_packet};
 

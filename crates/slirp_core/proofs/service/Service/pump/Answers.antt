@@ -7,8 +7,8 @@ use Rattle.slirp_core.proofs.Turning.{pumped}
 use Rattle.slirp_core.proofs.service.Service.pump.Goals as goal
 
 pub returns-clause-makes : goal.returns-clause-makes
-returns-clause-makes g c config count =
+returns-clause-makes g c config at =
     let new = c.pump-pumped.new in
-    let made = brings_as (c.pump-pumped.ensures.makes config count) (λ past after.
-    subst (λ t. AfterTurn t config count new.self new.link past) (sym c.turn_of.ensures) (pumped c.pump-pumped.result config count new.self new.link past after)) in
-    subst (λ (s : ServiceState). Brings (g.W.World.tells c.args.world.now) (g.W.World.tells new.world) (Holds config count s.slirp s.link) (AfterTurn c.turn_of.result config count new.self new.link)) c.self.view_is made
+    let made = brings_as (c.pump-pumped.ensures.makes config at) (λ past after.
+    subst (λ t. AfterTurn t config at new.self new.link past) (sym c.turn_of.ensures) (pumped c.pump-pumped.result config at new.self new.link past after)) in
+    subst (λ (s : ServiceState). Brings (g.W.World.tells c.args.world.now) (g.W.World.tells new.world) (Holds config at s.slirp s.link) (AfterTurn c.turn_of.result config at new.self new.link)) c.self.view_is made

@@ -1,5 +1,19 @@
+use Rattle.std.proofs.Common.{◌+◌, subst}
+use Rattle.world_face.specs.Tells.{Brings}
 use Rattle.world_face.proofs.Telling.{brings_then}
+use Rattle.slirp_core.specs.Holds.{Holds, after, AfterTurn}
+use Rattle.slirp_core.specs.Served.{ServiceState}
+use Rattle.slirp_core.specs.declared.service.Turn.TheVariants.{Ended as TurnEnded}
 use Rattle.slirp_core.proofs.service.Service.turn.Goals as goal
 
 pub returns-in-Again-clause-makes : goal.returns-in-Again-clause-makes
-returns-in-Again-clause-makes g c config count few = brings_then (c.in-Again.ensures.makes config count) (c.wake.ensures.makes config count few)
+returns-in-Again-clause-makes g c config count few =
+    let new = c.wake.new in
+    subst (λ (s : ServiceState). Brings (g.W.World.tells c.args.world.now) (g.W.World.tells new.world) (Holds config (after count) s.slirp s.link) (AfterTurn c.wake.result config (after (count + 1)) new.self.slirp new.self.link)) c.self.view_is
+    (brings_then (c.tick.ensures.makes config (after count) c.self.inside.link) (brings_then (c.in-Again.ensures.makes config (after count)) (c.wake.ensures.makes config count few)))
+
+pub returns-in-Ended-clause-makes : goal.returns-in-Ended-clause-makes
+returns-in-Ended-clause-makes g c config count few =
+    let new = c.pump.new in
+    subst (λ (s : ServiceState). Brings (g.W.World.tells c.args.world.now) (g.W.World.tells new.world) (Holds config (after count) s.slirp s.link) (AfterTurn (TurnEnded c.in-Ended.end) config (after (count + 1)) new.self.slirp new.self.link)) c.self.view_is
+    (brings_then (c.tick.ensures.makes config (after count) c.self.inside.link) (c.in-Ended.ensures.makes config (after count)))

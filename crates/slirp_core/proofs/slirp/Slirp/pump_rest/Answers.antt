@@ -5,9 +5,9 @@ use Rattle.slirp_core.proofs.Pumping.{after_flush}
 use Rattle.slirp_core.proofs.slirp.Slirp.pump_rest.Goals as goal
 
 pub returns-clause-makes : goal.returns-clause-makes
-returns-clause-makes g c config count =
+returns-clause-makes g c config at =
     let old = c.args.link.now in
     let new = c.flush-offered.new.self in
     let some : 0 < length old.tail = omega (arith, c.tail.ensures) in
     let comes = c.outcome.ensures ∙ ap (pumped_of c.flush-offered.result) c.blocked-2.ensures in
-    brings_from c.flush-offered.ensures.makes (λ made writes past holds. after_flush config count c.args.self.now old new made past c.flush-offered.result c.outcome.result some writes.0 writes.1 comes holds)
+    brings_from c.flush-offered.ensures.makes (λ made writes past holds. after_flush config at c.args.self.now old new made past c.flush-offered.result c.outcome.result some writes.0 writes.1 comes holds)

@@ -1,0 +1,15 @@
+use Rattle.std.proofs.Common.{◌≡◌, length}
+use Rattle.world_face.specs.Tells.{Brings}
+use Rattle.host_policy.specs.Addresses.{Config}
+use Rattle.slirp_core.specs.Holds.{Closing}
+use Rattle.slirp_core.specs.declared.service.End.{End}
+use Rattle.slirp_core.proofs.slirp.Slirp.close_all.Given as goal
+
+abbrev pub invariant-loop : goal.invariant-loop
+invariant-loop g l = record {
+  makes : (config : Config) (end : End) → Brings (g.W.World.tells l.fn.world) (g.W.World.tells l.world) (Closing config end l.fn.self.associations) (Closing config end l.self.associations);
+  config : l.self.config ≡ l.fn.self.config;
+}
+
+abbrev pub decreases-loop : goal.decreases-loop
+decreases-loop g l = length l.self.associations

@@ -1,0 +1,25 @@
+use Rattle.std.proofs.Common.{List, ◌∷◌, length, ◌<◌, sym, subst}
+use Rattle.world_face.specs.Tells.{Brings}
+use Rattle.slirp_core.specs.State.{SlirpState}
+use Rattle.world_face.specs.Journal.{Close}
+use Rattle.world_face.proofs.Telling.{brings_one}
+use Rattle.udp_assoc.specs.Associations.{is_over}
+use Rattle.udp_assoc.specs.declared.assocs.Association.{Association}
+use Rattle.slirp_core.specs.Holds.{Holds}
+use Rattle.slirp_core.proofs.Relaying.{after_idling}
+use Rattle.slirp_core.proofs.Sockets.{fewer}
+use Rattle.slirp_core.proofs.slirp.Slirp.close_idle.Goals as goal
+
+pub returns-clause-makes : goal.returns-clause-makes
+returns-clause-makes g c config at link =
+    let i = c.self.inside in
+    let slirp : SlirpState = record { config = i.policy; known = i.guests; sent = i.sent; pending = i.outgoing; moment = i.moment; number = i.number; associations = i.associations } in
+    subst (λ (s : SlirpState). Brings (g.W.World.tells c.args.world.now) (g.W.World.tells c.close.new.self) (Holds config at s link) (Holds config at (record slirp { associations = c.close-2.new.self }) link)) c.self.view_is
+    (brings_one c.close.ensures (λ allowed past holds.
+    subst (λ (l : List Association). Holds config at (record slirp { associations = l }) link (Close c.in-Some.number ∷ past)) (sym c.close-2.ensures) (after_idling config at slirp link past c.in-Some.number c.in-Some.ensures.0 holds)))
+
+pub returns-clause-fewer : goal.returns-clause-fewer
+returns-clause-fewer g c is =
+    let i = c.self.inside in
+    let less = fewer c.in-Some.number (is_over i.moment) i.associations c.in-Some.ensures.0 in
+    subst (λ (s : SlirpState). length c.close-2.new.self < length s.associations) c.self.view_is (subst (λ (l : List Association). length l < length i.associations) (sym c.close-2.ensures) less)

@@ -1,0 +1,47 @@
+use Rattle.std.proofs.Common.{◌≡◌, List, [], ◌∷◌, length, take, refl, rules, Some, sym, ◌∙◌, ap, subst}
+use Rattle.world_face.specs.Tells.{Brings}
+use Rattle.slirp_core.specs.State.{SlirpState}
+use Rattle.world_face.specs.Journal.{UdpRecv}
+use Rattle.world_face.specs.declared.Got.TheVariants.{From}
+use Rattle.world_face.proofs.Telling.{brings_one}
+use Rattle.udp_assoc.specs.Associations.{numbered}
+use Rattle.udp_assoc.specs.declared.assocs.Association.{Association}
+use Rattle.slirp_laws.specs.Answers.{frames_of, reply}
+use Rattle.slirp_core.specs.Holds.{Holds}
+use Rattle.slirp_core.proofs.Relaying.{after_hearing, after_not_yet, after_no_hearing}
+use Rattle.slirp_core.proofs.Sockets.{numbered_among}
+use Rattle.slirp_core.proofs.slirp.Slirp.hear.Goals as goal
+
+pub returns-in-From-clause-makes : goal.returns-in-From-clause-makes
+returns-in-From-clause-makes g c config at link out =
+    let i = c.self.inside in
+    let slirp : SlirpState = record { config = i.policy; known = i.guests; sent = i.sent; pending = i.outgoing; moment = i.moment; number = i.number; associations = i.associations } in
+    let a = c.in-Some.association in
+    let found : numbered c.args.number slirp.associations ≡ Some a = sym c.in-Some.ensures in
+    let none = ap (λ (s : SlirpState). s.pending) c.self.view_is ∙ c.requires.none in
+    let octets = take c.in-From.count c.udp_recv.new.into in
+    let new = c.answer_peer.ensures ∙ ap (λ (l : List Association). record slirp { associations = l; pending = frames_of slirp.config slirp.sent (reply slirp.config c.in-From.peer octets a) }) c.heard.ensures in
+    subst (λ (s : SlirpState). Brings (g.W.World.tells c.args.world.now) (g.W.World.tells c.udp_recv.new.self) (Holds config at s link) (Holds config at c.answer_peer.new.self link)) c.self.view_is
+    (brings_one c.in-From.ensures (λ allowed past holds.
+    subst (λ (s : SlirpState). Holds config at s link (UdpRecv c.args.number (length c.args.into.now) (From c.in-From.peer c.in-From.count) octets ∷ past)) (sym new)
+    (after_hearing config at slirp link past c.args.number (length c.args.into.now) a found c.requires.room none out (numbered_among c.args.number slirp.associations a found) holds c.in-From.peer c.in-From.count octets)))
+
+pub returns-in-NotYet : goal.returns-in-NotYet
+returns-in-NotYet g c =
+    let slirp = c.args.self.now in
+    let found : numbered c.args.number slirp.associations ≡ Some c.in-Some.association = sym (c.in-Some.ensures ∙ ap (λ (s : SlirpState). numbered c.args.number s.associations) c.self.view_is) in
+    record {
+      makes = λ config at link out.
+          brings_one c.in-NotYet.ensures (λ allowed past holds.
+          after_not_yet config at slirp link past c.args.number (length c.args.into.now) c.in-Some.association found c.requires.room c.requires.none out (numbered_among c.args.number slirp.associations c.in-Some.association found) holds []);
+      number = refl;
+      config = refl;
+      room = search rules;
+    }
+
+pub returns-in-Failed-clause-makes : goal.returns-in-Failed-clause-makes
+returns-in-Failed-clause-makes g c config at link out =
+    let slirp = c.args.self.now in
+    let found : numbered c.args.number slirp.associations ≡ Some c.in-Some.association = sym (c.in-Some.ensures ∙ ap (λ (s : SlirpState). numbered c.args.number s.associations) c.self.view_is) in
+    brings_one c.in-Failed.ensures (λ allowed past holds.
+    after_no_hearing config at slirp link past c.args.number (length c.args.into.now) c.in-Some.association found c.requires.room c.requires.none out (numbered_among c.args.number slirp.associations c.in-Some.association found) holds [])

@@ -1,0 +1,122 @@
+// The UDP datagrams of guests, and what becomes of them.
+ghost use Rattle.std.specs.Prelude.{◌≡◌, ◌≤◌, ◌||◌, ◌==◌, ◌&&◌, length, Some, None, IfSome};
+ghost use Rattle.std.specs.Option.{option_map};
+ghost use Rattle.host_policy.specs.Addresses.{is_guest};
+ghost use Rattle.ipv4_head.specs.Ip.{ip_of, read_ip};
+ghost use Rattle.slirp_laws.specs.Datagrams.{udp_of, quoted, fate};
+ghost use Rattle.slirp_core.specs.Datagrams.{datagram_of, fate_of};
+
+use host_policy::{Policy, Proto, Verdict};
+use ipv4_head::IpView;
+use net_octets::{Endpoint, Ip4, Mac};
+
+/// The protocol of a datagram that carries UDP (RFC 768).
+pub const UDP: u8 = 17;
+
+/// To where a client without an address sends (RFC 2131, 4.1).
+const DHCP_PORT: u16 = 67;
+
+/// Where files are asked for (RFC 1350).
+const TFTP_PORT: u16 = 69;
+
+/// The address of all hosts (RFC 919).
+const ALL_HOSTS: Ip4 = Ip4(0xffff_ffff);
+
+/// The octets of a payload that an unreachable quotes (RFC 792).
+const QUOTED: usize = 8;
+
+/// A datagram of a guest: the hardware address from which its frame came, its endpoints, its payload, and what an unreachable quotes of it.
+#[derive(Clone, Copy, Debug, PartialEq, Eq)]
+pub struct DatagramView<'a> {
+    pub mac: Mac,
+    pub from: Endpoint,
+    pub to: Endpoint,
+    pub body: &'a [u8],
+    pub quote: &'a [u8],
+}
+
+/// A datagram that goes out, and where.
+#[derive(Clone, Copy, Debug, PartialEq, Eq)]
+pub struct ErrandView<'a> {
+    pub datagram: DatagramView<'a>,
+    pub to: Endpoint,
+}
+
+/// What becomes of a datagram.
+#[derive(Clone, Copy, Debug, PartialEq, Eq)]
+pub enum Outcome {
+    Ignored,
+    /// The guest is told that it may go nowhere.
+    Refused,
+    GoesTo(Endpoint),
+}
+
+/// The datagram of UDP that a whole packet of a guest carries. `octets` are those of the packet, from its header on.
+pub fn datagram_in<'a>(
+    policy: &Policy,
+    mac: Mac,
+    octets: &'a [u8],
+    packet: &IpView<'a>,
+) -> Option<DatagramView<'a>>
+    requires { read_ip octets.now ≡ Some (ip_of packet.now) }
+    ensures datagram { option_map datagram_of result ≡ udp_of policy.now mac.0 (ip_of packet.now) }
+    ensures quote { IfSome result (λ d. length d.quote.now ≤ 68) }
+    ensures body { IfSome result (λ d. length d.body.now ≤ 65507) }
+{
+    if packet.proto != UDP || packet.more || packet.offset != 0 {
+        return None;
+    }
+    let Ok(udp) = udp_assoc::decode(packet.body, packet.from, packet.to) else {
+        return None;
+    };
+    if !may_come(policy, packet.from, udp.to_port) {
+        return None;
+    }
+    Some(DatagramView {
+        mac,
+        from: Endpoint {
+            addr: packet.from,
+            port: udp.from_port,
+        },
+        to: Endpoint {
+            addr: packet.to,
+            port: udp.to_port,
+        },
+        body: udp.body,
+        quote: quote(octets, packet),
+    })
+}
+
+// What an unreachable quotes of a packet: its header and the first octets of what it carries.
+fn quote<'a>(octets: &'a [u8], packet: &IpView<'a>) -> &'a [u8]
+    requires { read_ip octets.now ≡ Some (ip_of packet.now) }
+    ensures quoted { result.now ≡ quoted (ip_of packet.now) }
+    ensures few { length result.now ≤ 68 }
+{
+    &octets[..packet.head.len() + packet.body.len().min(QUOTED)]
+}
+
+// Whether the source of a datagram to this port is a guest, or one without an address that asks for it.
+fn may_come(policy: &Policy, from: Ip4, to_port: u16) -> bool
+    ensures { result ≡ (is_guest policy.now from.0 || ((from.0 == 0) && (to_port == 67))) }
+{
+    policy.is_guest(from) || from == Ip4(0) && to_port == DHCP_PORT
+}
+
+/// What becomes of a datagram: nothing of one from port 0, nor of one to a service of ours that isn't there yet.
+pub fn fate(policy: &Policy, datagram: &DatagramView<'_>) -> Outcome
+    ensures { fate_of result ≡ fate policy.now (datagram_of datagram.now) }
+{
+    let (from, to) = (datagram.from, datagram.to);
+    let ours = to.addr == policy.vhost();
+    if from.port == 0
+        || to.port == DHCP_PORT && (ours || to.addr == ALL_HOSTS)
+        || to.port == TFTP_PORT && ours
+    {
+        return Outcome::Ignored;
+    }
+    match policy.target(Proto::Udp, to) {
+        Verdict::Go(to) => Outcome::GoesTo(to),
+        Verdict::Denied(_) => Outcome::Refused,
+    }
+}
