@@ -1,24 +1,16 @@
 -- What a step makes of the slots and of their order.
-use Rattle.std.proofs.Common.{◌≡◌, ◌≢◌, ◌==◌, ℕ, ◌<◌, ◌≤◌, ◌+◌, ◌⊎◌, inl, inr, List, [], ◌∷◌, ◌++◌, length, Option, None, Some, zero, suc, refl, sym, ap, ◌∙◌, subst, arith, true, get_or, replicate, length-set, zero-add, eq-eqb}
+use Rattle.std.proofs.Common.{◌≡◌, ◌==◌, ℕ, ◌<◌, ◌+◌, ◌⊎◌, inl, inr, List, [], ◌∷◌, ◌++◌, length, Some, zero, suc, refl, sym, ap, ◌∙◌, subst, arith, true, get_or, replicate, length-set, zero-add, eq-eqb}
 use Rattle.std.specs.Prelude.{slice_get, slice_set}
-use Rattle.std.specs.List.{remove, position_or_len, range_with_len, Contains}
+use Rattle.std.specs.List.{remove, position_or_len, range_with_len}
 use Rattle.std.specs.Option.{option_and_then}
 use Rattle.std.proofs.lemmas.Bool.Decides.{eqb_tells}
 use Rattle.std.proofs.lemmas.List.{length-replicate}
 use Rattle.std.proofs.lemmas.List.FromFn.{length-range_with_len, get_or-range_with_len}
 use Rattle.std.proofs.lemmas.Option.{same_Some, slice_get_read, slice_get_within, slice_get-get_or, get_or_from_slice_get}
 use Rattle.flow_table.specs.declared.Slot.{Slot}
-use Rattle.flow_table.specs.declared.Slot.TheVariants.{Free, InUse, Resting}
+use Rattle.flow_table.specs.declared.Slot.TheVariants.{Free, Resting}
 use Rattle.flow_table.specs.declared.Tuple.{Tuple}
-use Rattle.flow_table.specs.Slots.{AreKept, Flows, HasTuple, Stands, flows, NoneHas, tuple_of, moved_last}
-
--- an element after a write
-pub get_set : {X : Type 0} (xs : List X) (i k : ℕ) (y x : X) → slice_get (slice_set xs i y) k ≡ Some x → ((k ≡ i) × (x ≡ y)) ⊎ (slice_get xs k ≡ Some x)
-get_set [] i k y x h = inr h
-get_set (z ∷ xs) zero zero y x h = inl (refl, cc)
-get_set (z ∷ xs) zero (suc k) y x h = inr h
-get_set (z ∷ xs) (suc i) zero y x h = inr h
-get_set (z ∷ xs) (suc i) (suc k) y x h = elim (get_set xs i k y x h) [ inl p ↦ inl (ap suc p.0, p.1) | inr q ↦ inr q ]
+use Rattle.flow_table.specs.Slots.{AreKept, Flows, HasTuple, Stands, flows, tuple_of, moved_last}
 
 -- all slots are free
 pub free_has_none : (n k : ℕ) (t : Tuple) → HasTuple (replicate n Free) k t → ⊥

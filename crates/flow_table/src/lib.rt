@@ -237,38 +237,59 @@ mod tests {
         }
     }
 
+    /// Gives the tuple with this port a slot, where it has none.
+    fn take(table: &mut FlowTable, port: u16) -> Option<usize> {
+        let tuple = tuple(port);
+        match table.find(&tuple) {
+            Some(_) => None,
+            None => table.take(&tuple),
+        }
+    }
+
+    fn rest(table: &mut FlowTable, port: u16, since: u64) {
+        if let Some(slot) = table.find(&tuple(port)) {
+            table.resting(slot, since);
+        }
+    }
+
+    fn free(table: &mut FlowTable, port: u16) {
+        if let Some(slot) = table.find(&tuple(port)) {
+            table.free(slot);
+        }
+    }
+
     #[test]
     fn a_slot_for_each_tuple_until_all_are_in_use(rt: HostRuntime) -> Result<(), Fail> {
         let mut table = FlowTable::open(rt.alloc(), 2)?;
         assert_eq!(rt; table.find(&tuple(1)), None);
-        let first = table.take(&tuple(1)).expect(&rt, "a slot");
-        let second = table.take(&tuple(2)).expect(&rt, "a slot");
-        assert!(rt; first != second);
-        assert_eq!(rt; table.find(&tuple(1)), Some(first));
-        assert_eq!(rt; table.find(&tuple(2)), Some(second));
-        assert_eq!(rt; table.take(&tuple(3)), None);
-        table.free(first);
+        let first = take(&mut table, 1);
+        let second = take(&mut table, 2);
+        assert!(rt; first.is_some() && second.is_some() && first != second);
+        assert_eq!(rt; table.find(&tuple(1)), first);
+        assert_eq!(rt; table.find(&tuple(2)), second);
+        assert_eq!(rt; take(&mut table, 3), None);
+        free(&mut table, 1);
         assert_eq!(rt; table.find(&tuple(1)), None);
-        assert_eq!(rt; table.take(&tuple(3)), Some(first));
+        assert_eq!(rt; take(&mut table, 3), first);
         Ok(())
     }
 
     #[test]
     fn the_longest_rest_gives_way(rt: HostRuntime) -> Result<(), Fail> {
         let mut table = FlowTable::open(rt.alloc(), 3)?;
-        let first = table.take(&tuple(1)).expect(&rt, "a slot");
-        let second = table.take(&tuple(2)).expect(&rt, "a slot");
-        let third = table.take(&tuple(3)).expect(&rt, "a slot");
-        table.resting(first, 500);
-        table.resting(third, 400);
-        table.resting(second, 400);
-        assert_eq!(rt; table.find(&tuple(3)), Some(third));
-        assert_eq!(rt; table.take(&tuple(4)), Some(third));
+        let first = take(&mut table, 1);
+        let second = take(&mut table, 2);
+        let third = take(&mut table, 3);
+        rest(&mut table, 1, 500);
+        rest(&mut table, 3, 400);
+        rest(&mut table, 2, 400);
+        assert_eq!(rt; table.find(&tuple(3)), third);
+        assert_eq!(rt; take(&mut table, 4), third);
         assert_eq!(rt; table.find(&tuple(3)), None);
-        table.resting(second, 500);
-        assert_eq!(rt; table.take(&tuple(5)), Some(first));
-        assert_eq!(rt; table.take(&tuple(6)), Some(second));
-        assert_eq!(rt; table.take(&tuple(7)), None);
+        rest(&mut table, 2, 500);
+        assert_eq!(rt; take(&mut table, 5), first);
+        assert_eq!(rt; take(&mut table, 6), second);
+        assert_eq!(rt; take(&mut table, 7), None);
         Ok(())
     }
 }

@@ -1,5 +1,5 @@
-use Rattle.std.proofs.Common.{◌≡◌, ◌<◌, ◌++◌, ◌∷◌, [], ℕ, None, Some, ltb, true, cond, ◌==◌, length, sym, ◌∙◌, ap, arith, get_or, eqb-true}
-use Rattle.std.specs.List.{position, position_or_len, remove}
+use Rattle.std.proofs.Common.{◌<◌, ◌++◌, ◌∷◌, [], ℕ, None, Some, cond, ◌==◌, length, sym, ◌∙◌, ap, arith, eqb-true}
+use Rattle.std.specs.List.{position_or_len, remove}
 use Rattle.std.proofs.lemmas.Bool.{lt-ltb}
 use Rattle.std.proofs.lemmas.Slice.{put_mid-rotated}
 use Rattle.std.proofs.lemmas.Option.{cond_some, slice_get_within}

@@ -1,6 +1,5 @@
-use Rattle.std.proofs.Common.{◌≡◌, replicate, sym, rules}
+use Rattle.std.proofs.Common.{◌≡◌, replicate, rules}
 use Rattle.flow_table.specs.declared.Slot.TheVariants.{Free}
-use Rattle.flow_table.specs.Slots.{AreKept}
 use Rattle.flow_table.proofs.Keeping.{start_kept}
 use Rattle.flow_table.proofs.FlowTable.open.Goals as goal
 

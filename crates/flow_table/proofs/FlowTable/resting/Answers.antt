@@ -1,8 +1,7 @@
-use Rattle.std.proofs.Common.{◌≡◌, List, ℕ, None, length, take, sym, ap, ◌∙◌, subst, arith}
+use Rattle.std.proofs.Common.{◌≡◌, List, ℕ, sym, ap, ◌∙◌, subst, arith}
 use Rattle.std.proofs.lemmas.List.{take_at}
 use Rattle.flow_table.specs.declared.Slot.{Slot}
-use Rattle.flow_table.specs.declared.Slot.TheVariants.{Resting}
-use Rattle.flow_table.specs.Slots.{AreKept, Flows, HasSome, HasTuple, flows, moved_last, tuple_of}
+use Rattle.flow_table.specs.Slots.{AreKept, Flows, HasSome, HasTuple, flows, moved_last}
 use Rattle.flow_table.proofs.Keeping.{has_within, tuple_is_read, rested_is, rested_kept}
 use Rattle.flow_table.proofs.FlowTable.resting.Goals as goal
 

@@ -1,4 +1,4 @@
-use Rattle.std.proofs.Common.{Some, sym, ◌∙◌, subst}
+use Rattle.std.proofs.Common.{sym, ◌∙◌, subst}
 use Rattle.flow_table.specs.Slots.{Flows, NoneHas}
 use Rattle.flow_table.specs.declared.Slot.TheVariants.{InUse}
 use Rattle.flow_table.proofs.Keeping.{set_kept}
