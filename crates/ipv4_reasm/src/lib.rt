@@ -1,0 +1,7 @@
+//! Datagrams of IPv4 in parts: joining those that came, and cutting those that are too long
+//! (RFC 791, 2.3 and 3.2; of overlaps RFC 5722, 3).
+#![tactic(auto)]
+
+mod cutting;
+
+pub use cutting::{cut, cuts_join};
