@@ -81,24 +81,25 @@ young now sets = filter (is_young now) sets
 abbrev pub place_of : Key → List PartSet → ℕ
 place_of key sets = position_or_len (λ s. is_same_key key s.key) sets
 
-abbrev pub parts_in : List PartSet → ℕ → List Part
-parts_in sets i = parts_of (slice_get sets i)
-  where
-    parts_of : Option PartSet → List Part
-    parts_of None = []
-    parts_of (Some s) = s.parts
+abbrev pub parts_of : Option PartSet → List Part
+parts_of None = []
+parts_of (Some s) = s.parts
+
+-- the parts of the datagram that wait so far
+abbrev pub parts_for : Key → List PartSet → List Part
+parts_for key sets = parts_of (slice_get sets (place_of key sets))
 
 -- the oldest of 16 sets gives way to a new one
 abbrev pub with_room : List PartSet → List PartSet
 with_room sets = if nat_le 16 (length sets) then drop 1 sets else sets
 
 -- the part joins its set, or is the first of a new one
+abbrev pub put_in : ℕ → Key → Part → List PartSet → Option PartSet → List PartSet
+put_in now key p sets None = with_room sets ++ record { key = key; since = now; parts = p ∷ [] } ∷ []
+put_in now key p sets (Some s) = slice_set sets (place_of key sets) (record s { parts = s.parts ++ p ∷ [] })
+
 abbrev pub with_part : ℕ → Key → Part → List PartSet → List PartSet
-with_part now key p sets = put (slice_get sets (place_of key sets))
-  where
-    put : Option PartSet → List PartSet
-    put None = with_room sets ++ record { key = key; since = now; parts = p ∷ [] } ∷ []
-    put (Some s) = slice_set sets (place_of key sets) (record s { parts = s.parts ++ p ∷ [] })
+with_part now key p sets = put_in now key p sets (slice_get sets (place_of key sets))
 
 -- what becomes of a part
 pub data Outcome : Type 0 where
@@ -108,30 +109,33 @@ pub data Outcome : Type 0 where
   Kept : Outcome
   Whole : Outcome
 
-abbrev pub outcome : ℕ → Key → Part → List PartSet → Outcome
-outcome now key p sets =
-    let parts = parts_in (young now sets) (place_of key (young now sets)) in
+abbrev pub outcome_among : Part → List Part → Outcome
+outcome_among p parts =
     if is_uneven p then Uneven else (if is_too_long p then TooLong
     else (if list_any (do_clash p) parts then Overlap
     else (if is_whole (parts ++ p ∷ []) then Whole else Kept)))
 
--- the sets after a part came: old sets go, a part that clashes takes its set with it, and a part that is none changes nothing
+abbrev pub outcome : ℕ → Key → Part → List PartSet → Outcome
+outcome now key p sets = outcome_among p (parts_for key (young now sets))
+
+-- the sets after a part came: old sets go, a part that clashes takes its set with it, and one that is uneven or too long changes nothing
+abbrev pub changed_by : Outcome → ℕ → Key → Part → List PartSet → List PartSet
+changed_by Uneven now key p sets = sets
+changed_by TooLong now key p sets = sets
+changed_by Overlap now key p sets = remove sets (place_of key sets)
+changed_by Kept now key p sets = with_part now key p sets
+changed_by Whole now key p sets = with_part now key p sets
+
 abbrev pub sets_after : ℕ → Key → Part → List PartSet → List PartSet
-sets_after now key p sets = after (outcome now key p sets)
-  where
-    after : Outcome → List PartSet
-    after Uneven = young now sets
-    after TooLong = young now sets
-    after Overlap = remove (young now sets) (place_of key (young now sets))
-    after Kept = with_part now key p (young now sets)
-    after Whole = with_part now key p (young now sets)
+sets_after now key p sets = changed_by (outcome now key p sets) now key p (young now sets)
 
 -- the header of a datagram that was joined: that of its part at the start, with no flag for more fragments, the place 0, the whole length as far as it can be said, and the sum made anew
+abbrev pub whole_head_with : ℕ → List ℕ → ℕ → List ℕ
+whole_head_with sum head size =
+    part head 0 2 ++ two (min 65535 (length head + size)) ++ part head 4 2 ++ two (2 ^ 14 * (two_at head 6 / 2 ^ 14)) ++ part head 8 2 ++ two sum ++ drop 12 head
+
 abbrev pub whole_head : List ℕ → ℕ → List ℕ
-whole_head head size = with_sum (checksum (word_sum (with_sum 0)))
-  where
-    with_sum : ℕ → List ℕ
-    with_sum sum = part head 0 2 ++ two (min 65535 (length head + size)) ++ part head 4 2 ++ two (2 ^ 14 * (two_at head 6 / 2 ^ 14)) ++ part head 8 2 ++ two sum ++ drop 12 head
+whole_head head size = whole_head_with (checksum (word_sum (whole_head_with 0 head size))) head size
 
 -- the datagram to which a set joins, and its time to live
 pub record IsJoined (s : PartSet) (ip : Ip) (life : ℕ) : Type 0 where

@@ -121,7 +121,7 @@ later_starts mtu body a (suc j) p q one other less =
     let next = next_start mtu j in
     let place = other.place in
     elim one.ends [
-      inl before ↦ (before.more, let end = before.end in omega arith, let end = before.end in let follow = before.follow in let u : 8 * units_in mtu ≤ room_in mtu = omega arith in omega arith)
+      | inl before ↦ (before.more, let end = before.end in omega arith, let end = before.end in let follow = before.follow in let u : 8 * units_in mtu ≤ room_in mtu = omega arith in omega arith)
       | inr last ↦ absurd (let f = last.fits in omega arith)
     ]
 
@@ -148,7 +148,7 @@ ends_with mtu body k p cut e = elim cut.ends [ inl before ↦ cc (sym before.mor
 no_clash : (mtu : ℕ) (body : List ℕ) (a b : ℕ) (p q : Part) → Cut mtu body a p → Cut mtu body b q → a ≢ b → do_clash p q ≡ false
 no_clash mtu body a b p q one other apart =
     elim (cases_lt a b) [
-      inl less ↦ let l = later_starts mtu body a b p q one other less in (free_of_later p q (length body) l.0 l.1 l.2 (ends_with mtu body b q other)).0
+      | inl less ↦ let l = later_starts mtu body a b p q one other less in (free_of_later p q (length body) l.0 l.1 l.2 (ends_with mtu body b q other)).0
       | inr more ↦ let l = later_starts mtu body b a q p other one (omega arith) in (free_of_later q p (length body) l.0 l.1 l.2 (ends_with mtu body a p one)).1
     ]
 
@@ -157,7 +157,7 @@ last_after : (fuel mtu size k : ℕ) → 28 ≤ mtu → is_cut mtu size k ≡ tr
 last_after zero mtu size k fits is left = (k, (is, le-ltb (room_in mtu) (size - cut_start mtu k) (omega arith)))
 last_after (suc fuel) mtu size k fits is left =
     elim (cases_lt (room_in mtu) (size - cut_start mtu k)) [
-      inl less ↦ let u = units_fit mtu fits in let n = next_start mtu k in last_after fuel mtu size (suc k) fits (lt-ltb (room_in mtu) (size - cut_start mtu k) less) (omega arith)
+      | inl less ↦ let u = units_fit mtu fits in let n = next_start mtu k in last_after fuel mtu size (suc k) fits (lt-ltb (room_in mtu) (size - cut_start mtu k) less) (omega arith)
       | inr more ↦ (k, (is, le-ltb (room_in mtu) (size - cut_start mtu k) more))
     ]
 
@@ -168,13 +168,13 @@ octet_after zero mtu whole k o fits is from within left = absurd (omega arith)
 octet_after (suc fuel) mtu whole k o fits is from within left =
     let cut = cut_is mtu whole k fits is in
     elim cut.ends [
-      inl before ↦ elim (cases_lt o (end_of (cut_at mtu whole k))) [
-        inl in_it ↦ (k, (is, from, in_it))
+      | inl before ↦ elim (cases_lt o (end_of (cut_at mtu whole k))) [
+        | inl in_it ↦ (k, (is, from, in_it))
         | inr past ↦
-          let u = units_fit mtu fits in
-          let n = next_start mtu k in
-          let end = before.end in
-          octet_after fuel mtu whole (suc k) o fits before.more (omega arith) within (omega arith)
+            let u = units_fit mtu fits in
+            let n = next_start mtu k in
+            let end = before.end in
+            octet_after fuel mtu whole (suc k) o fits before.more (omega arith) within (omega arith)
       ]
       | inr last ↦ (k, (is, from, let end = last.end in omega arith))
     ]
@@ -187,13 +187,13 @@ joined mtu whole parts fits cuts =
     let last = last_after (length whole.body) mtu (length whole.body) 0 fits refl (omega arith) in
     record {
       apart = λ i j d less within.
-        let p = get_or parts i d in
-        let q = get_or parts j d in
-        let a = cuts.only p (Contains-get_or parts i d (omega arith)) in
-        let b = cuts.only q (Contains-get_or parts j d within) in
-        let one = cut_told mtu whole a.0 p fits a.1 in
-        let other = cut_told mtu whole b.0 q fits b.1 in
-        no_clash mtu whole.body a.0 b.0 p q one other (λ e. cuts.once i j d less within (one.place ∙ ap (λ n. n * units_in mtu) e ∙ sym other.place));
+          let p = get_or parts i d in
+          let q = get_or parts j d in
+          let a = cuts.only p (Contains-get_or parts i d (omega arith)) in
+          let b = cuts.only q (Contains-get_or parts j d within) in
+          let one = cut_told mtu whole a.0 p fits a.1 in
+          let other = cut_told mtu whole b.0 q fits b.1 in
+          no_clash mtu whole.body a.0 b.0 p q one other (λ e. cuts.once i j d less within (one.place ∙ ap (λ n. n * units_in mtu) e ∙ sym other.place));
       last = (
         cut_at mtu whole last.0,
         (
@@ -204,6 +204,6 @@ joined mtu whole parts fits cuts =
       );
       stands = λ p in_parts. let a = cuts.only p in_parts in (cut_told mtu whole a.0 p fits a.1).stands;
       whole = λ o within.
-        let at = octet_after (suc o) mtu whole 0 o fits refl (omega arith) within (omega arith) in
-        (cut_at mtu whole at.0, (cuts.each at.0 (cut_at mtu whole at.0) (cut_is_there mtu whole at.0 at.1.0), at.1.1, at.1.2));
+          let at = octet_after (suc o) mtu whole 0 o fits refl (omega arith) within (omega arith) in
+          (cut_at mtu whole at.0, (cuts.each at.0 (cut_at mtu whole at.0) (cut_is_there mtu whole at.0 at.1.0), at.1.1, at.1.2));
     }

@@ -2,6 +2,7 @@
 //! (RFC 791, 2.3 and 3.2; of overlaps RFC 5722, 3).
 #![tactic(auto)]
 
+mod area;
 mod cutting;
 
 pub use cutting::{cut, cuts_join};
