@@ -103,28 +103,28 @@ with_part now key p sets = put_in now key p sets (slice_get sets (place_of key s
 
 -- what becomes of a part
 pub data Outcome : Type 0 where
-  Uneven : Outcome
-  TooLong : Outcome
-  Overlap : Outcome
-  Kept : Outcome
-  Whole : Outcome
+  UnevenPart : Outcome
+  LongPart : Outcome
+  Clashes : Outcome
+  Waits : Outcome
+  Joined : Outcome
 
 abbrev pub outcome_among : Part → List Part → Outcome
 outcome_among p parts =
-    if is_uneven p then Uneven else (if is_too_long p then TooLong
-    else (if list_any (do_clash p) parts then Overlap
-    else (if is_whole (parts ++ p ∷ []) then Whole else Kept)))
+    if is_uneven p then UnevenPart else (if is_too_long p then LongPart
+    else (if list_any (do_clash p) parts then Clashes
+    else (if is_whole (parts ++ p ∷ []) then Joined else Waits)))
 
 abbrev pub outcome : ℕ → Key → Part → List PartSet → Outcome
 outcome now key p sets = outcome_among p (parts_for key (young now sets))
 
 -- the sets after a part came: old sets go, a part that clashes takes its set with it, and one that is uneven or too long changes nothing
 abbrev pub changed_by : Outcome → ℕ → Key → Part → List PartSet → List PartSet
-changed_by Uneven now key p sets = sets
-changed_by TooLong now key p sets = sets
-changed_by Overlap now key p sets = remove sets (place_of key sets)
-changed_by Kept now key p sets = with_part now key p sets
-changed_by Whole now key p sets = with_part now key p sets
+changed_by UnevenPart now key p sets = sets
+changed_by LongPart now key p sets = sets
+changed_by Clashes now key p sets = remove sets (place_of key sets)
+changed_by Waits now key p sets = with_part now key p sets
+changed_by Joined now key p sets = with_part now key p sets
 
 abbrev pub sets_after : ℕ → Key → Part → List PartSet → List PartSet
 sets_after now key p sets = changed_by (outcome now key p sets) now key p (young now sets)

@@ -1,2 +1,6 @@
 pub mod Fragments
 pub mod Marks
+pub mod Lists
+pub mod Standing
+pub mod Gathering
+pub mod Keeping

@@ -1,10 +1,10 @@
 -- Areas in which the parts of datagrams are put together, and the sets of parts for which they stand.
 use Rattle.std.specs.Prelude.{◌≡◌, ℕ, ◌+◌, ◌-◌, ◌*◌, ◌/◌, ◌<◌, ◌≤◌, ◌==◌, ◌&&◌, ◌||◌, not, true, false, Bool, nat_lt, nat_le, ◌^◌, max, List, [], ◌∷◌, ◌++◌, length, take, drop, replicate, filter, Option, None, Some, slice_get, slice_index_or, if◌then◌else◌}
-use Rattle.std.specs.List.{AllPairs, Contains, list_any}
+use Rattle.std.specs.List.{AllPairs, Contains, list_any, position_or_len}
 use Rattle.net_octets.specs.Octets.{part}
 use Rattle.ipv4_reasm.specs.declared.area.DatagramKey.{DatagramKey}
 use Rattle.ipv4_head.specs.Ip.{Ip}
-use Rattle.ipv4_head.specs.Sets.{Key, Part, PartSet, start_of, end_of, do_clash, is_whole, whole_head}
+use Rattle.ipv4_head.specs.Sets.{Key, Part, PartSet, start_of, end_of, do_clash, is_same_key, is_whole, whole_head}
 
 -- an area: whose parts are in it, since when, their octets, a mark for each unit of 8 octets, how many are marked, the end that the last part gives, the greatest end, time to live and header of the part at the start, and the header of the whole once it is made
 pub record Gathered : Type 0 where
@@ -21,7 +21,7 @@ pub record Gathered : Type 0 where
 
 -- an area before the first part of its datagram
 abbrev pub begun : Key → ℕ → Gathered → Gathered
-begun key since g = record { key = key; since = since; octets = g.octets; marks = replicate (length g.marks) false; units = 0; end = None; top = 0; life = 0; head = []; joined = [] }
+begun key since g = record { key = key; since = since; octets = g.octets; marks = replicate (length g.marks) false; units = 0; end = None; top = 0; life = g.life; head = g.head; joined = g.joined }
 
 -- how many units so many octets take
 abbrev pub units_of : ℕ → ℕ
@@ -80,6 +80,10 @@ is_full g = is_filled g.end g.units
 abbrev pub with_joined : Gathered → Gathered
 with_joined g = record g { joined = whole_head g.head g.top }
 
+-- the part is put into the area, and where it makes the datagram whole so is the header
+abbrev pub after_part : Gathered → Part → Gathered
+after_part g p = if is_full (with_kept g p) then with_joined (with_kept g p) else with_kept g p
+
 -- a part that fits its datagram
 pub record Fits (p : Part) : Type 0 where
   pub carries : 0 < length p.body
@@ -91,6 +95,9 @@ has_unit u p = nat_le p.place u && nat_lt (8 * u) (end_of p)
 
 -- what is in an area are these parts
 pub record Gathers (g : Gathered) (parts : List Part) : Type 0 where
+  pub room : length g.octets ≡ 65535
+  pub long : length g.marks ≡ 8190
+  pub units : g.units ≡ marked g.marks
   pub octets : (p : Part) → Contains parts p → part g.octets (start_of p) (length p.body) ≡ p.body
   pub marks : (u : ℕ) → slice_index_or g.marks u false ≡ list_any (has_unit u) parts
   pub last : (p : Part) → Contains parts p → p.more ≡ false → g.end ≡ Some (end_of p)
@@ -134,9 +141,22 @@ pub record IsRoomy (since : ℕ) (octets : List ℕ) (marks : List Bool) (units 
   pub early : since ≤ 2 ^ 62
   pub within : top ≤ 65515
   pub ends : IsWithin end
+  pub full_head : 20 ≤ head
   pub short : head ≤ 60
   pub as_short : joined ≤ 60
 
 -- the datagram that an area holds, once it is whole
 abbrev pub joined_in : Gathered → Ip
 joined_in g = record { ident = g.key.ident; more = false; place = 0; proto = g.key.proto; from = g.key.from; to = g.key.to; head = g.joined; body = take g.top g.octets }
+
+-- areas whose first part is less than 60,000 ms old
+abbrev pub is_recent : ℕ → Gathered → Bool
+is_recent now g = nat_lt (now - g.since) 60000
+
+-- the place of a datagram's area
+abbrev pub place_in : Key → List Gathered → ℕ
+place_in key held = position_or_len (λ g. is_same_key key g.key) held
+
+-- the oldest of 16 areas gives way
+abbrev pub roomy : List Gathered → List Gathered
+roomy held = if nat_le 16 (length held) then drop 1 held else held

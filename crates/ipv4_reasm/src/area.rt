@@ -2,7 +2,7 @@ ghost use Rattle.std.specs.Prelude.{◌≡◌, ◌+◌, ◌-◌, ◌^◌, ◌≤
 ghost use Rattle.std.specs.List.{list_any};
 ghost use Rattle.ipv4_head.specs.Ip.{ip_of};
 ghost use Rattle.ipv4_head.specs.Sets.{end_of, is_same_key, part_of, whole_head};
-ghost use Rattle.ipv4_reasm.specs.Areas.{Gathered, begun, does_clash, end_with, is_full, is_marked, joined_in, key_by, marks_of, units_of, with_head, with_joined, with_kept, with_octets};
+ghost use Rattle.ipv4_reasm.specs.Areas.{Gathered, after_part, begun, does_clash, end_with, is_full, is_marked, joined_in, key_by, marks_of, units_of, with_head, with_joined, with_kept, with_octets};
 
 use byteorder::{BigEndian, ByteOrder};
 use ipv4_head::IpView;
@@ -16,7 +16,9 @@ const ROOM: usize = 65_535;
 /// The units of 8 octets of the greatest body.
 const UNITS: usize = 8_190;
 
-/// The octets of the longest header.
+/// The octets of the shortest and of the longest header.
+const SHORTEST_HEAD: usize = 20;
+
 const LONGEST_HEAD: usize = 60;
 
 /// How long parts wait for the rest of their datagram, in milliseconds.
@@ -84,7 +86,7 @@ impl Area {
             life: 0,
             head: [0; LONGEST_HEAD],
             joined: [0; LONGEST_HEAD],
-            head_length: 0,
+            head_length: SHORTEST_HEAD,
             joined_length: 0,
         })
     }
@@ -92,7 +94,9 @@ impl Area {
     /// Makes way for the parts of a datagram.
     pub fn begin(&mut self, key: DatagramKey, now: u64)
         requires { now ≤ 2 ^ 62 }
-        ensures { self.new ≡ begun (key_by key) now self.old }
+        ensures begun { self.new ≡ begun (key_by key) now self.old }
+        ensures room { length self.new.octets ≡ 65535 }
+        ensures long { length self.new.marks ≡ 8190 }
     {
         self.key = key;
         self.since = now;
@@ -100,9 +104,6 @@ impl Area {
         self.units = 0;
         self.end = None;
         self.top = 0;
-        self.life = 0;
-        self.head_length = 0;
-        self.joined_length = 0;
     }
 
     /// Whether a part can't be of the same datagram as those that are here.
@@ -120,10 +121,30 @@ impl Area {
         is_any_marked(&self.marks[place..place + units]) || past || (!v.more && end < self.top)
     }
 
-    /// Puts a part with its octets here, none of whose units is marked.
-    pub fn keep(&mut self, v: &IpView<'_>)
+    /// Puts a part with its octets here, none of whose units is marked. Answers whether the
+    /// datagram is whole with it.
+    pub fn put(&mut self, v: &IpView<'_>) -> bool
         requires end { end_of (part_of v.now) ≤ 65515 }
-        requires head { length v.now.head.now ≤ 60 }
+        requires head { 20 ≤ length v.now.head.now }
+        requires short { length v.now.head.now ≤ 60 }
+        requires free { list_any is_marked (marks_of (part_of v.now) self.old.marks) ≡ false }
+        ensures put { self.new ≡ after_part self.old (part_of v.now) }
+        ensures whole { result ≡ is_full (with_kept self.old (part_of v.now)) }
+    {
+        self.keep(v);
+        if self.is_full() {
+            self.join();
+            true
+        } else {
+            false
+        }
+    }
+
+    /// Puts a part with its octets here, none of whose units is marked.
+    fn keep(&mut self, v: &IpView<'_>)
+        requires end { end_of (part_of v.now) ≤ 65515 }
+        requires head { 20 ≤ length v.now.head.now }
+        requires short { length v.now.head.now ≤ 60 }
         requires free { list_any is_marked (marks_of (part_of v.now) self.old.marks) ≡ false }
         ensures { self.new ≡ with_kept self.old (part_of v.now) }
     {
@@ -151,7 +172,8 @@ impl Area {
 
     /// Keeps the header and the time to live of the part at the start.
     fn put_head(&mut self, v: &IpView<'_>)
-        requires { length v.now.head.now ≤ 60 }
+        requires head { 20 ≤ length v.now.head.now }
+        requires short { length v.now.head.now ≤ 60 }
         ensures { self.new ≡ with_head self.old (part_of v.now) }
     {
         write_front(v.head, &mut self.head);
@@ -160,7 +182,7 @@ impl Area {
     }
 
     /// Whether the parts here are a whole datagram.
-    pub fn is_full(&self) -> bool
+    fn is_full(&self) -> bool
         ensures { result ≡ is_full self.now }
     {
         match self.end {
@@ -170,8 +192,7 @@ impl Area {
     }
 
     /// Makes the header of the whole datagram.
-    pub fn join(&mut self)
-        requires { 20 ≤ length self.old.head }
+    fn join(&mut self)
         ensures { self.new ≡ with_joined self.old }
     {
         write_whole_head(&self.head[..self.head_length], self.top, &mut self.joined);

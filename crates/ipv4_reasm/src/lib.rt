@@ -4,5 +4,7 @@
 
 mod area;
 mod cutting;
+mod reasm;
 
 pub use cutting::{cut, cuts_join};
+pub use reasm::{Added, Reasm};

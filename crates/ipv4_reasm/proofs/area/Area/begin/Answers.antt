@@ -1,13 +1,14 @@
-use Rattle.std.proofs.Common.{◌≡◌, List, ℕ, Bool, false, replicate, length, None, [], ap, sym, ◌∙◌, arith, rules}
+use Rattle.std.proofs.Common.{◌≡◌, List, ℕ, Bool, false, replicate, length, take, None, [], ap, sym, ◌∙◌, arith, rules}
 use Rattle.std.proofs.lemmas.List.{length-replicate}
-use Rattle.ipv4_reasm.specs.Areas.{Gathered, begun, key_by, marked}
+use Rattle.ipv4_reasm.specs.Areas.{Gathered, begun, gathered, key_by, marked}
 use Rattle.ipv4_reasm.proofs.Marks.{marked-false}
 use Rattle.ipv4_reasm.proofs.area.Area.begin.Goals as goal
 
-pub returns : goal.returns
-returns c =
-    let long : c.self.inside.marks.len ≡ length c.self.inside.marks.items = omega arith in
-    ap (λ (m : List Bool). record (begun (key_by c.args.key) c.args.now (record { key = key_by c.args.key; since = 0; octets = c.self.inside.octets.items; marks = []; units = 0; end = None; top = 0; life = 0; head = []; joined = [] })) { marks = m })
+pub returns-clause-begun : goal.returns-clause-begun
+returns-clause-begun c =
+    let i = c.self.inside in
+    let long : i.marks.len ≡ length i.marks.items = omega arith in
+    ap (λ (m : List Bool). record (begun (key_by c.args.key) c.args.now (gathered i.key i.since i.octets.items [] i.units i.end i.top i.life (take i.head_length i.head) (take i.joined_length i.joined))) { marks = m })
     (c.fill.ensures.items (λ y e. e) ∙ ap (λ n. replicate n false) long)
     ∙ ap (λ (g : Gathered). begun (key_by c.args.key) c.args.now g) c.self.view_is
 
@@ -23,6 +24,7 @@ invariant_of-self c =
       early = c.requires;
       within = omega arith;
       ends = tt;
-      short = omega arith;
-      as_short = omega arith;
+      full_head = c.self.invariant.full_head;
+      short = c.self.invariant.short;
+      as_short = c.self.invariant.as_short;
     }

@@ -30,6 +30,7 @@ invariant_of-self c =
       early = c.self.invariant.early;
       within = let top = c.self.invariant.within in let fits = c.requires.end in let m = c.max-self-inside.ensures in let e = c.end_of-end.ensures in omega arith;
       ends = subst IsWithin (sym c.end_with-self-inside.ensures) (within_with c.self.inside.end p c.requires.end c.self.invariant.ends);
+      full_head = c.self.invariant.full_head;
       short = c.self.invariant.short;
       as_short = c.self.invariant.as_short;
     }
