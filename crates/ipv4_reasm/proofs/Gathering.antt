@@ -83,7 +83,7 @@ pub in_some : (test : Part → Bool) (parts : List Part) (q : Part) → Contains
 in_some test parts q c h = list_any-from_Any test parts (c.0, q, c.1, c.2, h)
 
 -- one of some marks
-marked_at : (marks : List Bool) (place n : ℕ) → list_any is_marked (take n (drop place marks)) ≡ true → (u : ℕ) × ((place ≤ u) × (u < place + n) × (get_or marks u false ≡ true))
+pub marked_at : (marks : List Bool) (place n : ℕ) → list_any is_marked (take n (drop place marks)) ≡ true → (u : ℕ) × ((place ≤ u) × (u < place + n) × (get_or marks u false ≡ true))
 marked_at [] zero zero h = cc
 marked_at [] zero (suc n) h = cc
 marked_at [] (suc place) zero h = cc
@@ -118,7 +118,7 @@ unit_by_share p q fits as_well share =
     let some = fits.carries in
     let any = as_well.carries in
     elim (cases_lt q.place p.place) [
-      inl less ↦ (p.place, (omega arith, omega arith, and_is (leb q.place p.place) (ltb (8 * p.place) (end_of q)) (le-leb q.place p.place (omega arith)) (lt-ltb (8 * p.place) (end_of q) a)))
+      | inl less ↦ (p.place, (omega arith, omega arith, and_is (leb q.place p.place) (ltb (8 * p.place) (end_of q)) (le-leb q.place p.place (omega arith)) (lt-ltb (8 * p.place) (end_of q) a)))
       | inr more ↦ (q.place, (more, omega arith, and_is (leb q.place q.place) (ltb (8 * q.place) (end_of q)) (le-leb q.place q.place (omega arith)) (lt-ltb (8 * q.place) (end_of q) (omega arith))))
     ]
 
@@ -151,16 +151,16 @@ clash_there : (g : Gathered) (parts : List Part) (p : Part) → Gathers g parts 
 clash_there g parts p holds h =
     one_of_three (list_any is_marked (marks_of p g.marks)) (is_past g.end p) (not p.more && ltb (end_of p) g.top) h
     (λ shared.
-      let u = marked_at g.marks p.place (units_of (length p.body)) shared in
-      let q = some_in (has_unit u.0) parts (sym (holds.marks u.0) ∙ u.1.2) in
-      in_some (do_clash p) parts q.0 q.1.0 (clash_share p q.0 (share_by_unit p q.0 u.0 u.1.0 u.1.1 q.1.1)))
+    let u = marked_at g.marks p.place (units_of (length p.body)) shared in
+    let q = some_in (has_unit u.0) parts (sym (holds.marks u.0) ∙ u.1.2) in
+    in_some (do_clash p) parts q.0 q.1.0 (clash_share p q.0 (share_by_unit p q.0 u.0 u.1.0 u.1.1 q.1.1)))
     (past_there g parts p holds g.end refl)
     (λ before.
-      let b = both (not p.more) (ltb (end_of p) g.top) before in
-      let less = ltb-true (end_of p) g.top b.1 in
-      let q = holds.top (omega arith) in
-      let at = q.1.1 in
-      in_some (do_clash p) parts q.0 q.1.0 (clash_before p q.0 b.0 (omega arith)))
+    let b = both (not p.more) (ltb (end_of p) g.top) before in
+    let less = ltb-true (end_of p) g.top b.1 in
+    let q = holds.top (omega arith) in
+    let at = q.1.1 in
+    in_some (do_clash p) parts q.0 q.1.0 (clash_before p q.0 b.0 (omega arith)))
 
 clash_back : (g : Gathered) (parts : List Part) (p : Part) → Gathers g parts → Fits p → list_any (do_clash p) parts ≡ true → does_clash g p ≡ true
 clash_back g parts p holds fits h =
@@ -172,19 +172,19 @@ clash_back g parts p holds fits h =
     let in_parts = found.1.0 in
     one_of_four (do_share p q) (not p.more && not q.more) (ends_past p q) (ends_past q p) found.1.1
     (λ share.
-      let u = unit_by_share p q fits (holds.fits q in_parts) share in
-      first_of_three shared past before (at_marked g.marks p.place (units_of (length p.body)) u.0 u.1.0 u.1.1 (holds.marks u.0 ∙ in_some (has_unit u.0) parts q in_parts u.1.2)))
+    let u = unit_by_share p q fits (holds.fits q in_parts) share in
+    first_of_three shared past before (at_marked g.marks p.place (units_of (length p.body)) u.0 u.1.0 u.1.1 (holds.marks u.0 ∙ in_some (has_unit u.0) parts q in_parts u.1.2)))
     (λ lasts.
-      let b = both (not p.more) (not q.more) lasts in
-      second_of_three shared past before (rw (holds.last q in_parts (not_false q.more b.1)) (or_first (not p.more) (ltb (end_of q) (end_of p)) b.0)))
+    let b = both (not p.more) (not q.more) lasts in
+    second_of_three shared past before (rw (holds.last q in_parts (not_false q.more b.1)) (or_first (not p.more) (ltb (end_of q) (end_of p)) b.0)))
     (λ ends.
-      let b = both (not q.more) (ltb (end_of q) (end_of p)) ends in
-      second_of_three shared past before (rw (holds.last q in_parts (not_false q.more b.0)) (or_second (not p.more) (ltb (end_of q) (end_of p)) b.1)))
+    let b = both (not q.more) (ltb (end_of q) (end_of p)) ends in
+    second_of_three shared past before (rw (holds.last q in_parts (not_false q.more b.0)) (or_second (not p.more) (ltb (end_of q) (end_of p)) b.1)))
     (λ ends.
-      let b = both (not p.more) (ltb (end_of p) (end_of q)) ends in
-      let less = ltb-true (end_of p) (end_of q) b.1 in
-      let top = holds.below q in_parts in
-      third_of_three shared past before (and_is (not p.more) (ltb (end_of p) g.top) b.0 (lt-ltb (end_of p) g.top (omega arith))))
+    let b = both (not p.more) (ltb (end_of p) (end_of q)) ends in
+    let less = ltb-true (end_of p) (end_of q) b.1 in
+    let top = holds.below q in_parts in
+    third_of_three shared past before (and_is (not p.more) (ltb (end_of p) g.top) b.0 (lt-ltb (end_of p) g.top (omega arith))))
   where
     or_first : (a b : Bool) → a ≡ true → (a || b) ≡ true
     or_first true b e = refl

@@ -14,7 +14,7 @@ use Rattle.ipv4_reasm.proofs.Gathering.{and_is, both, clash_last, clash_share, f
 use Rattle.ipv4_reasm.proofs.Marks.{count_marked}
 
 -- octets before those that are put in, those that are, and those behind
-part_before : (xs ys : List ℕ) (s n b : ℕ) → s + n ≤ b → b ≤ length xs → take n (drop s (take b xs ++ ys)) ≡ take n (drop s xs)
+pub part_before : (xs ys : List ℕ) (s n b : ℕ) → s + n ≤ b → b ≤ length xs → take n (drop s (take b xs ++ ys)) ≡ take n (drop s xs)
 part_before [] ys s zero b low high = refl
 part_before [] ys s (suc n) b low high = absurd (omega arith)
 part_before (x ∷ xs) ys zero zero b low high = refl
@@ -85,7 +85,7 @@ unit_is_between p u =
 none_in : (p : Part) (parts : List Part) (q : Part) → list_any (do_clash p) parts ≡ false → Contains parts q → do_clash p q ≡ true → ⊥
 none_in p parts q none c h = cc (sym (in_some (do_clash p) parts q c h) ∙ none)
 
-clash_flip : (p q : Part) → do_clash q p ≡ true → do_clash p q ≡ true
+pub clash_flip : (p q : Part) → do_clash q p ≡ true → do_clash p q ≡ true
 clash_flip p q h =
     one_of_four (do_share q p) (not q.more && not p.more) (ends_past q p) (ends_past p q) h
     (λ share. let b = both (ltb (start_of q) (end_of p)) (ltb (start_of p) (end_of q)) share in clash_share p q (and_is (ltb (start_of p) (end_of q)) (ltb (start_of q) (end_of p)) b.1 b.0))
@@ -96,7 +96,7 @@ clash_flip p q h =
 apart_from : (p q : Part) → (do_share p q ≡ true → ⊥) → (end_of q ≤ start_of p) ⊎ (end_of p ≤ start_of q)
 apart_from p q h =
     elim (cases_lt (start_of p) (end_of q)) [
-      inl a ↦ elim (cases_lt (start_of q) (end_of p)) [ inl b ↦ absurd (h (and_is (ltb (start_of p) (end_of q)) (ltb (start_of q) (end_of p)) (lt-ltb (start_of p) (end_of q) a) (lt-ltb (start_of q) (end_of p) b))) | inr b ↦ inr b ]
+      | inl a ↦ elim (cases_lt (start_of q) (end_of p)) [ inl b ↦ absurd (h (and_is (ltb (start_of p) (end_of q)) (ltb (start_of q) (end_of p)) (lt-ltb (start_of p) (end_of q) a) (lt-ltb (start_of q) (end_of p) b))) | inr b ↦ inr b ]
       | inr a ↦ inl a
     ]
 
@@ -111,15 +111,15 @@ octets_kept g parts p holds fits none =
     let end = fits.end in
     of_all (λ q. part (with_octets g p).octets (start_of q) (length q.body) ≡ q.body) parts p
     (λ q c.
-      elim (apart_from p q (λ share. none_in p parts q none c (clash_share p q share))) [
-        inl before ↦
+    elim (apart_from p q (λ share. none_in p parts q none c (clash_share p q share))) [
+      | inl before ↦
           ap (λ (l : List ℕ). take (length q.body) (drop (start_of q) l)) (append_assoc (take (start_of p) g.octets) p.body (drop (end_of p) g.octets))
           ∙ part_before g.octets (p.body ++ drop (end_of p) g.octets) (start_of q) (length q.body) (start_of p) before (omega arith)
           ∙ holds.octets q c
-        | inr behind ↦
+      | inr behind ↦
           ap (take (length q.body)) (part_behind g.octets (take (start_of p) g.octets ++ p.body) (start_of q) (end_of p) (front_long g.octets p.body (start_of p) (omega arith)) behind)
           ∙ holds.octets q c
-      ])
+    ])
     (part_itself g.octets p.body (drop (end_of p) g.octets) (start_of p) (omega arith))
 
 marks_kept : (g : Gathered) (parts : List Part) (p : Part) → Gathers g parts → Fits p → (u : ℕ) → get_or (with_octets g p).marks u false ≡ list_any (has_unit u) (parts ++ p ∷ [])
@@ -173,7 +173,7 @@ top_kept : (g : Gathered) (parts : List Part) (p : Part) → Gathers g parts →
 top_kept g parts p holds fits =
     let some = fits.carries in
     elim (cases_lt (end_of p) g.top) [
-      inl less ↦ let q = holds.top (omega arith) in let at = q.1.1 in (q.0, (Contains-append_left parts (p ∷ []) q.0 q.1.0, omega arith))
+      | inl less ↦ let q = holds.top (omega arith) in let at = q.1.1 in (q.0, (Contains-append_left parts (p ∷ []) q.0 q.1.0, omega arith))
       | inr more ↦ (p, (Contains-push parts p, omega arith))
     ]
 

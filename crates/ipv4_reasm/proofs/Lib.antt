@@ -4,3 +4,5 @@ pub mod Lists
 pub mod Standing
 pub mod Gathering
 pub mod Keeping
+pub mod Wholeness
+pub mod Answering

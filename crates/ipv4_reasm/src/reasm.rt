@@ -1,10 +1,10 @@
 ghost use Rattle.std.specs.Prelude.{◌≡◌, ℕ, ◌+◌, ◌^◌, ◌≤◌, ◌<◌, ◌++◌, List, [], ◌∷◌, true, false, filter, length, IfOk, IfSome, IfNone, Some, slice_get, slice_set, take, ◌↔◌, if◌then◌else◌};
 ghost use Rattle.std.specs.List.{list_any, position, remove};
 ghost use Rattle.ipv4_head.specs.Ip.{ip_of};
-ghost use Rattle.ipv4_head.specs.Sets.{IsJoined, PartSet, end_of, is_same_key, is_uneven, is_whole, key_of, outcome, part_of, sets_after, young};
+ghost use Rattle.ipv4_head.specs.Sets.{IsJoined, PartSet, end_of, is_same_key, is_too_long, is_uneven, is_whole, key_of, outcome, part_of, sets_after, young};
 ghost use Rattle.ipv4_reasm.specs.Areas.{Gathered, StandFor, after_part, begun, does_clash, is_full, is_marked, is_recent, joined_in, key_by, marks_of, place_in, roomy, with_kept};
-ghost use Rattle.ipv4_reasm.specs.declared.reasm.Added.TheVariants.{Whole};
-ghost use Rattle.ipv4_reasm.specs.Answers.{IsFirstDue, IsWholeAt, said};
+ghost use Rattle.ipv4_reasm.specs.declared.reasm.Added.TheVariants.{Overlap, Whole};
+ghost use Rattle.ipv4_reasm.specs.Answers.{IsAnswered, IsFirstDue, IsWholeAt, answer_of, said};
 
 use crate::area::{Area, DatagramKey, end_of};
 use ipv4_head::IpView;
@@ -164,11 +164,75 @@ impl Reasm {
         area.put(part)
     }
 
+    /// Puts a part to those of its datagram in an area, or drops them where they clash.
+    fn join(&mut self, i: usize, part: &IpView<'_>) -> Added
+        requires area { i < length self.old }
+        requires end { end_of (part_of part.now) ≤ 65515 }
+        requires head { 20 ≤ length part.now.head.now }
+        requires short { length part.now.head.now ≤ 60 }
+        ensures clash { (g : Gathered) → slice_get self.old i ≡ Some g → does_clash g (part_of part.now) ≡ true
+            → (result ≡ Overlap) × (self.new ≡ remove self.old i) }
+        ensures put { (g : Gathered) → slice_get self.old i ≡ Some g → does_clash g (part_of part.now) ≡ false
+            → (result ≡ answer_of i (is_full (with_kept g (part_of part.now))))
+            × (self.new ≡ slice_set self.old i (after_part g (part_of part.now))) }
+    {
+        if self.clashes(i, part) {
+            self.release(i);
+            return Added::Overlap;
+        }
+        let whole = self.put(i, part);
+        answer_of(i, whole)
+    }
+
+    /// Begins an area for the first part of a datagram.
+    fn start(&mut self, now: u64, key: DatagramKey, part: &IpView<'_>) -> Added
+        requires moment { now ≤ 2 ^ 62 }
+        requires end { end_of (part_of part.now) ≤ 65515 }
+        requires head { 20 ≤ length part.now.head.now }
+        requires short { length part.now.head.now ≤ 60 }
+        ensures { (g : Gathered) × ((length g.octets ≡ 65535) × (length g.marks ≡ 8190)
+            × (self.new ≡ roomy self.old ++ after_part (begun (key_by key) now g) (part_of part.now) ∷ [])
+            × (result ≡ answer_of (length (roomy self.old)) (is_full (with_kept (begun (key_by key) now g) (part_of part.now))))) }
+    {
+        self.make_room();
+        let i = self.begin(key, now);
+        let whole = self.put(i, part);
+        answer_of(i, whole)
+    }
+
+    /// Puts a part to those of its datagram.
+    fn gather(&mut self, now: u64, part: &IpView<'_>) -> Added
+        requires moment { now ≤ 2 ^ 62 }
+        requires even { is_uneven (part_of part.now) ≡ false }
+        requires end { is_too_long (part_of part.now) ≡ false }
+        requires head { 20 ≤ length part.now.head.now }
+        requires short { length part.now.head.now ≤ 60 }
+        ensures { (sets : List PartSet) → StandFor self.old sets
+            → IsAnswered now (key_of part.now) (part_of part.now) sets self.new result }
+    {
+        let key = key_of(part);
+        match self.find(key) {
+            Some(i) => self.join(i, part),
+            None => self.start(now, key, part),
+        }
+    }
+
     /// The area of a datagram.
     fn find(&self, key: DatagramKey) -> Option<usize>
         ensures { result ≡ position (λ g. is_same_key (key_by key) g.key) self.now }
     {
         place_among(&self.areas[..self.count], key)
+    }
+}
+
+/// The answer for a part that was put into an area.
+fn answer_of(area: usize, whole: bool) -> Added
+    ensures { result ≡ answer_of area whole }
+{
+    if whole {
+        Added::Whole(area)
+    } else {
+        Added::Kept
     }
 }
 
