@@ -2,9 +2,10 @@
 use Rattle.std.proofs.Common.{◌≡◌, ◌+◌, ◌-◌, ◌*◌, ◌/◌, ◌%◌, ◌<◌, ◌≤◌, ◌==◌, ◌&&◌, ◌||◌, not, List, ℕ, Bool, true, false, cond, zero, suc, inl, inr, [], ◌∷◌, ◌++◌, length, take, drop, get_or, set, replicate, ltb, leb, eqb, Option, None, Some, refl, ap, sym, ◌∙◌, arith, subst, length-set, eqb-true, eq-eqb, length-append}
 use Rattle.std.specs.Prelude.{slice_get}
 use Rattle.std.specs.List.{Contains, list_any, remove, position}
-use Rattle.std.proofs.lemmas.Bool.{cases_lt, ltb-false, or_parts}
+use Rattle.std.proofs.lemmas.Bool.{cases_lt, lt-ltb, ltb-false, or_parts}
 use Rattle.std.proofs.lemmas.List.{length-replicate}
 use Rattle.std.proofs.lemmas.List.Quantifiers.{position-Some}
+use Rattle.std.proofs.lemmas.List.Sums.{prefix_len-le-length}
 use Rattle.std.proofs.lemmas.Option.{cond_some, get_or_from_slice_get, same_Some, slice_get_past, slice_get_within}
 use Rattle.ipv4_head.specs.Sets.{Key, Part, PartSet, Outcome, Clashes, Joined, LongPart, UnevenPart, Waits, changed_by, do_clash, end_of, is_same_key, is_too_long, is_uneven, is_whole, outcome_among, parts_for, parts_of, place_of, put_in, whole_head, with_part, with_room}
 use Rattle.ipv4_reasm.specs.declared.reasm.Added.{Added}
@@ -13,6 +14,7 @@ use Rattle.ipv4_reasm.specs.Answers.{IsAnswered, IsWholeAt, answer_of, said}
 use Rattle.ipv4_reasm.specs.Areas.{Fits, Gathered, Gathers, StandFor, StandsFor, after_part, begun, does_clash, is_full, is_marked, is_past, marked, marks_of, place_in, roomy, units_of, with_head, with_joined, with_kept, with_octets}
 use Rattle.ipv4_reasm.proofs.Gathering.{clash_same, marked_at, same_truth}
 use Rattle.ipv4_reasm.proofs.Keeping.{kept_gathers}
+use Rattle.ipv4_reasm.proofs.Lists.{there}
 use Rattle.ipv4_reasm.proofs.Marks.{marked-false}
 use Rattle.ipv4_reasm.proofs.Standing.{stand_get, stand_length, stand_place, stand_pushed, stand_removed, stand_roomy, stand_set}
 use Rattle.ipv4_reasm.proofs.Wholeness.{full_same}
@@ -153,7 +155,7 @@ get_set_same [] i y h = absurd (omega arith)
 get_set_same (x ∷ xs) zero y h = refl
 get_set_same (x ∷ xs) (suc i) y h = get_set_same xs i y (omega arith)
 
-get_last : {X : Type 0} (xs : List X) (y : X) → slice_get (xs ++ y ∷ []) (length xs) ≡ Some y
+pub get_last : {X : Type 0} (xs : List X) (y : X) → slice_get (xs ++ y ∷ []) (length xs) ≡ Some y
 get_last [] y = refl
 get_last (x ∷ xs) y = get_last xs y
 
@@ -243,3 +245,45 @@ answered_start now key p sets held g even short stand absent room long =
     answered_by now key p sets (roomy held ++ after_part area p ∷ []) i (is_full (with_kept area p)) outcome stands (omega arith)
     (λ h. subst (λ (l : List PartSet). IsWholeAt l key i) (sym sets_are)
     (s_after, (ap (slice_get (with_room sets ++ s_after ∷ [])) (stand_length (roomy held) (with_room sets) roomy_stand) ∙ get_last (with_room sets) s_after, refl, sym full ∙ h)))
+
+-- for a place that none has
+abbrev nothing : Gathered
+nothing = record { key = record { from = 0; to = 0; proto = 0; ident = 0 }; since = 0; octets = []; marks = []; units = 0; end = None; top = 0; life = 0; head = []; joined = [] }
+
+-- by where the area of the key is found
+pub gathered_some : (now : ℕ) (key : Key) (p : Part) (sets : List PartSet) (held after : List Gathered) (added : Added) (i : ℕ) → is_uneven p ≡ false → is_too_long p ≡ false → StandFor held sets
+    → position (λ (g : Gathered). is_same_key key g.key) held ≡ Some i
+    → ((g : Gathered) → slice_get held i ≡ Some g → does_clash g p ≡ true → (added ≡ Overlap) × (after ≡ remove held i))
+    → ((g : Gathered) → slice_get held i ≡ Some g → does_clash g p ≡ false → (added ≡ answer_of i (is_full (with_kept g p))) × (after ≡ set held i (after_part g p)))
+    → IsAnswered now key p sets after added
+gathered_some now key p sets held after added i even short stand is clash put =
+    let place = (cond_some (ltb (place_in key held) (length held)) (place_in key held) i is).1 in
+    let told = position-Some (λ (g : Gathered). is_same_key key g.key) held i in
+    let within = (told nothing is).0 in
+    let g = there held i within in
+    let same = same_key key g.0.key (ap (λ (x : Gathered). is_same_key key x.key) (sym (get_or_from_slice_get held i g.0 nothing g.1)) ∙ (told nothing is).1) in
+    let at : slice_get held (place_in key held) ≡ Some g.0 = ap (slice_get held) place ∙ g.1 in
+    by_test g.0 g.1 at (sym same) place (does_clash g.0 p) refl
+  where
+    by_test : (g : Gathered) → slice_get held i ≡ Some g → slice_get held (place_in key held) ≡ Some g → g.key ≡ key → place_in key held ≡ i → (b : Bool) → does_clash g p ≡ b → IsAnswered now key p sets after added
+    by_test g at as_well same place true h =
+        let told = clash g at h in
+        subst (λ (a : Added). IsAnswered now key p sets after a) (sym told.0)
+        (subst (λ (l : List Gathered). IsAnswered now key p sets l Overlap) (ap (remove held) place ∙ sym told.1) (answered_clash now key p sets held g even short stand as_well h))
+    by_test g at as_well same place false h =
+        let told = put g at h in
+        subst (λ (a : Added). IsAnswered now key p sets after a) (ap (λ n. answer_of n (is_full (with_kept g p))) place ∙ sym told.0)
+        (subst (λ (l : List Gathered). IsAnswered now key p sets l (answer_of (place_in key held) (is_full (with_kept g p)))) (ap (λ n. set held n (after_part g p)) place ∙ sym told.1)
+        (answered_put now key p sets held g even short stand as_well same h))
+
+pub gathered_none : (now : ℕ) (key : Key) (p : Part) (sets : List PartSet) (held after : List Gathered) (added : Added) (g : Gathered) → is_uneven p ≡ false → is_too_long p ≡ false → StandFor held sets
+    → position (λ (g : Gathered). is_same_key key g.key) held ≡ None → length g.octets ≡ 65535 → length g.marks ≡ 8190
+    → after ≡ roomy held ++ after_part (begun key now g) p ∷ [] → added ≡ answer_of (length (roomy held)) (is_full (with_kept (begun key now g) p))
+    → IsAnswered now key p sets after added
+gathered_none now key p sets held after added g even short stand is room long eq says =
+    let absent : place_in key held ≡ length held = past (place_in key held) (length held) (prefix_len-le-length (λ (x : Gathered). not (is_same_key key x.key)) held) is in
+    subst (λ (a : Added). IsAnswered now key p sets after a) (sym says)
+    (subst (λ (l : List Gathered). IsAnswered now key p sets l (answer_of (length (roomy held)) (is_full (with_kept (begun key now g) p)))) (sym eq) (answered_start now key p sets held g even short stand absent room long))
+  where
+    past : (a n : ℕ) → a ≤ n → cond (ltb a n) (Some a) None ≡ None → a ≡ n
+    past a n low h = elim (cases_lt a n) [ inl less ↦ cc (sym h ∙ ap (λ b. cond b (Some a) None) (lt-ltb a n less)) | inr more ↦ omega arith ]

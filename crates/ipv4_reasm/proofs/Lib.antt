@@ -6,3 +6,4 @@ pub mod Gathering
 pub mod Keeping
 pub mod Wholeness
 pub mod Answering
+pub mod Dues

@@ -1,6 +1,5 @@
 -- What is answered of a part.
 use Rattle.std.specs.Prelude.{◌≡◌, ℕ, ◌+◌, ◌<◌, ◌≤◌, Bool, List, length, Some, slice_get, true, if◌then◌else◌}
-use Rattle.std.specs.List.{Contains}
 use Rattle.ipv4_head.specs.Sets.{Key, Part, PartSet, Outcome, Joined, Waits, Clashes, LongPart, UnevenPart, changed_by, is_whole, outcome_among, parts_for}
 use Rattle.ipv4_reasm.specs.Areas.{Gathered, StandFor}
 use Rattle.ipv4_reasm.specs.declared.reasm.Added.{Added}
@@ -30,5 +29,10 @@ pub record IsAnswered (now : ℕ) (key : Key) (p : Part) (sets : List PartSet) (
 
 -- the moment at which the first of the sets is 60,000 ms old
 pub record IsFirstDue (sets : List PartSet) (at : ℕ) : Type 0 where
-  pub one : (s : PartSet) × (Contains sets s × (at ≡ s.since + 60000))
-  pub least : (s : PartSet) → Contains sets s → at ≤ s.since + 60000
+  pub one : (i : ℕ) × ((s : PartSet) × ((slice_get sets i ≡ Some s) × (at ≡ s.since + 60000)))
+  pub least : (i : ℕ) (s : PartSet) → slice_get sets i ≡ Some s → at ≤ s.since + 60000
+
+-- the same of areas
+pub record IsLeastDue (held : List Gathered) (at : ℕ) : Type 0 where
+  pub one : (i : ℕ) × ((g : Gathered) × ((slice_get held i ≡ Some g) × (at ≡ g.since + 60000)))
+  pub least : (i : ℕ) (g : Gathered) → slice_get held i ≡ Some g → at ≤ g.since + 60000

@@ -4,7 +4,7 @@ ghost use Rattle.ipv4_head.specs.Ip.{ip_of};
 ghost use Rattle.ipv4_head.specs.Sets.{IsJoined, PartSet, end_of, is_same_key, is_too_long, is_uneven, is_whole, key_of, outcome, part_of, sets_after, young};
 ghost use Rattle.ipv4_reasm.specs.Areas.{Gathered, StandFor, after_part, begun, does_clash, is_full, is_marked, is_recent, joined_in, key_by, marks_of, place_in, roomy, with_kept};
 ghost use Rattle.ipv4_reasm.specs.declared.reasm.Added.TheVariants.{Overlap, Whole};
-ghost use Rattle.ipv4_reasm.specs.Answers.{IsAnswered, IsFirstDue, IsWholeAt, answer_of, said};
+ghost use Rattle.ipv4_reasm.specs.Answers.{IsAnswered, IsFirstDue, IsLeastDue, IsWholeAt, answer_of, said};
 
 use crate::area::{Area, DatagramKey, end_of};
 use ipv4_head::IpView;
@@ -71,6 +71,55 @@ impl Reasm {
             }
         }
         Ok(Reasm { areas, count: 0 })
+    }
+
+    /// A part of a datagram came at this moment, in milliseconds and at most 2^62. Datagrams whose
+    /// first part is 60,000 ms old or older are dropped first. A part that is Uneven or TooLong
+    /// changes nothing, and one that overlaps is dropped with those that came before. A new
+    /// datagram takes the place of the oldest where 16 wait. The header has 20 to 60 octets.
+    pub fn add(&mut self, now: u64, part: &IpView<'_>) -> Added
+        requires moment { now ≤ 2 ^ 62 }
+        requires head { 20 ≤ length part.now.head.now }
+        requires short { length part.now.head.now ≤ 60 }
+        ensures sets { (sets : List PartSet) → StandFor self.old sets
+            → StandFor self.new (sets_after now (key_of part.now) (part_of part.now) sets) }
+        ensures answer { (sets : List PartSet) → StandFor self.old sets
+            → said result ≡ outcome now (key_of part.now) (part_of part.now) sets }
+        ensures area { (sets : List PartSet) (area : ℕ) → StandFor self.old sets → result ≡ Whole area
+            → (area < length self.new)
+            × IsWholeAt (sets_after now (key_of part.now) (part_of part.now) sets) (key_of part.now) area }
+    {
+        self.drop_old(now);
+        self.place(now, part)
+    }
+
+    /// The whole datagram that lies in an area, as `add` just answered. Its header is that of the
+    /// part at the start, with no more fragments, the place 0, the length of the whole and the sum
+    /// made anew.
+    pub fn datagram(&self, area: usize) -> IpView<'_>
+        requires { area < length self.now }
+        ensures { (sets : List PartSet) (s : PartSet) → StandFor self.now sets
+            → slice_get sets area ≡ Some s → is_whole s.parts ≡ true → IsJoined s (ip_of result) result.ttl }
+    {
+        let area = &self.areas[area];
+        area.datagram()
+    }
+
+    /// Forgets the datagram in an area.
+    pub fn free(&mut self, area: usize)
+        requires { area < length self.old }
+        ensures { (sets : List PartSet) → StandFor self.old sets → StandFor self.new (remove sets area) }
+    {
+        self.release(area);
+    }
+
+    /// When the first of the datagrams that wait is dropped, in milliseconds. None exactly where
+    /// none waits.
+    pub fn next_due(&self) -> Option<u64>
+        ensures due { (sets : List PartSet) → StandFor self.now sets → IfSome result (λ at. IsFirstDue sets at) }
+        ensures none { (sets : List PartSet) → StandFor self.now sets → IfNone result (sets ≡ []) }
+    {
+        first_due(&self.areas[..self.count])
     }
 
     /// Drops each datagram whose first part is 60,000 ms old or older.
@@ -200,7 +249,24 @@ impl Reasm {
         answer_of(i, whole)
     }
 
-    /// Puts a part to those of its datagram.
+    /// Puts a part to those of its datagram, where it is one.
+    fn place(&mut self, now: u64, part: &IpView<'_>) -> Added
+        requires moment { now ≤ 2 ^ 62 }
+        requires head { 20 ≤ length part.now.head.now }
+        requires short { length part.now.head.now ≤ 60 }
+        ensures { (sets : List PartSet) → StandFor self.old sets
+            → IsAnswered now (key_of part.now) (part_of part.now) sets self.new result }
+    {
+        if is_uneven(part) {
+            return Added::Uneven;
+        }
+        if end_of(part) > LONGEST {
+            return Added::TooLong;
+        }
+        self.gather(now, part)
+    }
+
+    /// Puts a part that is one to those of its datagram.
     fn gather(&mut self, now: u64, part: &IpView<'_>) -> Added
         requires moment { now ≤ 2 ^ 62 }
         requires even { is_uneven (part_of part.now) ≡ false }
@@ -223,6 +289,22 @@ impl Reasm {
     {
         place_among(&self.areas[..self.count], key)
     }
+}
+
+/// When the first part of the oldest datagram is 60,000 ms old.
+fn first_due(areas: &[Area]) -> Option<u64>
+    ensures due { IfSome result (λ at. IsLeastDue areas.now at) }
+    ensures none { IfNone result (areas.now ≡ []) }
+{
+    let mut found: Option<u64> = None;
+    for area in areas.iter() {
+        let due = area.due();
+        match found {
+            Some(at) if at <= due => {}
+            _ => found = Some(due),
+        }
+    }
+    found
 }
 
 /// The answer for a part that was put into an area.
