@@ -1,9 +1,10 @@
 -- What is answered of a part, by the sets for which the areas stand.
-use Rattle.std.proofs.Common.{◌≡◌, ◌+◌, ◌-◌, ◌*◌, ◌/◌, ◌%◌, ◌<◌, ◌≤◌, ◌==◌, ◌&&◌, ◌||◌, not, List, ℕ, Bool, true, false, cond, zero, suc, inl, inr, [], ◌∷◌, ◌++◌, length, take, drop, get_or, set, replicate, ltb, leb, eqb, Option, None, Some, refl, ap, sym, ◌∙◌, arith, subst, length-set, eqb-true, eq-eqb, length-append}
+use Rattle.std.proofs.Common.{◌≡◌, ◌+◌, ◌-◌, ◌*◌, ◌/◌, ◌%◌, ◌<◌, ◌≤◌, ◌==◌, ◌&&◌, ◌||◌, not, List, ℕ, Bool, true, false, cond, zero, suc, inl, inr, [], ◌∷◌, ◌++◌, length, take, drop, get_or, set, replicate, ltb, leb, eqb, Option, None, Some, refl, ap, sym, ◌∙◌, arith, subst, length-set, eqb-true, eq-eqb, add-zero, length-append}
 use Rattle.std.specs.Prelude.{slice_get}
 use Rattle.std.specs.List.{Contains, list_any, remove, position}
 use Rattle.std.proofs.lemmas.Bool.{cases_lt, lt-ltb, ltb-false, or_parts}
 use Rattle.std.proofs.lemmas.List.{length-replicate}
+use Rattle.std.proofs.lemmas.List.Folds.{position_or_len-set, position_or_len_push}
 use Rattle.std.proofs.lemmas.List.Quantifiers.{position-Some}
 use Rattle.std.proofs.lemmas.List.Sums.{prefix_len-le-length}
 use Rattle.std.proofs.lemmas.Option.{cond_some, get_or_from_slice_get, same_Some, slice_get_past, slice_get_within}
@@ -143,11 +144,11 @@ outcome_is p parts even short =
     ∙ ap (λ b. cond b LongPart (cond (list_any (do_clash p) parts) Clashes (cond (is_whole (parts ++ p ∷ [])) Joined Waits))) short
 
 by_outcome : (now : ℕ) (key : Key) (p : Part) (sets : List PartSet) (held : List Gathered) (added : Added) (o : Outcome) → outcome_among p (parts_for key sets) ≡ o
-    → StandFor held (changed_by o now key p sets) → said added ≡ o → ((area : ℕ) → added ≡ Whole area → (area < length held) × IsWholeAt (changed_by o now key p sets) key area) → IsAnswered now key p sets held added
+    → StandFor held (changed_by o now key p sets) → said added ≡ o → ((area : ℕ) → added ≡ Whole area → IsWholeAt (changed_by o now key p sets) key area) → IsAnswered now key p sets held added
 by_outcome now key p sets held added o is stand says area = record {
   stand = subst (λ (x : Outcome). StandFor held (changed_by x now key p sets)) (sym is) stand;
   says = says ∙ sym is;
-  area = λ a e. subst (λ (x : Outcome). (a < length held) × IsWholeAt (changed_by x now key p sets) key a) (sym is) (area a e);
+  area = λ a e. subst (λ (x : Outcome). IsWholeAt (changed_by x now key p sets) key a) (sym is) (area a e);
 }
 
 get_set_same : {X : Type 0} (xs : List X) (i : ℕ) (y : X) → i < length xs → slice_get (set xs i y) i ≡ Some y
@@ -184,13 +185,52 @@ answered_clash now key p sets held g even short stand at clash =
     refl
     (λ a e. cc)
 
+-- the place of a set that got a part
+set_place : (key : Key) (sets : List PartSet) (s after : PartSet) (i : ℕ) → place_of key sets ≡ i → slice_get sets i ≡ Some s → after.key ≡ s.key → place_of key (set sets i after) ≡ i
+set_place key sets s after i place at same =
+    position_or_len-set (λ (t : PartSet). is_same_key key t.key) sets i after s (ap (is_same_key key) (same ∙ ap (λ (t : PartSet). t.key) (sym (get_or_from_slice_get sets i s s at)))) ∙ place
+
+-- the place of a new set
+same_itself : (key : Key) → is_same_key key key ≡ true
+same_itself key =
+    four (eqb key.from key.from) (eqb key.to key.to) (eqb key.proto key.proto) (eqb key.ident key.ident) (eq-eqb key.from key.from refl) (eq-eqb key.to key.to refl) (eq-eqb key.proto key.proto refl) (eq-eqb key.ident key.ident refl)
+  where
+    four : (a b c d : Bool) → a ≡ true → b ≡ true → c ≡ true → d ≡ true → (a && b && c && d) ≡ true
+    four true true true d e f g h = h
+    four true true false d e f g h = cc
+    four true false c d e f g h = cc
+    four false b c d e f g h = cc
+
+absent_behind : (key : Key) (sets : List PartSet) → place_of key sets ≡ length sets → place_of key (drop 1 sets) ≡ length (drop 1 sets)
+absent_behind key [] absent = refl
+absent_behind key (s ∷ sets) absent = by_test (is_same_key key s.key) absent
+  where
+    by_test : (b : Bool) → cond (not b) (1 + place_of key sets) 0 ≡ suc (length sets) → place_of key sets ≡ length sets
+    by_test true h = absurd (omega arith)
+    by_test false h = omega arith
+
+absent_roomy : (key : Key) (sets : List PartSet) → place_of key sets ≡ length sets → place_of key (with_room sets) ≡ length (with_room sets)
+absent_roomy key sets absent = by_length (leb 16 (length sets))
+  where
+    by_length : (b : Bool) → place_of key (cond b (drop 1 sets) sets) ≡ length (cond b (drop 1 sets) sets)
+    by_length true = absent_behind key sets absent
+    by_length false = absent
+
+start_place : (key : Key) (sets : List PartSet) (s : PartSet) → place_of key sets ≡ length sets → s.key ≡ key → (n : ℕ) → length (with_room sets) ≡ n → place_of key (with_room sets ++ s ∷ []) ≡ n
+start_place key sets s absent same n long =
+    let roomy_absent = absent_roomy key sets absent in
+    position_or_len_push (λ (t : PartSet). is_same_key key t.key) (with_room sets) s
+    ∙ ap (λ b. cond b (length (with_room sets) + cond (is_same_key key s.key) 0 1) (place_of key (with_room sets))) (eq-eqb (place_of key (with_room sets)) (length (with_room sets)) roomy_absent)
+    ∙ ap (λ b. length (with_room sets) + cond b 0 1) (ap (is_same_key key) same ∙ same_itself key)
+    ∙ add-zero (length (with_room sets)) ∙ long
+
 -- the answer for a part that was put in
-answered_by : (now : ℕ) (key : Key) (p : Part) (sets : List PartSet) (held : List Gathered) (i : ℕ) (whole : Bool) → outcome_among p (parts_for key sets) ≡ cond whole Joined Waits → StandFor held (with_part now key p sets) → i < length held
+answered_by : (now : ℕ) (key : Key) (p : Part) (sets : List PartSet) (held : List Gathered) (i : ℕ) (whole : Bool) → outcome_among p (parts_for key sets) ≡ cond whole Joined Waits → StandFor held (with_part now key p sets)
     → (whole ≡ true → IsWholeAt (with_part now key p sets) key i) → IsAnswered now key p sets held (answer_of i whole)
-answered_by now key p sets held i true outcome stand within at =
+answered_by now key p sets held i true outcome stand at =
     by_outcome now key p sets held (Whole i) Joined outcome stand refl
-    (λ a e. let same : i ≡ a = cc in subst (λ n. (n < length held) × IsWholeAt (with_part now key p sets) key n) same (within, at refl))
-answered_by now key p sets held i false outcome stand within at =
+    (λ a e. let same : i ≡ a = cc in subst (λ n. IsWholeAt (with_part now key p sets) key n) same (at refl))
+answered_by now key p sets held i false outcome stand at =
     by_outcome now key p sets held Kept Waits outcome stand refl (λ a e. cc)
 
 pub answered_put : (now : ℕ) (key : Key) (p : Part) (sets : List PartSet) (held : List Gathered) (g : Gathered) → is_uneven p ≡ false → is_too_long p ≡ false → StandFor held sets → slice_get held (place_in key held) ≡ Some g → g.key ≡ key → does_clash g p ≡ false
@@ -216,8 +256,8 @@ answered_put now key p sets held g even short stand at same clash =
     let within = slice_get_within held i g at in
     let size = length-set held i (after_part g p) in
     let in_sets = slice_get_within sets i s f.1.at in
-    answered_by now key p sets (set held i (after_part g p)) i (is_full (with_kept g p)) outcome stands (omega arith)
-    (λ h. subst (λ (l : List PartSet). IsWholeAt l key i) (sym sets_are) (s_after, (get_set_same sets i s_after in_sets, sym f.1.stands.key ∙ same, sym full ∙ h)))
+    answered_by now key p sets (set held i (after_part g p)) i (is_full (with_kept g p)) outcome stands
+    (λ h. subst (λ (l : List PartSet). IsWholeAt l key i) (sym sets_are) (record { place = set_place key sets s s_after i f.1.place f.1.at refl; set = (s_after, (get_set_same sets i s_after in_sets, sym f.1.stands.key ∙ same, sym full ∙ h)) }))
 
 pub answered_start : (now : ℕ) (key : Key) (p : Part) (sets : List PartSet) (held : List Gathered) (g : Gathered) → is_uneven p ≡ false → is_too_long p ≡ false → StandFor held sets → place_in key held ≡ length held → length g.octets ≡ 65535 → length g.marks ≡ 8190
     → IsAnswered now key p sets (roomy held ++ after_part (begun key now g) p ∷ []) (answer_of (length (roomy held)) (is_full (with_kept (begun key now g) p)))
@@ -231,6 +271,7 @@ answered_start now key p sets held g even short stand absent room long =
     let free = begun_free key now g p in
     let after = after_stands area s p refl refl holds fits refl free in
     let full = full_same (with_kept area p) (p ∷ []) (kept_gathers area [] p holds fits refl free) in
+    let absent_set : place_of key sets ≡ length sets = sym (stand_place key held sets stand) ∙ absent ∙ stand_length held sets stand in
     let none : slice_get sets (place_of key sets) ≡ None = slice_get_past sets (place_of key sets) (let a = stand_place key held sets stand in let b = stand_length held sets stand in omega arith) in
     let parts : parts_for key sets ≡ [] = ap parts_of none in
     let sets_are : with_part now key p sets ≡ with_room sets ++ s_after ∷ [] = ap (put_in now key p sets) none in
@@ -242,9 +283,9 @@ answered_start now key p sets held g even short stand absent room long =
     ∙ ap (λ (parts : List Part). cond (list_any (do_clash p) parts) Clashes (cond (is_whole (parts ++ p ∷ [])) Joined Waits)) parts
     ∙ ap (λ b. cond b Joined Waits) (sym full) in
     let size = length-append (roomy held) (after_part area p ∷ []) in
-    answered_by now key p sets (roomy held ++ after_part area p ∷ []) i (is_full (with_kept area p)) outcome stands (omega arith)
+    answered_by now key p sets (roomy held ++ after_part area p ∷ []) i (is_full (with_kept area p)) outcome stands
     (λ h. subst (λ (l : List PartSet). IsWholeAt l key i) (sym sets_are)
-    (s_after, (ap (slice_get (with_room sets ++ s_after ∷ [])) (stand_length (roomy held) (with_room sets) roomy_stand) ∙ get_last (with_room sets) s_after, refl, sym full ∙ h)))
+    (record { place = start_place key sets s_after absent_set refl (length (roomy held)) (sym (stand_length (roomy held) (with_room sets) roomy_stand)); set = (s_after, (ap (slice_get (with_room sets ++ s_after ∷ [])) (stand_length (roomy held) (with_room sets) roomy_stand) ∙ get_last (with_room sets) s_after, refl, sym full ∙ h)) }))
 
 -- for a place that none has
 abbrev nothing : Gathered
@@ -287,3 +328,8 @@ gathered_none now key p sets held after added g even short stand is room long eq
   where
     past : (a n : ℕ) → a ≤ n → cond (ltb a n) (Some a) None ≡ None → a ≡ n
     past a n low h = elim (cases_lt a n) [ inl less ↦ cc (sym h ∙ ap (λ b. cond b (Some a) None) (lt-ltb a n less)) | inr more ↦ omega arith ]
+
+-- the area of an answer
+pub area_of : (i area : ℕ) (whole : Bool) → answer_of i whole ≡ Whole area → i ≡ area
+area_of i area true is = cc
+area_of i area false is = cc

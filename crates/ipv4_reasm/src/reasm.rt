@@ -86,8 +86,8 @@ impl Reasm {
         ensures answer { (sets : List PartSet) → StandFor self.old sets
             → said result ≡ outcome now (key_of part.now) (part_of part.now) sets }
         ensures area { (sets : List PartSet) (area : ℕ) → StandFor self.old sets → result ≡ Whole area
-            → (area < length self.new)
-            × IsWholeAt (sets_after now (key_of part.now) (part_of part.now) sets) (key_of part.now) area }
+            → IsWholeAt (sets_after now (key_of part.now) (part_of part.now) sets) (key_of part.now) area }
+        ensures within { (area : ℕ) → result ≡ Whole area → area < length self.new }
     {
         self.drop_old(now);
         self.place(now, part)
@@ -208,6 +208,7 @@ impl Reasm {
             → self.new ≡ slice_set self.old i (after_part g (part_of part.now)) }
         ensures whole { (g : Gathered) → slice_get self.old i ≡ Some g
             → result ≡ is_full (with_kept g (part_of part.now)) }
+        ensures count { length self.new ≡ length self.old }
     {
         let area = &mut self.areas[i];
         area.put(part)
@@ -224,6 +225,7 @@ impl Reasm {
         ensures put { (g : Gathered) → slice_get self.old i ≡ Some g → does_clash g (part_of part.now) ≡ false
             → (result ≡ answer_of i (is_full (with_kept g (part_of part.now))))
             × (self.new ≡ slice_set self.old i (after_part g (part_of part.now))) }
+        ensures within { (area : ℕ) → result ≡ Whole area → area < length self.new }
     {
         if self.clashes(i, part) {
             self.release(i);
@@ -239,9 +241,10 @@ impl Reasm {
         requires end { end_of (part_of part.now) ≤ 65515 }
         requires head { 20 ≤ length part.now.head.now }
         requires short { length part.now.head.now ≤ 60 }
-        ensures { (g : Gathered) × ((length g.octets ≡ 65535) × (length g.marks ≡ 8190)
+        ensures began { (g : Gathered) × ((length g.octets ≡ 65535) × (length g.marks ≡ 8190)
             × (self.new ≡ roomy self.old ++ after_part (begun (key_by key) now g) (part_of part.now) ∷ [])
             × (result ≡ answer_of (length (roomy self.old)) (is_full (with_kept (begun (key_by key) now g) (part_of part.now))))) }
+        ensures within { (area : ℕ) → result ≡ Whole area → area < length self.new }
     {
         self.make_room();
         let i = self.begin(key, now);
@@ -254,8 +257,9 @@ impl Reasm {
         requires moment { now ≤ 2 ^ 62 }
         requires head { 20 ≤ length part.now.head.now }
         requires short { length part.now.head.now ≤ 60 }
-        ensures { (sets : List PartSet) → StandFor self.old sets
+        ensures answered { (sets : List PartSet) → StandFor self.old sets
             → IsAnswered now (key_of part.now) (part_of part.now) sets self.new result }
+        ensures within { (area : ℕ) → result ≡ Whole area → area < length self.new }
     {
         if is_uneven(part) {
             return Added::Uneven;
@@ -273,8 +277,9 @@ impl Reasm {
         requires end { is_too_long (part_of part.now) ≡ false }
         requires head { 20 ≤ length part.now.head.now }
         requires short { length part.now.head.now ≤ 60 }
-        ensures { (sets : List PartSet) → StandFor self.old sets
+        ensures answered { (sets : List PartSet) → StandFor self.old sets
             → IsAnswered now (key_of part.now) (part_of part.now) sets self.new result }
+        ensures within { (area : ℕ) → result ≡ Whole area → area < length self.new }
     {
         let key = key_of(part);
         match self.find(key) {

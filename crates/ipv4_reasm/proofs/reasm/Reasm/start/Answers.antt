@@ -1,11 +1,11 @@
-use Rattle.std.proofs.Common.{◌≡◌, List, ℕ, Bool, Some, false, length, ◌++◌, ◌∷◌, [], set, zero, suc, refl, sym, ap, ◌∙◌, subst}
+use Rattle.std.proofs.Common.{◌≡◌, ◌+◌, ◌<◌, List, ℕ, Bool, Some, false, length, length-append, arith, ◌++◌, ◌∷◌, [], set, zero, suc, refl, sym, ap, ◌∙◌, subst}
 use Rattle.std.specs.Prelude.{slice_get}
 use Rattle.std.specs.List.{list_any}
 use Rattle.std.proofs.lemmas.Option.{same_Some}
 use Rattle.ipv4_head.specs.Sets.{part_of}
 use Rattle.ipv4_reasm.specs.Areas.{Gathered, after_part, begun, is_full, is_marked, key_by, marks_of, roomy, with_kept}
 use Rattle.ipv4_reasm.specs.Answers.{answer_of}
-use Rattle.ipv4_reasm.proofs.Answering.{begun_free, get_last}
+use Rattle.ipv4_reasm.proofs.Answering.{area_of, begun_free, get_last}
 use Rattle.ipv4_reasm.proofs.reasm.Reasm.start.Goals as goal
 
 -- the last of a list
@@ -23,8 +23,8 @@ put-whole-requires-clause-free c = λ g at.
     let is : area ≡ g = same_Some area g (sym (last_at c.begin-i.new.self c.make_room.new.self area c.begin-i.result b.1.0 c.begin-i.ensures.last) ∙ at) in
     subst (λ (x : Gathered). list_any is_marked (marks_of (part_of c.args.part.now) x.marks) ≡ false) is (begun_free (key_by c.args.key) c.args.now b.0 (part_of c.args.part.now))
 
-pub returns : goal.returns
-returns c =
+pub returns-clause-began : goal.returns-clause-began
+returns-clause-began c =
     let b = c.begin-i.ensures.begun in
     let p = part_of c.args.part.now in
     let area = begun (key_by c.args.key) c.args.now b.0 in
@@ -38,3 +38,12 @@ returns c =
         c.answer_of.ensures ∙ ap (answer_of c.begin-i.result) (c.put-whole.ensures.whole area at) ∙ ap (λ n. answer_of n (is_full (with_kept area p))) (c.begin-i.ensures.last ∙ ap length c.make_room.ensures.room),
       ),
     )
+
+pub returns-clause-within : goal.returns-clause-within
+returns-clause-within c = λ area is.
+    let at = area_of c.begin-i.result area c.put-whole.result (sym c.answer_of.ensures ∙ is) in
+    let count = c.put-whole.ensures.count in
+    let last = c.begin-i.ensures.last in
+    let b = c.begin-i.ensures.begun in
+    let size = ap length b.1.0 ∙ length-append c.make_room.new.self (begun (key_by c.args.key) c.args.now b.0 ∷ []) in
+    omega arith
