@@ -8,3 +8,6 @@ mod reasm;
 
 pub use cutting::{cut, cuts_join};
 pub use reasm::{Added, Reasm};
+
+#[cfg(test)]
+mod tests;
