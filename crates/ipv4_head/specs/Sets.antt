@@ -129,6 +129,17 @@ changed_by Joined now key p sets = with_part now key p sets
 abbrev pub sets_after : ℕ → Key → Part → List PartSet → List PartSet
 sets_after now key p sets = changed_by (outcome now key p sets) now key p (young now sets)
 
+-- where the part joined its datagram the set goes, as the datagram is taken
+abbrev pub left_by : Outcome → Key → List PartSet → List PartSet
+left_by UnevenPart key sets = sets
+left_by LongPart key sets = sets
+left_by Clashes key sets = sets
+left_by Waits key sets = sets
+left_by Joined key sets = remove sets (place_of key sets)
+
+abbrev pub sets_left : ℕ → Key → Part → List PartSet → List PartSet
+sets_left now key p sets = left_by (outcome now key p sets) key (sets_after now key p sets)
+
 -- the header of a datagram that was joined: that of its part at the start, with no flag for more fragments, the place 0, the whole length as far as it can be said, and the sum made anew
 abbrev pub whole_head_with : ℕ → List ℕ → ℕ → List ℕ
 whole_head_with sum head size =

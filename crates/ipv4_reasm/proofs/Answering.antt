@@ -1,18 +1,18 @@
 -- What is answered of a part, by the sets for which the areas stand.
-use Rattle.std.proofs.Common.{◌≡◌, ◌+◌, ◌-◌, ◌*◌, ◌/◌, ◌%◌, ◌<◌, ◌≤◌, ◌==◌, ◌&&◌, ◌||◌, not, List, ℕ, Bool, true, false, cond, zero, suc, inl, inr, [], ◌∷◌, ◌++◌, length, take, drop, get_or, set, replicate, ltb, leb, eqb, Option, None, Some, refl, ap, sym, ◌∙◌, arith, subst, length-set, eqb-true, eq-eqb, add-zero, length-append}
+use Rattle.std.proofs.Common.{◌≡◌, ◌+◌, ◌/◌, ◌%◌, ◌<◌, ◌≤◌, ◌&&◌, ◌||◌, not, List, ℕ, Bool, true, false, cond, zero, suc, inl, inr, [], ◌∷◌, ◌++◌, length, drop, get_or, set, replicate, ltb, leb, eqb, None, Some, refl, ap, sym, ◌∙◌, arith, subst, length-set, eqb-true, eq-eqb, add-zero, length-append}
 use Rattle.std.specs.Prelude.{slice_get}
-use Rattle.std.specs.List.{Contains, list_any, remove, position}
+use Rattle.std.specs.List.{list_any, remove, position}
 use Rattle.std.proofs.lemmas.Bool.{cases_lt, lt-ltb, ltb-false, or_parts}
 use Rattle.std.proofs.lemmas.List.{length-replicate}
 use Rattle.std.proofs.lemmas.List.Folds.{position_or_len-set, position_or_len_push}
 use Rattle.std.proofs.lemmas.List.Quantifiers.{position-Some}
 use Rattle.std.proofs.lemmas.List.Sums.{prefix_len-le-length}
-use Rattle.std.proofs.lemmas.Option.{cond_some, get_or_from_slice_get, same_Some, slice_get_past, slice_get_within}
-use Rattle.ipv4_head.specs.Sets.{Key, Part, PartSet, Outcome, Clashes, Joined, LongPart, UnevenPart, Waits, changed_by, do_clash, end_of, is_same_key, is_too_long, is_uneven, is_whole, outcome_among, parts_for, parts_of, place_of, put_in, whole_head, with_part, with_room}
+use Rattle.std.proofs.lemmas.Option.{cond_some, get_or_from_slice_get, slice_get_past, slice_get_within}
+use Rattle.ipv4_head.specs.Sets.{Key, Part, PartSet, Outcome, Clashes, Joined, LongPart, UnevenPart, Waits, changed_by, do_clash, end_of, is_same_key, is_too_long, is_uneven, is_whole, outcome_among, parts_for, parts_of, place_of, put_in, with_part, with_room}
 use Rattle.ipv4_reasm.specs.declared.reasm.Added.{Added}
 use Rattle.ipv4_reasm.specs.declared.reasm.Added.TheVariants.{Whole, Kept, Overlap}
 use Rattle.ipv4_reasm.specs.Answers.{IsAnswered, IsWholeAt, answer_of, said}
-use Rattle.ipv4_reasm.specs.Areas.{Fits, Gathered, Gathers, StandFor, StandsFor, after_part, begun, does_clash, is_full, is_marked, is_past, marked, marks_of, place_in, roomy, units_of, with_head, with_joined, with_kept, with_octets}
+use Rattle.ipv4_reasm.specs.Areas.{Fits, Gathered, Gathers, StandFor, StandsFor, after_part, begun, does_clash, is_full, is_marked, is_past, marks_of, place_in, roomy, units_of, with_head, with_joined, with_kept, with_octets}
 use Rattle.ipv4_reasm.proofs.Gathering.{clash_same, marked_at, same_truth}
 use Rattle.ipv4_reasm.proofs.Keeping.{kept_gathers}
 use Rattle.ipv4_reasm.proofs.Lists.{there}
@@ -138,7 +138,7 @@ same_key a b h =
     four false b c d h = cc
 
 -- what becomes of a part that fits
-outcome_is : (p : Part) (parts : List Part) → is_uneven p ≡ false → is_too_long p ≡ false → outcome_among p parts ≡ cond (list_any (do_clash p) parts) Clashes (cond (is_whole (parts ++ p ∷ [])) Joined Waits)
+pub outcome_is : (p : Part) (parts : List Part) → is_uneven p ≡ false → is_too_long p ≡ false → outcome_among p parts ≡ cond (list_any (do_clash p) parts) Clashes (cond (is_whole (parts ++ p ∷ [])) Joined Waits)
 outcome_is p parts even short =
     ap (λ b. cond b UnevenPart (cond (is_too_long p) LongPart (cond (list_any (do_clash p) parts) Clashes (cond (is_whole (parts ++ p ∷ [])) Joined Waits)))) even
     ∙ ap (λ b. cond b LongPart (cond (list_any (do_clash p) parts) Clashes (cond (is_whole (parts ++ p ∷ [])) Joined Waits))) short

@@ -1,10 +1,8 @@
 -- The parts into which a datagram is cut join to it.
-use Rattle.std.proofs.Common.{◌≡◌, ◌≢◌, ℕ, ◌+◌, ◌-◌, ◌*◌, ◌/◌, ◌<◌, ◌≤◌, ◌==◌, ◌⊎◌, ◌&&◌, ◌||◌, not, Bool, true, false, cond, zero, suc, inl, inr, List, length, take, drop, Option, Some, None, refl, sym, ap, ◌∙◌, subst, arith, get_or, ltb}
-use Rattle.std.specs.List.{AllPairs, Contains}
+use Rattle.std.proofs.Common.{◌≡◌, ◌≢◌, ℕ, ◌+◌, ◌-◌, ◌*◌, ◌<◌, ◌≤◌, ◌⊎◌, ◌&&◌, ◌||◌, not, Bool, true, false, cond, zero, suc, inl, inr, List, length, take, drop, Some, None, refl, sym, ap, ◌∙◌, subst, arith, get_or, ltb}
 use Rattle.std.proofs.Math.Nat.{mul-le-mul_right}
 use Rattle.std.proofs.Math.Seq.{take-length}
 use Rattle.std.proofs.lemmas.Bool.{cases_lt, ltb-true, ltb-false, lt-ltb, le-ltb}
-use Rattle.std.proofs.lemmas.Bool.Decides.{nat_tests}
 use Rattle.std.proofs.lemmas.List.{length-take-le, length-drop}
 use Rattle.std.proofs.lemmas.List.Elements.{Contains-get_or}
 use Rattle.std.proofs.lemmas.Option.{cond_some}
@@ -17,19 +15,19 @@ abbrev cut_at : ℕ → Part → ℕ → Part
 cut_at mtu whole k = record whole { place = k * units_in mtu; more = is_before_last mtu (length whole.body) k; body = cut_body mtu whole.body k }
 
 -- a part before the last one carries whole units, and octets follow
-record Before (mtu size k : ℕ) (p : Part) : Type 0 where
+pub record Before (mtu size k : ℕ) (p : Part) : Type 0 where
   pub more : p.more ≡ true
   pub end : end_of p ≡ 8 * (k * units_in mtu) + 8 * units_in mtu
   pub follow : room_in mtu + 8 * (k * units_in mtu) < size
 
 -- the last one carries what is left
-record Last (mtu size k : ℕ) (p : Part) : Type 0 where
+pub record Last (mtu size k : ℕ) (p : Part) : Type 0 where
   pub more : p.more ≡ false
   pub end : end_of p ≡ size
   pub fits : size ≤ room_in mtu + 8 * (k * units_in mtu)
 
 -- what a part is, by its number
-record Cut (mtu : ℕ) (body : List ℕ) (k : ℕ) (p : Part) : Type 0 where
+pub record Cut (mtu : ℕ) (body : List ℕ) (k : ℕ) (p : Part) : Type 0 where
   pub place : p.place ≡ k * units_in mtu
   pub within : start_of p ≤ length body
   pub after : (j : ℕ) → k ≡ suc j → room_in mtu + 8 * (j * units_in mtu) < length body
@@ -37,10 +35,10 @@ record Cut (mtu : ℕ) (body : List ℕ) (k : ℕ) (p : Part) : Type 0 where
   pub stands : part body (start_of p) (length p.body) ≡ p.body
 
 -- at least a unit fits
-units_fit : (mtu : ℕ) → 28 ≤ mtu → (1 ≤ units_in mtu) × (8 * units_in mtu ≤ room_in mtu)
+pub units_fit : (mtu : ℕ) → 28 ≤ mtu → (1 ≤ units_in mtu) × (8 * units_in mtu ≤ room_in mtu)
 units_fit mtu fits = (omega arith, omega arith)
 
-next_start : (mtu j : ℕ) → 8 * (suc j * units_in mtu) ≡ 8 * (j * units_in mtu) + 8 * units_in mtu
+pub next_start : (mtu j : ℕ) → 8 * (suc j * units_in mtu) ≡ 8 * (j * units_in mtu) + 8 * units_in mtu
 next_start mtu j = omega arith
 
 forerunner : (mtu size k j : ℕ) → is_cut mtu size k ≡ true → k ≡ suc j → room_in mtu + 8 * (j * units_in mtu) < size
@@ -107,7 +105,7 @@ cut_is mtu whole k fits is =
         rw e (take-length (drop (8 * (k * units_in mtu)) whole.body))
 
 -- a part that is among those of a datagram, with its number
-cut_told : (mtu : ℕ) (whole : Part) (k : ℕ) (p : Part) → 28 ≤ mtu → cut_of mtu whole k ≡ Some p → Cut mtu whole.body k p
+pub cut_told : (mtu : ℕ) (whole : Part) (k : ℕ) (p : Part) → 28 ≤ mtu → cut_of mtu whole k ≡ Some p → Cut mtu whole.body k p
 cut_told mtu whole k p fits is =
     let told = cond_some (is_cut mtu (length whole.body) k) (cut_at mtu whole k) p is in
     subst (λ (q : Part). Cut mtu whole.body k q) told.1 (cut_is mtu whole k fits told.0)

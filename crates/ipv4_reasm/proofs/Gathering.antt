@@ -1,6 +1,6 @@
 -- What an area says of the parts that are in it.
-use Rattle.std.proofs.Common.{◌≡◌, ◌+◌, ◌-◌, ◌*◌, ◌/◌, ◌<◌, ◌≤◌, ◌&&◌, ◌||◌, not, List, ℕ, Bool, true, false, cond, zero, suc, inl, inr, [], ◌∷◌, ◌++◌, length, take, drop, get_or, ltb, leb, Option, None, Some, refl, ap, sym, ◌∙◌, arith, subst}
-use Rattle.std.specs.List.{Any, Contains, list_any}
+use Rattle.std.proofs.Common.{◌≡◌, ◌+◌, ◌*◌, ◌<◌, ◌≤◌, ◌&&◌, ◌||◌, not, List, ℕ, Bool, true, false, zero, suc, inl, inr, [], ◌∷◌, length, take, drop, get_or, ltb, leb, Option, None, Some, refl, sym, ◌∙◌, arith}
+use Rattle.std.specs.List.{Contains, list_any}
 use Rattle.std.proofs.lemmas.Bool.{cases_lt, ltb-true, lt-ltb, leb-true, le-leb}
 use Rattle.std.proofs.lemmas.List.Folds.{Any-from_list_any, list_any-from_Any}
 use Rattle.ipv4_head.specs.Sets.{Part, start_of, end_of, do_share, do_clash, ends_past}

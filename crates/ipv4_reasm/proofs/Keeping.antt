@@ -1,6 +1,6 @@
 -- A part that is put into an area is one more of its parts.
-use Rattle.std.proofs.Common.{◌≡◌, ◌+◌, ◌-◌, ◌*◌, ◌/◌, ◌<◌, ◌≤◌, ◌==◌, ◌&&◌, ◌||◌, not, max, List, ℕ, Bool, true, false, cond, zero, suc, inl, inr, [], ◌∷◌, ◌++◌, length, take, drop, replicate, get_or, ltb, leb, eqb, Option, None, Some, refl, ap, sym, ◌∙◌, arith, subst, append_assoc, zero-add, length-append, length-drop, eq-eqb, eqb-true, ◌⊎◌}
-use Rattle.std.specs.List.{AllPairs, Contains, list_any}
+use Rattle.std.proofs.Common.{◌≡◌, ◌+◌, ◌-◌, ◌*◌, ◌<◌, ◌≤◌, ◌&&◌, ◌||◌, not, max, List, ℕ, Bool, true, false, cond, zero, suc, inl, inr, [], ◌∷◌, ◌++◌, length, take, drop, replicate, get_or, ltb, leb, eqb, Some, refl, ap, sym, ◌∙◌, arith, subst, append_assoc, zero-add, length-append, length-drop, eq-eqb, eqb-true, ◌⊎◌}
+use Rattle.std.specs.List.{Contains, list_any}
 use Rattle.std.proofs.Math.Bool.{or-false, or-true}
 use Rattle.std.proofs.lemmas.Bool.{cases_lt, ltb-true, lt-ltb, le-ltb, leb-true, le-leb}
 use Rattle.std.proofs.lemmas.List.{drop-drop, length-replicate, length-take-le, take_at}
@@ -9,7 +9,7 @@ use Rattle.std.proofs.lemmas.List.Folds.{list_any-append}
 use Rattle.std.proofs.lemmas.List.Quantifiers.{all_pairs_push}
 use Rattle.net_octets.specs.Octets.{part}
 use Rattle.ipv4_head.specs.Sets.{Part, start_of, end_of, do_share, do_clash, ends_past}
-use Rattle.ipv4_reasm.specs.Areas.{Fits, Gathered, Gathers, end_with, has_unit, is_marked, marked, marks_of, units_of, with_head, with_kept, with_octets}
+use Rattle.ipv4_reasm.specs.Areas.{Fits, Gathered, Gathers, end_with, has_unit, is_marked, marks_of, units_of, with_head, with_kept, with_octets}
 use Rattle.ipv4_reasm.proofs.Gathering.{and_is, both, clash_last, clash_share, fourth_of_four, in_some, not_true, one_of_four, same_truth, second_of_four, third_of_four}
 use Rattle.ipv4_reasm.proofs.Marks.{count_marked}
 

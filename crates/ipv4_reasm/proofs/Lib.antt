@@ -7,3 +7,5 @@ pub mod Keeping
 pub mod Wholeness
 pub mod Answering
 pub mod Dues
+pub mod Joining
+pub mod Arrivals

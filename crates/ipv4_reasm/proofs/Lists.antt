@@ -1,5 +1,5 @@
 -- Lists of which a front counts: a write, a removal, a filter in place.
-use Rattle.std.proofs.Common.{◌≡◌, ◌+◌, ◌-◌, ◌<◌, ◌≤◌, List, ℕ, Bool, true, false, cond, zero, suc, [], ◌∷◌, ◌++◌, length, take, drop, filter, get_or, set, Option, None, Some, refl, ap, sym, ◌∙◌, arith, subst, add-one}
+use Rattle.std.proofs.Common.{◌≡◌, ◌+◌, ◌<◌, ◌≤◌, List, ℕ, Bool, true, false, cond, zero, suc, [], ◌∷◌, ◌++◌, length, take, drop, filter, get_or, set, Some, refl, ap, sym, ◌∙◌, arith, subst, add-one}
 use Rattle.std.specs.Prelude.{slice_get}
 use Rattle.std.specs.List.{remove}
 use Rattle.std.proofs.lemmas.List.{length-take-le, take-append-le}

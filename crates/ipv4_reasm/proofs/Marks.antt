@@ -1,5 +1,5 @@
 -- Marks: how many there are, and which.
-use Rattle.std.proofs.Common.{◌≡◌, ◌+◌, ◌-◌, ◌*◌, ◌<◌, ◌≤◌, ◌||◌, List, ℕ, Bool, true, false, cond, zero, suc, [], ◌∷◌, append_assoc, replicate, length, take, drop, ◌++◌, get_or, refl, ap, sym, ◌∙◌, arith, Option, None, Some}
+use Rattle.std.proofs.Common.{◌≡◌, ◌+◌, ◌≤◌, List, ℕ, Bool, true, false, cond, zero, suc, [], ◌∷◌, append_assoc, replicate, length, take, drop, ◌++◌, refl, ap, ◌∙◌, arith, Option, Some}
 use Rattle.std.specs.List.{list_any}
 use Rattle.std.proofs.lemmas.List.{drop-drop}
 use Rattle.ipv4_head.specs.Sets.{Part, end_of}

@@ -1,8 +1,8 @@
 -- Areas stand for sets, step by step.
-use Rattle.std.proofs.Common.{◌≡◌, ◌+◌, ◌-◌, ◌<◌, ◌≤◌, List, ℕ, Bool, not, true, false, cond, zero, suc, [], ◌∷◌, ◌++◌, length, take, drop, filter, set, ltb, leb, Option, None, Some, refl, ap, sym, ◌∙◌, arith, subst}
+use Rattle.std.proofs.Common.{◌≡◌, ◌+◌, ◌-◌, List, ℕ, Bool, not, true, false, cond, zero, suc, [], ◌∷◌, ◌++◌, length, drop, filter, set, ltb, leb, Some, refl, ap, ◌∙◌, subst}
 use Rattle.std.specs.Prelude.{slice_get}
 use Rattle.std.specs.List.{remove}
-use Rattle.ipv4_head.specs.Sets.{Key, Part, PartSet, is_same_key, is_young, place_of, with_room}
+use Rattle.ipv4_head.specs.Sets.{Key, PartSet, is_same_key, is_young, place_of, with_room}
 use Rattle.ipv4_reasm.specs.Areas.{Gathered, StandFor, StandsFor, is_recent, place_in, roomy}
 
 -- those of which the first part is young stay

@@ -1,18 +1,16 @@
 -- When the parts in an area are a whole datagram.
-use Rattle.std.proofs.Common.{◌≡◌, ◌+◌, ◌-◌, ◌*◌, ◌/◌, ◌<◌, ◌≤◌, ◌==◌, ◌&&◌, ◌||◌, not, List, ℕ, Bool, true, false, cond, zero, suc, inl, inr, [], ◌∷◌, ◌++◌, length, take, drop, get_or, ltb, leb, eqb, Option, None, Some, refl, ap, sym, ◌∙◌, arith, subst, append-nil, add-zero, eq-eqb, eqb-true}
-use Rattle.std.specs.Prelude.{slice_get}
+use Rattle.std.proofs.Common.{◌≡◌, ◌+◌, ◌*◌, ◌/◌, ◌<◌, ◌≤◌, ◌&&◌, not, List, ℕ, Bool, true, false, zero, suc, inl, inr, [], ◌∷◌, length, take, drop, get_or, ltb, leb, Option, None, Some, refl, ap, sym, ◌∙◌, arith, subst, append-nil, eq-eqb, eqb-true}
 use Rattle.std.specs.List.{AllPairs, Contains, list_all, list_any, range_with_len}
 use Rattle.std.proofs.lemmas.Bool.{cases_lt, cases_eq, ltb-true, lt-ltb, leb-true, le-leb}
 use Rattle.std.proofs.lemmas.List.{length-take-le}
 use Rattle.std.proofs.lemmas.Option.{same_Some, slice_get-get_or}
-use Rattle.net_octets.specs.Octets.{part}
 use Rattle.ipv4_head.specs.Sets.{IsJoined, Joins, Part, PartSet, start_of, end_of, do_clash, has_octet, is_whole, whole_head}
-use Rattle.ipv4_reasm.specs.Areas.{Fits, Gathered, Gathers, StandsFor, after_part, has_unit, is_filled, is_full, joined_in, marked, units_of, with_joined, with_kept}
+use Rattle.ipv4_reasm.specs.Areas.{Gathered, Gathers, StandsFor, has_unit, is_filled, is_full, joined_in, marked, units_of}
 use Rattle.ipv4_reasm.proofs.Gathering.{and_is, both, clash_past, in_some, not_false, not_true, same_truth, some_in}
 use Rattle.ipv4_reasm.proofs.Keeping.{clash_flip, part_before}
 
 -- a test of all numbers from a on
-all_range : (test : ℕ → Bool) (a n : ℕ) → ((k : ℕ) → a ≤ k → k < a + n → test k ≡ true) → list_all test (range_with_len a n) ≡ true
+pub all_range : (test : ℕ → Bool) (a n : ℕ) → ((k : ℕ) → a ≤ k → k < a + n → test k ≡ true) → list_all test (range_with_len a n) ≡ true
 all_range test a zero h = refl
 all_range test a (suc n) h = and_is (test a) (list_all test (range_with_len (a + 1) n)) (h a (omega arith) (omega arith)) (all_range test (a + 1) n (λ k low high. h k (omega arith) (omega arith)))
 
@@ -48,7 +46,7 @@ all_marked (false ∷ marks) (suc n) fits set clear = cc (set 0 (omega arith))
 read_with : (parts : List Part) (q d : Part) (c : Contains parts q) → get_or parts c.0 d ≡ q
 read_with parts q d c = same_Some (get_or parts c.0 d) q (sym (slice_get-get_or parts c.0 d c.1) ∙ slice_get-get_or parts c.0 q c.1 ∙ ap Some c.2)
 
-clash_one : (parts : List Part) (q r : Part) → AllPairs (λ a b. do_clash a b ≡ false) parts → Contains parts q → Contains parts r → do_clash q r ≡ true → q ≡ r
+pub clash_one : (parts : List Part) (q r : Part) → AllPairs (λ a b. do_clash a b ≡ false) parts → Contains parts q → Contains parts r → do_clash q r ≡ true → q ≡ r
 clash_one parts q r apart c e clash =
     let at_q = read_with parts q q c in
     let at_r = read_with parts r q e in
@@ -118,7 +116,7 @@ full_there g parts holds (Some e) is h =
     in_some (has_octet k) parts r.0 r.1.0 (octet_of_unit g parts e k r.0 holds is r.1.0 small r.1.1))))
 
 -- a whole datagram has a last part, and each octet before its end
-whole_has : (parts : List Part) → is_whole parts ≡ true → (q : Part) × (Contains parts q × (q.more ≡ false) × ((k : ℕ) → k < end_of q → (r : Part) × (Contains parts r × (start_of r ≤ k) × (k < end_of r))))
+pub whole_has : (parts : List Part) → is_whole parts ≡ true → (q : Part) × (Contains parts q × (q.more ≡ false) × ((k : ℕ) → k < end_of q → (r : Part) × (Contains parts r × (start_of r ≤ k) × (k < end_of r))))
 whole_has parts h =
     let q = some_in (λ last. not last.more && list_all (λ k. list_any (has_octet k) parts) (range_with_len 0 (end_of last))) parts h in
     let b = both (not q.0.more) (list_all (λ k. list_any (has_octet k) parts) (range_with_len 0 (end_of q.0))) q.1.1 in (

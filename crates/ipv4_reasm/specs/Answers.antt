@@ -1,5 +1,5 @@
 -- What is answered of a part.
-use Rattle.std.specs.Prelude.{◌≡◌, ℕ, ◌+◌, ◌<◌, ◌≤◌, Bool, List, length, Some, slice_get, true, if◌then◌else◌}
+use Rattle.std.specs.Prelude.{◌≡◌, ℕ, ◌+◌, ◌≤◌, Bool, List, Some, slice_get, true, if◌then◌else◌}
 use Rattle.ipv4_head.specs.Sets.{Key, Part, PartSet, Outcome, Joined, Waits, Clashes, LongPart, UnevenPart, changed_by, is_whole, outcome_among, parts_for, place_of}
 use Rattle.ipv4_reasm.specs.Areas.{Gathered, StandFor}
 use Rattle.ipv4_reasm.specs.declared.reasm.Added.{Added}

@@ -1,5 +1,5 @@
 -- Areas in which the parts of datagrams are put together, and the sets of parts for which they stand.
-use Rattle.std.specs.Prelude.{◌≡◌, ℕ, ◌+◌, ◌-◌, ◌*◌, ◌/◌, ◌<◌, ◌≤◌, ◌==◌, ◌&&◌, ◌||◌, not, true, false, Bool, nat_lt, nat_le, ◌^◌, max, List, [], ◌∷◌, ◌++◌, length, take, drop, replicate, filter, Option, None, Some, slice_get, slice_index_or, if◌then◌else◌}
+use Rattle.std.specs.Prelude.{◌≡◌, ℕ, ◌+◌, ◌-◌, ◌*◌, ◌/◌, ◌<◌, ◌≤◌, ◌==◌, ◌&&◌, ◌||◌, not, true, false, Bool, nat_lt, nat_le, ◌^◌, max, List, [], ◌∷◌, ◌++◌, length, take, drop, replicate, Option, None, Some, slice_index_or, if◌then◌else◌}
 use Rattle.std.specs.List.{AllPairs, Contains, list_any, position_or_len}
 use Rattle.net_octets.specs.Octets.{part}
 use Rattle.ipv4_reasm.specs.declared.area.DatagramKey.{DatagramKey}

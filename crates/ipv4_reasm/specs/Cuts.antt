@@ -1,5 +1,5 @@
 -- The parts into which a datagram is cut (RFC 791, 2.3).
-use Rattle.std.specs.Prelude.{◌≡◌, zero, suc, ◌≢◌, ℕ, ◌+◌, ◌-◌, ◌*◌, ◌/◌, ◌<◌, ◌≤◌, ◌==◌, ◌||◌, true, Bool, nat_lt, List, length, take, drop, Option, None, Some, if◌then◌else◌}
+use Rattle.std.specs.Prelude.{◌≡◌, zero, suc, ◌≢◌, ℕ, ◌-◌, ◌*◌, ◌/◌, true, Bool, nat_lt, List, length, take, drop, Option, None, Some, if◌then◌else◌}
 use Rattle.std.specs.List.{Contains, AllPairs}
 use Rattle.ipv4_head.specs.Sets.{Part}
 

@@ -1,6 +1,6 @@
-ghost use Rattle.std.specs.Prelude.{◌≡◌, ℕ, ◌≤◌, false, List, length, Some, None, IfSome, if◌then◌else◌};
+ghost use Rattle.std.specs.Prelude.{◌≡◌, ℕ, ◌<◌, ◌≤◌, ◌++◌, ◌∷◌, [], false, List, length, Some, None, IfSome, if◌then◌else◌};
 ghost use Rattle.std.specs.Option.{option_map};
-ghost use Rattle.ipv4_head.specs.Sets.{Part, Joins, part_of, key_of};
+ghost use Rattle.ipv4_head.specs.Sets.{Joined, Joins, Part, Waits, key_of, outcome_among, part_of};
 ghost use Rattle.ipv4_reasm.specs.Cuts.{AreCuts, cut_of, cut_start, is_cut};
 
 use ipv4_head::IpView;
@@ -53,8 +53,15 @@ fn start_of(size: usize, mtu: usize, k: usize) -> Option<usize>
     }
 }
 
-/// The fragments into which a datagram is cut join to it again, in whatever order they come.
+/// The fragments into which a datagram is cut join to it again, in whatever order they come. Each
+/// that comes before another waits for it, and the last one makes the datagram whole.
 pub fn cuts_join()
-    ensures { (mtu : ℕ) (whole : Part) (parts : List Part) → 28 ≤ mtu → AreCuts mtu whole parts
-        → Joins parts whole.body }
+    ensures join { (mtu : ℕ) (whole : Part) (parts : List Part) → 28 ≤ mtu
+        → AreCuts mtu whole parts → Joins parts whole.body }
+    ensures waits { (mtu : ℕ) (whole : Part) (before : List Part) (p q : Part) (after : List Part) → 28 ≤ mtu
+        → 0 < length whole.body → length whole.body ≤ 65515
+        → AreCuts mtu whole ((before ++ p ∷ []) ++ q ∷ after) → outcome_among p before ≡ Waits }
+    ensures whole { (mtu : ℕ) (whole : Part) (before : List Part) (p : Part) → 28 ≤ mtu
+        → 0 < length whole.body → length whole.body ≤ 65515
+        → AreCuts mtu whole (before ++ p ∷ []) → outcome_among p before ≡ Joined }
 {}

@@ -7,7 +7,7 @@ mod cutting;
 mod reasm;
 
 pub use cutting::{cut, cuts_join};
-pub use reasm::{Added, Reasm};
+pub use reasm::{Added, Reasm, freed_datagram_leaves, parts_join_to_one_body};
 
 #[cfg(test)]
 mod tests;

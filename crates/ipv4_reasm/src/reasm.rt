@@ -1,7 +1,7 @@
 ghost use Rattle.std.specs.Prelude.{◌≡◌, ℕ, ◌+◌, ◌^◌, ◌≤◌, ◌<◌, ◌++◌, List, [], ◌∷◌, true, false, filter, length, IfOk, IfSome, IfNone, Some, slice_get, slice_set, take, ◌↔◌, if◌then◌else◌};
 ghost use Rattle.std.specs.List.{list_any, position, remove};
 ghost use Rattle.ipv4_head.specs.Ip.{ip_of};
-ghost use Rattle.ipv4_head.specs.Sets.{IsJoined, PartSet, end_of, is_same_key, is_too_long, is_uneven, is_whole, key_of, outcome, part_of, sets_after, young};
+ghost use Rattle.ipv4_head.specs.Sets.{IsJoined, Joined, Joins, Key, Part, PartSet, end_of, is_same_key, is_too_long, is_uneven, is_whole, key_of, outcome, part_of, sets_after, sets_left, young};
 ghost use Rattle.ipv4_reasm.specs.Areas.{Gathered, StandFor, after_part, begun, does_clash, is_full, is_marked, is_recent, joined_in, key_by, marks_of, place_in, roomy, with_kept};
 ghost use Rattle.ipv4_reasm.specs.declared.reasm.Added.TheVariants.{Overlap, Whole};
 ghost use Rattle.ipv4_reasm.specs.Answers.{IsAnswered, IsFirstDue, IsLeastDue, IsWholeAt, answer_of, said};
@@ -295,6 +295,20 @@ impl Reasm {
         place_among(&self.areas[..self.count], key)
     }
 }
+
+/// Parts join to one body at most, and they are whole where they do.
+pub fn parts_join_to_one_body()
+    ensures whole { (parts : List Part) (body : List ℕ) → Joins parts body → is_whole parts ≡ true }
+    ensures one { (parts : List Part) (body other : List ℕ) → Joins parts body → Joins parts other
+        → body ≡ other }
+{}
+
+/// Once a datagram that a part joined is freed, the sets are those that are left.
+pub fn freed_datagram_leaves()
+    ensures { (now : ℕ) (key : Key) (p : Part) (sets : List PartSet) (area : ℕ)
+        → outcome now key p sets ≡ Joined → IsWholeAt (sets_after now key p sets) key area
+        → remove (sets_after now key p sets) area ≡ sets_left now key p sets }
+{}
 
 /// When the first part of the oldest datagram is 60,000 ms old.
 fn first_due(areas: &[Area]) -> Option<u64>

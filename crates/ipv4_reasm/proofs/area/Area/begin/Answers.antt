@@ -1,4 +1,4 @@
-use Rattle.std.proofs.Common.{◌≡◌, List, ℕ, Bool, false, replicate, length, take, None, [], ap, sym, ◌∙◌, arith, rules}
+use Rattle.std.proofs.Common.{◌≡◌, List, Bool, false, replicate, length, take, [], ap, sym, ◌∙◌, arith}
 use Rattle.std.proofs.lemmas.List.{length-replicate}
 use Rattle.ipv4_reasm.specs.Areas.{Gathered, begun, gathered, key_by, marked}
 use Rattle.ipv4_reasm.proofs.Marks.{marked-false}

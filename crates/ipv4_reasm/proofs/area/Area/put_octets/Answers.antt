@@ -1,8 +1,8 @@
-use Rattle.std.proofs.Common.{◌≡◌, ◌+◌, ◌*◌, ◌<◌, ◌≤◌, List, ℕ, Bool, Option, true, false, replicate, length, take, drop, ◌++◌, ap, sym, ◌∙◌, arith, subst}
+use Rattle.std.proofs.Common.{◌≡◌, ◌+◌, List, Bool, true, false, replicate, length, take, drop, ◌++◌, ap, sym, ◌∙◌, arith, subst}
 use Rattle.std.specs.List.{list_any}
 use Rattle.std.proofs.lemmas.List.{take_at}
-use Rattle.ipv4_head.specs.Sets.{part_of, end_of}
-use Rattle.ipv4_reasm.specs.Areas.{Gathered, IsRoomy, IsWithin, end_with, is_marked, marked, marks_of, units_of}
+use Rattle.ipv4_head.specs.Sets.{part_of}
+use Rattle.ipv4_reasm.specs.Areas.{Gathered, IsWithin, is_marked, marked, marks_of, units_of}
 use Rattle.ipv4_reasm.proofs.Marks.{count_marked, marked_few, within_with}
 use Rattle.ipv4_reasm.proofs.area.Area.put_octets.Goals as goal
 

@@ -1,7 +1,6 @@
-use Rattle.std.proofs.Common.{◌≡◌, List, sym, subst}
-use Rattle.ipv4_head.specs.Sets.{PartSet, key_of, part_of, young}
+use Rattle.std.proofs.Common.{List, sym, subst}
+use Rattle.ipv4_head.specs.Sets.{young}
 use Rattle.ipv4_reasm.specs.Areas.{Gathered, StandFor}
-use Rattle.ipv4_reasm.specs.Answers.{IsAnswered}
 use Rattle.ipv4_reasm.proofs.Standing.{stand_young}
 use Rattle.ipv4_reasm.proofs.reasm.Reasm.add.Goals as goal
 

@@ -1,7 +1,7 @@
-use Rattle.std.proofs.Common.{◌≡◌, ℕ, List, Some, sym, ap, ◌∙◌, subst}
+use Rattle.std.proofs.Common.{◌≡◌, ℕ, List, sym, ap, ◌∙◌, subst}
 use Rattle.std.specs.Prelude.{slice_get}
 use Rattle.std.proofs.lemmas.Option.{same_Some}
-use Rattle.ipv4_head.specs.Ip.{Ip, ip_of}
+use Rattle.ipv4_head.specs.Ip.{Ip}
 use Rattle.ipv4_head.specs.Sets.{IsJoined, PartSet}
 use Rattle.ipv4_reasm.specs.Areas.{Gathered, StandsFor, joined_in}
 use Rattle.ipv4_reasm.proofs.Lists.{front_get, there}

@@ -1,7 +1,4 @@
-use Rattle.std.proofs.Common.{◌≡◌, ◌+◌, ◌-◌, ◌<◌, ◌≤◌, List, ℕ, suc, Some, true, false, take, drop, filter, length, ◌++◌, get_or, sym, ap, ◌∙◌, arith, subst, add-one}
-use Rattle.std.specs.Prelude.{slice_get}
-use Rattle.std.specs.List.{remove}
-use Rattle.std.proofs.lemmas.List.Edits.{length-remove}
+use Rattle.std.proofs.Common.{List, sym, ◌∙◌, arith, subst}
 use Rattle.ipv4_reasm.specs.Areas.{Gathered, is_recent}
 use Rattle.ipv4_reasm.proofs.Lists.{IsDropped, front_long, there, keep_on, drop_on}
 use Rattle.ipv4_reasm.proofs.reasm.Reasm.drop_old.Goals as goal

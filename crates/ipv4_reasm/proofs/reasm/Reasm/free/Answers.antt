@@ -1,4 +1,4 @@
-use Rattle.std.proofs.Common.{◌≡◌, List, sym, subst}
+use Rattle.std.proofs.Common.{List, sym, subst}
 use Rattle.std.specs.List.{remove}
 use Rattle.ipv4_reasm.specs.Areas.{Gathered, StandFor}
 use Rattle.ipv4_reasm.proofs.Standing.{stand_removed}

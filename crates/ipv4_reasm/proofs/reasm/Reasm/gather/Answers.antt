@@ -1,4 +1,4 @@
-use Rattle.std.proofs.Common.{◌≡◌, sym, ap, ◌∙◌, subst}
+use Rattle.std.proofs.Common.{sym, ◌∙◌, subst}
 use Rattle.ipv4_head.specs.Sets.{Key, part_of}
 use Rattle.ipv4_reasm.specs.Areas.{key_by}
 use Rattle.ipv4_reasm.specs.Answers.{IsAnswered}

@@ -1,4 +1,4 @@
-use Rattle.std.proofs.Common.{◌≡◌, ◌<◌, ℕ, length, sym, ◌∙◌, subst, arith}
+use Rattle.std.proofs.Common.{sym, ◌∙◌, arith}
 use Rattle.ipv4_reasm.proofs.Answering.{area_of}
 use Rattle.ipv4_reasm.proofs.reasm.Reasm.join.Goals as goal
 

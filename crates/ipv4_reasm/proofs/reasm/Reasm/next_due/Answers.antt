@@ -1,7 +1,7 @@
-use Rattle.std.proofs.Common.{◌≡◌, ℕ, List, take, sym, ap, ◌∙◌, subst}
+use Rattle.std.proofs.Common.{List, take, ap, ◌∙◌, subst}
 use Rattle.std.proofs.lemmas.Option.{IfSome_then}
 use Rattle.ipv4_reasm.specs.Areas.{Gathered}
-use Rattle.ipv4_reasm.specs.Answers.{IsFirstDue, IsLeastDue}
+use Rattle.ipv4_reasm.specs.Answers.{IsLeastDue}
 use Rattle.ipv4_reasm.proofs.Dues.{due_of_sets}
 use Rattle.ipv4_reasm.proofs.reasm.Reasm.next_due.Goals as goal
 

@@ -1,4 +1,4 @@
-use Rattle.std.proofs.Common.{◌≡◌, List, ℕ, Some, get_or, take, set, sym, ap, ◌∙◌, subst}
+use Rattle.std.proofs.Common.{◌≡◌, List, ℕ, Some, get_or, take, set, ap, ◌∙◌}
 use Rattle.std.specs.Prelude.{slice_get}
 use Rattle.ipv4_head.specs.Sets.{part_of}
 use Rattle.ipv4_reasm.specs.Areas.{Gathered, after_part, is_full, with_kept}

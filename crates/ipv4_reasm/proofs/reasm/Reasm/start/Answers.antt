@@ -1,9 +1,9 @@
-use Rattle.std.proofs.Common.{◌≡◌, ◌+◌, ◌<◌, List, ℕ, Bool, Some, false, length, length-append, arith, ◌++◌, ◌∷◌, [], set, zero, suc, refl, sym, ap, ◌∙◌, subst}
+use Rattle.std.proofs.Common.{◌≡◌, List, ℕ, Some, false, length, length-append, arith, ◌++◌, ◌∷◌, [], set, refl, sym, ap, ◌∙◌, subst}
 use Rattle.std.specs.Prelude.{slice_get}
 use Rattle.std.specs.List.{list_any}
 use Rattle.std.proofs.lemmas.Option.{same_Some}
 use Rattle.ipv4_head.specs.Sets.{part_of}
-use Rattle.ipv4_reasm.specs.Areas.{Gathered, after_part, begun, is_full, is_marked, key_by, marks_of, roomy, with_kept}
+use Rattle.ipv4_reasm.specs.Areas.{Gathered, after_part, begun, is_full, is_marked, key_by, marks_of, with_kept}
 use Rattle.ipv4_reasm.specs.Answers.{answer_of}
 use Rattle.ipv4_reasm.proofs.Answering.{area_of, begun_free, get_last}
 use Rattle.ipv4_reasm.proofs.reasm.Reasm.start.Goals as goal
