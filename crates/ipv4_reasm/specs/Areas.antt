@@ -35,23 +35,25 @@ abbrev pub marked : List Bool → ℕ
 marked [] = 0
 marked (mark ∷ marks) = (if mark then 1 else 0) + marked marks
 
--- the part can't be of the same datagram as those in the area
-abbrev pub is_past : Option ℕ → Part → Bool
-is_past None p = false
-is_past (Some e) p = not p.more || nat_lt e (end_of p)
-
 -- the marks of the units that a part takes
 abbrev pub marks_of : Part → List Bool → List Bool
 marks_of p marks = take (units_of (length p.body)) (drop p.place marks)
 
+-- a part is a second last one, or ends past the end that is given
+abbrev pub is_past : Option ℕ → Part → Bool
+is_past None p = false
+is_past (Some e) p = not p.more || nat_lt e (end_of p)
+
+-- a part can't be of the same datagram as those in the area: a unit of it is there, or its end and theirs don't agree
 abbrev pub does_clash : Gathered → Part → Bool
 does_clash g p =
     list_any is_marked (marks_of p g.marks) || is_past g.end p || (not p.more && nat_lt (end_of p) g.top)
 
--- the octets of a part are put into the area
+-- the end once a part is there
 abbrev pub end_with : Option ℕ → Part → Option ℕ
 end_with end p = if p.more then end else Some (end_of p)
 
+-- the octets of a part are put into the area
 abbrev pub with_octets : Gathered → Part → Gathered
 with_octets g p = record g {
   octets = take (start_of p) g.octets ++ p.body ++ drop (end_of p) g.octets;

@@ -93,7 +93,7 @@ impl Reasm {
         self.place(now, part)
     }
 
-    /// The whole datagram that lies in an area, as `add` just answered. Its header is that of the
+    /// The whole datagram that lies in an area, asked after `add` answered Whole with it. Its header is that of the
     /// part at the start, with no more fragments, the place 0, the length of the whole and the sum
     /// made anew.
     pub fn datagram(&self, area: usize) -> IpView<'_>
