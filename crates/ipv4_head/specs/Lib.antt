@@ -1,1 +1,2 @@
 pub mod Ip
+pub mod Sets

@@ -1,0 +1,44 @@
+use Rattle.std.proofs.Common.{◌≡◌, List, ℕ, sym, ap, ◌∙◌, subst, arith}
+use Rattle.std.proofs.lemmas.List.{take_at}
+use Rattle.flow_table.specs.declared.Slot.{Slot}
+use Rattle.flow_table.specs.Slots.{AreKept, Flows, HasSome, HasTuple, flows, moved_last}
+use Rattle.flow_table.proofs.Keeping.{has_within, tuple_is_read, rested_is, rested_kept}
+use Rattle.flow_table.proofs.FlowTable.resting.Goals as goal
+
+-- the slot has a tuple
+abbrev asked : (slots : List Slot) (turns : List ℕ) (now : Flows) (slot : ℕ) → flows slots turns ≡ now → HasSome now.slots slot → HasSome slots slot
+asked slots turns now slot view has = subst (λ (f : Flows). HasSome f.slots slot) (sym view) has
+
+pub move_last-requires : goal.move_last-requires
+move_last-requires c =
+    let has = asked _ _ _ c.args.slot c.self.view_is c.requires in
+    rw c.deref_mut.ensures.value (c.self.invariant.all c.args.slot (has_within _ c.args.slot has.0 has.1))
+
+pub invariant_of-self : goal.invariant_of-self
+invariant_of-self c =
+    let slots = c.self.inside.slots.items in
+    let turns = c.self.inside.turns.items in
+    let slot = c.args.slot in
+    let has = asked slots turns _ slot c.self.view_is c.requires in
+    let read = tuple_is_read slots slot c.index.result.now has.0 has.1 c.index.ensures in
+    let is : HasTuple slots slot c.in-Some.tuple = has.1 ∙ sym read ∙ sym c.tuple.ensures ∙ c.in-Some.is in
+    subst (AreKept _) (sym (take_at c.move_last.new.turns _ _ (omega arith) ∙ c.move_last.ensures ∙ ap (moved_last slot) c.deref_mut.ensures.value))
+    (rested_kept slots turns slot c.args.since c.in-Some.tuple is c.self.invariant)
+
+pub returns-in-Some : goal.returns-in-Some
+returns-in-Some c = λ t has_t.
+    let slots = c.self.inside.slots.items in
+    let turns = c.self.inside.turns.items in
+    let slot = c.args.slot in
+    let has = asked slots turns _ slot c.self.view_is c.requires in
+    let read = tuple_is_read slots slot c.index.result.now has.0 has.1 c.index.ensures in
+    let is : HasTuple slots slot c.in-Some.tuple = has.1 ∙ sym read ∙ sym c.tuple.ensures ∙ c.in-Some.is in
+    rested_is slots turns _ _ slot c.args.since t c.in-Some.tuple c.self.view_is is
+    (take_at c.move_last.new.turns _ _ (omega arith) ∙ c.move_last.ensures ∙ ap (moved_last slot) c.deref_mut.ensures.value) has_t
+
+pub returns-in_default : goal.returns-in_default
+returns-in_default c = λ t has_t.
+    let slots = c.self.inside.slots.items in
+    let has = asked slots _ _ c.args.slot c.self.view_is c.requires in
+    let read = tuple_is_read slots c.args.slot c.index.result.now has.0 has.1 c.index.ensures in
+    absurd (c.in_default.not-Some has.0 (c.tuple.ensures ∙ read))

@@ -1,0 +1,143 @@
+-- What a step makes of the slots and of their order.
+use Rattle.std.proofs.Common.{◌≡◌, ◌==◌, ℕ, ◌<◌, ◌+◌, ◌⊎◌, inl, inr, List, [], ◌∷◌, ◌++◌, length, Some, zero, suc, refl, sym, ap, ◌∙◌, subst, arith, true, get_or, replicate, length-set, zero-add, eq-eqb}
+use Rattle.std.specs.Prelude.{slice_get, slice_set}
+use Rattle.std.specs.List.{remove, position_or_len, range_with_len}
+use Rattle.std.specs.Option.{option_and_then}
+use Rattle.std.proofs.lemmas.Bool.Decides.{eqb_tells}
+use Rattle.std.proofs.lemmas.List.{length-replicate}
+use Rattle.std.proofs.lemmas.List.FromFn.{length-range_with_len, get_or-range_with_len}
+use Rattle.std.proofs.lemmas.Option.{same_Some, slice_get_read, slice_get_within, slice_get-get_or, get_or_from_slice_get}
+use Rattle.flow_table.specs.declared.Slot.{Slot}
+use Rattle.flow_table.specs.declared.Slot.TheVariants.{Free, Resting}
+use Rattle.flow_table.specs.declared.Tuple.{Tuple}
+use Rattle.flow_table.specs.Slots.{AreKept, Flows, HasTuple, Stands, flows, tuple_of, moved_last}
+
+-- all slots are free
+pub free_has_none : (n k : ℕ) (t : Tuple) → HasTuple (replicate n Free) k t → ⊥
+free_has_none zero k t h = cc
+free_has_none (suc n) zero t h = cc
+free_has_none (suc n) (suc k) t h = free_has_none n k t h
+
+-- the tuple of a slot after a write
+pub has_after : (slots : List Slot) (i k : ℕ) (s : Slot) (t : Tuple) → HasTuple (slice_set slots i s) k t → ((k ≡ i) × (tuple_of s ≡ Some t)) ⊎ HasTuple slots k t
+has_after [] i k s t h = inr h
+has_after (z ∷ xs) zero zero s t h = inl (refl, h)
+has_after (z ∷ xs) zero (suc k) s t h = inr h
+has_after (z ∷ xs) (suc i) zero s t h = inr h
+has_after (z ∷ xs) (suc i) (suc k) s t h = elim (has_after xs i k s t h) [ inl p ↦ inl (ap suc p.0, p.1) | inr q ↦ inr q ]
+
+further : (z : ℕ) (xs : List ℕ) (x : ℕ) → Stands xs x → Stands (z ∷ xs) x
+further z xs x s = (suc s.0, s.1)
+
+at_end : (xs : List ℕ) (x : ℕ) → Stands (xs ++ x ∷ []) x
+at_end [] x = (zero, refl)
+at_end (z ∷ xs) x = further z (xs ++ x ∷ []) x (at_end xs x)
+
+before_end : (xs : List ℕ) (y i x : ℕ) → slice_get xs i ≡ Some x → Stands (xs ++ y ∷ []) x
+before_end [] y i x h = cc
+before_end (z ∷ xs) y zero x h = (zero, h)
+before_end (z ∷ xs) y (suc i) x h = further z (xs ++ y ∷ []) x (before_end xs y i x h)
+
+of_end : (xs : List ℕ) (y i x : ℕ) → slice_get (xs ++ y ∷ []) i ≡ Some x → Stands xs x ⊎ (x ≡ y)
+of_end [] y zero x h = inr cc
+of_end [] y (suc i) x h = cc
+of_end (z ∷ xs) y zero x h = inl (zero, h)
+of_end (z ∷ xs) y (suc i) x h = elim (of_end xs y i x h) [ inl s ↦ inl (further z xs x s) | inr e ↦ inr e ]
+
+-- what stands in a list after one was taken out of it
+of_removed : (xs : List ℕ) (n i x : ℕ) → slice_get (remove xs n) i ≡ Some x → Stands xs x
+of_removed [] zero i x h = cc
+of_removed [] (suc n) i x h = cc
+of_removed (z ∷ xs) zero i x h = (suc i, h)
+of_removed (z ∷ xs) (suc n) zero x h = (zero, h)
+of_removed (z ∷ xs) (suc n) (suc i) x h = further z xs x (of_removed xs n i x h)
+
+in_removed : (xs : List ℕ) (n i x : ℕ) → slice_get xs i ≡ Some x → (i ≡ n) ⊎ Stands (remove xs n) x
+in_removed [] n i x h = cc
+in_removed (z ∷ xs) zero zero x h = inl refl
+in_removed (z ∷ xs) zero (suc i) x h = inr (i, h)
+in_removed (z ∷ xs) (suc n) zero x h = inr (zero, h)
+in_removed (z ∷ xs) (suc n) (suc i) x h = elim (in_removed xs n i x h) [ inl e ↦ inl (ap suc e) | inr s ↦ inr (further z (remove xs n) x s) ]
+
+one_more : (n : ℕ) → suc n ≡ 1 + n
+one_more n = omega arith
+
+-- the first place of a number that stands in a list has it
+pub first_place : (xs : List ℕ) (k i : ℕ) → slice_get xs i ≡ Some k → slice_get xs (position_or_len (λ other. other == k) xs) ≡ Some k
+first_place [] k i h = cc
+first_place (z ∷ xs) k zero h = let e : (z == k) ≡ true = eq-eqb z k cc in rw e (ap Some cc)
+first_place (z ∷ xs) k (suc i) h = elim (eqb_tells z k) [ inl same ↦ rw same.0 (ap Some same.1) | inr other ↦ rw other.0 (subst (λ n. slice_get (z ∷ xs) n ≡ Some k) (one_more (position_or_len (λ o. o == k) xs)) (first_place xs k i h)) ]
+
+-- an order stays one where a number goes to its end
+pub moved_kept : (slots : List Slot) (turns : List ℕ) (k : ℕ) → k < length slots → AreKept slots turns → AreKept slots (moved_last k turns)
+moved_kept slots turns k fits kept =
+    let at = position_or_len (λ other. other == k) turns in
+    let stood = kept.all k fits in
+    let stands = first_place turns k stood.0 stood.1 in
+    record {
+      apart = kept.apart;
+      within = λ i x h. elim (of_end (remove turns at) k i x h) [ inl s ↦ let t = of_removed turns at s.0 x s.1 in kept.within t.0 x t.1 | inr e ↦ subst (λ n. n < length slots) (sym e) fits ];
+      all = λ x small. let s = kept.all x small in
+          elim (in_removed turns at s.0 x s.1) [
+            | inl e ↦ subst (λ n. Stands (moved_last k turns) n) (same_Some k x (sym stands ∙ ap (slice_get turns) (sym e) ∙ s.1)) (at_end (remove turns at) k)
+            | inr t ↦ before_end (remove turns at) k t.0 x t.1
+          ];
+    }
+
+-- a slot gets a content whose tuple no other slot has
+pub set_kept : (slots : List Slot) (turns : List ℕ) (k : ℕ) (s : Slot) → ((other : ℕ) (t : Tuple) → tuple_of s ≡ Some t → HasTuple slots other t → other ≡ k) → AreKept slots turns → AreKept (slice_set slots k s) turns
+set_kept slots turns k s alone kept =
+    let long = length-set slots k s in
+    record {
+      apart = λ one other t h g.
+          elim (has_after slots k one s t h) [
+            | inl p ↦ elim (has_after slots k other s t g) [ inl q ↦ p.0 ∙ sym q.0 | inr q ↦ p.0 ∙ sym (alone other t p.1 q) ]
+            | inr p ↦ elim (has_after slots k other s t g) [ inl q ↦ alone one t q.1 p ∙ sym q.0 | inr q ↦ kept.apart one other t p q ]
+          ];
+      within = λ i x h. subst (λ n. x < n) (sym long) (kept.within i x h);
+      all = λ x small. kept.all x (subst (λ n. x < n) long small);
+    }
+
+-- a table before its first flow
+pub start_kept : (n : ℕ) → AreKept (replicate n Free) (range_with_len 0 n)
+start_kept n = record {
+  apart = λ k other t h g. absurd (free_has_none n k t h);
+  within = λ i x h. let w = slice_get_within (range_with_len 0 n) i x h in
+      let long = length-range_with_len 0 n in
+      let is = get_or_from_slice_get (range_with_len 0 n) i x 0 h in
+      let small : i < n = omega arith in
+      let same = get_or-range_with_len 0 n i 0 small in
+      let size = length-replicate n Free in omega arith;
+  all = λ x small. let size = length-replicate n Free in
+      let fits : x < n = omega arith in
+      let long = length-range_with_len 0 n in
+      (x, slice_get-get_or (range_with_len 0 n) x 0 (omega arith) ∙ ap Some (get_or-range_with_len 0 n x 0 fits ∙ zero-add x));
+}
+
+-- a slot with a tuple is one of them
+pub has_within : (slots : List Slot) (k : ℕ) (t : Tuple) → HasTuple slots k t → k < length slots
+has_within [] k t h = cc
+has_within (s ∷ slots) zero t h = omega arith
+has_within (s ∷ slots) (suc k) t h = let w = has_within slots k t h in omega arith
+
+-- what is read from a slot has the tuple of the slot
+pub tuple_is_read : (slots : List Slot) (k : ℕ) (s : Slot) (t : Tuple) → HasTuple slots k t → s ≡ get_or slots k s → tuple_of s ≡ Some t
+tuple_is_read slots k s t has read = sym (ap (option_and_then tuple_of) (slice_get_read slots (length slots) k s refl (has_within slots k t has) read)) ∙ has
+
+-- a slot that came to rest
+pub rested_is : (slots : List Slot) (turns new : List ℕ) (now : Flows) (k since : ℕ) (t u : Tuple) → flows slots turns ≡ now → HasTuple slots k u → new ≡ moved_last k turns → HasTuple now.slots k t
+    → flows (slice_set slots k (Resting u since)) new ≡ flows (slice_set now.slots k (Resting t since)) (moved_last k now.turns)
+rested_is slots turns new now k since t u view has moved asked =
+    let had : HasTuple slots k t = subst (λ (f : Flows). HasTuple f.slots k t) (sym view) asked in
+    let same : u ≡ t = same_Some u t (sym has ∙ had) in
+    ap (λ (x : List ℕ). flows (slice_set slots k (Resting u since)) x) moved
+    ∙ ap (λ (x : Tuple). flows (slice_set slots k (Resting x since)) (moved_last k turns)) same
+    ∙ ap (λ (f : Flows). flows (slice_set f.slots k (Resting t since)) (moved_last k f.turns)) view
+
+-- and what holds then
+pub rested_kept : (slots : List Slot) (turns : List ℕ) (k since : ℕ) (u : Tuple) → HasTuple slots k u → AreKept slots turns → AreKept (slice_set slots k (Resting u since)) (moved_last k turns)
+rested_kept slots turns k since u has kept =
+    let fits = has_within slots k u has in
+    set_kept slots (moved_last k turns) k (Resting u since)
+    (λ other t is h. kept.apart other k t h (has ∙ is))
+    (moved_kept slots turns k fits kept)

@@ -1,0 +1,11 @@
+pub mod Fragments
+pub mod Marks
+pub mod Lists
+pub mod Standing
+pub mod Gathering
+pub mod Keeping
+pub mod Wholeness
+pub mod Answering
+pub mod Dues
+pub mod Joining
+pub mod Arrivals

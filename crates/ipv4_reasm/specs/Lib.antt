@@ -1,0 +1,3 @@
+pub mod Cuts
+pub mod Areas
+pub mod Answers
