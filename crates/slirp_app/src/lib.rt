@@ -8,6 +8,8 @@ mod status;
 mod std_sink;
 #[cfg(test)]
 mod tests;
+#[cfg(test)]
+mod udp_tests;
 
 pub use file_world::FileWorld;
 pub use running::slirp_main;

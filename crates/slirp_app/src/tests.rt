@@ -40,7 +40,7 @@ fn replayed(alloc: Global, content: &str, fails: Option<u64>) -> Result<Outputs,
 }
 
 /// Whether the content's replay has this status and puts this.
-fn gives(alloc: Global, content: &str, status: u8, out: &str, err: &str) -> Result<bool, Fail> {
+pub fn gives(alloc: Global, content: &str, status: u8, out: &str, err: &str) -> Result<bool, Fail> {
     let ran = replayed(alloc, content, None)?;
     Ok(
         ran.status == status
