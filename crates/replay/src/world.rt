@@ -943,6 +943,7 @@ impl ScriptWorld {
         ensures live { IsNone result ↔ (self.now.live ≡ true) }
         ensures stopped { IsSome self.now.stop ↔ (self.now.live ≡ false) }
         ensures fits_none { StopsRightly self.now.lines self.now.used self.now.stop }
+        ensures within { self.now.used ≤ length self.now.lines }
     {
         let wanted = self.wanted();
         let line = self.used as u64 + 1;
