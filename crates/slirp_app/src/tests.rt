@@ -1,3 +1,5 @@
+ghost use Rattle.world_face.specs.Journal.{MayMeasure};
+
 use super::*;
 use crate::status::Outcome;
 use replay::ScriptWorld;
@@ -350,6 +352,13 @@ fn a_file_that_is_not_there_and_a_folder(rt: HostRuntime) -> Result<(), Fail> {
     Ok(())
 }
 
+// The answer of a file of so many octets.
+fn measured(length: u64) -> FileSize
+    ensures { MayMeasure result }
+{
+    FileSize::Length(length)
+}
+
 /// A World that has one file of so many octets, all 0, and tells nothing.
 #[derive(Drop)]
 struct LongFile {
@@ -426,7 +435,7 @@ impl World for LongFile {
     }
 
     fn file_len(&mut self, _name: &str) -> FileSize {
-        FileSize::Length(self.length)
+        measured(self.length)
     }
 
     fn file_read(&mut self, _name: &str, _at: u64, into: &mut [u8]) -> Io {
