@@ -1,6 +1,7 @@
 -- What an outcome tells, status by status.
-use Rattle.std.proofs.Common.{◌≡◌, ◌≢◌, ◌⊎◌, inl, inr, ℕ, ◌<◌, ◌≤◌, List, [], ◌∷◌, Option, Result, Ok, Err, IsTrue, refl, sym, ◌∙◌, ap, subst, arith}
+use Rattle.std.proofs.Common.{◌≡◌, ◌↔◌, ◌≢◌, ◌⊎◌, inl, inr, ℕ, ◌<◌, ◌≤◌, List, [], ◌∷◌, Option, Result, Ok, Err, IsTrue, refl, sym, ◌∙◌, ap, subst, arith}
 use Rattle.host_policy.specs.Settings.{usual}
+use Rattle.replay.specs.Unread.{IsFirstUnread}
 use Rattle.replay.specs.declared.Divergence.{Divergence}
 use Rattle.slirp_app.specs.Causes.{Came, CannotRead, Caused, RanOn}
 use Rattle.slirp_app.specs.Counting.{Rose}
@@ -47,6 +48,10 @@ no_text _ (inl is) = cc
 no_text _ (inr is) = cc
 
 -- the outcome that has a status
+is_misspelt : (outcome : Outcome) → code_of outcome ≡ 4 → (line : ℕ) × (outcome ≡ ScheduleLine line)
+is_misspelt (ScheduleLine line) is = (line, refl)
+is_misspelt _ is = cc
+
 is_cut : (outcome : Outcome) → code_of outcome ≡ 7 → (n : ℕ) × (outcome ≡ FrameCut n)
 is_cut (FrameCut n) is = (n, refl)
 is_cut _ is = cc
@@ -84,6 +89,18 @@ module _ (world world_new : Telling) (words : List (List ℕ)) (old new : Option
   unreadable ScheduleRead makes is =
       record { made = makes.made; same = makes.same; allowed = makes.allowed; told = makes.told; counted = makes.counted; holds = cannot_read world world_new makes.made makes.allowed makes.counted (makes.holds.1.unreadable refl) }
   unreadable _ _ is = cc
+
+  -- a line that has no reading
+  pub misspelt : (outcome : Outcome) → By_calls outcome → IsTrue (is_read (code_of outcome)) → Makes world world_new (λ made. (code_of outcome ≡ 4) ↔ (line : ℕ) × IsFirstUnread (octets_read made) line)
+  misspelt outcome makes read = makes_as world world_new _ _ makes (λ made holds. (
+    (λ is. let at = is_misspelt outcome is in (at.0, holds.1.first at.0 at.1)),
+    (λ at. ap code_of (holds.1.misspelt read at.0 at.1)),
+  ))
+
+  pub named : (Told : Outcome → Type 0) (outcome : Outcome) → By_calls outcome → Told outcome → code_of outcome ≡ 4 → Makes world world_new (λ made. (line : ℕ) × IsFirstUnread (octets_read made) line × Told (ScheduleLine line))
+  named Told outcome makes told is =
+      let at = is_misspelt outcome is in
+      makes_as world world_new _ _ makes (λ made holds. (at.0, holds.1.first at.0 at.1, subst Told at.1 told))
 
   abbrev AtEnd : ℕ → List ℕ → List Entry → Type 0
   AtEnd status schedule journal = status ≢ 5 → Finished usual journal × (status ≡ code_of (outcome_of (end_of usual (phase usual journal))))

@@ -6,6 +6,7 @@ use Rattle.world_face.specs.declared.FileSize.{FileSize}
 use Rattle.world_face.specs.declared.FileSize.TheVariants.{Length, Missing, Failed}
 use Rattle.world_face.specs.declared.Io.{Io}
 use Rattle.world_face.specs.declared.Io.TheVariants.{End}
+use Rattle.replay.specs.Unread.{IsFirstUnread}
 use Rattle.slirp_app.specs.Counting.{Rose}
 use Rattle.slirp_app.specs.Fetching.{IsWhole, IsUnreadable, is_read, octets_read}
 use Rattle.slirp_app.specs.Ran.{Replayed, IsAtEnd, Ceased}
@@ -32,6 +33,8 @@ pub record Caused (outcome : Outcome) (made : List Entry) (old new : Option (Lis
   pub unreadable : outcome ≡ ScheduleRead → IsUnreadable made
   pub whole : IsTrue (is_read (code_of outcome)) → IsWhole made
   pub came : IsTrue (is_read (code_of outcome)) → Came outcome (octets_read made) old new
+  pub first : (line : ℕ) → outcome ≡ ScheduleLine line → IsFirstUnread (octets_read made) line
+  pub misspelt : IsTrue (is_read (code_of outcome)) → (line : ℕ) → IsFirstUnread (octets_read made) line → outcome ≡ ScheduleLine line
 
 -- FILE is missing, has over 64 MiB, or ended before its length
 abbrev pub is_unfit : FileSize → Bool

@@ -6,16 +6,17 @@ ghost use Rattle.host_policy.specs.Settings.{usual};
 ghost use Rattle.replay.specs.Fitting.{StopsRightly, divergence_of};
 ghost use Rattle.replay.specs.Script.{IsFresh, schedule_text, script_tells};
 ghost use Rattle.replay.specs.Text.{text};
+ghost use Rattle.replay.specs.Unread.{IsFirstUnread};
 ghost use Rattle.replay.specs.declared.Divergence.{Divergence};
 ghost use Rattle.slirp_app.specs.Causes.{Came, CannotRead, Caused, RanOn};
 ghost use Rattle.slirp_app.specs.Counting.{Rose};
-ghost use Rattle.slirp_app.specs.Fetching.{IsWhole, MayFetch, is_read};
+ghost use Rattle.slirp_app.specs.Fetching.{IsWhole, MayFetch, is_read, octets_read};
 ghost use Rattle.slirp_app.specs.Ran.{Ceased, EndsBy, FetchesFile, end_line};
 ghost use Rattle.slirp_app.specs.Statuses.{code_of, outcome_of, is_run, is_unrun};
 ghost use Rattle.slirp_app.specs.Texts.{Got};
 ghost use Rattle.slirp_app.specs.Words.{file_of, is_file};
 ghost use Rattle.slirp_app.specs.declared.status.Outcome.{Outcome as AnOutcome};
-ghost use Rattle.slirp_app.specs.declared.status.Outcome.TheVariants.{Diverged, FrameCut, FrameTooLong, TurnsSpent};
+ghost use Rattle.slirp_app.specs.declared.status.Outcome.TheVariants.{Diverged, FrameCut, FrameTooLong, NoMemory as OfMemory, ScheduleLine, TurnsSpent};
 ghost use Rattle.slirp_core.specs.Ends.{end_of};
 ghost use Rattle.slirp_laws.specs.Shape.{Finished, phase, waits};
 ghost use Rattle.world_face.specs.Frames.{LinkCut, LinkEnded, LinkFailed, LongFrame, Stopped, WaitFailed};
@@ -55,6 +56,9 @@ pub fn slirp_main<W: World, K: Sink, E: Sink>(
     ensures unreadable { result ≡ 3 → Makes (W.tells world.old) (W.tells world.new) (CannotRead (W.tells world.old) (W.tells world.new)) }
     // Else, 1 and 13 aside, as many octets were read as FILE's length says.
     ensures whole { IsTrue (is_read result) → Makes (W.tells world.old) (W.tells world.new) IsWhole }
+    // It is 4 exactly where a line of FILE has no reading, and the text has the first such line.
+    ensures misspelt { IsTrue (is_read result) → Makes (W.tells world.old) (W.tells world.new) (λ made. (result ≡ 4) ↔ (line : ℕ) × IsFirstUnread (octets_read made) line) }
+    ensures named { result ≡ 4 → Makes (W.tells world.old) (W.tells world.new) (λ made. (line : ℕ) × IsFirstUnread (octets_read made) line × Got (E.holds err.old) (E.holds err.new) (E.faults err.old) (E.faults err.new) (ScheduleLine line)) }
     // A run's record was put and then the status. But for 5 nothing more is to be done, and the status is that of the end which the record tells.
     ensures ran { IsTrue (is_run result) → RanOn (W.tells world.old) (W.tells world.new) result (K.holds out.old) (K.holds out.new)
         (λ schedule journal. result ≢ 5 → Finished usual journal × (result ≡ code_of (outcome_of (end_of usual (phase usual journal))))) }
@@ -103,6 +107,8 @@ fn replay<K: Sink>(alloc: Global, octets: Vec<u8>, out: &mut K) -> Outcome
     requires { length octets.items ≤ 67108864 }
     ensures came { Came result octets.items (K.holds out.old) (K.holds out.new) }
     ensures nothing { IsTrue (is_unrun (code_of result)) → K.holds out.new ≡ K.holds out.old }
+    ensures first { (line : ℕ) → result ≡ ScheduleLine line → IsFirstUnread octets.items line }
+    ensures misspelt { (line : ℕ) → IsFirstUnread octets.items line → (result ≡ ScheduleLine line) ⊎ (result ≡ OfMemory) }
     ensures read { (code_of result ≢ 1) × (code_of result ≢ 3) }
     ensures refused { code_of result ≡ 12 → Rose (K.faults out.old) (K.faults out.new) }
 {
@@ -118,7 +124,7 @@ fn run<K: Sink>(alloc: Global, mut script: ScriptWorld, out: &mut K) -> Outcome
     requires { IsFresh script }
     ensures came { Came result (schedule_text script.lines) (K.holds out.old) (K.holds out.new) }
     ensures nothing { IsTrue (is_unrun (code_of result)) → K.holds out.new ≡ K.holds out.old }
-    ensures read { (code_of result ≢ 1) × (code_of result ≢ 3) }
+    ensures read { (code_of result ≢ 1) × (code_of result ≢ 3) × (code_of result ≢ 4) }
     ensures refused { code_of result ≡ 12 → Rose (K.faults out.old) (K.faults out.new) }
 {
     let Ok(mut service) = Service::open(alloc, &SlirpConfig::usual()) else {

@@ -1,10 +1,12 @@
-use Rattle.std.proofs.Common.{◌≡◌, ◌≢◌, IsTrue, map, sym, ◌∙◌, subst}
+use Rattle.std.proofs.Common.{◌≡◌, ◌≢◌, ◌↔◌, ℕ, IsTrue, map, sym, ◌∙◌, subst}
 use Rattle.std.specs.String.{string_bytes}
 use Rattle.host_policy.specs.Settings.{usual}
 use Rattle.slirp_core.specs.Ends.{end_of}
 use Rattle.slirp_laws.specs.Shape.{Finished, phase}
 use Rattle.slirp_app.specs.Causes.{RanOn}
-use Rattle.slirp_app.specs.Fetching.{is_read}
+use Rattle.replay.specs.Unread.{IsFirstUnread}
+use Rattle.slirp_app.specs.Fetching.{is_read, octets_read}
+use Rattle.world_face.specs.Tells.{Makes}
 use Rattle.slirp_app.specs.Statuses.{code_of, outcome_of, is_run}
 use Rattle.slirp_app.specs.Texts.{Got, told_text}
 use Rattle.slirp_app.proofs.Causing as causing
@@ -63,3 +65,15 @@ returns-clause-link_fault g c is = causing.link_fault _ _ (map string_bytes c.ar
 
 pub returns-clause-wait_fault : goal.returns-clause-wait_fault
 returns-clause-wait_fault g c is = causing.wait_fault _ _ (map string_bytes c.args.words.now.items) _ _ c.run_words-outcome.result c.run_words-outcome.ensures.calls (sym c.code.ensures ∙ is)
+
+pub returns-clause-misspelt : goal.returns-clause-misspelt
+returns-clause-misspelt g c is =
+    let new = c.run_words-outcome.new in
+    subst (λ n. Makes (g.W.World.tells c.args.world.now) (g.W.World.tells new.world) (λ made. (n ≡ 4) ↔ (line : ℕ) × IsFirstUnread (octets_read made) line))
+        (sym c.code.ensures) (causing.misspelt _ _ (map string_bytes c.args.words.now.items) _ _ c.run_words-outcome.result c.run_words-outcome.ensures.calls (subst (λ n. IsTrue (is_read n)) c.code.ensures is))
+
+pub returns-clause-named : goal.returns-clause-named
+returns-clause-named g c is =
+    let outcome = c.run_words-outcome.result in
+    causing.named _ _ (map string_bytes c.args.words.now.items) _ _ (λ o. Got (g.E.Sink.holds c.args.err.now) (g.E.Sink.holds c.tell-told.new.err) (g.E.Sink.faults c.args.err.now) (g.E.Sink.faults c.tell-told.new.err) o)
+        outcome c.run_words-outcome.ensures.calls (causing.got _ _ _ _ (told_text outcome) c.tell-told.result c.tell-told.ensures.text) (sym c.code.ensures ∙ is)
