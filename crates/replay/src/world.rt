@@ -57,6 +57,7 @@ impl Model for ScriptWorld {
 
     ghost use Rattle.replay.specs.Lines.{entries_of, stop_of};
     ghost use Rattle.replay.specs.Fitting.{StopsRightly, last_moment};
+    ghost use Rattle.replay.specs.Range.{AreSayable};
 
     ghost view = { λ w. record {
       lines = entries_of w.lines.items;
@@ -68,7 +69,8 @@ impl Model for ScriptWorld {
 
     ghost invariant = { λ w. (w.used ≤ length w.lines.items) × (length w.lines.items ≤ 67108864) × (65507 ≤ vec_capacity w.octets) × (5155 ≤ vec_capacity w.wants)
         × StopsRightly (entries_of w.lines.items) w.used (stop_of w.stop w.octets.items w.wants.items)
-        × (w.moment ≡ last_moment (newest_onto w.used (entries_of w.lines.items) [])) };
+        × (w.moment ≡ last_moment (newest_onto w.used (entries_of w.lines.items) []))
+        × AreSayable (entries_of w.lines.items) };
 }
 
 fn may_read(asked: usize, answer: Io, len: usize) -> bool
@@ -957,6 +959,7 @@ impl ScriptWorld {
         ensures stopped { IsSome self.now.stop ↔ (self.now.live ≡ false) }
         ensures fits_none { StopsRightly self.now.lines self.now.used self.now.stop }
         ensures within { self.now.used ≤ length self.now.lines }
+        ensures readable { AreSayable self.now.lines }
     {
         let wanted = self.wanted();
         let line = self.used as u64 + 1;

@@ -16,6 +16,7 @@ use Rattle.slirp_core.specs.declared.service.End.{End}
 use Rattle.slirp_core.specs.declared.service.End.TheVariants.{Done, TooLong, Cut, LinkFault, WaitFault, TurnsSpent}
 use Rattle.replay.specs.Fitting.{FitsNone, StopsRightly, divergence_of}
 use Rattle.replay.specs.Names.{name_of}
+use Rattle.replay.specs.Range.{AreSayable}
 use Rattle.replay.specs.Script.{Script, IsFresh, script_tells, schedule_text, newest_onto}
 use Rattle.replay.specs.Text.{text, line_text, Fits}
 use Rattle.replay.specs.declared.Divergence.{Divergence}
@@ -46,6 +47,11 @@ first_left (suc n) (l ∷ lines) = first_left n lines
 none_left : (lines : List Entry) (n : ℕ) (call : Call) → FitsNone lines n call → FitsNone (drop n lines) 0 call
 none_left lines n call none e is of = none e (sym (first_left n lines) ∙ is) of
 
+sayable_left : (n : ℕ) (lines : List Entry) → AreSayable lines → AreSayable (drop n lines)
+sayable_left zero lines readable = readable
+sayable_left (suc n) [] readable = readable
+sayable_left (suc n) (l ∷ lines) readable = sayable_left n lines readable.1
+
 -- the call at which it stopped
 stopped_at : (stop : Option Call) (f : Call → Divergence) (divergence : Divergence) → option_map f stop ≡ Some divergence → (call : Call) × (stop ≡ Some call) × (divergence ≡ f call)
 stopped_at None f divergence is = cc
@@ -67,7 +73,7 @@ Ran end made = Lawful usual made × Finished usual made × (end ≡ end_of usual
 module _ (script new : Script) (end : End) (outcome : Outcome) (before after : Option (List ℕ)) (fresh : IsFresh script)
     (lives : new.live ≡ true → outcome ≡ outcome_of end)
     (dead : new.live ≡ false → (divergence : Divergence) × (outcome ≡ Diverged divergence) × (divergence_of new ≡ Some divergence))
-    (rightly : StopsRightly new.lines new.used new.stop) (within : new.used ≤ length new.lines)
+    (rightly : StopsRightly new.lines new.used new.stop) (within : new.used ≤ length new.lines) (readable : AreSayable new.lines)
     (put : after ≡ added (text (script_tells new).kept ++ end_line (code_of outcome)) before) where
   nothing_kept : (script_tells script).kept ≡ []
   nothing_kept = ap (λ n. newest_onto n script.lines []) fresh.used
@@ -90,6 +96,7 @@ module _ (script new : Script) (end : End) (outcome : Outcome) (before after : O
       let of : at.0 ≡ call_of e = subst (λ (o : Option Call). IfSome o (λ s. s ≡ call_of e)) at.1 stop in
       record {
         left = drop new.used new.lines;
+        readable = sayable_left new.used new.lines readable;
         rest = kept_then_left same;
         call = at.0;
         may = subst (λ k. May usual k at.0) kept (subst (May usual told) (sym of) may);

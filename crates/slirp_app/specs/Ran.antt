@@ -9,6 +9,7 @@ use Rattle.slirp_laws.specs.Shape.{Finished, phase}
 use Rattle.slirp_core.specs.Ends.{end_of}
 use Rattle.replay.specs.Fitting.{FitsNone}
 use Rattle.replay.specs.Names.{name_of}
+use Rattle.replay.specs.Range.{AreSayable}
 use Rattle.replay.specs.Script.{schedule_text}
 use Rattle.replay.specs.Text.{text, Fits}
 use Rattle.replay.specs.declared.Divergence.{Divergence}
@@ -39,9 +40,10 @@ pub record Replayed (status : ℕ) (schedule : List ℕ) (old new : Option (List
 abbrev pub IsAtEnd : Outcome → List Entry → Type 0
 IsAtEnd outcome journal = Finished usual journal × (outcome ≡ outcome_of (end_of usual (phase usual journal)))
 
--- The run ceased at a call that may come next and that fits no line: the lines that are left don't begin with one of this call and an answer that a World may give.
+-- The run ceased at a call that may come next and that fits no line: the lines that are left, as they are read, don't begin with one of this call and an answer that a World may give.
 pub record Ceased (schedule : List ℕ) (divergence : Divergence) (journal : List Entry) : Type 0 where
   pub left : List Entry
+  pub readable : AreSayable left
   pub rest : schedule ≡ text journal ++ schedule_text left
   pub call : Call
   pub may : May usual journal call

@@ -4,6 +4,7 @@ ghost use Rattle.std.specs.Option.{option_copied};
 ghost use Rattle.std.specs.String.{string_bytes};
 ghost use Rattle.host_policy.specs.Settings.{usual};
 ghost use Rattle.replay.specs.Fitting.{StopsRightly, divergence_of};
+ghost use Rattle.replay.specs.Range.{AreSayable};
 ghost use Rattle.replay.specs.Script.{IsFresh, schedule_text, script_tells};
 ghost use Rattle.replay.specs.Text.{text};
 ghost use Rattle.replay.specs.Unread.{IsFirstUnread};
@@ -144,6 +145,7 @@ fn ended(script: &ScriptWorld, end: End) -> Outcome
     ensures ceased { script.now.live ≡ false → (divergence : Divergence) × (result ≡ Diverged divergence) × (divergence_of script.now ≡ Some divergence) }
     ensures fits_none { StopsRightly script.now.lines script.now.used script.now.stop }
     ensures within { script.now.used ≤ length script.now.lines }
+    ensures readable { AreSayable script.now.lines }
     ensures ran { IsTrue (is_run (code_of result)) }
 {
     match script.divergence() {

@@ -1,4 +1,4 @@
-use Rattle.std.proofs.Common.{ℕ, ◌≡◌, ◌⊎◌, inl, inr, Result, Ok, Err, true, sym, subst, ap}
+use Rattle.std.proofs.Common.{ℕ, ◌≡◌, ◌⊎◌, inl, inr, Result, Err, true, sym, subst, ap}
 use Rattle.std.specs.Result.{is_ok}
 use Rattle.replay.specs.Unread.{IsFirstUnread}
 use Rattle.replay.specs.declared.ScriptFault.{ScriptFault}

@@ -10,7 +10,7 @@ use Rattle.slirp_app.proofs.running.replay_file.Goals as goal
 
 not_memory : (outcome : Outcome) (line : ℕ) → IsTrue (is_read (code_of outcome)) → (outcome ≡ ScheduleLine line) ⊎ (outcome ≡ NoMemory) → outcome ≡ ScheduleLine line
 not_memory outcome line read (inl is) = is
-not_memory outcome line read (inr is) = cc (read, ap (λ o. is_read (code_of o)) is)
+not_memory outcome line read (inr is) = cc
 
 pub returns-in-Ok-clause-calls : goal.returns-in-Ok-clause-calls
 returns-in-Ok-clause-calls g c =

@@ -21,7 +21,7 @@ returns-in-Ok-put_record-clause-came g c =
     let makes = subst (λ (k : Config). Makes (script_tells c.args.script) (script_tells new) (λ made. Lawful k made × Finished k made × (end ≡ end_of k (phase k made)))) settings c.serve-end.ensures.makes in
     let put = c.put_record.ensures.ok (ap is_ok c.in-Ok-put_record.is) ∙ ap (λ n. added (text (script_tells new).kept ++ end_line n) (g.K.Sink.holds c.args.out.now)) c.code.ensures in
     let left = c.ended-outcome.ensures in
-    replayed c.args.script new end c.ended-outcome.result (g.K.Sink.holds c.args.out.now) (g.K.Sink.holds c.put_record.new.out) c.requires left.lives left.ceased left.fits_none left.within put makes
+    replayed c.args.script new end c.ended-outcome.result (g.K.Sink.holds c.args.out.now) (g.K.Sink.holds c.put_record.new.out) c.requires left.lives left.ceased left.fits_none left.within left.readable put makes
 
 pub returns-clause-refused : goal.returns-clause-refused
 returns-clause-refused g c is = c.put_record.ensures.err (ap is_err c.in-Err.is)

@@ -70,10 +70,10 @@ pub returns-clause-misspelt : goal.returns-clause-misspelt
 returns-clause-misspelt g c is =
     let new = c.run_words-outcome.new in
     subst (λ n. Makes (g.W.World.tells c.args.world.now) (g.W.World.tells new.world) (λ made. (n ≡ 4) ↔ (line : ℕ) × IsFirstUnread (octets_read made) line))
-        (sym c.code.ensures) (causing.misspelt _ _ (map string_bytes c.args.words.now.items) _ _ c.run_words-outcome.result c.run_words-outcome.ensures.calls (subst (λ n. IsTrue (is_read n)) c.code.ensures is))
+    (sym c.code.ensures) (causing.misspelt _ _ (map string_bytes c.args.words.now.items) _ _ c.run_words-outcome.result c.run_words-outcome.ensures.calls (subst (λ n. IsTrue (is_read n)) c.code.ensures is))
 
 pub returns-clause-named : goal.returns-clause-named
 returns-clause-named g c is =
     let outcome = c.run_words-outcome.result in
     causing.named _ _ (map string_bytes c.args.words.now.items) _ _ (λ o. Got (g.E.Sink.holds c.args.err.now) (g.E.Sink.holds c.tell-told.new.err) (g.E.Sink.faults c.args.err.now) (g.E.Sink.faults c.tell-told.new.err) o)
-        outcome c.run_words-outcome.ensures.calls (causing.got _ _ _ _ (told_text outcome) c.tell-told.result c.tell-told.ensures.text) (sym c.code.ensures ∙ is)
+    outcome c.run_words-outcome.ensures.calls (causing.got _ _ _ _ (told_text outcome) c.tell-told.result c.tell-told.ensures.text) (sym c.code.ensures ∙ is)
