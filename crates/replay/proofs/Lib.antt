@@ -1,7 +1,13 @@
+pub mod Bodies
+pub mod Calls
 pub mod Entries
 pub mod Following
 pub mod Joining
 pub mod Lower
+pub mod Parting
 pub mod Putting
+pub mod Refusing
 pub mod Scheduling
 pub mod Splitting
+pub mod Words
+pub mod Unreading

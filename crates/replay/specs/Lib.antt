@@ -2,6 +2,8 @@ pub mod Fitting
 pub mod Lines
 pub mod Names
 pub mod Pieces
+pub mod Range
 pub mod Script
 pub mod Spelling
 pub mod Text
+pub mod Unread

@@ -1,11 +1,25 @@
 // Lines, read whole.
 #![tactic(auto, unfolding(crate::specs::Text::call_text, crate::specs::Text::answer_text))]
 
-ghost use Rattle.std.specs.Prelude.{◌≡◌, ◌++◌, ◌∷◌, [], ℕ, List, IfOk, IsTrue, ◌↔◌, codes, decimal};
+ghost use Rattle.std.specs.Prelude.{◌≡◌, ◌≢◌, ◌++◌, ◌∷◌, [], ℕ, List, Err, IfOk, OnErr, IsTrue, ◌↔◌, codes, decimal, length};
 ghost use Rattle.replay.specs.Names.{name_text};
 ghost use Rattle.replay.specs.Lines.{entry_of, place_at};
 ghost use Rattle.replay.specs.Text.{hexadecimal, endpoint_text, place_text, made_text, read_text, written_text, joined_answer, accepted_text, sent_text, got_text, size_text, waited_text, line_text};
-ghost use Rattle.replay.specs.Spelling.{IsSpelt};
+ghost use Rattle.net_octets.specs.declared.Endpoint.{Endpoint as AnEndpoint};
+ghost use Rattle.poll_list.specs.declared.Want.{Want as AWant};
+ghost use Rattle.world_face.specs.declared.Io.{Io as AnIo};
+ghost use Rattle.world_face.specs.declared.Made.{Made as AMade};
+ghost use Rattle.world_face.specs.declared.Joined.{Joined as AJoined};
+ghost use Rattle.world_face.specs.declared.Accepted.{Accepted as AnAccepted};
+ghost use Rattle.world_face.specs.declared.Sent.{Sent as ASent};
+ghost use Rattle.world_face.specs.declared.Got.{Got as AGot};
+ghost use Rattle.world_face.specs.declared.FileSize.{FileSize as ASize};
+ghost use Rattle.world_face.specs.declared.Waited.{Waited as AWaited};
+ghost use Rattle.world_face.specs.Journal.{Place, Entry, AreOctets, IsEndpoint, IsNumber, IsPlace, MayAccept, MayMeasure, Leaves, LeavesGot};
+ghost use Rattle.replay.specs.declared.CallName.TheVariants.{Wait, LinkOpen, LinkRead, LinkWrite, Connect, Connected, Listen, Accept, TcpRead, TcpWrite, TcpEnd, Close, UdpOpen, UdpSend, UdpRecv, FileLen, FileRead};
+ghost use Rattle.replay.specs.declared.tokens.Unread.TheVariants.{NoReading};
+ghost use Rattle.replay.specs.Range.{LeavesReady, Counts, IsAtOnce, ComesFrom, IsSayable};
+ghost use Rattle.replay.specs.Spelling.{IsSpelt, Says};
 
 use crate::CallName;
 use crate::line::{Line, Seat};
@@ -18,7 +32,9 @@ use world_face::{Accepted, Endpoint, FileSize, Got, Io, Joined, Made, Sent, Wait
 
 // A line without its line feed.
 pub fn read_line(alloc: Global, text: &[u8]) -> Result<Line, Unread>
-    ensures { IfOk result (λ line. text.now ++ 10 ∷ [] ≡ line_text (entry_of line)) }
+    ensures line { IfOk result (λ line. text.now ++ 10 ∷ [] ≡ line_text (entry_of line)) }
+    ensures range { IfOk result (λ line. IsSayable (entry_of line)) }
+    ensures refused { result ≡ Err NoReading → (e : Entry) → IsSayable e → text.now ++ 10 ∷ [] ≢ line_text e }
 {
     let (call, answer) = split_answer(text)?;
     let line = read_call(alloc, call, answer)?;
@@ -26,7 +42,9 @@ pub fn read_line(alloc: Global, text: &[u8]) -> Result<Line, Unread>
 }
 
 fn split_answer(text: &[u8]) -> Result<(&[u8], &[u8]), Unread>
-    ensures { IfOk result (λ parts. text.now ≡ parts.0.now ++ codes " = " ++ parts.1.now) }
+    ensures parts { IfOk result (λ parts. text.now ≡ parts.0.now ++ codes " = " ++ parts.1.now) }
+    ensures refused { OnErr result ((e : Entry) → IsSayable e → text.now ++ 10 ∷ [] ≢ line_text e) }
+    ensures only { IfOk result (λ parts. (e : Entry) → IsSayable e → text.now ++ 10 ∷ [] ≡ line_text e → IsSpelt parts.0.now parts.1.now e) }
 {
     let (before, after) = split_at(text, b'=')?;
     let call = before_space(before)?;
@@ -35,7 +53,8 @@ fn split_answer(text: &[u8]) -> Result<(&[u8], &[u8]), Unread>
 }
 
 fn before_space(text: &[u8]) -> Result<&[u8], Unread>
-    ensures { IfOk result (λ rest. text.now ≡ rest.now ++ 32 ∷ []) }
+    ensures rest { IfOk result (λ rest. text.now ≡ rest.now ++ 32 ∷ []) }
+    ensures refused { OnErr result ((rest : List ℕ) → text.now ≢ rest ++ 32 ∷ []) }
 {
     match text {
         [rest @ .., b' '] => Ok(rest),
@@ -44,7 +63,8 @@ fn before_space(text: &[u8]) -> Result<&[u8], Unread>
 }
 
 fn after_space(text: &[u8]) -> Result<&[u8], Unread>
-    ensures { IfOk result (λ rest. text.now ≡ 32 ∷ rest.now) }
+    ensures rest { IfOk result (λ rest. text.now ≡ 32 ∷ rest.now) }
+    ensures refused { OnErr result ((rest : List ℕ) → text.now ≢ 32 ∷ rest) }
 {
     match text {
         [b' ', rest @ ..] => Ok(rest),
@@ -53,7 +73,9 @@ fn after_space(text: &[u8]) -> Result<&[u8], Unread>
 }
 
 fn read_call(alloc: Global, call: &[u8], answer: &[u8]) -> Result<Line, Unread>
-    ensures { IfOk result (λ line. IsSpelt call.now answer.now (entry_of line)) }
+    ensures line { IfOk result (λ line. IsSpelt call.now answer.now (entry_of line)) }
+    ensures range { IfOk result (λ line. IsSayable (entry_of line)) }
+    ensures refused { result ≡ Err NoReading → (e : Entry) → IsSayable e → ¬ IsSpelt call.now answer.now e }
 {
     if is_now(call) {
         return read_now(answer);
@@ -71,7 +93,9 @@ fn is_now(call: &[u8]) -> bool
 }
 
 fn read_named(alloc: Global, name: CallName, args: &[u8], answer: &[u8]) -> Result<Line, Unread>
-    ensures { IfOk result (λ line. IsSpelt (name_text name ++ 32 ∷ args.now) answer.now (entry_of line)) }
+    ensures line { IfOk result (λ line. IsSpelt (name_text name ++ 32 ∷ args.now) answer.now (entry_of line)) }
+    ensures range { IfOk result (λ line. IsSayable (entry_of line)) }
+    ensures refused { result ≡ Err NoReading → (e : Entry) → ¬ Says name args.now answer.now e }
 {
     match name {
         CallName::Now => Err(Unread::NoReading),
@@ -96,14 +120,18 @@ fn read_named(alloc: Global, name: CallName, args: &[u8], answer: &[u8]) -> Resu
 }
 
 fn read_now(answer: &[u8]) -> Result<Line, Unread>
-    ensures { IfOk result (λ line. IsSpelt (codes "now") answer.now (entry_of line)) }
+    ensures line { IfOk result (λ line. IsSpelt (codes "now") answer.now (entry_of line)) }
+    ensures range { IfOk result (λ line. IsSayable (entry_of line)) }
+    ensures refused { OnErr result ((moment : ℕ) → IsNumber moment → answer.now ≢ decimal moment) }
 {
     let moment = read_number(answer)?;
     Ok(Line::Now(moment))
 }
 
 fn read_wait(alloc: Global, args: &[u8], answer: &[u8]) -> Result<Line, Unread>
-    ensures { IfOk result (λ line. IsSpelt (codes "wait" ++ 32 ∷ args.now) answer.now (entry_of line)) }
+    ensures line { IfOk result (λ line. IsSpelt (codes "wait" ++ 32 ∷ args.now) answer.now (entry_of line)) }
+    ensures range { IfOk result (λ line. IsSayable (entry_of line)) }
+    ensures refused { result ≡ Err NoReading → (e : Entry) → ¬ Says Wait args.now answer.now e }
 {
     let (time, list) = split_at(args, b' ')?;
     let timeout = read_timeout(time)?;
@@ -113,7 +141,9 @@ fn read_wait(alloc: Global, args: &[u8], answer: &[u8]) -> Result<Line, Unread>
 }
 
 fn read_link_open(alloc: Global, args: &[u8], answer: &[u8]) -> Result<Line, Unread>
-    ensures { IfOk result (λ line. IsSpelt (codes "lopen" ++ 32 ∷ args.now) answer.now (entry_of line)) }
+    ensures line { IfOk result (λ line. IsSpelt (codes "lopen" ++ 32 ∷ args.now) answer.now (entry_of line)) }
+    ensures range { IfOk result (λ line. IsSayable (entry_of line)) }
+    ensures refused { result ≡ Err NoReading → (e : Entry) → ¬ Says LinkOpen args.now answer.now e }
 {
     let text = read_octets(alloc, args)?;
     let seat = read_seat(alloc, &text)?;
@@ -122,7 +152,9 @@ fn read_link_open(alloc: Global, args: &[u8], answer: &[u8]) -> Result<Line, Unr
 }
 
 fn read_link_read(alloc: Global, args: &[u8], answer: &[u8]) -> Result<Line, Unread>
-    ensures { IfOk result (λ line. IsSpelt (codes "lread" ++ 32 ∷ args.now) answer.now (entry_of line)) }
+    ensures line { IfOk result (λ line. IsSpelt (codes "lread" ++ 32 ∷ args.now) answer.now (entry_of line)) }
+    ensures range { IfOk result (λ line. IsSayable (entry_of line)) }
+    ensures refused { result ≡ Err NoReading → (e : Entry) → ¬ Says LinkRead args.now answer.now e }
 {
     let asked = read_number(args)?;
     let (read, octets) = read_read(alloc, answer)?;
@@ -130,7 +162,9 @@ fn read_link_read(alloc: Global, args: &[u8], answer: &[u8]) -> Result<Line, Unr
 }
 
 fn read_link_write(alloc: Global, args: &[u8], answer: &[u8]) -> Result<Line, Unread>
-    ensures { IfOk result (λ line. IsSpelt (codes "lwrite" ++ 32 ∷ args.now) answer.now (entry_of line)) }
+    ensures line { IfOk result (λ line. IsSpelt (codes "lwrite" ++ 32 ∷ args.now) answer.now (entry_of line)) }
+    ensures range { IfOk result (λ line. IsSayable (entry_of line)) }
+    ensures refused { result ≡ Err NoReading → (e : Entry) → ¬ Says LinkWrite args.now answer.now e }
 {
     let octets = read_octets(alloc, args)?;
     let written = read_written(answer)?;
@@ -138,7 +172,9 @@ fn read_link_write(alloc: Global, args: &[u8], answer: &[u8]) -> Result<Line, Un
 }
 
 fn read_connect(args: &[u8], answer: &[u8]) -> Result<Line, Unread>
-    ensures { IfOk result (λ line. IsSpelt (codes "connect" ++ 32 ∷ args.now) answer.now (entry_of line)) }
+    ensures line { IfOk result (λ line. IsSpelt (codes "connect" ++ 32 ∷ args.now) answer.now (entry_of line)) }
+    ensures range { IfOk result (λ line. IsSayable (entry_of line)) }
+    ensures refused { result ≡ Err NoReading → (e : Entry) → ¬ Says Connect args.now answer.now e }
 {
     let (socket, to) = read_socket_at(args)?;
     let made = read_made(answer)?;
@@ -146,7 +182,9 @@ fn read_connect(args: &[u8], answer: &[u8]) -> Result<Line, Unread>
 }
 
 fn read_connected(args: &[u8], answer: &[u8]) -> Result<Line, Unread>
-    ensures { IfOk result (λ line. IsSpelt (codes "connected" ++ 32 ∷ args.now) answer.now (entry_of line)) }
+    ensures line { IfOk result (λ line. IsSpelt (codes "connected" ++ 32 ∷ args.now) answer.now (entry_of line)) }
+    ensures range { IfOk result (λ line. IsSayable (entry_of line)) }
+    ensures refused { result ≡ Err NoReading → (e : Entry) → ¬ Says Connected args.now answer.now e }
 {
     let socket = read_number(args)?;
     let joined = read_joined(answer)?;
@@ -154,7 +192,9 @@ fn read_connected(args: &[u8], answer: &[u8]) -> Result<Line, Unread>
 }
 
 fn read_listen(args: &[u8], answer: &[u8]) -> Result<Line, Unread>
-    ensures { IfOk result (λ line. IsSpelt (codes "listen" ++ 32 ∷ args.now) answer.now (entry_of line)) }
+    ensures line { IfOk result (λ line. IsSpelt (codes "listen" ++ 32 ∷ args.now) answer.now (entry_of line)) }
+    ensures range { IfOk result (λ line. IsSayable (entry_of line)) }
+    ensures refused { result ≡ Err NoReading → (e : Entry) → ¬ Says Listen args.now answer.now e }
 {
     let (socket, at) = read_socket_at(args)?;
     let made = read_made(answer)?;
@@ -162,7 +202,9 @@ fn read_listen(args: &[u8], answer: &[u8]) -> Result<Line, Unread>
 }
 
 fn read_accept(args: &[u8], answer: &[u8]) -> Result<Line, Unread>
-    ensures { IfOk result (λ line. IsSpelt (codes "accept" ++ 32 ∷ args.now) answer.now (entry_of line)) }
+    ensures line { IfOk result (λ line. IsSpelt (codes "accept" ++ 32 ∷ args.now) answer.now (entry_of line)) }
+    ensures range { IfOk result (λ line. IsSayable (entry_of line)) }
+    ensures refused { result ≡ Err NoReading → (e : Entry) → ¬ Says Accept args.now answer.now e }
 {
     let (listener, socket) = read_two_numbers(args)?;
     let accepted = read_accepted(answer)?;
@@ -170,7 +212,9 @@ fn read_accept(args: &[u8], answer: &[u8]) -> Result<Line, Unread>
 }
 
 fn read_tcp_read(alloc: Global, args: &[u8], answer: &[u8]) -> Result<Line, Unread>
-    ensures { IfOk result (λ line. IsSpelt (codes "tread" ++ 32 ∷ args.now) answer.now (entry_of line)) }
+    ensures line { IfOk result (λ line. IsSpelt (codes "tread" ++ 32 ∷ args.now) answer.now (entry_of line)) }
+    ensures range { IfOk result (λ line. IsSayable (entry_of line)) }
+    ensures refused { result ≡ Err NoReading → (e : Entry) → ¬ Says TcpRead args.now answer.now e }
 {
     let (socket, asked) = read_two_numbers(args)?;
     let (read, octets) = read_read(alloc, answer)?;
@@ -178,7 +222,9 @@ fn read_tcp_read(alloc: Global, args: &[u8], answer: &[u8]) -> Result<Line, Unre
 }
 
 fn read_tcp_write(alloc: Global, args: &[u8], answer: &[u8]) -> Result<Line, Unread>
-    ensures { IfOk result (λ line. IsSpelt (codes "twrite" ++ 32 ∷ args.now) answer.now (entry_of line)) }
+    ensures line { IfOk result (λ line. IsSpelt (codes "twrite" ++ 32 ∷ args.now) answer.now (entry_of line)) }
+    ensures range { IfOk result (λ line. IsSayable (entry_of line)) }
+    ensures refused { result ≡ Err NoReading → (e : Entry) → ¬ Says TcpWrite args.now answer.now e }
 {
     let (first, second) = split_at(args, b' ')?;
     let socket = read_number(first)?;
@@ -188,7 +234,9 @@ fn read_tcp_write(alloc: Global, args: &[u8], answer: &[u8]) -> Result<Line, Unr
 }
 
 fn read_tcp_end(args: &[u8], answer: &[u8]) -> Result<Line, Unread>
-    ensures { IfOk result (λ line. IsSpelt (codes "tend" ++ 32 ∷ args.now) answer.now (entry_of line)) }
+    ensures line { IfOk result (λ line. IsSpelt (codes "tend" ++ 32 ∷ args.now) answer.now (entry_of line)) }
+    ensures range { IfOk result (λ line. IsSayable (entry_of line)) }
+    ensures refused { result ≡ Err NoReading → (e : Entry) → ¬ Says TcpEnd args.now answer.now e }
 {
     let socket = read_number(args)?;
     let made = read_made(answer)?;
@@ -196,7 +244,9 @@ fn read_tcp_end(args: &[u8], answer: &[u8]) -> Result<Line, Unread>
 }
 
 fn read_close(args: &[u8], answer: &[u8]) -> Result<Line, Unread>
-    ensures { IfOk result (λ line. IsSpelt (codes "close" ++ 32 ∷ args.now) answer.now (entry_of line)) }
+    ensures line { IfOk result (λ line. IsSpelt (codes "close" ++ 32 ∷ args.now) answer.now (entry_of line)) }
+    ensures range { IfOk result (λ line. IsSayable (entry_of line)) }
+    ensures refused { result ≡ Err NoReading → (e : Entry) → ¬ Says Close args.now answer.now e }
 {
     let socket = read_number(args)?;
     match answer {
@@ -206,7 +256,9 @@ fn read_close(args: &[u8], answer: &[u8]) -> Result<Line, Unread>
 }
 
 fn read_udp_open(args: &[u8], answer: &[u8]) -> Result<Line, Unread>
-    ensures { IfOk result (λ line. IsSpelt (codes "uopen" ++ 32 ∷ args.now) answer.now (entry_of line)) }
+    ensures line { IfOk result (λ line. IsSpelt (codes "uopen" ++ 32 ∷ args.now) answer.now (entry_of line)) }
+    ensures range { IfOk result (λ line. IsSayable (entry_of line)) }
+    ensures refused { result ≡ Err NoReading → (e : Entry) → ¬ Says UdpOpen args.now answer.now e }
 {
     let (socket, at) = read_socket_at(args)?;
     let made = read_made(answer)?;
@@ -214,7 +266,9 @@ fn read_udp_open(args: &[u8], answer: &[u8]) -> Result<Line, Unread>
 }
 
 fn read_udp_send(alloc: Global, args: &[u8], answer: &[u8]) -> Result<Line, Unread>
-    ensures { IfOk result (λ line. IsSpelt (codes "usend" ++ 32 ∷ args.now) answer.now (entry_of line)) }
+    ensures line { IfOk result (λ line. IsSpelt (codes "usend" ++ 32 ∷ args.now) answer.now (entry_of line)) }
+    ensures range { IfOk result (λ line. IsSayable (entry_of line)) }
+    ensures refused { result ≡ Err NoReading → (e : Entry) → ¬ Says UdpSend args.now answer.now e }
 {
     let (first, rest) = split_at(args, b' ')?;
     let (second, third) = split_at(rest, b' ')?;
@@ -226,7 +280,9 @@ fn read_udp_send(alloc: Global, args: &[u8], answer: &[u8]) -> Result<Line, Unre
 }
 
 fn read_udp_recv(alloc: Global, args: &[u8], answer: &[u8]) -> Result<Line, Unread>
-    ensures { IfOk result (λ line. IsSpelt (codes "urecv" ++ 32 ∷ args.now) answer.now (entry_of line)) }
+    ensures line { IfOk result (λ line. IsSpelt (codes "urecv" ++ 32 ∷ args.now) answer.now (entry_of line)) }
+    ensures range { IfOk result (λ line. IsSayable (entry_of line)) }
+    ensures refused { result ≡ Err NoReading → (e : Entry) → ¬ Says UdpRecv args.now answer.now e }
 {
     let (socket, asked) = read_two_numbers(args)?;
     let (got, octets) = read_got(alloc, answer)?;
@@ -234,7 +290,9 @@ fn read_udp_recv(alloc: Global, args: &[u8], answer: &[u8]) -> Result<Line, Unre
 }
 
 fn read_file_len(alloc: Global, args: &[u8], answer: &[u8]) -> Result<Line, Unread>
-    ensures { IfOk result (λ line. IsSpelt (codes "flen" ++ 32 ∷ args.now) answer.now (entry_of line)) }
+    ensures line { IfOk result (λ line. IsSpelt (codes "flen" ++ 32 ∷ args.now) answer.now (entry_of line)) }
+    ensures range { IfOk result (λ line. IsSayable (entry_of line)) }
+    ensures refused { result ≡ Err NoReading → (e : Entry) → ¬ Says FileLen args.now answer.now e }
 {
     let name = read_octets(alloc, args)?;
     let size = read_size(answer)?;
@@ -242,7 +300,9 @@ fn read_file_len(alloc: Global, args: &[u8], answer: &[u8]) -> Result<Line, Unre
 }
 
 fn read_file_read(alloc: Global, args: &[u8], answer: &[u8]) -> Result<Line, Unread>
-    ensures { IfOk result (λ line. IsSpelt (codes "fread" ++ 32 ∷ args.now) answer.now (entry_of line)) }
+    ensures line { IfOk result (λ line. IsSpelt (codes "fread" ++ 32 ∷ args.now) answer.now (entry_of line)) }
+    ensures range { IfOk result (λ line. IsSayable (entry_of line)) }
+    ensures refused { result ≡ Err NoReading → (e : Entry) → ¬ Says FileRead args.now answer.now e }
 {
     let (first, rest) = split_at(args, b' ')?;
     let (second, third) = split_at(rest, b' ')?;
@@ -254,7 +314,9 @@ fn read_file_read(alloc: Global, args: &[u8], answer: &[u8]) -> Result<Line, Unr
 }
 
 fn read_socket_at(args: &[u8]) -> Result<(u64, Endpoint), Unread>
-    ensures { IfOk result (λ pair. args.now ≡ decimal pair.0 ++ 32 ∷ endpoint_text pair.1) }
+    ensures pair { IfOk result (λ pair. args.now ≡ decimal pair.0 ++ 32 ∷ endpoint_text pair.1) }
+    ensures range { IfOk result (λ pair. IsNumber pair.0 × IsEndpoint pair.1) }
+    ensures refused { OnErr result ((socket : ℕ) (at : AnEndpoint) → IsNumber socket → IsEndpoint at → args.now ≢ decimal socket ++ 32 ∷ endpoint_text at) }
 {
     let (first, second) = split_at(args, b' ')?;
     let socket = read_number(first)?;
@@ -263,7 +325,9 @@ fn read_socket_at(args: &[u8]) -> Result<(u64, Endpoint), Unread>
 }
 
 fn read_two_numbers(args: &[u8]) -> Result<(u64, u64), Unread>
-    ensures { IfOk result (λ pair. args.now ≡ decimal pair.0 ++ 32 ∷ decimal pair.1) }
+    ensures pair { IfOk result (λ pair. args.now ≡ decimal pair.0 ++ 32 ∷ decimal pair.1) }
+    ensures range { IfOk result (λ pair. IsNumber pair.0 × IsNumber pair.1) }
+    ensures refused { OnErr result ((one other : ℕ) → IsNumber one → IsNumber other → args.now ≢ decimal one ++ 32 ∷ decimal other) }
 {
     let (first, second) = split_at(args, b' ')?;
     let one = read_number(first)?;
@@ -271,21 +335,42 @@ fn read_two_numbers(args: &[u8]) -> Result<(u64, u64), Unread>
     Ok((one, other))
 }
 
-// The place of the link, as on the command line.
+// The place of the link, as on the command line. A path isn't empty.
 fn read_seat(alloc: Global, text: &[u8]) -> Result<Seat, Unread>
-    ensures { IfOk result (λ seat. text.now ≡ place_text (place_at seat)) }
+    ensures seat { IfOk result (λ seat. text.now ≡ place_text (place_at seat)) }
+    ensures range { IfOk result (λ seat. IsPlace (place_at seat)) }
+    ensures refused { result ≡ Err NoReading → (place : Place) → IsPlace place → text.now ≢ place_text place }
 {
     let (kind, place) = split_at(text, b':')?;
-    match kind {
-        b"unix" => copy_path(alloc, place),
-        b"tcp" => Ok(Seat::At(read_endpoint(place)?)),
-        _ => Err(Unread::NoReading),
+    if is_unix(kind) {
+        return copy_path(alloc, place);
     }
+    if is_tcp(kind) {
+        return Ok(Seat::At(read_endpoint(place)?));
+    }
+    Err(Unread::NoReading)
+}
+
+fn is_unix(kind: &[u8]) -> bool
+    ensures { IsTrue result ↔ (kind.now ≡ codes "unix") }
+{
+    matches!(kind, b"unix")
+}
+
+fn is_tcp(kind: &[u8]) -> bool
+    ensures { IsTrue result ↔ (kind.now ≡ codes "tcp") }
+{
+    matches!(kind, b"tcp")
 }
 
 fn copy_path(alloc: Global, path: &[u8]) -> Result<Seat, Unread>
-    ensures { IfOk result (λ seat. codes "unix:" ++ path.now ≡ place_text (place_at seat)) }
+    ensures seat { IfOk result (λ seat. codes "unix:" ++ path.now ≡ place_text (place_at seat)) }
+    ensures range { IfOk result (λ seat. IsPlace (place_at seat)) }
+    ensures refused { result ≡ Err NoReading → length path.now ≡ 0 }
 {
+    if path.is_empty() {
+        return Err(Unread::NoReading);
+    }
     match Vec::from_slice(alloc, path) {
         Ok(path) => Ok(Seat::Path(path)),
         Err(_) => Err(Unread::NoMemory),
@@ -293,7 +378,9 @@ fn copy_path(alloc: Global, path: &[u8]) -> Result<Seat, Unread>
 }
 
 fn read_waited(alloc: Global, text: &[u8]) -> Result<(Waited, Vec<Want>), Unread>
-    ensures { IfOk result (λ pair. text.now ≡ waited_text pair.0 pair.1.items) }
+    ensures answer { IfOk result (λ pair. text.now ≡ waited_text pair.0 pair.1.items) }
+    ensures range { IfOk result (λ pair. LeavesReady pair.0 pair.1.items) }
+    ensures refused { result ≡ Err NoReading → (answer : AWaited) (ready : List AWant) → LeavesReady answer ready → text.now ≢ waited_text answer ready }
 {
     match text {
         b"ready" => Ok((Waited::Ready, Vec::new(alloc))),
@@ -307,7 +394,8 @@ fn read_waited(alloc: Global, text: &[u8]) -> Result<(Waited, Vec<Want>), Unread
 }
 
 fn read_made(text: &[u8]) -> Result<Made, Unread>
-    ensures { IfOk result (λ answer. text.now ≡ made_text answer) }
+    ensures answer { IfOk result (λ answer. text.now ≡ made_text answer) }
+    ensures refused { OnErr result ((answer : AMade) → text.now ≢ made_text answer) }
 {
     match text {
         b"done" => Ok(Made::Done),
@@ -317,7 +405,9 @@ fn read_made(text: &[u8]) -> Result<Made, Unread>
 }
 
 fn read_read(alloc: Global, text: &[u8]) -> Result<(Io, Vec<u8>), Unread>
-    ensures { IfOk result (λ pair. text.now ≡ read_text pair.0 pair.1.items) }
+    ensures answer { IfOk result (λ pair. text.now ≡ read_text pair.0 pair.1.items) }
+    ensures range { IfOk result (λ pair. Leaves pair.0 pair.1.items) }
+    ensures refused { result ≡ Err NoReading → (answer : AnIo) (octets : List ℕ) → Leaves answer octets → text.now ≢ read_text answer octets }
 {
     match text {
         b"end" => Ok((Io::End, Vec::new(alloc))),
@@ -327,7 +417,10 @@ fn read_read(alloc: Global, text: &[u8]) -> Result<(Io, Vec<u8>), Unread>
 }
 
 fn read_file_answer(alloc: Global, text: &[u8]) -> Result<(Io, Vec<u8>), Unread>
-    ensures { IfOk result (λ pair. text.now ≡ read_text pair.0 pair.1.items) }
+    ensures answer { IfOk result (λ pair. text.now ≡ read_text pair.0 pair.1.items) }
+    ensures range { IfOk result (λ pair. Leaves pair.0 pair.1.items) }
+    ensures at_once { IfOk result (λ pair. IsAtOnce pair.0) }
+    ensures refused { result ≡ Err NoReading → (answer : AnIo) (octets : List ℕ) → IsAtOnce answer → Leaves answer octets → text.now ≢ read_text answer octets }
 {
     match text {
         b"end" => Ok((Io::End, Vec::new(alloc))),
@@ -336,7 +429,11 @@ fn read_file_answer(alloc: Global, text: &[u8]) -> Result<(Io, Vec<u8>), Unread>
 }
 
 fn read_file_done(alloc: Global, text: &[u8]) -> Result<(Io, Vec<u8>), Unread>
-    ensures { IfOk result (λ pair. text.now ≡ read_text pair.0 pair.1.items) }
+    ensures answer { IfOk result (λ pair. text.now ≡ read_text pair.0 pair.1.items) }
+    ensures range { IfOk result (λ pair. Leaves pair.0 pair.1.items) }
+    ensures at_once { IfOk result (λ pair. IsAtOnce pair.0) }
+    ensures done { result ≡ Err NoReading → (octets : List ℕ) → AreOctets octets → text.now ≢ codes "done " ++ hexadecimal octets }
+    ensures fail { result ≡ Err NoReading → text.now ≢ codes "fail" }
 {
     match text {
         b"fail" => Ok((Io::Failed, Vec::new(alloc))),
@@ -349,7 +446,9 @@ fn read_file_done(alloc: Global, text: &[u8]) -> Result<(Io, Vec<u8>), Unread>
 }
 
 fn read_written(text: &[u8]) -> Result<Io, Unread>
-    ensures { IfOk result (λ answer. text.now ≡ written_text answer) }
+    ensures answer { IfOk result (λ answer. text.now ≡ written_text answer) }
+    ensures range { IfOk result (λ answer. Counts answer) }
+    ensures refused { OnErr result ((answer : AnIo) → Counts answer → text.now ≢ written_text answer) }
 {
     match text {
         b"notyet" => Ok(Io::NotYet),
@@ -360,7 +459,8 @@ fn read_written(text: &[u8]) -> Result<Io, Unread>
 }
 
 fn read_joined(text: &[u8]) -> Result<Joined, Unread>
-    ensures { IfOk result (λ answer. text.now ≡ joined_answer answer) }
+    ensures answer { IfOk result (λ answer. text.now ≡ joined_answer answer) }
+    ensures refused { OnErr result ((answer : AJoined) → text.now ≢ joined_answer answer) }
 {
     match text {
         b"yes" => Ok(Joined::Yes),
@@ -371,7 +471,9 @@ fn read_joined(text: &[u8]) -> Result<Joined, Unread>
 }
 
 fn read_accepted(text: &[u8]) -> Result<Accepted, Unread>
-    ensures { IfOk result (λ answer. text.now ≡ accepted_text answer) }
+    ensures answer { IfOk result (λ answer. text.now ≡ accepted_text answer) }
+    ensures range { IfOk result (λ answer. MayAccept answer) }
+    ensures refused { OnErr result ((answer : AnAccepted) → MayAccept answer → text.now ≢ accepted_text answer) }
 {
     match text {
         b"notyet" => Ok(Accepted::NotYet),
@@ -382,7 +484,8 @@ fn read_accepted(text: &[u8]) -> Result<Accepted, Unread>
 }
 
 fn read_sent(text: &[u8]) -> Result<Sent, Unread>
-    ensures { IfOk result (λ answer. text.now ≡ sent_text answer) }
+    ensures answer { IfOk result (λ answer. text.now ≡ sent_text answer) }
+    ensures refused { OnErr result ((answer : ASent) → text.now ≢ sent_text answer) }
 {
     match text {
         b"done" => Ok(Sent::Done),
@@ -393,7 +496,9 @@ fn read_sent(text: &[u8]) -> Result<Sent, Unread>
 }
 
 fn read_got(alloc: Global, text: &[u8]) -> Result<(Got, Vec<u8>), Unread>
-    ensures { IfOk result (λ pair. text.now ≡ got_text pair.0 pair.1.items) }
+    ensures answer { IfOk result (λ pair. text.now ≡ got_text pair.0 pair.1.items) }
+    ensures range { IfOk result (λ pair. ComesFrom pair.0 × LeavesGot pair.0 pair.1.items) }
+    ensures refused { result ≡ Err NoReading → (answer : AGot) (octets : List ℕ) → ComesFrom answer → LeavesGot answer octets → text.now ≢ got_text answer octets }
 {
     match text {
         b"notyet" => Ok((Got::NotYet, Vec::new(alloc))),
@@ -404,7 +509,9 @@ fn read_got(alloc: Global, text: &[u8]) -> Result<(Got, Vec<u8>), Unread>
 }
 
 fn read_datagram(alloc: Global, text: &[u8]) -> Result<(Got, Vec<u8>), Unread>
-    ensures { IfOk result (λ pair. codes "from " ++ text.now ≡ got_text pair.0 pair.1.items) }
+    ensures answer { IfOk result (λ pair. codes "from " ++ text.now ≡ got_text pair.0 pair.1.items) }
+    ensures range { IfOk result (λ pair. ComesFrom pair.0 × LeavesGot pair.0 pair.1.items) }
+    ensures refused { result ≡ Err NoReading → (peer : AnEndpoint) (octets : List ℕ) → IsEndpoint peer → AreOctets octets → text.now ≢ endpoint_text peer ++ 32 ∷ hexadecimal octets }
 {
     let (first, second) = split_at(text, b' ')?;
     let peer = read_endpoint(first)?;
@@ -413,7 +520,9 @@ fn read_datagram(alloc: Global, text: &[u8]) -> Result<(Got, Vec<u8>), Unread>
 }
 
 fn read_size(text: &[u8]) -> Result<FileSize, Unread>
-    ensures { IfOk result (λ answer. text.now ≡ size_text answer) }
+    ensures answer { IfOk result (λ answer. text.now ≡ size_text answer) }
+    ensures range { IfOk result (λ answer. MayMeasure answer) }
+    ensures refused { OnErr result ((answer : ASize) → MayMeasure answer → text.now ≢ size_text answer) }
 {
     match text {
         b"missing" => Ok(FileSize::Missing),

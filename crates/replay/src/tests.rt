@@ -178,44 +178,228 @@ fn an_answer_that_no_world_gives_fits_no_call(rt: HostRuntime) -> Result<(), Fai
     Ok(())
 }
 
-fn first_fault(alloc: Global, text: &[u8]) -> u64
-    requires { length text.now ≤ 67108864 }
-{
+// The line that is named, or 0 where there is none.
+fn first_fault(alloc: Global, text: &[u8]) -> u64 {
+    if text.len() > 67_108_864 {
+        return 0;
+    }
     match ScriptWorld::read(alloc, text) {
         Err(ScriptFault::Line(line)) => line,
         _ => 0,
     }
 }
 
+// The line that is named where this one stands second: 2 where it has no reading, 0 where it has one.
+fn fault_after(alloc: Global, line: &[u8]) -> Result<u64, Fail> {
+    let mut text = Vec::new(alloc);
+    text.extend_from_slice(b"now = 0\n")?;
+    text.extend_from_slice(line)?;
+    text.push(b'\n')?;
+    Ok(first_fault(alloc, &text))
+}
+
+// Each of these lines, as the second of a schedule, is named so.
+fn each_is(alloc: Global, lines: &[u8], fault: u64) -> Result<(), Fail> {
+    for line in lines.split(|x| *x == b'\n') {
+        if fault_after(alloc, line)? != fault {
+            return Err(Fail::from("another line is named"));
+        }
+    }
+    Ok(())
+}
+
+// Each answer of each call, and each form of an argument.
+const SPELT: &[u8] = b"now = 0
+now = 18446744073709551615
+wait - - = ready
+wait 0 - = ready link:w
+wait 18446744073709551615 link:r = ready l0:r,u1:w,t18446744073709551615:rw
+wait 1 t1:w,u2:r,l3:rw = stop
+wait 1 link:rw = fail
+lopen 756e69783a61 = done
+lopen 756e69783a613a62 = fail
+lopen 7463703a3235352e3235352e3235352e3235353a3635353335 = done
+lread 1 = done 00
+lread 1 = done -
+lread 1 = end
+lread 1 = notyet
+lread 1 = fail
+lwrite - = done 0
+lwrite 00ff = done 18446744073709551615
+lwrite 00 = notyet
+lwrite 00 = fail
+connect 1 0.0.0.0:0 = done
+connect 1 255.255.255.255:65535 = fail
+connected 1 = yes
+connected 1 = notyet
+connected 1 = fail
+listen 1 1.2.3.4:5 = done
+listen 1 1.2.3.4:5 = fail
+accept 1 2 = from 1.2.3.4:5
+accept 1 2 = notyet
+accept 1 2 = fail
+tread 1 2 = done 0a
+tread 1 2 = end
+tread 1 2 = notyet
+tread 1 2 = fail
+twrite 1 00 = done 1
+twrite 1 00 = notyet
+twrite 1 00 = fail
+tend 1 = done
+tend 1 = fail
+close 1 = done
+uopen 1 1.2.3.4:5 = done
+uopen 1 1.2.3.4:5 = fail
+usend 1 1.2.3.4:5 - = done
+usend 1 1.2.3.4:5 00 = notyet
+usend 1 1.2.3.4:5 00 = fail
+urecv 1 2 = from 1.2.3.4:5 -
+urecv 1 2 = from 1.2.3.4:5 00
+urecv 1 2 = notyet
+urecv 1 2 = fail
+flen 61 = len 0
+flen 61 = missing
+flen - = fail
+fread 61 0 1 = done 00
+fread 61 0 1 = end
+fread 61 0 1 = fail";
+
+// What someone might write in the place of a line.
+const MISSPELT: &[u8] = b"
+ now = 0
+now  = 0
+now =  0
+now=0
+now 1 = 0
+now = 
+now
+Now = 0
+noww = 0
+now = 00
+now = 01
+now = +1
+now = -1
+now = 0x1
+now = 1_000
+now = 18446744073709551616
+now = done
+wait = stop
+wait 1 = stop
+wait  - = stop
+wait 1  = stop
+wait -1 - = stop
+wait none - = stop
+wait 1 link = stop
+wait 1 link: = stop
+wait 1 link:wr = stop
+wait 1 link:x = stop
+wait 1 link:r, = stop
+wait 1 ,link:r = stop
+wait 1 link:r,,l1:r = stop
+wait 1 link:r, l1:r = stop
+wait 1 link:r l1:r = stop
+wait 1 l:r = stop
+wait 1 l01:r = stop
+wait 1 x1:r = stop
+wait 1 t18446744073709551616:r = stop
+wait 1 - = ready -
+wait 1 - = ready 
+wait 1 - = ready link
+wait 1 - = stopped
+wait 1 - = done
+lopen = done
+lopen - = done
+lopen unix:a = done
+lopen 756e69783a = done
+lopen 756e6978 = done
+lopen 7463703a61 = done
+lopen 7564703a61 = done
+lopen 756e69783a61 = notyet
+lread = end
+lread - = end
+lread  4 = end
+lread 4 5 = end
+lread 1 = done
+lread 1 = done 0
+lread 1 = done 0A
+lread 1 = done 0g
+lread 1 = done 00 00
+lread 1 = ready
+lwrite = done 1
+lwrite 0 = done 1
+lwrite 0A = done 1
+lwrite 0x00 = done 1
+lwrite 00 = done
+lwrite 00 = done 01
+lwrite 00 = end
+lwrite 00 = done -
+connect 1 = done
+connect 1 1.2.3.4 = done
+connect 1 1.2.3:4 = done
+connect 1 1.2.3.4.5:6 = done
+connect 1 1.2.3.256:1 = done
+connect 1 1.2.3.04:1 = done
+connect 1 1.2.3.4:65536 = done
+connect 1 1.2.3.4:05 = done
+connect 1 1.2.3.4: = done
+connect 1 host:80 = done
+connect 1 1.2.3.4:5 = notyet
+connected 1 = done
+connected 1 2 = yes
+listen 1.2.3.4:5 1 = done
+listen 1 1.2.3.4:5 = yes
+accept 1 = notyet
+accept 1 2 = from
+accept 1 2 = from 1.2.3.4
+accept 1 2 = done
+tread 1 = end
+tread 1 2 3 = end
+tread 1 2 = done
+twrite 1 = done 1
+twrite 1 00 = end
+tend 1 = yes
+tend = done
+close 1 = fail
+close 1 2 = done
+uopen 1 1.2.3.4:5 = notyet
+usend 1 1.2.3.4:5 = done
+usend 1 00 1.2.3.4:5 = done
+usend 1 1.2.3.4:5 00 = done 1
+urecv 1 2 = from 1.2.3.4:5
+urecv 1 2 = from 00 1.2.3.4:5
+urecv 1 2 = done 00
+urecv 1 2 = end
+flen a = missing
+flen 61 = len
+flen 61 = 0
+flen 61 = notyet
+fread 61 0 = end
+fread 61 0 1 = notyet
+fread 0 61 1 = end
+sread 1 2 = end
+lread 1 = end = end
+# a remark";
+
 #[test]
-fn each_answer_has_a_reading(rt: HostRuntime) {
-    let text =
-        b"wait 0 - = ready\nwait 1 t1:w = fail\nlread 1 = notyet\nlread 1 = end\nlread 1 = fail\nlread 1 = done -\nlwrite - = fail\nconnected 1 = yes\nconnected 1 = fail\naccept 1 2 = notyet\naccept 1 2 = fail\nusend 1 0.0.0.0:0 00 = notyet\nurecv 1 1 = fail\nflen - = missing\nflen 00 = fail\nfread 00 1 2 = end\n";
-    assert_eq!(rt; first_fault(rt.alloc(), text), 0);
-    assert_eq!(rt; first_fault(rt.alloc(), b""), 0);
+fn each_line_of_the_table_has_a_reading(rt: HostRuntime) -> Result<(), Fail> {
+    each_is(rt.alloc(), SPELT, 0)
 }
 
 #[test]
-fn other_spellings_have_no_reading(rt: HostRuntime) {
-    assert_eq!(rt; first_fault(rt.alloc(), b"now = 00\n"), 1);
-    assert_eq!(rt; first_fault(rt.alloc(), b"now = 18446744073709551616\n"), 1);
-    assert_eq!(rt;
-        first_fault(rt.alloc(), b"now = 0\nlwrite 0A = done 1\n"),
-        2
-    );
-    assert_eq!(rt; first_fault(rt.alloc(), b"now = 0\nlread  4 = end\n"), 2);
+fn each_misspelling_is_named(rt: HostRuntime) -> Result<(), Fail> {
+    each_is(rt.alloc(), MISSPELT, 2)
+}
+
+#[test]
+fn the_first_line_without_a_reading_is_named(rt: HostRuntime) {
+    assert_eq!(rt; first_fault(rt.alloc(), b""), 0);
+    assert_eq!(rt; first_fault(rt.alloc(), b"\n"), 1);
+    assert_eq!(rt; first_fault(rt.alloc(), b"now = 00\nnow\n"), 1);
     assert_eq!(rt; first_fault(rt.alloc(), b"now = 0\nnow = 1"), 2);
-    assert_eq!(rt; first_fault(rt.alloc(), b"wait - - = ready -\n"), 1);
-    assert_eq!(rt; first_fault(rt.alloc(), b"lwrite * = done 1\n"), 1);
-    assert_eq!(rt; first_fault(rt.alloc(), b"lwrite 00 = all\n"), 1);
-    assert_eq!(rt; first_fault(rt.alloc(), b"lwrite 00 = end\n"), 1);
     assert_eq!(rt;
-        first_fault(rt.alloc(), b"connect 1 1.2.3.256:1 = done\n"),
-        1
+        first_fault(rt.alloc(), b"now = 0\nnow = 1\nnow = 02\nnow = 3\n"),
+        3
     );
-    assert_eq!(rt;
-        first_fault(rt.alloc(), b"connect 1 1.2.3.4:65536 = done\n"),
-        1
-    );
+    assert_eq!(rt; first_fault(rt.alloc(), b"now = 0\r\n"), 1);
     assert_eq!(rt; first_fault(rt.alloc(), b"\xff\n"), 1);
 }

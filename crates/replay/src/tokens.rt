@@ -1,10 +1,19 @@
 // The parts of a line, as octets.
-ghost use Rattle.std.specs.Prelude.{◌≡◌, ◌==◌, ◌++◌, ◌∷◌, [], IfSome, IfOk, OnOk, IsTrue, ◌↔◌, codes, decimal, position, length, ◌<◌};
-ghost use Rattle.std.specs.Prelude.{slice_index, nat_lt, ◌&&◌};
+ghost use Rattle.std.specs.Prelude.{◌≡◌, ◌≢◌, ◌==◌, ◌++◌, ◌∷◌, [], ℕ, List, Bool, true, Option, IfSome, IfNone, IfOk, OnOk, OnErr, Err, IsTrue, ◌↔◌, codes, decimal, position, length, ◌<◌, ◌^◌};
+ghost use Rattle.std.specs.Str.{IsUtf8};
+ghost use Rattle.std.specs.Prelude.{slice_index, nat_lt, ◌&&◌, ◌||◌};
 ghost use Rattle.std.specs.List.{list_all};
+ghost use Rattle.replay.specs.declared.tokens.Unread.TheVariants.{NoReading, NoMemory};
+ghost use Rattle.replay.specs.declared.CallName.{CallName as AName};
 ghost use Rattle.hex.specs.Hex.{decode_of};
 ghost use Rattle.replay.specs.Names.{name_text};
-ghost use Rattle.replay.specs.Spelling.{is_lower, IsReadAs};
+ghost use Rattle.hex.specs.declared.error.FromHexError.TheVariants.{OutOfMemory};
+ghost use Rattle.net_octets.specs.declared.Endpoint.{Endpoint as AnEndpoint};
+ghost use Rattle.poll_list.specs.declared.Who.{Who as AWho};
+ghost use Rattle.poll_list.specs.declared.Want.{Want as AWant};
+ghost use Rattle.poll_list.specs.Listing.{is_who, are_wants};
+ghost use Rattle.world_face.specs.Journal.{AreOctets, IsEndpoint, IsNumber, IsTimeout};
+ghost use Rattle.replay.specs.Spelling.{is_lower, is_other, IsReadAs};
 ghost use Rattle.replay.specs.Text.{hexadecimal, endpoint_text, who_text, want_text, joined_text, wants_text, timeout_text, direction_text};
 
 use crate::CallName;
@@ -27,7 +36,9 @@ fn place_of(text: &[u8], octet: u8) -> Option<usize>
 
 // What stands before the first such octet, and what after it.
 pub fn split_at(text: &[u8], octet: u8) -> Result<(&[u8], &[u8]), Unread>
-    ensures { IfOk result (λ parts. text.now ≡ parts.0.now ++ octet ∷ parts.1.now) }
+    ensures parts { IfOk result (λ parts. text.now ≡ parts.0.now ++ octet ∷ parts.1.now) }
+    ensures first { IfOk result (λ parts. list_all (is_other octet) parts.0.now ≡ true) }
+    ensures refused { OnErr result (list_all (is_other octet) text.now ≡ true) }
 {
     let Some(at) = place_of(text, octet) else {
         return Err(Unread::NoReading);
@@ -44,7 +55,9 @@ fn is_dash(text: &[u8]) -> bool
 
 // A number in decimal digits, the first of them no needless zero.
 pub fn read_number(text: &[u8]) -> Result<u64, Unread>
-    ensures { IfOk result (λ n. text.now ≡ decimal n) }
+    ensures number { IfOk result (λ n. text.now ≡ decimal n) }
+    ensures range { IfOk result (λ n. IsNumber n) }
+    ensures refused { OnErr result ((n : ℕ) → IsNumber n → text.now ≢ decimal n) }
 {
     if text.is_empty() {
         return Err(Unread::NoReading);
@@ -72,7 +85,8 @@ fn has_needless_zero(text: &[u8]) -> bool
 }
 
 fn as_text(text: &[u8]) -> Option<&str>
-    ensures { IfSome result (λ s. s.now ≡ text.now) }
+    ensures text { IfSome result (λ s. s.now ≡ text.now) }
+    ensures none { IfNone result (¬ IsUtf8 text.now) }
 {
     std::str::from_utf8(text).ok()
 }
@@ -86,6 +100,7 @@ fn parse(text: &str) -> Option<u64>
 fn read_part(text: &[u8]) -> Result<u32, Unread>
     ensures number { IfOk result (λ n. text.now ≡ decimal n) }
     ensures small { IfOk result (λ n. n < 256) }
+    ensures refused { OnErr result ((n : ℕ) → n < 256 → text.now ≢ decimal n) }
 {
     let n = read_number(text)?;
     if n > 255 {
@@ -95,7 +110,8 @@ fn read_part(text: &[u8]) -> Result<u32, Unread>
 }
 
 fn read_port(text: &[u8]) -> Result<u16, Unread>
-    ensures { IfOk result (λ n. text.now ≡ decimal n) }
+    ensures number { IfOk result (λ n. text.now ≡ decimal n) }
+    ensures refused { OnErr result ((n : ℕ) → n < 2 ^ 16 → text.now ≢ decimal n) }
 {
     let n = read_number(text)?;
     if n > 65535 {
@@ -106,7 +122,9 @@ fn read_port(text: &[u8]) -> Result<u16, Unread>
 
 // Four parts and a port.
 pub fn read_endpoint(text: &[u8]) -> Result<Endpoint, Unread>
-    ensures { IfOk result (λ at. text.now ≡ endpoint_text at) }
+    ensures endpoint { IfOk result (λ at. text.now ≡ endpoint_text at) }
+    ensures range { IfOk result (λ at. IsEndpoint at) }
+    ensures refused { OnErr result ((at : AnEndpoint) → IsEndpoint at → text.now ≢ endpoint_text at) }
 {
     let (address, last) = split_at(text, b':')?;
     let (one, after_one) = split_at(address, b'.')?;
@@ -125,7 +143,9 @@ pub fn read_endpoint(text: &[u8]) -> Result<Endpoint, Unread>
 
 // Octets in lower case hexadecimal, or a dash for none.
 pub fn read_octets(alloc: Global, text: &[u8]) -> Result<Vec<u8>, Unread>
-    ensures { IfOk result (λ octets. text.now ≡ hexadecimal octets.items) }
+    ensures octets { IfOk result (λ octets. text.now ≡ hexadecimal octets.items) }
+    ensures range { IfOk result (λ octets. AreOctets octets.items) }
+    ensures refused { result ≡ Err NoReading → (octets : List ℕ) → AreOctets octets → text.now ≢ hexadecimal octets }
 {
     if is_dash(text) {
         return Ok(Vec::new(alloc));
@@ -141,7 +161,8 @@ pub fn read_octets(alloc: Global, text: &[u8]) -> Result<Vec<u8>, Unread>
 }
 
 fn decode(alloc: Global, text: &[u8]) -> Result<Vec<u8>, Unread>
-    ensures { IfOk result (λ octets. decode_of text.now ≡ Ok octets.items) }
+    ensures octets { IfOk result (λ octets. decode_of text.now ≡ Ok octets.items) }
+    ensures refused { result ≡ Err NoReading → (octets : List ℕ) → decode_of text.now ≢ Ok octets }
 {
     hex::decode(alloc, text).map_err(unread_of)
 }
@@ -153,7 +174,9 @@ fn is_lower_case(text: &[u8]) -> bool
     text.iter().all(|x| *x < b'A' || *x > b'F')
 }
 
-fn unread_of(fault: FromHexError) -> Unread {
+fn unread_of(fault: FromHexError) -> Unread
+    ensures { fault ≡ OutOfMemory → result ≢ NoReading }
+{
     match fault {
         FromHexError::OutOfMemory => Unread::NoMemory,
         _ => Unread::NoReading,
@@ -161,7 +184,9 @@ fn unread_of(fault: FromHexError) -> Unread {
 }
 
 fn read_who(text: &[u8]) -> Result<Who, Unread>
-    ensures { IfOk result (λ who. text.now ≡ who_text who) }
+    ensures who { IfOk result (λ who. text.now ≡ who_text who) }
+    ensures range { IfOk result (λ who. is_who who ≡ true) }
+    ensures refused { OnErr result ((who : AWho) → is_who who ≡ true → text.now ≢ who_text who) }
 {
     match text {
         b"link" => Ok(Who::Link),
@@ -173,7 +198,9 @@ fn read_who(text: &[u8]) -> Result<Who, Unread>
 }
 
 fn read_direction(text: &[u8]) -> Result<(bool, bool), Unread>
-    ensures { IfOk result (λ d. text.now ≡ direction_text d.0 d.1) }
+    ensures direction { IfOk result (λ d. text.now ≡ direction_text d.0 d.1) }
+    ensures some { IfOk result (λ d. (d.0 || d.1) ≡ true) }
+    ensures refused { OnErr result ((read write : Bool) → (read || write) ≡ true → text.now ≢ direction_text read write) }
 {
     match text {
         b"r" => Ok((true, false)),
@@ -184,7 +211,9 @@ fn read_direction(text: &[u8]) -> Result<(bool, bool), Unread>
 }
 
 fn read_want(text: &[u8]) -> Result<Want, Unread>
-    ensures { IfOk result (λ want. text.now ≡ want_text want) }
+    ensures want { IfOk result (λ want. text.now ≡ want_text want) }
+    ensures range { IfOk result (λ want. are_wants (want ∷ []) ≡ true) }
+    ensures refused { OnErr result ((want : AWant) → are_wants (want ∷ []) ≡ true → text.now ≢ want_text want) }
 {
     let (who, direction) = split_at(text, b':')?;
     let of = read_who(who)?;
@@ -196,6 +225,8 @@ fn read_want(text: &[u8]) -> Result<Want, Unread>
 pub fn read_items(alloc: Global, text: &[u8]) -> Result<Vec<Want>, Unread>
     ensures items { IfOk result (λ items. text.now ≡ joined_text items.items) }
     ensures some { IfOk result (λ items. 0 < length items.items) }
+    ensures range { IfOk result (λ items. are_wants items.items ≡ true) }
+    ensures refused { result ≡ Err NoReading → (want : AWant) (more : List AWant) → are_wants (want ∷ more) ≡ true → text.now ≢ joined_text (want ∷ more) }
 {
     let mut items = Vec::new(alloc);
     let mut rest = text;
@@ -210,7 +241,8 @@ pub fn read_items(alloc: Global, text: &[u8]) -> Result<Vec<Want>, Unread>
 }
 
 fn push(items: &mut Vec<Want>, want: Want) -> Result<(), Unread>
-    ensures { OnOk result (items.new.items ≡ items.old.items ++ want ∷ []) }
+    ensures items { OnOk result (items.new.items ≡ items.old.items ++ want ∷ []) }
+    ensures memory { OnErr result (result ≡ Err NoMemory) }
 {
     match items.push(want) {
         Ok(()) => Ok(()),
@@ -220,7 +252,9 @@ fn push(items: &mut Vec<Want>, want: Want) -> Result<(), Unread>
 
 // The same, or a dash for none.
 pub fn read_wants(alloc: Global, text: &[u8]) -> Result<Vec<Want>, Unread>
-    ensures { IfOk result (λ wants. text.now ≡ wants_text wants.items) }
+    ensures wants { IfOk result (λ wants. text.now ≡ wants_text wants.items) }
+    ensures range { IfOk result (λ wants. are_wants wants.items ≡ true) }
+    ensures refused { result ≡ Err NoReading → (wants : List AWant) → are_wants wants ≡ true → text.now ≢ wants_text wants }
 {
     if is_dash(text) {
         return Ok(Vec::new(alloc));
@@ -230,7 +264,9 @@ pub fn read_wants(alloc: Global, text: &[u8]) -> Result<Vec<Want>, Unread>
 }
 
 pub fn read_timeout(text: &[u8]) -> Result<Option<u64>, Unread>
-    ensures { IfOk result (λ timeout. text.now ≡ timeout_text timeout) }
+    ensures timeout { IfOk result (λ timeout. text.now ≡ timeout_text timeout) }
+    ensures range { IfOk result (λ timeout. IsTimeout timeout) }
+    ensures refused { OnErr result ((timeout : Option ℕ) → IsTimeout timeout → text.now ≢ timeout_text timeout) }
 {
     if is_dash(text) {
         return Ok(None);
@@ -239,7 +275,8 @@ pub fn read_timeout(text: &[u8]) -> Result<Option<u64>, Unread>
 }
 
 pub fn read_name(text: &[u8]) -> Result<CallName, Unread>
-    ensures { IfOk result (λ name. text.now ≡ name_text name) }
+    ensures name { IfOk result (λ name. text.now ≡ name_text name) }
+    ensures refused { OnErr result ((name : AName) → text.now ≢ name_text name) }
 {
     match text {
         b"now" => Ok(CallName::Now),

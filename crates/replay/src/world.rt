@@ -5,9 +5,12 @@ ghost use Rattle.std.specs.Prelude.{◌||◌, ◌&&◌};
 ghost use Rattle.std.specs.List.{list_any};
 ghost use Rattle.poll_list.specs.Listing.{are_wants, differ, is_who, number_of, same_number};
 ghost use Rattle.world_face.specs.Journal.{MayRead, MayReadFile, MayWrite, AreOctets, MayAccept, MayMeasure, MayGet, MayWait, IsPlace, count_of, count_got, place_of};
-ghost use Rattle.std.specs.Prelude.{IfOk, OnOk, IsNone, ◌++◌, ◌∷◌, []};
+ghost use Rattle.std.specs.Prelude.{IfOk, OnOk, OnErr, Err, IsNone, ◌⊎◌, ◌++◌, ◌∷◌, []};
 ghost use Rattle.replay.specs.Lines.{place_at, entries_of};
 ghost use Rattle.replay.specs.Script.{schedule_text};
+ghost use Rattle.replay.specs.Range.{AreSayable};
+ghost use Rattle.replay.specs.Unread.{IsFirstUnread};
+ghost use Rattle.replay.specs.declared.ScriptFault.TheVariants.{Line as AtLine, NoMemory};
 ghost use Rattle.replay.specs.Fitting.{raise};
 
 use crate::line::{Line, Seat, Stop, has_failed, moment_after, name_of};
@@ -54,6 +57,7 @@ impl Model for ScriptWorld {
 
     ghost use Rattle.replay.specs.Lines.{entries_of, stop_of};
     ghost use Rattle.replay.specs.Fitting.{StopsRightly, last_moment};
+    ghost use Rattle.replay.specs.Range.{AreSayable};
 
     ghost view = { λ w. record {
       lines = entries_of w.lines.items;
@@ -65,7 +69,8 @@ impl Model for ScriptWorld {
 
     ghost invariant = { λ w. (w.used ≤ length w.lines.items) × (length w.lines.items ≤ 67108864) × (65507 ≤ vec_capacity w.octets) × (5155 ≤ vec_capacity w.wants)
         × StopsRightly (entries_of w.lines.items) w.used (stop_of w.stop w.octets.items w.wants.items)
-        × (w.moment ≡ last_moment (newest_onto w.used (entries_of w.lines.items) [])) };
+        × (w.moment ≡ last_moment (newest_onto w.used (entries_of w.lines.items) []))
+        × AreSayable (entries_of w.lines.items) };
 }
 
 fn may_read(asked: usize, answer: Io, len: usize) -> bool
@@ -285,6 +290,8 @@ fn read_lines(alloc: Global, octets: &[u8]) -> Result<Vec<Line>, ScriptFault>
     requires { length octets.now ≤ 67108864 }
     ensures text { IfOk result (λ lines. schedule_text (entries_of lines.items) ≡ octets.now) }
     ensures few { IfOk result (λ lines. length lines.items ≤ 67108864) }
+    ensures readable { IfOk result (λ lines. AreSayable (entries_of lines.items)) }
+    ensures first { (n : ℕ) → result ≡ Err (AtLine n) → IsFirstUnread octets.now n }
 {
     let mut lines = Vec::new(alloc);
     let mut rest = octets;
@@ -305,7 +312,8 @@ fn read_lines(alloc: Global, octets: &[u8]) -> Result<Vec<Line>, ScriptFault>
 }
 
 fn push_line(lines: &mut Vec<Line>, line: Line) -> Result<(), ScriptFault>
-    ensures { OnOk result (lines.new.items ≡ lines.old.items ++ line ∷ []) }
+    ensures items { OnOk result (lines.new.items ≡ lines.old.items ++ line ∷ []) }
+    ensures memory { OnErr result (result ≡ Err NoMemory) }
 {
     match lines.push(line) {
         Ok(()) => Ok(()),
@@ -896,11 +904,18 @@ impl ScriptWorld {
     ghost use Rattle.replay.specs.Fitting.{StopsRightly, divergence_of};
 
     /// Reads a schedule: no line or more, each ended by a line feed, of at most 64 MiB in all.
-    /// All room that the World will need is taken here.
+    /// All room that the World will need is taken here. Where a line has no reading the first such
+    /// line is named, counted from 1.
     pub fn read(alloc: Global, octets: &[u8]) -> Result<ScriptWorld, ScriptFault>
         requires { length octets.now ≤ 67108864 }
         ensures fresh { IfOk result (λ world. IsFresh world) }
         ensures text { IfOk result (λ world. schedule_text world.lines ≡ octets.now) }
+        // Each line says an entry.
+        ensures readable { IfOk result (λ world. AreSayable world.lines) }
+        // A line that is named is the first that has no reading.
+        ensures first { (n : ℕ) → result ≡ Err (AtLine n) → IsFirstUnread octets.now n }
+        // It is named wherever there is one, unless memory runs out.
+        ensures only { (n : ℕ) → IsFirstUnread octets.now n → (result ≡ Err (AtLine n)) ⊎ (result ≡ Err NoMemory) }
     {
         let lines = read_lines(alloc, octets)?;
         let Ok(stop_octets) = Vec::with_capacity(alloc, MOST_OCTETS) else {
@@ -943,6 +958,8 @@ impl ScriptWorld {
         ensures live { IsNone result ↔ (self.now.live ≡ true) }
         ensures stopped { IsSome self.now.stop ↔ (self.now.live ≡ false) }
         ensures fits_none { StopsRightly self.now.lines self.now.used self.now.stop }
+        ensures within { self.now.used ≤ length self.now.lines }
+        ensures readable { AreSayable self.now.lines }
     {
         let wanted = self.wanted();
         let line = self.used as u64 + 1;

@@ -1,6 +1,5 @@
 -- Answers and lines, each of which has one text.
-use Rattle.std.proofs.Common.{◌≡◌, ℕ, ◌+◌, ◌*◌, ◌^◌, ◌<◌, true, List, [], ◌∷◌, ◌++◌, length, decimal, reverse, codes, refl, sym, ◌∙◌, ap, subst, arith, append_assoc, append-nil, length-append}
-use Rattle.std.specs.List.{list_all}
+use Rattle.std.proofs.Common.{◌≡◌, ℕ, ◌+◌, ◌*◌, ◌^◌, ◌<◌, true, List, [], ◌∷◌, ◌++◌, length, decimal, reverse, refl, sym, ◌∙◌, ap, subst, arith, append_assoc, append-nil}
 use Rattle.std.proofs.lemmas.Fmt.{decimal_injective}
 use Rattle.std.proofs.lemmas.List.{reverse-reverse}
 use mathlib.Core.List.{reverse-cons}
@@ -22,12 +21,16 @@ use Rattle.world_face.specs.declared.FileSize.{FileSize}
 use Rattle.world_face.specs.declared.FileSize.TheVariants.{Length, Missing, Failed as SizeFailed}
 use Rattle.world_face.specs.declared.Waited.{Waited}
 use Rattle.world_face.specs.declared.Waited.TheVariants.{Ready, Stop, Failed as WaitFailed}
-use Rattle.world_face.specs.Journal.{MayAccept, MayMeasure, MayWrite, MayGet, MayWait, Leaves, LeavesGot, Allowed, AreAllowed, Entry, call_of, Now, Wait, LinkOpen, LinkRead, LinkWrite, Connect, Connected, Listen, Accept, TcpRead, TcpWrite, TcpEnd, Close, UdpOpen, UdpSend, UdpRecv, FileLen, FileRead}
+use Rattle.world_face.specs.Journal.{MayAccept, MayMeasure, MayWrite, MayReadFile, MayGet, MayWait, Leaves, LeavesGot, Allowed, AreAllowed, Entry, call_of, Now, Wait, LinkOpen, LinkRead, LinkWrite, Connect, Connected, Listen, Accept, TcpRead, TcpWrite, TcpEnd, Close, UdpOpen, UdpSend, UdpRecv, FileLen, FileRead}
 use Rattle.replay.specs.Script.{schedule_text}
 use Rattle.replay.specs.Text.{hexadecimal, endpoint_text, joined_text, made_text, ready_text, waited_text, read_text, written_text, joined_answer, accepted_text, sent_text, got_text, size_text, call_text, answer_text, line_text, text}
-use Rattle.replay_laws.proofs.Parting.{is_word, is_plain, is_line, fit_append, fit_weaker, parts_once, word_is_line, plain_is_line, decimal_word, hexadecimal_word}
-use Rattle.replay_laws.proofs.Tokens.{same_octets, same_endpoint, endpoint_word, same_joined, joined_word}
-use Rattle.replay_laws.proofs.Calls.{InRange, call_plain, same_call}
+use Rattle.replay.proofs.Parting.{is_word, is_plain, is_line, parts_once}
+use Rattle.replay.proofs.Words.{same_octets, endpoint_word}
+use Rattle.replay_laws.proofs.Tokens.{same_endpoint, same_joined}
+use Rattle.replay.proofs.Calls.{call_plain}
+use Rattle.replay_laws.proofs.Calls.{same_call}
+use Rattle.replay.specs.Range.{InRange, AnswersInRange, IsSayable, AreSayable, LeavesReady, Counts, IsAtOnce, ComesFrom}
+use Rattle.replay.proofs.Bodies.{body_line, then_more, some_line}
 
 -- the first two octets
 abbrev second : List ℕ → ℕ
@@ -79,25 +82,25 @@ same_read NotYet NotYet o p ha hb is = (refl, nothing o ha.0 ∙ sym (nothing p 
 same_read Failed Failed o p ha hb is = (refl, nothing o ha.0 ∙ sym (nothing p hb.0))
 same_read _ _ o p ha hb is = absurd (omega (arith, ap second is))
 
-same_written : (most : ℕ) (a b : Io) → most < 2 ^ 64 → MayWrite most a → MayWrite most b → written_text a ≡ written_text b → a ≡ b
-same_written most (Done n) (Done m) short ha hb is = let tail : decimal n ≡ decimal m = cc in ap Done (decimal_injective n m (omega arith) (omega arith) tail)
-same_written most End b short ha hb is = absurd ha
-same_written most a End short ha hb is = absurd hb
-same_written most NotYet NotYet short ha hb is = refl
-same_written most Failed Failed short ha hb is = refl
-same_written most _ _ short ha hb is = absurd (omega (arith, ap second is))
+same_written : (a b : Io) → Counts a → Counts b → written_text a ≡ written_text b → a ≡ b
+same_written (Done n) (Done m) ha hb is = let tail : decimal n ≡ decimal m = cc in ap Done (decimal_injective n m ha hb tail)
+same_written End b ha hb is = absurd ha
+same_written a End ha hb is = absurd hb
+same_written NotYet NotYet ha hb is = refl
+same_written Failed Failed ha hb is = refl
+same_written _ _ ha hb is = absurd (omega (arith, ap second is))
 
-same_got : (a b : Got) (asked asked' : ℕ) (o p : List ℕ) → MayGet asked a → MayGet asked' b → LeavesGot a o → LeavesGot b p → got_text a o ≡ got_text b p → (a ≡ b) × (o ≡ p)
-same_got (From p n) (From q m) asked asked' o r ga gb ha hb is =
+same_got : (a b : Got) (o p : List ℕ) → ComesFrom a → ComesFrom b → LeavesGot a o → LeavesGot b p → got_text a o ≡ got_text b p → (a ≡ b) × (o ≡ p)
+same_got (From p n) (From q m) o r ga gb ha hb is =
     let tail : (endpoint_text p ++ 32 ∷ []) ++ hexadecimal o ≡ (endpoint_text q ++ 32 ∷ []) ++ hexadecimal r = cc in
-    let parted = parts_once 32 is_word refl (endpoint_text p) (endpoint_text q) (hexadecimal o) (hexadecimal r) (endpoint_word p ga.1) (endpoint_word q gb.1) (sym (append_assoc (endpoint_text p) (32 ∷ []) (hexadecimal o)) ∙ tail ∙ append_assoc (endpoint_text q) (32 ∷ []) (hexadecimal r)) in
-    let peer = same_endpoint p q ga.1 gb.1 parted.0 in
+    let parted = parts_once 32 is_word refl (endpoint_text p) (endpoint_text q) (hexadecimal o) (hexadecimal r) (endpoint_word p ga) (endpoint_word q gb) (sym (append_assoc (endpoint_text p) (32 ∷ []) (hexadecimal o)) ∙ tail ∙ append_assoc (endpoint_text q) (32 ∷ []) (hexadecimal r)) in
+    let peer = same_endpoint p q ga gb parted.0 in
     let octets = same_octets o r ha.1 hb.1 parted.1 in
     let count : n ≡ m = sym ha.0 ∙ ap length octets ∙ hb.0 in
     (ap (λ x. From x n) peer ∙ ap (λ k. From q k) count, octets)
-same_got NothingGot NothingGot asked asked' o p ga gb ha hb is = (refl, nothing o ha.0 ∙ sym (nothing p hb.0))
-same_got GetFailed GetFailed asked asked' o p ga gb ha hb is = (refl, nothing o ha.0 ∙ sym (nothing p hb.0))
-same_got _ _ asked asked' o p ga gb ha hb is = absurd (omega (arith, ap second is))
+same_got NothingGot NothingGot o p ga gb ha hb is = (refl, nothing o ha.0 ∙ sym (nothing p hb.0))
+same_got GetFailed GetFailed o p ga gb ha hb is = (refl, nothing o ha.0 ∙ sym (nothing p hb.0))
+same_got _ _ o p ga gb ha hb is = absurd (omega (arith, ap second is))
 
 same_ready : (r s : List Want) → are_wants r ≡ true → are_wants s ≡ true → ready_text r ≡ ready_text s → r ≡ s
 same_ready [] [] hr hs is = refl
@@ -109,18 +112,129 @@ ready_second : (r : List Want) → second (ready_text r) ≡ 114101
 ready_second [] = refl
 ready_second (w ∷ ws) = refl
 
-same_waited : (wants wants' : List Want) (a b : Waited) (r s : List Want) → MayWait wants a r → MayWait wants' b s → waited_text a r ≡ waited_text b s → (a ≡ b) × (r ≡ s)
-same_waited wants wants' Ready Ready r s ha hb is = (refl, same_ready r s ha.0 hb.0 is)
-same_waited wants wants' Ready Stop r s ha hb is = absurd (omega (arith, ready_second r, ap second is))
-same_waited wants wants' Ready WaitFailed r s ha hb is = absurd (omega (arith, ready_second r, ap second is))
-same_waited wants wants' Stop Ready r s ha hb is = absurd (omega (arith, ready_second s, ap second is))
-same_waited wants wants' WaitFailed Ready r s ha hb is = absurd (omega (arith, ready_second s, ap second is))
-same_waited wants wants' Stop Stop r s ha hb is = (refl, ha ∙ sym hb)
-same_waited wants wants' WaitFailed WaitFailed r s ha hb is = (refl, ha ∙ sym hb)
-same_waited wants wants' Stop WaitFailed r s ha hb is = absurd (omega (arith, ap second is))
-same_waited wants wants' WaitFailed Stop r s ha hb is = absurd (omega (arith, ap second is))
+same_waited : (a b : Waited) (r s : List Want) → LeavesReady a r → LeavesReady b s → waited_text a r ≡ waited_text b s → (a ≡ b) × (r ≡ s)
+same_waited Ready Ready r s ha hb is = (refl, same_ready r s ha hb is)
+same_waited Ready Stop r s ha hb is = absurd (omega (arith, ready_second r, ap second is))
+same_waited Ready WaitFailed r s ha hb is = absurd (omega (arith, ready_second r, ap second is))
+same_waited Stop Ready r s ha hb is = absurd (omega (arith, ready_second s, ap second is))
+same_waited WaitFailed Ready r s ha hb is = absurd (omega (arith, ready_second s, ap second is))
+same_waited Stop Stop r s ha hb is = (refl, ha ∙ sym hb)
+same_waited WaitFailed WaitFailed r s ha hb is = (refl, ha ∙ sym hb)
+same_waited Stop WaitFailed r s ha hb is = absurd (omega (arith, ap second is))
+same_waited WaitFailed Stop r s ha hb is = absurd (omega (arith, ap second is))
 
--- the arguments of an allowed entry are in their ranges
+same_entry : (e f : Entry) → IsSayable e → IsSayable f → call_of e ≡ call_of f → answer_text e ≡ answer_text f → e ≡ f
+unfolding answer_text
+same_entry (Now moment) (Now moment') ha hb calls is = ap Now (decimal_injective moment moment' ha.1 hb.1 is)
+same_entry (Wait wants timeout answer ready) (Wait wants' timeout' answer' ready') ha hb calls is =
+    let both_are = same_waited answer answer' ready ready' ha.1 hb.1 is in
+    let a = both_are.0 in
+    let o = both_are.1 in
+    cc
+same_entry (LinkOpen at answer) (LinkOpen at' answer') ha hb calls is =
+    let a = same_made answer answer' is in
+    cc
+same_entry (LinkRead asked answer octets) (LinkRead asked' answer' octets') ha hb calls is =
+    let both_are = same_read answer answer' octets octets' ha.1 hb.1 is in
+    let a = both_are.0 in
+    let o = both_are.1 in
+    cc
+same_entry (LinkWrite octets answer) (LinkWrite octets' answer') ha hb calls is =
+    let a = same_written answer answer' ha.1 hb.1 is in
+    cc
+same_entry (Connect socket to answer) (Connect socket' to' answer') ha hb calls is =
+    let a = same_made answer answer' is in
+    cc
+same_entry (Connected socket answer) (Connected socket' answer') ha hb calls is =
+    let a = same_joining answer answer' is in
+    cc
+same_entry (Listen socket at answer) (Listen socket' at' answer') ha hb calls is =
+    let a = same_made answer answer' is in
+    cc
+same_entry (Accept listener socket answer) (Accept listener' socket' answer') ha hb calls is =
+    let a = same_accepted answer answer' ha.1 hb.1 is in
+    cc
+same_entry (TcpRead socket asked answer octets) (TcpRead socket' asked' answer' octets') ha hb calls is =
+    let both_are = same_read answer answer' octets octets' ha.1 hb.1 is in
+    let a = both_are.0 in
+    let o = both_are.1 in
+    cc
+same_entry (TcpWrite socket octets answer) (TcpWrite socket' octets' answer') ha hb calls is =
+    let a = same_written answer answer' ha.1 hb.1 is in
+    cc
+same_entry (TcpEnd socket answer) (TcpEnd socket' answer') ha hb calls is =
+    let a = same_made answer answer' is in
+    cc
+same_entry (Close socket) (Close socket') ha hb calls is = cc
+same_entry (UdpOpen socket at answer) (UdpOpen socket' at' answer') ha hb calls is =
+    let a = same_made answer answer' is in
+    cc
+same_entry (UdpSend socket to octets answer) (UdpSend socket' to' octets' answer') ha hb calls is =
+    let a = same_sent answer answer' is in
+    cc
+same_entry (UdpRecv socket asked answer octets) (UdpRecv socket' asked' answer' octets') ha hb calls is =
+    let both_are = same_got answer answer' octets octets' ha.1.0 hb.1.0 ha.1.1 hb.1.1 is in
+    let a = both_are.0 in
+    let o = both_are.1 in
+    cc
+same_entry (FileLen name answer) (FileLen name' answer') ha hb calls is =
+    let a = same_size answer answer' ha.1 hb.1 is in
+    cc
+same_entry (FileRead name place asked answer octets) (FileRead name' place' asked' answer' octets') ha hb calls is =
+    let both_are = same_read answer answer' octets octets' ha.1.1 hb.1.1 is in
+    let a = both_are.0 in
+    let o = both_are.1 in
+    cc
+same_entry _ _ ha hb calls is = cc calls
+
+tail_of : (a b : List ℕ) → 32 ∷ a ≡ 32 ∷ b → a ≡ b
+tail_of a b is = cc
+
+same_body : (e f : Entry) → IsSayable e → IsSayable f → (call_text (call_of e) ++ 32 ∷ []) ++ 61 ∷ 32 ∷ answer_text e ≡ (call_text (call_of f) ++ 32 ∷ []) ++ 61 ∷ 32 ∷ answer_text f → e ≡ f
+same_body e f ha hb is =
+    let parted = parts_once 61 is_plain refl (call_text (call_of e) ++ 32 ∷ []) (call_text (call_of f) ++ 32 ∷ []) (32 ∷ answer_text e) (32 ∷ answer_text f) (call_plain (call_of e) ha.0) (call_plain (call_of f) hb.0) is in
+    let answers : answer_text e ≡ answer_text f = tail_of (answer_text e) (answer_text f) parted.1 in
+    same_entry e f ha hb (same_call (call_of e) (call_of f) ha.0 hb.0 parted.0) answers
+
+-- the first line of a text is of one entry
+same_first : (e f : Entry) (r s : List ℕ) → IsSayable e → IsSayable f → line_text e ++ r ≡ line_text f ++ s → (e ≡ f) × (r ≡ s)
+same_first e f r s ha hb is =
+    let parted = parts_once 10 is_line refl ((call_text (call_of e) ++ 32 ∷ []) ++ 61 ∷ 32 ∷ answer_text e) ((call_text (call_of f) ++ 32 ∷ []) ++ 61 ∷ 32 ∷ answer_text f) r s (body_line e ha) (body_line f hb) (sym (then_more e r) ∙ is ∙ then_more f s) in
+    (same_body e f ha hb parted.0, parted.1)
+
+same_schedule : (xs ys : List Entry) → AreSayable xs → AreSayable ys → schedule_text xs ≡ schedule_text ys → xs ≡ ys
+same_schedule [] [] ha hb is = refl
+same_schedule [] (f ∷ fs) ha hb is = absurd (some_line f (schedule_text fs) is)
+same_schedule (e ∷ es) [] ha hb is = absurd (some_line e (schedule_text es) (sym is))
+same_schedule (e ∷ es) (f ∷ fs) ha hb is =
+    let one = same_first e f (schedule_text es) (schedule_text fs) ha.0 hb.0 is in
+    let more = same_schedule es fs ha.1 hb.1 one.1 in
+    ap (λ x. x ∷ es) one.0 ∙ ap (λ x. f ∷ x) more
+
+-- the other way round
+schedule_push : (es : List Entry) (e : Entry) → schedule_text (es ++ e ∷ []) ≡ schedule_text es ++ line_text e
+schedule_push [] e = append-nil (line_text e)
+schedule_push (x ∷ es) e = ap (λ t. line_text x ++ t) (schedule_push es e) ∙ sym (append_assoc (line_text x) (schedule_text es) (line_text e))
+
+turned : (past : List Entry) → text past ≡ schedule_text (reverse past)
+turned [] = refl
+turned (e ∷ past) = ap (λ t. t ++ line_text e) (turned past) ∙ sym (schedule_push (reverse past) e) ∙ ap schedule_text (sym (reverse-cons e past))
+
+sayable_push : (es : List Entry) (e : Entry) → AreSayable es → IsSayable e → AreSayable (es ++ e ∷ [])
+sayable_push [] e hs h = (h, tt)
+sayable_push (x ∷ es) e hs h = (hs.0, sayable_push es e hs.1 h)
+
+sayable_turned : (past : List Entry) → AreSayable past → AreSayable (reverse past)
+sayable_turned [] h = tt
+sayable_turned (e ∷ past) h = subst AreSayable (sym (reverse-cons e past)) (sayable_push (reverse past) e (sayable_turned past h.1) h.0)
+
+-- no two records have one text, where a line can say each entry
+one_text : (a b : List Entry) → AreSayable a → AreSayable b → text a ≡ text b → a ≡ b
+one_text a b ha hb is =
+    let same = same_schedule (reverse a) (reverse b) (sayable_turned a ha) (sayable_turned b hb) (sym (turned a) ∙ is ∙ turned b) in
+    sym (reverse-reverse a) ∙ ap reverse same ∙ reverse-reverse b
+
+-- a line can say an allowed entry
 allowed_call : (e : Entry) → Allowed e → InRange (call_of e)
 allowed_call (Now moment) h = tt
 allowed_call (Wait wants timeout answer ready) h = (h.2, h.1)
@@ -141,207 +255,51 @@ allowed_call (UdpRecv socket asked answer octets) h = (h.3, h.2)
 allowed_call (FileLen name answer) h = h.0
 allowed_call (FileRead name place asked answer octets) h = (h.4, h.3, h.2)
 
-same_entry : (e f : Entry) → Allowed e → Allowed f → call_of e ≡ call_of f → answer_text e ≡ answer_text f → e ≡ f
-unfolding answer_text
-same_entry (Now moment) (Now moment') ha hb calls is = ap Now (decimal_injective moment moment' ha hb is)
-same_entry (Wait wants timeout answer ready) (Wait wants' timeout' answer' ready') ha hb calls is =
-    let both_are = same_waited wants wants' answer answer' ready ready' ha.0 hb.0 is in
-    let a = both_are.0 in
-    let o = both_are.1 in
-    cc
-same_entry (LinkOpen at answer) (LinkOpen at' answer') ha hb calls is =
-    let a = same_made answer answer' is in
-    cc
-same_entry (LinkRead asked answer octets) (LinkRead asked' answer' octets') ha hb calls is =
-    let both_are = same_read answer answer' octets octets' ha.1 hb.1 is in
-    let a = both_are.0 in
-    let o = both_are.1 in
-    cc
-same_entry (LinkWrite octets answer) (LinkWrite octets' answer') ha hb calls is =
-    let offered : octets ≡ octets' = cc in
-    let other : MayWrite (length octets) answer' = subst (λ (o : List ℕ). MayWrite (length o) answer') (sym offered) hb.0 in
-    let a = same_written (length octets) answer answer' ha.2 ha.0 other is in
-    cc
-same_entry (Connect socket to answer) (Connect socket' to' answer') ha hb calls is =
-    let a = same_made answer answer' is in
-    cc
-same_entry (Connected socket answer) (Connected socket' answer') ha hb calls is =
-    let a = same_joining answer answer' is in
-    cc
-same_entry (Listen socket at answer) (Listen socket' at' answer') ha hb calls is =
-    let a = same_made answer answer' is in
-    cc
-same_entry (Accept listener socket answer) (Accept listener' socket' answer') ha hb calls is =
-    let a = same_accepted answer answer' ha.2 hb.2 is in
-    cc
-same_entry (TcpRead socket asked answer octets) (TcpRead socket' asked' answer' octets') ha hb calls is =
-    let both_are = same_read answer answer' octets octets' ha.1 hb.1 is in
-    let a = both_are.0 in
-    let o = both_are.1 in
-    cc
-same_entry (TcpWrite socket octets answer) (TcpWrite socket' octets' answer') ha hb calls is =
-    let offered : octets ≡ octets' = cc in
-    let other : MayWrite (length octets) answer' = subst (λ (o : List ℕ). MayWrite (length o) answer') (sym offered) hb.0 in
-    let a = same_written (length octets) answer answer' ha.3 ha.0 other is in
-    cc
-same_entry (TcpEnd socket answer) (TcpEnd socket' answer') ha hb calls is =
-    let a = same_made answer answer' is in
-    cc
-same_entry (Close socket) (Close socket') ha hb calls is = cc
-same_entry (UdpOpen socket at answer) (UdpOpen socket' at' answer') ha hb calls is =
-    let a = same_made answer answer' is in
-    cc
-same_entry (UdpSend socket to octets answer) (UdpSend socket' to' octets' answer') ha hb calls is =
-    let a = same_sent answer answer' is in
-    cc
-same_entry (UdpRecv socket asked answer octets) (UdpRecv socket' asked' answer' octets') ha hb calls is =
-    let both_are = same_got answer answer' asked asked' octets octets' ha.0 hb.0 ha.1 hb.1 is in
-    let a = both_are.0 in
-    let o = both_are.1 in
-    cc
-same_entry (FileLen name answer) (FileLen name' answer') ha hb calls is =
-    let a = same_size answer answer' ha.1 hb.1 is in
-    cc
-same_entry (FileRead name place asked answer octets) (FileRead name' place' asked' answer' octets') ha hb calls is =
-    let both_are = same_read answer answer' octets octets' ha.1 hb.1 is in
-    let a = both_are.0 in
-    let o = both_are.1 in
-    cc
-same_entry _ _ ha hb calls is = cc calls
+counts : (most : ℕ) (a : Io) → most < 2 ^ 64 → MayWrite most a → Counts a
+counts most (Done n) short h = omega arith
+counts most End short h = h
+counts most NotYet short h = tt
+counts most Failed short h = tt
 
--- no line feed stands in an answer
-in_line : (xs : List ℕ) → list_all is_word xs ≡ true → list_all is_line xs ≡ true
-in_line xs h = fit_weaker is_word is_line word_is_line xs h
+at_once : (asked : ℕ) (a : Io) → MayReadFile asked a → IsAtOnce a
+at_once asked (Done n) h = tt
+at_once asked End h = tt
+at_once asked NotYet h = h
+at_once asked Failed h = tt
 
-read_line : (a : Io) (o : List ℕ) → Leaves a o → list_all is_line (read_text a o) ≡ true
-read_line (Done n) o h = in_line (hexadecimal o) (hexadecimal_word o h.1)
-read_line End o h = refl
-read_line NotYet o h = refl
-read_line Failed o h = refl
+comes_from : (asked : ℕ) (a : Got) → MayGet asked a → ComesFrom a
+comes_from asked (From peer n) h = h.1
+comes_from asked NothingGot h = tt
+comes_from asked GetFailed h = tt
 
-written_line : (most : ℕ) (a : Io) → most < 2 ^ 64 → MayWrite most a → list_all is_line (written_text a) ≡ true
-written_line most (Done n) short h = in_line (decimal n) (decimal_word n (omega arith))
-written_line most End short h = refl
-written_line most NotYet short h = refl
-written_line most Failed short h = refl
+leaves_ready : (wants : List Want) (a : Waited) (r : List Want) → MayWait wants a r → LeavesReady a r
+leaves_ready wants Ready r h = h.0
+leaves_ready wants Stop r h = h
+leaves_ready wants WaitFailed r h = h
 
-made_line : (a : Made) → list_all is_line (made_text a) ≡ true
-made_line MadeDone = refl
-made_line MadeFailed = refl
+allowed_answer : (e : Entry) → Allowed e → AnswersInRange e
+allowed_answer (Now moment) h = h
+allowed_answer (Wait wants timeout answer ready) h = leaves_ready wants answer ready h.0
+allowed_answer (LinkOpen at answer) h = tt
+allowed_answer (LinkRead asked answer octets) h = h.1
+allowed_answer (LinkWrite octets answer) h = counts (length octets) answer h.2 h.0
+allowed_answer (Connect socket to answer) h = tt
+allowed_answer (Connected socket answer) h = tt
+allowed_answer (Listen socket at answer) h = tt
+allowed_answer (Accept listener socket answer) h = h.2
+allowed_answer (TcpRead socket asked answer octets) h = h.1
+allowed_answer (TcpWrite socket octets answer) h = counts (length octets) answer h.3 h.0
+allowed_answer (TcpEnd socket answer) h = tt
+allowed_answer (Close socket) h = tt
+allowed_answer (UdpOpen socket at answer) h = tt
+allowed_answer (UdpSend socket to octets answer) h = tt
+allowed_answer (UdpRecv socket asked answer octets) h = (comes_from asked answer h.0, h.1)
+allowed_answer (FileLen name answer) h = h.1
+allowed_answer (FileRead name place asked answer octets) h = (at_once asked answer h.0, h.1)
 
-joining_line : (a : Joined) → list_all is_line (joined_answer a) ≡ true
-joining_line Yes = refl
-joining_line NotYetJoined = refl
-joining_line JoinFailed = refl
-
-sent_line : (a : Sent) → list_all is_line (sent_text a) ≡ true
-sent_line SentDone = refl
-sent_line NotYetSent = refl
-sent_line SendFailed = refl
-
-accepted_line : (a : Accepted) → MayAccept a → list_all is_line (accepted_text a) ≡ true
-accepted_line (FromPeer p) h = in_line (endpoint_text p) (endpoint_word p h)
-accepted_line NoPeer h = refl
-accepted_line AcceptFailed h = refl
-
-size_line : (a : FileSize) → MayMeasure a → list_all is_line (size_text a) ≡ true
-size_line (Length n) h = in_line (decimal n) (decimal_word n h)
-size_line Missing h = refl
-size_line SizeFailed h = refl
-
-got_line : (asked : ℕ) (a : Got) (o : List ℕ) → MayGet asked a → LeavesGot a o → list_all is_line (got_text a o) ≡ true
-got_line asked (From p n) o ga h =
-    fit_append is_line (codes "from " ++ endpoint_text p ++ 32 ∷ []) (hexadecimal o)
-    (fit_append is_line (codes "from " ++ endpoint_text p) (32 ∷ []) (in_line (endpoint_text p) (endpoint_word p ga.1)) refl)
-    (in_line (hexadecimal o) (hexadecimal_word o h.1))
-got_line asked NothingGot o ga h = refl
-got_line asked GetFailed o ga h = refl
-
-waited_line : (wants : List Want) (a : Waited) (r : List Want) → MayWait wants a r → list_all is_line (waited_text a r) ≡ true
-waited_line wants Ready [] h = refl
-waited_line wants Ready (w ∷ ws) h = in_line (joined_text (w ∷ ws)) (joined_word w ws h.0)
-waited_line wants Stop r h = refl
-waited_line wants WaitFailed r h = refl
-
-answer_line : (e : Entry) → Allowed e → list_all is_line (answer_text e) ≡ true
-unfolding answer_text
-answer_line (Now moment) h = in_line (decimal moment) (decimal_word moment h)
-answer_line (Wait wants timeout answer ready) h = waited_line wants answer ready h.0
-answer_line (LinkOpen at answer) h = made_line answer
-answer_line (LinkRead asked answer octets) h = read_line answer octets h.1
-answer_line (LinkWrite octets answer) h = written_line (length octets) answer h.2 h.0
-answer_line (Connect socket to answer) h = made_line answer
-answer_line (Connected socket answer) h = joining_line answer
-answer_line (Listen socket at answer) h = made_line answer
-answer_line (Accept listener socket answer) h = accepted_line answer h.2
-answer_line (TcpRead socket asked answer octets) h = read_line answer octets h.1
-answer_line (TcpWrite socket octets answer) h = written_line (length octets) answer h.3 h.0
-answer_line (TcpEnd socket answer) h = made_line answer
-answer_line (Close socket) h = refl
-answer_line (UdpOpen socket at answer) h = made_line answer
-answer_line (UdpSend socket to octets answer) h = sent_line answer
-answer_line (UdpRecv socket asked answer octets) h = got_line asked answer octets h.0 h.1
-answer_line (FileLen name answer) h = size_line answer h.1
-answer_line (FileRead name place asked answer octets) h = read_line answer octets h.1
-
-regroup : (c a : List ℕ) → ((c ++ (32 ∷ 61 ∷ 32 ∷ [])) ++ a) ++ 10 ∷ [] ≡ ((c ++ 32 ∷ []) ++ 61 ∷ 32 ∷ a) ++ 10 ∷ []
-regroup c a = simp append_assoc
-
--- a line: a call and a space, a sign, a space and an answer, and a line feed
-line_form : (e : Entry) → line_text e ≡ ((call_text (call_of e) ++ 32 ∷ []) ++ 61 ∷ 32 ∷ answer_text e) ++ 10 ∷ []
-line_form e = regroup (call_text (call_of e)) (answer_text e)
-
-body_line : (e : Entry) → Allowed e → list_all is_line ((call_text (call_of e) ++ 32 ∷ []) ++ 61 ∷ 32 ∷ answer_text e) ≡ true
-body_line e h = fit_append is_line (call_text (call_of e) ++ 32 ∷ []) (61 ∷ 32 ∷ answer_text e) (fit_weaker is_plain is_line plain_is_line (call_text (call_of e) ++ 32 ∷ []) (call_plain (call_of e) (allowed_call e h))) (answer_line e h)
-
-tail_of : (a b : List ℕ) → 32 ∷ a ≡ 32 ∷ b → a ≡ b
-tail_of a b is = cc
-
-same_body : (e f : Entry) → Allowed e → Allowed f → (call_text (call_of e) ++ 32 ∷ []) ++ 61 ∷ 32 ∷ answer_text e ≡ (call_text (call_of f) ++ 32 ∷ []) ++ 61 ∷ 32 ∷ answer_text f → e ≡ f
-same_body e f ha hb is =
-    let parted = parts_once 61 is_plain refl (call_text (call_of e) ++ 32 ∷ []) (call_text (call_of f) ++ 32 ∷ []) (32 ∷ answer_text e) (32 ∷ answer_text f) (call_plain (call_of e) (allowed_call e ha)) (call_plain (call_of f) (allowed_call f hb)) is in
-    let answers : answer_text e ≡ answer_text f = tail_of (answer_text e) (answer_text f) parted.1 in
-    same_entry e f ha hb (same_call (call_of e) (call_of f) (allowed_call e ha) (allowed_call f hb) parted.0) answers
-
-then_more : (e : Entry) (r : List ℕ) → line_text e ++ r ≡ ((call_text (call_of e) ++ 32 ∷ []) ++ 61 ∷ 32 ∷ answer_text e) ++ 10 ∷ r
-then_more e r = ap (λ t. t ++ r) (line_form e) ∙ append_assoc ((call_text (call_of e) ++ 32 ∷ []) ++ 61 ∷ 32 ∷ answer_text e) (10 ∷ []) r
-
--- the first line of a text is of one entry
-same_first : (e f : Entry) (r s : List ℕ) → Allowed e → Allowed f → line_text e ++ r ≡ line_text f ++ s → (e ≡ f) × (r ≡ s)
-same_first e f r s ha hb is =
-    let parted = parts_once 10 is_line refl ((call_text (call_of e) ++ 32 ∷ []) ++ 61 ∷ 32 ∷ answer_text e) ((call_text (call_of f) ++ 32 ∷ []) ++ 61 ∷ 32 ∷ answer_text f) r s (body_line e ha) (body_line f hb) (sym (then_more e r) ∙ is ∙ then_more f s) in
-    (same_body e f ha hb parted.0, parted.1)
-
-some_line : (e : Entry) (r : List ℕ) → [] ≡ line_text e ++ r → ⊥
-some_line e r is = omega (arith, length-append ((call_text (call_of e) ++ 32 ∷ []) ++ 61 ∷ 32 ∷ answer_text e) (10 ∷ r), ap length (is ∙ then_more e r))
-
-same_schedule : (xs ys : List Entry) → AreAllowed xs → AreAllowed ys → schedule_text xs ≡ schedule_text ys → xs ≡ ys
-same_schedule [] [] ha hb is = refl
-same_schedule [] (f ∷ fs) ha hb is = absurd (some_line f (schedule_text fs) is)
-same_schedule (e ∷ es) [] ha hb is = absurd (some_line e (schedule_text es) (sym is))
-same_schedule (e ∷ es) (f ∷ fs) ha hb is =
-    let one = same_first e f (schedule_text es) (schedule_text fs) ha.0 hb.0 is in
-    let more = same_schedule es fs ha.1 hb.1 one.1 in
-    ap (λ x. x ∷ es) one.0 ∙ ap (λ x. f ∷ x) more
-
--- the other way round
-schedule_push : (es : List Entry) (e : Entry) → schedule_text (es ++ e ∷ []) ≡ schedule_text es ++ line_text e
-schedule_push [] e = append-nil (line_text e)
-schedule_push (x ∷ es) e = ap (λ t. line_text x ++ t) (schedule_push es e) ∙ sym (append_assoc (line_text x) (schedule_text es) (line_text e))
-
-turned : (past : List Entry) → text past ≡ schedule_text (reverse past)
-turned [] = refl
-turned (e ∷ past) = ap (λ t. t ++ line_text e) (turned past) ∙ sym (schedule_push (reverse past) e) ∙ ap schedule_text (sym (reverse-cons e past))
-
-allowed_push : (es : List Entry) (e : Entry) → AreAllowed es → Allowed e → AreAllowed (es ++ e ∷ [])
-allowed_push [] e hs h = (h, tt)
-allowed_push (x ∷ es) e hs h = (hs.0, allowed_push es e hs.1 h)
-
-allowed_turned : (past : List Entry) → AreAllowed past → AreAllowed (reverse past)
-allowed_turned [] h = tt
-allowed_turned (e ∷ past) h = subst AreAllowed (sym (reverse-cons e past)) (allowed_push (reverse past) e (allowed_turned past h.1) h.0)
+pub all_sayable : (es : List Entry) → AreAllowed es → AreSayable es
+all_sayable [] h = tt
+all_sayable (e ∷ es) h = ((allowed_call e h.0, allowed_answer e h.0), all_sayable es h.1)
 
 pub one_to_one : (a b : List Entry) → AreAllowed a → AreAllowed b → text a ≡ text b → a ≡ b
-one_to_one a b ha hb is =
-    let same = same_schedule (reverse a) (reverse b) (allowed_turned a ha) (allowed_turned b hb) (sym (turned a) ∙ is ∙ turned b) in
-    sym (reverse-reverse a) ∙ ap reverse same ∙ reverse-reverse b
+one_to_one a b ha hb is = one_text a b (all_sayable a ha) (all_sayable b hb) is

@@ -1,10 +1,10 @@
 -- A file that is read from the front.
-use Rattle.std.proofs.Common.{◌≡◌, ℕ, ◌+◌, ◌-◌, ◌<◌, ◌≤◌, min, List, [], ◌∷◌, ◌++◌, length, take, Some, IsSomeAnd, refl, sym, ◌∙◌, ap, subst, arith, true, ◌⊎◌, inl, inr}
+use Rattle.std.proofs.Common.{◌≡◌, ℕ, ◌+◌, ◌-◌, ◌<◌, ◌≤◌, min, List, ◌∷◌, ◌++◌, length, take, IsSomeAnd, refl, sym, ◌∙◌, ap, subst, arith, true, ◌⊎◌, inl, inr}
 use Rattle.std.proofs.lemmas.List.{length-take-le}
-use Rattle.world_face.specs.Journal.{Entry, Follows, FileRead, count_of}
+use Rattle.world_face.specs.Journal.{Entry, FileRead, count_of}
 use Rattle.world_face.specs.declared.Io.{Io}
 use Rattle.world_face.specs.declared.Io.TheVariants.{End, NotYet, Failed}
-use Rattle.slirp_app.specs.Fetching.{MayFetch, Fetched, is_unread, file_length, octets_read}
+use Rattle.slirp_app.specs.Fetching.{Fetched, is_unread, file_length, octets_read}
 
 pub may_read : (name : List ℕ) (whole have asked : ℕ) (octets : List ℕ) (made : List Entry) → Fetched name whole have octets made → have < whole → whole ≤ 67108864 → length octets ≡ whole → asked ≡ min (whole - have) 16384
     → (have ≡ length (octets_read made)) × IsSomeAnd (file_length made) (λ w. (have < w) × (w ≤ 67108864) × (asked ≡ min (w - have) 16384))

@@ -1,2 +1,4 @@
+mod Causing
+mod Ending
 mod Fetched
 mod Replaying

@@ -1,9 +1,11 @@
 -- What a World that answers by a schedule tells of a run.
-use Rattle.std.proofs.Common.{◌≡◌, ◌≢◌, ℕ, zero, suc, Bool, true, false, cond, List, [], ◌∷◌, ◌++◌, drop, length, Option, Some, None, if◌then◌else◌, refl, sym, ◌∙◌, ap, subst, append_assoc}
+use Rattle.std.proofs.Common.{◌≡◌, ℕ, zero, suc, ◌+◌, ◌≤◌, true, false, List, [], ◌∷◌, ◌++◌, drop, length, Option, Some, None, IfSome, refl, sym, ◌∙◌, ap, subst, append_assoc, arith}
 use Rattle.std.proofs.lemmas.List.{append-nil}
-use Rattle.world_face.specs.Journal.{Entry, AreAllowed, Follows, call_of}
+use Rattle.std.specs.List.{slice_get}
+use Rattle.std.specs.Option.{option_map}
+use Rattle.world_face.specs.Journal.{Entry, Call, AreAllowed, call_of}
 use Rattle.world_face.specs.Puts.{added}
-use Rattle.world_face.specs.Tells.{Telling, Told, on, ceased, silent, Makes}
+use Rattle.world_face.specs.Tells.{Told, on, ceased, silent, Makes}
 use Rattle.world_face.proofs.Following.{follows_before, all_before}
 use Rattle.host_policy.specs.Settings.{usual}
 use Rattle.slirp_laws.specs.Laws.{May, Lawful}
@@ -12,10 +14,17 @@ use Rattle.slirp_laws.proofs.Sentences.{call_by_call, sentence_by_sentence}
 use Rattle.slirp_core.specs.Ends.{end_of}
 use Rattle.slirp_core.specs.declared.service.End.{End}
 use Rattle.slirp_core.specs.declared.service.End.TheVariants.{Done, TooLong, Cut, LinkFault, WaitFault, TurnsSpent}
+use Rattle.replay.specs.Fitting.{FitsNone, StopsRightly, divergence_of}
+use Rattle.replay.specs.Names.{name_of}
+use Rattle.replay.specs.Range.{AreSayable}
 use Rattle.replay.specs.Script.{Script, IsFresh, script_tells, schedule_text, newest_onto}
 use Rattle.replay.specs.Text.{text, line_text, Fits}
-use Rattle.slirp_app.specs.Ran.{Replayed, end_line}
+use Rattle.replay.specs.declared.Divergence.{Divergence}
+use Rattle.slirp_app.specs.Causes.{Came}
+use Rattle.slirp_app.specs.Ran.{Replayed, IsAtEnd, Ceased, end_line}
 use Rattle.slirp_app.specs.Statuses.{code_of, outcome_of}
+use Rattle.slirp_app.specs.declared.status.Outcome.{Outcome}
+use Rattle.slirp_app.specs.declared.status.Outcome.TheVariants.{Diverged}
 
 -- the text of the lines that are used up and of those that are left
 front : (n : ℕ) (lines older : List Entry) → text (newest_onto n lines older) ++ schedule_text (drop n lines) ≡ text older ++ schedule_text lines
@@ -23,56 +32,105 @@ front zero lines older = refl
 front (suc n) [] older = refl
 front (suc n) (l ∷ lines) older = front n lines (l ∷ older) ∙ append_assoc (text older) (line_text l) (schedule_text lines)
 
-fits : (script : Script) (schedule : List ℕ) → schedule_text script.lines ≡ schedule → Fits (script_tells script).kept schedule
-fits script schedule is = record { rest = schedule_text (drop script.used script.lines); is = sym (front script.used script.lines [] ∙ is) }
+-- as many lines are kept as are used up
+kept_count : (n : ℕ) (lines older : List Entry) → n ≤ length lines → length (newest_onto n lines older) ≡ n + length older
+kept_count zero lines older le = omega arith
+kept_count (suc n) [] older le = absurd (omega (arith, le))
+kept_count (suc n) (l ∷ lines) older le = omega (arith, kept_count n lines (l ∷ older) (omega (arith, le)))
 
-not_five : (end : End) → code_of (outcome_of end) ≡ 5 → ⊥
-not_five Done is = cc
-not_five (TooLong n) is = cc
-not_five (Cut n) is = cc
-not_five LinkFault is = cc
-not_five WaitFault is = cc
-not_five (TurnsSpent n) is = cc
+-- the line that stands next is the first of those that are left
+first_left : (n : ℕ) (lines : List Entry) → slice_get (drop n lines) 0 ≡ slice_get lines n
+first_left zero lines = refl
+first_left (suc n) [] = refl
+first_left (suc n) (l ∷ lines) = first_left n lines
+
+none_left : (lines : List Entry) (n : ℕ) (call : Call) → FitsNone lines n call → FitsNone (drop n lines) 0 call
+none_left lines n call none e is of = none e (sym (first_left n lines) ∙ is) of
+
+sayable_left : (n : ℕ) (lines : List Entry) → AreSayable lines → AreSayable (drop n lines)
+sayable_left zero lines readable = readable
+sayable_left (suc n) [] readable = readable
+sayable_left (suc n) (l ∷ lines) readable = sayable_left n lines readable.1
+
+-- the call at which it stopped
+stopped_at : (stop : Option Call) (f : Call → Divergence) (divergence : Divergence) → option_map f stop ≡ Some divergence → (call : Call) × (stop ≡ Some call) × (divergence ≡ f call)
+stopped_at None f divergence is = cc
+stopped_at (Some call) f divergence is = (call, refl, cc)
+
+-- a run that came to its end
+at_end : (end : End) (schedule : List ℕ) (old new : Option (List ℕ)) → Replayed (code_of (outcome_of end)) schedule old new (IsAtEnd (outcome_of end)) → Came (outcome_of end) schedule old new
+at_end Done schedule old new ran = ran
+at_end (TooLong n) schedule old new ran = ran
+at_end (Cut n) schedule old new ran = ran
+at_end LinkFault schedule old new ran = ran
+at_end WaitFault schedule old new ran = ran
+at_end (TurnsSpent n) schedule old new ran = ran
 
 -- a run, lawful and finished, with the end that its record tells
 abbrev pub Ran : End → List Entry → Type 0
 Ran end made = Lawful usual made × Finished usual made × (end ≡ end_of usual (phase usual made))
 
-module _ (script new : Script) (end : End) (status : ℕ) (before after : Option (List ℕ)) (fresh : IsFresh script)
-    (status_is : status ≡ (if new.live then code_of (outcome_of end) else 5)) (put : after ≡ added (text (script_tells new).kept ++ end_line status) before) where
+module _ (script new : Script) (end : End) (outcome : Outcome) (before after : Option (List ℕ)) (fresh : IsFresh script)
+    (lives : new.live ≡ true → outcome ≡ outcome_of end)
+    (dead : new.live ≡ false → (divergence : Divergence) × (outcome ≡ Diverged divergence) × (divergence_of new ≡ Some divergence))
+    (rightly : StopsRightly new.lines new.used new.stop) (within : new.used ≤ length new.lines) (readable : AreSayable new.lines)
+    (put : after ≡ added (text (script_tells new).kept ++ end_line (code_of outcome)) before) where
   nothing_kept : (script_tells script).kept ≡ []
   nothing_kept = ap (λ n. newest_onto n script.lines []) fresh.used
 
-  by_told : (made : List Entry) → schedule_text new.lines ≡ schedule_text script.lines → AreAllowed made → Ran end made → Told (script_tells script) (script_tells new) made → Replayed status (schedule_text script.lines) before after
+  put_as : (other : Outcome) → outcome ≡ other → after ≡ added (text (script_tells new).kept ++ end_line (code_of other)) before
+  put_as other is = put ∙ ap (λ o. added (text (script_tells new).kept ++ end_line (code_of o)) before) is
+
+  kept_then_left : schedule_text new.lines ≡ schedule_text script.lines → schedule_text script.lines ≡ text (script_tells new).kept ++ schedule_text (drop new.used new.lines)
+  kept_then_left same = sym (front new.used new.lines [] ∙ same)
+
+  fits : schedule_text new.lines ≡ schedule_text script.lines → Fits (script_tells new).kept (schedule_text script.lines)
+  fits same = record { rest = schedule_text (drop new.used new.lines); is = kept_then_left same }
+
+  -- where it ceased
+  there : (divergence : Divergence) → divergence_of new ≡ Some divergence → (told : List Entry) (e : Entry) → told ≡ (script_tells new).kept → IfSome new.stop (λ s. s ≡ call_of e)
+      → May usual told (call_of e) → schedule_text new.lines ≡ schedule_text script.lines → Ceased (schedule_text script.lines) divergence (script_tells new).kept
+  there divergence is told e kept stop may same =
+      let f : Call → Divergence = λ call. record { line = new.used + 1; made = name_of call; wanted = option_map (λ entry. name_of (call_of entry)) (slice_get new.lines new.used) } in
+      let at = stopped_at new.stop f divergence is in
+      let of : at.0 ≡ call_of e = subst (λ (o : Option Call). IfSome o (λ s. s ≡ call_of e)) at.1 stop in
+      record {
+        left = drop new.used new.lines;
+        readable = sayable_left new.used new.lines readable;
+        rest = kept_then_left same;
+        call = at.0;
+        may = subst (λ k. May usual k at.0) kept (subst (May usual told) (sym of) may);
+        fits_none = none_left new.lines new.used at.0 (rightly at.0 at.1);
+        line = ap (λ (d : Divergence). d.line) at.2 ∙ ap (λ n. n + 1) (sym (omega (arith, kept_count new.used new.lines [] within)));
+        made = ap (λ (d : Divergence). d.made) at.2;
+        wanted = ap (λ (d : Divergence). d.wanted) at.2 ∙ ap (λ o. option_map (λ entry. name_of (call_of entry)) o) (sym (first_left new.used new.lines));
+      }
+
+  by_told : (made : List Entry) → schedule_text new.lines ≡ schedule_text script.lines → AreAllowed made → Ran end made → Told (script_tells script) (script_tells new) made → Came outcome (schedule_text script.lines) before after
   by_told made same allowed run (on was now kept) =
       let is : made ≡ (script_tells new).kept = sym (kept ∙ ap (λ l. made ++ l) nothing_kept ∙ append-nil made) in
-      let ended : status ≡ code_of (outcome_of end) = status_is ∙ ap (λ b. cond b (code_of (outcome_of end)) 5) now in
-      record {
+      subst (λ o. Came o (schedule_text script.lines) before after) (sym (lives now)) (at_end end (schedule_text script.lines) before after (record {
         journal = (script_tells new).kept;
-        put = put;
-        fits = fits new (schedule_text script.lines) same;
+        put = put_as (outcome_of end) (lives now);
+        fits = fits same;
         allowed = subst AreAllowed is allowed;
         lawful = subst (Lawful usual) is run.0;
-        finished = λ other. subst (Finished usual) is run.1;
-        ended = λ other. ended ∙ ap (λ e. code_of (outcome_of e)) (run.2 ∙ ap (λ l. end_of usual (phase usual l)) is);
-        stopped = λ five. absurd (not_five end (sym ended ∙ five));
-      }
+        holds = (subst (Finished usual) is run.1, ap outcome_of (run.2 ∙ ap (λ l. end_of usual (phase usual l)) is));
+      }))
   by_told made same allowed run (ceased was now later told e made_is kept stop) =
       let is : told ≡ (script_tells new).kept = sym (kept ∙ ap (λ l. told ++ l) nothing_kept ∙ append-nil told) in
-      let five : status ≡ 5 = status_is ∙ ap (λ b. cond b (code_of (outcome_of end)) 5) now in
       let lawful = call_by_call usual (later ++ (e ∷ told)) (subst (Lawful usual) made_is run.0) in
       let next = follows_before (May usual) later (e ∷ told) lawful in
-      record {
+      let left = dead now in
+      subst (λ o. Came o (schedule_text script.lines) before after) (sym left.1) (record {
         journal = (script_tells new).kept;
-        put = put;
-        fits = fits new (schedule_text script.lines) same;
+        put = put_as (Diverged left.0) left.1;
+        fits = fits same;
         allowed = subst AreAllowed is (all_before later (e ∷ told) (subst AreAllowed made_is allowed)).1;
         lawful = subst (Lawful usual) is (sentence_by_sentence usual told next.1);
-        finished = λ other. absurd (other five);
-        ended = λ other. absurd (other five);
-        stopped = λ is_five. (call_of e, subst (λ l. May usual l (call_of e)) is next.0);
-      }
+        holds = there left.0 left.2 told e is stop next.0 same;
+      })
   by_told made same allowed run (silent quiet now kept stop) = cc
 
-  pub replayed : Makes (script_tells script) (script_tells new) (Ran end) → Replayed status (schedule_text script.lines) before after
+  pub replayed : Makes (script_tells script) (script_tells new) (Ran end) → Came outcome (schedule_text script.lines) before after
   replayed makes = by_told makes.made makes.same makes.allowed makes.holds makes.told

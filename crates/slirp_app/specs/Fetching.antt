@@ -1,5 +1,5 @@
 -- The calls on the outer World by which a file is read.
-use Rattle.std.specs.Prelude.{◌≡◌, ℕ, ◌-◌, ◌<◌, ◌≤◌, min, List, [], ◌∷◌, ◌++◌, length, take, nat_lt, ◌==◌, ◌||◌, not, Bool, true, false, IsTrue, Option, None, Some, IsSomeAnd}
+use Rattle.std.specs.Prelude.{◌≡◌, ℕ, ◌-◌, ◌<◌, ◌≤◌, min, List, [], ◌∷◌, ◌++◌, length, take, nat_lt, ◌==◌, ◌||◌, not, Bool, true, false, Option, None, Some, IsSomeAnd}
 use Rattle.world_face.specs.Journal.{Entry, Follows, FileLen, FileRead, Call, CallFileLen, CallFileRead}
 use Rattle.world_face.specs.declared.Io.{Io}
 use Rattle.world_face.specs.declared.Io.TheVariants.{Done}
@@ -59,8 +59,3 @@ IsUnreadable past = is_unreadable past ≡ true
 -- FILE was read to its end: not where the words have no reading, where FILE has none, and where there was no memory
 abbrev pub is_read : ℕ → Bool
 is_read status = not ((status == 1) || (status == 3) || (status == 13))
-
--- what the status tells of how FILE was read
-pub record FetchedBy (status : ℕ) (made : List Entry) : Type 0 where
-  pub unreadable : status ≡ 3 → IsUnreadable made
-  pub whole : IsTrue (is_read status) → IsWhole made

@@ -1,4 +1,7 @@
+pub mod Causes
+pub mod Counting
 pub mod Fetching
 pub mod Ran
 pub mod Statuses
+pub mod Texts
 pub mod Words

@@ -1,38 +1,61 @@
 -- What a replay did.
-use Rattle.std.specs.Prelude.{◌≡◌, ◌≢◌, ℕ, ◌+◌, ◌≤◌, min, List, [], ◌∷◌, ◌++◌, codes, decimal, Option, MatchOption}
-use Rattle.world_face.specs.Journal.{Entry, Call, AreAllowed, Follows}
-use Rattle.world_face.specs.Limits.{last_count}
+use Rattle.std.specs.Prelude.{◌≡◌, ℕ, ◌+◌, List, [], ◌∷◌, ◌++◌, length, slice_get, codes, decimal, Option, Some, option_map, MatchOption}
+use Rattle.world_face.specs.Frames.{Ending, partial, ending}
+use Rattle.world_face.specs.Journal.{Entry, Call, call_of, AreAllowed, Follows}
 use Rattle.world_face.specs.Puts.{added}
 use Rattle.host_policy.specs.Settings.{usual}
 use Rattle.slirp_laws.specs.Laws.{May, Lawful}
 use Rattle.slirp_laws.specs.Shape.{Finished, phase}
 use Rattle.slirp_core.specs.Ends.{end_of}
+use Rattle.replay.specs.Fitting.{FitsNone}
+use Rattle.replay.specs.Names.{name_of}
+use Rattle.replay.specs.Range.{AreSayable}
+use Rattle.replay.specs.Script.{schedule_text}
 use Rattle.replay.specs.Text.{text, Fits}
+use Rattle.replay.specs.declared.Divergence.{Divergence}
 use Rattle.slirp_app.specs.Fetching.{MayFetch}
-use Rattle.slirp_app.specs.Statuses.{code_of, outcome_of}
+use Rattle.slirp_app.specs.Statuses.{outcome_of}
 use Rattle.slirp_app.specs.Words.{file_of}
+use Rattle.slirp_app.specs.declared.status.Outcome.{Outcome}
 
 -- on the outer World only the named file is read, and nothing at all where the words have no reading
 abbrev pub FetchesFile : List (List ℕ) → List Entry → Type 0
 FetchesFile words made = MatchOption (file_of words) (made ≡ []) (λ name. Follows (MayFetch name) made)
-
--- a count of faults rose, if it wasn't at its last
-abbrev pub Rose : (old new : ℕ) → Type 0
-Rose old new = min last_count (old + 1) ≤ new
 
 -- the last line of a transcript
 abbrev pub end_line : ℕ → List ℕ
 end_line status = codes "end " ++ decimal status ++ 10 ∷ []
 
 -- There is one record of calls: it was put, and then the status; it fits the schedule's lines from the first; each answer is one that a World may give;
--- each call was lawful; where the schedule was followed nothing more is to be done, and the status is that of the end that the record tells;
--- where it wasn't, the call that fitted no line was lawful too.
-pub record Replayed (status : ℕ) (schedule : List ℕ) (old new : Option (List ℕ)) : Type 0 where
+-- each call was lawful. P holds of it.
+pub record Replayed (status : ℕ) (schedule : List ℕ) (old new : Option (List ℕ)) (P : List Entry → Type 0) : Type 0 where
   pub journal : List Entry
   pub put : new ≡ added (text journal ++ end_line status) old
   pub fits : Fits journal schedule
   pub allowed : AreAllowed journal
   pub lawful : Lawful usual journal
-  pub finished : status ≢ 5 → Finished usual journal
-  pub ended : status ≢ 5 → status ≡ code_of (outcome_of (end_of usual (phase usual journal)))
-  pub stopped : status ≡ 5 → (call : Call) × May usual journal call
+  pub holds : P journal
+
+-- The schedule was followed to the end of the run: nothing more is to be done, and the outcome is that of the end which the record tells.
+abbrev pub IsAtEnd : Outcome → List Entry → Type 0
+IsAtEnd outcome journal = Finished usual journal × (outcome ≡ outcome_of (end_of usual (phase usual journal)))
+
+-- The run ceased at a call that may come next and that fits no line: the lines that are left, as they are read, don't begin with one of this call and an answer that a World may give.
+pub record Ceased (schedule : List ℕ) (divergence : Divergence) (journal : List Entry) : Type 0 where
+  pub left : List Entry
+  pub readable : AreSayable left
+  pub rest : schedule ≡ text journal ++ schedule_text left
+  pub call : Call
+  pub may : May usual journal call
+  pub fits_none : FitsNone left 0 call
+  pub line : divergence.line ≡ length journal + 1
+  pub made : divergence.made ≡ name_of call
+  pub wanted : divergence.wanted ≡ option_map (λ e. name_of (call_of e)) (slice_get left 0)
+
+-- an entry of the record ends a run for this cause
+pub record EndsBy (why : Ending) (journal : List Entry) : Type 0 where
+  pub later : List Entry
+  pub past : List Entry
+  pub entry : Entry
+  pub is : journal ≡ later ++ (entry ∷ past)
+  pub ends : ending entry (partial past) ≡ Some why

@@ -1,7 +1,5 @@
 -- The words of the command line.
-use Rattle.std.specs.Prelude.{ℕ, ◌==◌, ◌&&◌, not, nat_le, Bool, List, [], ◌∷◌, map, length, slice_index, bytes_eq, codes, Option, Some, None, if◌then◌else◌}
-use Rattle.std.specs.declared.string.String.{String}
-use Rattle.std.specs.String.{string_bytes}
+use Rattle.std.specs.Prelude.{ℕ, ◌==◌, ◌&&◌, not, nat_le, Bool, List, [], ◌∷◌, length, slice_index, bytes_eq, codes, Option, Some, None, if◌then◌else◌}
 
 -- the name of a file: 1 to 1,280 octets that don't begin with a dash
 abbrev pub is_file : List ℕ → Bool

@@ -1,16 +1,29 @@
 // The program's main call.
-ghost use Rattle.std.specs.Prelude.{◌≡◌, ◌++◌, ◌≤◌, ◌<◌, ◌↔◌, None, IsTrue, length, map, if◌then◌else◌};
+ghost use Rattle.std.specs.Prelude.{◌≡◌, ◌≢◌, ◌⊎◌, ℕ, ◌++◌, ◌≤◌, ◌<◌, ◌↔◌, None, Some, true, false, IsTrue, length, map};
 ghost use Rattle.std.specs.Option.{option_copied};
 ghost use Rattle.std.specs.String.{string_bytes};
-ghost use Rattle.world_face.specs.Journal.{Follows};
-ghost use Rattle.world_face.specs.Tells.{Makes};
+ghost use Rattle.host_policy.specs.Settings.{usual};
+ghost use Rattle.replay.specs.Fitting.{StopsRightly, divergence_of};
+ghost use Rattle.replay.specs.Range.{AreSayable};
 ghost use Rattle.replay.specs.Script.{IsFresh, schedule_text, script_tells};
 ghost use Rattle.replay.specs.Text.{text};
-ghost use Rattle.slirp_app.specs.Fetching.{MayFetch, FetchedBy, octets_read};
-ghost use Rattle.slirp_app.specs.Ran.{FetchesFile, Replayed, Rose, end_line};
+ghost use Rattle.replay.specs.Unread.{IsFirstUnread};
+ghost use Rattle.replay.specs.declared.Divergence.{Divergence};
+ghost use Rattle.slirp_app.specs.Causes.{Came, CannotRead, Caused, RanOn};
+ghost use Rattle.slirp_app.specs.Counting.{Rose};
+ghost use Rattle.slirp_app.specs.Fetching.{IsWhole, MayFetch, is_read, octets_read};
+ghost use Rattle.slirp_app.specs.Ran.{Ceased, EndsBy, FetchesFile, end_line};
 ghost use Rattle.slirp_app.specs.Statuses.{code_of, outcome_of, is_run, is_unrun};
+ghost use Rattle.slirp_app.specs.Texts.{Got};
 ghost use Rattle.slirp_app.specs.Words.{file_of, is_file};
+ghost use Rattle.slirp_app.specs.declared.status.Outcome.{Outcome as AnOutcome};
+ghost use Rattle.slirp_app.specs.declared.status.Outcome.TheVariants.{Diverged, FrameCut, FrameTooLong, NoMemory as OfMemory, ScheduleLine, TurnsSpent};
+ghost use Rattle.slirp_core.specs.Ends.{end_of};
+ghost use Rattle.slirp_laws.specs.Shape.{Finished, phase, waits};
+ghost use Rattle.world_face.specs.Frames.{LinkCut, LinkEnded, LinkFailed, LongFrame, Stopped, WaitFailed};
+ghost use Rattle.world_face.specs.Journal.{Follows};
 ghost use Rattle.world_face.specs.Puts.{Puts};
+ghost use Rattle.world_face.specs.Tells.{Makes};
 
 use crate::fetching::{Unread, read_file};
 use crate::status::{Outcome, outcome_of};
@@ -30,13 +43,42 @@ pub fn slirp_main<W: World, K: Sink, E: Sink>(
     out: &mut K,
     err: &mut E,
 ) -> u8
-    // With words that have no reading no call is made on the outer World; else only FILE is read. A run's record is lawful and fits what was read.
-    ensures calls { Makes (W.tells world.old) (W.tells world.new) (λ made. FetchesFile (map string_bytes words.now.items) made
-        × FetchedBy result made × (IsTrue (is_run result) → Replayed result (octets_read made) (K.holds out.old) (K.holds out.new))) }
+    // With words that have no reading no call is made on the outer World; else only FILE is read, from its start on and without a gap.
+    ensures calls { Makes (W.tells world.old) (W.tells world.new) (FetchesFile (map string_bytes words.now.items)) }
     // Where nothing was run nothing was put.
     ensures nothing { IsTrue (is_unrun result) → K.holds out.new ≡ K.holds out.old }
+    // `err` got the text of the outcome and a line feed, unless its count of faults rose.
+    ensures told { (outcome : AnOutcome) × (result ≡ code_of outcome) × Got (E.holds err.old) (E.holds err.new) (E.faults err.old) (E.faults err.new) outcome }
+    // With 0 and 12 it got nothing.
+    ensures silent { (result ≡ 0) ⊎ (result ≡ 12) → (E.holds err.new ≡ E.holds err.old) × (E.faults err.new ≡ E.faults err.old) }
     // The status is 1 exactly where the words have no reading.
     ensures usage { (result ≡ 1) ↔ (file_of (map string_bytes words.now.items) ≡ None) }
+    // It is 3 only where FILE is missing, has over 64 MiB or ended before its length, or the count of the files' faults rose.
+    ensures unreadable { result ≡ 3 → Makes (W.tells world.old) (W.tells world.new) (CannotRead (W.tells world.old) (W.tells world.new)) }
+    // Else, 1 and 13 aside, as many octets were read as FILE's length says.
+    ensures whole { IsTrue (is_read result) → Makes (W.tells world.old) (W.tells world.new) IsWhole }
+    // It is 4 exactly where a line of FILE has no reading, and the text has the first such line.
+    ensures misspelt { IsTrue (is_read result) → Makes (W.tells world.old) (W.tells world.new) (λ made. (result ≡ 4) ↔ (line : ℕ) × IsFirstUnread (octets_read made) line) }
+    ensures named { result ≡ 4 → Makes (W.tells world.old) (W.tells world.new) (λ made. (line : ℕ) × IsFirstUnread (octets_read made) line × Got (E.holds err.old) (E.holds err.new) (E.faults err.old) (E.faults err.new) (ScheduleLine line)) }
+    // A run's record was put and then the status. But for 5 nothing more is to be done, and the status is that of the end which the record tells.
+    ensures ran { IsTrue (is_run result) → RanOn (W.tells world.old) (W.tells world.new) result (K.holds out.old) (K.holds out.new)
+        (λ schedule journal. result ≢ 5 → Finished usual journal × (result ≡ code_of (outcome_of (end_of usual (phase usual journal))))) }
+    // With 5 it ceased at a call that may come next and fits no line, and the text names the line, the call, and the call of the line.
+    ensures diverged { result ≡ 5 → RanOn (W.tells world.old) (W.tells world.new) 5 (K.holds out.old) (K.holds out.new)
+        (λ schedule journal. (divergence : Divergence) × Ceased schedule divergence journal × Got (E.holds err.old) (E.holds err.new) (E.faults err.old) (E.faults err.new) (Diverged divergence)) }
+    // With 0 a wait was told to stop, or the link ended between two frames.
+    ensures done { result ≡ 0 → RanOn (W.tells world.old) (W.tells world.new) 0 (K.holds out.old) (K.holds out.new) (λ schedule journal. EndsBy Stopped journal ⊎ EndsBy LinkEnded journal) }
+    // With 6 a length over 69,632 was read, and the text has it.
+    ensures too_long { result ≡ 6 → RanOn (W.tells world.old) (W.tells world.new) 6 (K.holds out.old) (K.holds out.new)
+        (λ schedule journal. (size : ℕ) × EndsBy (LongFrame size) journal × (69632 < size) × Got (E.holds err.old) (E.holds err.new) (E.faults err.old) (E.faults err.new) (FrameTooLong size)) }
+    // With 7 the link ended inside a length or frame, and the text has how many octets of it had come.
+    ensures cut { result ≡ 7 → RanOn (W.tells world.old) (W.tells world.new) 7 (K.holds out.old) (K.holds out.new)
+        (λ schedule journal. (octets : ℕ) × EndsBy (LinkCut octets) journal × Got (E.holds err.old) (E.holds err.new) (E.faults err.old) (E.faults err.new) (FrameCut octets)) }
+    // With 8 a call on the link failed, with 9 a wait.
+    ensures link_fault { result ≡ 8 → RanOn (W.tells world.old) (W.tells world.new) 8 (K.holds out.old) (K.holds out.new) (λ schedule journal. EndsBy LinkFailed journal) }
+    ensures wait_fault { result ≡ 9 → RanOn (W.tells world.old) (W.tells world.new) 9 (K.holds out.old) (K.holds out.new) (λ schedule journal. EndsBy WaitFailed journal) }
+    // With 10 there were as many waits as the settings allow, and the text has their number.
+    ensures spent { result ≡ 10 → RanOn (W.tells world.old) (W.tells world.new) 10 (K.holds out.old) (K.holds out.new) (λ schedule journal. (usual.turns ≤ waits journal) × Got (E.holds err.old) (E.holds err.new) (E.faults err.old) (E.faults err.new) (TurnsSpent usual.turns)) }
     // It is 12 only where a put to `out` failed.
     ensures refused { result ≡ 12 → Rose (K.faults out.old) (K.faults out.new) }
 {
@@ -49,10 +91,9 @@ pub fn slirp_main<W: World, K: Sink, E: Sink>(
 fn replay_file<W: World, K: Sink>(alloc: Global, name: &str, world: &mut W, out: &mut K) -> Outcome
     requires some { 0 < length name.now }
     requires fits { length name.now ≤ 1280 }
-    ensures calls { Makes (W.tells world.old) (W.tells world.new) (λ made. Follows (MayFetch name.now) made
-        × FetchedBy (code_of result) made × (IsTrue (is_run (code_of result)) → Replayed (code_of result) (octets_read made) (K.holds out.old) (K.holds out.new))) }
+    ensures calls { Makes (W.tells world.old) (W.tells world.new) (λ made. Follows (MayFetch name.now) made × Caused result made (K.holds out.old) (K.holds out.new)) }
     ensures nothing { IsTrue (is_unrun (code_of result)) → K.holds out.new ≡ K.holds out.old }
-    ensures read { code_of result ≡ 1 → ⊥ }
+    ensures read { code_of result ≢ 1 }
     ensures refused { code_of result ≡ 12 → Rose (K.faults out.old) (K.faults out.new) }
 {
     match read_file(alloc, world, name) {
@@ -65,9 +106,11 @@ fn replay_file<W: World, K: Sink>(alloc: Global, name: &str, world: &mut W, out:
 // Runs on the octets of a schedule.
 fn replay<K: Sink>(alloc: Global, octets: Vec<u8>, out: &mut K) -> Outcome
     requires { length octets.items ≤ 67108864 }
-    ensures replayed { IsTrue (is_run (code_of result)) → Replayed (code_of result) octets.items (K.holds out.old) (K.holds out.new) }
+    ensures came { Came result octets.items (K.holds out.old) (K.holds out.new) }
     ensures nothing { IsTrue (is_unrun (code_of result)) → K.holds out.new ≡ K.holds out.old }
-    ensures read { (code_of result ≡ 1 → ⊥) × (code_of result ≡ 3 → ⊥) }
+    ensures first { (line : ℕ) → result ≡ ScheduleLine line → IsFirstUnread octets.items line }
+    ensures misspelt { (line : ℕ) → IsFirstUnread octets.items line → (result ≡ ScheduleLine line) ⊎ (result ≡ OfMemory) }
+    ensures read { (code_of result ≢ 1) × (code_of result ≢ 3) }
     ensures refused { code_of result ≡ 12 → Rose (K.faults out.old) (K.faults out.new) }
 {
     match ScriptWorld::read(alloc, &octets) {
@@ -80,9 +123,9 @@ fn replay<K: Sink>(alloc: Global, octets: Vec<u8>, out: &mut K) -> Outcome
 // Runs on a schedule, and puts what it did.
 fn run<K: Sink>(alloc: Global, mut script: ScriptWorld, out: &mut K) -> Outcome
     requires { IsFresh script }
-    ensures replayed { IsTrue (is_run (code_of result)) → Replayed (code_of result) (schedule_text script.lines) (K.holds out.old) (K.holds out.new) }
+    ensures came { Came result (schedule_text script.lines) (K.holds out.old) (K.holds out.new) }
     ensures nothing { IsTrue (is_unrun (code_of result)) → K.holds out.new ≡ K.holds out.old }
-    ensures read { (code_of result ≡ 1 → ⊥) × (code_of result ≡ 3 → ⊥) }
+    ensures read { (code_of result ≢ 1) × (code_of result ≢ 3) × (code_of result ≢ 4) }
     ensures refused { code_of result ≡ 12 → Rose (K.faults out.old) (K.faults out.new) }
 {
     let Ok(mut service) = Service::open(alloc, &SlirpConfig::usual()) else {
@@ -98,7 +141,11 @@ fn run<K: Sink>(alloc: Global, mut script: ScriptWorld, out: &mut K) -> Outcome
 
 // What a run came to.
 fn ended(script: &ScriptWorld, end: End) -> Outcome
-    ensures code { code_of result ≡ (if script.now.live then code_of (outcome_of end) else 5) }
+    ensures lives { script.now.live ≡ true → result ≡ outcome_of end }
+    ensures ceased { script.now.live ≡ false → (divergence : Divergence) × (result ≡ Diverged divergence) × (divergence_of script.now ≡ Some divergence) }
+    ensures fits_none { StopsRightly script.now.lines script.now.used script.now.stop }
+    ensures within { script.now.used ≤ length script.now.lines }
+    ensures readable { AreSayable script.now.lines }
     ensures ran { IsTrue (is_run (code_of result)) }
 {
     match script.divergence() {
@@ -125,8 +172,7 @@ fn run_words<W: World, K: Sink>(
     world: &mut W,
     out: &mut K,
 ) -> Outcome
-    ensures calls { Makes (W.tells world.old) (W.tells world.new) (λ made. FetchesFile (map string_bytes words.now.items) made
-        × FetchedBy (code_of result) made × (IsTrue (is_run (code_of result)) → Replayed (code_of result) (octets_read made) (K.holds out.old) (K.holds out.new))) }
+    ensures calls { Makes (W.tells world.old) (W.tells world.new) (λ made. FetchesFile (map string_bytes words.now.items) made × Caused result made (K.holds out.old) (K.holds out.new)) }
     ensures nothing { IsTrue (is_unrun (code_of result)) → K.holds out.new ≡ K.holds out.old }
     ensures usage { (code_of result ≡ 1) ↔ (file_of (map string_bytes words.now.items) ≡ None) }
     ensures refused { code_of result ≡ 12 → Rose (K.faults out.old) (K.faults out.new) }

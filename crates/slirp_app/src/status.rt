@@ -1,9 +1,15 @@
 // The statuses of the program, and their texts.
-ghost use Rattle.std.specs.Prelude.{◌≡◌};
+#![tactic(auto, using(replay::proofs::Putting::puts_then, replay::proofs::Putting::puts_failed, replay::proofs::Putting::added_none))]
+
+ghost use Rattle.std.specs.Prelude.{◌≡◌, ◌++◌, [], codes, decimal};
+ghost use Rattle.replay.specs.Names.{name_text};
+ghost use Rattle.world_face.specs.Puts.{Puts};
 ghost use Rattle.slirp_app.specs.Statuses.{code_of, outcome_of};
+ghost use Rattle.slirp_app.specs.Texts.{text_of, told_text, wanted_text};
+ghost use Rattle.slirp_app.specs.declared.status.Outcome.TheVariants.{Diverged as IsDiverged};
 
 use itoa::Buffer;
-use replay::Divergence;
+use replay::{CallName, Divergence};
 use slirp_core::End;
 use world_face::{Failed, Sink};
 
@@ -46,7 +52,10 @@ impl Outcome {
     }
 
     /// Puts the text that tells it, with a line feed. There is none where all went well or a sink failed.
-    pub fn tell<E: Sink>(&self, err: &mut E) -> Result<(), Failed> {
+    pub fn tell<E: Sink>(&self, err: &mut E) -> Result<(), Failed>
+        ensures text { Puts (E.holds err.old) (E.holds err.new) (E.faults err.old) (E.faults err.new) (told_text self.now) result }
+        ensures silent { text_of self.now ≡ [] → (E.holds err.new ≡ E.holds err.old) × (E.faults err.new ≡ E.faults err.old) }
+    {
         match self {
             Outcome::Done | Outcome::SinkFault => Ok(()),
             Outcome::Usage => err.put(USAGE),
@@ -57,7 +66,7 @@ impl Outcome {
                 *line,
                 b"\n",
             ),
-            Outcome::Diverged(divergence) => tell_divergence(err, divergence),
+            Outcome::Diverged(divergence) => tell_divergence(err, *divergence),
             Outcome::FrameTooLong(length) => tell_number(
                 err,
                 b"slirpd: frame of ",
@@ -96,32 +105,48 @@ pub fn outcome_of(end: End) -> Outcome
 }
 
 // A number between two texts.
-fn tell_number<E: Sink>(
-    err: &mut E,
-    before: &[u8],
-    number: u64,
-    after: &[u8],
-) -> Result<(), Failed> {
+fn tell_number<E: Sink>(err: &mut E, before: &[u8], number: u64, after: &[u8]) -> Result<(), Failed>
+    ensures { Puts (E.holds err.old) (E.holds err.new) (E.faults err.old) (E.faults err.new) (before.now ++ decimal number ++ after.now) result }
+{
     let mut digits = Buffer::new();
     err.put(before)?;
     err.put(digits.format(number).as_bytes())?;
     err.put(after)
 }
 
-fn tell_divergence<E: Sink>(err: &mut E, divergence: &Divergence) -> Result<(), Failed> {
+fn tell_divergence<E: Sink>(err: &mut E, divergence: Divergence) -> Result<(), Failed>
+    ensures { Puts (E.holds err.old) (E.holds err.new) (E.faults err.old) (E.faults err.new) (told_text (IsDiverged divergence)) result }
+{
     tell_number(
         err,
         b"slirpd: diverged at line ",
         divergence.line,
         b": made ",
     )?;
-    err.put(divergence.made.name().as_bytes())?;
-    match divergence.wanted {
-        Some(wanted) => {
-            err.put(b", schedule has ")?;
-            err.put(wanted.name().as_bytes())?;
-            err.put(b"\n")
-        }
-        None => err.put(b", no line left\n"),
+    put_name(err, divergence.made)?;
+    tell_wanted(err, divergence.wanted)?;
+    err.put(b"\n")
+}
+
+// The call of the line that stands next, if one is left.
+fn tell_wanted<E: Sink>(err: &mut E, wanted: Option<CallName>) -> Result<(), Failed>
+    ensures { Puts (E.holds err.old) (E.holds err.new) (E.faults err.old) (E.faults err.new) (wanted_text wanted) result }
+{
+    match wanted {
+        Some(wanted) => tell_name(err, wanted),
+        None => err.put(b", no line left"),
     }
+}
+
+fn tell_name<E: Sink>(err: &mut E, wanted: CallName) -> Result<(), Failed>
+    ensures { Puts (E.holds err.old) (E.holds err.new) (E.faults err.old) (E.faults err.new) (codes ", schedule has " ++ name_text wanted) result }
+{
+    err.put(b", schedule has ")?;
+    put_name(err, wanted)
+}
+
+fn put_name<E: Sink>(err: &mut E, call: CallName) -> Result<(), Failed>
+    ensures { Puts (E.holds err.old) (E.holds err.new) (E.faults err.old) (E.faults err.new) (name_text call) result }
+{
+    err.put(call.name().as_bytes())
 }

@@ -1,8 +1,14 @@
+ghost use Rattle.world_face.specs.Journal.{MayMeasure};
+
 use super::*;
+use crate::status::Outcome;
 use replay::ScriptWorld;
 use std::alloc::Global;
 use std::test::Fail;
-use world_face::VecSink;
+use world_face::{
+    Accepted, Endpoint, FileSize, Got, Io, Joined, LinkAt, Made, ReadyList, Sent, VecSink, Waited,
+    Wants, World,
+};
 
 /// What `slirp_main` gave: its status, and what it put.
 #[derive(Drop)]
@@ -12,30 +18,47 @@ struct Outputs {
     err: VecSink,
 }
 
-/// Runs these words over an outer World that answers by this schedule. The put to `out` with the number `fails` is refused.
-fn ran(alloc: Global, words: &[&str], outer: &str, fails: Option<u64>) -> Result<Outputs, Fail> {
+/// Room for what a test puts.
+const ROOM: usize = 262_144;
+
+/// Runs these words over this World. The put to `out` with the number `fails` is refused.
+fn ran_on<W: World>(
+    alloc: Global,
+    words: &[&str],
+    world: &mut W,
+    fails: Option<u64>,
+) -> Result<Outputs, Fail> {
     let mut list = Vec::new(alloc);
     for word in words {
         list.push(String::from_str(alloc, word)?)?;
     }
+    let mut out = VecSink::open(alloc, ROOM, fails)?;
+    let mut err = VecSink::open(alloc, ROOM, None)?;
+    let status = slirp_main(alloc, &list, world, &mut out, &mut err);
+    Ok(Outputs { status, out, err })
+}
+
+/// The same over an outer World that answers by this schedule.
+fn ran(alloc: Global, words: &[&str], outer: &str, fails: Option<u64>) -> Result<Outputs, Fail> {
     if outer.len() > 67_108_864 {
         return Err(Fail::from("too long"));
     }
     let mut world = ScriptWorld::read(alloc, outer.as_bytes())?;
-    let mut out = VecSink::open(alloc, 4096, fails)?;
-    let mut err = VecSink::open(alloc, 4096, None)?;
-    let status = slirp_main(alloc, &list, &mut world, &mut out, &mut err);
-    Ok(Outputs { status, out, err })
+    ran_on(alloc, words, &mut world, fails)
 }
 
-/// Runs `replay f` where the file f has this content of at most 16,384 octets.
+/// Runs `replay f` where the file f has this content.
 fn replayed(alloc: Global, content: &str, fails: Option<u64>) -> Result<Outputs, Fail> {
     let length = content.len();
-    if length == 0 {
-        return ran(alloc, &["replay", "f"], "flen 66 = len 0\n", fails);
+    let mut outer = format!(in alloc; "flen 66 = len {length}\n")?;
+    let mut place = 0;
+    for part in content.as_bytes().chunks(16_384) {
+        let count = part.len();
+        let octets = hex::encode(alloc, part)?;
+        let line = format!(in alloc; "fread 66 {place} {count} = done {octets}\n")?;
+        outer.push_str(line.as_str())?;
+        place = place.saturating_add(16_384u64);
     }
-    let octets = hex::encode(alloc, content)?;
-    let outer = format!(in alloc; "flen 66 = len {length}\nfread 66 0 {length} = done {octets}\n")?;
     ran(alloc, &["replay", "f"], outer.as_str(), fails)
 }
 
@@ -199,16 +222,20 @@ fn a_schedule_that_ends_early(rt: HostRuntime) -> Result<(), Fail> {
     Ok(())
 }
 
+/// Whether the run that begins so has this status and this text; what it puts is what it made and its status.
+fn ends(alloc: Global, made: &str, status: u8, err: &str) -> Result<bool, Fail> {
+    let schedule = format!(in alloc; "{BEGINS}{made}")?;
+    let out = format!(in alloc; "{BEGINS}{made}end {status}\n")?;
+    gives(alloc, schedule.as_str(), status, out.as_str(), err)
+}
+
 #[test]
 fn a_frame_that_is_too_long(rt: HostRuntime) -> Result<(), Fail> {
-    let schedule = format!(in rt.alloc(); "{BEGINS}lread 4 = done 00011001\n")?;
-    let out = format!(in rt.alloc(); "{schedule}end 6\n")?;
     assert!(rt;
-        gives(
+        ends(
             rt.alloc(),
-            schedule.as_str(),
+            "lread 4 = done 00011001\n",
             6,
-            out.as_str(),
             "slirpd: frame of 69633 octets\n"
         )?
     );
@@ -216,9 +243,215 @@ fn a_frame_that_is_too_long(rt: HostRuntime) -> Result<(), Fail> {
 }
 
 #[test]
+fn the_greatest_frame_is_read_and_ignored(rt: HostRuntime) -> Result<(), Fail> {
+    let mut octets = String::new(rt.alloc());
+    for _ in 0..69_632 {
+        octets.push_str("00")?;
+    }
+    let made = format!(in rt.alloc();
+        "lread 4 = done 00011000\nlread 69632 = done {octets}\nwait - link:r = stop\n"
+    )?;
+    assert!(rt; ends(rt.alloc(), made.as_str(), 0, "")?);
+    Ok(())
+}
+
+#[test]
+fn a_link_that_ends(rt: HostRuntime) -> Result<(), Fail> {
+    assert!(rt; ends(rt.alloc(), "lread 4 = end\n", 0, "")?);
+    assert!(rt;
+        ends(
+            rt.alloc(),
+            "lread 4 = done 0000\nlread 2 = end\n",
+            7,
+            "slirpd: link ended inside a frame, 2 octets\n"
+        )?
+    );
+    assert!(rt;
+        ends(
+            rt.alloc(),
+            "lread 4 = done 0000000e\nlread 14 = done 02\nlread 13 = end\n",
+            7,
+            "slirpd: link ended inside a frame, 5 octets\n"
+        )?
+    );
+    Ok(())
+}
+
+#[test]
+fn a_call_that_fails(rt: HostRuntime) -> Result<(), Fail> {
+    assert!(rt; ends(rt.alloc(), "lread 4 = fail\n", 8, "slirpd: link fault\n")?);
+    assert!(rt;
+        gives(
+            rt.alloc(),
+            "now = 0\nwait - link:r = fail\n",
+            9,
+            "now = 0\nwait - link:r = fail\nend 9\n",
+            "slirpd: wait fault\n"
+        )?
+    );
+    Ok(())
+}
+
+#[test]
+fn texts_that_no_run_here_comes_to(rt: HostRuntime) -> Result<(), Fail> {
+    let mut err = VecSink::open(rt.alloc(), ROOM, None)?;
+    assert!(rt;
+        Outcome::TurnsSpent(17_592_186_044_416)
+            .tell(&mut err)
+            .is_ok()
+    );
+    assert!(rt; Outcome::NoMemory.tell(&mut err).is_ok());
+    assert_eq!(rt;
+        err.octets(),
+        b"slirpd: 17592186044416 turns spent\nslirpd: out of memory\n".as_slice()
+    );
+    Ok(())
+}
+
+/// An idle run makes 16 puts: four for `now = 0`, nine for its wait, three for its status.
+#[test]
 fn a_sink_that_refuses(rt: HostRuntime) -> Result<(), Fail> {
-    let ran = replayed(rt.alloc(), IDLE, Some(0))?;
-    assert_eq!(rt; ran.status, 12);
-    assert_eq!(rt; ran.err.octets(), b"".as_slice());
+    let whole = format!(in rt.alloc(); "{IDLE}end 0\n")?;
+    for number in 0..16 {
+        let ran = replayed(rt.alloc(), IDLE, Some(number))?;
+        assert_eq!(rt; ran.status, 12);
+        assert_eq!(rt; ran.err.octets(), b"".as_slice());
+        assert!(rt; whole.as_bytes().starts_with(ran.out.octets()));
+        assert!(rt; ran.out.octets().len() < whole.len());
+    }
+    let ran = replayed(rt.alloc(), IDLE, Some(16))?;
+    assert_eq!(rt; ran.status, 0);
+    Ok(())
+}
+
+#[test]
+fn a_text_that_is_refused_leaves_the_status(rt: HostRuntime) -> Result<(), Fail> {
+    let mut world = ScriptWorld::read(rt.alloc(), b"")?;
+    let list = Vec::new(rt.alloc());
+    let mut out = VecSink::open(rt.alloc(), ROOM, None)?;
+    let mut err = VecSink::open(rt.alloc(), ROOM, Some(0))?;
+    assert_eq!(rt;
+        slirp_main(rt.alloc(), &list, &mut world, &mut out, &mut err),
+        1
+    );
+    assert_eq!(rt; err.octets(), b"".as_slice());
+    Ok(())
+}
+
+#[test]
+fn a_file_that_is_not_there_and_a_folder(rt: HostRuntime) -> Result<(), Fail> {
+    let mut world = FileWorld::new(&rt);
+    for name in ["no such file", "."] {
+        let ran = ran_on(rt.alloc(), &["replay", name], &mut world, None)?;
+        assert_eq!(rt; ran.status, 3);
+        assert_eq!(rt;
+            ran.err.octets(),
+            b"slirpd: schedule cannot be read\n".as_slice()
+        );
+    }
+    Ok(())
+}
+
+// The answer of a file of so many octets.
+fn measured(length: u64) -> FileSize
+    ensures { MayMeasure result }
+{
+    FileSize::Length(length)
+}
+
+/// A World that has one file of so many octets, all 0, and tells nothing.
+#[derive(Drop)]
+struct LongFile {
+    length: u64,
+    reads: u64,
+}
+
+impl World for LongFile {
+    ghost use Rattle.std.specs.Prelude.{[], None, false};
+
+    ghost tells = { λ q. record { source = []; kept = []; live = false; stop = None; faults = record { link = 0; wait = 0; socket = 0; file = 0 } } };
+
+    fn now(&mut self) -> u64 {
+        0
+    }
+
+    fn wait(&mut self, _wants: &Wants, _timeout: Option<u64>, ready: &mut ReadyList) -> Waited {
+        ready.clear();
+        Waited::Stop
+    }
+
+    fn link_open(&mut self, _at: &LinkAt) -> Made {
+        Made::Done
+    }
+
+    fn link_read(&mut self, _into: &mut [u8]) -> Io {
+        Io::NotYet
+    }
+
+    fn link_write(&mut self, _from: &[u8]) -> Io {
+        Io::NotYet
+    }
+
+    fn connect(&mut self, _c: u64, _to: Endpoint) -> Made {
+        Made::Done
+    }
+
+    fn connected(&mut self, _c: u64) -> Joined {
+        Joined::NotYet
+    }
+
+    fn listen(&mut self, _l: u64, _at: Endpoint) -> Made {
+        Made::Done
+    }
+
+    fn accept(&mut self, _l: u64, _c: u64) -> Accepted {
+        Accepted::NotYet
+    }
+
+    fn tcp_read(&mut self, _c: u64, _into: &mut [u8]) -> Io {
+        Io::NotYet
+    }
+
+    fn tcp_write(&mut self, _c: u64, _from: &[u8]) -> Io {
+        Io::NotYet
+    }
+
+    fn tcp_end(&mut self, _c: u64) -> Made {
+        Made::Done
+    }
+
+    fn close(&mut self, _s: u64) {}
+
+    fn udp_open(&mut self, _s: u64, _at: Endpoint) -> Made {
+        Made::Done
+    }
+
+    fn udp_send(&mut self, _s: u64, _to: Endpoint, _from: &[u8]) -> Sent {
+        Sent::Done
+    }
+
+    fn udp_recv(&mut self, _s: u64, _into: &mut [u8]) -> Got {
+        Got::NotYet
+    }
+
+    fn file_len(&mut self, _name: &str) -> FileSize {
+        measured(self.length)
+    }
+
+    fn file_read(&mut self, _name: &str, _at: u64, into: &mut [u8]) -> Io {
+        into.fill(0);
+        self.reads = self.reads.saturating_add(1);
+        Io::Done(into.len())
+    }
+}
+
+#[test]
+fn a_file_of_64_mib_and_one_longer(rt: HostRuntime) -> Result<(), Fail> {
+    for (length, status, reads) in [(67_108_864, 4, 4096), (67_108_865, 3, 0)] {
+        let mut world = LongFile { length, reads: 0 };
+        let ran = ran_on(rt.alloc(), &["replay", "f"], &mut world, None)?;
+        assert_eq!(rt; ran.status, status);
+        assert_eq!(rt; world.reads, reads);
+    }
     Ok(())
 }

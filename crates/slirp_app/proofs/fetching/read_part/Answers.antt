@@ -1,4 +1,4 @@
-use Rattle.std.proofs.Common.{◌+◌, ◌≤◌, length, arith, length-take, subst}
+use Rattle.std.proofs.Common.{◌≤◌, length, arith, length-take, subst}
 use Rattle.world_face.specs.Journal.{FileRead, filled, count_of}
 use Rattle.world_face.specs.Tells.{Answers}
 use Rattle.world_face.proofs.Bytes.{length_part, fill}

@@ -1,4 +1,4 @@
-use Rattle.std.proofs.Common.{◌≡◌, ◌++◌, List, sym, ◌∙◌, ap, subst}
+use Rattle.std.proofs.Common.{◌≡◌, ◌++◌, ◌∙◌, ap, subst}
 use Rattle.std.specs.Result.{is_ok, is_err}
 use Rattle.world_face.specs.Puts.{added}
 use Rattle.world_face.specs.Tells.{Makes}
@@ -10,19 +10,18 @@ use Rattle.slirp_core.specs.Ends.{end_of}
 use Rattle.replay.specs.Script.{script_tells}
 use Rattle.replay.specs.Text.{text}
 use Rattle.slirp_app.specs.Ran.{end_line}
-use Rattle.slirp_app.specs.Statuses.{code_of}
-use Rattle.slirp_app.proofs.Replaying.{Ran, replayed}
+use Rattle.slirp_app.proofs.Replaying.{replayed}
 use Rattle.slirp_app.proofs.running.run.Goals as goal
 
-pub returns-in-Ok-put_record-clause-replayed : goal.returns-in-Ok-put_record-clause-replayed
-returns-in-Ok-put_record-clause-replayed g c is_run =
+pub returns-in-Ok-put_record-clause-came : goal.returns-in-Ok-put_record-clause-came
+returns-in-Ok-put_record-clause-came g c =
     let new = c.serve-end.new.world in
     let end = c.serve-end.result in
-    let status = code_of c.ended-outcome.result in
     let settings : c.in-Ok.service.slirp.config ≡ usual = c.in-Ok.ensures.config ∙ c.usual.ensures in
     let makes = subst (λ (k : Config). Makes (script_tells c.args.script) (script_tells new) (λ made. Lawful k made × Finished k made × (end ≡ end_of k (phase k made)))) settings c.serve-end.ensures.makes in
     let put = c.put_record.ensures.ok (ap is_ok c.in-Ok-put_record.is) ∙ ap (λ n. added (text (script_tells new).kept ++ end_line n) (g.K.Sink.holds c.args.out.now)) c.code.ensures in
-    replayed c.args.script new end status (g.K.Sink.holds c.args.out.now) (g.K.Sink.holds c.put_record.new.out) c.requires c.ended-outcome.ensures.code put makes
+    let left = c.ended-outcome.ensures in
+    replayed c.args.script new end c.ended-outcome.result (g.K.Sink.holds c.args.out.now) (g.K.Sink.holds c.put_record.new.out) c.requires left.lives left.ceased left.fits_none left.within left.readable put makes
 
 pub returns-clause-refused : goal.returns-clause-refused
 returns-clause-refused g c is = c.put_record.ensures.err (ap is_err c.in-Err.is)

@@ -18,4 +18,5 @@ invariant_of-self c =
       kept.3,
       λ call is. absurd (not_stopped w.stop w.octets.items w.wants.items call live is),
       c.moment_after-self-inside.ensures ∙ moment_more w.lines.items w.used w.moment c.index.result.now within c.index.ensures kept.5,
+      kept.6,
     )

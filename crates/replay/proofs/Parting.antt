@@ -8,6 +8,7 @@ use Rattle.std.proofs.lemmas.Fmt.{decimal_is_IsNumeral}
 use Rattle.std.proofs.lemmas.List.Elements.{All-head, All-tail}
 use Rattle.hex.specs.Hex.{encode_with, lower_digits}
 use Rattle.world_face.specs.Journal.{AreOctets}
+use Rattle.replay.specs.Spelling.{is_other}
 use Rattle.replay.specs.Text.{hexadecimal}
 
 -- kinds of octets: digits, what stands in a word, in a call, in a line
@@ -25,9 +26,6 @@ is_line c = ltb 10 c
 
 abbrev pub is_small : ℕ → Bool
 is_small c = ltb c 256
-
-abbrev pub is_other : ℕ → ℕ → Bool
-is_other octet c = not (eqb c octet)
 
 pub both : (x y : Bool) → x && y ≡ true → (x ≡ true) × (y ≡ true)
 both true y h = (refl, h)

@@ -1,0 +1,193 @@
+-- What an outcome tells, status by status.
+use Rattle.std.proofs.Common.{◌≡◌, ◌↔◌, ◌≢◌, ◌⊎◌, inl, inr, ℕ, ◌<◌, ◌≤◌, List, [], ◌∷◌, Option, Result, Ok, Err, IsTrue, refl, sym, ◌∙◌, ap, subst, arith}
+use Rattle.host_policy.specs.Settings.{usual}
+use Rattle.replay.specs.Unread.{IsFirstUnread}
+use Rattle.replay.specs.declared.Divergence.{Divergence}
+use Rattle.slirp_app.specs.Causes.{Came, CannotRead, Caused, RanOn}
+use Rattle.slirp_app.specs.Counting.{Rose}
+use Rattle.slirp_app.specs.Fetching.{IsUnreadable, is_read, octets_read}
+use Rattle.slirp_app.specs.Ran.{Ceased, EndsBy, FetchesFile, IsAtEnd, Replayed}
+use Rattle.slirp_app.specs.Statuses.{code_of, outcome_of, is_run}
+use Rattle.slirp_app.specs.Texts.{text_of}
+use Rattle.slirp_app.specs.declared.status.Outcome.{Outcome}
+use Rattle.slirp_app.specs.declared.status.Outcome.TheVariants.{Done, Usage, ScheduleRead, ScheduleLine, Diverged, FrameTooLong, FrameCut, LinkFault, WaitFault, TurnsSpent, SinkFault, NoMemory}
+use Rattle.slirp_app.proofs.Ending.{ends_by, long_frame, all_waits, meant_by}
+use Rattle.slirp_core.specs.Ends.{end_of}
+use Rattle.slirp_laws.specs.Laws.{Lawful}
+use Rattle.slirp_laws.specs.Shape.{By, Over, Finished, phase, waits}
+use Rattle.world_face.specs.Frames.{LinkCut, LinkEnded, LinkFailed, LongFrame, Stopped, WaitFailed, partial}
+use Rattle.world_face.specs.Journal.{Entry, AreAllowed, FileLen, FileRead}
+use Rattle.world_face.specs.Puts.{Puts, added}
+use Rattle.world_face.specs.Tells.{Telling, Counted, Makes}
+use Rattle.world_face.proofs.Telling.{makes_as}
+use Rattle.world_face.specs.declared.FileSize.TheVariants.{Length, Missing, Failed as SizeFailed}
+use Rattle.world_face.specs.declared.Io.TheVariants.{Done as IoDone, End, NotYet, Failed as IoFailed}
+use Rattle.world_face.specs.declared.sink.Failed.{Failed}
+
+-- a file that can't be read
+pub cannot_read : (old new : Telling) (made : List Entry) → AreAllowed made → Counted old.faults new.faults made → IsUnreadable made → CannotRead old new made
+cannot_read old new [] allowed counted is = cc
+cannot_read old new (FileLen name (Length n) ∷ past) allowed counted is = inr is
+cannot_read old new (FileLen name Missing ∷ past) allowed counted is = inr refl
+cannot_read old new (FileLen name SizeFailed ∷ past) allowed counted is = inl (omega (arith, counted.file))
+cannot_read old new (FileRead name place asked (IoDone k) octets ∷ past) allowed counted is = cc
+cannot_read old new (FileRead name place asked End octets ∷ past) allowed counted is = inr refl
+cannot_read old new (FileRead name place asked NotYet octets ∷ past) allowed counted is = absurd allowed.0.0
+cannot_read old new (FileRead name place asked IoFailed octets ∷ past) allowed counted is = inl (omega (arith, counted.file))
+cannot_read old new (_ ∷ past) allowed counted is = cc
+
+-- a text that was put where the count of faults didn't rise
+pub got : {X : Type 0} (old new : Option (List ℕ)) (f g : ℕ) (text : List ℕ) (result : Result X Failed) → Puts old new f g text result → ¬ Rose f g → new ≡ added text old
+got old new f g text (Ok x) puts calm = puts.ok refl
+got old new f g text (Err e) puts calm = absurd (calm (puts.err refl))
+
+pub no_text : (outcome : Outcome) → (code_of outcome ≡ 0) ⊎ (code_of outcome ≡ 12) → text_of outcome ≡ []
+no_text Done is = refl
+no_text SinkFault is = refl
+no_text _ (inl is) = cc
+no_text _ (inr is) = cc
+
+-- the outcome that has a status
+is_misspelt : (outcome : Outcome) → code_of outcome ≡ 4 → (line : ℕ) × (outcome ≡ ScheduleLine line)
+is_misspelt (ScheduleLine line) is = (line, refl)
+is_misspelt _ is = cc
+
+is_cut : (outcome : Outcome) → code_of outcome ≡ 7 → (n : ℕ) × (outcome ≡ FrameCut n)
+is_cut (FrameCut n) is = (n, refl)
+is_cut _ is = cc
+
+is_link_fault : (outcome : Outcome) → code_of outcome ≡ 8 → outcome ≡ LinkFault
+is_link_fault LinkFault is = refl
+is_link_fault _ is = cc
+
+is_wait_fault : (outcome : Outcome) → code_of outcome ≡ 9 → outcome ≡ WaitFault
+is_wait_fault WaitFault is = refl
+is_wait_fault _ is = cc
+
+is_spent : (outcome : Outcome) → code_of outcome ≡ 10 → (n : ℕ) × (outcome ≡ TurnsSpent n)
+is_spent (TurnsSpent n) is = (n, refl)
+is_spent _ is = cc
+
+-- the same record, of which more is known
+replayed_as : (status : ℕ) (schedule : List ℕ) (old new : Option (List ℕ)) (P Q : List Entry → Type 0) → Replayed status schedule old new P → ((journal : List Entry) → Lawful usual journal → P journal → Q journal) → Replayed status schedule old new Q
+replayed_as status schedule old new P Q ran here =
+    record { journal = ran.journal; put = ran.put; fits = ran.fits; allowed = ran.allowed; lawful = ran.lawful; holds = here ran.journal ran.lawful ran.holds }
+
+module _ (world world_new : Telling) (words : List (List ℕ)) (old new : Option (List ℕ)) where
+  abbrev By_calls : Outcome → Type 0
+  By_calls outcome = Makes world world_new (λ made. FetchesFile words made × Caused outcome made old new)
+
+  -- of the record of a run
+  -- of the record of a run
+  of_run : (outcome : Outcome) (status : ℕ) (P : List ℕ → List Entry → Type 0) (Q : List ℕ → List Entry → Type 0) → By_calls outcome → IsTrue (is_read (code_of outcome))
+      → ((schedule : List ℕ) → Came outcome schedule old new → Replayed status schedule old new (Q schedule))
+      → ((schedule : List ℕ) (journal : List Entry) → Lawful usual journal → Q schedule journal → P schedule journal) → RanOn world world_new status old new P
+  of_run outcome status P Q makes read came here =
+      makes_as world world_new _ _ makes (λ made holds. (holds.1.whole read, replayed_as status (octets_read made) old new (Q (octets_read made)) (P (octets_read made)) (came (octets_read made) (holds.1.came read)) (here (octets_read made))))
+
+  pub unreadable : (outcome : Outcome) → By_calls outcome → code_of outcome ≡ 3 → Makes world world_new (CannotRead world world_new)
+  unreadable ScheduleRead makes is =
+      record { made = makes.made; same = makes.same; allowed = makes.allowed; told = makes.told; counted = makes.counted; holds = cannot_read world world_new makes.made makes.allowed makes.counted (makes.holds.1.unreadable refl) }
+  unreadable _ _ is = cc
+
+  -- a line that has no reading
+  pub misspelt : (outcome : Outcome) → By_calls outcome → IsTrue (is_read (code_of outcome)) → Makes world world_new (λ made. (code_of outcome ≡ 4) ↔ (line : ℕ) × IsFirstUnread (octets_read made) line)
+  misspelt outcome makes read = makes_as world world_new _ _ makes (λ made holds. (
+    (λ is. let at = is_misspelt outcome is in (at.0, holds.1.first at.0 at.1)),
+    (λ at. ap code_of (holds.1.misspelt read at.0 at.1)),
+  ))
+
+  pub named : (Told : Outcome → Type 0) (outcome : Outcome) → By_calls outcome → Told outcome → code_of outcome ≡ 4 → Makes world world_new (λ made. (line : ℕ) × IsFirstUnread (octets_read made) line × Told (ScheduleLine line))
+  named Told outcome makes told is =
+      let at = is_misspelt outcome is in
+      makes_as world world_new _ _ makes (λ made holds. (at.0, holds.1.first at.0 at.1, subst Told at.1 told))
+
+  abbrev AtEnd : ℕ → List ℕ → List Entry → Type 0
+  AtEnd status schedule journal = status ≢ 5 → Finished usual journal × (status ≡ code_of (outcome_of (end_of usual (phase usual journal))))
+
+  ended_run : (outcome : Outcome) → By_calls outcome → IsTrue (is_read (code_of outcome)) → ((schedule : List ℕ) → Came outcome schedule old new → Replayed (code_of outcome) schedule old new (IsAtEnd outcome)) → RanOn world world_new (code_of outcome) old new (AtEnd (code_of outcome))
+  ended_run outcome makes read came = of_run outcome (code_of outcome) (AtEnd (code_of outcome)) (λ schedule. IsAtEnd outcome) makes read came (λ schedule journal lawful at other. (at.0, ap code_of at.1))
+
+  pub ran : (outcome : Outcome) → By_calls outcome → IsTrue (is_run (code_of outcome)) → RanOn world world_new (code_of outcome) old new (AtEnd (code_of outcome))
+  ran Done makes is = ended_run Done makes refl (λ schedule came. came)
+  ran Usage _ is = cc
+  ran ScheduleRead _ is = cc
+  ran (ScheduleLine line) _ is = cc
+  ran (Diverged divergence) makes is = of_run (Diverged divergence) 5 (AtEnd 5) (λ schedule. Ceased schedule divergence) makes refl (λ schedule came. came) (λ schedule journal lawful ceased other. absurd (other refl))
+  ran (FrameTooLong n) makes is = ended_run (FrameTooLong n) makes refl (λ schedule came. came)
+  ran (FrameCut octets) makes is = ended_run (FrameCut octets) makes refl (λ schedule came. came)
+  ran LinkFault makes is = ended_run LinkFault makes refl (λ schedule came. came)
+  ran WaitFault makes is = ended_run WaitFault makes refl (λ schedule came. came)
+  ran (TurnsSpent turns) makes is = ended_run (TurnsSpent turns) makes refl (λ schedule came. came)
+  ran SinkFault _ is = cc
+  ran NoMemory _ is = cc
+
+  module _ (Told : Outcome → Type 0) where
+    abbrev Diverges : List ℕ → List Entry → Type 0
+    Diverges schedule journal = (divergence : Divergence) × Ceased schedule divergence journal × Told (Diverged divergence)
+
+    pub diverged : (outcome : Outcome) → By_calls outcome → Told outcome → code_of outcome ≡ 5
+        → RanOn world world_new 5 old new Diverges
+    diverged (Diverged d) makes told is = of_run (Diverged d) 5 Diverges (λ schedule. Ceased schedule d) makes refl (λ schedule came. came) (λ schedule journal lawful ceased. (d, ceased, told))
+    diverged _ _ _ is = cc
+
+    abbrev IsTooLong : List ℕ → List Entry → Type 0
+    IsTooLong schedule journal = (size : ℕ) × EndsBy (LongFrame size) journal × (69632 < size) × Told (FrameTooLong size)
+
+    pub too_long : (outcome : Outcome) → By_calls outcome → Told outcome → code_of outcome ≡ 6
+        → RanOn world world_new 6 old new IsTooLong
+    too_long (FrameTooLong n) makes told is = of_run (FrameTooLong n) 6 IsTooLong (λ schedule. IsAtEnd (FrameTooLong n)) makes refl (λ schedule came. came)
+        (λ schedule journal lawful at. let by = ends_by usual (LongFrame n) journal (meant_by (FrameTooLong n) (phase usual journal) at.1) in (n, by, long_frame by.entry (partial by.past) n by.ends, told))
+    too_long _ _ _ is = cc
+
+    abbrev IsCut : List ℕ → List Entry → Type 0
+    IsCut schedule journal = (octets : ℕ) × EndsBy (LinkCut octets) journal × Told (FrameCut octets)
+
+    of_cut : (n : ℕ) → By_calls (FrameCut n) → Told (FrameCut n)
+        → RanOn world world_new 7 old new IsCut
+    of_cut n makes told = of_run (FrameCut n) 7 IsCut (λ schedule. IsAtEnd (FrameCut n)) makes refl (λ schedule came. came)
+        (λ schedule journal lawful at. (n, ends_by usual (LinkCut n) journal (meant_by (FrameCut n) (phase usual journal) at.1), told))
+
+    pub cut : (outcome : Outcome) → By_calls outcome → Told outcome → code_of outcome ≡ 7 → RanOn world world_new 7 old new IsCut
+    cut outcome makes told is = let found = is_cut outcome is in of_cut found.0 (subst By_calls found.1 makes) (subst Told found.1 told)
+
+    abbrev IsSpent : List ℕ → List Entry → Type 0
+    IsSpent schedule journal = (usual.turns ≤ waits journal) × Told (TurnsSpent usual.turns)
+
+    of_spent : (n : ℕ) → By_calls (TurnsSpent n) → Told (TurnsSpent n)
+        → RanOn world world_new 10 old new IsSpent
+    of_spent n makes told = of_run (TurnsSpent n) 10 IsSpent (λ schedule. IsAtEnd (TurnsSpent n)) makes refl (λ schedule came. came)
+        (λ schedule journal lawful at. let turns = meant_by (TurnsSpent n) (phase usual journal) at.1 in
+        (all_waits journal lawful.due at.0 (sym (ap TurnsSpent (sym turns) ∙ at.1)), subst (λ m. Told (TurnsSpent m)) turns told))
+
+    pub spent : (outcome : Outcome) → By_calls outcome → Told outcome → code_of outcome ≡ 10 → RanOn world world_new 10 old new IsSpent
+    spent outcome makes told is = let found = is_spent outcome is in of_spent found.0 (subst By_calls found.1 makes) (subst Told found.1 told)
+
+  abbrev IsDone : List ℕ → List Entry → Type 0
+  IsDone schedule journal = EndsBy Stopped journal ⊎ EndsBy LinkEnded journal
+
+  pub done : (outcome : Outcome) → By_calls outcome → code_of outcome ≡ 0 → RanOn world world_new 0 old new IsDone
+  done Done makes is = of_run Done 0 IsDone (λ schedule. IsAtEnd Done) makes refl (λ schedule came. came) (λ schedule journal lawful at. either journal (meant_by Done (phase usual journal) at.1))
+    where
+      either : (journal : List Entry) → (phase usual journal ≡ Over (By Stopped)) ⊎ (phase usual journal ≡ Over (By LinkEnded)) → EndsBy Stopped journal ⊎ EndsBy LinkEnded journal
+      either journal (inl stopped) = inl (ends_by usual Stopped journal stopped)
+      either journal (inr ended) = inr (ends_by usual LinkEnded journal ended)
+  done _ _ is = cc
+
+  abbrev HasLinkFault : List ℕ → List Entry → Type 0
+  HasLinkFault schedule journal = EndsBy LinkFailed journal
+
+  of_link_fault : By_calls LinkFault → RanOn world world_new 8 old new HasLinkFault
+  of_link_fault makes = of_run LinkFault 8 HasLinkFault (λ schedule. IsAtEnd LinkFault) makes refl (λ schedule came. came) (λ schedule journal lawful at. ends_by usual LinkFailed journal (meant_by LinkFault (phase usual journal) at.1))
+
+  pub link_fault : (outcome : Outcome) → By_calls outcome → code_of outcome ≡ 8 → RanOn world world_new 8 old new HasLinkFault
+  link_fault outcome makes is = of_link_fault (subst By_calls (is_link_fault outcome is) makes)
+
+  abbrev HasWaitFault : List ℕ → List Entry → Type 0
+  HasWaitFault schedule journal = EndsBy WaitFailed journal
+
+  of_wait_fault : By_calls WaitFault → RanOn world world_new 9 old new HasWaitFault
+  of_wait_fault makes = of_run WaitFault 9 HasWaitFault (λ schedule. IsAtEnd WaitFault) makes refl (λ schedule came. came) (λ schedule journal lawful at. ends_by usual WaitFailed journal (meant_by WaitFault (phase usual journal) at.1))
+
+  pub wait_fault : (outcome : Outcome) → By_calls outcome → code_of outcome ≡ 9 → RanOn world world_new 9 old new HasWaitFault
+  wait_fault outcome makes is = of_wait_fault (subst By_calls (is_wait_fault outcome is) makes)

@@ -1,0 +1,21 @@
+use Rattle.std.proofs.Common.{[], ◌∷◌, ◌++◌, sym, ◌∙◌, ap, append_assoc, codes, decimal}
+use Rattle.replay.proofs.Putting.{puts_same}
+use Rattle.slirp_app.specs.Texts.{told_text}
+use Rattle.slirp_app.proofs.status.Outcome.tell.Goals as goal
+
+pub returns-in-FrameTooLong-clause-text : goal.returns-in-FrameTooLong-clause-text
+returns-in-FrameTooLong-clause-text g c =
+    puts_same _ _ _ _ _ _ _ c.tell_number-in-FrameTooLong.ensures (ap (λ t. codes "slirpd: frame of " ++ t) (sym (append_assoc (decimal c.in-FrameTooLong.length) (codes " octets") (10 ∷ []))) ∙ ap told_text (sym c.in-FrameTooLong.is))
+
+pub returns-in-FrameCut-clause-text : goal.returns-in-FrameCut-clause-text
+returns-in-FrameCut-clause-text g c =
+    puts_same _ _ _ _ _ _ _ c.tell_number-in-FrameCut.ensures (ap (λ t. codes "slirpd: link ended inside a frame, " ++ t) (sym (append_assoc (decimal c.in-FrameCut.octets) (codes " octets") (10 ∷ []))) ∙ ap told_text (sym c.in-FrameCut.is))
+
+pub returns-in-LinkFault-clause-text : goal.returns-in-LinkFault-clause-text
+returns-in-LinkFault-clause-text g c = puts_same _ _ _ _ _ _ _ c.put-in-LinkFault.ensures (ap told_text (sym c.in-LinkFault.is))
+
+pub returns-in-WaitFault-clause-text : goal.returns-in-WaitFault-clause-text
+returns-in-WaitFault-clause-text g c = puts_same _ _ _ _ _ _ _ c.put-in-WaitFault.ensures (ap told_text (sym c.in-WaitFault.is))
+
+pub returns-in-NoMemory-clause-text : goal.returns-in-NoMemory-clause-text
+returns-in-NoMemory-clause-text g c = puts_same _ _ _ _ _ _ _ c.put-in-NoMemory.ensures (ap told_text (sym c.in-NoMemory.is))

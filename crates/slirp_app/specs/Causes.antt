@@ -1,0 +1,60 @@
+-- What an outcome tells of the calls on the outer World, of the schedule, and of what was put.
+use Rattle.std.specs.Prelude.{◌≡◌, ◌⊎◌, ℕ, IsTrue, List, ◌∷◌, Option, Bool, true, false, nat_lt}
+use Rattle.world_face.specs.Journal.{Entry, FileLen, FileRead}
+use Rattle.world_face.specs.Tells.{Telling, Makes}
+use Rattle.world_face.specs.declared.FileSize.{FileSize}
+use Rattle.world_face.specs.declared.FileSize.TheVariants.{Length, Missing, Failed}
+use Rattle.world_face.specs.declared.Io.{Io}
+use Rattle.world_face.specs.declared.Io.TheVariants.{End}
+use Rattle.replay.specs.Unread.{IsFirstUnread}
+use Rattle.slirp_app.specs.Counting.{Rose}
+use Rattle.slirp_app.specs.Fetching.{IsWhole, IsUnreadable, is_read, octets_read}
+use Rattle.slirp_app.specs.Ran.{Replayed, IsAtEnd, Ceased}
+use Rattle.slirp_app.specs.Statuses.{code_of}
+use Rattle.slirp_app.specs.declared.status.Outcome.{Outcome}
+use Rattle.slirp_app.specs.declared.status.Outcome.TheVariants.{Done, Usage, ScheduleRead, ScheduleLine, Diverged, FrameTooLong, FrameCut, LinkFault, WaitFault, TurnsSpent, SinkFault, NoMemory}
+
+-- Where a run was made, a record of it was put. It diverged, or came to its end.
+abbrev pub Came : Outcome → (schedule : List ℕ) → (old new : Option (List ℕ)) → Type 0
+Came Done schedule old new = Replayed 0 schedule old new (IsAtEnd Done)
+Came Usage schedule old new = Unit {0}
+Came ScheduleRead schedule old new = Unit {0}
+Came (ScheduleLine line) schedule old new = Unit {0}
+Came (Diverged divergence) schedule old new = Replayed 5 schedule old new (Ceased schedule divergence)
+Came (FrameTooLong length) schedule old new = Replayed 6 schedule old new (IsAtEnd (FrameTooLong length))
+Came (FrameCut octets) schedule old new = Replayed 7 schedule old new (IsAtEnd (FrameCut octets))
+Came LinkFault schedule old new = Replayed 8 schedule old new (IsAtEnd LinkFault)
+Came WaitFault schedule old new = Replayed 9 schedule old new (IsAtEnd WaitFault)
+Came (TurnsSpent turns) schedule old new = Replayed 10 schedule old new (IsAtEnd (TurnsSpent turns))
+Came SinkFault schedule old new = Unit {0}
+Came NoMemory schedule old new = Unit {0}
+
+pub record Caused (outcome : Outcome) (made : List Entry) (old new : Option (List ℕ)) : Type 0 where
+  pub unreadable : outcome ≡ ScheduleRead → IsUnreadable made
+  pub whole : IsTrue (is_read (code_of outcome)) → IsWhole made
+  pub came : IsTrue (is_read (code_of outcome)) → Came outcome (octets_read made) old new
+  pub first : (line : ℕ) → outcome ≡ ScheduleLine line → IsFirstUnread (octets_read made) line
+  pub misspelt : IsTrue (is_read (code_of outcome)) → (line : ℕ) → IsFirstUnread (octets_read made) line → outcome ≡ ScheduleLine line
+
+-- FILE is missing, has over 64 MiB, or ended before its length
+abbrev pub is_unfit : FileSize → Bool
+is_unfit (Length n) = nat_lt 67108864 n
+is_unfit Missing = true
+is_unfit Failed = false
+
+abbrev pub has_ended : Io → Bool
+has_ended End = true
+has_ended _ = false
+
+abbrev pub is_short : List Entry → Bool
+is_short (FileLen name answer ∷ past) = is_unfit answer
+is_short (FileRead name place asked answer octets ∷ past) = has_ended answer
+is_short _ = false
+
+-- or the count of the files' faults rose
+abbrev pub CannotRead : (old new : Telling) (made : List Entry) → Type 0
+CannotRead old new made = Rose old.faults.file new.faults.file ⊎ (is_short made ≡ true)
+
+-- A run was made on what was read of FILE, and P holds of the schedule and of the run's record.
+abbrev pub RanOn : (world world_new : Telling) (status : ℕ) (old new : Option (List ℕ)) (P : List ℕ → List Entry → Type 0) → Type 0
+RanOn world world_new status old new P = Makes world world_new (λ made. IsWhole made × Replayed status (octets_read made) old new (P (octets_read made)))
