@@ -11,7 +11,7 @@ use Rattle.slirp_app.specs.Statuses.{code_of, outcome_of, is_run}
 use Rattle.slirp_app.specs.Texts.{text_of}
 use Rattle.slirp_app.specs.declared.status.Outcome.{Outcome}
 use Rattle.slirp_app.specs.declared.status.Outcome.TheVariants.{Done, Usage, ScheduleRead, ScheduleLine, Diverged, FrameTooLong, FrameCut, LinkFault, WaitFault, TurnsSpent, SinkFault, NoMemory}
-use Rattle.slirp_app.proofs.Ending.{ends_by, long_frame, all_waits, meant_by}
+use Rattle.slirp_app.proofs.Ending.{ends_by, long_frame, waits_spent, meant_by}
 use Rattle.slirp_core.specs.Ends.{end_of}
 use Rattle.slirp_laws.specs.Laws.{Lawful}
 use Rattle.slirp_laws.specs.Shape.{By, Over, Finished, phase, waits}
@@ -152,13 +152,13 @@ module _ (world world_new : Telling) (words : List (List ℕ)) (old new : Option
     cut outcome makes told is = let found = is_cut outcome is in of_cut found.0 (subst By_calls found.1 makes) (subst Told found.1 told)
 
     abbrev IsSpent : List ℕ → List Entry → Type 0
-    IsSpent schedule journal = (usual.turns ≤ waits journal) × Told (TurnsSpent usual.turns)
+    IsSpent schedule journal = (waits journal ≡ usual.turns) × Told (TurnsSpent usual.turns)
 
     of_spent : (n : ℕ) → By_calls (TurnsSpent n) → Told (TurnsSpent n)
         → RanOn world world_new 10 old new IsSpent
     of_spent n makes told = of_run (TurnsSpent n) 10 IsSpent (λ schedule. IsAtEnd (TurnsSpent n)) makes refl (λ schedule came. came)
         (λ schedule journal lawful at. let turns = meant_by (TurnsSpent n) (phase usual journal) at.1 in
-        (all_waits journal lawful.due at.0 (sym (ap TurnsSpent (sym turns) ∙ at.1)), subst (λ m. Told (TurnsSpent m)) turns told))
+        (waits_spent journal lawful at.0 (sym (ap TurnsSpent (sym turns) ∙ at.1)), subst (λ m. Told (TurnsSpent m)) turns told))
 
     pub spent : (outcome : Outcome) → By_calls outcome → Told outcome → code_of outcome ≡ 10 → RanOn world world_new 10 old new IsSpent
     spent outcome makes told is = let found = is_spent outcome is in of_spent found.0 (subst By_calls found.1 makes) (subst Told found.1 told)

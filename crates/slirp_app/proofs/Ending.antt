@@ -5,7 +5,7 @@ use Rattle.std.specs.Prelude.{nat_lt, nat_le, ◌||◌}
 use Rattle.host_policy.specs.Settings.{usual}
 use Rattle.host_policy.specs.Addresses.{Config}
 use Rattle.slirp_core.specs.Ends.{end_of}
-use Rattle.slirp_laws.specs.Laws.{MayDue}
+use Rattle.slirp_laws.specs.Laws.{MayDue, MayShape, Lawful}
 use Rattle.slirp_laws.specs.Shape.{By, Refused, Phase, Opening, Woken, Working, Over, Finished, is_over, waits, phase, phase_by, phase_after, due_in}
 use Rattle.world_face.specs.Frames.{Ending, LinkEnded, LinkCut, LongFrame, LinkFailed, Stopped, WaitFailed, ending, partial, read_ending, spelt_length, is_too_long}
 use Rattle.world_face.specs.Journal.{Entry, Now, Wait, LinkOpen, LinkRead, LinkWrite, Connect, Connected, Listen, Accept, TcpRead, TcpWrite, TcpEnd, Close, UdpOpen, UdpSend, UdpRecv, FileLen, FileRead, Follows, call_of}
@@ -185,8 +185,17 @@ waited (Over (By Stopped)) count sound ended is = cc
 waited (Over (By WaitFailed)) count sound ended is = cc
 waited (Over (Refused forward)) count sound ended is = absurd sound
 
-pub all_waits : (journal : List Entry) → Follows (MayDue usual) journal → Finished usual journal → outcome_of (end_of usual (phase usual journal)) ≡ TurnsSpent usual.turns → usual.turns ≤ waits journal
+all_waits : (journal : List Entry) → Follows (MayDue usual) journal → Finished usual journal → outcome_of (end_of usual (phase usual journal)) ≡ TurnsSpent usual.turns → usual.turns ≤ waits journal
 all_waits journal due finished is = waited (phase usual journal) (waits journal) (sound journal due) finished.0 is
+
+-- there are no more waits than the settings allow
+few_waits : (journal : List Entry) → Follows (MayShape usual) journal → waits journal ≤ usual.turns
+few_waits [] shape = omega arith
+few_waits (Wait wants timeout answer ready ∷ past) shape = omega (arith, shape.0.1)
+few_waits (_ ∷ past) shape = few_waits past shape.1
+
+pub waits_spent : (journal : List Entry) → Lawful usual journal → Finished usual journal → outcome_of (end_of usual (phase usual journal)) ≡ TurnsSpent usual.turns → waits journal ≡ usual.turns
+waits_spent journal lawful finished is = omega (arith, few_waits journal lawful.shape, all_waits journal lawful.due finished is)
 
 -- what each outcome says of where the run stood
 abbrev pub Meant : Outcome → Phase → Type 0

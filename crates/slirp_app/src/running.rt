@@ -78,7 +78,7 @@ pub fn slirp_main<W: World, K: Sink, E: Sink>(
     ensures link_fault { result ≡ 8 → RanOn (W.tells world.old) (W.tells world.new) 8 (K.holds out.old) (K.holds out.new) (λ schedule journal. EndsBy LinkFailed journal) }
     ensures wait_fault { result ≡ 9 → RanOn (W.tells world.old) (W.tells world.new) 9 (K.holds out.old) (K.holds out.new) (λ schedule journal. EndsBy WaitFailed journal) }
     // With 10 there were as many waits as the settings allow, and the text has their number.
-    ensures spent { result ≡ 10 → RanOn (W.tells world.old) (W.tells world.new) 10 (K.holds out.old) (K.holds out.new) (λ schedule journal. (usual.turns ≤ waits journal) × Got (E.holds err.old) (E.holds err.new) (E.faults err.old) (E.faults err.new) (TurnsSpent usual.turns)) }
+    ensures spent { result ≡ 10 → RanOn (W.tells world.old) (W.tells world.new) 10 (K.holds out.old) (K.holds out.new) (λ schedule journal. (waits journal ≡ usual.turns) × Got (E.holds err.old) (E.holds err.new) (E.faults err.old) (E.faults err.new) (TurnsSpent usual.turns)) }
     // It is 12 only where a put to `out` failed.
     ensures refused { result ≡ 12 → Rose (K.faults out.old) (K.faults out.new) }
 {

@@ -1,3 +1,4 @@
+ghost use Rattle.std.specs.Prelude.{◌≡◌};
 ghost use Rattle.world_face.specs.Journal.{MayMeasure};
 
 use super::*;
@@ -51,7 +52,7 @@ fn ran(alloc: Global, words: &[&str], outer: &str, fails: Option<u64>) -> Result
 fn replayed(alloc: Global, content: &str, fails: Option<u64>) -> Result<Outputs, Fail> {
     let length = content.len();
     let mut outer = format!(in alloc; "flen 66 = len {length}\n")?;
-    let mut place = 0;
+    let mut place = 0u64;
     for part in content.as_bytes().chunks(16_384) {
         let count = part.len();
         let octets = hex::encode(alloc, part)?;
@@ -354,7 +355,8 @@ fn a_file_that_is_not_there_and_a_folder(rt: HostRuntime) -> Result<(), Fail> {
 
 // The answer of a file of so many octets.
 fn measured(length: u64) -> FileSize
-    ensures { MayMeasure result }
+    ensures value { result ≡ FileSize.Length length }
+    ensures range { MayMeasure result }
 {
     FileSize::Length(length)
 }
