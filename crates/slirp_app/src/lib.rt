@@ -12,5 +12,5 @@ mod tests;
 mod udp_tests;
 
 pub use file_world::FileWorld;
-pub use running::slirp_main;
+pub use running::{out_of_memory, slirp_main};
 pub use std_sink::StdSink;

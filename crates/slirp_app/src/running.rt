@@ -87,6 +87,15 @@ pub fn slirp_main<W: World, K: Sink, E: Sink>(
     outcome.code()
 }
 
+/// What the program comes to where there is no memory for its words: it tells so, and the status is 13.
+pub fn out_of_memory<E: Sink>(err: &mut E) -> u8
+    ensures status { result ≡ 13 }
+    ensures told { Got (E.holds err.old) (E.holds err.new) (E.faults err.old) (E.faults err.new) OfMemory }
+{
+    let _told = Outcome::NoMemory.tell(err);
+    Outcome::NoMemory.code()
+}
+
 // Reads the schedule in a file, and runs on it.
 fn replay_file<W: World, K: Sink>(alloc: Global, name: &str, world: &mut W, out: &mut K) -> Outcome
     requires some { 0 < length name.now }

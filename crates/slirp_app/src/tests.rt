@@ -457,3 +457,11 @@ fn a_file_of_64_mib_and_one_longer(rt: HostRuntime) -> Result<(), Fail> {
     }
     Ok(())
 }
+
+#[test]
+fn no_memory_for_the_words(rt: HostRuntime) -> Result<(), Fail> {
+    let mut err = VecSink::open(rt.alloc(), 4096, None)?;
+    assert_eq!(rt; crate::out_of_memory(&mut err), 13);
+    assert_eq!(rt; err.octets(), b"slirpd: out of memory\n".as_slice());
+    Ok(())
+}

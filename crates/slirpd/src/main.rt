@@ -1,30 +1,43 @@
 //! The program: its words, the files of the system, and the runtime's output.
 #![tactic(auto)]
 
-use slirp_app::{FileWorld, StdSink, slirp_main};
+use net_octets::NoMemory;
+use slirp_app::{FileWorld, StdSink, out_of_memory, slirp_main};
 use std::alloc::Global;
 use std::env;
+use std::io::ErrorKind;
 use std::process::ExitCode;
 use std::rt::Env;
 
 fn main(rt: HostRuntime) -> ExitCode {
-    let words = words_of(&rt);
+    let mut err = StdSink::new(rt.stderr());
+    let Ok(words) = words_of(&rt) else {
+        return ExitCode::from(out_of_memory(&mut err));
+    };
     let mut world = FileWorld::new(&rt);
     let mut out = StdSink::new(rt.stdout());
-    let mut err = StdSink::new(rt.stderr());
-    ExitCode::from(slirp_main(rt.alloc(), &words, &mut world, &mut out, &mut err))
+    ExitCode::from(slirp_main(
+        rt.alloc(),
+        &words,
+        &mut world,
+        &mut out,
+        &mut err,
+    ))
 }
 
 // The words after the program's name. Words that aren't text are none.
-fn words_of<R: Env + Alloc<A = Global>>(rt: &R) -> Vec<String> {
+fn words_of<R: Env + Alloc<A = Global>>(rt: &R) -> Result<Vec<String>, NoMemory> {
     let mut words = Vec::new(rt.alloc());
-    if let Ok(args) = env::args(rt) {
-        for word in args.skip(1) {
-            if words.push(word).is_err() {
-                words.clear();
-                break;
+    match env::args(rt) {
+        Ok(args) => {
+            for word in args.skip(1) {
+                if words.push(word).is_err() {
+                    return Err(NoMemory);
+                }
             }
         }
+        Err(error) if error.kind() == ErrorKind::OutOfMemory => return Err(NoMemory),
+        Err(_) => {}
     }
-    words
+    Ok(words)
 }
