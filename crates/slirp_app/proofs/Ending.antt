@@ -5,10 +5,11 @@ use Rattle.std.specs.Prelude.{nat_lt, nat_le, ◌||◌}
 use Rattle.host_policy.specs.Settings.{usual}
 use Rattle.host_policy.specs.Addresses.{Config}
 use Rattle.slirp_core.specs.Ends.{end_of}
-use Rattle.slirp_laws.specs.Laws.{MayDue, MayShape, Lawful}
-use Rattle.slirp_laws.specs.Shape.{By, Refused, Phase, Opening, Woken, Working, Over, Finished, is_over, waits, phase, phase_by, phase_after, due_in}
+use Rattle.slirp_laws.specs.Datagrams.{relay, due_for}
+use Rattle.slirp_laws.specs.Laws.{MayDue, MayShape, Lawful, unless_due}
+use Rattle.slirp_laws.specs.Shape.{By, Refused, Phase, Opening, Woken, Working, Over, Finished, is_over, waits, phase, phase_by, phase_after, due_in, next_number}
 use Rattle.world_face.specs.Frames.{Ending, LinkEnded, LinkCut, LongFrame, LinkFailed, Stopped, WaitFailed, ending, partial, read_ending, spelt_length, is_too_long}
-use Rattle.world_face.specs.Journal.{Entry, Now, Wait, LinkOpen, LinkRead, LinkWrite, Connect, Connected, Listen, Accept, TcpRead, TcpWrite, TcpEnd, Close, UdpOpen, UdpSend, UdpRecv, FileLen, FileRead, Follows, call_of}
+use Rattle.world_face.specs.Journal.{Entry, Call, Now, Wait, LinkOpen, LinkRead, LinkWrite, Connect, Connected, Listen, Accept, TcpRead, TcpWrite, TcpEnd, Close, UdpOpen, UdpSend, UdpRecv, FileLen, FileRead, Follows, call_of}
 use Rattle.world_face.specs.declared.Io.{Io}
 use Rattle.world_face.specs.declared.Io.TheVariants.{Done as IoDone, End as IoEnd, NotYet, Failed as IoFailed}
 use Rattle.world_face.specs.declared.Made.TheVariants.{Done as MadeDone, Failed as MadeFailed}
@@ -168,9 +169,16 @@ sound_after e past (Some why) Woken due sound = tt
 sound_after e past (Some why) Working due sound = tt
 sound_after e past (Some why) (Over cause) due sound = sound
 
+-- what is due by the phase goes before what a datagram asks for
+comes_first : (by_phase by_datagram : Option Call) (call : Call) → MatchOption (unless_due by_phase by_datagram) (Unit {0}) (λ d. call ≡ d) → MatchOption by_phase (Unit {0}) (λ d. call ≡ d)
+comes_first None by_datagram call due = tt
+comes_first (Some d) by_datagram call due = due
+
 sound : (journal : List Entry) → Follows (MayDue usual) journal → IsSound (phase usual journal)
 sound [] due = tt
-sound (e ∷ past) due = sound_after e past (ending e (partial past)) (phase usual past) due.0 (sound past due.1)
+sound (e ∷ past) due =
+  let comes = comes_first (due_in (phase usual past) past) (due_for (relay usual past).step (next_number past)) (call_of e) due.0 in
+  sound_after e past (ending e (partial past)) (phase usual past) comes (sound past due.1)
 
 -- where no entry ended a run that is finished, it made all its waits
 waited : (stands : Phase) (count : ℕ) → IsSound stands → (is_over stands || nat_le usual.turns count) ≡ true → outcome_of (end_of usual stands) ≡ TurnsSpent usual.turns → usual.turns ≤ count
