@@ -177,8 +177,8 @@ comes_first (Some d) by_datagram call due = due
 sound : (journal : List Entry) → Follows (MayDue usual) journal → IsSound (phase usual journal)
 sound [] due = tt
 sound (e ∷ past) due =
-  let comes = comes_first (due_in (phase usual past) past) (due_for (relay usual past).step (next_number past)) (call_of e) due.0 in
-  sound_after e past (ending e (partial past)) (phase usual past) comes (sound past due.1)
+    let comes = comes_first (due_in (phase usual past) past) (due_for (relay usual past).step (next_number past)) (call_of e) due.0 in
+    sound_after e past (ending e (partial past)) (phase usual past) comes (sound past due.1)
 
 -- where no entry ended a run that is finished, it made all its waits
 waited : (stands : Phase) (count : ℕ) → IsSound stands → (is_over stands || nat_le usual.turns count) ≡ true → outcome_of (end_of usual stands) ≡ TurnsSpent usual.turns → usual.turns ≤ count
