@@ -16,13 +16,7 @@ fn main(rt: HostRuntime) -> ExitCode {
     };
     let mut world = FileWorld::new(&rt);
     let mut out = StdSink::new(rt.stdout());
-    ExitCode::from(slirp_main(
-        rt.alloc(),
-        &words,
-        &mut world,
-        &mut out,
-        &mut err,
-    ))
+    ExitCode::from(slirp_main(rt.alloc(), &words, &mut world, &mut out, &mut err))
 }
 
 // The words after the program's name. Words that aren't text are none.
