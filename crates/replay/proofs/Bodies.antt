@@ -1,5 +1,5 @@
 -- A line is a call and an answer, and no line feed stands in them.
-use Rattle.std.proofs.Common.{◌≡◌, ℕ, true, List, [], ◌∷◌, ◌++◌, length, decimal, codes, refl, ◌∙◌, ap, arith, append_assoc, length-append}
+use Rattle.std.proofs.Common.{◌≡◌, ℕ, true, false, cond, sym, subst, List, [], ◌∷◌, ◌++◌, length, decimal, codes, refl, ◌∙◌, ap, arith, append_assoc, length-append}
 use Rattle.std.specs.List.{list_all}
 use Rattle.poll_list.specs.declared.Want.{Want}
 use Rattle.world_face.specs.declared.Io.{Io}
@@ -22,7 +22,10 @@ use Rattle.world_face.specs.Journal.{MayAccept, MayMeasure, Leaves, LeavesGot, E
 use Rattle.replay.specs.Text.{hexadecimal, endpoint_text, joined_text, made_text, waited_text, read_text, written_text, joined_answer, accepted_text, sent_text, got_text, size_text, call_text, answer_text, line_text}
 use Rattle.replay.proofs.Parting.{is_word, is_plain, is_line, fit_append, fit_weaker, word_is_line, plain_is_line, decimal_word, hexadecimal_word}
 use Rattle.replay.proofs.Words.{endpoint_word, joined_word}
-use Rattle.replay.proofs.Calls.{call_plain}
+use Rattle.replay.proofs.Calls.{call_plain, name_word, spaced}
+use Rattle.replay.specs.Names.{name_of, name_text}
+use Rattle.replay.specs.Rows.{Row, IsReadable, row_text, said_answer, said_call}
+use Rattle.replay.specs.declared.CallName.{CallName}
 use Rattle.replay.specs.Range.{LeavesReady, Counts, ComesFrom, AnswersInRange, IsSayable}
 
 -- no line feed stands in an answer
@@ -115,3 +118,34 @@ then_more e r = ap (λ t. t ++ r) (line_form e) ∙ append_assoc ((call_text (ca
 
 pub some_line : (e : Entry) (r : List ℕ) → [] ≡ line_text e ++ r → ⊥
 some_line e r is = omega (arith, length-append ((call_text (call_of e) ++ 32 ∷ []) ++ 61 ∷ 32 ∷ answer_text e) (10 ∷ r), ap length (is ∙ then_more e r))
+
+-- The same of a schedule's line.
+abbrev pub row_body : Row → List ℕ
+row_body row = (said_call row ++ 32 ∷ []) ++ 61 ∷ 32 ∷ said_answer row
+
+pub row_form : (row : Row) → row_text row ≡ row_body row ++ 10 ∷ []
+row_form row = regroup (said_call row) (said_answer row)
+
+starred_plain : (n : CallName) → list_all is_plain ((name_text n ++ 32 ∷ 42 ∷ []) ++ 32 ∷ []) ≡ true
+starred_plain n = subst (λ t. list_all is_plain t ≡ true) (sym (append_assoc (name_text n) (32 ∷ 42 ∷ []) (32 ∷ []))) (spaced (name_text n) (42 ∷ 32 ∷ []) (name_word n) refl)
+
+pub said_plain : (row : Row) → IsReadable row → list_all is_plain (said_call row ++ 32 ∷ []) ≡ true
+said_plain row h = elim row.starred as (λ b. list_all is_plain (cond b (name_text (name_of (call_of row.entry)) ++ 32 ∷ 42 ∷ []) (call_text (call_of row.entry)) ++ 32 ∷ []) ≡ true) [
+  | true ↦ starred_plain (name_of (call_of row.entry))
+  | false ↦ call_plain (call_of row.entry) h.range.0
+]
+
+said_line : (row : Row) → IsReadable row → list_all is_line (said_answer row) ≡ true
+said_line row h = elim row.all as (λ b. list_all is_line (cond b (97 ∷ 108 ∷ 108 ∷ []) (answer_text row.entry)) ≡ true) [
+  | true ↦ refl
+  | false ↦ answer_line row.entry h.range.1
+]
+
+pub row_line : (row : Row) → IsReadable row → list_all is_line (row_body row) ≡ true
+row_line row h = fit_append is_line (said_call row ++ 32 ∷ []) (61 ∷ 32 ∷ said_answer row) (fit_weaker is_plain is_line plain_is_line (said_call row ++ 32 ∷ []) (said_plain row h)) (said_line row h)
+
+pub row_then : (row : Row) (r : List ℕ) → row_text row ++ r ≡ row_body row ++ 10 ∷ r
+row_then row r = ap (λ t. t ++ r) (row_form row) ∙ append_assoc (row_body row) (10 ∷ []) r
+
+pub some_row : (row : Row) (r : List ℕ) → [] ≡ row_text row ++ r → ⊥
+some_row row r is = omega (arith, length-append (row_body row) (10 ∷ r), ap length (is ∙ row_then row r))

@@ -1,18 +1,27 @@
 -- What is told of a call that a line fits, and of one that none fits.
-use Rattle.std.proofs.Common.{◌≡◌, ℕ, zero, suc, ◌+◌, ◌≤◌, min, max, Bool, true, false, cond, ◌||◌, List, [], ◌∷◌, Some, IfSome, refl, sym, ◌∙◌, ap, subst, arith, add-one, slice_get}
+use Rattle.std.proofs.Common.{◌≡◌, ℕ, zero, suc, ◌+◌, ◌≤◌, min, max, Bool, true, false, cond, ◌||◌, ◌<◌, List, [], ◌∷◌, length, Some, IfSome, refl, sym, ◌∙◌, ap, subst, arith, add-one, slice_get}
 use Rattle.world_face.specs.Journal.{Entry, call_of, Allowed, Now, Wait, LinkOpen, LinkRead, LinkWrite, Connect, Connected, Listen, Accept, TcpRead, TcpWrite, TcpEnd, Close, UdpOpen, UdpSend, UdpRecv, FileLen, FileRead}
 use Rattle.world_face.specs.Tells.{Told, on, ceased, silent, Counts, Counted, Answers}
 use Rattle.world_face.specs.Faults.{io_failed, made_failed, join_failed, accept_failed, sent_failed, got_failed, size_failed, waited_failed}
 use Rattle.world_face.specs.Limits.{last_count}
-use Rattle.replay.specs.Script.{Script, script_tells, newest_onto, schedule_text}
+use Rattle.replay.specs.Script.{Script, script_tells, newest_onto, kept_of}
 use Rattle.replay.specs.Names.{name_of}
-use Rattle.replay.specs.Fitting.{FitsNext, Advances, Ceases, raise, raised, counted, has_failed}
+use Rattle.replay.specs.Fitting.{FitsNext, Advances, Ceases, IsCompleted, raise, raised, counted, has_failed}
+use Rattle.replay.specs.Rows.{Row, entries_of, schedule_text}
+use Rattle.std.specs.Option.{option_map}
+use Rattle.std.proofs.lemmas.Option.{slice_get-map}
 
 pub one_more : (n : ℕ) (lines older : List Entry) (e : Entry) → slice_get lines n ≡ Some e → newest_onto (suc n) lines older ≡ e ∷ newest_onto n lines older
 one_more zero [] older e is = cc
 one_more zero (l ∷ lines) older e is = let same : l ≡ e = cc in ap (λ x. x ∷ older) same
 one_more (suc n) [] older e is = cc
 one_more (suc n) (l ∷ lines) older e is = one_more n lines (l ∷ older) e is
+
+-- what stands at a place
+there : (rows : List Row) (n : ℕ) → n < length rows → (row : Row) × (slice_get rows n ≡ Some row)
+there [] n lt = absurd (omega (arith, lt))
+there (r ∷ rows) zero lt = (r, refl)
+there (r ∷ rows) (suc n) lt = there rows n (omega (arith, lt))
 
 -- a count is at least what it was, and one more after a failure
 none : (n : ℕ) → max n (min last_count (n + 0)) ≤ n
@@ -75,21 +84,18 @@ unfailed (FileRead n p k a o) f h = record { link = none f.link; wait = none f.w
 pub counts : (e : Entry) (f : Counts) → Counted f (counted e f) (e ∷ [])
 counts e f = elim (has_failed e) as (λ b. has_failed e ≡ b → Counted f (cond b (raised (name_of (call_of e)) f) f) (e ∷ [])) [ true ↦ λ _. raises e f | false ↦ λ h. unfailed e f h ] refl
 
-pub fits : (old new : Script) (e : Entry) → FitsNext old e → ((line : Entry) → slice_get old.lines old.used ≡ Some line → Advances old new line) → Answers (script_tells old) (script_tells new) e
-fits old new e next advances =
-    let to = advances e next.next in
-    let step : newest_onto (old.used + 1) old.lines [] ≡ e ∷ newest_onto old.used old.lines [] = rw add-one (one_more old.used old.lines [] e next.next) in
-    let kept : newest_onto new.used new.lines [] ≡ e ∷ newest_onto old.used old.lines [] = rw (to.used, to.lines) step in
-    record {
-      same = ap schedule_text to.lines;
-      allowed = next.allowed;
-      told = on next.live (to.live ∙ next.live) kept;
-      counted = rw to.faults (counts e old.faults);
-    }
+-- a call that the next line fits
+pub fits : (old new : Script) (e : Entry) → FitsNext old e → Advances old new e → Answers (script_tells old) (script_tells new) e
+fits old new e next to = record {
+  same = to.source;
+  allowed = next.allowed;
+  told = on next.live (to.live ∙ next.live) to.kept;
+  counted = rw to.faults (counts e old.faults);
+}
 
 pub ceases : (old new : Script) (e : Entry) → Allowed e → Ceases old new (call_of e) → Answers (script_tells old) (script_tells new) e
 ceases old new e allowed to =
-    let kept : newest_onto new.used new.lines [] ≡ newest_onto old.used old.lines [] = rw (to.used, to.lines) refl in
+    let kept : kept_of new ≡ kept_of old = rw (to.used, to.lines) refl in
     record {
       same = ap schedule_text to.lines;
       allowed = allowed;
@@ -98,4 +104,19 @@ ceases old new e allowed to =
         | false ↦ λ is. silent is to.dead kept (to.later is)
       ] refl;
       counted = rw to.faults (raises e old.faults);
+    }
+
+-- The next line was completed, and then it is used up and counted.
+pub used_up : (old mid new : Script) (e : Entry) → FitsNext old e → IsCompleted old mid e → new.lines ≡ mid.lines → new.used ≡ mid.used + 1 → new.live ≡ mid.live → new.stop ≡ mid.stop → new.faults ≡ counted e mid.faults → Advances old new e
+used_up old mid new e next done lines used live stop faults =
+    let within : old.used < length mid.lines = subst (λ n. old.used < n) (sym done.count) next.within in
+    let at = there mid.lines old.used within in
+    let here : slice_get (entries_of mid.lines) old.used ≡ Some e = slice_get-map (λ (row : Row). row.entry) mid.lines old.used ∙ ap (option_map (λ (row : Row). row.entry)) at.1 ∙ ap Some (done.next at.0 at.1) in
+    let step : newest_onto (old.used + 1) (entries_of mid.lines) [] ≡ e ∷ newest_onto old.used (entries_of mid.lines) [] = rw add-one (one_more old.used (entries_of mid.lines) [] e here) in
+    record {
+      source = ap schedule_text lines ∙ done.source;
+      kept = ap (λ ls. newest_onto new.used (entries_of ls) []) lines ∙ ap (λ n. newest_onto n (entries_of mid.lines) []) (used ∙ ap (λ n. n + 1) done.used) ∙ step ∙ ap (λ k. e ∷ k) (ap (λ n. newest_onto n (entries_of mid.lines) []) (sym done.used) ∙ done.kept);
+      live = live ∙ done.live;
+      stop = stop ∙ done.stop;
+      faults = faults ∙ ap (counted e) done.faults;
     }

@@ -1,5 +1,6 @@
 pub mod Bodies
 pub mod Calls
+pub mod Completing
 pub mod Entries
 pub mod Following
 pub mod Joining
@@ -7,7 +8,10 @@ pub mod Lower
 pub mod Parting
 pub mod Putting
 pub mod Refusing
+pub mod Rowing
+pub mod Sayable
 pub mod Scheduling
 pub mod Splitting
+pub mod Starring
 pub mod Words
 pub mod Unreading

@@ -17,10 +17,12 @@ use Rattle.replay.specs.Names.{name_text, name_of}
 use Rattle.replay.specs.Range.{IsSayable}
 use Rattle.replay.specs.declared.CallName.TheVariants as names
 use Rattle.std.proofs.lemmas.List.Elements.{All-head, All-tail, All-cons, All-nil}
-use Rattle.replay.specs.Spelling.{is_lower, is_other, IsReadAs, IsSpelt, Says}
+use Rattle.replay.specs.Spelling.{is_lower, is_other, IsReadAs, IsSpelt, IsWritten, Says}
 use Rattle.replay.specs.Text.{hexadecimal, endpoint_text, who_text, direction_text, want_text, joined_text, wants_text, timeout_text, place_text, call_text, answer_text, line_text}
 use Rattle.replay.proofs.Calls.{args_text, named, name_word, call_plain}
-use Rattle.replay.proofs.Bodies.{line_form}
+use Rattle.replay.specs.Rows.{Row, IsReadable, row_text, said_answer, said_call}
+use Rattle.replay.proofs.Bodies.{row_body, row_form, said_plain}
+use Rattle.replay.specs.declared.CallName.{CallName}
 use Rattle.replay.proofs.Parting.{is_digit, is_word, is_plain, word_is_no_space, fit_weaker, parts_once, both, pair, decimal_digits, digit_is_no_dot, digit_is_no_colon, digit_is_no_comma}
 use Rattle.replay.proofs.Words.{address, endpoint_form, address_fits, who_fits, want_form, want_fits, head_of, bytes}
 
@@ -71,7 +73,7 @@ text_lacks octet text is =
 pub number_some : (text : List ℕ) (n : ℕ) → n < 2 ^ 64 → text ≡ decimal n → 0 < length text
 number_some text n small is = subst (λ (t : List ℕ). 0 < length t) (sym is) (decimal_nonempty n small)
 
-zero_text : decimal 0 ≡ 48 ∷ []
+pub zero_text : decimal 0 ≡ 48 ∷ []
 zero_text = decimal_digit 0 (omega arith)
 
 starts : (n : ℕ) → n < 2 ^ 64 → 48 ≤ get_or (decimal n) 0 0
@@ -273,18 +275,32 @@ last_same octet (x ∷ a) (y ∷ b) is =
 plain_no_sign : (c : ℕ) → is_plain c ≡ true → is_other 61 c ≡ true
 plain_no_sign c h = grind (arith, nat_tests)
 
-pub answer_parts : (text before after : List ℕ) → text ≡ before ++ 61 ∷ after → list_all (is_other 61) before ≡ true → (e : Entry) → IsSayable e → text ++ 10 ∷ [] ≡ line_text e → (before ≡ call_text (call_of e) ++ 32 ∷ []) × (after ≡ 32 ∷ answer_text e)
-answer_parts text before after split lacks e h is =
-    let body = last_same 10 text ((call_text (call_of e) ++ 32 ∷ []) ++ 61 ∷ 32 ∷ answer_text e) (is ∙ line_form e) in
-    parts_once 61 (is_other 61) refl before (call_text (call_of e) ++ 32 ∷ []) after (32 ∷ answer_text e) lacks (fit_weaker is_plain (is_other 61) plain_no_sign (call_text (call_of e) ++ 32 ∷ []) (call_plain (call_of e) h.0)) (sym split ∙ body)
+pub answer_parts : (text before after : List ℕ) → text ≡ before ++ 61 ∷ after → list_all (is_other 61) before ≡ true → (row : Row) → IsReadable row → text ++ 10 ∷ [] ≡ row_text row → (before ≡ said_call row ++ 32 ∷ []) × (after ≡ 32 ∷ said_answer row)
+answer_parts text before after split lacks row h is =
+    let body = last_same 10 text (row_body row) (is ∙ row_form row) in
+    parts_once 61 (is_other 61) refl before (said_call row ++ 32 ∷ []) after (32 ∷ said_answer row) lacks (fit_weaker is_plain (is_other 61) plain_no_sign (said_call row ++ 32 ∷ []) (said_plain row h)) (sym split ∙ body)
 
 tail_same : (octet : ℕ) (a b : List ℕ) → octet ∷ a ≡ octet ∷ b → a ≡ b
 tail_same octet a b is = cc
 
-pub spelt_once : (before after call answer : List ℕ) (e : Entry) → before ≡ call ++ 32 ∷ [] → after ≡ 32 ∷ answer → (before ≡ call_text (call_of e) ++ 32 ∷ []) × (after ≡ 32 ∷ answer_text e) → IsSpelt call answer e
-spelt_once before after call answer e front back parts = (last_same 32 call (call_text (call_of e)) (sym front ∙ parts.0), tail_same 32 answer (answer_text e) (sym back ∙ parts.1))
+pub spelt_once : (before after call answer : List ℕ) (row : Row) → before ≡ call ++ 32 ∷ [] → after ≡ 32 ∷ answer → (before ≡ said_call row ++ 32 ∷ []) × (after ≡ 32 ∷ said_answer row) → IsWritten call answer row
+spelt_once before after call answer row front back parts = (last_same 32 call (said_call row) (sym front ∙ parts.0), tail_same 32 answer (said_answer row) (sym back ∙ parts.1))
+
+-- a call's name and the rest
+call_parts : (call word args : List ℕ) → call ≡ word ++ 32 ∷ args → list_all (is_other 32) word ≡ true → (c : Call) → call ≡ call_text c → (word ≡ name_text (name_of c)) × (args ++ 32 ∷ [] ≡ args_text c)
+call_parts call word args split lacks c is =
+    parts_once 32 (is_other 32) refl word (name_text (name_of c)) (args ++ 32 ∷ []) (args_text c) lacks (no_space (name_text (name_of c)) (name_word (name_of c)))
+    (sym (append_assoc word (32 ∷ args) (32 ∷ [])) ∙ ap (λ t. t ++ 32 ∷ []) (sym split ∙ is) ∙ named c)
 
 pub call_word : (call word args : List ℕ) → call ≡ word ++ 32 ∷ args → list_all (is_other 32) word ≡ true → (c : Call) → call ≡ call_text c → word ≡ name_text (name_of c)
-call_word call word args split lacks c is =
-    (parts_once 32 (is_other 32) refl word (name_text (name_of c)) (args ++ 32 ∷ []) (args_text c) lacks (no_space (name_text (name_of c)) (name_word (name_of c)))
-    (sym (append_assoc word (32 ∷ args) (32 ∷ [])) ∙ ap (λ t. t ++ 32 ∷ []) (sym split ∙ is) ∙ named c)).0
+call_word call word args split lacks c is = (call_parts call word args split lacks c is).0
+
+starred_parts : (call word args : List ℕ) → call ≡ word ++ 32 ∷ args → list_all (is_other 32) word ≡ true → (n : CallName) → call ≡ name_text n ++ 32 ∷ 42 ∷ [] → (word ≡ name_text n) × (args ≡ 42 ∷ [])
+starred_parts call word args split lacks n is = parts_once 32 (is_other 32) refl word (name_text n) args (42 ∷ []) lacks (no_space (name_text n) (name_word n)) (sym split ∙ is)
+
+-- the name of a line
+pub said_word : (call word args : List ℕ) → call ≡ word ++ 32 ∷ args → list_all (is_other 32) word ≡ true → (row : Row) → call ≡ said_call row → word ≡ name_text (name_of (call_of row.entry))
+said_word call word args split lacks row is = elim row.starred as (λ b. call ≡ cond b (name_text (name_of (call_of row.entry)) ++ 32 ∷ 42 ∷ []) (call_text (call_of row.entry)) → word ≡ name_text (name_of (call_of row.entry))) [
+  | true ↦ λ whole. (starred_parts call word args split lacks (name_of (call_of row.entry)) whole).0
+  | false ↦ λ whole. call_word call word args split lacks (call_of row.entry) whole
+] is

@@ -2,40 +2,47 @@
 use Rattle.std.proofs.Common.{◌≡◌, ℕ, zero, suc, ◌+◌, take, get_or, add-one, ◌<◌, List, [], ◌∷◌, ◌++◌, length, refl, sym, ◌∙◌, ap, arith, append_assoc, append-nil}
 use Rattle.std.proofs.Math.Seq.{take-suc}
 use Rattle.world_face.specs.Journal.{Entry}
-use Rattle.replay.specs.Lines.{entry_of, entries_of}
+use Rattle.replay.specs.Lines.{entry_of, row_of, rows_of}
+use Rattle.replay.specs.Pieces.{lines_text}
+use Rattle.replay.specs.Rows.{Row, entries_of, row_text, schedule_text}
+use Rattle.replay.specs.Script.{newest_onto}
 use Rattle.replay.specs.Text.{line_text, text}
-use Rattle.replay.specs.Script.{schedule_text, newest_onto}
-use Rattle.replay.specs.declared.line.Line.{Line}
+use Rattle.replay.specs.declared.row.Row.{Row as ARow}
 
-schedule_push : (lines : List Line) (line : Line) → schedule_text (entries_of (lines ++ line ∷ [])) ≡ schedule_text (entries_of lines) ++ line_text (entry_of line)
-schedule_push [] line = simp append-nil
-schedule_push (l ∷ ls) line = ap (λ t. line_text (entry_of l) ++ t) (schedule_push ls line) ∙ sym (append_assoc (line_text (entry_of l)) (schedule_text (entries_of ls)) (line_text (entry_of line)))
+schedule_push : (rows : List ARow) (row : ARow) → schedule_text (rows_of (rows ++ row ∷ [])) ≡ schedule_text (rows_of rows) ++ row_text (row_of row)
+schedule_push [] row = simp append-nil
+schedule_push (r ∷ rows) row = ap (λ t. row_text (row_of r) ++ t) (schedule_push rows row) ∙ sym (append_assoc (row_text (row_of r)) (schedule_text (rows_of rows)) (row_text (row_of row)))
 
 regroup : (before text after : List ℕ) → before ++ (text ++ 10 ∷ after) ≡ (before ++ (text ++ 10 ∷ [])) ++ after
 regroup before text after = simp append_assoc
 
-pub line_more : (octets rest text after : List ℕ) (lines more : List Line) (line : Line) → octets ≡ schedule_text (entries_of lines) ++ rest → rest ≡ text ++ 10 ∷ after → text ++ 10 ∷ [] ≡ line_text (entry_of line) → more ≡ lines ++ line ∷ [] → octets ≡ schedule_text (entries_of more) ++ after
-line_more octets rest text after lines more line so_far split read pushed =
-    so_far ∙ ap (λ t. schedule_text (entries_of lines) ++ t) split ∙ regroup (schedule_text (entries_of lines)) text after ∙ ap (λ t. (schedule_text (entries_of lines) ++ t) ++ after) read
-    ∙ ap (λ t. t ++ after) (sym (schedule_push lines line) ∙ ap (λ ls. schedule_text (entries_of ls)) (sym pushed))
+pub row_more : (octets rest text after : List ℕ) (rows more : List ARow) (row : ARow) → octets ≡ schedule_text (rows_of rows) ++ rest → rest ≡ text ++ 10 ∷ after → text ++ 10 ∷ [] ≡ row_text (row_of row) → more ≡ rows ++ row ∷ [] → octets ≡ schedule_text (rows_of more) ++ after
+row_more octets rest text after rows more row so_far split read pushed =
+    so_far ∙ ap (λ t. schedule_text (rows_of rows) ++ t) split ∙ regroup (schedule_text (rows_of rows)) text after ∙ ap (λ t. (schedule_text (rows_of rows) ++ t) ++ after) read
+    ∙ ap (λ t. t ++ after) (sym (schedule_push rows row) ∙ ap (λ rs. schedule_text (rows_of rs)) (sym pushed))
 
-pub all_lines : (octets rest : List ℕ) (lines : List Line) → octets ≡ schedule_text (entries_of lines) ++ rest → length rest ≡ 0 → schedule_text (entries_of lines) ≡ octets
-all_lines octets [] lines is none = sym (is ∙ append-nil (schedule_text (entries_of lines)))
-all_lines octets (x ∷ xs) lines is none = absurd (omega arith)
+pub all_rows : (octets rest : List ℕ) (rows : List ARow) → octets ≡ schedule_text (rows_of rows) ++ rest → length rest ≡ 0 → schedule_text (rows_of rows) ≡ octets
+all_rows octets [] rows is none = sym (is ∙ append-nil (schedule_text (rows_of rows)))
+all_rows octets (x ∷ xs) rows is none = absurd (omega arith)
 
-pub lines_more : (lines : List Line) (i : ℕ) (line : Line) → i < length lines → line ≡ get_or lines i line → schedule_text (entries_of (take i lines)) ++ line_text (entry_of line) ≡ schedule_text (entries_of (take (i + 1) lines))
-lines_more lines i line lt is = sym (schedule_push (take i lines) line) ∙ ap (λ ls. schedule_text (entries_of ls)) (sym (rw add-one (take-suc lines i line lt) ∙ ap (λ l. take i lines ++ l ∷ []) (sym is)))
+-- lines that are printed
+lines_push : (rows : List ARow) (row : ARow) → lines_text (entries_of (rows_of (rows ++ row ∷ []))) ≡ lines_text (entries_of (rows_of rows)) ++ line_text (entry_of row.line)
+lines_push [] row = simp append-nil
+lines_push (r ∷ rows) row = ap (λ t. line_text (entry_of r.line) ++ t) (lines_push rows row) ∙ sym (append_assoc (line_text (entry_of r.line)) (lines_text (entries_of (rows_of rows))) (line_text (entry_of row.line)))
 
-text_onto : (n : ℕ) (lines older : List Entry) → text older ++ schedule_text (take n lines) ≡ text (newest_onto n lines older)
-text_onto zero lines older = append-nil (text older)
+pub lines_more : (rows : List ARow) (i : ℕ) (row : ARow) → i < length rows → row ≡ get_or rows i row → lines_text (entries_of (rows_of (take i rows))) ++ line_text (entry_of row.line) ≡ lines_text (entries_of (rows_of (take (i + 1) rows)))
+lines_more rows i row lt is = sym (lines_push (take i rows) row) ∙ ap (λ rs. lines_text (entries_of (rows_of rs))) (sym (rw add-one (take-suc rows i row lt) ∙ ap (λ r. take i rows ++ r ∷ []) (sym is)))
+
+text_onto : (n : ℕ) (rows : List Row) (older : List Entry) → text older ++ lines_text (entries_of (take n rows)) ≡ text (newest_onto n (entries_of rows) older)
+text_onto zero rows older = append-nil (text older)
 text_onto (suc n) [] older = append-nil (text older)
-text_onto (suc n) (l ∷ lines) older = sym (append_assoc (text older) (line_text l) (schedule_text (take n lines))) ∙ text_onto n lines (l ∷ older)
+text_onto (suc n) (r ∷ rows) older = sym (append_assoc (text older) (line_text r.entry) (lines_text (entries_of (take n rows)))) ∙ text_onto n rows (r.entry ∷ older)
 
-pub taken : (n : ℕ) (lines : List Line) → entries_of (take n lines) ≡ take n (entries_of lines)
-taken zero lines = refl
+pub taken : (n : ℕ) (rows : List ARow) → rows_of (take n rows) ≡ take n (rows_of rows)
+taken zero rows = refl
 taken (suc n) [] = refl
-taken (suc n) (l ∷ lines) = ap (λ es. entry_of l ∷ es) (taken n lines)
+taken (suc n) (r ∷ rows) = ap (λ rs. row_of r ∷ rs) (taken n rows)
 
 -- the lines that are used up, in the order of the calls
-pub used_text : (n : ℕ) (lines used : List Entry) → used ≡ take n lines → schedule_text used ≡ text (newest_onto n lines [])
-used_text n lines used is = ap schedule_text is ∙ text_onto n lines []
+pub used_text : (n : ℕ) (rows used : List Row) → used ≡ take n rows → lines_text (entries_of used) ≡ text (newest_onto n (entries_of rows) [])
+used_text n rows used is = ap (λ rs. lines_text (entries_of rs)) is ∙ text_onto n rows []

@@ -3,6 +3,8 @@ pub mod Lines
 pub mod Names
 pub mod Pieces
 pub mod Range
+pub mod Room
+pub mod Rows
 pub mod Script
 pub mod Spelling
 pub mod Text

@@ -1,17 +1,23 @@
 -- What a line that was read, and the call that fitted none, stand for.
-use Rattle.std.specs.Prelude.{ℕ, List, map, Option, Some, None}
+use Rattle.std.specs.Prelude.{ℕ, Bool, List, map, Option, Some, None}
+use Rattle.net_octets.specs.declared.Endpoint.{Endpoint}
 use Rattle.poll_list.specs.declared.Want.{Want}
 use Rattle.world_face.specs.Journal.{Place, AtPath, AtEndpoint, Entry, Now, Wait, LinkOpen, LinkRead, LinkWrite, Connect, Connected, Listen, Accept, TcpRead, TcpWrite, TcpEnd, Close, UdpOpen, UdpSend, UdpRecv, FileLen, FileRead, Call, CallNow, CallWait, CallLinkOpen, CallLinkRead, CallLinkWrite, CallConnect, CallConnected, CallListen, CallAccept, CallTcpRead, CallTcpWrite, CallTcpEnd, CallClose, CallUdpOpen, CallUdpSend, CallUdpRecv, CallFileLen, CallFileRead}
+use Rattle.replay.specs.Rows.{Row}
 use Rattle.replay.specs.declared.line.Seat.{Seat}
-use Rattle.replay.specs.declared.line.Seat.TheVariants.{Path, At}
 use Rattle.replay.specs.declared.line.Line.{Line}
 use Rattle.replay.specs.declared.line.Line.TheVariants.{Now as LineNow, Wait as LineWait, LinkOpen as LineLinkOpen, LinkRead as LineLinkRead, LinkWrite as LineLinkWrite, Connect as LineConnect, Connected as LineConnected, Listen as LineListen, Accept as LineAccept, TcpRead as LineTcpRead, TcpWrite as LineTcpWrite, TcpEnd as LineTcpEnd, Close as LineClose, UdpOpen as LineUdpOpen, UdpSend as LineUdpSend, UdpRecv as LineUdpRecv, FileLen as LineFileLen, FileRead as LineFileRead}
+use Rattle.replay.specs.declared.row.Row.{Row as ARow}
 use Rattle.replay.specs.declared.line.Stop.{Stop}
 use Rattle.replay.specs.declared.line.Stop.TheVariants.{Now as StopNow, Wait as StopWait, LinkOpenPath as StopPath, LinkOpenAt as StopAt, LinkRead as StopLinkRead, LinkWrite as StopLinkWrite, Connect as StopConnect, Connected as StopConnected, Listen as StopListen, Accept as StopAccept, TcpRead as StopTcpRead, TcpWrite as StopTcpWrite, TcpEnd as StopTcpEnd, Close as StopClose, UdpOpen as StopUdpOpen, UdpSend as StopUdpSend, UdpRecv as StopUdpRecv, FileLen as StopFileLen, FileRead as StopFileRead}
 
+-- an endpoint, or else a path
+abbrev pub place_of_two : Option Endpoint → List ℕ → Place
+place_of_two None path = AtPath path
+place_of_two (Some at) path = AtEndpoint at
+
 abbrev pub place_at : Seat → Place
-place_at (Path path) = AtPath path.items
-place_at (At at) = AtEndpoint at
+place_at seat = place_of_two seat.at seat.path.items
 
 abbrev pub entry_of : Line → Entry
 entry_of (LineNow moment) = Now moment
@@ -33,8 +39,11 @@ entry_of (LineUdpRecv socket asked answer octets) = UdpRecv socket asked answer 
 entry_of (LineFileLen name answer) = FileLen name.items answer
 entry_of (LineFileRead name place asked answer octets) = FileRead name.items place asked answer octets.items
 
-abbrev pub entries_of : List Line → List Entry
-entries_of lines = map entry_of lines
+abbrev pub row_of : ARow → Row
+row_of row = record { entry = entry_of row.line; starred = row.starred; all = row.all }
+
+abbrev pub rows_of : List ARow → List Row
+rows_of rows = map row_of rows
 
 -- the call, with the octets and the wants that were kept
 abbrev pub call_at : Stop → List ℕ → List Want → Call

@@ -1,11 +1,13 @@
 -- Letters of hexadecimal digits, numbers as the standard library reads them, and the two halves of a line.
-use Rattle.std.specs.Prelude.{◌≡◌, ℕ, Bool, not, nat_lt, ◌==◌, ◌||◌, ◌^◌, ◌<◌, List, ◌∷◌, ◌++◌, Option, decimal}
+use Rattle.std.specs.Prelude.{◌≡◌, ℕ, Bool, true, false, not, nat_lt, codes, if◌then◌else◌, ◌==◌, ◌||◌, ◌^◌, ◌<◌, List, ◌∷◌, ◌++◌, Option, decimal}
 use Rattle.std.specs.Option.{SomeIff}
 use Rattle.std.specs.Str.Parse.{IsNumeral, digits_value, without_leading_plus}
 use Rattle.world_face.specs.Journal.{Entry, Call, CallNow, CallWait, CallLinkOpen, CallLinkRead, CallLinkWrite, CallConnect, CallConnected, CallListen, CallAccept, CallTcpRead, CallTcpWrite, CallTcpEnd, CallClose, CallUdpOpen, CallUdpSend, CallUdpRecv, CallFileLen, CallFileRead, call_of}
 use Rattle.replay.specs.declared.CallName.{CallName}
+use Rattle.replay.specs.declared.CallName.TheVariants.{Now, Wait, LinkOpen, LinkRead, LinkWrite, Connect, Connected, Listen, Accept, TcpRead, TcpWrite, TcpEnd, Close, UdpOpen, UdpSend, UdpRecv, FileLen, FileRead}
 use Rattle.replay.specs.Names.{name_of}
 use Rattle.replay.specs.Range.{IsSayable}
+use Rattle.replay.specs.Rows.{Row, IsReadable, said_call, said_answer}
 use Rattle.replay.specs.Text.{hexadecimal, endpoint_text, timeout_text, wants_text, place_text, call_text, answer_text}
 
 -- no capital from A to F
@@ -48,3 +50,50 @@ HasArguments (CallFileRead name place asked) args = args ≡ hexadecimal name ++
 -- these arguments and this answer stand in a line of this name that says this entry
 abbrev pub Says : CallName → List ℕ → List ℕ → Entry → Type 0
 Says name args answer e = (name_of (call_of e) ≡ name) × HasArguments (call_of e) args × (answer ≡ answer_text e) × IsSayable e
+
+-- the two sides of a schedule's line
+abbrev pub IsWritten : List ℕ → List ℕ → Row → Type 0
+IsWritten call answer row = (call ≡ said_call row) × (answer ≡ said_answer row)
+
+-- the arguments, or a star for them
+abbrev pub SaidArguments : Bool → Call → List ℕ → Type 0
+SaidArguments true call args = args ≡ codes "*"
+SaidArguments false call args = HasArguments call args
+
+-- this stands for the arguments after the name and a space, and this answer, in a line of this name
+abbrev pub SaysRow : CallName → List ℕ → List ℕ → Row → Type 0
+SaysRow name args answer row = (name_of (call_of row.entry) ≡ name) × SaidArguments row.starred (call_of row.entry) args × (answer ≡ said_answer row) × IsReadable row
+
+-- the calls that may be answered by `all`
+abbrev pub is_write : CallName → Bool
+is_write LinkWrite = true
+is_write TcpWrite = true
+is_write _ = false
+
+-- arguments of no meaning, as which a star is read
+abbrev pub blank_args : CallName → List ℕ
+blank_args Now = codes ""
+blank_args Wait = codes "- -"
+blank_args LinkOpen = codes "7463703a302e302e302e303a30"
+blank_args LinkRead = codes "0"
+blank_args LinkWrite = codes "-"
+blank_args Connect = codes "0 0.0.0.0:0"
+blank_args Connected = codes "0"
+blank_args Listen = codes "0 0.0.0.0:0"
+blank_args Accept = codes "0 0"
+blank_args TcpRead = codes "0 0"
+blank_args TcpWrite = codes "0 -"
+blank_args TcpEnd = codes "0"
+blank_args Close = codes "0"
+blank_args UdpOpen = codes "0 0.0.0.0:0"
+blank_args UdpSend = codes "0 0.0.0.0:0 -"
+blank_args UdpRecv = codes "0 0"
+blank_args FileLen = codes "-"
+blank_args FileRead = codes "- 0 0"
+
+abbrev pub given_args : Bool → CallName → List ℕ → List ℕ
+given_args starred name args = if starred then blank_args name else args
+
+-- `all` is read as a count of none
+abbrev pub counted_answer : Bool → List ℕ → List ℕ
+counted_answer all answer = if all then codes "done 0" else answer

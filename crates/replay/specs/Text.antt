@@ -170,8 +170,3 @@ line_text e = call_text (call_of e) ++ codes " = " ++ answer_text e ++ 10 ∷ []
 abbrev pub text : List Entry → List ℕ
 text [] = []
 text (e ∷ past) = text past ++ line_text e
-
--- The entries of a record fit the lines of a schedule, one to one from the first: the schedule begins with their text.
-pub record Fits (past : List Entry) (schedule : List ℕ) : Type 0 where
-  pub rest : List ℕ
-  pub is : schedule ≡ text past ++ rest

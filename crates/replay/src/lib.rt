@@ -1,9 +1,12 @@
 //! Records of host calls as text, and a World that answers by such a text.
 #![tactic(auto)]
 
+mod allowing;
+mod giving;
 mod line;
 mod printing;
 mod reading;
+mod row;
 #[cfg(test)]
 mod tests;
 mod tokens;
@@ -70,6 +73,8 @@ impl CallName {
 pub enum ScriptFault {
     /// The first line, counted from 1, that has no reading.
     Line(u64),
+    /// Each line has a reading, and the stars take over 1 GiB of room.
+    TooLarge,
     /// There was no memory left.
     NoMemory,
 }

@@ -8,11 +8,11 @@ ghost use Rattle.replay.specs.Fitting.{has_failed, moment_after};
 use crate::CallName;
 use world_face::{Accepted, Endpoint, FileSize, Got, Io, Joined, Made, Sent, Waited, Want};
 
-/// Where the link is: the octets of a path, or an endpoint.
+/// Where the link is: an endpoint, or where there is none the octets of a path.
 #[derive(Drop)]
-pub enum Seat {
-    Path(Vec<u8>),
-    At(Endpoint),
+pub struct Seat {
+    pub path: Vec<u8>,
+    pub at: Option<Endpoint>,
 }
 
 /// A call with its arguments and its answer, in the order in which a World takes them.

@@ -4,15 +4,16 @@
 ghost use Rattle.std.specs.Prelude.{◌≡◌, ◌++◌, ◌∷◌, [], ℕ, List, codes, decimal};
 ghost use Rattle.std.specs.Prelude.{◌+◌, ◌≤◌, ◌<◌, length, IfSome, IfNone};
 ghost use Rattle.arrayvec.specs.ArrayString.{array_string_len};
-ghost use Rattle.replay.specs.Script.{schedule_text};
-ghost use Rattle.replay.specs.Pieces.{more_text};
+ghost use Rattle.replay.specs.Rows.{entries_of};
+ghost use Rattle.replay.specs.Pieces.{lines_text, more_text};
 ghost use Rattle.hex.specs.Hex.{encode_lower};
 ghost use Rattle.world_face.specs.Puts.{Puts};
 ghost use Rattle.world_face.specs.Journal.{call_of};
-ghost use Rattle.replay.specs.Lines.{entry_of, entries_of, place_at};
+ghost use Rattle.replay.specs.Lines.{entry_of, rows_of, place_at};
 ghost use Rattle.replay.specs.Text.{hexadecimal, endpoint_text, who_text, direction_text, want_text, joined_text, wants_text, timeout_text, place_text, made_text, read_text, written_text, joined_answer, accepted_text, sent_text, got_text, size_text, ready_text, waited_text, call_text, answer_text, line_text};
 
 use crate::line::{Line, Seat};
+use crate::row::Row;
 use arrayvec::ArrayString;
 use itoa::Buffer;
 use world_face::{
@@ -22,11 +23,12 @@ use world_face::{
 // Octets that are put in hexadecimal at a time.
 const CHUNK: usize = 512;
 
-pub fn put_lines<K: Sink>(lines: &[Line], out: &mut K) -> Result<(), Failed>
-    ensures { Puts (K.holds out.old) (K.holds out.new) (K.faults out.old) (K.faults out.new) (schedule_text (entries_of lines.now)) result }
+// The lines as calls that were made, with what stars and `all` stood for.
+pub fn put_rows<K: Sink>(rows: &[Row], out: &mut K) -> Result<(), Failed>
+    ensures { Puts (K.holds out.old) (K.holds out.new) (K.faults out.old) (K.faults out.new) (lines_text (entries_of (rows_of rows.now))) result }
 {
-    for line in lines {
-        put_line(line, out)?;
+    for row in rows {
+        put_line(&row.line, out)?;
     }
     Ok(())
 }
@@ -118,9 +120,9 @@ fn put_link_open<K: Sink>(seat: &Seat, out: &mut K) -> Result<(), Failed>
     ensures { Puts (K.holds out.old) (K.holds out.new) (K.faults out.old) (K.faults out.new) (codes "lopen " ++ hexadecimal (place_text (place_at seat.now))) result }
 {
     out.put(b"lopen ")?;
-    match seat {
-        Seat::Path(path) => put_place(b"unix:", path, out),
-        Seat::At(at) => put_place(b"tcp:", endpoint_string(*at).as_str().as_bytes(), out),
+    match seat.at {
+        None => put_place(b"unix:", &seat.path, out),
+        Some(at) => put_place(b"tcp:", endpoint_string(at).as_str().as_bytes(), out),
     }
 }
 

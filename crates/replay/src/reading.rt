@@ -2,9 +2,11 @@
 #![tactic(auto, unfolding(crate::specs::Text::call_text, crate::specs::Text::answer_text))]
 
 ghost use Rattle.std.specs.Prelude.{◌≡◌, ◌≢◌, ◌++◌, ◌∷◌, [], ℕ, List, Err, IfOk, OnErr, IsTrue, ◌↔◌, codes, decimal, length};
-ghost use Rattle.replay.specs.Names.{name_text};
-ghost use Rattle.replay.specs.Lines.{entry_of, place_at};
-ghost use Rattle.replay.specs.Text.{hexadecimal, endpoint_text, place_text, made_text, read_text, written_text, joined_answer, accepted_text, sent_text, got_text, size_text, waited_text, line_text};
+ghost use Rattle.replay.specs.Names.{name_of, name_text};
+ghost use Rattle.replay.specs.Fitting.{with_answer};
+ghost use Rattle.replay.specs.Lines.{entry_of, place_at, row_of};
+ghost use Rattle.replay.specs.Rows.{Row as ARow, IsReadable, row_text};
+ghost use Rattle.replay.specs.Text.{hexadecimal, endpoint_text, place_text, made_text, read_text, written_text, joined_answer, accepted_text, sent_text, got_text, size_text, waited_text};
 ghost use Rattle.net_octets.specs.declared.Endpoint.{Endpoint as AnEndpoint};
 ghost use Rattle.poll_list.specs.declared.Want.{Want as AWant};
 ghost use Rattle.world_face.specs.declared.Io.{Io as AnIo};
@@ -15,14 +17,15 @@ ghost use Rattle.world_face.specs.declared.Sent.{Sent as ASent};
 ghost use Rattle.world_face.specs.declared.Got.{Got as AGot};
 ghost use Rattle.world_face.specs.declared.FileSize.{FileSize as ASize};
 ghost use Rattle.world_face.specs.declared.Waited.{Waited as AWaited};
-ghost use Rattle.world_face.specs.Journal.{Place, Entry, AreOctets, IsEndpoint, IsNumber, IsPlace, MayAccept, MayMeasure, Leaves, LeavesGot};
-ghost use Rattle.replay.specs.declared.CallName.TheVariants.{Wait, LinkOpen, LinkRead, LinkWrite, Connect, Connected, Listen, Accept, TcpRead, TcpWrite, TcpEnd, Close, UdpOpen, UdpSend, UdpRecv, FileLen, FileRead};
+ghost use Rattle.world_face.specs.Journal.{Place, Entry, AreOctets, IsEndpoint, IsNumber, IsPlace, MayAccept, MayMeasure, Leaves, LeavesGot, call_of};
+ghost use Rattle.replay.specs.declared.CallName.TheVariants.{Now, Wait, LinkOpen, LinkRead, LinkWrite, Connect, Connected, Listen, Accept, TcpRead, TcpWrite, TcpEnd, Close, UdpOpen, UdpSend, UdpRecv, FileLen, FileRead};
 ghost use Rattle.replay.specs.declared.tokens.Unread.TheVariants.{NoReading};
-ghost use Rattle.replay.specs.Range.{LeavesReady, Counts, IsAtOnce, ComesFrom, IsSayable};
-ghost use Rattle.replay.specs.Spelling.{IsSpelt, Says};
+ghost use Rattle.replay.specs.Range.{AnswersInRange, LeavesReady, Counts, IsAtOnce, ComesFrom, IsSayable};
+ghost use Rattle.replay.specs.Spelling.{IsSpelt, IsWritten, Says, SaysRow, blank_args, counted_answer, given_args, is_write};
 
 use crate::CallName;
 use crate::line::{Line, Seat};
+use crate::row::Row;
 use crate::tokens::{
     Unread, read_endpoint, read_items, read_name, read_number, read_octets, read_timeout,
     read_wants, split_at,
@@ -31,20 +34,20 @@ use std::alloc::Global;
 use world_face::{Accepted, Endpoint, FileSize, Got, Io, Joined, Made, Sent, Waited, Want};
 
 // A line without its line feed.
-pub fn read_line(alloc: Global, text: &[u8]) -> Result<Line, Unread>
-    ensures line { IfOk result (λ line. text.now ++ 10 ∷ [] ≡ line_text (entry_of line)) }
-    ensures range { IfOk result (λ line. IsSayable (entry_of line)) }
-    ensures refused { result ≡ Err NoReading → (e : Entry) → IsSayable e → text.now ++ 10 ∷ [] ≢ line_text e }
+pub fn read_line(alloc: Global, text: &[u8]) -> Result<Row, Unread>
+    ensures line { IfOk result (λ row. text.now ++ 10 ∷ [] ≡ row_text (row_of row)) }
+    ensures range { IfOk result (λ row. IsReadable (row_of row)) }
+    ensures refused { result ≡ Err NoReading → (row : ARow) → IsReadable row → text.now ++ 10 ∷ [] ≢ row_text row }
 {
     let (call, answer) = split_answer(text)?;
-    let line = read_call(alloc, call, answer)?;
-    Ok(line)
+    let row = read_call(alloc, call, answer)?;
+    Ok(row)
 }
 
 fn split_answer(text: &[u8]) -> Result<(&[u8], &[u8]), Unread>
     ensures parts { IfOk result (λ parts. text.now ≡ parts.0.now ++ codes " = " ++ parts.1.now) }
-    ensures refused { OnErr result ((e : Entry) → IsSayable e → text.now ++ 10 ∷ [] ≢ line_text e) }
-    ensures only { IfOk result (λ parts. (e : Entry) → IsSayable e → text.now ++ 10 ∷ [] ≡ line_text e → IsSpelt parts.0.now parts.1.now e) }
+    ensures refused { OnErr result ((row : ARow) → IsReadable row → text.now ++ 10 ∷ [] ≢ row_text row) }
+    ensures only { IfOk result (λ parts. (row : ARow) → IsReadable row → text.now ++ 10 ∷ [] ≡ row_text row → IsWritten parts.0.now parts.1.now row) }
 {
     let (before, after) = split_at(text, b'=')?;
     let call = before_space(before)?;
@@ -72,18 +75,115 @@ fn after_space(text: &[u8]) -> Result<&[u8], Unread>
     }
 }
 
-fn read_call(alloc: Global, call: &[u8], answer: &[u8]) -> Result<Line, Unread>
-    ensures line { IfOk result (λ line. IsSpelt call.now answer.now (entry_of line)) }
-    ensures range { IfOk result (λ line. IsSayable (entry_of line)) }
-    ensures refused { result ≡ Err NoReading → (e : Entry) → IsSayable e → ¬ IsSpelt call.now answer.now e }
+fn read_call(alloc: Global, call: &[u8], answer: &[u8]) -> Result<Row, Unread>
+    ensures line { IfOk result (λ row. IsWritten call.now answer.now (row_of row)) }
+    ensures range { IfOk result (λ row. IsReadable (row_of row)) }
+    ensures refused { result ≡ Err NoReading → (row : ARow) → IsReadable row → ¬ IsWritten call.now answer.now row }
 {
     if is_now(call) {
         return read_now(answer);
     }
     let (word, args) = split_at(call, b' ')?;
     let name = read_name(word)?;
-    let line = read_named(alloc, name, args, answer)?;
-    Ok(line)
+    let row = read_row(alloc, name, args, answer)?;
+    Ok(row)
+}
+
+// A line whose call has arguments. A star is read as arguments of no meaning, `all` as a count of none.
+fn read_row(alloc: Global, name: CallName, args: &[u8], answer: &[u8]) -> Result<Row, Unread>
+    ensures line { IfOk result (λ row. IsWritten (name_text name ++ 32 ∷ args.now) answer.now (row_of row)) }
+    ensures range { IfOk result (λ row. IsReadable (row_of row)) }
+    ensures refused { result ≡ Err NoReading → (row : ARow) → ¬ SaysRow name args.now answer.now row }
+{
+    let starred = is_star(args);
+    let all = is_all(name, answer);
+    let given = given_args(starred, name, args);
+    let said = counted_answer(all, answer);
+    let line = read_named(alloc, name, given, said)?;
+    Ok(Row {
+        line: counted(line, all),
+        starred,
+        all,
+    })
+}
+
+fn is_star(args: &[u8]) -> bool
+    ensures { IsTrue result ↔ (args.now ≡ codes "*") }
+{
+    matches!(args, b"*")
+}
+
+// All that a write offered was taken.
+fn is_all(name: CallName, answer: &[u8]) -> bool
+    ensures { IsTrue result ↔ (IsTrue (is_write name) × (answer.now ≡ codes "all")) }
+{
+    match name {
+        CallName::LinkWrite | CallName::TcpWrite => is_all_text(answer),
+        _ => false,
+    }
+}
+
+fn is_all_text(answer: &[u8]) -> bool
+    ensures { IsTrue result ↔ (answer.now ≡ codes "all") }
+{
+    matches!(answer, b"all")
+}
+
+fn given_args(starred: bool, name: CallName, args: &[u8]) -> &[u8]
+    ensures { result.now ≡ given_args starred name args.now }
+{
+    if starred {
+        return blank_args(name);
+    }
+    args
+}
+
+fn counted_answer(all: bool, answer: &[u8]) -> &[u8]
+    ensures { result.now ≡ counted_answer all answer.now }
+{
+    if all {
+        return b"done 0";
+    }
+    answer
+}
+
+// Arguments of no meaning.
+fn blank_args(name: CallName) -> &'static [u8]
+    ensures { result.now ≡ blank_args name }
+{
+    match name {
+        CallName::Now => b"",
+        CallName::Wait => b"- -",
+        CallName::LinkOpen => b"7463703a302e302e302e303a30",
+        CallName::LinkWrite | CallName::FileLen => b"-",
+        CallName::LinkRead | CallName::Connected | CallName::TcpEnd | CallName::Close => b"0",
+        CallName::Connect | CallName::Listen | CallName::UdpOpen => b"0 0.0.0.0:0",
+        CallName::Accept | CallName::TcpRead | CallName::UdpRecv => b"0 0",
+        CallName::TcpWrite => b"0 -",
+        CallName::UdpSend => b"0 0.0.0.0:0 -",
+        CallName::FileRead => b"- 0 0",
+    }
+}
+
+// A write that took all that was offered.
+fn counted(line: Line, all: bool) -> Line
+    ensures entry { entry_of result ≡ with_answer all (call_of (entry_of line)) (entry_of line) }
+    ensures range { AnswersInRange (entry_of line) → AnswersInRange (entry_of result) }
+{
+    if !all {
+        return line;
+    }
+    match line {
+        Line::LinkWrite(octets, _) => {
+            let count = octets.len();
+            Line::LinkWrite(octets, Io::Done(count))
+        }
+        Line::TcpWrite(socket, octets, _) => {
+            let count = octets.len();
+            Line::TcpWrite(socket, octets, Io::Done(count))
+        }
+        other => other,
+    }
 }
 
 fn is_now(call: &[u8]) -> bool
@@ -94,6 +194,8 @@ fn is_now(call: &[u8]) -> bool
 
 fn read_named(alloc: Global, name: CallName, args: &[u8], answer: &[u8]) -> Result<Line, Unread>
     ensures line { IfOk result (λ line. IsSpelt (name_text name ++ 32 ∷ args.now) answer.now (entry_of line)) }
+    ensures named { IfOk result (λ line. name_of (call_of (entry_of line)) ≡ name) }
+    ensures some { IfOk result (λ line. name ≢ Now) }
     ensures range { IfOk result (λ line. IsSayable (entry_of line)) }
     ensures refused { result ≡ Err NoReading → (e : Entry) → ¬ Says name args.now answer.now e }
 {
@@ -119,17 +221,22 @@ fn read_named(alloc: Global, name: CallName, args: &[u8], answer: &[u8]) -> Resu
     }
 }
 
-fn read_now(answer: &[u8]) -> Result<Line, Unread>
-    ensures line { IfOk result (λ line. IsSpelt (codes "now") answer.now (entry_of line)) }
-    ensures range { IfOk result (λ line. IsSayable (entry_of line)) }
+fn read_now(answer: &[u8]) -> Result<Row, Unread>
+    ensures line { IfOk result (λ row. IsWritten (codes "now") answer.now (row_of row)) }
+    ensures range { IfOk result (λ row. IsReadable (row_of row)) }
     ensures refused { OnErr result ((moment : ℕ) → IsNumber moment → answer.now ≢ decimal moment) }
 {
     let moment = read_number(answer)?;
-    Ok(Line::Now(moment))
+    Ok(Row {
+        line: Line::Now(moment),
+        starred: false,
+        all: false,
+    })
 }
 
 fn read_wait(alloc: Global, args: &[u8], answer: &[u8]) -> Result<Line, Unread>
     ensures line { IfOk result (λ line. IsSpelt (codes "wait" ++ 32 ∷ args.now) answer.now (entry_of line)) }
+    ensures named { IfOk result (λ line. name_of (call_of (entry_of line)) ≡ Wait) }
     ensures range { IfOk result (λ line. IsSayable (entry_of line)) }
     ensures refused { result ≡ Err NoReading → (e : Entry) → ¬ Says Wait args.now answer.now e }
 {
@@ -142,6 +249,7 @@ fn read_wait(alloc: Global, args: &[u8], answer: &[u8]) -> Result<Line, Unread>
 
 fn read_link_open(alloc: Global, args: &[u8], answer: &[u8]) -> Result<Line, Unread>
     ensures line { IfOk result (λ line. IsSpelt (codes "lopen" ++ 32 ∷ args.now) answer.now (entry_of line)) }
+    ensures named { IfOk result (λ line. name_of (call_of (entry_of line)) ≡ LinkOpen) }
     ensures range { IfOk result (λ line. IsSayable (entry_of line)) }
     ensures refused { result ≡ Err NoReading → (e : Entry) → ¬ Says LinkOpen args.now answer.now e }
 {
@@ -153,6 +261,7 @@ fn read_link_open(alloc: Global, args: &[u8], answer: &[u8]) -> Result<Line, Unr
 
 fn read_link_read(alloc: Global, args: &[u8], answer: &[u8]) -> Result<Line, Unread>
     ensures line { IfOk result (λ line. IsSpelt (codes "lread" ++ 32 ∷ args.now) answer.now (entry_of line)) }
+    ensures named { IfOk result (λ line. name_of (call_of (entry_of line)) ≡ LinkRead) }
     ensures range { IfOk result (λ line. IsSayable (entry_of line)) }
     ensures refused { result ≡ Err NoReading → (e : Entry) → ¬ Says LinkRead args.now answer.now e }
 {
@@ -163,6 +272,7 @@ fn read_link_read(alloc: Global, args: &[u8], answer: &[u8]) -> Result<Line, Unr
 
 fn read_link_write(alloc: Global, args: &[u8], answer: &[u8]) -> Result<Line, Unread>
     ensures line { IfOk result (λ line. IsSpelt (codes "lwrite" ++ 32 ∷ args.now) answer.now (entry_of line)) }
+    ensures named { IfOk result (λ line. name_of (call_of (entry_of line)) ≡ LinkWrite) }
     ensures range { IfOk result (λ line. IsSayable (entry_of line)) }
     ensures refused { result ≡ Err NoReading → (e : Entry) → ¬ Says LinkWrite args.now answer.now e }
 {
@@ -173,6 +283,7 @@ fn read_link_write(alloc: Global, args: &[u8], answer: &[u8]) -> Result<Line, Un
 
 fn read_connect(args: &[u8], answer: &[u8]) -> Result<Line, Unread>
     ensures line { IfOk result (λ line. IsSpelt (codes "connect" ++ 32 ∷ args.now) answer.now (entry_of line)) }
+    ensures named { IfOk result (λ line. name_of (call_of (entry_of line)) ≡ Connect) }
     ensures range { IfOk result (λ line. IsSayable (entry_of line)) }
     ensures refused { result ≡ Err NoReading → (e : Entry) → ¬ Says Connect args.now answer.now e }
 {
@@ -183,6 +294,7 @@ fn read_connect(args: &[u8], answer: &[u8]) -> Result<Line, Unread>
 
 fn read_connected(args: &[u8], answer: &[u8]) -> Result<Line, Unread>
     ensures line { IfOk result (λ line. IsSpelt (codes "connected" ++ 32 ∷ args.now) answer.now (entry_of line)) }
+    ensures named { IfOk result (λ line. name_of (call_of (entry_of line)) ≡ Connected) }
     ensures range { IfOk result (λ line. IsSayable (entry_of line)) }
     ensures refused { result ≡ Err NoReading → (e : Entry) → ¬ Says Connected args.now answer.now e }
 {
@@ -193,6 +305,7 @@ fn read_connected(args: &[u8], answer: &[u8]) -> Result<Line, Unread>
 
 fn read_listen(args: &[u8], answer: &[u8]) -> Result<Line, Unread>
     ensures line { IfOk result (λ line. IsSpelt (codes "listen" ++ 32 ∷ args.now) answer.now (entry_of line)) }
+    ensures named { IfOk result (λ line. name_of (call_of (entry_of line)) ≡ Listen) }
     ensures range { IfOk result (λ line. IsSayable (entry_of line)) }
     ensures refused { result ≡ Err NoReading → (e : Entry) → ¬ Says Listen args.now answer.now e }
 {
@@ -203,6 +316,7 @@ fn read_listen(args: &[u8], answer: &[u8]) -> Result<Line, Unread>
 
 fn read_accept(args: &[u8], answer: &[u8]) -> Result<Line, Unread>
     ensures line { IfOk result (λ line. IsSpelt (codes "accept" ++ 32 ∷ args.now) answer.now (entry_of line)) }
+    ensures named { IfOk result (λ line. name_of (call_of (entry_of line)) ≡ Accept) }
     ensures range { IfOk result (λ line. IsSayable (entry_of line)) }
     ensures refused { result ≡ Err NoReading → (e : Entry) → ¬ Says Accept args.now answer.now e }
 {
@@ -213,6 +327,7 @@ fn read_accept(args: &[u8], answer: &[u8]) -> Result<Line, Unread>
 
 fn read_tcp_read(alloc: Global, args: &[u8], answer: &[u8]) -> Result<Line, Unread>
     ensures line { IfOk result (λ line. IsSpelt (codes "tread" ++ 32 ∷ args.now) answer.now (entry_of line)) }
+    ensures named { IfOk result (λ line. name_of (call_of (entry_of line)) ≡ TcpRead) }
     ensures range { IfOk result (λ line. IsSayable (entry_of line)) }
     ensures refused { result ≡ Err NoReading → (e : Entry) → ¬ Says TcpRead args.now answer.now e }
 {
@@ -223,6 +338,7 @@ fn read_tcp_read(alloc: Global, args: &[u8], answer: &[u8]) -> Result<Line, Unre
 
 fn read_tcp_write(alloc: Global, args: &[u8], answer: &[u8]) -> Result<Line, Unread>
     ensures line { IfOk result (λ line. IsSpelt (codes "twrite" ++ 32 ∷ args.now) answer.now (entry_of line)) }
+    ensures named { IfOk result (λ line. name_of (call_of (entry_of line)) ≡ TcpWrite) }
     ensures range { IfOk result (λ line. IsSayable (entry_of line)) }
     ensures refused { result ≡ Err NoReading → (e : Entry) → ¬ Says TcpWrite args.now answer.now e }
 {
@@ -235,6 +351,7 @@ fn read_tcp_write(alloc: Global, args: &[u8], answer: &[u8]) -> Result<Line, Unr
 
 fn read_tcp_end(args: &[u8], answer: &[u8]) -> Result<Line, Unread>
     ensures line { IfOk result (λ line. IsSpelt (codes "tend" ++ 32 ∷ args.now) answer.now (entry_of line)) }
+    ensures named { IfOk result (λ line. name_of (call_of (entry_of line)) ≡ TcpEnd) }
     ensures range { IfOk result (λ line. IsSayable (entry_of line)) }
     ensures refused { result ≡ Err NoReading → (e : Entry) → ¬ Says TcpEnd args.now answer.now e }
 {
@@ -245,6 +362,7 @@ fn read_tcp_end(args: &[u8], answer: &[u8]) -> Result<Line, Unread>
 
 fn read_close(args: &[u8], answer: &[u8]) -> Result<Line, Unread>
     ensures line { IfOk result (λ line. IsSpelt (codes "close" ++ 32 ∷ args.now) answer.now (entry_of line)) }
+    ensures named { IfOk result (λ line. name_of (call_of (entry_of line)) ≡ Close) }
     ensures range { IfOk result (λ line. IsSayable (entry_of line)) }
     ensures refused { result ≡ Err NoReading → (e : Entry) → ¬ Says Close args.now answer.now e }
 {
@@ -257,6 +375,7 @@ fn read_close(args: &[u8], answer: &[u8]) -> Result<Line, Unread>
 
 fn read_udp_open(args: &[u8], answer: &[u8]) -> Result<Line, Unread>
     ensures line { IfOk result (λ line. IsSpelt (codes "uopen" ++ 32 ∷ args.now) answer.now (entry_of line)) }
+    ensures named { IfOk result (λ line. name_of (call_of (entry_of line)) ≡ UdpOpen) }
     ensures range { IfOk result (λ line. IsSayable (entry_of line)) }
     ensures refused { result ≡ Err NoReading → (e : Entry) → ¬ Says UdpOpen args.now answer.now e }
 {
@@ -267,6 +386,7 @@ fn read_udp_open(args: &[u8], answer: &[u8]) -> Result<Line, Unread>
 
 fn read_udp_send(alloc: Global, args: &[u8], answer: &[u8]) -> Result<Line, Unread>
     ensures line { IfOk result (λ line. IsSpelt (codes "usend" ++ 32 ∷ args.now) answer.now (entry_of line)) }
+    ensures named { IfOk result (λ line. name_of (call_of (entry_of line)) ≡ UdpSend) }
     ensures range { IfOk result (λ line. IsSayable (entry_of line)) }
     ensures refused { result ≡ Err NoReading → (e : Entry) → ¬ Says UdpSend args.now answer.now e }
 {
@@ -281,6 +401,7 @@ fn read_udp_send(alloc: Global, args: &[u8], answer: &[u8]) -> Result<Line, Unre
 
 fn read_udp_recv(alloc: Global, args: &[u8], answer: &[u8]) -> Result<Line, Unread>
     ensures line { IfOk result (λ line. IsSpelt (codes "urecv" ++ 32 ∷ args.now) answer.now (entry_of line)) }
+    ensures named { IfOk result (λ line. name_of (call_of (entry_of line)) ≡ UdpRecv) }
     ensures range { IfOk result (λ line. IsSayable (entry_of line)) }
     ensures refused { result ≡ Err NoReading → (e : Entry) → ¬ Says UdpRecv args.now answer.now e }
 {
@@ -291,6 +412,7 @@ fn read_udp_recv(alloc: Global, args: &[u8], answer: &[u8]) -> Result<Line, Unre
 
 fn read_file_len(alloc: Global, args: &[u8], answer: &[u8]) -> Result<Line, Unread>
     ensures line { IfOk result (λ line. IsSpelt (codes "flen" ++ 32 ∷ args.now) answer.now (entry_of line)) }
+    ensures named { IfOk result (λ line. name_of (call_of (entry_of line)) ≡ FileLen) }
     ensures range { IfOk result (λ line. IsSayable (entry_of line)) }
     ensures refused { result ≡ Err NoReading → (e : Entry) → ¬ Says FileLen args.now answer.now e }
 {
@@ -301,6 +423,7 @@ fn read_file_len(alloc: Global, args: &[u8], answer: &[u8]) -> Result<Line, Unre
 
 fn read_file_read(alloc: Global, args: &[u8], answer: &[u8]) -> Result<Line, Unread>
     ensures line { IfOk result (λ line. IsSpelt (codes "fread" ++ 32 ∷ args.now) answer.now (entry_of line)) }
+    ensures named { IfOk result (λ line. name_of (call_of (entry_of line)) ≡ FileRead) }
     ensures range { IfOk result (λ line. IsSayable (entry_of line)) }
     ensures refused { result ≡ Err NoReading → (e : Entry) → ¬ Says FileRead args.now answer.now e }
 {
@@ -346,7 +469,10 @@ fn read_seat(alloc: Global, text: &[u8]) -> Result<Seat, Unread>
         return copy_path(alloc, place);
     }
     if is_tcp(kind) {
-        return Ok(Seat::At(read_endpoint(place)?));
+        return Ok(Seat {
+            path: Vec::new(alloc),
+            at: Some(read_endpoint(place)?),
+        });
     }
     Err(Unread::NoReading)
 }
@@ -372,7 +498,7 @@ fn copy_path(alloc: Global, path: &[u8]) -> Result<Seat, Unread>
         return Err(Unread::NoReading);
     }
     match Vec::from_slice(alloc, path) {
-        Ok(path) => Ok(Seat::Path(path)),
+        Ok(path) => Ok(Seat { path, at: None }),
         Err(_) => Err(Unread::NoMemory),
     }
 }

@@ -175,7 +175,8 @@ fn is_lower_case(text: &[u8]) -> bool
 }
 
 fn unread_of(fault: FromHexError) -> Unread
-    ensures { fault ≡ OutOfMemory → result ≢ NoReading }
+    ensures memory { fault ≡ OutOfMemory → result ≢ NoReading }
+    ensures reading { fault ≢ OutOfMemory → result ≡ NoReading }
 {
     match fault {
         FromHexError::OutOfMemory => Unread::NoMemory,

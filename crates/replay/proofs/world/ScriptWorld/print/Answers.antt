@@ -3,4 +3,4 @@ use Rattle.replay.proofs.Scheduling.{used_text}
 use Rattle.replay.proofs.world.ScriptWorld.print.Goals as goal
 
 pub returns : goal.returns
-returns g c = puts_same _ _ _ _ _ _ _ c.put_lines.ensures (used_text c.args.self.now.used c.args.self.now.lines _ c.used_lines.ensures)
+returns g c = puts_same _ _ _ _ _ _ _ c.put_rows.ensures (used_text c.args.self.now.used c.args.self.now.lines _ c.used_rows.ensures)

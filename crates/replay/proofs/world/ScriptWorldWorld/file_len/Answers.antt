@@ -1,4 +1,4 @@
-use Rattle.std.proofs.Common.{List, ℕ, rules, subst}
+use Rattle.std.proofs.Common.{refl, List, ℕ, rules, subst}
 use Rattle.world_face.specs.Journal.{Allowed, FileLen}
 use Rattle.world_face.specs.declared.FileSize.TheVariants.{Failed as SizeFailed}
 use Rattle.world_face.specs.Tells.{Answers}
@@ -9,7 +9,7 @@ use Rattle.replay.proofs.world.ScriptWorldWorld.file_len.Goals as goal
 pub returns-in-Some : goal.returns-in-Some
 returns-in-Some c =
     subst (λ (n : List ℕ). Answers (script_tells c.args.self.now) (script_tells c.advance.new.self) (FileLen n c.in-Some.answer)) c.as_bytes-file.ensures.value
-    (fits c.args.self.now c.advance.new.self (FileLen c.as_bytes-file.result.now c.in-Some.answer) c.in-Some.ensures.found c.advance.ensures)
+    (fits c.args.self.now c.advance.new.self (FileLen c.as_bytes-file.result.now c.in-Some.answer) c.in-Some.ensures.found (c.advance.ensures _ c.in-Some.ensures.found refl))
 
 pub returns-in-None : goal.returns-in-None
 returns-in-None c =

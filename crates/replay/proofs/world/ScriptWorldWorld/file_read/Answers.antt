@@ -1,4 +1,4 @@
-use Rattle.std.proofs.Common.{◌≡◌, List, ℕ, [], length, take, rules, sym, subst}
+use Rattle.std.proofs.Common.{refl, ◌≡◌, List, ℕ, [], length, take, rules, sym, subst}
 use Rattle.world_face.specs.Journal.{Allowed, FileRead, filled}
 use Rattle.world_face.specs.declared.Io.TheVariants.{Failed as IoFailed}
 use Rattle.world_face.specs.Tells.{Answers}
@@ -14,7 +14,7 @@ returns-in-Some c =
     let back : filled c.in-Some.answer into ≡ c.in-Some.octets.now = subst (λ (n : ℕ). take n into ≡ c.in-Some.octets.now) c.in-Some.ensures.found.allowed.1.0 c.fill.ensures in
     let next = subst (λ (l : List ℕ). FitsNext c.args.self.now (FileRead name c.args.at (length c.args.into.now) c.in-Some.answer l)) (sym back) c.in-Some.ensures.found in
     subst (λ (n : List ℕ). Answers (script_tells c.args.self.now) (script_tells c.advance.new.self) (FileRead n c.args.at (length c.args.into.now) c.in-Some.answer (filled c.in-Some.answer into))) c.as_bytes-file.ensures.value
-    (fits c.args.self.now c.advance.new.self (FileRead name c.args.at (length c.args.into.now) c.in-Some.answer (filled c.in-Some.answer into)) next c.advance.ensures)
+    (fits c.args.self.now c.advance.new.self (FileRead name c.args.at (length c.args.into.now) c.in-Some.answer (filled c.in-Some.answer into)) next (c.advance.ensures _ next refl))
 
 pub returns-in-None : goal.returns-in-None
 returns-in-None c =

@@ -1,11 +1,11 @@
-use Rattle.std.proofs.Common.{rules}
+use Rattle.std.proofs.Common.{refl, rules}
 use Rattle.world_face.specs.Journal.{Allowed, LinkWrite}
 use Rattle.world_face.specs.declared.Io.TheVariants.{Failed as IoFailed}
 use Rattle.replay.proofs.Following.{fits, ceases}
 use Rattle.replay.proofs.world.ScriptWorldWorld.link_write.Goals as goal
 
 pub returns-in-Some : goal.returns-in-Some
-returns-in-Some c = fits c.args.self.now c.advance.new.self (LinkWrite c.args.from.now c.in-Some.answer) c.in-Some.ensures.found c.advance.ensures
+returns-in-Some c = fits c.args.self.now c.advance.new.self (LinkWrite c.args.from.now c.in-Some.answer) c.in-Some.ensures.found (c.advance.ensures _ c.in-Some.ensures.found refl)
 
 pub returns-in-None : goal.returns-in-None
 returns-in-None c =

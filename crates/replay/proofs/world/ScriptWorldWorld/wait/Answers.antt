@@ -1,4 +1,4 @@
-use Rattle.std.proofs.Common.{List, [], rules, sym, subst}
+use Rattle.std.proofs.Common.{refl, List, [], rules, sym, subst}
 use Rattle.poll_list.specs.declared.Want.{Want}
 use Rattle.world_face.specs.Journal.{Allowed, Wait}
 use Rattle.world_face.specs.declared.Waited.TheVariants.{Failed as WaitFailed}
@@ -11,7 +11,7 @@ pub returns-in-Some-clause-answers : goal.returns-in-Some-clause-answers
 returns-in-Some-clause-answers c =
     let wants = c.items-items.result.now in
     let found = c.in-Some.found.now in
-    let told = fits c.args.self.now c.advance.new.self (Wait wants c.args.timeout c.in-Some.answer found) c.in-Some.ensures.found c.advance.ensures in
+    let told = fits c.args.self.now c.advance.new.self (Wait wants c.args.timeout c.in-Some.answer found) c.in-Some.ensures.found (c.advance.ensures _ c.in-Some.ensures.found refl) in
     let listed = subst (λ (r : List Want). Answers (script_tells c.args.self.now) (script_tells c.advance.new.self) (Wait wants c.args.timeout c.in-Some.answer r)) (sym c.list.ensures.items) told in
     subst (λ (w : List Want). Answers (script_tells c.args.self.now) (script_tells c.advance.new.self) (Wait w c.args.timeout c.in-Some.answer c.list.new.into.items)) c.items-items.ensures listed
 

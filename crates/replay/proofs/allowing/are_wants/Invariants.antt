@@ -1,6 +1,6 @@
 use Rattle.std.proofs.Common.{◌≡◌, length}
 use Rattle.poll_list.specs.Listing.{are_wants}
-use Rattle.replay.proofs.world.are_wants.Given as goal
+use Rattle.replay.proofs.allowing.are_wants.Given as goal
 
 abbrev pub invariant-loop-rest : goal.invariant-loop-rest
 invariant-loop-rest l = are_wants l.wants ≡ are_wants l.rest

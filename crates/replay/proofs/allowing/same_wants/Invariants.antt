@@ -1,5 +1,5 @@
 use Rattle.std.proofs.Common.{◌≡◌, take}
-use Rattle.replay.proofs.world.same_wants.Given as goal
+use Rattle.replay.proofs.allowing.same_wants.Given as goal
 
 abbrev pub invariant-loop-i : goal.invariant-loop-i
 invariant-loop-i l = take l.i l.a ≡ take l.i l.b

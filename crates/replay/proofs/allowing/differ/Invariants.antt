@@ -1,6 +1,6 @@
 use Rattle.std.proofs.Common.{◌≡◌, length}
 use Rattle.poll_list.specs.Listing.{differ}
-use Rattle.replay.proofs.world.differ.Given as goal
+use Rattle.replay.proofs.allowing.differ.Given as goal
 
 abbrev pub invariant-loop-rest : goal.invariant-loop-rest
 invariant-loop-rest l = differ l.wants ≡ differ l.rest
