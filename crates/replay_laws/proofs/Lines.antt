@@ -1,5 +1,5 @@
 -- Answers and lines, each of which has one text.
-use Rattle.std.proofs.Common.{◌≡◌, ℕ, ◌+◌, ◌*◌, ◌^◌, ◌<◌, true, List, [], ◌∷◌, ◌++◌, length, decimal, reverse, refl, sym, ◌∙◌, ap, subst, arith, append_assoc, append-nil}
+use Rattle.std.proofs.Common.{◌≡◌, ℕ, ◌+◌, ◌*◌, ◌^◌, ◌<◌, true, false, List, [], ◌∷◌, ◌++◌, length, decimal, reverse, refl, sym, ◌∙◌, ap, subst, arith, append_assoc, append-nil}
 use Rattle.std.proofs.lemmas.Fmt.{decimal_injective}
 use Rattle.std.proofs.lemmas.List.{reverse-reverse}
 use mathlib.Core.List.{reverse-cons}
@@ -22,7 +22,8 @@ use Rattle.world_face.specs.declared.FileSize.TheVariants.{Length, Missing, Fail
 use Rattle.world_face.specs.declared.Waited.{Waited}
 use Rattle.world_face.specs.declared.Waited.TheVariants.{Ready, Stop, Failed as WaitFailed}
 use Rattle.world_face.specs.Journal.{MayAccept, MayMeasure, MayWrite, MayReadFile, MayGet, MayWait, Leaves, LeavesGot, Allowed, AreAllowed, Entry, call_of, Now, Wait, LinkOpen, LinkRead, LinkWrite, Connect, Connected, Listen, Accept, TcpRead, TcpWrite, TcpEnd, Close, UdpOpen, UdpSend, UdpRecv, FileLen, FileRead}
-use Rattle.replay.specs.Script.{schedule_text}
+use Rattle.replay.specs.Pieces.{lines_text}
+use Rattle.replay.specs.Rows.{Row, AreReadable, schedule_text}
 use Rattle.replay.specs.Text.{hexadecimal, endpoint_text, joined_text, made_text, ready_text, waited_text, read_text, written_text, joined_answer, accepted_text, sent_text, got_text, size_text, call_text, answer_text, line_text, text}
 use Rattle.replay.proofs.Parting.{is_word, is_plain, is_line, parts_once}
 use Rattle.replay.proofs.Words.{same_octets, endpoint_word}
@@ -31,6 +32,9 @@ use Rattle.replay.proofs.Calls.{call_plain}
 use Rattle.replay_laws.proofs.Calls.{same_call}
 use Rattle.replay.specs.Range.{InRange, AnswersInRange, IsSayable, AreSayable, LeavesReady, Counts, IsAtOnce, ComesFrom}
 use Rattle.replay.proofs.Bodies.{body_line, then_more, some_line}
+use Rattle.replay.proofs.Sayable.{all_sayable}
+use Rattle.replay.proofs.Unreading.{all_read}
+use Rattle.replay.specs.Unread.{IsFirstUnread}
 
 -- the first two octets
 abbrev second : List ℕ → ℕ
@@ -202,23 +206,23 @@ same_first e f r s ha hb is =
     let parted = parts_once 10 is_line refl ((call_text (call_of e) ++ 32 ∷ []) ++ 61 ∷ 32 ∷ answer_text e) ((call_text (call_of f) ++ 32 ∷ []) ++ 61 ∷ 32 ∷ answer_text f) r s (body_line e ha) (body_line f hb) (sym (then_more e r) ∙ is ∙ then_more f s) in
     (same_body e f ha hb parted.0, parted.1)
 
-same_schedule : (xs ys : List Entry) → AreSayable xs → AreSayable ys → schedule_text xs ≡ schedule_text ys → xs ≡ ys
-same_schedule [] [] ha hb is = refl
-same_schedule [] (f ∷ fs) ha hb is = absurd (some_line f (schedule_text fs) is)
-same_schedule (e ∷ es) [] ha hb is = absurd (some_line e (schedule_text es) (sym is))
-same_schedule (e ∷ es) (f ∷ fs) ha hb is =
-    let one = same_first e f (schedule_text es) (schedule_text fs) ha.0 hb.0 is in
-    let more = same_schedule es fs ha.1 hb.1 one.1 in
+same_lines : (xs ys : List Entry) → AreSayable xs → AreSayable ys → lines_text xs ≡ lines_text ys → xs ≡ ys
+same_lines [] [] ha hb is = refl
+same_lines [] (f ∷ fs) ha hb is = absurd (some_line f (lines_text fs) is)
+same_lines (e ∷ es) [] ha hb is = absurd (some_line e (lines_text es) (sym is))
+same_lines (e ∷ es) (f ∷ fs) ha hb is =
+    let one = same_first e f (lines_text es) (lines_text fs) ha.0 hb.0 is in
+    let more = same_lines es fs ha.1 hb.1 one.1 in
     ap (λ x. x ∷ es) one.0 ∙ ap (λ x. f ∷ x) more
 
 -- the other way round
-schedule_push : (es : List Entry) (e : Entry) → schedule_text (es ++ e ∷ []) ≡ schedule_text es ++ line_text e
-schedule_push [] e = append-nil (line_text e)
-schedule_push (x ∷ es) e = ap (λ t. line_text x ++ t) (schedule_push es e) ∙ sym (append_assoc (line_text x) (schedule_text es) (line_text e))
+lines_push : (es : List Entry) (e : Entry) → lines_text (es ++ e ∷ []) ≡ lines_text es ++ line_text e
+lines_push [] e = append-nil (line_text e)
+lines_push (x ∷ es) e = ap (λ t. line_text x ++ t) (lines_push es e) ∙ sym (append_assoc (line_text x) (lines_text es) (line_text e))
 
-turned : (past : List Entry) → text past ≡ schedule_text (reverse past)
+turned : (past : List Entry) → text past ≡ lines_text (reverse past)
 turned [] = refl
-turned (e ∷ past) = ap (λ t. t ++ line_text e) (turned past) ∙ sym (schedule_push (reverse past) e) ∙ ap schedule_text (sym (reverse-cons e past))
+turned (e ∷ past) = ap (λ t. t ++ line_text e) (turned past) ∙ sym (lines_push (reverse past) e) ∙ ap lines_text (sym (reverse-cons e past))
 
 sayable_push : (es : List Entry) (e : Entry) → AreSayable es → IsSayable e → AreSayable (es ++ e ∷ [])
 sayable_push [] e hs h = (h, tt)
@@ -231,8 +235,26 @@ sayable_turned (e ∷ past) h = subst AreSayable (sym (reverse-cons e past)) (sa
 -- no two records have one text, where a line can say each entry
 one_text : (a b : List Entry) → AreSayable a → AreSayable b → text a ≡ text b → a ≡ b
 one_text a b ha hb is =
-    let same = same_schedule (reverse a) (reverse b) (sayable_turned a ha) (sayable_turned b hb) (sym (turned a) ∙ is ∙ turned b) in
+    let same = same_lines (reverse a) (reverse b) (sayable_turned a ha) (sayable_turned b hb) (sym (turned a) ∙ is ∙ turned b) in
     sym (reverse-reverse a) ∙ ap reverse same ∙ reverse-reverse b
 
 pub one_to_one : (a b : List Entry) → AreAllowed a → AreAllowed b → text a ≡ text b → a ≡ b
 one_to_one a b ha hb is = one_text a b (all_sayable a ha) (all_sayable b hb) is
+
+-- a record's lines, as those of a schedule
+plain : List Entry → List Row
+plain [] = []
+plain (e ∷ es) = record { entry = e; starred = false; all = false } ∷ plain es
+
+plain_text : (es : List Entry) → schedule_text (plain es) ≡ lines_text es
+unfolding plain
+plain_text [] = refl
+plain_text (e ∷ es) = ap (λ t. line_text e ++ t) (plain_text es)
+
+plain_readable : (es : List Entry) → AreSayable es → AreReadable (plain es)
+unfolding plain
+plain_readable [] h = tt
+plain_readable (e ∷ es) h = (record { range = h.0; star = λ is. absurd (cc is); all = λ is. absurd (cc is) }, plain_readable es h.1)
+
+pub text_is_read : (past : List Entry) (n : ℕ) → AreAllowed past → ¬ IsFirstUnread (text past) n
+text_is_read past n allowed first = all_read (text past) (plain (reverse past)) n (plain_text (reverse past) ∙ sym (turned past)) (plain_readable (reverse past) (sayable_turned past (all_sayable past allowed))) first

@@ -3,7 +3,6 @@
 
 ghost use Rattle.std.specs.Prelude.{◌≡◌, ℕ, List};
 ghost use Rattle.world_face.specs.Journal.{Entry, AreAllowed};
-ghost use Rattle.replay.specs.Script.{schedule_text};
 ghost use Rattle.replay.specs.Text.{text};
 ghost use Rattle.replay.specs.Unread.{IsFirstUnread};
 
@@ -12,7 +11,7 @@ pub fn text_is_one_to_one()
     ensures { (a : List Entry) (b : List Entry) → AreAllowed a → AreAllowed b → text a ≡ text b → a ≡ b }
 {}
 
-/// Each line of a schedule of entries has a reading, where each answer is one that a World may give.
+/// Each line of a record's text has a reading, where each answer is one that a World may give: a transcript is a schedule.
 pub fn allowed_entries_are_read()
-    ensures { (es : List Entry) (n : ℕ) → AreAllowed es → ¬ IsFirstUnread (schedule_text es) n }
+    ensures { (past : List Entry) (n : ℕ) → AreAllowed past → ¬ IsFirstUnread (text past) n }
 {}

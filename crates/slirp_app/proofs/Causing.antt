@@ -3,14 +3,14 @@ use Rattle.std.proofs.Common.{◌≡◌, ◌↔◌, ◌≢◌, ◌⊎◌, inl, i
 use Rattle.host_policy.specs.Settings.{usual}
 use Rattle.replay.specs.Unread.{IsFirstUnread}
 use Rattle.replay.specs.declared.Divergence.{Divergence}
-use Rattle.slirp_app.specs.Causes.{Came, CannotRead, Caused, RanOn}
+use Rattle.slirp_app.specs.Causes.{Came, CannotRead, Caused, IsTooLarge, RanOn}
 use Rattle.slirp_app.specs.Counting.{Rose}
 use Rattle.slirp_app.specs.Fetching.{IsUnreadable, is_read, octets_read}
 use Rattle.slirp_app.specs.Ran.{Ceased, EndsBy, FetchesFile, IsAtEnd, Replayed}
 use Rattle.slirp_app.specs.Statuses.{code_of, outcome_of, is_run}
 use Rattle.slirp_app.specs.Texts.{text_of}
 use Rattle.slirp_app.specs.declared.status.Outcome.{Outcome}
-use Rattle.slirp_app.specs.declared.status.Outcome.TheVariants.{Done, Usage, ScheduleRead, ScheduleLine, Diverged, FrameTooLong, FrameCut, LinkFault, WaitFault, TurnsSpent, SinkFault, NoMemory}
+use Rattle.slirp_app.specs.declared.status.Outcome.TheVariants.{Done, Usage, ScheduleRead, ScheduleTooLarge, ScheduleLine, Diverged, FrameTooLong, FrameCut, LinkFault, WaitFault, TurnsSpent, SinkFault, NoMemory}
 use Rattle.slirp_app.proofs.Ending.{ends_by, long_frame, waits_spent, meant_by}
 use Rattle.slirp_core.specs.Ends.{end_of}
 use Rattle.slirp_laws.specs.Laws.{Lawful}
@@ -78,16 +78,16 @@ module _ (world world_new : Telling) (words : List (List ℕ)) (old new : Option
   By_calls outcome = Makes world world_new (λ made. FetchesFile words made × Caused outcome made old new)
 
   -- of the record of a run
-  -- of the record of a run
   of_run : (outcome : Outcome) (status : ℕ) (P : List ℕ → List Entry → Type 0) (Q : List ℕ → List Entry → Type 0) → By_calls outcome → IsTrue (is_read (code_of outcome))
       → ((schedule : List ℕ) → Came outcome schedule old new → Replayed status schedule old new (Q schedule))
       → ((schedule : List ℕ) (journal : List Entry) → Lawful usual journal → Q schedule journal → P schedule journal) → RanOn world world_new status old new P
   of_run outcome status P Q makes read came here =
       makes_as world world_new _ _ makes (λ made holds. (holds.1.whole read, replayed_as status (octets_read made) old new (Q (octets_read made)) (P (octets_read made)) (came (octets_read made) (holds.1.came read)) (here (octets_read made))))
 
-  pub unreadable : (outcome : Outcome) → By_calls outcome → code_of outcome ≡ 3 → Makes world world_new (CannotRead world world_new)
+  pub unreadable : (outcome : Outcome) → By_calls outcome → code_of outcome ≡ 3 → Makes world world_new (λ made. CannotRead world world_new made ⊎ IsTooLarge made)
   unreadable ScheduleRead makes is =
-      record { made = makes.made; same = makes.same; allowed = makes.allowed; told = makes.told; counted = makes.counted; holds = cannot_read world world_new makes.made makes.allowed makes.counted (makes.holds.1.unreadable refl) }
+      record { made = makes.made; same = makes.same; allowed = makes.allowed; told = makes.told; counted = makes.counted; holds = inl (cannot_read world world_new makes.made makes.allowed makes.counted (makes.holds.1.unreadable refl)) }
+  unreadable ScheduleTooLarge makes is = makes_as world world_new _ _ makes (λ made holds. inr (holds.1.large refl))
   unreadable _ _ is = cc
 
   -- a line that has no reading
@@ -112,6 +112,7 @@ module _ (world world_new : Telling) (words : List (List ℕ)) (old new : Option
   ran Done makes is = ended_run Done makes refl (λ schedule came. came)
   ran Usage _ is = cc
   ran ScheduleRead _ is = cc
+  ran ScheduleTooLarge _ is = cc
   ran (ScheduleLine line) _ is = cc
   ran (Diverged divergence) makes is = of_run (Diverged divergence) 5 (AtEnd 5) (λ schedule. Ceased schedule divergence) makes refl (λ schedule came. came) (λ schedule journal lawful ceased other. absurd (other refl))
   ran (FrameTooLong n) makes is = ended_run (FrameTooLong n) makes refl (λ schedule came. came)

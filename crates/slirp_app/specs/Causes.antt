@@ -6,19 +6,21 @@ use Rattle.world_face.specs.declared.FileSize.{FileSize}
 use Rattle.world_face.specs.declared.FileSize.TheVariants.{Length, Missing, Failed}
 use Rattle.world_face.specs.declared.Io.{Io}
 use Rattle.world_face.specs.declared.Io.TheVariants.{End}
+use Rattle.replay.specs.Rows.{TakesTooMuch}
 use Rattle.replay.specs.Unread.{IsFirstUnread}
 use Rattle.slirp_app.specs.Counting.{Rose}
 use Rattle.slirp_app.specs.Fetching.{IsWhole, IsUnreadable, is_read, octets_read}
 use Rattle.slirp_app.specs.Ran.{Replayed, IsAtEnd, Ceased}
 use Rattle.slirp_app.specs.Statuses.{code_of}
 use Rattle.slirp_app.specs.declared.status.Outcome.{Outcome}
-use Rattle.slirp_app.specs.declared.status.Outcome.TheVariants.{Done, Usage, ScheduleRead, ScheduleLine, Diverged, FrameTooLong, FrameCut, LinkFault, WaitFault, TurnsSpent, SinkFault, NoMemory}
+use Rattle.slirp_app.specs.declared.status.Outcome.TheVariants.{Done, Usage, ScheduleRead, ScheduleTooLarge, ScheduleLine, Diverged, FrameTooLong, FrameCut, LinkFault, WaitFault, TurnsSpent, SinkFault, NoMemory}
 
 -- Where a run was made, a record of it was put. It diverged, or came to its end.
 abbrev pub Came : Outcome → (schedule : List ℕ) → (old new : Option (List ℕ)) → Type 0
 Came Done schedule old new = Replayed 0 schedule old new (IsAtEnd Done)
 Came Usage schedule old new = Unit {0}
 Came ScheduleRead schedule old new = Unit {0}
+Came ScheduleTooLarge schedule old new = Unit {0}
 Came (ScheduleLine line) schedule old new = Unit {0}
 Came (Diverged divergence) schedule old new = Replayed 5 schedule old new (Ceased schedule divergence)
 Came (FrameTooLong length) schedule old new = Replayed 6 schedule old new (IsAtEnd (FrameTooLong length))
@@ -29,8 +31,13 @@ Came (TurnsSpent turns) schedule old new = Replayed 10 schedule old new (IsAtEnd
 Came SinkFault schedule old new = Unit {0}
 Came NoMemory schedule old new = Unit {0}
 
+-- FILE was read whole, each line has a reading, and its stars take over 1 GiB of room
+abbrev pub IsTooLarge : List Entry → Type 0
+IsTooLarge made = IsWhole made × TakesTooMuch (octets_read made)
+
 pub record Caused (outcome : Outcome) (made : List Entry) (old new : Option (List ℕ)) : Type 0 where
   pub unreadable : outcome ≡ ScheduleRead → IsUnreadable made
+  pub large : outcome ≡ ScheduleTooLarge → IsTooLarge made
   pub whole : IsTrue (is_read (code_of outcome)) → IsWhole made
   pub came : IsTrue (is_read (code_of outcome)) → Came outcome (octets_read made) old new
   pub first : (line : ℕ) → outcome ≡ ScheduleLine line → IsFirstUnread (octets_read made) line

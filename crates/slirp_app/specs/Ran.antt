@@ -9,9 +9,8 @@ use Rattle.slirp_laws.specs.Shape.{Finished, phase}
 use Rattle.slirp_core.specs.Ends.{end_of}
 use Rattle.replay.specs.Fitting.{FitsNone}
 use Rattle.replay.specs.Names.{name_of}
-use Rattle.replay.specs.Range.{AreSayable}
-use Rattle.replay.specs.Script.{schedule_text}
-use Rattle.replay.specs.Text.{text, Fits}
+use Rattle.replay.specs.Rows.{Row, AreReadable, Fits, FitsBefore, schedule_text}
+use Rattle.replay.specs.Text.{text}
 use Rattle.replay.specs.declared.Divergence.{Divergence}
 use Rattle.slirp_app.specs.Fetching.{MayFetch}
 use Rattle.slirp_app.specs.Statuses.{outcome_of}
@@ -40,17 +39,17 @@ pub record Replayed (status : ℕ) (schedule : List ℕ) (old new : Option (List
 abbrev pub IsAtEnd : Outcome → List Entry → Type 0
 IsAtEnd outcome journal = Finished usual journal × (outcome ≡ outcome_of (end_of usual (phase usual journal)))
 
--- The run ceased at a call that may come next and that fits no line: the lines that are left, as they are read, don't begin with one of this call and an answer that a World may give.
+-- The run ceased at a call that may come next and that fits no line: of the lines that are left the first isn't of this call, or its answer isn't one that a World may give.
 pub record Ceased (schedule : List ℕ) (divergence : Divergence) (journal : List Entry) : Type 0 where
-  pub left : List Entry
-  pub readable : AreSayable left
-  pub rest : schedule ≡ text journal ++ schedule_text left
+  pub left : List Row
+  pub readable : AreReadable left
+  pub before : FitsBefore journal schedule (schedule_text left)
   pub call : Call
   pub may : May usual journal call
   pub fits_none : FitsNone left 0 call
   pub line : divergence.line ≡ length journal + 1
   pub made : divergence.made ≡ name_of call
-  pub wanted : divergence.wanted ≡ option_map (λ e. name_of (call_of e)) (slice_get left 0)
+  pub wanted : divergence.wanted ≡ option_map (λ (row : Row). name_of (call_of row.entry)) (slice_get left 0)
 
 -- an entry of the record ends a run for this cause
 pub record EndsBy (why : Ending) (journal : List Entry) : Type 0 where

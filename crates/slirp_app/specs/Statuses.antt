@@ -3,12 +3,13 @@ use Rattle.std.specs.Prelude.{ℕ, ◌==◌, ◌||◌, not, Bool}
 use Rattle.slirp_core.specs.declared.service.End.{End}
 use Rattle.slirp_core.specs.declared.service.End.TheVariants.{Done as EndDone, TooLong, Cut, LinkFault as EndLink, WaitFault as EndWait, TurnsSpent as EndTurns}
 use Rattle.slirp_app.specs.declared.status.Outcome.{Outcome}
-use Rattle.slirp_app.specs.declared.status.Outcome.TheVariants.{Done, Usage, ScheduleRead, ScheduleLine, Diverged, FrameTooLong, FrameCut, LinkFault, WaitFault, TurnsSpent, SinkFault, NoMemory}
+use Rattle.slirp_app.specs.declared.status.Outcome.TheVariants.{Done, Usage, ScheduleRead, ScheduleTooLarge, ScheduleLine, Diverged, FrameTooLong, FrameCut, LinkFault, WaitFault, TurnsSpent, SinkFault, NoMemory}
 
 abbrev pub code_of : Outcome → ℕ
 code_of Done = 0
 code_of Usage = 1
 code_of ScheduleRead = 3
+code_of ScheduleTooLarge = 3
 code_of (ScheduleLine line) = 4
 code_of (Diverged divergence) = 5
 code_of (FrameTooLong length) = 6

@@ -5,7 +5,7 @@ use Rattle.replay.specs.Names.{name_text}
 use Rattle.replay.specs.declared.CallName.{CallName}
 use Rattle.slirp_app.specs.Counting.{Rose}
 use Rattle.slirp_app.specs.declared.status.Outcome.{Outcome}
-use Rattle.slirp_app.specs.declared.status.Outcome.TheVariants.{Done, Usage, ScheduleRead, ScheduleLine, Diverged, FrameTooLong, FrameCut, LinkFault, WaitFault, TurnsSpent, SinkFault, NoMemory}
+use Rattle.slirp_app.specs.declared.status.Outcome.TheVariants.{Done, Usage, ScheduleRead, ScheduleTooLarge, ScheduleLine, Diverged, FrameTooLong, FrameCut, LinkFault, WaitFault, TurnsSpent, SinkFault, NoMemory}
 
 -- the call of the line that stands next, where one is left
 abbrev pub wanted_text : Option CallName → List ℕ
@@ -16,6 +16,7 @@ abbrev pub text_of : Outcome → List ℕ
 text_of Done = []
 text_of Usage = codes "usage: slirpd serve --link AT [OPTIONS] [RULE]... | replay FILE [OPTIONS] [RULE]... | drive NUMBER OCTETS"
 text_of ScheduleRead = codes "slirpd: schedule cannot be read"
+text_of ScheduleTooLarge = codes "slirpd: schedule cannot be read"
 text_of (ScheduleLine line) = codes "slirpd: schedule line " ++ decimal line
 text_of (Diverged divergence) =
     codes "slirpd: diverged at line " ++ decimal divergence.line ++ codes ": made " ++ name_text divergence.made ++ wanted_text divergence.wanted

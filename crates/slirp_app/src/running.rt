@@ -4,12 +4,12 @@ ghost use Rattle.std.specs.Option.{option_copied};
 ghost use Rattle.std.specs.String.{string_bytes};
 ghost use Rattle.host_policy.specs.Settings.{usual};
 ghost use Rattle.replay.specs.Fitting.{StopsRightly, divergence_of};
-ghost use Rattle.replay.specs.Range.{AreSayable};
-ghost use Rattle.replay.specs.Script.{IsFresh, schedule_text, script_tells};
+ghost use Rattle.replay.specs.Rows.{AreReadable, TakesTooMuch, schedule_text};
+ghost use Rattle.replay.specs.Script.{IsFresh, script_tells};
 ghost use Rattle.replay.specs.Text.{text};
 ghost use Rattle.replay.specs.Unread.{IsFirstUnread};
 ghost use Rattle.replay.specs.declared.Divergence.{Divergence};
-ghost use Rattle.slirp_app.specs.Causes.{Came, CannotRead, Caused, RanOn};
+ghost use Rattle.slirp_app.specs.Causes.{Came, CannotRead, Caused, IsTooLarge, RanOn};
 ghost use Rattle.slirp_app.specs.Counting.{Rose};
 ghost use Rattle.slirp_app.specs.Fetching.{IsWhole, MayFetch, is_read, octets_read};
 ghost use Rattle.slirp_app.specs.Ran.{Ceased, EndsBy, FetchesFile, end_line};
@@ -17,7 +17,7 @@ ghost use Rattle.slirp_app.specs.Statuses.{code_of, outcome_of, is_run, is_unrun
 ghost use Rattle.slirp_app.specs.Texts.{Got};
 ghost use Rattle.slirp_app.specs.Words.{file_of, is_file};
 ghost use Rattle.slirp_app.specs.declared.status.Outcome.{Outcome as AnOutcome};
-ghost use Rattle.slirp_app.specs.declared.status.Outcome.TheVariants.{Diverged, FrameCut, FrameTooLong, NoMemory as OfMemory, ScheduleLine, TurnsSpent};
+ghost use Rattle.slirp_app.specs.declared.status.Outcome.TheVariants.{Diverged, FrameCut, FrameTooLong, NoMemory as OfMemory, ScheduleLine, ScheduleRead, ScheduleTooLarge, TurnsSpent};
 ghost use Rattle.slirp_core.specs.Ends.{end_of};
 ghost use Rattle.slirp_laws.specs.Shape.{Finished, phase, waits};
 ghost use Rattle.world_face.specs.Frames.{LinkCut, LinkEnded, LinkFailed, LongFrame, Stopped, WaitFailed};
@@ -53,8 +53,9 @@ pub fn slirp_main<W: World, K: Sink, E: Sink>(
     ensures silent { (result ≡ 0) ⊎ (result ≡ 12) → (E.holds err.new ≡ E.holds err.old) × (E.faults err.new ≡ E.faults err.old) }
     // The status is 1 exactly where the words have no reading.
     ensures usage { (result ≡ 1) ↔ (file_of (map string_bytes words.now.items) ≡ None) }
-    // It is 3 only where FILE is missing, has over 64 MiB or ended before its length, or the count of the files' faults rose.
-    ensures unreadable { result ≡ 3 → Makes (W.tells world.old) (W.tells world.new) (CannotRead (W.tells world.old) (W.tells world.new)) }
+    // It is 3 only where FILE is missing, has over 64 MiB or ended before its length, or the count of the files' faults rose; or else where
+    // each line has a reading and the stars take over 1 GiB of room.
+    ensures unreadable { result ≡ 3 → Makes (W.tells world.old) (W.tells world.new) (λ made. CannotRead (W.tells world.old) (W.tells world.new) made ⊎ IsTooLarge made) }
     // Else, 1 and 13 aside, as many octets were read as FILE's length says.
     ensures whole { IsTrue (is_read result) → Makes (W.tells world.old) (W.tells world.new) IsWhole }
     // It is 4 exactly where a line of FILE has no reading, and the text has the first such line.
@@ -119,12 +120,14 @@ fn replay<K: Sink>(alloc: Global, octets: Vec<u8>, out: &mut K) -> Outcome
     ensures nothing { IsTrue (is_unrun (code_of result)) → K.holds out.new ≡ K.holds out.old }
     ensures first { (line : ℕ) → result ≡ ScheduleLine line → IsFirstUnread octets.items line }
     ensures misspelt { (line : ℕ) → IsFirstUnread octets.items line → (result ≡ ScheduleLine line) ⊎ (result ≡ OfMemory) }
-    ensures read { (code_of result ≢ 1) × (code_of result ≢ 3) }
+    ensures read { (code_of result ≢ 1) × (result ≢ ScheduleRead) }
+    ensures large { result ≡ ScheduleTooLarge → TakesTooMuch octets.items }
     ensures refused { code_of result ≡ 12 → Rose (K.faults out.old) (K.faults out.new) }
 {
     match ScriptWorld::read(alloc, &octets) {
         Ok(script) => run(alloc, script, out),
         Err(ScriptFault::Line(line)) => Outcome::ScheduleLine(line),
+        Err(ScriptFault::TooLarge) => Outcome::ScheduleTooLarge,
         Err(ScriptFault::NoMemory) => Outcome::NoMemory,
     }
 }
@@ -154,7 +157,7 @@ fn ended(script: &ScriptWorld, end: End) -> Outcome
     ensures ceased { script.now.live ≡ false → (divergence : Divergence) × (result ≡ Diverged divergence) × (divergence_of script.now ≡ Some divergence) }
     ensures fits_none { StopsRightly script.now.lines script.now.used script.now.stop }
     ensures within { script.now.used ≤ length script.now.lines }
-    ensures readable { AreSayable script.now.lines }
+    ensures readable { AreReadable script.now.lines }
     ensures ran { IsTrue (is_run (code_of result)) }
 {
     match script.divergence() {

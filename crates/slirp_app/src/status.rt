@@ -19,6 +19,8 @@ pub enum Outcome {
     Done,
     Usage,
     ScheduleRead,
+    /// Each line has a reading, but the room for stars passes its limit.
+    ScheduleTooLarge,
     ScheduleLine(u64),
     Diverged(Divergence),
     FrameTooLong(u32),
@@ -38,7 +40,7 @@ impl Outcome {
         match self {
             Outcome::Done => 0,
             Outcome::Usage => 1,
-            Outcome::ScheduleRead => 3,
+            Outcome::ScheduleRead | Outcome::ScheduleTooLarge => 3,
             Outcome::ScheduleLine(_) => 4,
             Outcome::Diverged(_) => 5,
             Outcome::FrameTooLong(_) => 6,
@@ -59,7 +61,9 @@ impl Outcome {
         match self {
             Outcome::Done | Outcome::SinkFault => Ok(()),
             Outcome::Usage => err.put(USAGE),
-            Outcome::ScheduleRead => err.put(b"slirpd: schedule cannot be read\n"),
+            Outcome::ScheduleRead | Outcome::ScheduleTooLarge => {
+                err.put(b"slirpd: schedule cannot be read\n")
+            }
             Outcome::ScheduleLine(line) => tell_number(
                 err,
                 b"slirpd: schedule line ",

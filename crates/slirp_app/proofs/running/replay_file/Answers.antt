@@ -1,4 +1,5 @@
 use Rattle.std.proofs.Common.{◌≡◌, ◌⊎◌, inl, inr, ℕ, IsTrue, ap, sym, subst}
+use Rattle.replay.specs.Rows.{TakesTooMuch}
 use Rattle.replay.specs.Unread.{IsFirstUnread}
 use Rattle.slirp_app.specs.Fetching.{is_read}
 use Rattle.slirp_app.specs.declared.status.Outcome.{Outcome}
@@ -17,7 +18,8 @@ returns-in-Ok-clause-calls g c =
     makes_as _ _ _ _ c.in-Ok.ensures.makes (λ made read. (
       read.0,
       record {
-        unreadable = λ is. absurd (c.replay.ensures.read.1 (ap code_of is));
+        unreadable = λ is. absurd (c.replay.ensures.read.1 is);
+        large = λ is. (read.1.1, subst TakesTooMuch read.1.0 (c.replay.ensures.large is));
         whole = λ is. read.1.1;
         first = λ line is. subst (λ l. IsFirstUnread l line) read.1.0 (c.replay.ensures.first line is);
         misspelt = λ is line unread. not_memory c.replay.result line is (c.replay.ensures.misspelt line (subst (λ l. IsFirstUnread l line) (sym read.1.0) unread));
@@ -26,7 +28,7 @@ returns-in-Ok-clause-calls g c =
     ))
 
 pub returns-in-Err-Unreadable-clause-calls : goal.returns-in-Err-Unreadable-clause-calls
-returns-in-Err-Unreadable-clause-calls g c = makes_as _ _ _ _ c.in-Err-Unreadable.ensures.makes (λ made read. (read.0, record { unreadable = λ is. read.2 c.in-Err-Unreadable.field-0-is; whole = λ is. cc; came = λ is. cc; first = λ line is. cc; misspelt = λ is. cc }))
+returns-in-Err-Unreadable-clause-calls g c = makes_as _ _ _ _ c.in-Err-Unreadable.ensures.makes (λ made read. (read.0, record { unreadable = λ is. read.2 c.in-Err-Unreadable.field-0-is; large = λ is. cc; whole = λ is. cc; came = λ is. cc; first = λ line is. cc; misspelt = λ is. cc }))
 
 pub returns-in-Err-NoMemory-clause-calls : goal.returns-in-Err-NoMemory-clause-calls
-returns-in-Err-NoMemory-clause-calls g c = makes_as _ _ _ _ c.in-Err-NoMemory.ensures.makes (λ made read. (read.0, record { unreadable = λ is. cc; whole = λ is. cc; came = λ is. cc; first = λ line is. cc; misspelt = λ is. cc }))
+returns-in-Err-NoMemory-clause-calls g c = makes_as _ _ _ _ c.in-Err-NoMemory.ensures.makes (λ made read. (read.0, record { unreadable = λ is. cc; large = λ is. cc; whole = λ is. cc; came = λ is. cc; first = λ line is. cc; misspelt = λ is. cc }))
