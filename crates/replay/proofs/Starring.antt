@@ -246,16 +246,14 @@ said_as : (name : CallName) (starred all : Bool) (e : Entry) → name_of (call_o
 said_as name true all e is some h takes args has =
     let u = uncounted all e in
     let named : name_of (call_of u) ≡ name = ap name_of (uncounted_call all e) ∙ is in
-    let call : call_of (blanked true u) ≡ blank name = blanked_call u ∙ ap blank named in
-    (
+    let call : call_of (blanked true u) ≡ blank name = blanked_call u ∙ ap blank named in (
       ap name_of call ∙ name_blank name,
       subst (λ c. HasArguments c (blank_args name)) (sym call) (blank_has name (some refl)),
       counted_as all e takes ∙ sym (answer_kept (blank (name_of (call_of u))) u),
       (subst InRange (sym call) (blank_range name), blanked_range u (uncounted_range all e h.1)),
     )
 said_as name false all e is some h takes args has =
-    let call = uncounted_call all e in
-    (
+    let call = uncounted_call all e in (
       ap name_of call ∙ is,
       subst (λ c. HasArguments c args) (sym call) (has refl),
       counted_as all e takes,

@@ -12,9 +12,7 @@ use crate::allowing::{
     same_wants, size_of,
 };
 use crate::line::Line;
-use world_face::{
-    Accepted, Endpoint, FileSize, Got, Io, Joined, LinkAt, Made, Sent, Waited, Want,
-};
+use world_face::{Accepted, Endpoint, FileSize, Got, Io, Joined, LinkAt, Made, Sent, Waited, Want};
 
 /// A line, whether a star stands for its call's arguments, and whether `all` stands for the count of its write.
 #[derive(Drop)]

@@ -2,6 +2,7 @@ ghost use Rattle.std.specs.Prelude.{◌≤◌, length, IfOk};
 ghost use Rattle.poll_list.specs.Listing.{AreWants};
 
 use super::*;
+use arrayvec::ArrayString;
 use std::alloc::Global;
 use std::test::Fail;
 use world_face::{
@@ -169,6 +170,126 @@ fn the_first_call_that_fits_no_line_is_named(rt: HostRuntime) -> Result<(), Fail
     Ok(())
 }
 
+// The same with a star wherever there are arguments.
+const STARRED_CALLS: &[u8] = b"now = 18446744073709551615
+wait * = ready link:r,l1:rw
+lopen * = done
+lread * = done 0aff
+lwrite * = done 2
+connect * = done
+connected * = notyet
+listen * = fail
+accept * = from 127.0.0.1:80
+tread * = end
+twrite * = notyet
+tend * = done
+close * = done
+uopen * = done
+usend * = done
+urecv * = from 127.0.0.1:80 -
+flen * = len 2
+fread * = done 6162
+";
+
+// What a World printed.
+fn printed(alloc: Global, world: &ScriptWorld) -> Result<VecSink, Fail> {
+    let mut sink = VecSink::open(alloc, 1000, None).map_err(|_| "memory")?;
+    match world.print(&mut sink) {
+        Ok(()) => Ok(sink),
+        Err(_) => Err(Fail::from("a put failed")),
+    }
+}
+
+#[test]
+fn a_star_stands_for_the_arguments_of_the_call(rt: HostRuntime) -> Result<(), Fail> {
+    let mut world = read(rt.alloc(), STARRED_CALLS)?;
+    assert_eq!(rt; second_turn(rt.alloc(), &mut world)?, 2);
+    assert!(rt; link_calls(&mut world) == (Made::Done, Io::Done(2), Io::Done(2)));
+    assert!(rt; opening_calls(&mut world).3 == Accepted::From(LOCAL));
+    assert!(rt; stream_calls(&mut world) == (Io::End, Io::NotYet, Made::Done));
+    assert!(rt; datagram_calls(&mut world).2 == Got::From(LOCAL, 0));
+    assert!(rt; file_calls(&mut world) == (FileSize::Length(2), Io::Done(2)));
+    assert_eq!(rt; printed(rt.alloc(), &world)?.octets(), ALL_CALLS);
+    Ok(())
+}
+
+#[test]
+fn a_star_stands_for_a_path(rt: HostRuntime) -> Result<(), Fail> {
+    let mut world = read(rt.alloc(), b"lopen * = done\n")?;
+    let path = ArrayString::try_from("/run/s").map_err(|_| "too long")?;
+    assert!(rt; world.link_open(&LinkAt::Unix(path)) == Made::Done);
+    assert_eq!(rt;
+        printed(rt.alloc(), &world)?.octets(),
+        b"lopen 756e69783a2f72756e2f73 = done\n".as_slice()
+    );
+    Ok(())
+}
+
+#[test]
+fn all_stands_for_the_count_of_what_was_offered(rt: HostRuntime) -> Result<(), Fail> {
+    let mut world = read(
+        rt.alloc(),
+        b"lwrite * = all\nlwrite 6162 = all\ntwrite * = all\ntwrite 1 616263 = all\n",
+    )?;
+    assert!(rt; world.link_write(b"abc") == Io::Done(3));
+    assert!(rt; world.link_write(b"ab") == Io::Done(2));
+    assert!(rt; world.tcp_write(7, b"a") == Io::Done(1));
+    assert!(rt; world.tcp_write(1, b"abc") == Io::Done(3));
+    assert_eq!(rt;
+        printed(rt.alloc(), &world)?.octets(),
+        b"lwrite 616263 = done 3\nlwrite 6162 = done 2\ntwrite 7 61 = done 1\ntwrite 1 616263 = done 3\n".as_slice()
+    );
+    Ok(())
+}
+
+// Where the schedule is left by a write of three octets, or else by the call after it.
+fn left_by_a_write(alloc: Global, text: &[u8]) -> Result<Option<Divergence>, Fail>
+    requires { length text.now ≤ 67108864 }
+{
+    let mut world = read(alloc, text)?;
+    let _ = world.link_write(b"abc");
+    let _ = world.now();
+    Ok(world.divergence())
+}
+
+#[test]
+fn a_star_fits_no_other_call_and_no_other_answer(rt: HostRuntime) -> Result<(), Fail> {
+    let at_first = Some(Divergence {
+        line: 1,
+        made: CallName::LinkWrite,
+        wanted: Some(CallName::LinkWrite),
+    });
+    assert!(rt; left_by_a_write(rt.alloc(), b"lwrite * = done 3\nnow = 1\n")? == None);
+    assert!(rt; left_by_a_write(rt.alloc(), b"lwrite * = done 4\nnow = 1\n")? == at_first);
+    assert!(rt; left_by_a_write(rt.alloc(), b"lwrite 6162 = all\nnow = 1\n")? == at_first);
+    let other = left_by_a_write(rt.alloc(), b"twrite * = all\nnow = 1\n")?;
+    assert!(rt; other.map(|left| left.wanted) == Some(Some(CallName::TcpWrite)));
+    Ok(())
+}
+
+// Whether a schedule of so many starred datagrams, and then this line, is too large.
+fn is_too_large(alloc: Global, count: u64, last: &[u8]) -> Result<bool, Fail> {
+    let mut text = Vec::new(alloc);
+    for _ in 0..count {
+        text.extend_from_slice(b"usend * = done\n")?;
+    }
+    text.extend_from_slice(last)?;
+    if text.len() > 67_108_864 {
+        return Err(Fail::from("too long"));
+    }
+    Ok(ScriptWorld::read(alloc, &text).err() == Some(ScriptFault::TooLarge))
+}
+
+#[test]
+fn the_room_for_stars_has_its_limit(rt: HostRuntime) -> Result<(), Fail> {
+    assert!(rt; !is_too_large(rt.alloc(), 16_391, b"twrite * = all\n")?);
+    assert!(rt; !is_too_large(rt.alloc(), 16_391, b"now = 0\nconnect * = done\n")?);
+    assert!(rt; is_too_large(rt.alloc(), 16_391, b"wait * = stop\n")?);
+    assert!(rt; is_too_large(rt.alloc(), 16_392, b"")?);
+    assert!(rt; !is_too_large(rt.alloc(), 16_392, b"usend * = all\n")?);
+    Ok(())
+}
+
 #[test]
 fn an_answer_that_no_world_gives_fits_no_call(rt: HostRuntime) -> Result<(), Fail> {
     let mut world = read(rt.alloc(), b"lopen 756e69783a61 = done\nlread 4 = done -\n")?;
@@ -262,10 +383,57 @@ flen 61 = missing
 flen - = fail
 fread 61 0 1 = done 00
 fread 61 0 1 = end
-fread 61 0 1 = fail";
+fread 61 0 1 = fail
+wait * = ready link:r
+wait * = stop
+lopen * = done
+lread * = end
+lwrite * = done 1
+lwrite * = all
+lwrite - = all
+lwrite 00ff = all
+connect * = fail
+connected * = yes
+listen * = done
+accept * = notyet
+tread * = done 00
+twrite * = notyet
+twrite * = all
+twrite 1 00 = all
+tend * = done
+close * = done
+uopen * = done
+usend * = done
+urecv * = fail
+flen * = missing
+fread * = end";
 
 // What someone might write in the place of a line.
 const MISSPELT: &[u8] = b"
+now * = 0
+* = 0
+* * = done
+wait * - = stop
+wait - * = stop
+lwrite ** = done 1
+lwrite * * = done 1
+lwrite  * = done 1
+lwrite *  = done 1
+lwrite * 00 = done 1
+lwrite * = end
+lwrite * = done
+lwrite * = *
+lwrite 00 = All
+lwrite 00 = all 1
+lwrite 00 = al
+lread * = all
+lread 1 = all
+usend * = all
+connect 1 1.2.3.4:5 = all
+twrite 1 * = done 1
+twrite * 00 = done 1
+fread 61 * = end
+sread * = end
  now = 0
 now  = 0
 now =  0
