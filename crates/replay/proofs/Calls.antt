@@ -1,5 +1,5 @@
 -- A call is a name and arguments, of octets that stand in a call.
-use Rattle.std.proofs.Common.{◌≡◌, ℕ, true, List, [], ◌∷◌, ◌++◌, decimal, codes, refl, append_assoc}
+use Rattle.std.proofs.Common.{◌≡◌, ℕ, Bool, true, false, cond, eqb, ◌&&◌, List, [], ◌∷◌, ◌++◌, decimal, codes, refl, sym, ◌∙◌, ap, append_assoc}
 use Rattle.std.specs.List.{list_all}
 use Rattle.world_face.specs.Journal.{Call, CallNow, CallWait, CallLinkOpen, CallLinkRead, CallLinkWrite, CallConnect, CallConnected, CallListen, CallAccept, CallTcpRead, CallTcpWrite, CallTcpEnd, CallClose, CallUdpOpen, CallUdpSend, CallUdpRecv, CallFileLen, CallFileRead}
 use Rattle.replay.specs.declared.CallName.{CallName}
@@ -108,3 +108,53 @@ args_plain (CallFileRead name place asked) h = spaced (hexadecimal name) (decima
 
 pub call_plain : (c : Call) → InRange c → list_all is_plain (call_text c ++ 32 ∷ []) ≡ true
 call_plain c h = rw (named c) (spaced (name_text (name_of c)) (args_text c) (name_word (name_of c)) (args_plain c h))
+
+-- no two calls have one name
+abbrev same_codes : List ℕ → List ℕ → Bool
+same_codes [] [] = true
+same_codes (x ∷ xs) (y ∷ ys) = eqb x y && same_codes xs ys
+same_codes _ _ = false
+
+abbrev named_at : List ℕ → CallName
+named_at t =
+    cond (same_codes t (codes "now")) Now (
+    cond (same_codes t (codes "wait")) Wait (
+    cond (same_codes t (codes "lopen")) LinkOpen (
+    cond (same_codes t (codes "lread")) LinkRead (
+    cond (same_codes t (codes "lwrite")) LinkWrite (
+    cond (same_codes t (codes "connect")) Connect (
+    cond (same_codes t (codes "connected")) Connected (
+    cond (same_codes t (codes "listen")) Listen (
+    cond (same_codes t (codes "accept")) Accept (
+    cond (same_codes t (codes "tread")) TcpRead (
+    cond (same_codes t (codes "twrite")) TcpWrite (
+    cond (same_codes t (codes "tend")) TcpEnd (
+    cond (same_codes t (codes "close")) Close (
+    cond (same_codes t (codes "uopen")) UdpOpen (
+    cond (same_codes t (codes "usend")) UdpSend (
+    cond (same_codes t (codes "urecv")) UdpRecv (
+    cond (same_codes t (codes "flen")) FileLen (
+    FileRead)))))))))))))))))
+
+inverse : (n : CallName) → named_at (name_text n) ≡ n
+inverse Now = refl
+inverse Wait = refl
+inverse LinkOpen = refl
+inverse LinkRead = refl
+inverse LinkWrite = refl
+inverse Connect = refl
+inverse Connected = refl
+inverse Listen = refl
+inverse Accept = refl
+inverse TcpRead = refl
+inverse TcpWrite = refl
+inverse TcpEnd = refl
+inverse Close = refl
+inverse UdpOpen = refl
+inverse UdpSend = refl
+inverse UdpRecv = refl
+inverse FileLen = refl
+inverse FileRead = refl
+
+pub same_name : (n m : CallName) → name_text n ≡ name_text m → n ≡ m
+same_name n m is = sym (inverse n) ∙ ap named_at is ∙ inverse m

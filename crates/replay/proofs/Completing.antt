@@ -1,16 +1,16 @@
 -- The next line, completed.
-use Rattle.std.proofs.Common.{◌≡◌, ℕ, ◌+◌, ◌<◌, ◌≤◌, Bool, true, List, [], ◌∷◌, length, get_or, slice_get, slice_set, Option, Some, refl, sym, ◌∙◌, ap, subst, arith}
+use Rattle.std.proofs.Common.{◌≡◌, ℕ, ◌<◌, Bool, List, [], length, get_or, slice_get, slice_set, Option, Some, refl, sym, ◌∙◌, ap, subst, arith}
 use Rattle.std.proofs.lemmas.List.{length-map}
 use Rattle.std.proofs.lemmas.Option.{same_Some}
 use Rattle.world_face.specs.Journal.{Entry, Call, call_of}
 use Rattle.world_face.specs.Tells.{Counts}
 use Rattle.replay.specs.declared.row.Row.{Row as ARow}
-use Rattle.replay.specs.Fitting.{FitsNext, FitsRow, IsCompleted, IsOf, answered, last_moment}
+use Rattle.replay.specs.Fitting.{FitsNext, FitsRow, IsCompleted, IsOf, answered}
 use Rattle.replay.specs.Lines.{entry_of, row_of, rows_of}
 use Rattle.replay.specs.Room.{AreRoomy, IsRoomy}
-use Rattle.replay.specs.Rows.{Row, AreReadable, IsReadable, TakesAll, entries_of, row_text, schedule_text}
-use Rattle.replay.specs.Script.{Script, newest_onto, kept_of}
-use Rattle.replay.proofs.Rowing.{row_at, set_at, set_kept, set_length, set_readable, set_roomy, set_rows, set_text, readable_at, readable_kept, text_kept, roomy_at}
+use Rattle.replay.specs.Rows.{Row, AreReadable, IsReadable, entries_of, row_text, schedule_text}
+use Rattle.replay.specs.Script.{Script, newest_onto}
+use Rattle.replay.proofs.Rowing.{row_at, set_at, set_kept, set_length, set_readable, set_rows, set_text, readable_at, readable_kept, text_kept, roomy_at}
 
 -- the rows, how many are used up, and the next one as it stood
 module _ (rows : List ARow) (used : ℕ) (old : ARow) (value : old ≡ get_or rows used old) (e : Entry) (call : Call)

@@ -1,5 +1,5 @@
 -- The moment of lines, and a World that answers.
-use Rattle.std.proofs.Common.{◌≡◌, ℕ, ◌+◌, ◌<◌, List, [], ◌∷◌, length, get_or, true, Option, Some, None, refl, sym, ◌∙◌, ap, slice_get, add-one}
+use Rattle.std.proofs.Common.{◌≡◌, ℕ, ◌+◌, ◌<◌, List, [], ◌∷◌, length, get_or, true, Option, Some, None, sym, ◌∙◌, ap, slice_get, add-one}
 use Rattle.std.specs.Option.{option_map, is_none}
 use Rattle.std.proofs.lemmas.Option.{slice_get-map}
 use Rattle.poll_list.specs.declared.Want.{Want}

@@ -5,6 +5,7 @@ pub mod Entries
 pub mod Following
 pub mod Joining
 pub mod Lower
+pub mod Measuring
 pub mod Parting
 pub mod Putting
 pub mod Refusing

@@ -14,12 +14,11 @@ use Rattle.poll_list.specs.declared.Want.{Want}
 use Rattle.poll_list.specs.Listing.{are_wants, is_who}
 use Rattle.world_face.specs.Journal.{AreOctets, IsEndpoint, IsNumber, IsPlace, IsTimeout, Place, AtPath, AtEndpoint, Call, call_of, Entry, Wait, LinkOpen, TcpWrite, UdpSend, FileRead}
 use Rattle.replay.specs.Names.{name_text, name_of}
-use Rattle.replay.specs.Range.{IsSayable}
 use Rattle.replay.specs.declared.CallName.TheVariants as names
 use Rattle.std.proofs.lemmas.List.Elements.{All-head, All-tail, All-cons, All-nil}
-use Rattle.replay.specs.Spelling.{is_lower, is_other, IsReadAs, IsSpelt, IsWritten, Says}
-use Rattle.replay.specs.Text.{hexadecimal, endpoint_text, who_text, direction_text, want_text, joined_text, wants_text, timeout_text, place_text, call_text, answer_text, line_text}
-use Rattle.replay.proofs.Calls.{args_text, named, name_word, call_plain}
+use Rattle.replay.specs.Spelling.{is_lower, is_other, IsReadAs, IsWritten, Says}
+use Rattle.replay.specs.Text.{hexadecimal, endpoint_text, who_text, direction_text, want_text, joined_text, wants_text, timeout_text, place_text, call_text}
+use Rattle.replay.proofs.Calls.{args_text, named, name_word}
 use Rattle.replay.specs.Rows.{Row, IsReadable, row_text, said_answer, said_call}
 use Rattle.replay.proofs.Bodies.{row_body, row_form, said_plain}
 use Rattle.replay.specs.declared.CallName.{CallName}
@@ -229,7 +228,7 @@ last_left rest lacks w [] h is = is
 last_left rest lacks w (v ∷ vs) h is = absurd (no_part 44 rest (want_text w) (joined_text (v ∷ vs)) lacks (is ∙ two_parts (want_text w) (joined_text (v ∷ vs))))
 
 -- words with a space between
-no_space : (p : List ℕ) → list_all is_word p ≡ true → list_all (is_other 32) p ≡ true
+pub no_space : (p : List ℕ) → list_all is_word p ≡ true → list_all (is_other 32) p ≡ true
 no_space p h = fit_weaker is_word (is_other 32) word_is_no_space p h
 
 pub spaced_parts : (text first second a b : List ℕ) → text ≡ first ++ 32 ∷ second → list_all (is_other 32) first ≡ true → list_all is_word a ≡ true → text ≡ a ++ 32 ∷ b → (first ≡ a) × (second ≡ b)
@@ -272,7 +271,7 @@ last_same octet (x ∷ a) (y ∷ b) is =
     let rest = last_same octet a b tail in
     cc
 
-plain_no_sign : (c : ℕ) → is_plain c ≡ true → is_other 61 c ≡ true
+pub plain_no_sign : (c : ℕ) → is_plain c ≡ true → is_other 61 c ≡ true
 plain_no_sign c h = grind (arith, nat_tests)
 
 pub answer_parts : (text before after : List ℕ) → text ≡ before ++ 61 ∷ after → list_all (is_other 61) before ≡ true → (row : Row) → IsReadable row → text ++ 10 ∷ [] ≡ row_text row → (before ≡ said_call row ++ 32 ∷ []) × (after ≡ 32 ∷ said_answer row)
@@ -287,7 +286,7 @@ pub spelt_once : (before after call answer : List ℕ) (row : Row) → before �
 spelt_once before after call answer row front back parts = (last_same 32 call (said_call row) (sym front ∙ parts.0), tail_same 32 answer (said_answer row) (sym back ∙ parts.1))
 
 -- a call's name and the rest
-call_parts : (call word args : List ℕ) → call ≡ word ++ 32 ∷ args → list_all (is_other 32) word ≡ true → (c : Call) → call ≡ call_text c → (word ≡ name_text (name_of c)) × (args ++ 32 ∷ [] ≡ args_text c)
+pub call_parts : (call word args : List ℕ) → call ≡ word ++ 32 ∷ args → list_all (is_other 32) word ≡ true → (c : Call) → call ≡ call_text c → (word ≡ name_text (name_of c)) × (args ++ 32 ∷ [] ≡ args_text c)
 call_parts call word args split lacks c is =
     parts_once 32 (is_other 32) refl word (name_text (name_of c)) (args ++ 32 ∷ []) (args_text c) lacks (no_space (name_text (name_of c)) (name_word (name_of c)))
     (sym (append_assoc word (32 ∷ args) (32 ∷ [])) ∙ ap (λ t. t ++ 32 ∷ []) (sym split ∙ is) ∙ named c)

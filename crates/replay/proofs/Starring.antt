@@ -1,5 +1,5 @@
 -- A star is read as arguments of no meaning, and `all` as a count of none.
-use Rattle.std.proofs.Common.{◌≡◌, ◌≢◌, ◌↔◌, ℕ, ◌+◌, ◌*◌, ◌<◌, ◌^◌, Bool, true, false, cond, IsTrue, List, [], ◌∷◌, ◌++◌, length, decimal, codes, refl, sym, ◌∙◌, ap, subst, arith, append_assoc, length-append, Some, None}
+use Rattle.std.proofs.Common.{◌≡◌, ◌≢◌, ◌↔◌, ℕ, ◌<◌, ◌^◌, Bool, true, false, cond, IsTrue, List, [], ◌∷◌, ◌++◌, length, decimal, codes, refl, sym, ◌∙◌, ap, subst, arith, length-append, None}
 use Rattle.world_face.specs.declared.Io.{Io}
 use Rattle.world_face.specs.declared.Io.TheVariants.{Done, End, NotYet, Failed}
 use Rattle.world_face.specs.Journal.{AreOctets, AtEndpoint, Entry, Now, Wait, LinkOpen, LinkRead, LinkWrite, Connect, Connected, Listen, Accept, TcpRead, TcpWrite, TcpEnd, Close, UdpOpen, UdpSend, UdpRecv, FileLen, FileRead, Call, CallNow, CallWait, CallLinkOpen, CallLinkRead, CallLinkWrite, CallConnect, CallConnected, CallListen, CallAccept, CallTcpRead, CallTcpWrite, CallTcpEnd, CallClose, CallUdpOpen, CallUdpSend, CallUdpRecv, CallFileLen, CallFileRead, call_of}
@@ -9,8 +9,8 @@ use Rattle.replay.specs.declared.CallName.{CallName}
 use Rattle.replay.specs.declared.CallName.TheVariants as names
 use Rattle.replay.specs.Fitting.{with_answer}
 use Rattle.replay.specs.Names.{name_of, name_text}
-use Rattle.replay.specs.Range.{InRange, AnswersInRange, IsSayable, Counts}
-use Rattle.replay.specs.Rows.{Row, IsReadable, TakesAll, said_answer, said_call}
+use Rattle.replay.specs.Range.{InRange, AnswersInRange, IsSayable}
+use Rattle.replay.specs.Rows.{Row, IsReadable, TakesAll, said_call}
 use Rattle.replay.specs.Spelling.{IsSpelt, IsWritten, HasArguments, SaidArguments, Says, SaysRow, is_write, blank_args, given_args, counted_answer}
 use Rattle.replay.specs.Text.{answer_text, call_text, written_text, hexadecimal, endpoint_text, place_text}
 use Rattle.replay.proofs.Parting.{first, is_digit, decimal_digits}
@@ -191,10 +191,10 @@ no_two : (x y : List ℕ) → 42 ∷ [] ≡ x ++ 32 ∷ y → ⊥
 no_two [] y is = omega (arith, ap first is)
 no_two (a ∷ x) y is = omega (arith, length-append x (32 ∷ y), ap length is)
 
-no_digit : (n : ℕ) → n < 2 ^ 64 → 42 ∷ [] ≡ decimal n → ⊥
+pub no_digit : (n : ℕ) → n < 2 ^ 64 → 42 ∷ [] ≡ decimal n → ⊥
 no_digit n h is = let digit : list_all is_digit (42 ∷ []) ≡ true = subst (λ t. list_all is_digit t ≡ true) (sym is) (decimal_digits n h) in cc digit
 
-no_pair : (octets : List ℕ) → 42 ∷ [] ≡ hexadecimal octets → ⊥
+pub no_pair : (octets : List ℕ) → 42 ∷ [] ≡ hexadecimal octets → ⊥
 no_pair [] is = omega (arith, ap first is)
 no_pair (x ∷ xs) is = omega (arith, length-encode_with lower_digits (x ∷ xs), ap length is)
 

@@ -24,7 +24,7 @@ readable_more rows more row hs h pushed = subst (λ (rs : List ARow). AreReadabl
 line_no_feed : (c : ℕ) → is_line c ≡ true → is_other 10 c ≡ true
 line_no_feed c h = grind (arith, nat_tests)
 
-no_feed : (e : Row) → IsReadable e → list_all (is_other 10) (row_body e) ≡ true
+pub no_feed : (e : Row) → IsReadable e → list_all (is_other 10) (row_body e) ≡ true
 no_feed e h = fit_weaker is_line (is_other 10) line_no_feed (row_body e) (row_line e h)
 
 -- without a line feed there is no line
@@ -51,7 +51,7 @@ first_unread octets rest rows n is readable number some refused = record {
 }
 
 -- the lines of two schedules after the first ones
-after_line : (e f : Row) (r s : List ℕ) → IsReadable e → IsReadable f → row_text e ++ r ≡ row_text f ++ s → r ≡ s
+pub after_line : (e f : Row) (r s : List ℕ) → IsReadable e → IsReadable f → row_text e ++ r ≡ row_text f ++ s → r ≡ s
 after_line e f r s he hf is = (parts_once 10 (is_other 10) refl (row_body e) (row_body f) r s (no_feed e he) (no_feed f hf) (sym (row_then e r) ∙ is ∙ row_then f s)).1
 
 abbrev BeginsNone : List ℕ → Type 0

@@ -1,5 +1,5 @@
 -- What a line that was read, and the call that fitted none, stand for.
-use Rattle.std.specs.Prelude.{ℕ, Bool, List, map, Option, Some, None}
+use Rattle.std.specs.Prelude.{ℕ, List, map, Option, Some, None}
 use Rattle.net_octets.specs.declared.Endpoint.{Endpoint}
 use Rattle.poll_list.specs.declared.Want.{Want}
 use Rattle.world_face.specs.Journal.{Place, AtPath, AtEndpoint, Entry, Now, Wait, LinkOpen, LinkRead, LinkWrite, Connect, Connected, Listen, Accept, TcpRead, TcpWrite, TcpEnd, Close, UdpOpen, UdpSend, UdpRecv, FileLen, FileRead, Call, CallNow, CallWait, CallLinkOpen, CallLinkRead, CallLinkWrite, CallConnect, CallConnected, CallListen, CallAccept, CallTcpRead, CallTcpWrite, CallTcpEnd, CallClose, CallUdpOpen, CallUdpSend, CallUdpRecv, CallFileLen, CallFileRead}

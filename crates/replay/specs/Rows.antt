@@ -1,5 +1,5 @@
 -- The lines of a schedule, and their text.
-use Rattle.std.specs.Prelude.{◌≡◌, ◌≢◌, ℕ, ◌+◌, ◌<◌, Bool, true, false, if◌then◌else◌, List, [], ◌∷◌, ◌++◌, length, map, codes}
+use Rattle.std.specs.Prelude.{◌≡◌, ◌≢◌, ℕ, ◌+◌, ◌<◌, Bool, true, if◌then◌else◌, List, [], ◌∷◌, ◌++◌, length, map, codes}
 use Rattle.world_face.specs.declared.Io.TheVariants.{Done}
 use Rattle.world_face.specs.Journal.{Entry, LinkWrite, TcpWrite, call_of}
 use Rattle.replay.specs.declared.CallName.{CallName}

@@ -678,6 +678,8 @@ impl ScriptWorld {
         ensures only { (n : ℕ) → IsFirstUnread octets.now n → (result ≡ Err (AtLine n)) ⊎ (result ≡ Err NoMemory) }
         // It is too large only where each line has a reading, and the stars take over 1 GiB.
         ensures large { result ≡ Err TooLarge → TakesTooMuch octets.now }
+        // And it is so wherever they do, unless memory runs out.
+        ensures only_large { TakesTooMuch octets.now → (result ≡ Err TooLarge) ⊎ (result ≡ Err NoMemory) }
     {
         let mut rows = read_rows(alloc, octets)?;
         if rooms(&rows) > MOST_ROOM {

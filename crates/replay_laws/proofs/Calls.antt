@@ -1,9 +1,7 @@
 -- Calls, each of which has one text.
-use Rattle.std.proofs.Common.{◌≡◌, ℕ, Bool, true, false, cond, ◌&&◌, eqb, List, [], ◌∷◌, ◌++◌, decimal, codes, refl, sym, ◌∙◌, ap}
+use Rattle.std.proofs.Common.{◌≡◌, ℕ, true, List, [], ◌∷◌, ◌++◌, decimal, refl, sym, ◌∙◌}
 use Rattle.std.specs.List.{list_all}
 use Rattle.world_face.specs.Journal.{Call, CallNow, CallWait, CallLinkOpen, CallLinkRead, CallLinkWrite, CallConnect, CallConnected, CallListen, CallAccept, CallTcpRead, CallTcpWrite, CallTcpEnd, CallClose, CallUdpOpen, CallUdpSend, CallUdpRecv, CallFileLen, CallFileRead}
-use Rattle.replay.specs.declared.CallName.{CallName}
-use Rattle.replay.specs.declared.CallName.TheVariants.{Now, Wait, LinkOpen, LinkRead, LinkWrite, Connect, Connected, Listen, Accept, TcpRead, TcpWrite, TcpEnd, Close, UdpOpen, UdpSend, UdpRecv, FileLen, FileRead}
 use Rattle.replay.specs.Names.{name_text, name_of}
 use Rattle.replay.specs.Text.{hexadecimal, endpoint_text, wants_text, timeout_text, place_text, call_text}
 use Rattle.replay.proofs.Parting.{is_word, parts_once, decimal_word, hexadecimal_word}
@@ -11,57 +9,7 @@ use Rattle.replay.proofs.Words.{same_octets, endpoint_word, wants_word, timeout_
 use Rattle.replay_laws.proofs.Tokens.{same_endpoint, same_wants, same_timeout, same_place}
 use Rattle.std.proofs.lemmas.Fmt.{decimal_injective}
 use Rattle.replay.specs.Range.{InRange}
-use Rattle.replay.proofs.Calls.{args_text, named, name_word}
-
--- no two calls have one name
-abbrev same_codes : List ℕ → List ℕ → Bool
-same_codes [] [] = true
-same_codes (x ∷ xs) (y ∷ ys) = eqb x y && same_codes xs ys
-same_codes _ _ = false
-
-abbrev named_at : List ℕ → CallName
-named_at t =
-    cond (same_codes t (codes "now")) Now (
-    cond (same_codes t (codes "wait")) Wait (
-    cond (same_codes t (codes "lopen")) LinkOpen (
-    cond (same_codes t (codes "lread")) LinkRead (
-    cond (same_codes t (codes "lwrite")) LinkWrite (
-    cond (same_codes t (codes "connect")) Connect (
-    cond (same_codes t (codes "connected")) Connected (
-    cond (same_codes t (codes "listen")) Listen (
-    cond (same_codes t (codes "accept")) Accept (
-    cond (same_codes t (codes "tread")) TcpRead (
-    cond (same_codes t (codes "twrite")) TcpWrite (
-    cond (same_codes t (codes "tend")) TcpEnd (
-    cond (same_codes t (codes "close")) Close (
-    cond (same_codes t (codes "uopen")) UdpOpen (
-    cond (same_codes t (codes "usend")) UdpSend (
-    cond (same_codes t (codes "urecv")) UdpRecv (
-    cond (same_codes t (codes "flen")) FileLen (
-    FileRead)))))))))))))))))
-
-inverse : (n : CallName) → named_at (name_text n) ≡ n
-inverse Now = refl
-inverse Wait = refl
-inverse LinkOpen = refl
-inverse LinkRead = refl
-inverse LinkWrite = refl
-inverse Connect = refl
-inverse Connected = refl
-inverse Listen = refl
-inverse Accept = refl
-inverse TcpRead = refl
-inverse TcpWrite = refl
-inverse TcpEnd = refl
-inverse Close = refl
-inverse UdpOpen = refl
-inverse UdpSend = refl
-inverse UdpRecv = refl
-inverse FileLen = refl
-inverse FileRead = refl
-
-same_name : (n m : CallName) → name_text n ≡ name_text m → n ≡ m
-same_name n m is = sym (inverse n) ∙ ap named_at is ∙ inverse m
+use Rattle.replay.proofs.Calls.{args_text, named, name_word, same_name}
 
 one_word : (a b : List ℕ) → list_all is_word a ≡ true → list_all is_word b ≡ true → a ++ 32 ∷ [] ≡ b ++ 32 ∷ [] → a ≡ b
 one_word a b ha hb is = (parts_once 32 is_word refl a b [] [] ha hb is).0

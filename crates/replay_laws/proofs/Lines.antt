@@ -1,5 +1,5 @@
 -- Answers and lines, each of which has one text.
-use Rattle.std.proofs.Common.{◌≡◌, ℕ, ◌+◌, ◌*◌, ◌^◌, ◌<◌, true, false, List, [], ◌∷◌, ◌++◌, length, decimal, reverse, refl, sym, ◌∙◌, ap, subst, arith, append_assoc, append-nil}
+use Rattle.std.proofs.Common.{◌≡◌, ℕ, ◌+◌, ◌*◌, true, false, List, [], ◌∷◌, ◌++◌, length, decimal, reverse, refl, sym, ◌∙◌, ap, subst, arith, append_assoc, append-nil}
 use Rattle.std.proofs.lemmas.Fmt.{decimal_injective}
 use Rattle.std.proofs.lemmas.List.{reverse-reverse}
 use mathlib.Core.List.{reverse-cons}
@@ -21,7 +21,7 @@ use Rattle.world_face.specs.declared.FileSize.{FileSize}
 use Rattle.world_face.specs.declared.FileSize.TheVariants.{Length, Missing, Failed as SizeFailed}
 use Rattle.world_face.specs.declared.Waited.{Waited}
 use Rattle.world_face.specs.declared.Waited.TheVariants.{Ready, Stop, Failed as WaitFailed}
-use Rattle.world_face.specs.Journal.{MayAccept, MayMeasure, MayWrite, MayReadFile, MayGet, MayWait, Leaves, LeavesGot, Allowed, AreAllowed, Entry, call_of, Now, Wait, LinkOpen, LinkRead, LinkWrite, Connect, Connected, Listen, Accept, TcpRead, TcpWrite, TcpEnd, Close, UdpOpen, UdpSend, UdpRecv, FileLen, FileRead}
+use Rattle.world_face.specs.Journal.{MayAccept, MayMeasure, Leaves, LeavesGot, AreAllowed, Entry, call_of, Now, Wait, LinkOpen, LinkRead, LinkWrite, Connect, Connected, Listen, Accept, TcpRead, TcpWrite, TcpEnd, Close, UdpOpen, UdpSend, UdpRecv, FileLen, FileRead}
 use Rattle.replay.specs.Pieces.{lines_text}
 use Rattle.replay.specs.Rows.{Row, AreReadable, schedule_text}
 use Rattle.replay.specs.Text.{hexadecimal, endpoint_text, joined_text, made_text, ready_text, waited_text, read_text, written_text, joined_answer, accepted_text, sent_text, got_text, size_text, call_text, answer_text, line_text, text}
@@ -30,7 +30,7 @@ use Rattle.replay.proofs.Words.{same_octets, endpoint_word}
 use Rattle.replay_laws.proofs.Tokens.{same_endpoint, same_joined}
 use Rattle.replay.proofs.Calls.{call_plain}
 use Rattle.replay_laws.proofs.Calls.{same_call}
-use Rattle.replay.specs.Range.{InRange, AnswersInRange, IsSayable, AreSayable, LeavesReady, Counts, IsAtOnce, ComesFrom}
+use Rattle.replay.specs.Range.{IsSayable, AreSayable, LeavesReady, Counts, ComesFrom}
 use Rattle.replay.proofs.Bodies.{body_line, then_more, some_line}
 use Rattle.replay.proofs.Sayable.{all_sayable}
 use Rattle.replay.proofs.Unreading.{all_read}

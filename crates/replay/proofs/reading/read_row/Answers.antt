@@ -1,7 +1,6 @@
-use Rattle.std.proofs.Common.{List, ℕ, refl, sym, subst, ap}
+use Rattle.std.proofs.Common.{sym, subst}
 use Rattle.std.proofs.lemmas.Result.{err_from_is_err_and}
-use Rattle.world_face.specs.Journal.{Entry, call_of}
-use Rattle.replay.specs.Fitting.{with_answer}
+use Rattle.world_face.specs.Journal.{Entry}
 use Rattle.replay.specs.Lines.{entry_of}
 use Rattle.replay.specs.Names.{name_text}
 use Rattle.replay.specs.Range.{AnswersInRange}

@@ -1,4 +1,4 @@
-use Rattle.std.proofs.Common.{◌≡◌, ◌⊎◌, inl, inr, ℕ, IsTrue, ap, sym, subst}
+use Rattle.std.proofs.Common.{◌≡◌, ◌⊎◌, inl, inr, ℕ, IsTrue, sym, subst}
 use Rattle.replay.specs.Rows.{TakesTooMuch}
 use Rattle.replay.specs.Unread.{IsFirstUnread}
 use Rattle.slirp_app.specs.Fetching.{is_read}

@@ -1,10 +1,7 @@
-use Rattle.std.proofs.Common.{◌≡◌, ◌<◌, Bool, true, false, cond, length, slice_get, Some, sym, ◌∙◌, ap, subst, arith}
-use Rattle.std.proofs.lemmas.List.{length-map}
-use Rattle.world_face.specs.Journal.{Entry, call_of}
-use Rattle.replay.specs.Fitting.{FitsNext, IsCompleted, counted, has_failed, raised}
-use Rattle.replay.specs.Lines.{entry_of, row_of, rows_of}
+use Rattle.std.proofs.Common.{◌≡◌, Bool, true, false, cond, sym, ◌∙◌, ap}
+use Rattle.world_face.specs.Journal.{call_of}
+use Rattle.replay.specs.Fitting.{has_failed, raised}
 use Rattle.replay.specs.Names.{name_of}
-use Rattle.replay.specs.Rows.{Row}
 use Rattle.replay.specs.Script.{Script}
 use Rattle.replay.proofs.Following.{used_up}
 use Rattle.replay.proofs.Completing.{its_entry}

@@ -1,5 +1,4 @@
-use Rattle.std.proofs.Common.{◌≡◌, ◌≤◌, length, slice_set, sym, ◌∙◌, ap, subst, arith, refl}
-use Rattle.world_face.specs.Journal.{Entry, call_of}
+use Rattle.std.proofs.Common.{slice_set, sym, ◌∙◌, ap, subst, arith}
 use Rattle.replay.specs.Fitting.{FitsNext, IsCompleted, last_moment}
 use Rattle.std.specs.Option.{is_none}
 use Rattle.replay.specs.Lines.{rows_of, stop_of}

@@ -1,4 +1,4 @@
-use Rattle.std.proofs.Common.{refl, [], rules, sym, ◌∙◌, ap}
+use Rattle.std.proofs.Common.{refl, rules, sym, ◌∙◌, ap}
 use Rattle.world_face.specs.Journal.{Allowed, Now}
 use Rattle.replay.specs.Script.{Script, kept_of}
 use Rattle.replay.specs.Fitting.{last_moment}
