@@ -4,6 +4,8 @@
 mod fetching;
 mod file_world;
 mod running;
+#[cfg(test)]
+mod star_tests;
 mod status;
 mod std_sink;
 #[cfg(test)]
