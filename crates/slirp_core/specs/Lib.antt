@@ -1,5 +1,6 @@
 pub mod Datagrams
 pub mod Ends
+pub mod Hearing
 pub mod Holds
 pub mod Outgoing
 pub mod Packets

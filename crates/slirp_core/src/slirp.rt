@@ -81,12 +81,14 @@ impl Slirp {
     ghost use Rattle.arp_table.specs.Arp.{read_arp};
     ghost use Rattle.ipv4_head.specs.Ip.{read_ip};
     ghost use Rattle.icmp_echo.specs.Icmp.{Icmp, icmp_of, read_icmp};
-    ghost use Rattle.udp_assoc.specs.Associations.{is_over, numbers};
+    ghost use Rattle.udp_assoc.specs.Associations.{is_over, numbered, numbers};
+    ghost use Rattle.udp_assoc.specs.declared.assocs.Association.{Association as AnAssociation};
     ghost use Rattle.slirp_laws.specs.Shape.{is_among};
     ghost use Rattle.slirp_laws.specs.Guests.{with_pair, with_arp, with_ip, with_ether};
     ghost use Rattle.slirp_laws.specs.Answers.{frames_of, owed_for, owed_for_ip, owed_for_icmp, owed_for_datagram, owed_for_frame, told_about, reply};
     ghost use Rattle.slirp_laws.specs.Datagrams.{NeedsRoom, NeedsSocket, NeedsSending, step_for, errand_of as errand_by_law, errand_of_ip, errand_in, without_socket};
-    ghost use Rattle.world_face.specs.Tells.{Brings};
+    ghost use Rattle.world_face.specs.Tells.{Brings, Makes};
+    ghost use Rattle.slirp_core.specs.Hearing.{Receives};
     ghost use Rattle.stream_netdev.specs.State.{LinkState, under_way};
     ghost use Rattle.slirp_core.specs.Datagrams.{datagram_of, errand_of, FitsErrand};
     ghost use Rattle.slirp_core.specs.Outgoing.{sent_after};
@@ -487,6 +489,8 @@ impl Slirp {
     pub fn hear<W: World>(&mut self, world: &mut W, number: u64, into: &mut [u8])
         requires none { self.old.pending ≡ [] }
         requires room { length into.old ≡ 65507 }
+        // Where the socket is open a datagram is asked for on it, once.
+        ensures receives { (a : AnAssociation) → numbered number self.old.associations ≡ Some a → Makes (W.tells world.old) (W.tells world.new) (Receives number) }
         ensures makes { (config : Config) (at : Standing) (link : LinkState) → link.tail ≡ [] → Brings (W.tells world.old) (W.tells world.new)
             (Holds config at self.old link) (Holds config at self.new link) }
         ensures number { self.new.number ≡ self.old.number }

@@ -2,8 +2,8 @@ use Rattle.std.proofs.Common.{◌≡◌, List, [], ◌∷◌, length, take, refl
 use Rattle.world_face.specs.Tells.{Brings}
 use Rattle.slirp_core.specs.State.{SlirpState}
 use Rattle.world_face.specs.Journal.{UdpRecv}
-use Rattle.world_face.specs.declared.Got.TheVariants.{From}
-use Rattle.world_face.proofs.Telling.{brings_one}
+use Rattle.world_face.specs.declared.Got.TheVariants.{From, NotYet, Failed}
+use Rattle.world_face.proofs.Telling.{brings_one, makes_one}
 use Rattle.udp_assoc.specs.Associations.{numbered}
 use Rattle.udp_assoc.specs.declared.assocs.Association.{Association}
 use Rattle.slirp_laws.specs.Answers.{frames_of, reply}
@@ -31,6 +31,7 @@ returns-in-NotYet g c =
     let slirp = c.args.self.now in
     let found : numbered c.args.number slirp.associations ≡ Some c.in-Some.association = sym (c.in-Some.ensures ∙ ap (λ (s : SlirpState). numbered c.args.number s.associations) c.self.view_is) in
     record {
+      receives = λ a held. makes_one _ _ (UdpRecv c.args.number (length c.args.into.now) NotYet []) _ c.in-NotYet.ensures (λ allowed. (length c.args.into.now, NotYet, [], refl));
       makes = λ config at link out.
           brings_one c.in-NotYet.ensures (λ allowed past holds.
           after_not_yet config at slirp link past c.args.number (length c.args.into.now) c.in-Some.association found c.requires.room c.requires.none out (numbered_among c.args.number slirp.associations c.in-Some.association found) holds []);
@@ -45,3 +46,13 @@ returns-in-Failed-clause-makes g c config at link out =
     let found : numbered c.args.number slirp.associations ≡ Some c.in-Some.association = sym (c.in-Some.ensures ∙ ap (λ (s : SlirpState). numbered c.args.number s.associations) c.self.view_is) in
     brings_one c.in-Failed.ensures (λ allowed past holds.
     after_no_hearing config at slirp link past c.args.number (length c.args.into.now) c.in-Some.association found c.requires.room c.requires.none out (numbered_among c.args.number slirp.associations c.in-Some.association found) holds [])
+
+pub returns-in-From-clause-receives : goal.returns-in-From-clause-receives
+returns-in-From-clause-receives g c a held =
+    let octets = take c.in-From.count c.udp_recv.new.into in
+    let e = UdpRecv c.args.number (length c.args.into.now) (From c.in-From.peer c.in-From.count) octets in
+    makes_one _ _ e _ c.in-From.ensures (λ allowed. (length c.args.into.now, From c.in-From.peer c.in-From.count, octets, refl))
+
+pub returns-in-Failed-clause-receives : goal.returns-in-Failed-clause-receives
+returns-in-Failed-clause-receives g c a held =
+    makes_one _ _ (UdpRecv c.args.number (length c.args.into.now) Failed []) _ c.in-Failed.ensures (λ allowed. (length c.args.into.now, Failed, [], refl))
