@@ -127,7 +127,11 @@ impl<K: Sink> Sink for Gathering<K> {
 
     ghost faults = { λ g. K.faults g.sink };
 
-    fn put(&mut self, octets: &[u8]) -> Result<(), Failed> {
+    /// A piece that fits is gathered, and nothing is handed on.
+    fn put(&mut self, octets: &[u8]) -> Result<(), Failed>
+        ensures puts { Puts (added self.old.gathered (K.holds self.old.sink)) (added self.new.gathered (K.holds self.new.sink)) (K.faults self.old.sink) (K.faults self.new.sink) octets.now result }
+        ensures fits { length self.old.gathered + length octets.now ≤ 16384 → IsOk result × (self.new.gathered ≡ self.old.gathered ++ octets.now) × (self.new.sink ≡ self.old.sink) }
+    {
         if self.gathered.room() < octets.len() {
             self.flush()?;
         }
