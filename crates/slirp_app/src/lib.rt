@@ -3,6 +3,9 @@
 
 mod fetching;
 mod file_world;
+mod gathering;
+#[cfg(test)]
+mod gathering_tests;
 mod running;
 #[cfg(test)]
 mod star_tests;

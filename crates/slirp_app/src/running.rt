@@ -26,7 +26,9 @@ ghost use Rattle.world_face.specs.Puts.{Puts};
 ghost use Rattle.world_face.specs.Tells.{Makes};
 
 use crate::fetching::{Unread, read_file};
+use crate::gathering::Gathering;
 use crate::status::{Outcome, outcome_of};
+use core::mem::replace_with;
 use host_policy::SlirpConfig;
 use itoa::Buffer;
 use replay::{ScriptFault, ScriptWorld};
@@ -166,8 +168,27 @@ fn ended(script: &ScriptWorld, end: End) -> Outcome
     }
 }
 
-// Puts the record of a run, and its status.
+// Puts the record of a run, and its status. While they are put the sink lies in one that gathers.
 fn put_record<K: Sink>(script: &ScriptWorld, status: u8, out: &mut K) -> Result<(), Failed>
+    ensures { Puts (K.holds out.old) (K.holds out.new) (K.faults out.old) (K.faults out.new) (text (script_tells script.now).kept ++ end_line status) result }
+{
+    replace_with(out, (script, status), gather_record)
+}
+
+// The same for a sink that is handed over, and back.
+fn gather_record<K: Sink>(sink: K, run: (&ScriptWorld, u8)) -> (K, Result<(), Failed>)
+    ensures { Puts (K.holds sink) (K.holds result.0) (K.faults sink) (K.faults result.0) (text (script_tells run.entry.0.now).kept ++ end_line run.entry.1) result.1 }
+{
+    let (script, status) = run;
+    let mut gathering = Gathering::over(sink);
+    match put_text(script, status, &mut gathering) {
+        Ok(()) => gathering.finish(),
+        Err(failed) => (gathering.into_sink(), Err(failed)),
+    }
+}
+
+// Puts the text of a record, and of a status.
+fn put_text<K: Sink>(script: &ScriptWorld, status: u8, out: &mut K) -> Result<(), Failed>
     ensures { Puts (K.holds out.old) (K.holds out.new) (K.faults out.old) (K.faults out.new) (text (script_tells script.now).kept ++ end_line status) result }
 {
     let mut digits = Buffer::new();

@@ -309,19 +309,27 @@ fn texts_that_no_run_here_comes_to(rt: HostRuntime) -> Result<(), Fail> {
     Ok(())
 }
 
-/// An idle run makes 16 puts: four for `now = 0`, nine for its wait, three for its status.
+/// A run whose record has 40,103 octets: with its status three puts of at most 16,384.
 #[test]
 fn a_sink_that_refuses(rt: HostRuntime) -> Result<(), Fail> {
-    let whole = format!(in rt.alloc(); "{IDLE}end 0\n")?;
-    for number in 0..16 {
-        let ran = replayed(rt.alloc(), IDLE, Some(number))?;
+    let mut octets = String::new(rt.alloc());
+    for _ in 0..20_000 {
+        octets.push_str("00")?;
+    }
+    let schedule = format!(in rt.alloc();
+        "{BEGINS}lread 4 = done 00004e20\nlread 20000 = done {octets}\nwait - link:r = stop\n"
+    )?;
+    let whole = format!(in rt.alloc(); "{schedule}end 0\n")?;
+    for number in 0..3 {
+        let ran = replayed(rt.alloc(), schedule.as_str(), Some(number))?;
         assert_eq!(rt; ran.status, 12);
         assert_eq!(rt; ran.err.octets(), b"".as_slice());
         assert!(rt; whole.as_bytes().starts_with(ran.out.octets()));
         assert!(rt; ran.out.octets().len() < whole.len());
     }
-    let ran = replayed(rt.alloc(), IDLE, Some(16))?;
+    let ran = replayed(rt.alloc(), schedule.as_str(), Some(3))?;
     assert_eq!(rt; ran.status, 0);
+    assert_eq!(rt; ran.out.octets(), whole.as_bytes());
     Ok(())
 }
 
