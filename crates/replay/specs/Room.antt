@@ -1,10 +1,10 @@
 -- What a starred line has room for.
-use Rattle.std.specs.Prelude.{◌≡◌, ℕ, ◌≤◌, Bool, true, false, List, [], ◌∷◌}
+use Rattle.std.specs.Prelude.{◌≡◌, ℕ, ◌≤◌, true, List, [], ◌∷◌}
 use Rattle.std.specs.Vec.{vec_capacity}
 use Rattle.replay.specs.declared.line.Line.{Line}
 use Rattle.replay.specs.declared.line.Line.TheVariants.{Wait, LinkOpen, LinkWrite, TcpWrite, UdpSend, FileLen, FileRead}
 use Rattle.replay.specs.declared.line.Stop.{Stop}
-use Rattle.replay.specs.declared.line.Stop.TheVariants.{TcpRead as StopTcpRead, TcpEnd as StopTcpEnd, Close as StopClose, UdpOpen as StopUdpOpen, UdpRecv as StopUdpRecv, LinkOpenPath as StopPath, LinkWrite as StopLinkWrite, TcpWrite as StopTcpWrite, UdpSend as StopUdpSend, FileLen as StopFileLen, FileRead as StopFileRead}
+use Rattle.replay.specs.declared.line.Stop.TheVariants.{Now as StopNow, Wait as StopWait, LinkOpenPath as StopPath, LinkOpenAt as StopAt, LinkRead as StopLinkRead, LinkWrite as StopLinkWrite, Connect as StopConnect, Connected as StopConnected, Listen as StopListen, Accept as StopAccept, TcpRead as StopTcpRead, TcpWrite as StopTcpWrite, TcpEnd as StopTcpEnd, Close as StopClose, UdpOpen as StopUdpOpen, UdpSend as StopUdpSend, UdpRecv as StopUdpRecv, FileLen as StopFileLen, FileRead as StopFileRead}
 use Rattle.replay.specs.declared.row.Row.{Row}
 
 -- as many octets and wants as a call may bring
@@ -39,15 +39,32 @@ most_octets _ = 0
 abbrev pub MayBring : Stop → ℕ → ℕ → Type 0
 MayBring given octets wants = (octets ≤ most_octets given) × (wants ≤ 5155)
 
--- the second half of the calls
-abbrev pub is_more : Stop → Bool
-is_more (StopTcpRead socket asked) = true
-is_more (StopTcpWrite socket) = true
-is_more (StopTcpEnd socket) = true
-is_more (StopClose socket) = true
-is_more (StopUdpOpen socket at) = true
-is_more (StopUdpSend socket to) = true
-is_more (StopUdpRecv socket asked) = true
-is_more StopFileLen = true
-is_more (StopFileRead place asked) = true
-is_more _ = false
+-- what a call is on: the link or all that is waited for, a stream that opens, one that is there, datagrams, or a file
+pub data Kind : Type 0 where
+  AtMoment : Kind
+  OnLink : Kind
+  Opening : Kind
+  OnStream : Kind
+  OfDatagram : Kind
+  OnFile : Kind
+
+abbrev pub kind_of : Stop → Kind
+kind_of StopNow = AtMoment
+kind_of (StopWait timeout) = OnLink
+kind_of StopPath = OnLink
+kind_of (StopAt at) = OnLink
+kind_of (StopLinkRead asked) = OnLink
+kind_of StopLinkWrite = OnLink
+kind_of (StopConnect socket to) = Opening
+kind_of (StopConnected socket) = Opening
+kind_of (StopListen socket at) = Opening
+kind_of (StopAccept listener socket) = Opening
+kind_of (StopTcpRead socket asked) = OnStream
+kind_of (StopTcpWrite socket) = OnStream
+kind_of (StopTcpEnd socket) = OnStream
+kind_of (StopClose socket) = OnStream
+kind_of (StopUdpOpen socket at) = OfDatagram
+kind_of (StopUdpSend socket to) = OfDatagram
+kind_of (StopUdpRecv socket asked) = OfDatagram
+kind_of StopFileLen = OnFile
+kind_of (StopFileRead place asked) = OnFile

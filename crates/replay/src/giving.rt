@@ -1,14 +1,14 @@
 // What a call brings to a line whose arguments a star stands for.
 #![tactic(auto)]
 
-ghost use Rattle.std.specs.Prelude.{◌≡◌, ◌≤◌, ◌+◌, ◌*◌, ℕ, true, OnOk, length, List};
+ghost use Rattle.std.specs.Prelude.{Bool, ◌≡◌, ◌≤◌, ◌+◌, ◌*◌, ℕ, true, OnOk, length, List};
 ghost use Rattle.std.specs.Vec.{vec_capacity};
 ghost use Rattle.poll_list.specs.declared.Want.{Want as AWant};
 ghost use Rattle.world_face.specs.Journal.{AtPath, call_of};
 ghost use Rattle.replay.specs.Fitting.{IsOf, answered, with_answer};
 ghost use Rattle.replay.specs.Lines.{row_of, rows_of, entry_of, call_at, place_at};
 ghost use Rattle.replay.specs.Names.{name_of};
-ghost use Rattle.replay.specs.Room.{AreRoomy, HasRoom, IsRoomy, MayBring, is_more, most_octets};
+ghost use Rattle.replay.specs.Room.{AreRoomy, HasRoom, IsRoomy, MayBring, most_octets, kind_of, OnLink, Opening, OnStream, OfDatagram, OnFile};
 ghost use Rattle.replay.specs.Rows.{TakesAll, room_of, row_room, rooms};
 
 use crate::CallName;
@@ -66,6 +66,32 @@ fn give(line: &mut Line, all: bool, given: Stop, octets: &[u8], wants: &[Want])
 {
     match given {
         Stop::Now => {}
+        Stop::Wait(_)
+        | Stop::LinkOpenPath
+        | Stop::LinkOpenAt(_)
+        | Stop::LinkRead(_)
+        | Stop::LinkWrite => give_link(line, all, given, octets, wants),
+        Stop::Connect(_, _) | Stop::Connected(_) | Stop::Listen(_, _) | Stop::Accept(_, _) =>
+            give_opening(line, given),
+        Stop::TcpRead(_, _) | Stop::TcpWrite(_) | Stop::TcpEnd(_) | Stop::Close(_) => give_stream(
+            line, all, given, octets,
+        ),
+        Stop::UdpOpen(_, _) | Stop::UdpSend(_, _) | Stop::UdpRecv(_, _) => give_datagram(
+            line, given, octets,
+        ),
+        Stop::FileLen | Stop::FileRead(_, _) => give_file(line, given, octets),
+    }
+}
+
+// The same for the link's calls, and a wait.
+fn give_link(line: &mut Line, all: bool, given: Stop, octets: &[u8], wants: &[Want])
+    requires name { name_of (call_of (entry_of line.old)) ≡ name_of (call_at given octets.now wants.now) }
+    requires room { HasRoom line.old }
+    requires few { MayBring given (length octets.now) (length wants.now) }
+    ensures entry { kind_of given ≡ OnLink → entry_of line.new ≡ with_answer all (call_at given octets.now wants.now) (entry_of line.old) }
+    ensures room { HasRoom line.new }
+{
+    match given {
         Stop::Wait(timeout) => {
             if let Line::Wait(kept, time, _, _) = line {
                 keep_wants(kept, wants);
@@ -93,6 +119,18 @@ fn give(line: &mut Line, all: bool, given: Stop, octets: &[u8], wants: &[Want])
                 *answer = wrote(all, octets, *answer);
             }
         }
+        _ => {}
+    }
+}
+
+// The same for calls that open a stream.
+fn give_opening(line: &mut Line, given: Stop)
+    requires name { (octets : List ℕ) (wants : List AWant) → name_of (call_of (entry_of line.old)) ≡ name_of (call_at given octets wants) }
+    requires room { HasRoom line.old }
+    ensures entry { kind_of given ≡ Opening → (all : Bool) (octets : List ℕ) (wants : List AWant) → entry_of line.new ≡ with_answer all (call_at given octets wants) (entry_of line.old) }
+    ensures room { HasRoom line.new }
+{
+    match given {
         Stop::Connect(c, to) => {
             if let Line::Connect(socket, at, _) = line {
                 *socket = c;
@@ -116,16 +154,16 @@ fn give(line: &mut Line, all: bool, given: Stop, octets: &[u8], wants: &[Want])
                 *socket = c;
             }
         }
-        _ => give_more(line, all, given, octets),
+        _ => {}
     }
 }
 
-// The same for the other calls.
-fn give_more(line: &mut Line, all: bool, given: Stop, octets: &[u8])
+// The same for calls on a stream.
+fn give_stream(line: &mut Line, all: bool, given: Stop, octets: &[u8])
     requires name { (wants : List AWant) → name_of (call_of (entry_of line.old)) ≡ name_of (call_at given octets.now wants) }
     requires room { HasRoom line.old }
     requires few { length octets.now ≤ most_octets given }
-    ensures entry { is_more given ≡ true → (wants : List AWant) → entry_of line.new ≡ with_answer all (call_at given octets.now wants) (entry_of line.old) }
+    ensures entry { kind_of given ≡ OnStream → (wants : List AWant) → entry_of line.new ≡ with_answer all (call_at given octets.now wants) (entry_of line.old) }
     ensures room { HasRoom line.new }
 {
     match given {
@@ -152,6 +190,19 @@ fn give_more(line: &mut Line, all: bool, given: Stop, octets: &[u8])
                 *socket = s;
             }
         }
+        _ => {}
+    }
+}
+
+// The same for a datagram's calls.
+fn give_datagram(line: &mut Line, given: Stop, octets: &[u8])
+    requires name { (wants : List AWant) → name_of (call_of (entry_of line.old)) ≡ name_of (call_at given octets.now wants) }
+    requires room { HasRoom line.old }
+    requires few { length octets.now ≤ most_octets given }
+    ensures entry { kind_of given ≡ OfDatagram → (all : Bool) (wants : List AWant) → entry_of line.new ≡ with_answer all (call_at given octets.now wants) (entry_of line.old) }
+    ensures room { HasRoom line.new }
+{
+    match given {
         Stop::UdpOpen(s, at) => {
             if let Line::UdpOpen(socket, here, _) = line {
                 *socket = s;
@@ -171,6 +222,19 @@ fn give_more(line: &mut Line, all: bool, given: Stop, octets: &[u8])
                 *n = asked;
             }
         }
+        _ => {}
+    }
+}
+
+// The same for a file's calls.
+fn give_file(line: &mut Line, given: Stop, octets: &[u8])
+    requires name { (wants : List AWant) → name_of (call_of (entry_of line.old)) ≡ name_of (call_at given octets.now wants) }
+    requires room { HasRoom line.old }
+    requires few { length octets.now ≤ most_octets given }
+    ensures entry { kind_of given ≡ OnFile → (all : Bool) (wants : List AWant) → entry_of line.new ≡ with_answer all (call_at given octets.now wants) (entry_of line.old) }
+    ensures room { HasRoom line.new }
+{
+    match given {
         Stop::FileLen => {
             if let Line::FileLen(kept, _) = line {
                 keep(kept, octets);
