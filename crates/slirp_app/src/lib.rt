@@ -6,6 +6,8 @@ mod file_world;
 mod gathering;
 #[cfg(test)]
 mod gathering_tests;
+#[cfg(test)]
+mod link_tests;
 mod running;
 #[cfg(test)]
 mod star_tests;

@@ -1,20 +1,12 @@
-use crate::tests::gives;
+use crate::tests::{ARP_REPLY, ARP_REQUEST, BEGINS, gives};
 use std::alloc::Global;
 use std::test::Fail;
-
-const BEGINS: &str = "now = 0\nwait - link:r = ready link:r\nnow = 5\n";
-
-const ARP_REQUEST: &str =
-    "lread 4 = done 0000002a\nlread 42 = done ffffffffffff525400123456080600010800060400015254001234560a00020f0000000000000a000202\n";
-
-const ARP_REPLY: &str =
-    "lwrite 0000002a52540012345652550a0002020806000108000604000252550a0002020a0002025254001234560a00020f = done 46\n";
 
 const STOPS: &str = "wait - link:r = stop\n";
 
 /// Whether a run of this schedule prints the ARP reply and then stops, with 0.
 fn answers_arp(alloc: Global, schedule: &str) -> Result<bool, Fail> {
-    let out = format!(in alloc; "{BEGINS}{ARP_REQUEST}{ARP_REPLY}{STOPS}end 0\n")?;
+    let out = format!(in alloc; "{BEGINS}{ARP_REQUEST}02\n{ARP_REPLY}{STOPS}end 0\n")?;
     gives(alloc, schedule, 0, out.as_str(), "")
 }
 
@@ -22,7 +14,7 @@ fn answers_arp(alloc: Global, schedule: &str) -> Result<bool, Fail> {
 fn a_transcript_has_what_stars_and_all_stood_for(rt: HostRuntime) -> Result<(), Fail> {
     for write in ["lwrite * = all\n", "lwrite * = done 46\n"] {
         let schedule = format!(in rt.alloc();
-            "now = 0\nwait * = ready link:r\nnow = 5\n{ARP_REQUEST}{write}wait * = stop\n"
+            "now = 0\nwait * = ready link:r\nnow = 5\n{ARP_REQUEST}02\n{write}wait * = stop\n"
         )?;
         assert!(rt; answers_arp(rt.alloc(), schedule.as_str())?);
     }
@@ -51,8 +43,8 @@ fn a_star_waits_for_its_own_call(rt: HostRuntime) -> Result<(), Fail> {
 
 #[test]
 fn a_star_takes_no_answer_that_no_call_has(rt: HostRuntime) -> Result<(), Fail> {
-    let schedule = format!(in rt.alloc(); "{BEGINS}{ARP_REQUEST}lwrite * = done 47\n")?;
-    let out = format!(in rt.alloc(); "{BEGINS}{ARP_REQUEST}end 5\n")?;
+    let schedule = format!(in rt.alloc(); "{BEGINS}{ARP_REQUEST}02\nlwrite * = done 47\n")?;
+    let out = format!(in rt.alloc(); "{BEGINS}{ARP_REQUEST}02\nend 5\n")?;
     assert!(rt;
         gives(
             rt.alloc(),

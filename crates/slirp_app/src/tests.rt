@@ -75,12 +75,12 @@ pub fn gives(alloc: Global, content: &str, status: u8, out: &str, err: &str) -> 
 
 const IDLE: &str = "now = 0\nwait - link:r = stop\n";
 
-const BEGINS: &str = "now = 0\nwait - link:r = ready link:r\nnow = 5\n";
+pub const BEGINS: &str = "now = 0\nwait - link:r = ready link:r\nnow = 5\n";
 
-const ARP_REQUEST: &str =
+pub const ARP_REQUEST: &str =
     "lread 4 = done 0000002a\nlread 42 = done ffffffffffff525400123456080600010800060400015254001234560a00020f0000000000000a0002";
 
-const ARP_REPLY: &str =
+pub const ARP_REPLY: &str =
     "lwrite 0000002a52540012345652550a0002020806000108000604000252550a0002020a0002025254001234560a00020f = done 46\n";
 
 #[test]
@@ -224,7 +224,7 @@ fn a_schedule_that_ends_early(rt: HostRuntime) -> Result<(), Fail> {
 }
 
 /// Whether the run that begins so has this status and this text; what it puts is what it made and its status.
-fn ends(alloc: Global, made: &str, status: u8, err: &str) -> Result<bool, Fail> {
+pub fn ends(alloc: Global, made: &str, status: u8, err: &str) -> Result<bool, Fail> {
     let schedule = format!(in alloc; "{BEGINS}{made}")?;
     let out = format!(in alloc; "{BEGINS}{made}end {status}\n")?;
     gives(alloc, schedule.as_str(), status, out.as_str(), err)

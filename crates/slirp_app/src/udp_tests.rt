@@ -1,4 +1,4 @@
-use crate::tests::gives;
+use crate::tests::{BEGINS, gives};
 use host_policy::SlirpConfig;
 use replay::ScriptWorld;
 use slirp_core::{End, Service};
@@ -10,8 +10,6 @@ fn is_followed(alloc: Global, schedule: &str) -> Result<bool, Fail> {
     let out = format!(in alloc; "{schedule}end 0\n")?;
     gives(alloc, schedule, 0, out.as_str(), "")
 }
-
-const BEGINS: &str = "now = 0\nwait - link:r = ready link:r\nnow = 5\n";
 
 /// Two octets from port 4000 of a guest to 192.0.2.7:9, the same from port 4001, and to 127.0.0.1:9.
 const FROM_4000: &str =
