@@ -10,7 +10,7 @@ use Rattle.std.proofs.lemmas.Option.{same_Some, slice_get_read, slice_get_within
 use Rattle.flow_table.specs.declared.Slot.{Slot}
 use Rattle.flow_table.specs.declared.Slot.TheVariants.{Free, Resting}
 use Rattle.flow_table.specs.declared.Tuple.{Tuple}
-use Rattle.flow_table.specs.Slots.{AreKept, Flows, HasTuple, Stands, flows, tuple_of, moved_last}
+use Rattle.flow_table.specs.Slots.{AreKept, Flows, HasTuple, Once, Stands, flows, tuple_of, moved_last}
 
 -- all slots are free
 pub free_has_none : (n k : ℕ) (t : Tuple) → HasTuple (replicate n Free) k t → ⊥
@@ -59,6 +59,26 @@ in_removed (z ∷ xs) zero (suc i) x h = inr (i, h)
 in_removed (z ∷ xs) (suc n) zero x h = inr (zero, h)
 in_removed (z ∷ xs) (suc n) (suc i) x h = elim (in_removed xs n i x h) [ inl e ↦ inl (ap suc e) | inr s ↦ inr (further z (remove xs n) x s) ]
 
+-- a number that stood once stands once after another was taken out, and nowhere after it was itself
+once_removed : (xs : List ℕ) (n : ℕ) → Once xs → Once (remove xs n)
+once_removed [] zero once = once
+once_removed [] (suc n) once = once
+once_removed (z ∷ xs) zero once = once.1
+once_removed (z ∷ xs) (suc n) once = (λ s. once.0 (of_removed xs n s.0 z s.1), once_removed xs n once.1)
+
+gone : (xs : List ℕ) (n k : ℕ) → Once xs → slice_get xs n ≡ Some k → Stands (remove xs n) k → ⊥
+gone [] n k once is s = cc
+gone (z ∷ xs) zero k once is s = once.0 (subst (Stands xs) (sym (same_Some z k is)) s)
+gone (z ∷ xs) (suc n) k once is (zero, here) = once.0 (subst (Stands xs) (sym (same_Some z k here)) (n, is))
+gone (z ∷ xs) (suc n) k once is (suc i, there) = gone xs n k once.1 is (i, there)
+
+once_at_end : (xs : List ℕ) (k : ℕ) → Once xs → (Stands xs k → ⊥) → Once (xs ++ k ∷ [])
+once_at_end [] k once none = (λ s. cc (s.1), tt)
+once_at_end (z ∷ xs) k once none = (
+  λ s. elim (of_end xs k s.0 z s.1) [ inl t ↦ once.0 t | inr e ↦ none (zero, ap Some e) ],
+  once_at_end xs k once.1 (λ t. none (further z xs k t)),
+)
+
 one_more : (n : ℕ) → suc n ≡ 1 + n
 one_more n = omega arith
 
@@ -82,6 +102,7 @@ moved_kept slots turns k fits kept =
             | inl e ↦ subst (λ n. Stands (moved_last k turns) n) (same_Some k x (sym stands ∙ ap (slice_get turns) (sym e) ∙ s.1)) (at_end (remove turns at) k)
             | inr t ↦ before_end (remove turns at) k t.0 x t.1
           ];
+      once = once_at_end (remove turns at) k (once_removed turns at kept.once) (gone turns at k kept.once stands);
     }
 
 -- a slot gets a content whose tuple no other slot has
@@ -96,7 +117,18 @@ set_kept slots turns k s alone kept =
           ];
       within = λ i x h. subst (λ n. x < n) (sym long) (kept.within i x h);
       all = λ x small. kept.all x (subst (λ n. x < n) long small);
+      once = kept.once;
     }
+
+-- numbers in turn
+in_range : (from n i x : ℕ) → slice_get (range_with_len from n) i ≡ Some x → x ≡ from + i
+in_range from n i x h = let w = slice_get_within (range_with_len from n) i x h in
+    let long = length-range_with_len from n in
+    sym (get_or_from_slice_get (range_with_len from n) i x 0 h) ∙ get_or-range_with_len from n i 0 (omega arith)
+
+once_in_range : (from n : ℕ) → Once (range_with_len from n)
+once_in_range from zero = tt
+once_in_range from (suc n) = (λ s. let is = in_range (from + 1) n s.0 from s.1 in omega (arith, is), once_in_range (from + 1) n)
 
 -- a table before its first flow
 pub start_kept : (n : ℕ) → AreKept (replicate n Free) (range_with_len 0 n)
@@ -112,6 +144,7 @@ start_kept n = record {
       let fits : x < n = omega arith in
       let long = length-range_with_len 0 n in
       (x, slice_get-get_or (range_with_len 0 n) x 0 (omega arith) ∙ ap Some (get_or-range_with_len 0 n x 0 fits ∙ zero-add x));
+  once = once_in_range 0 n;
 }
 
 -- a slot with a tuple is one of them

@@ -73,8 +73,14 @@ moved_last k turns = remove turns (position_or_len (λ other. other == k) turns)
 abbrev pub with_slot : Flows → ℕ → Slot → Flows
 with_slot f k s = flows (slice_set f.slots k s) f.turns
 
--- what always holds: no two slots have the same tuple, and the order has each slot's number and no other
+-- no number stands twice
+abbrev pub Once : List ℕ → Type 0
+Once [] = Unit {0}
+Once (k ∷ turns) = (Stands turns k → ⊥) × Once turns
+
+-- what always holds: no two slots have the same tuple, and the order has each slot's number once and no other
 pub record AreKept (slots : List Slot) (turns : List ℕ) : Type 0 where
   pub apart : (k other : ℕ) (t : Tuple) → HasTuple slots k t → HasTuple slots other t → k ≡ other
   pub within : (i k : ℕ) → slice_get turns i ≡ Some k → k < length slots
   pub all : (k : ℕ) → k < length slots → Stands turns k
+  pub once : Once turns

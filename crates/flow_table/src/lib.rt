@@ -68,6 +68,8 @@ impl FlowTable {
         ensures alone { IfSome result (λ slot. (other : ℕ) → HasTuple self.now.slots other t.now
             → other ≡ slot) }
         ensures none { IfNone result (NoneHas self.now.slots t.now) }
+        // No two slots have one tuple, and each slot's number stands once in the order of rests.
+        ensures kept { AreKept self.now.slots self.now.turns }
     {
         slot_with(&self.slots, t)
     }

@@ -203,6 +203,8 @@ impl Area {
     pub fn datagram(&self) -> IpView<'_>
         ensures datagram { ip_of result ≡ joined_in self.now }
         ensures life { result.ttl ≡ self.now.life }
+        ensures body { length result.body.now ≤ 65515 }
+        ensures head { length result.head.now ≤ 60 }
     {
         IpView {
             ident: self.key.ident,

@@ -1,4 +1,4 @@
-ghost use Rattle.std.specs.Prelude.{◌≡◌, ℕ, ◌<◌, ◌≤◌, ◌++◌, ◌∷◌, [], false, List, length, Some, None, IfSome, if◌then◌else◌};
+ghost use Rattle.std.specs.Prelude.{◌≡◌, ℕ, ◌+◌, ◌<◌, ◌≤◌, ◌++◌, ◌∷◌, [], false, List, length, Some, None, IfSome, if◌then◌else◌};
 ghost use Rattle.std.specs.Option.{option_map};
 ghost use Rattle.ipv4_head.specs.Sets.{Joined, Joins, Part, Waits, key_of, outcome_among, part_of};
 ghost use Rattle.ipv4_reasm.specs.Cuts.{AreCuts, cut_of, cut_start, is_cut};
@@ -20,6 +20,9 @@ pub fn cut<'a>(datagram: &IpView<'a>, mtu: usize, k: usize) -> Option<IpView<'a>
     requires size { length datagram.now.body.now ≤ 65515 }
     ensures part { option_map part_of result ≡ cut_of mtu (part_of datagram.now) k }
     ensures key { IfSome result (λ v. key_of v ≡ key_of datagram.now) }
+    // With its header of 20 octets it fits a frame, and its place the field.
+    ensures fits { IfSome result (λ v. 20 + length v.body.now ≤ mtu) }
+    ensures place { IfSome result (λ v. v.offset < 8192) }
 {
     let room = mtu - HEAD;
     let start = start_of(datagram.body.len(), mtu, k)?;

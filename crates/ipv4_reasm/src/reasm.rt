@@ -98,8 +98,10 @@ impl Reasm {
     /// made anew.
     pub fn datagram(&self, area: usize) -> IpView<'_>
         requires { area < length self.now }
-        ensures { (sets : List PartSet) (s : PartSet) → StandFor self.now sets
+        ensures joined { (sets : List PartSet) (s : PartSet) → StandFor self.now sets
             → slice_get sets area ≡ Some s → is_whole s.parts ≡ true → IsJoined s (ip_of result) result.ttl }
+        ensures body { length result.body.now ≤ 65515 }
+        ensures head { length result.head.now ≤ 60 }
     {
         let area = &self.areas[area];
         area.datagram()

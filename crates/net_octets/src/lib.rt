@@ -1,7 +1,7 @@
 //! Addresses of the Internet protocol and of Ethernet, faults of packets, and want of memory or room.
 #![tactic(auto)]
 
-ghost use Rattle.std.specs.Prelude.{ℕ, true, ◌<◌, ◌^◌, ◌↔◌, ◌∷◌, ◌++◌, drop, IsOk, IfOk, OnErr, ◌≡◌, ◌+◌, ◌*◌, ◌≤◌, ◌==◌, length};
+ghost use Rattle.std.specs.Prelude.{ℕ, true, ◌<◌, ◌%◌, ◌/◌, ◌^◌, ◌↔◌, ◌∷◌, ◌++◌, drop, IsOk, IfOk, OnErr, ◌≡◌, ◌+◌, ◌*◌, ◌≤◌, ◌==◌, length};
 ghost use Rattle.net_octets.specs.Octets.{part, two, four, word_sum, with_carries, checksum, sum_ok, before_sum, first_bits};
 ghost use Rattle.net_octets.specs.Quads.{quad_sum};
 
@@ -135,6 +135,13 @@ pub fn write_packet(head: &[u8], body: &[u8], into: &mut [u8]) -> Result<usize, 
 /// A checksum that is written where a 0 stood holds when it is read.
 pub fn written_checksum_holds()
     ensures { (sum : ℕ) → sum_ok (sum + checksum sum) ≡ true }
+{}
+
+/// The one's complement sum is the plain sum with each carry past 16 bits added to it again, until
+/// none is left (RFC 1071, 1 and 2, Parallel Summation).
+pub fn carries_are_added_again()
+    ensures again { (sum : ℕ) → with_carries sum ≡ with_carries (sum % 65536 + sum / 65536) }
+    ensures none { (sum : ℕ) → sum < 65536 → with_carries sum ≡ sum }
 {}
 
 /// What stands before a datagram for its checksum is 12 octets: the addresses, a 0, the protocol

@@ -399,11 +399,15 @@ impl ScriptWorld {
 impl World for ScriptWorld {
     ghost use Rattle.replay.specs.Script.{script_tells};
     ghost use Rattle.std.specs.Prelude.{false};
-    ghost use Rattle.world_face.specs.Journal.{Now};
+    ghost use Rattle.world_face.specs.Limits.{most_ready, most_to_link, most_to_flow, most_to_udp, most_wants, most_name};
+    ghost use Rattle.poll_list.specs.Listing.{AreWants};
+    ghost use Rattle.world_face.specs.Journal.{filled, filled_got, place_of, Now, Wait, LinkOpen, LinkRead, LinkWrite, Connect, Connected, Listen, Accept, TcpRead, TcpWrite, TcpEnd, UdpOpen, UdpSend, UdpRecv, FileLen, FileRead};
     ghost use Rattle.world_face.specs.Tells.{Answers};
     ghost use Rattle.replay.specs.Fitting.{last_moment};
 
     ghost tells = { script_tells };
+
+    // Once it has ceased each call that can fail fails, for ever.
 
     /// Where no line answers it is the last moment that one told, or 0.
     fn now(&mut self) -> u64
@@ -422,7 +426,14 @@ impl World for ScriptWorld {
         }
     }
 
-    fn wait(&mut self, wants: &Wants, timeout: Option<u64>, ready: &mut ReadyList) -> Waited {
+    fn wait(&mut self, wants: &Wants, timeout: Option<u64>, ready: &mut ReadyList) -> Waited
+        requires some { AreWants wants.now.items }
+        requires few { length wants.now.items ≤ most_wants }
+        requires room { most_ready ≤ ready.old.capacity }
+        ensures answers { Answers (script_tells self.old) (script_tells self.new) (Wait wants.now.items timeout result ready.new.items) }
+        ensures capacity { ready.new.capacity ≡ ready.old.capacity }
+        ensures ceased { self.new.live ≡ false → result ≡ Waited.Failed }
+    {
         let items = wants.items();
         match self.next_wait(items, timeout) {
             Some((answer, found)) => {
@@ -438,7 +449,11 @@ impl World for ScriptWorld {
         }
     }
 
-    fn link_open(&mut self, at: &LinkAt) -> Made {
+    fn link_open(&mut self, at: &LinkAt) -> Made
+        requires { IsPlace (place_of at.now) }
+        ensures answers { Answers (script_tells self.old) (script_tells self.new) (LinkOpen (place_of at.now) result) }
+        ensures ceased { self.new.live ≡ false → result ≡ Made.Failed }
+    {
         match self.next_link_open(at) {
             Some(answer) => {
                 self.advance_open(at);
@@ -451,7 +466,11 @@ impl World for ScriptWorld {
         }
     }
 
-    fn link_read(&mut self, into: &mut [u8]) -> Io {
+    fn link_read(&mut self, into: &mut [u8]) -> Io
+        requires { 0 < length into.old }
+        ensures answers { Answers (script_tells self.old) (script_tells self.new) (LinkRead (length into.old) result (filled result into.new)) }
+        ensures ceased { self.new.live ≡ false → result ≡ Io.Failed }
+    {
         let asked = into.len();
         match self.next_link_read(asked) {
             Some((answer, octets)) => {
@@ -466,7 +485,12 @@ impl World for ScriptWorld {
         }
     }
 
-    fn link_write(&mut self, from: &[u8]) -> Io {
+    fn link_write(&mut self, from: &[u8]) -> Io
+        requires some { 0 < length from.now }
+        requires fits { length from.now ≤ most_to_link }
+        ensures answers { Answers (script_tells self.old) (script_tells self.new) (LinkWrite from.now result) }
+        ensures ceased { self.new.live ≡ false → result ≡ Io.Failed }
+    {
         match self.next_link_write(from) {
             Some(answer) => {
                 self.advance(Stop::LinkWrite, from, &[]);
@@ -479,7 +503,10 @@ impl World for ScriptWorld {
         }
     }
 
-    fn connect(&mut self, c: u64, to: Endpoint) -> Made {
+    fn connect(&mut self, c: u64, to: Endpoint) -> Made
+        ensures answers { Answers (script_tells self.old) (script_tells self.new) (Connect c to result) }
+        ensures ceased { self.new.live ≡ false → result ≡ Made.Failed }
+    {
         match self.next_connect(c, to) {
             Some(answer) => {
                 self.advance(Stop::Connect(c, to), &[], &[]);
@@ -492,7 +519,10 @@ impl World for ScriptWorld {
         }
     }
 
-    fn connected(&mut self, c: u64) -> Joined {
+    fn connected(&mut self, c: u64) -> Joined
+        ensures answers { Answers (script_tells self.old) (script_tells self.new) (Connected c result) }
+        ensures ceased { self.new.live ≡ false → result ≡ Joined.Failed }
+    {
         match self.next_connected(c) {
             Some(answer) => {
                 self.advance(Stop::Connected(c), &[], &[]);
@@ -505,7 +535,10 @@ impl World for ScriptWorld {
         }
     }
 
-    fn listen(&mut self, l: u64, at: Endpoint) -> Made {
+    fn listen(&mut self, l: u64, at: Endpoint) -> Made
+        ensures answers { Answers (script_tells self.old) (script_tells self.new) (Listen l at result) }
+        ensures ceased { self.new.live ≡ false → result ≡ Made.Failed }
+    {
         match self.next_listen(l, at) {
             Some(answer) => {
                 self.advance(Stop::Listen(l, at), &[], &[]);
@@ -518,7 +551,10 @@ impl World for ScriptWorld {
         }
     }
 
-    fn accept(&mut self, l: u64, c: u64) -> Accepted {
+    fn accept(&mut self, l: u64, c: u64) -> Accepted
+        ensures answers { Answers (script_tells self.old) (script_tells self.new) (Accept l c result) }
+        ensures ceased { self.new.live ≡ false → result ≡ Accepted.Failed }
+    {
         match self.next_accept(l, c) {
             Some(answer) => {
                 self.advance(Stop::Accept(l, c), &[], &[]);
@@ -531,7 +567,11 @@ impl World for ScriptWorld {
         }
     }
 
-    fn tcp_read(&mut self, c: u64, into: &mut [u8]) -> Io {
+    fn tcp_read(&mut self, c: u64, into: &mut [u8]) -> Io
+        requires { 0 < length into.old }
+        ensures answers { Answers (script_tells self.old) (script_tells self.new) (TcpRead c (length into.old) result (filled result into.new)) }
+        ensures ceased { self.new.live ≡ false → result ≡ Io.Failed }
+    {
         let asked = into.len();
         match self.next_tcp_read(c, asked) {
             Some((answer, octets)) => {
@@ -546,7 +586,12 @@ impl World for ScriptWorld {
         }
     }
 
-    fn tcp_write(&mut self, c: u64, from: &[u8]) -> Io {
+    fn tcp_write(&mut self, c: u64, from: &[u8]) -> Io
+        requires some { 0 < length from.now }
+        requires fits { length from.now ≤ most_to_flow }
+        ensures answers { Answers (script_tells self.old) (script_tells self.new) (TcpWrite c from.now result) }
+        ensures ceased { self.new.live ≡ false → result ≡ Io.Failed }
+    {
         match self.next_tcp_write(c, from) {
             Some(answer) => {
                 self.advance(Stop::TcpWrite(c), from, &[]);
@@ -559,7 +604,10 @@ impl World for ScriptWorld {
         }
     }
 
-    fn tcp_end(&mut self, c: u64) -> Made {
+    fn tcp_end(&mut self, c: u64) -> Made
+        ensures answers { Answers (script_tells self.old) (script_tells self.new) (TcpEnd c result) }
+        ensures ceased { self.new.live ≡ false → result ≡ Made.Failed }
+    {
         match self.next_tcp_end(c) {
             Some(answer) => {
                 self.advance(Stop::TcpEnd(c), &[], &[]);
@@ -579,7 +627,10 @@ impl World for ScriptWorld {
         }
     }
 
-    fn udp_open(&mut self, s: u64, at: Endpoint) -> Made {
+    fn udp_open(&mut self, s: u64, at: Endpoint) -> Made
+        ensures answers { Answers (script_tells self.old) (script_tells self.new) (UdpOpen s at result) }
+        ensures ceased { self.new.live ≡ false → result ≡ Made.Failed }
+    {
         match self.next_udp_open(s, at) {
             Some(answer) => {
                 self.advance(Stop::UdpOpen(s, at), &[], &[]);
@@ -592,7 +643,11 @@ impl World for ScriptWorld {
         }
     }
 
-    fn udp_send(&mut self, s: u64, to: Endpoint, from: &[u8]) -> Sent {
+    fn udp_send(&mut self, s: u64, to: Endpoint, from: &[u8]) -> Sent
+        requires { length from.now ≤ most_to_udp }
+        ensures answers { Answers (script_tells self.old) (script_tells self.new) (UdpSend s to from.now result) }
+        ensures ceased { self.new.live ≡ false → result ≡ Sent.Failed }
+    {
         match self.next_udp_send(s, to, from) {
             Some(answer) => {
                 self.advance(Stop::UdpSend(s, to), from, &[]);
@@ -605,7 +660,11 @@ impl World for ScriptWorld {
         }
     }
 
-    fn udp_recv(&mut self, s: u64, into: &mut [u8]) -> Got {
+    fn udp_recv(&mut self, s: u64, into: &mut [u8]) -> Got
+        requires { 0 < length into.old }
+        ensures answers { Answers (script_tells self.old) (script_tells self.new) (UdpRecv s (length into.old) result (filled_got result into.new)) }
+        ensures ceased { self.new.live ≡ false → result ≡ Got.Failed }
+    {
         let asked = into.len();
         match self.next_udp_recv(s, asked) {
             Some((answer, octets)) => {
@@ -620,7 +679,12 @@ impl World for ScriptWorld {
         }
     }
 
-    fn file_len(&mut self, name: &str) -> FileSize {
+    fn file_len(&mut self, name: &str) -> FileSize
+        requires some { 0 < length name.now }
+        requires fits { length name.now ≤ most_name }
+        ensures answers { Answers (script_tells self.old) (script_tells self.new) (FileLen name.now result) }
+        ensures ceased { self.new.live ≡ false → result ≡ FileSize.Failed }
+    {
         let file = name.as_bytes();
         match self.next_file_len(file) {
             Some(answer) => {
@@ -634,7 +698,13 @@ impl World for ScriptWorld {
         }
     }
 
-    fn file_read(&mut self, name: &str, at: u64, into: &mut [u8]) -> Io {
+    fn file_read(&mut self, name: &str, at: u64, into: &mut [u8]) -> Io
+        requires some { 0 < length name.now }
+        requires fits { length name.now ≤ most_name }
+        requires room { 0 < length into.old }
+        ensures answers { Answers (script_tells self.old) (script_tells self.new) (FileRead name.now at (length into.old) result (filled result into.new)) }
+        ensures ceased { self.new.live ≡ false → result ≡ Io.Failed }
+    {
         let file = name.as_bytes();
         let asked = into.len();
         match self.next_file_read(file, at, asked) {

@@ -6,13 +6,13 @@ use Rattle.world_face.specs.Journal.{Entry, Follows, LinkRead, count_of}
 use Rattle.world_face.specs.Tells.{Telling, Answers, Makes}
 use Rattle.world_face.proofs.Telling.{makes_next, makes_as}
 use Rattle.world_face.specs.declared.Io.{Io}
-use Rattle.world_face.specs.declared.Io.TheVariants.{Done, End}
+use Rattle.world_face.specs.declared.Io.TheVariants.{Done, End, Failed as IoFailed}
 use Rattle.world_face.specs.Frames.{LongFrame, missing, spelt_length, is_whole, is_too_long, partial, arrived, read_ending, tail, is_blocked, MayFrame}
 use Rattle.stream_netdev.specs.Frames.{cut, ended, IsDone, Pieces, Reads}
-use Rattle.stream_netdev.specs.Keeps.{ReadsOn, Keeps, ReadsFrame, hands, ending_of, ended_after}
+use Rattle.stream_netdev.specs.Keeps.{ReadsOn, Keeps, ReadsFrame, EndsBy, Tells, hands, ending_of, ended_after}
 use Rattle.stream_netdev.specs.State.{LinkState, under_way}
 use Rattle.stream_netdev.specs.declared.Arrived.{Arrived}
-use Rattle.stream_netdev.specs.declared.Arrived.TheVariants.{Frame, TooLong}
+use Rattle.stream_netdev.specs.declared.Arrived.TheVariants.{Frame, End as ArrivedEnd, Cut, TooLong, Failed}
 
 -- reads that gave these octets so far
 pub record Middle (link : LinkState) (made past : List Entry) (octets : List ℕ) : Type 0 where
@@ -33,6 +33,17 @@ pub record Read (link : LinkState) (answer : Io) (made past : List Entry) (octet
   pub last : ended (made ++ past) ≡ read_ending answer octets
   pub pieces : IsDone answer → is_whole octets ≡ false → read_ending answer octets ≡ None → Pieces made past
 
+-- the newest of these entries is a read with this answer
+abbrev pub IsLast : Io → List Entry → Type 0
+IsLast answer [] = ⊥
+IsLast answer (LinkRead asked last octets ∷ made) = last ≡ answer
+IsLast answer (_ ∷ made) = ⊥
+
+pub ends_by : (result : Arrived) (answer : Io) (made : List Entry) → Tells result answer → IsLast answer made → EndsBy result made
+ends_by result answer [] tells last = last
+ends_by result answer (LinkRead asked was octets ∷ made) tells last = subst (Tells result) (sym last) tells
+ends_by result answer (_ ∷ made) tells last = absurd last
+
 one_more : (link : LinkState) (made past : List Entry) (octets got new : List ℕ) (answer : Io) → Middle link made past octets → new ≡ octets ++ got
     → Read link answer (LinkRead (missing octets) answer got ∷ made) past new
 one_more link made past octets got new answer middle joined =
@@ -52,9 +63,9 @@ one_more link made past octets got new answer middle joined =
 module _ (a b c : Telling) (link : LinkState) (octets new : List ℕ) (answer : Io)
     (so_far : Makes a b (λ made. (past : List Entry) → Keeps link past → Middle link made past octets))
     (read : (got : List ℕ) × Answers b c (LinkRead (missing octets) answer got) × (new ≡ octets ++ got)) where
-  pub a_read : Makes a c (λ made. (past : List Entry) → Keeps link past → Read link answer made past new)
-  a_read = makes_next a b c (LinkRead (missing octets) answer read.0) (λ made. (past : List Entry) → Keeps link past → Middle link made past octets) (λ made. (past : List Entry) → Keeps link past → Read link answer made past new)
-      so_far read.1 (λ made holds allowed past keeps. one_more link made past octets read.0 new answer (holds past keeps) read.2)
+  pub a_read : Makes a c (λ made. IsLast answer made × ((past : List Entry) → Keeps link past → Read link answer made past new))
+  a_read = makes_next a b c (LinkRead (missing octets) answer read.0) (λ made. (past : List Entry) → Keeps link past → Middle link made past octets) (λ made. IsLast answer made × ((past : List Entry) → Keeps link past → Read link answer made past new))
+      so_far read.1 (λ made holds allowed. (refl, λ past keeps. one_more link made past octets read.0 new answer (holds past keeps) read.2))
 
   -- where nothing was read
   pub the_same : count_of answer ≡ 0 → new ≡ octets
@@ -86,13 +97,13 @@ unfinished_of octets some = grind (arith, nat_tests)
 
 -- an answer that hands over no frame
 pub no_frame : (a c : Telling) (old link : LinkState) (answer : Io) (result : Arrived) → link.whole ≡ false → (link.tail ≡ old.tail) × (link.blocked ≡ old.blocked) → is_whole link.octets ≡ false
-    → hands result link ≡ None → ending_of result ≡ read_ending answer link.octets → Makes a c (λ made. (past : List Entry) → Keeps old past → Read old answer made past link.octets)
-    → Makes a c (λ made. (past : List Entry) → Keeps old past → Keeps link (made ++ past) × ReadsFrame result link made past)
-no_frame a c old link answer result begun same unfinished none last read =
-    makes_as a c (λ made. (past : List Entry) → Keeps old past → Read old answer made past link.octets) (λ made. (past : List Entry) → Keeps old past → Keeps link (made ++ past) × ReadsFrame result link made past) read (λ made holds past keeps.
-    let r = holds past keeps in
+    → hands result link ≡ None → ending_of result ≡ read_ending answer link.octets → Tells result answer → Makes a c (λ made. IsLast answer made × ((past : List Entry) → Keeps old past → Read old answer made past link.octets))
+    → Makes a c (λ made. EndsBy result made × ((past : List Entry) → Keeps old past → Keeps link (made ++ past) × ReadsFrame result link made past))
+no_frame a c old link answer result begun same unfinished none last tells read =
+    makes_as a c (λ made. IsLast answer made × ((past : List Entry) → Keeps old past → Read old answer made past link.octets)) (λ made. EndsBy result made × ((past : List Entry) → Keeps old past → Keeps link (made ++ past) × ReadsFrame result link made past)) read (λ made holds. (ends_by result answer made tells holds.0, λ past keeps.
+    let r = holds.1 past keeps in
     let k = read_open old link answer made past begun same unfinished r in
-    (k.0, record { reads = r.reads; frame = k.1 ∙ sym none; last = r.last ∙ sym last }))
+    (k.0, record { reads = r.reads; frame = k.1 ∙ sym none; last = r.last ∙ sym last })))
 
 -- a read that moved something ends the run only by a length that is too great
 pub goes_on : (n : ℕ) (octets : List ℕ) → is_too_long octets ≡ false → read_ending (Done n) octets ≡ None
@@ -134,3 +145,11 @@ ends_hand (x ∷ octets) link = refl
 pub ends_tell : (octets : List ℕ) → ending_of (ended_after octets) ≡ read_ending End octets
 ends_tell [] = refl
 ends_tell (x ∷ octets) = refl
+
+pub end_tells : (octets : List ℕ) → Tells (ended_after octets) End
+end_tells [] = refl
+end_tells (x ∷ octets) = refl
+
+pub ended_is_no_failure : (octets : List ℕ) → ended_after octets ≡ Failed → ⊥
+ended_is_no_failure [] is = cc
+ended_is_no_failure (x ∷ octets) is = cc

@@ -1,10 +1,11 @@
 -- What a link keeps of the calls made on the World.
 use Rattle.std.specs.Prelude.{◌≡◌, ℕ, ◌+◌, ◌<◌, ◌≤◌, List, [], ◌∷◌, ◌++◌, length, Option, Some, None, Bool, true, false}
-use Rattle.world_face.specs.Journal.{Entry, Follows, LinkWrite}
+use Rattle.world_face.specs.Journal.{Entry, Follows, LinkRead, LinkWrite}
 use Rattle.world_face.specs.declared.Io.{Io}
+use Rattle.world_face.specs.declared.Io.TheVariants.{End as IoEnd, NotYet as IoNotYet, Failed as IoFailed}
 use Rattle.world_face.specs.Limits.{most_from_link}
 use Rattle.world_face.specs.Frames.{Ending, LinkEnded, LinkCut, LongFrame, LinkFailed, missing, spelt_length, partial, is_whole, is_too_long, tail, is_blocked, arrived, MayFrame}
-use Rattle.stream_netdev.specs.Frames.{ended, Reads}
+use Rattle.stream_netdev.specs.Frames.{ended, IsDone, Reads}
 use Rattle.stream_netdev.specs.State.{LinkState, under_way, frame_of}
 use Rattle.stream_netdev.specs.declared.Look.{Look}
 use Rattle.stream_netdev.specs.declared.Look.TheVariants.{More, Whole, TooLong as LookTooLong}
@@ -47,6 +48,21 @@ ending_of Failed = Some LinkFailed
 abbrev pub ended_after : List ℕ → Arrived
 ended_after [] = End
 ended_after (x ∷ octets) = Cut (length (x ∷ octets))
+
+-- the World's last answer in one call, by what the call answers
+abbrev pub Tells : Arrived → Io → Type 0
+Tells Frame answer = IsDone answer
+Tells NotYet answer = answer ≡ IoNotYet
+Tells End answer = answer ≡ IoEnd
+Tells (Cut n) answer = answer ≡ IoEnd
+Tells (TooLong n) answer = IsDone answer
+Tells Failed answer = answer ≡ IoFailed
+
+-- the newest of these entries is a read with such an answer
+abbrev pub EndsBy : Arrived → List Entry → Type 0
+EndsBy arrived [] = ⊥
+EndsBy arrived (LinkRead asked answer octets ∷ made) = Tells arrived answer
+EndsBy arrived (_ ∷ made) = ⊥
 
 -- what the reads of one call were
 pub record ReadsFrame (answer : Arrived) (link : LinkState) (made past : List Entry) : Type 0 where

@@ -3,7 +3,7 @@
 
 ghost use Rattle.std.specs.Prelude.{◌≡◌, ℕ, ◌+◌, ◌-◌, ◌^◌, ◌<◌, ◌≤◌, List, [], ◌++◌, length, take, drop, nat_lt, true, false, IfOk, if◌then◌else◌};
 ghost use Rattle.world_face.specs.Journal.{LinkRead, count_of};
-ghost use Rattle.world_face.specs.Tells.{Answers};
+ghost use Rattle.world_face.specs.Tells.{Answers, Rose};
 ghost use Rattle.world_face.specs.Frames.{spelling};
 ghost use Rattle.stream_netdev.specs.Offers.{offered};
 
@@ -72,7 +72,7 @@ impl Link {
     ghost use Rattle.world_face.specs.Frames.{missing};
     ghost use Rattle.world_face.specs.Frames.{spelt_length};
     ghost use Rattle.stream_netdev.specs.State.{under_way, frame_of};
-    ghost use Rattle.stream_netdev.specs.Keeps.{ReadsOn, Keeps, ReadsFrame, GoesOn, Looks, Writes, Settles, ended_after};
+    ghost use Rattle.stream_netdev.specs.Keeps.{ReadsOn, Keeps, ReadsFrame, EndsBy, GoesOn, Looks, Writes, Settles, ended_after};
     ghost use Rattle.stream_netdev.specs.Offers.{left};
 
     /// A link of which nothing was read or written, with room for the greatest frames.
@@ -184,8 +184,9 @@ impl Link {
     /// Reads until a frame is whole, or the World answers otherwise.
     pub fn read_frame<W: World>(&mut self, world: &mut W) -> Arrived
         requires { ReadsOn (under_way self.old) }
-        ensures makes { Makes (W.tells world.old) (W.tells world.new) (λ made. (past : List Entry) → Keeps self.old past
-            → Keeps self.new (made ++ past) × ReadsFrame result self.new made past) }
+        ensures makes { Makes (W.tells world.old) (W.tells world.new) (λ made. EndsBy result made × ((past : List Entry) → Keeps self.old past
+            → Keeps self.new (made ++ past) × ReadsFrame result self.new made past)) }
+        ensures failed { result ≡ Arrived.Failed → Rose (W.tells world.old).faults.link (W.tells world.new).faults.link }
         ensures same { (self.new.tail ≡ self.old.tail) × (self.new.blocked ≡ self.old.blocked) }
         ensures on { GoesOn result self.new }
     {
@@ -279,6 +280,7 @@ impl Link {
         requires free { self.old.blocked ≡ false }
         ensures makes { Makes (W.tells world.old) (W.tells world.new) (λ made. Writes result self.old.tail made
             × ((past : List Entry) → Keeps self.old past → Keeps self.new (made ++ past))) }
+        ensures failed { result ≡ Offered.Failed → Rose (W.tells world.old).faults.link (W.tells world.new).faults.link }
         ensures settles { Settles result self.new }
         ensures same { under_way self.new ≡ under_way self.old }
     {
@@ -292,6 +294,7 @@ impl Link {
         requires fits { length frame.now ≤ 1514 }
         ensures makes { Makes (W.tells world.old) (W.tells world.new) (λ made. Writes result (spelling frame.now) made
             × ((past : List Entry) → Keeps self.old past → Keeps self.new (made ++ past))) }
+        ensures failed { result ≡ Offered.Failed → Rose (W.tells world.old).faults.link (W.tells world.new).faults.link }
         ensures settles { Settles result self.new }
         ensures same { under_way self.new ≡ under_way self.old }
     {

@@ -5,6 +5,7 @@ use Rattle.world_face.proofs.Telling.{makes_one}
 use Rattle.world_face.specs.Frames.{spelling, rest_after}
 use Rattle.stream_netdev.specs.Offers.{left, offered}
 use Rattle.stream_netdev.proofs.Writing.{after_frame, left_after, spelling_some, settles}
+use Rattle.stream_netdev.proofs.Failing.{write_rose}
 use Rattle.stream_netdev.proofs.Link.offer.Goals as goal
 
 pub returns-clause-makes : goal.returns-clause-makes
@@ -42,3 +43,6 @@ returns-clause-settles g c =
     let blocked : new.blocked ≡ nat_lt (count_of answer) (length (spelling frame)) =
     c.settle.ensures.same.1 ∙ sent.4 ∙ ap (λ l. nat_lt (count_of answer) (length l)) loaded in
     settles new answer (spelling frame) c.send-result.result (spelling_some frame) answers.allowed blocked rest sent.2
+
+pub returns-clause-failed : goal.returns-clause-failed
+returns-clause-failed g c is = write_rose _ _ _ _ _ (returns-clause-makes g c) is

@@ -9,8 +9,8 @@ use Rattle.ipv4_reasm.proofs.Standing.{stand_get}
 use Rattle.ipv4_reasm.proofs.Wholeness.{is_joined}
 use Rattle.ipv4_reasm.proofs.reasm.Reasm.datagram.Goals as goal
 
-pub returns : goal.returns
-returns c = λ sets s stand at whole.
+pub returns-clause-joined : goal.returns-clause-joined
+returns-clause-joined c = λ sets s stand at whole.
     let area = c.args.area in
     let g = there c.args.self.now area c.requires in
     let t = stand_get c.args.self.now sets area g.0 stand g.1 in

@@ -4,11 +4,11 @@ use Rattle.world_face.specs.declared.Io.TheVariants.{Failed as IoFailed}
 use Rattle.world_face.specs.Tells.{Answers}
 use Rattle.replay.specs.Script.{script_tells}
 use Rattle.replay.specs.Fitting.{FitsNext}
-use Rattle.replay.proofs.Following.{fits, ceases}
+use Rattle.replay.proofs.Following.{fits, ceases, still_live}
 use Rattle.replay.proofs.world.ScriptWorldWorld.file_read.Goals as goal
 
-pub returns-in-Some : goal.returns-in-Some
-returns-in-Some c =
+pub returns-in-Some-clause-answers : goal.returns-in-Some-clause-answers
+returns-in-Some-clause-answers c =
     let into = c.fill.new.into in
     let name = c.as_bytes-file.result.now in
     let back : filled c.in-Some.answer into ≡ c.in-Some.octets.now = subst (λ (n : ℕ). take n into ≡ c.in-Some.octets.now) c.in-Some.ensures.found.allowed.1.0 c.fill.ensures in
@@ -16,9 +16,12 @@ returns-in-Some c =
     subst (λ (n : List ℕ). Answers (script_tells c.args.self.now) (script_tells c.advance.new.self) (FileRead n c.args.at (length c.args.into.now) c.in-Some.answer (filled c.in-Some.answer into))) c.as_bytes-file.ensures.value
     (fits c.args.self.now c.advance.new.self (FileRead name c.args.at (length c.args.into.now) c.in-Some.answer (filled c.in-Some.answer into)) next (c.advance.ensures _ next refl))
 
-pub returns-in-None : goal.returns-in-None
-returns-in-None c =
+pub returns-in-None-clause-answers : goal.returns-in-None-clause-answers
+returns-in-None-clause-answers c =
     let name = c.as_bytes-file.result.now in
     let allowed : Allowed (FileRead name c.args.at (length c.args.into.now) IoFailed []) = search rules in
     subst (λ (n : List ℕ). Answers (script_tells c.args.self.now) (script_tells c.cease.new.self) (FileRead n c.args.at (length c.args.into.now) IoFailed [])) c.as_bytes-file.ensures.value
     (ceases c.args.self.now c.cease.new.self (FileRead name c.args.at (length c.args.into.now) IoFailed []) allowed c.cease.ensures.ceases)
+
+pub returns-in-Some-clause-ceased : goal.returns-in-Some-clause-ceased
+returns-in-Some-clause-ceased c dead = absurd (still_live c.args.self.now c.advance.new.self _ c.in-Some.ensures.found (c.advance.ensures _ c.in-Some.ensures.found refl) dead)

@@ -4,7 +4,7 @@ use Rattle.world_face.specs.Journal.{Allowed, Wait}
 use Rattle.world_face.specs.declared.Waited.TheVariants.{Failed as WaitFailed}
 use Rattle.world_face.specs.Tells.{Answers}
 use Rattle.replay.specs.Script.{script_tells}
-use Rattle.replay.proofs.Following.{fits, ceases}
+use Rattle.replay.proofs.Following.{fits, ceases, still_live}
 use Rattle.replay.proofs.world.ScriptWorldWorld.wait.Goals as goal
 
 pub returns-in-Some-clause-answers : goal.returns-in-Some-clause-answers
@@ -23,3 +23,6 @@ returns-in-None-clause-answers c =
     let told = ceases c.args.self.now c.cease.new.self (Wait wants c.args.timeout WaitFailed []) here c.cease.ensures.ceases in
     let listed = subst (λ (r : List Want). Answers (script_tells c.args.self.now) (script_tells c.cease.new.self) (Wait wants c.args.timeout WaitFailed r)) (sym c.clear.ensures.items) told in
     subst (λ (w : List Want). Answers (script_tells c.args.self.now) (script_tells c.cease.new.self) (Wait w c.args.timeout WaitFailed c.clear.new.self.items)) c.items-items.ensures listed
+
+pub returns-in-Some-clause-ceased : goal.returns-in-Some-clause-ceased
+returns-in-Some-clause-ceased c dead = absurd (still_live c.args.self.now c.advance.new.self _ c.in-Some.ensures.found (c.advance.ensures _ c.in-Some.ensures.found refl) dead)
