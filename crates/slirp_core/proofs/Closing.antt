@@ -1,53 +1,84 @@
 -- The sockets of a run that is over are closed.
-use Rattle.std.proofs.Common.{◌≡◌, ℕ, true, List, ◌∷◌, MatchOption, Some, None, refl, sym, ◌∙◌, ap, subst}
+use Rattle.std.proofs.Common.{◌≡◌, ℕ, ◌==◌, ◌&&◌, ◌||◌, not, Bool, true, false, List, [], ◌∷◌, Option, Some, None, if◌then◌else◌, refl, sym, ◌∙◌, ap, subst}
 use Rattle.std.specs.Option.{option_map}
-use Rattle.world_face.specs.Journal.{Entry, Close, CallClose}
+use Rattle.world_face.specs.Journal.{Entry, Call, Close, CallClose}
 use Rattle.host_policy.specs.Addresses.{Config}
-use Rattle.udp_assoc.specs.Associations.{IsLeast, is_idle, without}
+use Rattle.udp_assoc.specs.Associations.{IsLeast, numbers, without}
 use Rattle.udp_assoc.specs.declared.assocs.Association.{Association}
-use Rattle.slirp_laws.specs.Datagrams.{relay, after_call, due_for}
-use Rattle.slirp_laws.specs.Laws.{MayDue, unless_due, gives_way}
-use Rattle.slirp_laws.specs.Shape.{due_in, is_ended, is_among, first, moment, next_number, open_sockets}
-use Rattle.slirp_laws.proofs.Sentences.{lawful_next}
-use Rattle.slirp_core.specs.Holds.{Closing, Ran, Rests, OverBy, AllWaited}
+use Rattle.run_laws.specs.Moments.{moment}
+use Rattle.run_laws.specs.Shape.{Phase, Started, Working, Over, due_in, is_ended, is_over, is_working, phase}
+use Rattle.run_laws.specs.Sockets.{first, is_among, next_number, open_sockets}
+use Rattle.slirp_laws.specs.Datagrams.{Settled, relay, after_call, due_for}
+use Rattle.slirp_laws.specs.Laws.{MayDue, due, is_closing, is_least, parts, unless_due}
+use Rattle.slirp_core.specs.Holds.{Closing, Ran, Rests, OverBy, AllWaited, NoneWaited}
 use Rattle.slirp_core.specs.declared.service.End.{End}
-use Rattle.slirp_core.proofs.Relaying.{any_call, first_of, and_both}
-use Rattle.slirp_core.proofs.Sockets.{least_among, least_is_first, first_index, none_open, rising_without, those_without}
+use Rattle.slirp_core.proofs.Parts.{any_call, or_first, or_second, this_due}
+use Rattle.slirp_core.proofs.Relaying.{and_both}
+use Rattle.slirp_core.proofs.Sockets.{least_among, least_is_first, none_open, rising_without, same, those_without}
+
+least_first : (sockets : List ℕ) (n : ℕ) → first sockets ≡ Some n → is_least n sockets ≡ true
+least_first [] n is = cc
+least_first (x ∷ sockets) n is = let this : x ≡ n = cc in ap (λ m. m == n) this ∙ same n
+
+at_the_end : (closing part ended least : Bool) → ended ≡ true → least ≡ true → (if closing then least else part || (ended && least)) ≡ true
+at_the_end true part ended least e l = l
+at_the_end false part ended least e l = or_second part (ended && least) (and_both ended least e l)
 
 module _ (config : Config) (end : End) (list : List Association) (past : List Entry) where
-  closes_next : (socket : ℕ) → first (open_sockets past) ≡ Some socket → Rests config past → MayDue config past (CallClose socket)
-  closes_next socket is (OverBy why over) =
-      subst (λ o. MatchOption (unless_due o (due_for (relay config past).step (next_number past))) (Unit {0}) (λ d. CallClose socket ≡ d))
-      (sym (ap (λ p. due_in p past) over ∙ ap (option_map CallClose) is)) refl
-  closes_next socket is (AllWaited working asks) = any_call config past (CallClose socket) working asks
+  -- a socket that is open may be closed where the run rests
+  rests_open : (socket : ℕ) → IsLeast (λ a. true) list (Some socket) → Rests config list past → (is_working (phase config past) || is_over (phase config past)) ≡ true
+  rests_open socket least (OverBy why over) = ap (λ p. is_working p || is_over p) over
+  rests_open socket least (AllWaited working) = ap (λ p. is_working p || is_over p) working
+  rests_open socket least (NoneWaited started none) = let among = least_among socket list least in absurd (cc (sym (ap (λ l. is_among socket (numbers l)) none) ∙ among))
 
-  still_rests : (socket : ℕ) → Rests config past → Rests config (Close socket ∷ past)
+  closes_next : (socket : ℕ) → IsLeast (λ a. true) list (Some socket) → first (open_sockets past) ≡ Some socket → (relay config past).step ≡ Settled → Rests config list past → MayDue config past (CallClose socket)
+  closes_next socket least is asks (OverBy why over) =
+      this_due config past (CallClose socket) (ap (λ p. unless_due (due_in p past) (due_for (relay config past).step (next_number past))) over
+      ∙ ap (λ (o : Option Call). unless_due o (due_for (relay config past).step (next_number past))) (ap (option_map CallClose) is))
+  closes_next socket least is asks (AllWaited working) = any_call config past (CallClose socket) working asks
+  closes_next socket least is asks (NoneWaited started none) = let among = least_among socket list least in absurd (cc (sym (ap (λ l. is_among socket (numbers l)) none) ∙ among))
+
+  still_rests : (socket : ℕ) → Rests config list past → Rests config (without socket list) (Close socket ∷ past)
   still_rests socket (OverBy why over) = OverBy why over
-  still_rests socket (AllWaited working asks) = AllWaited working (ap (λ s. (after_call (Close socket) (moment past) (record { associations = (relay config past).associations; step = s })).step) asks)
+  still_rests socket (AllWaited working) = AllWaited working
+  still_rests socket (NoneWaited started none) = NoneWaited started (ap (without socket) none)
 
   -- the first one was closed
   pub after_closing : (socket : ℕ) → IsLeast (λ a. true) list (Some socket) → Closing config end list past → Closing config end (without socket list) (Close socket ∷ past)
   after_closing socket least closing =
-      let is = least_is_first (next_number past) socket list (open_sockets past) least closing.rising closing.sockets in
-      let open_still : is_among socket (open_sockets past) ≡ true = closing.sockets socket ∙ least_among socket list least in
+      let is = least_is_first (next_number past) socket list (open_sockets past) least closing.rising closing.those in
+      let open_still : is_among socket (open_sockets past) ≡ true = closing.those socket ∙ least_among socket list least in
       record {
-        lawful = lawful_next config (Close socket) past (record {
-          framed = tt;
-          due = closes_next socket is closing.rests;
-          shape = tt;
-          socket = and_both (is_among socket (open_sockets past)) _ open_still
-              (first_of _ (gives_way socket (relay config past).step) (is_idle socket (moment past) (relay config past).associations)
-              (and_both (is_ended config past) _ closing.ended (first_index (open_sockets past) socket is)));
-          read = tt;
-          answer = tt;
-        }) closing.lawful;
+        lawful = (
+          record {
+            framed = tt;
+            due = closes_next socket least is closing.asks closing.rests;
+            place = rests_open socket least closing.rests;
+            socket = and_both (is_among socket (open_sockets past)) _ open_still
+                (at_the_end (is_closing config past) (parts config past socket) (is_ended config past) (is_least socket (open_sockets past)) closing.ended (least_first (open_sockets past) socket is));
+            served = refl;
+            answered = refl;
+            goes_on = or_second (not (is_closing config past)) true refl;
+          },
+          closing.lawful,
+        );
         ended = closing.ended;
         is = closing.is;
         rests = still_rests socket closing.rests;
+        asks = ap (λ s. (after_call (Close socket) (moment past) (record { associations = (relay config past).associations; step = s })).step) closing.asks;
         rising = rising_without (next_number past) socket (open_sockets past) closing.rising;
-        sockets = those_without socket list (open_sockets past) closing.sockets;
+        those = those_without socket list (open_sockets past) closing.those;
       }
 
-  -- none is left
+  -- nothing is due where none is left
+  none_due : open_sockets past ≡ [] → (relay config past).step ≡ Settled → Rests config list past → due config past ≡ None
+  none_due none asks (OverBy why over) =
+      ap (λ p. unless_due (due_in p past) (due_for (relay config past).step (next_number past))) over
+      ∙ ap (λ (s : List ℕ). unless_due (option_map CallClose (first s)) (due_for (relay config past).step (next_number past))) none ∙ ap (λ s. due_for s (next_number past)) asks
+  none_due none asks (AllWaited working) = ap (λ p. unless_due (due_in p past) (due_for (relay config past).step (next_number past))) working ∙ ap (λ s. due_for s (next_number past)) asks
+  none_due none asks (NoneWaited started alone) = ap (λ p. unless_due (due_in p past) (due_for (relay config past).step (next_number past))) started ∙ ap (λ s. due_for s (next_number past)) asks
+
   pub all_closed : IsLeast (λ a. true) list None → Closing config end list past → Ran config end past
-  all_closed none closing = (closing.lawful, (closing.ended, none_open list (open_sockets past) none closing.sockets), closing.is)
+  all_closed none closing =
+      let empty = none_open list (open_sockets past) none closing.those in
+      (closing.lawful, record { ended = closing.ended; none_due = none_due empty closing.asks closing.rests; closed = empty }, closing.is)

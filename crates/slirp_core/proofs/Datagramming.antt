@@ -10,7 +10,8 @@ use Rattle.host_policy.specs.Addresses.{Config}
 use Rattle.ipv4_head.specs.Ip.{Ip, IsIp, read_ip, is_unbroken}
 use Rattle.ipv4_head.proofs.Spelling.{spelled}
 use Rattle.udp_assoc.specs.Udp.{Udp, IsUdp, udp_with, read_udp}
-use Rattle.slirp_laws.specs.Datagrams.{quoted, datagram_of, may_come, udp_of}
+use Rattle.run_laws.specs.Packets.{quoted, datagram_of, may_come}
+use Rattle.slirp_core.specs.Packets.{udp_of}
 
 -- the length of a packet, and of its header
 pub record Sizes (octets : List ℕ) (ip : Ip) : Type 0 where

@@ -1,9 +1,12 @@
-pub mod Closing
+mod Bridging
+mod Counted
 mod Datagramming
 mod Filling
+mod Parts
+mod Taking
+pub mod Closing
 pub mod Pumping
 pub mod Relaying
 pub mod Serving
 pub mod Sockets
-mod Taking
 pub mod Turning

@@ -4,77 +4,88 @@ use Rattle.std.proofs.lemmas.Bool.Decides.{nat_tests}
 use Rattle.world_face.specs.Journal.{Entry, LinkWrite, CallLinkWrite}
 use Rattle.world_face.specs.declared.Io.{Io}
 use Rattle.world_face.specs.declared.Io.TheVariants.{Done, End, NotYet, Failed}
-use Rattle.world_face.specs.Frames.{LinkFailed, tail, spelling, opens}
+use Rattle.world_face.specs.Frames.{LinkFailed, goes_out, tail, spelling, opens}
 use Rattle.host_policy.specs.Addresses.{Config}
-use Rattle.slirp_laws.specs.Answers.{Packet, frame_of, frames_of, identification, datagrams_in, datagrams_out, with_datagrams, left, left_by_call, taken, is_first}
+use Rattle.slirp_laws.specs.Answers.{identification, datagrams_in, datagrams_out, with_datagrams, left, taken, is_beside, is_first, is_out}
 use Rattle.slirp_laws.specs.Datagrams.{Settled}
-use Rattle.slirp_laws.specs.Laws.{Lawful, MayAnswer, MayBegin}
-use Rattle.slirp_laws.specs.Shape.{phase, open_sockets, unless_over}
+use Rattle.slirp_laws.specs.Laws.{Lawful, may_begin}
+use Rattle.run_laws.specs.Shape.{phase, is_working, unless_over}
+use Rattle.run_laws.specs.Sockets.{open_sockets}
 use Rattle.stream_netdev.specs.Keeps.{Keeps, Writes, Settles}
 use Rattle.stream_netdev.specs.Offers.{offered}
 use Rattle.stream_netdev.specs.State.{LinkState}
 use Rattle.stream_netdev.specs.declared.Offered.{Offered}
 use Rattle.stream_netdev.specs.declared.Offered.TheVariants.{Taken, Blocked as OfferBlocked, Failed as OfferFailed}
-use Rattle.slirp_core.specs.Holds.{Standing, Holds, AfterPump, Leaves, LeavesRest}
+use Rattle.slirp_core.specs.Holds.{Standing, Holds, InTurn, OfSockets, Turns, AfterPump, Leaves, LeavesRest}
 use Rattle.slirp_core.specs.Outgoing.{sent_after}
 use Rattle.slirp_core.specs.Pumps.{pumped_of, keep}
 use Rattle.slirp_core.specs.Sockets.{AreThoseOf}
 use Rattle.slirp_core.specs.State.{SlirpState}
 use Rattle.slirp_core.specs.declared.slirp.Pumped.{Pumped}
-use Rattle.slirp_core.proofs.Relaying.{any_call}
+use Rattle.slirp_core.proofs.Parts.{any_call, goes_on, in_turn, or_first}
 
 -- what is owed after a write is what the network then has
 record Left (config : Config) (past : List Entry) (octets : List ℕ) (answer : Io) (slirp : SlirpState) : Type 0 where
   sent : identification (LinkWrite octets answer ∷ past) ≡ slirp.sent
-  pending : frames_of config (identification (LinkWrite octets answer ∷ past)) (left_by_call config past (LinkWrite octets answer) (left config past)) ≡ slirp.pending
+  pending : taken (goes_out (LinkWrite octets answer) past) (left config past) ≡ slirp.pending
 
--- after a lawful write, by its answer
+-- after a lawful write in a turn, by its answer
 after_write : (config : Config) (at : Standing) (slirp new_slirp : SlirpState) (old new : LinkState) (past : List Entry) (octets : List ℕ) (answer : Io) (blocked : Bool)
-    → Holds config at slirp old past → Keeps new (LinkWrite octets answer ∷ past) → MayAnswer config past (CallLinkWrite octets)
+    → Holds config at slirp old past → InTurn config past → Keeps new (LinkWrite octets answer ∷ past) → may_begin config past (tail past) octets ≡ true
     → Left config past octets answer new_slirp → new_slirp ≡ record slirp { pending = new_slirp.pending; sent = new_slirp.sent }
     → AfterPump (pumped_of (offered answer) blocked) config at new_slirp new (LinkWrite octets answer ∷ past)
-after_write config at slirp new_slirp old new past octets answer blocked holds keeps may remains same = by_answer answer blocked keeps remains
+after_write config at slirp new_slirp old new past octets answer blocked holds turn keeps may remains same = by_answer answer blocked keeps remains
   where
     lawful : (a : Io) → Keeps new (LinkWrite octets a ∷ past) → Lawful config (LinkWrite octets a ∷ past)
-    lawful a k = record {
-      framed = k.framed;
-      due = (any_call config past (CallLinkWrite octets) holds.working (ap (λ r. r.step) holds.relayed), holds.lawful.due);
-      shape = (holds.working, holds.lawful.shape);
-      socket = (tt, holds.lawful.socket);
-      read = (tt, holds.lawful.read);
-      answer = (may, holds.lawful.answer);
+    lawful a k = (
+      record {
+        framed = k.framed.0;
+        due = any_call config past (CallLinkWrite octets) turn.working (ap (λ r. r.step) holds.relayed);
+        place = ap is_working turn.working;
+        socket = refl;
+        served = refl;
+        answered = may;
+        goes_on = goes_on config past false holds.open_yet;
+      },
+      holds.lawful,
+    )
+
+    sockets : (a : Io) → OfSockets new_slirp (LinkWrite octets a ∷ past)
+    sockets a = record {
+      number = holds.sockets.number ∙ sym (ap (λ (s : SlirpState). s.number) same);
+      rising = holds.sockets.rising;
+      those = subst (λ (s : SlirpState). AreThoseOf s.associations (open_sockets past)) (sym same) holds.sockets.those;
+      kinds = holds.sockets.kinds;
     }
 
-    goes_on : (a : Io) → Keeps new (LinkWrite octets a ∷ past) → phase config (LinkWrite octets a ∷ past) ≡ phase config past → Left config past octets a new_slirp → Holds config at new_slirp new (LinkWrite octets a ∷ past)
-    goes_on a k on l = record {
+    goes : (a : Io) → Keeps new (LinkWrite octets a ∷ past) → phase config (LinkWrite octets a ∷ past) ≡ phase config past → Left config past octets a new_slirp → Holds config at new_slirp new (LinkWrite octets a ∷ past)
+    goes a k on l = record {
       settings = ap (λ (s : SlirpState). s.config) same ∙ holds.settings;
       lawful = lawful a k;
       keeps = k;
-      sent = l.sent;
-      pending = l.pending;
+      answers = record { sent = l.sent; pending = l.pending };
       guests = holds.guests ∙ sym (ap (λ (s : SlirpState). s.known) same);
       relayed = holds.relayed ∙ sym (ap (λ (s : SlirpState). record { associations = s.associations; step = Settled }) same);
-      clock = holds.clock ∙ sym (ap (λ (s : SlirpState). s.moment) same);
-      number = holds.number ∙ sym (ap (λ (s : SlirpState). s.number) same);
-      rising = holds.rising;
-      sockets = subst (λ (s : SlirpState). AreThoseOf s.associations (open_sockets past)) (sym same) holds.sockets;
-      working = on ∙ holds.working;
-      counted = holds.counted;
-      readable = holds.readable;
+      sockets = sockets a;
+      clock = record { moment = holds.clock.moment ∙ sym (ap (λ (s : SlirpState). s.moment) same); counted = holds.clock.counted };
+      stands = Turns (record { working = on ∙ turn.working; waited = turn.waited });
+      agenda = holds.agenda;
+      open_yet = holds.open_yet;
     }
 
     by_answer : (a : Io) (b : Bool) → Keeps new (LinkWrite octets a ∷ past) → Left config past octets a new_slirp → AfterPump (pumped_of (offered a) b) config at new_slirp new (LinkWrite octets a ∷ past)
-    by_answer (Done n) true k l = goes_on (Done n) k refl l
-    by_answer (Done n) false k l = goes_on (Done n) k refl l
-    by_answer End true k l = goes_on End k refl l
-    by_answer End false k l = goes_on End k refl l
-    by_answer NotYet true k l = goes_on NotYet k refl l
-    by_answer NotYet false k l = goes_on NotYet k refl l
+    by_answer (Done n) true k l = goes (Done n) k refl l
+    by_answer (Done n) false k l = goes (Done n) k refl l
+    by_answer End true k l = goes End k refl l
+    by_answer End false k l = goes End k refl l
+    by_answer NotYet true k l = goes NotYet k refl l
+    by_answer NotYet false k l = goes NotYet k refl l
     by_answer Failed b k l = record {
       lawful = lawful Failed k;
-      over = ap (λ p. unless_over p LinkFailed) holds.working;
-      rising = holds.rising;
-      sockets = subst (λ (s : SlirpState). AreThoseOf s.associations (open_sockets past)) (sym same) holds.sockets;
+      over = ap (λ p. unless_over p LinkFailed) turn.working;
+      asks = ap (λ r. r.step) holds.relayed;
+      rising = holds.sockets.rising;
+      those = (sockets Failed).those;
     }
 
 -- a write of the rest of a frame
@@ -86,13 +97,16 @@ after_flush config at slirp old new made past result pumped some (answer, is, wa
     let k = subst (λ m. Keeps new (m ++ past)) is (keeps past holds.keeps) in
     subst Goal (sym is)
     (subst (λ p. AfterPump p config at slirp new (LinkWrite old.tail answer ∷ past)) (sym (comes ∙ ap (λ r. pumped_of r new.blocked) was))
-    (after_write config at slirp slirp old new past old.tail answer new.blocked holds k
+    (after_write config at slirp slirp old new past old.tail answer new.blocked holds (in_turn holds.stands (λ u. some_tail old.tail some u.empty)) k
     (begins (tail past) old.tail some holds.keeps.rest)
     (remains answer (none_opens answer old.tail (tail past) some holds.keeps.rest)) refl))
   where
-    begins : (t rest : List ℕ) → 0 < length rest → t ≡ rest → MayBegin config past t rest
+    some_tail : (octets : List ℕ) → 0 < length octets → octets ≡ [] → ⊥
+    some_tail octets some is = omega (arith, some, ap length is)
+
+    begins : (t rest : List ℕ) → 0 < length rest → t ≡ rest → may_begin config past t rest ≡ true
     begins [] rest some is = absurd (omega (arith, ap length is))
-    begins (x ∷ t) rest some is = tt
+    begins (x ∷ t) rest some is = refl
 
     none_opens : (a : Io) (rest t : List ℕ) → 0 < length rest → t ≡ rest → opens (LinkWrite rest a) t ≡ None
     none_opens a rest [] some is = absurd (omega (arith, ap length is))
@@ -102,9 +116,8 @@ after_flush config at slirp old new made past result pumped some (answer, is, wa
     remains a none =
         let same_sent : identification (LinkWrite old.tail a ∷ past) ≡ identification past = ap (λ o. with_datagrams o (datagrams_out past) % 2 ^ 16) none in
         record {
-          sent = same_sent ∙ holds.sent;
-          pending = ap (λ i. frames_of config i (left_by_call config past (LinkWrite old.tail a) (left config past))) same_sent
-              ∙ ap (λ o. frames_of config (identification past) (taken config (identification past) o (left config past))) none ∙ holds.pending;
+          sent = same_sent ∙ holds.answers.sent;
+          pending = ap (λ o. taken o (left config past)) none ∙ holds.answers.pending;
         }
 
 same : (n : ℕ) → (n == n) ≡ true
@@ -118,14 +131,8 @@ spelt : (frame : List ℕ) → drop 4 (spelling frame) ≡ frame
 unfolding spelling
 spelt frame = refl
 
--- where one frame is left it is that of the only packet
-one_frame : (config : Config) (ident : ℕ) (frame : List ℕ) (before : List Packet) → frames_of config ident before ≡ frame ∷ [] → (packet : Packet) × (before ≡ packet ∷ []) × (frame ≡ frame_of config ident packet)
-one_frame config ident frame [] is = cc
-one_frame config ident frame (packet ∷ []) is = (packet, refl, cc)
-one_frame config ident frame (packet ∷ other ∷ packets) is = cc
-
-is_the_first : (config : Config) (ident : ℕ) (frame : List ℕ) (packet : Packet) → frame ≡ frame_of config ident packet → is_first config ident (drop 4 (spelling frame)) (packet ∷ []) ≡ true
-is_the_first config ident frame packet is = ap (λ f. bytes_eq f (frame_of config ident packet)) (spelt frame ∙ is) ∙ same_octets (frame_of config ident packet)
+is_the_first : (frame : List ℕ) → is_first (drop 4 (spelling frame)) (frame ∷ []) ≡ true
+is_the_first frame = ap (λ f. bytes_eq f frame) (spelt frame) ∙ same_octets frame
 
 counts_on : (more out : ℕ) → (more + out) % 2 ^ 16 ≡ (more + out % 2 ^ 16) % 2 ^ 16
 counts_on more out = omega arith
@@ -143,16 +150,17 @@ after_offer config at slirp new_slirp old new made past frame result pumped none
     let Goal : List Entry → Type 0 = λ made. AfterPump pumped config at new_slirp new (made ++ past) in
     let k = subst (λ m. Keeps new (m ++ past)) is (keeps past holds.keeps) in
     let tail_is : tail past ≡ [] = holds.keeps.rest ∙ none in
-    let one = one_frame config (identification past) frame (left config past) (holds.pending ∙ is_pending) in
-    let first : is_first config (identification past) (drop 4 (spelling frame)) (left config past) ≡ true =
-    ap (is_first config (identification past) (drop 4 (spelling frame))) one.1 ∙ is_the_first config (identification past) frame one.0 one.2 in
+    let only = holds.answers.pending ∙ is_pending in
+    let first : is_first (drop 4 (spelling frame)) (left config past) ≡ true =
+    ap (is_first (drop 4 (spelling frame))) only ∙ is_the_first frame in
     let new_pending : new_slirp.pending ≡ keep (offered answer) (frame ∷ []) = kept ∙ ap (λ r. keep r slirp.pending) was ∙ ap (keep (offered answer)) is_pending in
     let new_sent : new_slirp.sent ≡ sent_after (offered answer) (frame ∷ []) (identification past) =
-    counted ∙ ap (λ r. sent_after r slirp.pending slirp.sent) was ∙ ap (λ p. sent_after (offered answer) p slirp.sent) is_pending ∙ ap (sent_after (offered answer) (frame ∷ [])) (sym holds.sent) in
+    counted ∙ ap (λ r. sent_after r slirp.pending slirp.sent) was ∙ ap (λ p. sent_after (offered answer) p slirp.sent) is_pending ∙ ap (sent_after (offered answer) (frame ∷ [])) (sym holds.answers.sent) in
     subst Goal (sym is)
     (subst (λ p. AfterPump p config at new_slirp new (LinkWrite (spelling frame) answer ∷ past)) (sym (comes ∙ ap (λ r. pumped_of r new.blocked) was))
-    (after_write config at slirp new_slirp old new past (spelling frame) answer new.blocked holds k (subst (λ t. MayBegin config past t (spelling frame)) (sym tail_is) first)
-    (remains answer one.0 one.1 first tail_is new_pending new_sent) same))
+    (after_write config at slirp new_slirp old new past (spelling frame) answer new.blocked holds (in_turn holds.stands (λ u. cc (sym is_pending ∙ u.nothing))) k
+    (ap (λ t. may_begin config past t (spelling frame)) tail_is ∙ or_first (is_first (drop 4 (spelling frame)) (left config past)) (is_out (left config past) && is_beside config past (drop 4 (spelling frame))) first)
+    (remains answer only first tail_is new_pending new_sent) same))
   where
     sent_by : (a : Io) → with_datagrams (opens (LinkWrite (spelling frame) a) []) (datagrams_out past) % 2 ^ 16 ≡ sent_after (offered a) (frame ∷ []) (identification past)
     sent_by (Done n) = ap (λ f. (datagrams_in f + datagrams_out past) % 2 ^ 16) (spelt frame) ∙ counts_on (datagrams_in frame) (datagrams_out past)
@@ -160,22 +168,18 @@ after_offer config at slirp new_slirp old new made past frame result pumped none
     sent_by NotYet = refl
     sent_by Failed = refl
 
-    left_by : (a : Io) (packet : Packet) (before : List Packet) → before ≡ packet ∷ [] → is_first config (identification past) (drop 4 (spelling frame)) before ≡ true
-        → frames_of config (identification past) before ≡ frame ∷ []
-        → frames_of config (with_datagrams (opens (LinkWrite (spelling frame) a) []) (datagrams_out past) % 2 ^ 16) (taken config (identification past) (opens (LinkWrite (spelling frame) a) []) before) ≡ keep (offered a) (frame ∷ [])
-    left_by (Done n) packet before only first framed =
-        let ident = with_datagrams (opens (LinkWrite (spelling frame) (Done n)) []) (datagrams_out past) % 2 ^ 16 in
-        ap (λ b. frames_of config ident (cond b (drop 1 before) before)) first ∙ ap (λ l. frames_of config ident (drop 1 l)) only
-    left_by End packet before only first framed = framed
-    left_by NotYet packet before only first framed = framed
-    left_by Failed packet before only first framed = framed
+    left_by : (a : Io) (before : List (List ℕ)) → before ≡ frame ∷ [] → is_first (drop 4 (spelling frame)) before ≡ true
+        → taken (opens (LinkWrite (spelling frame) a) []) before ≡ keep (offered a) (frame ∷ [])
+    left_by (Done n) before only first = ap (λ b. cond b (drop 1 before) before) first ∙ ap (drop 1) only
+    left_by End before only first = only
+    left_by NotYet before only first = only
+    left_by Failed before only first = only
 
-    remains : (a : Io) (packet : Packet) → left config past ≡ packet ∷ [] → is_first config (identification past) (drop 4 (spelling frame)) (left config past) ≡ true → tail past ≡ []
+    remains : (a : Io) → left config past ≡ frame ∷ [] → is_first (drop 4 (spelling frame)) (left config past) ≡ true → tail past ≡ []
         → new_slirp.pending ≡ keep (offered a) (frame ∷ []) → new_slirp.sent ≡ sent_after (offered a) (frame ∷ []) (identification past) → Left config past (spelling frame) a new_slirp
-    remains a packet only first tail_is new_pending new_sent = record {
+    remains a only first tail_is new_pending new_sent = record {
       sent = ap (λ t. with_datagrams (opens (LinkWrite (spelling frame) a) t) (datagrams_out past) % 2 ^ 16) tail_is ∙ sent_by a ∙ sym new_sent;
-      pending = ap (λ t. frames_of config (with_datagrams (opens (LinkWrite (spelling frame) a) t) (datagrams_out past) % 2 ^ 16) (taken config (identification past) (opens (LinkWrite (spelling frame) a) t) (left config past))) tail_is
-          ∙ left_by a packet (left config past) only first (holds.pending ∙ is_pending) ∙ sym new_pending;
+      pending = ap (λ t. taken (opens (LinkWrite (spelling frame) a) t) (left config past)) tail_is ∙ left_by a (left config past) only first ∙ sym new_pending;
     }
 
 pub leaves_rest : (new : LinkState) (result : Offered) → Settles result new → LeavesRest (pumped_of result new.blocked) new

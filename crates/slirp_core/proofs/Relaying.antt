@@ -1,7 +1,14 @@
 -- Calls on sockets.
-use Rattle.std.proofs.Common.{◌≡◌, ℕ, ◌+◌, ◌<◌, ◌≤◌, ◌&&◌, ◌||◌, Bool, true, false, nat_le, List, [], ◌∷◌, ◌++◌, length, slice_get, MatchOption, Some, is_some, if◌then◌else◌, refl, sym, ◌∙◌, ap, subst, arith}
+use Rattle.std.proofs.Common.{◌≡◌, ℕ, ◌+◌, ◌<◌, ◌≤◌, ◌==◌, ◌&&◌, ◌||◌, not, Bool, true, false, nat_le, nat_lt, List, [], ◌∷◌, ◌++◌, length, slice_get, Option, Some, None, is_some, if◌then◌else◌, refl, sym, ◌∙◌, ap, subst, arith}
+use Rattle.std.proofs.lemmas.Bool.Decides.{nat_tests}
 use Rattle.std.specs.List.{list_any}
+use Rattle.poll_list.specs.declared.Want.{Want}
+use Rattle.poll_list.specs.declared.Who.TheVariants.{Udp}
+use Rattle.poll_list.specs.Listing.{reads, same_who}
 use Rattle.world_face.specs.Journal.{Entry, Call, Close, UdpOpen, UdpSend, UdpRecv, CallClose, CallUdpOpen, CallUdpSend, CallUdpRecv}
+use Rattle.world_face.specs.Frames.{tail}
+use Rattle.world_face.specs.Limits.{most_to_udp}
+use Rattle.world_face.specs.declared.Made.{Made}
 use Rattle.world_face.specs.declared.Made.TheVariants.{Done as MadeDone, Failed as MadeFailed}
 use Rattle.world_face.specs.declared.Sent.{Sent}
 use Rattle.world_face.specs.declared.Sent.TheVariants.{Failed as SentFailed}
@@ -12,168 +19,177 @@ use Rattle.host_policy.specs.Addresses.{Config}
 use Rattle.host_policy.specs.Targets.{anywhere}
 use Rattle.udp_assoc.specs.Associations.{most_associations, numbers, numbered, is_numbered, is_idle, without, moved_last, sent_from, heard_at}
 use Rattle.udp_assoc.specs.declared.assocs.Association.{Association}
-use Rattle.slirp_laws.specs.Answers.{Packet, frames_of, identification, left, told_about, no_network, unsent, unless_sent, reply, owed_for_peer}
+use Rattle.run_laws.specs.Moments.{moment, waits}
+use Rattle.run_laws.specs.Shape.{Working, phase, is_ended, is_over, is_working}
+use Rattle.run_laws.specs.Sockets.{Association as OfAssociation, Kind, datagram_kind, is_among, is_association, kind_of, next_number, open_sockets}
+use Rattle.slirp_laws.specs.Agenda.{agenda, all_wanted, is_to_read, wanted_of}
+use Rattle.slirp_laws.specs.Answers.{frames_of, identification, is_out, left, told_about, no_network, unsent, unless_sent, reply, owed_for_peer}
 use Rattle.slirp_laws.specs.Datagrams.{Errand, Step, Settled, NeedsRoom, NeedsSocket, NeedsSending, relay, association, after_call, due_for, without_socket}
-use Rattle.slirp_laws.specs.Laws.{Lawful, MayDue, due, unless_due, may_close, carries, gives_way}
-use Rattle.slirp_laws.specs.Shape.{Working, phase, due_in, opened, is_among, moment, next_number, open_sockets}
-use Rattle.stream_netdev.specs.Keeps.{Keeps}
+use Rattle.slirp_laws.specs.Laws.{May, MayDue, begins_closing, carries, due, gives_way, is_all_out, is_closing, is_least, is_nothing, may_close, may_part, parts}
 use Rattle.stream_netdev.specs.State.{LinkState}
-use Rattle.slirp_core.specs.Holds.{Standing, HoldsAt, Holds}
-use Rattle.slirp_core.specs.Sockets.{IsRising}
+use Rattle.slirp_core.specs.Holds.{Standing, standing, HoldsAt, Holds, InTurn, IsLast, OfAnswers, OfSockets, Turns, Unbegun}
+use Rattle.slirp_core.specs.Sockets.{AreThoseOf, IsRising}
 use Rattle.slirp_core.specs.State.{SlirpState}
-use Rattle.slirp_core.proofs.Sockets.{same, fewer, among_numbered, those_last, those_moved, those_without, idle_among, rising_last, rising_up, rising_without}
-
--- the call that is due between ending entries
-pub due_is : (config : Config) (past : List Entry) (step : Step) → phase config past ≡ Working → (relay config past).step ≡ step → due config past ≡ due_for step (next_number past)
-due_is config past step working asks =
-    ap (λ p. unless_due (due_in p past) (due_for (relay config past).step (next_number past))) working ∙ ap (λ s. due_for s (next_number past)) asks
-
-this_due : (config : Config) (past : List Entry) (call : Call) → due config past ≡ Some call → MayDue config past call
-this_due config past call is = subst (λ o. MatchOption o (Unit {0}) (λ d. call ≡ d)) (sym is) refl
-
--- any one where nothing is asked for
-pub any_call : (config : Config) (past : List Entry) (call : Call) → phase config past ≡ Working → (relay config past).step ≡ Settled → MayDue config past call
-any_call config past call working asks = subst (λ o. MatchOption o (Unit {0}) (λ d. call ≡ d)) (sym (due_is config past Settled working asks)) tt
-
-pub first_of : (a b c : Bool) → a ≡ true → (a || b || c) ≡ true
-first_of true b c is = refl
-first_of false b c is = cc
-
-second : (a b c : Bool) → b ≡ true → (a || b || c) ≡ true
-second true b c is = refl
-second false true c is = refl
-second false false c is = cc
-
-third : (a b c : Bool) → c ≡ true → (a || b || c) ≡ true
-third true b c is = refl
-third false true c is = refl
-third false false true is = refl
-third false false false is = cc
+use Rattle.slirp_core.proofs.Parts.{after_socket, any_call, behind_of, due_is, goes_on, in_turn, or_first, or_second, reads_of, still_open, this_due}
+use Rattle.slirp_core.proofs.Sockets.{same, fewer, among_last, among_numbered, among_without, numbered_among, those_last, those_moved, those_without, idle_among, rising_last, rising_up, rising_without}
 
 pub and_both : (a b : Bool) → a ≡ true → b ≡ true → (a && b) ≡ true
 and_both true true one two = refl
 and_both true false one two = cc
 and_both false b one two = cc
 
--- where no frame is owed no packet is
-pub no_frames : (config : Config) (ident : ℕ) (packets : List Packet) → frames_of config ident packets ≡ [] → packets ≡ []
-no_frames config ident [] is = refl
-no_frames config ident (packet ∷ packets) is = cc
+pub first_of : (a b : Bool) → (a && b) ≡ true → a ≡ true
+first_of true b is = refl
+first_of false b is = cc
+
+second_of : (a b : Bool) → (a && b) ≡ true → b ≡ true
+second_of true true is = refl
+second_of true false is = cc
+second_of false b is = cc
+
+some_call : (o : Option Call) (call : Call) → o ≡ Some call → is_some o ≡ true
+some_call o call is = ap is_some is
+
+-- the kinds of sockets, one more
+kind_after_open : (number : ℕ) (answer : Made) (past : List Entry) → 0 < waits past → ((n : ℕ) → is_among n (open_sockets past) ≡ true → kind_of n past ≡ Some OfAssociation)
+    → (n : ℕ) → (is_among n (open_sockets past) || (n == number)) ≡ true → kind_of n (UdpOpen number anywhere answer ∷ past) ≡ Some OfAssociation
+kind_after_open number answer past waited kinds n among = by (number == n) refl
+  where
+    waits_on : nat_lt 0 (waits past) ≡ true
+    waits_on = grind (arith, nat_tests, waited)
+
+    turned : (number == n) ≡ false → (n == number) ≡ false
+    turned is = grind (arith, nat_tests, is)
+
+    only : (a b : Bool) → b ≡ false → (a || b) ≡ true → a ≡ true
+    only true b is or = refl
+    only false b is or = cc
+
+    by : (b : Bool) → (number == n) ≡ b → (if b then Some (datagram_kind (nat_lt 0 (waits past))) else kind_of n past) ≡ Some OfAssociation
+    by true is = ap (λ (w : Bool). Some (datagram_kind w)) waits_on
+    by false is = kinds n (only (is_among n (open_sockets past)) (n == number) (turned is) among)
 
 module _ (config : Config) (at : Standing) (slirp : SlirpState) (link : LinkState) (past : List Entry) where
-  -- a call on a socket leaves the link as it is
   module _ (step : Step) (holds : HoldsAt config at step slirp link past) where
     asks : (relay config past).step ≡ step
     asks = ap (λ r. r.step) holds.relayed
 
-    kept : (e : Entry) → Keeps link past → Keeps link past
-    kept e keeps = keeps
-
     -- the socket is open and carries a guest's datagrams
-    carried : (socket : ℕ) → is_among socket (numbers slirp.associations) ≡ true → carries config past socket ≡ true
+    carried : (socket : ℕ) → is_among socket (numbers slirp.associations) ≡ true → carries past socket ≡ true
     carried socket among =
-        and_both (is_among socket (open_sockets past)) (is_some (numbered socket (relay config past).associations)) (holds.sockets socket ∙ among)
-        (ap (λ r. is_some (numbered socket r.associations)) holds.relayed ∙ among_numbered socket slirp.associations among)
+        let here = holds.sockets.those socket ∙ among in
+        and_both (is_among socket (open_sockets past)) (is_association (kind_of socket past)) here (ap is_association (holds.sockets.kinds socket here))
 
-  -- a socket was opened
+    -- and may be closed for a reason of its kind
+    parted : (socket : ℕ) → is_among socket (open_sockets past) ≡ true → (gives_way socket (relay config past).step || is_idle socket (moment past) (relay config past).associations) ≡ true → parts config past socket ≡ true
+    parted socket here why = ap (may_part config past socket) (holds.sockets.kinds socket here) ∙ why
+
+  -- a socket was opened, or wasn't
   module _ (errand : Errand) (holds : HoldsAt config at (NeedsSocket errand) slirp link past) where
+    turn : InTurn config past
+    turn = in_turn holds.stands (λ u. cc (u.unasked))
+
     open_due : due config past ≡ Some (CallUdpOpen slirp.number anywhere)
-    open_due = due_is config past (NeedsSocket errand) holds.working (asks (NeedsSocket errand) holds) ∙ ap (λ n. Some (CallUdpOpen n anywhere)) holds.number
+    open_due = due_is config past (NeedsSocket errand) turn.working (asks (NeedsSocket errand) holds) ∙ ap (λ n. Some (CallUdpOpen n anywhere)) holds.sockets.number
+
+    may_open : May config past (CallUdpOpen slirp.number anywhere)
+    may_open = record {
+      framed = tt;
+      due = this_due config past (CallUdpOpen slirp.number anywhere) open_due;
+      place = some_call (due config past) (CallUdpOpen slirp.number anywhere) open_due;
+      socket = ap (λ n. slirp.number == n) holds.sockets.number ∙ same slirp.number;
+      served = refl;
+      answered = refl;
+      goes_on = goes_on config past false holds.open_yet;
+    }
 
     pub after_open : HoldsAt config at (NeedsSending slirp.number errand)
         (record slirp { number = slirp.number + 1; associations = slirp.associations ++ (association slirp.number errand slirp.moment ∷ []) }) link (UdpOpen slirp.number anywhere MadeDone ∷ past)
-    after_open = record {
-      settings = holds.settings;
-      lawful = record {
-        framed = (tt, holds.lawful.framed);
-        due = (this_due config past (CallUdpOpen slirp.number anywhere) open_due, holds.lawful.due);
-        shape = (open_due, holds.lawful.shape);
-        socket = (sym holds.number, holds.lawful.socket);
-        read = (tt, holds.lawful.read);
-        answer = (tt, holds.lawful.answer);
-      };
-      keeps = record { framed = (tt, holds.keeps.framed); partly = holds.keeps.partly; rest = holds.keeps.rest; blocked = holds.keeps.blocked };
-      sent = holds.sent;
-      pending = holds.pending;
-      guests = holds.guests;
-      relayed = ap (after_call (UdpOpen slirp.number anywhere MadeDone) (moment past)) holds.relayed
-          ∙ ap (λ m. record { associations = slirp.associations ++ (association slirp.number errand m ∷ []); step = NeedsSending slirp.number errand }) holds.clock;
-      clock = holds.clock;
-      number = ap (λ n. n + 1) holds.number;
-      rising = subst (λ n. IsRising (next_number past + 1) (open_sockets past ++ (n ∷ []))) holds.number (rising_last (next_number past) (open_sockets past) holds.rising);
-      sockets = those_last slirp.associations (open_sockets past) (association slirp.number errand slirp.moment) holds.sockets;
-      working = ap (opened MadeDone) holds.working;
-      counted = holds.counted;
-      readable = holds.readable;
-    }
+    after_open = after_socket config at at (NeedsSocket errand) (NeedsSending slirp.number errand) slirp
+        (record slirp { number = slirp.number + 1; associations = slirp.associations ++ (association slirp.number errand slirp.moment ∷ []) }) link (UdpOpen slirp.number anywhere MadeDone) past tt refl refl refl refl turn holds (record {
+          may = may_open;
+          answers = record { sent = holds.answers.sent; pending = holds.answers.pending };
+          relayed = ap (after_call (UdpOpen slirp.number anywhere MadeDone) (moment past)) holds.relayed
+              ∙ ap (λ m. record { associations = slirp.associations ++ (association slirp.number errand m ∷ []); step = NeedsSending slirp.number errand }) holds.clock.moment;
+          sockets = record {
+            number = ap (λ n. n + 1) holds.sockets.number;
+            rising = subst (λ n. IsRising (next_number past + 1) (open_sockets past ++ (n ∷ []))) holds.sockets.number (rising_last (next_number past) (open_sockets past) holds.sockets.rising);
+            those = those_last slirp.associations (open_sockets past) (association slirp.number errand slirp.moment) holds.sockets.those;
+            kinds = λ n among. kind_after_open slirp.number MadeDone past turn.waited holds.sockets.kinds n (sym (among_last n slirp.number (open_sockets past)) ∙ among);
+          };
+          agenda = holds.agenda;
+          open_yet = holds.open_yet;
+        })
 
-    -- or wasn't
     pub after_refusal : Holds config at
         (record slirp { number = slirp.number + 1; pending = frames_of slirp.config slirp.sent (told_about slirp.config no_network errand.datagram) }) link (UdpOpen slirp.number anywhere MadeFailed ∷ past)
-    after_refusal = record {
-      settings = holds.settings;
-      lawful = record {
-        framed = (tt, holds.lawful.framed);
-        due = (this_due config past (CallUdpOpen slirp.number anywhere) open_due, holds.lawful.due);
-        shape = (open_due, holds.lawful.shape);
-        socket = (sym holds.number, holds.lawful.socket);
-        read = (tt, holds.lawful.read);
-        answer = (tt, holds.lawful.answer);
-      };
-      keeps = record { framed = (tt, holds.keeps.framed); partly = holds.keeps.partly; rest = holds.keeps.rest; blocked = holds.keeps.blocked };
-      sent = holds.sent;
-      pending = ap (λ s. frames_of config (identification past) (unsent config s (left config past))) (asks (NeedsSocket errand) holds)
-          ∙ ap (λ i. frames_of config i (told_about config no_network errand.datagram)) holds.sent
-          ∙ sym (ap (λ k. frames_of k slirp.sent (told_about k no_network errand.datagram)) holds.settings);
-      guests = holds.guests;
-      relayed = ap (after_call (UdpOpen slirp.number anywhere MadeFailed) (moment past)) holds.relayed;
-      clock = holds.clock;
-      number = ap (λ n. n + 1) holds.number;
-      rising = rising_up (next_number past) (open_sockets past) holds.rising;
-      sockets = holds.sockets;
-      working = ap (opened MadeFailed) holds.working;
-      counted = holds.counted;
-      readable = holds.readable;
-    }
+    after_refusal = after_socket config at at (NeedsSocket errand) Settled slirp
+        (record slirp { number = slirp.number + 1; pending = frames_of slirp.config slirp.sent (told_about slirp.config no_network errand.datagram) }) link (UdpOpen slirp.number anywhere MadeFailed) past tt refl refl refl refl turn holds (record {
+          may = may_open;
+          answers = record {
+            sent = holds.answers.sent;
+            pending = ap (λ s. unsent config (identification past) s (left config past)) (asks (NeedsSocket errand) holds)
+                ∙ ap (λ i. frames_of config i (told_about config no_network errand.datagram)) holds.answers.sent
+                ∙ sym (ap (λ k. frames_of k slirp.sent (told_about k no_network errand.datagram)) holds.settings);
+          };
+          relayed = ap (after_call (UdpOpen slirp.number anywhere MadeFailed) (moment past)) holds.relayed;
+          sockets = record {
+            number = ap (λ n. n + 1) holds.sockets.number;
+            rising = rising_up (next_number past) (open_sockets past) holds.sockets.rising;
+            those = holds.sockets.those;
+            kinds = λ n among. kind_after_open slirp.number MadeFailed past turn.waited holds.sockets.kinds n (or_first (is_among n (open_sockets past)) (n == slirp.number) among);
+          };
+          agenda = holds.agenda;
+          open_yet = holds.open_yet;
+        })
 
   -- a datagram was sent
   module _ (socket : ℕ) (errand : Errand) (among : is_among socket (numbers slirp.associations) ≡ true) (holds : HoldsAt config at (NeedsSending socket errand) slirp link past) where
+    send_turn : InTurn config past
+    send_turn = in_turn holds.stands (λ u. cc (u.unasked))
+
     send_due : due config past ≡ Some (CallUdpSend socket errand.to errand.datagram.body)
-    send_due = due_is config past (NeedsSending socket errand) holds.working (asks (NeedsSending socket errand) holds)
+    send_due = due_is config past (NeedsSending socket errand) send_turn.working (asks (NeedsSending socket errand) holds)
+
+    may_send : May config past (CallUdpSend socket errand.to errand.datagram.body)
+    may_send = record {
+      framed = tt;
+      due = this_due config past (CallUdpSend socket errand.to errand.datagram.body) send_due;
+      place = some_call (due config past) (CallUdpSend socket errand.to errand.datagram.body) send_due;
+      socket = carried (NeedsSending socket errand) holds socket among;
+      served = refl;
+      answered = refl;
+      goes_on = goes_on config past false holds.open_yet;
+    }
 
     after_sending : (answer : Sent) (new : SlirpState) → new ≡ record slirp { associations = moved_last (sent_from (record { 0 = errand.datagram.mac }) slirp.moment) socket slirp.associations; pending = new.pending }
-        → frames_of config (identification past) (unless_sent answer (told_about config no_network errand.datagram) (left config past)) ≡ new.pending → Holds config at new link (UdpSend socket errand.to errand.datagram.body answer ∷ past)
+        → unless_sent answer (frames_of config (identification past) (told_about config no_network errand.datagram)) (left config past) ≡ new.pending → Holds config at new link (UdpSend socket errand.to errand.datagram.body answer ∷ past)
     after_sending answer new is owes =
         let e = UdpSend socket errand.to errand.datagram.body answer in
-        subst (λ s. Holds config at s link (e ∷ past)) (sym is) (record {
-          settings = holds.settings;
-          lawful = record {
-            framed = (tt, holds.lawful.framed);
-            due = (this_due config past (CallUdpSend socket errand.to errand.datagram.body) send_due, holds.lawful.due);
-            shape = (send_due, holds.lawful.shape);
-            socket = (carried (NeedsSending socket errand) holds socket among, holds.lawful.socket);
-            read = (tt, holds.lawful.read);
-            answer = (tt, holds.lawful.answer);
+        let moved = record slirp { associations = moved_last (sent_from (record { 0 = errand.datagram.mac }) slirp.moment) socket slirp.associations; pending = new.pending } in
+        subst (λ s. Holds config at s link (e ∷ past)) (sym is)
+        (after_socket config at at (NeedsSending socket errand) Settled slirp moved link e past tt refl refl refl refl send_turn holds (record {
+          may = may_send;
+          answers = record {
+            sent = holds.answers.sent;
+            pending = ap (λ s. unless_sent answer (unsent config (identification past) s (left config past)) (left config past)) (asks (NeedsSending socket errand) holds) ∙ owes;
           };
-          keeps = record { framed = (tt, holds.keeps.framed); partly = holds.keeps.partly; rest = holds.keeps.rest; blocked = holds.keeps.blocked };
-          sent = holds.sent;
-          pending = ap (λ s. frames_of config (identification past) (unless_sent answer (unsent config s (left config past)) (left config past))) (asks (NeedsSending socket errand) holds) ∙ owes;
-          guests = holds.guests;
           relayed = ap (after_call e (moment past)) holds.relayed
-              ∙ ap (λ m. record { associations = moved_last (sent_from (record { 0 = errand.datagram.mac }) m) socket slirp.associations; step = Settled }) holds.clock;
-          clock = holds.clock;
-          number = holds.number;
-          rising = holds.rising;
-          sockets = those_moved (sent_from (record { 0 = errand.datagram.mac }) slirp.moment) (λ a. refl) socket slirp.associations (open_sockets past) holds.sockets;
-          working = holds.working;
-          counted = holds.counted;
-          readable = holds.readable;
-        })
+              ∙ ap (λ m. record { associations = moved_last (sent_from (record { 0 = errand.datagram.mac }) m) socket slirp.associations; step = Settled }) holds.clock.moment;
+          sockets = record {
+            number = holds.sockets.number;
+            rising = holds.sockets.rising;
+            those = those_moved (sent_from (record { 0 = errand.datagram.mac }) slirp.moment) (λ a. refl) socket slirp.associations (open_sockets past) holds.sockets.those;
+            kinds = holds.sockets.kinds;
+          };
+          agenda = holds.agenda;
+          open_yet = holds.open_yet;
+        }))
 
-    pub after_sent : (answer : Sent) → unless_sent answer (told_about config no_network errand.datagram) (left config past) ≡ left config past
+    pub after_sent : (answer : Sent) → unless_sent answer (frames_of config (identification past) (told_about config no_network errand.datagram)) (left config past) ≡ left config past
         → Holds config at (record slirp { associations = moved_last (sent_from (record { 0 = errand.datagram.mac }) slirp.moment) socket slirp.associations }) link (UdpSend socket errand.to errand.datagram.body answer ∷ past)
     after_sent answer same =
-        after_sending answer (record slirp { associations = moved_last (sent_from (record { 0 = errand.datagram.mac }) slirp.moment) socket slirp.associations }) refl (ap (frames_of config (identification past)) same ∙ holds.pending)
+        after_sending answer (record slirp { associations = moved_last (sent_from (record { 0 = errand.datagram.mac }) slirp.moment) socket slirp.associations }) refl (same ∙ holds.answers.pending)
 
     pub after_failure :
         Holds config at (record slirp {
@@ -184,36 +200,36 @@ module _ (config : Config) (at : Standing) (slirp : SlirpState) (link : LinkStat
         after_sending SentFailed (record slirp {
           associations = moved_last (sent_from (record { 0 = errand.datagram.mac }) slirp.moment) socket slirp.associations;
           pending = frames_of slirp.config slirp.sent (told_about slirp.config no_network errand.datagram);
-        }) refl (ap (λ i. frames_of config i (told_about config no_network errand.datagram)) holds.sent ∙ sym (ap (λ k. frames_of k slirp.sent (told_about k no_network errand.datagram)) holds.settings))
+        }) refl (ap (λ i. frames_of config i (told_about config no_network errand.datagram)) holds.answers.sent ∙ sym (ap (λ k. frames_of k slirp.sent (told_about k no_network errand.datagram)) holds.settings))
 
-  -- a socket was closed
-  module _ (socket : ℕ) (step new_step : Step) (holds : HoldsAt config at step slirp link past) where
-    closes : MayDue config past (CallClose socket) → may_close config past socket ≡ true
+  -- a socket was closed for a reason of its kind
+  module _ (socket : ℕ) (step new_step : Step) (holds : HoldsAt config at step slirp link past) (turn : InTurn config past) (here : is_among socket (open_sockets past) ≡ true) where
+    closes : MayDue config past (CallClose socket) → parts config past socket ≡ true
         → after_call (Close socket) (moment past) (record { associations = slirp.associations; step = step }) ≡ record { associations = without socket slirp.associations; step = new_step }
         → HoldsAt config at new_step (record slirp { associations = without socket slirp.associations }) link (Close socket ∷ past)
-    closes may_due may_socket comes = record {
-      settings = holds.settings;
-      lawful = record {
-        framed = (tt, holds.lawful.framed);
-        due = (may_due, holds.lawful.due);
-        shape = (tt, holds.lawful.shape);
-        socket = (may_socket, holds.lawful.socket);
-        read = (tt, holds.lawful.read);
-        answer = (tt, holds.lawful.answer);
+    closes may_due why comes = after_socket config at at step new_step slirp (record slirp { associations = without socket slirp.associations }) link (Close socket) past tt refl refl refl refl turn holds (record {
+      may = record {
+        framed = tt;
+        due = may_due;
+        place = or_first (is_working (phase config past)) (is_over (phase config past)) (ap is_working turn.working);
+        socket = and_both (is_among socket (open_sockets past)) _ here
+            (ap (λ (b : Bool). if b then is_least socket (open_sockets past) else parts config past socket || (is_ended config past && is_least socket (open_sockets past))) holds.open_yet
+            ∙ or_first (parts config past socket) (is_ended config past && is_least socket (open_sockets past)) why);
+        served = refl;
+        answered = refl;
+        goes_on = goes_on config past true holds.open_yet;
       };
-      keeps = record { framed = (tt, holds.keeps.framed); partly = holds.keeps.partly; rest = holds.keeps.rest; blocked = holds.keeps.blocked };
-      sent = holds.sent;
-      pending = holds.pending;
-      guests = holds.guests;
+      answers = record { sent = holds.answers.sent; pending = holds.answers.pending };
       relayed = ap (after_call (Close socket) (moment past)) holds.relayed ∙ comes;
-      clock = holds.clock;
-      number = holds.number;
-      rising = rising_without (next_number past) socket (open_sockets past) holds.rising;
-      sockets = those_without socket slirp.associations (open_sockets past) holds.sockets;
-      working = holds.working;
-      counted = holds.counted;
-      readable = holds.readable;
-    }
+      sockets = record {
+        number = holds.sockets.number;
+        rising = rising_without (next_number past) socket (open_sockets past) holds.sockets.rising;
+        those = those_without socket slirp.associations (open_sockets past) holds.sockets.those;
+        kinds = λ n among. holds.sockets.kinds n (second_of (not (n == socket)) (is_among n (open_sockets past)) (sym (among_without n socket (open_sockets past)) ∙ among));
+      };
+      agenda = holds.agenda;
+      open_yet = still_open config (Close socket) past (ap not why) holds.open_yet;
+    })
 
   -- the longest unused one gave way
   pub after_yielding : (oldest : Association) (others : List Association) (errand : Errand) → slirp.associations ≡ oldest ∷ others → HoldsAt config at (NeedsRoom oldest.number errand) slirp link past
@@ -221,85 +237,102 @@ module _ (config : Config) (at : Standing) (slirp : SlirpState) (link : LinkStat
   after_yielding oldest others errand first holds =
       let socket = oldest.number in
       let step = NeedsRoom socket errand in
-      let here : is_among socket (open_sockets past) ≡ true = holds.sockets socket ∙ ap (λ l. is_among socket (numbers l)) first ∙ ap (λ b. b || is_among socket (numbers others)) (same socket) in
-      closes socket step (NeedsSocket errand) holds
-      (this_due config past (CallClose socket) (due_is config past step holds.working (asks step holds)))
-      (and_both (is_among socket (open_sockets past)) _ here
-      (second _ (gives_way socket (relay config past).step) (is_idle socket (moment past) (relay config past).associations) (ap (gives_way socket) (asks step holds) ∙ same socket)))
+      let turn : InTurn config past = in_turn holds.stands (λ u. cc (u.unasked)) in
+      let here : is_among socket (open_sockets past) ≡ true = holds.sockets.those socket ∙ ap (λ l. is_among socket (numbers l)) first ∙ ap (λ b. b || is_among socket (numbers others)) (same socket) in
+      closes socket step (NeedsSocket errand) holds turn here
+      (this_due config past (CallClose socket) (due_is config past step turn.working (asks step holds)))
+      (parted step holds socket here
+      (or_first (gives_way socket (relay config past).step) (is_idle socket (moment past) (relay config past).associations) (ap (gives_way socket) (asks step holds) ∙ same socket)))
       refl
 
   -- its idle life was over
   pub after_idling : (socket : ℕ) → is_idle socket slirp.moment slirp.associations ≡ true → Holds config at slirp link past
       → Holds config at (record slirp { associations = without socket slirp.associations }) link (Close socket ∷ past)
   after_idling socket idle holds =
-      closes socket Settled Settled holds
-      (any_call config past (CallClose socket) holds.working (asks Settled holds))
-      (and_both (is_among socket (open_sockets past)) _ (holds.sockets socket ∙ idle_among socket slirp.moment slirp.associations idle)
-      (third _ (gives_way socket (relay config past).step) (is_idle socket (moment past) (relay config past).associations)
-      (ap (λ r. is_idle socket (moment past) r.associations) holds.relayed ∙ ap (λ m. is_idle socket m slirp.associations) holds.clock ∙ idle)))
+      let turn : InTurn config past = in_turn holds.stands (λ u. cc (sym (ap (is_idle socket slirp.moment) u.alone) ∙ idle)) in
+      let here = holds.sockets.those socket ∙ idle_among socket slirp.moment slirp.associations idle in
+      closes socket Settled Settled holds turn here
+      (any_call config past (CallClose socket) turn.working (asks Settled holds))
+      (parted Settled holds socket here
+      (or_second (gives_way socket (relay config past).step) (is_idle socket (moment past) (relay config past).associations)
+      (ap (λ r. is_idle socket (moment past) r.associations) holds.relayed ∙ ap (λ m. is_idle socket m slirp.associations) holds.clock.moment ∙ idle)))
       refl
 
-  -- a datagram was received, or none
-  module _ (socket asked : ℕ) (a : Association) (is : numbered socket slirp.associations ≡ Some a) (whole : asked ≡ 65507) (none : slirp.pending ≡ []) (out : link.tail ≡ []) (among : is_among socket (numbers slirp.associations) ≡ true)
-      (holds : Holds config at slirp link past) where
-    nothing_left : left config past ≡ []
-    nothing_left = no_frames config (identification past) (left config past) (holds.pending ∙ none)
+  -- nothing is left to be sent
+  pub all_out : slirp.pending ≡ [] → link.tail ≡ [] → Holds config at slirp link past → is_all_out config past ≡ true
+  all_out none out holds = ap (λ t. is_nothing t && is_out (left config past)) (holds.keeps.rest ∙ out) ∙ ap is_out (holds.answers.pending ∙ none)
 
-    received : (answer : Got) (octets : List ℕ) → Lawful config (UdpRecv socket asked answer octets ∷ past)
-    received answer octets = record {
-      framed = (tt, holds.lawful.framed);
-      due = (any_call config past (CallUdpRecv socket asked) holds.working (asks Settled holds), holds.lawful.due);
-      shape = (holds.working, holds.lawful.shape);
-      socket = ((carried Settled holds socket among, whole), holds.lawful.socket);
-      read = (tt, holds.lawful.read);
-      answer = ((holds.keeps.rest ∙ out, nothing_left), holds.lawful.answer);
-    }
+-- a datagram was received, or none, on a socket of which the last wait reported it
+module _ (config : Config) (count : ℕ) (wants : List Want) (item : Want) (items : List Want) (slirp : SlirpState) (link : LinkState) (past : List Entry) (socket asked : ℕ) (a : Association)
+    (reported : is_to_read (Udp socket) (wanted_of wants item) ≡ true) (is : numbered socket slirp.associations ≡ Some a) (whole : asked ≡ 65507) (none : slirp.pending ≡ []) (out : link.tail ≡ [])
+    (holds : Holds config (standing count wants (item ∷ items)) slirp link past) where
+  abbrev before : Standing
+  before = standing count wants (item ∷ items)
 
-    pub after_hearing : (peer : Endpoint) (count : ℕ) (octets : List ℕ)
-        → Holds config at (record slirp { associations = moved_last (heard_at slirp.moment) socket slirp.associations; pending = frames_of slirp.config slirp.sent (reply slirp.config peer octets a) }) link (UdpRecv socket asked (From peer count) octets ∷ past)
-    after_hearing peer count octets = record {
-      settings = holds.settings;
-      lawful = received (From peer count) octets;
-      keeps = record { framed = (tt, holds.keeps.framed); partly = holds.keeps.partly; rest = holds.keeps.rest; blocked = holds.keeps.blocked };
-      sent = holds.sent;
-      pending = ap (λ r. frames_of config (identification past) (owed_for_peer config peer octets (numbered socket r.associations))) holds.relayed
-          ∙ ap (λ o. frames_of config (identification past) (owed_for_peer config peer octets o)) is
-          ∙ ap (λ i. frames_of config i (reply config peer octets a)) holds.sent ∙ sym (ap (λ k. frames_of k slirp.sent (reply k peer octets a)) holds.settings);
-      guests = holds.guests;
-      relayed = ap (after_call (UdpRecv socket asked (From peer count) octets) (moment past)) holds.relayed ∙ ap (λ m. record { associations = moved_last (heard_at m) socket slirp.associations; step = Settled }) holds.clock;
-      clock = holds.clock;
-      number = holds.number;
-      rising = holds.rising;
-      sockets = those_moved (heard_at slirp.moment) (λ a. refl) socket slirp.associations (open_sockets past) holds.sockets;
-      working = holds.working;
-      counted = holds.counted;
-      readable = holds.readable;
-    }
+  abbrev behind_it : Standing
+  behind_it = standing count wants items
 
-    heard_nothing : (answer : Got) (octets : List ℕ) → frames_of config (identification past) (left config (UdpRecv socket asked answer octets ∷ past)) ≡ slirp.pending
-        → relay config (UdpRecv socket asked answer octets ∷ past) ≡ relay config past → Holds config at slirp link (UdpRecv socket asked answer octets ∷ past)
-    heard_nothing answer octets owes same_relay = record {
-      settings = holds.settings;
-      lawful = received answer octets;
-      keeps = record { framed = (tt, holds.keeps.framed); partly = holds.keeps.partly; rest = holds.keeps.rest; blocked = holds.keeps.blocked };
-      sent = holds.sent;
-      pending = owes;
-      guests = holds.guests;
-      relayed = same_relay ∙ holds.relayed;
-      clock = holds.clock;
-      number = holds.number;
-      rising = holds.rising;
-      sockets = holds.sockets;
-      working = holds.working;
-      counted = holds.counted;
-      readable = holds.readable;
-    }
+  among : is_among socket (numbers slirp.associations) ≡ true
+  among = numbered_among socket slirp.associations a is
 
-    pub after_not_yet : (octets : List ℕ) → Holds config at slirp link (UdpRecv socket asked GotNotYet octets ∷ past)
-    after_not_yet octets = heard_nothing GotNotYet octets holds.pending refl
+  hear_turn : InTurn config past
+  hear_turn = in_turn holds.stands (λ u. cc (sym (ap (numbered socket) u.alone) ∙ is))
 
-    pub after_no_hearing : (octets : List ℕ) → Holds config at slirp link (UdpRecv socket asked GotFailed octets ∷ past)
-    after_no_hearing octets = heard_nothing GotFailed octets holds.pending refl
+  may_hear : May config past (CallUdpRecv socket asked)
+  may_hear = record {
+    framed = tt;
+    due = any_call config past (CallUdpRecv socket asked) hear_turn.working (asks config before slirp link past Settled holds);
+    place = ap is_working hear_turn.working;
+    socket = and_both (carries past socket) (asked == most_to_udp) (carried config before slirp link past Settled holds socket among) (ap (λ n. n == 65507) whole ∙ same 65507);
+    served = reads_of (Udp socket) (wanted_of wants item) (all_wanted wants items) (agenda past) reported holds.agenda;
+    answered = all_out config before slirp link past none out holds;
+    goes_on = goes_on config past false holds.open_yet;
+  }
+
+  agenda_behind : (answer : Got) (octets : List ℕ) → IsLast (all_wanted wants items) (agenda (UdpRecv socket asked answer octets ∷ past))
+  agenda_behind answer octets = behind_of (Udp socket) (wanted_of wants item) (all_wanted wants items) (agenda past) reported holds.agenda
+
+  pub after_hearing : (peer : Endpoint) (count : ℕ) (octets : List ℕ)
+      → Holds config behind_it (record slirp { associations = moved_last (heard_at slirp.moment) socket slirp.associations; pending = frames_of slirp.config slirp.sent (reply slirp.config peer octets a) }) link (UdpRecv socket asked (From peer count) octets ∷ past)
+  after_hearing peer count octets =
+      let e = UdpRecv socket asked (From peer count) octets in
+      after_socket config before behind_it Settled Settled slirp
+      (record slirp { associations = moved_last (heard_at slirp.moment) socket slirp.associations; pending = frames_of slirp.config slirp.sent (reply slirp.config peer octets a) }) link e past tt refl refl refl refl hear_turn holds (record {
+        may = may_hear;
+        answers = record {
+          sent = holds.answers.sent;
+          pending = ap (λ r. frames_of config (identification past) (owed_for_peer config peer octets (numbered socket r.associations))) holds.relayed
+              ∙ ap (λ o. frames_of config (identification past) (owed_for_peer config peer octets o)) is
+              ∙ ap (λ i. frames_of config i (reply config peer octets a)) holds.answers.sent ∙ sym (ap (λ k. frames_of k slirp.sent (reply k peer octets a)) holds.settings);
+        };
+        relayed = ap (after_call e (moment past)) holds.relayed ∙ ap (λ m. record { associations = moved_last (heard_at m) socket slirp.associations; step = Settled }) holds.clock.moment;
+        sockets = record {
+          number = holds.sockets.number;
+          rising = holds.sockets.rising;
+          those = those_moved (heard_at slirp.moment) (λ a. refl) socket slirp.associations (open_sockets past) holds.sockets.those;
+          kinds = holds.sockets.kinds;
+        };
+        agenda = agenda_behind (From peer count) octets;
+        open_yet = holds.open_yet;
+      })
+
+  heard_nothing : (answer : Got) (octets : List ℕ) → left config (UdpRecv socket asked answer octets ∷ past) ≡ slirp.pending
+      → relay config (UdpRecv socket asked answer octets ∷ past) ≡ relay config past → Holds config behind_it slirp link (UdpRecv socket asked answer octets ∷ past)
+  heard_nothing answer octets owes same_relay =
+      after_socket config before behind_it Settled Settled slirp slirp link (UdpRecv socket asked answer octets) past tt refl refl refl refl hear_turn holds (record {
+        may = may_hear;
+        answers = record { sent = holds.answers.sent; pending = owes };
+        relayed = same_relay ∙ holds.relayed;
+        sockets = record { number = holds.sockets.number; rising = holds.sockets.rising; those = holds.sockets.those; kinds = holds.sockets.kinds };
+        agenda = agenda_behind answer octets;
+        open_yet = holds.open_yet;
+      })
+
+  pub after_not_yet : (octets : List ℕ) → Holds config behind_it slirp link (UdpRecv socket asked GotNotYet octets ∷ past)
+  after_not_yet octets = heard_nothing GotNotYet octets holds.answers.pending refl
+
+  pub after_no_hearing : (octets : List ℕ) → Holds config behind_it slirp link (UdpRecv socket asked GotFailed octets ∷ past)
+  after_no_hearing octets = heard_nothing GotFailed octets holds.answers.pending refl
 
 -- where as many sockets are open as may be, the longest unused one gives way
 pub yields_first : (list : List Association) (oldest : Association) (errand : Errand) → slice_get list 0 ≡ Some oldest → nat_le most_associations (length list) ≡ true

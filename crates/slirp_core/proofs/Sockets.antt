@@ -6,7 +6,7 @@ use Rattle.std.specs.List.{list_any}
 use Rattle.net_octets.specs.declared.Endpoint.{Endpoint}
 use Rattle.udp_assoc.specs.Associations.{IsLeast, is_numbered, is_of, is_over, is_idle, numbers, numbered, socket_of, without, moved_last}
 use Rattle.udp_assoc.specs.declared.assocs.Association.{Association}
-use Rattle.slirp_laws.specs.Shape.{is_among, first}
+use Rattle.run_laws.specs.Sockets.{is_among, first}
 use Rattle.slirp_core.specs.Sockets.{AllAbove, IsRising, AreThoseOf}
 
 pub same : (n : ℕ) → (n == n) ≡ true

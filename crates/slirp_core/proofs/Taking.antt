@@ -12,9 +12,12 @@ use Rattle.ipv4_head.specs.Ip.{Ip, read_ip, ip_octets, is_unbroken}
 use Rattle.icmp_echo.specs.Icmp.{read_icmp, unreachable_octets}
 use Rattle.udp_assoc.specs.Udp.{udp_octets}
 use Rattle.udp_assoc.specs.declared.assocs.Association.{Association}
-use Rattle.slirp_laws.specs.Answers.{Packet, IpPacket, our_mac, most_body, is_message_to_us, is_untold, told_about, reply, frames_of, owed_for, owed_for_arp, owed_for_icmp, owed_for_datagram, owed_for_ip, owed_for_ether, owed_for_frame}
-use Rattle.slirp_laws.specs.Datagrams.{Datagram, udp_of, Errand, errand_of, errand_of_ip, errand_of_ether, errand_in}
-use Rattle.slirp_laws.specs.Guests.{with_pair, with_arp, with_ip, with_ether}
+use Rattle.slirp_laws.specs.Answers.{Answer, IpAnswer, our_mac, most_body, is_untold, told_about, reply, frames_of, owed_for_arp, owed_for_icmp, owed_for_datagram}
+use Rattle.slirp_core.specs.Packets.{is_message_to_us, owed_for, owed_for_ip, owed_for_ether, owed_for_frame}
+use Rattle.run_laws.specs.Packets.{Datagram}
+use Rattle.slirp_core.specs.Packets.{udp_of, errand_of_ip, errand_of_ether, errand_in}
+use Rattle.slirp_laws.specs.Datagrams.{Errand, errand_of}
+use Rattle.slirp_core.specs.Packets.{with_address, with_arp, with_ip, with_ether}
 use Rattle.slirp_core.specs.State.{SlirpState}
 use Rattle.slirp_core.proofs.Datagramming.{none_of_others}
 
@@ -56,19 +59,19 @@ no_udp config ip asked udp =
 -- what a packet asks for
 module _ (s : SlirpState) (mac octets : List ℕ) (ip : Ip) (read : read_ip octets ≡ Some ip) where
   pub message_to_us : is_message_to_us s.config ip ≡ true → ◌≡◌ {A = SlirpState}
-      (record s { pending = frames_of s.config s.sent (owed_for (owed_for_icmp mac ip) (read_icmp ip.body)); known = with_pair s.config ip.from mac s.known })
+      (record s { pending = frames_of s.config s.sent (owed_for (owed_for_icmp mac ip) (read_icmp ip.body)); known = with_address s.config ip.from mac s.known })
       (record s { pending = frames_of s.config s.sent (owed_for (owed_for_ip s.config mac) (read_ip octets)); known = with_ip s.config mac (read_ip octets) s.known })
   message_to_us asked = sym (
       ap (λ (o : Option Ip). record s { pending = frames_of s.config s.sent (owed_for (owed_for_ip s.config mac) o); known = with_ip s.config mac o s.known }) read
-      ∙ ap (λ (b : Bool). record s { pending = frames_of s.config s.sent (if b then owed_for (owed_for_icmp mac ip) (read_icmp ip.body) else owed_for (owed_for_datagram s.config) (udp_of s.config mac ip)); known = with_pair s.config ip.from mac s.known }) asked)
+      ∙ ap (λ (b : Bool). record s { pending = frames_of s.config s.sent (if b then owed_for (owed_for_icmp mac ip) (read_icmp ip.body) else owed_for (owed_for_datagram s.config) (udp_of s.config mac ip)); known = with_address s.config ip.from mac s.known }) asked)
 
   pub no_message : is_message_to_us s.config ip ≡ false → (d : Option Datagram) → d ≡ udp_of s.config mac ip → ◌≡◌ {A = SlirpState}
-      (record s { pending = frames_of s.config s.sent (owed_for (owed_for_datagram s.config) d); known = with_pair s.config ip.from mac s.known })
+      (record s { pending = frames_of s.config s.sent (owed_for (owed_for_datagram s.config) d); known = with_address s.config ip.from mac s.known })
       (record s { pending = frames_of s.config s.sent (owed_for (owed_for_ip s.config mac) (read_ip octets)); known = with_ip s.config mac (read_ip octets) s.known })
   no_message asked d udp = sym (
       ap (λ (o : Option Ip). record s { pending = frames_of s.config s.sent (owed_for (owed_for_ip s.config mac) o); known = with_ip s.config mac o s.known }) read
-      ∙ ap (λ (b : Bool). record s { pending = frames_of s.config s.sent (if b then owed_for (owed_for_icmp mac ip) (read_icmp ip.body) else owed_for (owed_for_datagram s.config) (udp_of s.config mac ip)); known = with_pair s.config ip.from mac s.known }) asked
-      ∙ ap (λ (o : Option Datagram). record s { pending = frames_of s.config s.sent (owed_for (owed_for_datagram s.config) o); known = with_pair s.config ip.from mac s.known }) (sym udp))
+      ∙ ap (λ (b : Bool). record s { pending = frames_of s.config s.sent (if b then owed_for (owed_for_icmp mac ip) (read_icmp ip.body) else owed_for (owed_for_datagram s.config) (udp_of s.config mac ip)); known = with_address s.config ip.from mac s.known }) asked
+      ∙ ap (λ (o : Option Datagram). record s { pending = frames_of s.config s.sent (owed_for (owed_for_datagram s.config) o); known = with_address s.config ip.from mac s.known }) (sym udp))
 
   pub no_errand : is_message_to_us s.config ip ≡ true → ◌≡◌ {A = Option Errand} None (option_and_then (errand_of_ip s.config mac) (read_ip octets))
   no_errand asked = ap (option_and_then (errand_of s.config)) (none_of_others s.config mac ip (no_udp s.config ip asked)) ∙ sym (ap (option_and_then (errand_of_ip s.config mac)) read)
@@ -77,7 +80,7 @@ module _ (s : SlirpState) (mac octets : List ℕ) (ip : Ip) (read : read_ip octe
 pub told : (config : Config) (ident code : ℕ) (d : Datagram) → is_untold config d ≡ false
     → ether_octets d.mac (our_mac config.vhost) ipv4_kind (ip_octets ident 0 icmp_proto config.vhost (address d.from) (unreachable_octets code d.quote)) ∷ [] ≡ frames_of config ident (told_about config code d)
 told config ident code d may =
-    sym (ap (λ (b : Bool). frames_of config ident (if b then [] else IpPacket d.mac icmp_proto config.vhost (address d.from) (unreachable_octets code d.quote) ∷ [])) may)
+    sym (ap (λ (b : Bool). frames_of config ident (if b then [] else IpAnswer d.mac icmp_proto config.vhost (address d.from) (unreachable_octets code d.quote) ∷ [])) may)
 
 pub both_false : (a b c : Bool) → a ≡ false → (b || c) ≡ false → ((a || b) || c) ≡ false
 both_false a b c p q = ap (λ (x : Bool). (x || b) || c) p ∙ q
@@ -90,9 +93,9 @@ shown_parts false from peer is = (refl, cc)
 fits_frame : (b : Bool) (n : ℕ) → b ≡ false → n ≤ 1472 → (b || not (nat_le n 1472)) ≡ false
 fits_frame b n is fits = grind (arith, nat_tests)
 
-abbrev reply_packet : Endpoint → List ℕ → Association → Packet
+abbrev reply_packet : Endpoint → List ℕ → Association → Answer
 reply_packet from octets a =
-    IpPacket a.mac.0 udp_proto (address from) (address a.guest) (udp_octets (address from) (address a.guest) (record { from_port = from.port; to_port = a.guest.port; body = octets }))
+    IpAnswer a.mac.0 udp_proto (address from) (address a.guest) (udp_octets (address from) (address a.guest) (record { from_port = from.port; to_port = a.guest.port; body = octets }))
 
 pub answered : (config : Config) (ident : ℕ) (peer from : Endpoint) (octets : List ℕ) (a : Association)
     → Some from ≡ (if is_hidden config peer then None else Some (shown config peer)) → length octets ≤ 1472

@@ -1,6 +1,7 @@
 -- Datagrams and errands as the core has them.
 use Rattle.std.specs.Prelude.{◌≤◌, length}
-use Rattle.slirp_laws.specs.Datagrams.{Datagram, Errand, Fate, Ignored, Refused, GoesTo}
+use Rattle.run_laws.specs.Packets.{Datagram}
+use Rattle.slirp_laws.specs.Datagrams.{Errand, Fate, Ignored, Refused, GoesTo}
 use Rattle.slirp_core.specs.declared.datagrams.DatagramView.{DatagramView}
 use Rattle.slirp_core.specs.declared.datagrams.ErrandView.{ErrandView}
 use Rattle.slirp_core.specs.declared.datagrams.Outcome.{Outcome}

@@ -1,15 +1,26 @@
--- The packet that is owed.
-use Rattle.std.specs.Prelude.{true, false, List, [], ◌∷◌, Option, Some, None}
+-- What the core makes of a frame as it takes it apart, and the packet that is owed.
+use Rattle.std.specs.Prelude.{ℕ, ◌==◌, ◌&&◌, nat_le, Bool, true, false, List, [], ◌∷◌, length, Option, Some, None, option_and_then, if◌then◌else◌}
+use Rattle.net_octets.specs.Kinds.{arp_kind, ipv4_kind, icmp_proto, udp_proto}
+use Rattle.net_octets.specs.declared.Ip4.{Ip4}
+use Rattle.net_octets.specs.declared.Mac.{Mac}
+use Rattle.host_policy.specs.Addresses.{Config, is_guest, is_ours}
+use Rattle.ether_frame.specs.Ether.{Ether, read_ether}
+use Rattle.arp_table.specs.Table.{learnt}
+use Rattle.ipv4_head.specs.Ip.{Ip, read_ip, is_unbroken}
+use Rattle.icmp_echo.specs.Icmp.{read_icmp}
+use Rattle.udp_assoc.specs.Udp.{read_udp}
+use Rattle.run_laws.specs.Packets.{Datagram, datagram_of, may_come}
+use Rattle.slirp_laws.specs.Datagrams.{Errand, errand_of}
 use Rattle.arp_table.specs.declared.ArpView.{ArpView}
-use Rattle.arp_table.specs.Arp.{arp_of}
+use Rattle.arp_table.specs.Arp.{Arp, arp_of, read_arp}
 use Rattle.icmp_echo.specs.declared.IcmpView.{IcmpView}
 use Rattle.icmp_echo.specs.declared.IcmpView.TheVariants.{Echo, Unreachable, Other}
-use Rattle.slirp_laws.specs.Answers.{Packet, ArpPacket}
+use Rattle.slirp_laws.specs.Answers.{Answer, ArpAnswer, most_body, owed_for_arp, owed_for_icmp, owed_for_datagram}
 
-abbrev pub packet_of : ArpView → Packet
-packet_of view = ArpPacket view.target_mac.0 (arp_of view)
+abbrev pub packet_of : ArpView → Answer
+packet_of view = ArpAnswer view.target_mac.0 (arp_of view)
 
-abbrev pub packets_of : Option ArpView → List Packet
+abbrev pub packets_of : Option ArpView → List Answer
 packets_of None = []
 packets_of (Some view) = packet_of view ∷ []
 
@@ -19,3 +30,61 @@ reply_to (Echo true ident number body) = None
 reply_to (Echo false ident number body) = Some (Echo true ident number body)
 reply_to (Unreachable code quoted) = None
 reply_to (Other kind code) = None
+
+abbrev pub owed_for : {A : Type 0} → (A → List Answer) → Option A → List Answer
+owed_for owes None = []
+owed_for owes (Some a) = owes a
+
+-- a guest's whole datagram with a message to one of ours, whose answer fits a frame
+abbrev pub is_message_to_us : Config → Ip → Bool
+is_message_to_us config ip = is_guest config ip.from && is_ours config ip.to && (ip.proto == icmp_proto) && is_unbroken ip && nat_le (length ip.body) most_body
+
+-- the datagram of UDP that a whole one of IPv4 holds
+abbrev pub udp_of : Config → List ℕ → Ip → Option Datagram
+udp_of config mac ip =
+    if (ip.proto == udp_proto) && is_unbroken ip
+    then option_and_then (λ udp. if may_come config ip udp then Some (datagram_of mac ip udp) else None) (read_udp ip.from ip.to ip.body)
+    else None
+
+abbrev pub owed_for_ip : Config → List ℕ → Ip → List Answer
+owed_for_ip config mac ip = if is_message_to_us config ip then owed_for (owed_for_icmp mac ip) (read_icmp ip.body) else owed_for (owed_for_datagram config) (udp_of config mac ip)
+
+abbrev pub owed_for_ether : Config → Ether → List Answer
+owed_for_ether config ether =
+    if ether.kind == arp_kind then owed_for (owed_for_arp config) (read_arp ether.body)
+    else (if ether.kind == ipv4_kind then owed_for (owed_for_ip config ether.from) (read_ip ether.body) else [])
+
+abbrev pub owed_for_frame : Config → List ℕ → List Answer
+owed_for_frame config frame = owed_for (owed_for_ether config) (read_ether frame)
+
+-- the errand of a frame that holds a datagram whole
+abbrev pub errand_of_ip : Config → List ℕ → Ip → Option Errand
+errand_of_ip config mac ip = option_and_then (errand_of config) (udp_of config mac ip)
+
+abbrev pub errand_of_ether : Config → Ether → Option Errand
+errand_of_ether config ether = if ether.kind == ipv4_kind then option_and_then (errand_of_ip config ether.from) (read_ip ether.body) else None
+
+abbrev pub errand_in : Config → List ℕ → Option Errand
+errand_in config frame = option_and_then (errand_of_ether config) (read_ether frame)
+
+-- whom a frame makes known
+abbrev pub with_address : Config → ℕ → List ℕ → List (Ip4 × Mac) → List (Ip4 × Mac)
+with_address config address mac pairs = if is_guest config address then learnt (record { 0 = address }) (record { 0 = mac }) pairs else pairs
+
+abbrev pub with_arp : Config → Option Arp → List (Ip4 × Mac) → List (Ip4 × Mac)
+with_arp config None pairs = pairs
+with_arp config (Some arp) pairs = with_address config arp.sender arp.sender_mac pairs
+
+abbrev pub with_ip : Config → List ℕ → Option Ip → List (Ip4 × Mac) → List (Ip4 × Mac)
+with_ip config mac None pairs = pairs
+with_ip config mac (Some ip) pairs = with_address config ip.from mac pairs
+
+abbrev pub with_ether : Config → Option Ether → List (Ip4 × Mac) → List (Ip4 × Mac)
+with_ether config None pairs = pairs
+with_ether config (Some ether) pairs =
+    if ether.kind == arp_kind then with_arp config (read_arp ether.body) pairs
+    else (if ether.kind == ipv4_kind then with_ip config ether.from (read_ip ether.body) pairs else pairs)
+
+abbrev pub with_frame : Config → Option (List ℕ) → List (Ip4 × Mac) → List (Ip4 × Mac)
+with_frame config None pairs = pairs
+with_frame config (Some frame) pairs = with_ether config (read_ether frame) pairs

@@ -4,10 +4,11 @@ use Rattle.poll_list.specs.declared.Want.{Want}
 use Rattle.stream_netdev.specs.State.{LinkState, under_way}
 use Rattle.slirp_core.specs.State.{SlirpState}
 
--- what contracts see of a service: its network, its link, and what the last wait reported
+-- what contracts see of a service: its network, its link, and what the last wait wanted and reported
 pub record ServiceState : Type 0 where
   pub slirp : SlirpState
   pub link : LinkState
+  pub wants : List Want
   pub ready : List Want
 
 -- nothing was read or written, no datagram was sent, no guest is known, no socket is open, no moment was told and nothing is owed; no port of the host is given to a guest yet

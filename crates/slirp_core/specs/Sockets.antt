@@ -2,7 +2,7 @@
 use Rattle.std.specs.Prelude.{◌≡◌, ℕ, ◌<◌, List, [], ◌∷◌}
 use Rattle.udp_assoc.specs.Associations.{numbers}
 use Rattle.udp_assoc.specs.declared.assocs.Association.{Association}
-use Rattle.slirp_laws.specs.Shape.{is_among}
+use Rattle.run_laws.specs.Sockets.{is_among}
 
 abbrev pub AllAbove : ℕ → List ℕ → Type 0
 AllAbove n [] = Unit {0}

@@ -3,7 +3,9 @@ ghost use Rattle.std.specs.Prelude.{◌≡◌, ◌≤◌, ◌||◌, ◌==◌, �
 ghost use Rattle.std.specs.Option.{option_map};
 ghost use Rattle.host_policy.specs.Addresses.{is_guest};
 ghost use Rattle.ipv4_head.specs.Ip.{ip_of, read_ip};
-ghost use Rattle.slirp_laws.specs.Datagrams.{udp_of, quoted, fate};
+ghost use Rattle.slirp_core.specs.Packets.{udp_of};
+ghost use Rattle.run_laws.specs.Packets.{quoted};
+ghost use Rattle.slirp_laws.specs.Datagrams.{fate};
 ghost use Rattle.slirp_core.specs.Datagrams.{datagram_of, fate_of};
 
 use host_policy::{Policy, Proto, Verdict};

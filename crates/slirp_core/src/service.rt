@@ -1,9 +1,11 @@
 // The loop of turns.
-ghost use Rattle.std.specs.Prelude.{◌≡◌, ◌&&◌, false, if◌then◌else◌};
+ghost use Rattle.std.specs.Prelude.{◌≡◌, ◌&&◌, true, false, if◌then◌else◌};
+ghost use Rattle.slirp_laws.specs.Agenda.{is_to_read};
 ghost use Rattle.slirp_core.specs.Holds.{Standing, still, is_read_now};
 ghost use Rattle.poll_list.specs.Listing.{reads, writes};
 ghost use Rattle.slirp_core.specs.Ends.{turn_of};
-ghost use Rattle.poll_list.specs.declared.Who.TheVariants.{Link as TheLink};
+ghost use Rattle.poll_list.specs.declared.Who.TheVariants.{Link as TheLink, Udp};
+ghost use Rattle.poll_list.specs.declared.Want.{Want as AnItem};
 
 use crate::slirp::{Pumped, Slirp};
 use host_policy::SlirpConfig;
@@ -35,6 +37,8 @@ pub enum End {
     WaitFault,
     /// There were as many waits as the settings allow.
     TurnsSpent(u64),
+    /// The host refused the forward with this number, counted from 0.
+    ListenRefused(usize),
 }
 
 /// What came of a turn.
@@ -44,10 +48,10 @@ pub enum Turn {
     Ended(End),
 }
 
-// What came of a wait. `Ready` says whether frames and datagrams were waited for.
+// What came of a wait.
 #[derive(Clone, Copy, Debug, PartialEq, Eq)]
 pub enum Slept {
-    Ready(bool),
+    Ready,
     Stopped,
     Failed,
 }
@@ -69,22 +73,23 @@ impl Model for Service {
 
     ghost Value = { ServiceState };
 
-    ghost view = { λ s. record { slirp = s.slirp; link = s.link; ready = s.ready.items } };
+    ghost view = { λ s. record { slirp = s.slirp; link = s.link; wants = s.wants.items; ready = s.ready.items } };
 
     ghost invariant = { λ s. (s.turns ≡ s.slirp.config.turns) × (s.wants.capacity ≡ 5155) × (s.ready.capacity ≡ 5155) × (length s.payload.items ≡ 65507) };
 }
 
 impl Service {
-    ghost use Rattle.std.specs.Prelude.{ℕ, ◌+◌, ◌<◌, ◌≤◌, ◌^◌, [], true, if◌then◌else◌, IfOk};
-    ghost use Rattle.world_face.specs.Tells.{Makes, Brings};
+    ghost use Rattle.std.specs.Prelude.{ℕ, ◌+◌, ◌<◌, ◌≤◌, ◌^◌, List, [], ◌∷◌, drop, length, if◌then◌else◌, IfOk};
+    ghost use Rattle.world_face.specs.Tells.{Makes, Brings, Rose};
     ghost use Rattle.host_policy.specs.Addresses.{Config};
     ghost use Rattle.host_policy.specs.Settings.{settings};
-    ghost use Rattle.slirp_laws.specs.Laws.{Lawful};
-    ghost use Rattle.slirp_laws.specs.Shape.{Finished, phase};
+    ghost use Rattle.slirp_laws.specs.Agenda.{wanted_of};
+    ghost use Rattle.slirp_laws.specs.Laws.{Finished, Lawful};
+    ghost use Rattle.run_laws.specs.Shape.{phase};
     ghost use Rattle.slirp_laws.specs.Served.{Served};
     ghost use Rattle.stream_netdev.specs.Keeps.{ReadsOn};
     ghost use Rattle.stream_netdev.specs.State.{under_way};
-    ghost use Rattle.slirp_core.specs.Ends.{end_of};
+    ghost use Rattle.slirp_core.specs.Ends.{end_of, AreGrown, IsCounted};
     ghost use Rattle.slirp_core.specs.Holds.{Holds, Closing, after, standing, AfterSleep, AfterTurn, GoesOnAfter};
     ghost use Rattle.slirp_core.specs.Pumps.{is_settled};
     ghost use Rattle.slirp_core.specs.Served.{IsNew};
@@ -123,19 +128,20 @@ impl Service {
     // Waits, and asks for the moment where it was woken.
     fn sleep<W: World>(&mut self, world: &mut W) -> Slept
         ensures makes { (config : Config) (count : ℕ) → count < config.turns → Brings (W.tells world.old) (W.tells world.new)
-            (Holds config (after count) self.old.slirp self.old.link) (AfterSleep result config (count + 1) self.new.ready self.new.slirp self.new.link) }
+            (Holds config (after count) self.old.slirp self.old.link) (AfterSleep result config (count + 1) self.new.wants self.new.ready self.new.slirp self.new.link) }
+        ensures counts { AreGrown (W.tells world.old).faults (W.tells world.new).faults }
+        ensures failed { result ≡ Slept.Failed → Rose (W.tells world.old).faults.wait (W.tells world.new).faults.wait }
         ensures on { under_way self.new.link ≡ under_way self.old.link }
         ensures config { self.new.slirp.config ≡ self.old.slirp.config }
         ensures number { self.new.slirp.number ≡ self.old.slirp.number }
     {
-        let listened = self.is_settled();
         let timeout = self.slirp.pollfds_fill(&self.link, &mut self.wants);
         match world.wait(&self.wants, timeout, &mut self.ready) {
             Waited::Ready => {
                 let told = world.now();
                 self.slirp.tell_moment(told);
                 report(&mut self.link, self.ready.items());
-                Slept::Ready(listened)
+                Slept::Ready
             }
             Waited::Stop => Slept::Stopped,
             Waited::Failed => Slept::Failed,
@@ -146,12 +152,13 @@ impl Service {
     fn receive<W: World>(&mut self, world: &mut W) -> Turn
         requires on { ReadsOn (under_way self.old.link) }
         requires number { self.old.slirp.number + 1 < 2 ^ 64 }
-        ensures makes { (config : Config) (count : ℕ) → Brings (W.tells world.old) (W.tells world.new)
-            (Holds config (standing count true) self.old.slirp self.old.link) (AfterTurn result config (after count) self.new.slirp self.new.link) }
+        ensures makes { (config : Config) (count : ℕ) (wants : List AnItem) (item : AnItem) (items : List AnItem) → is_to_read TheLink (wanted_of wants item) ≡ true → Brings (W.tells world.old) (W.tells world.new)
+            (Holds config (standing count wants (item ∷ items)) self.old.slirp self.old.link) (AfterTurn result config (standing count wants items) self.new.slirp self.new.link) }
+        ensures faults { IsCounted result (W.tells world.old).faults (W.tells world.new).faults }
         ensures on { GoesOnAfter result self.new.link }
         ensures config { self.new.slirp.config ≡ self.old.slirp.config }
         ensures number { self.new.slirp.number ≤ self.old.slirp.number + 1 }
-        ensures ready { self.new.ready ≡ self.old.ready }
+        ensures reports { (self.new.wants ≡ self.old.wants) × (self.new.ready ≡ self.old.ready) }
     {
         if !self.is_settled() {
             return Turn::Again;
@@ -173,12 +180,13 @@ impl Service {
 
     // Receives a datagram on a socket where nothing is left to be sent.
     fn hear<W: World>(&mut self, world: &mut W, number: u64)
-        ensures makes { (config : Config) (at : Standing) → Brings (W.tells world.old) (W.tells world.new)
-            (Holds config at self.old.slirp self.old.link) (Holds config at self.new.slirp self.new.link) }
+        ensures makes { (config : Config) (count : ℕ) (wants : List AnItem) (item : AnItem) (items : List AnItem) → is_to_read (Udp number) (wanted_of wants item) ≡ true → Brings (W.tells world.old) (W.tells world.new)
+            (Holds config (standing count wants (item ∷ items)) self.old.slirp self.old.link) (Holds config (standing count wants items) self.new.slirp self.new.link) }
+        ensures counts { AreGrown (W.tells world.old).faults (W.tells world.new).faults }
         ensures link { self.new.link ≡ self.old.link }
         ensures config { self.new.slirp.config ≡ self.old.slirp.config }
         ensures number { self.new.slirp.number ≡ self.old.slirp.number }
-        ensures ready { self.new.ready ≡ self.old.ready }
+        ensures reports { (self.new.wants ≡ self.old.wants) × (self.new.ready ≡ self.old.ready) }
     {
         if self.is_settled() {
             self.slirp.hear(world, number, &mut self.payload);
@@ -190,75 +198,108 @@ impl Service {
         requires { ReadsOn (under_way self.old.link) }
         ensures makes { (config : Config) (at : Standing) → Brings (W.tells world.old) (W.tells world.new)
             (Holds config at self.old.slirp self.old.link) (AfterTurn result config at self.new.slirp self.new.link) }
+        ensures faults { IsCounted result (W.tells world.old).faults (W.tells world.new).faults }
         ensures on { GoesOnAfter result self.new.link }
         ensures config { self.new.slirp.config ≡ self.old.slirp.config }
         ensures number { self.new.slirp.number ≡ self.old.slirp.number }
-        ensures ready { self.new.ready ≡ self.old.ready }
+        ensures reports { (self.new.wants ≡ self.old.wants) × (self.new.ready ≡ self.old.ready) }
     {
         let pumped = self.slirp.pump(world, &mut self.link);
         turn_of(pumped)
     }
 
-    // Serves an item of what a wait reported: the link where a frame is still to be read, or a socket where sockets may be heard.
-    fn serve_item<W: World>(
-        &mut self,
-        world: &mut W,
-        item: &Want,
-        to_read: bool,
-        hears: bool,
-    ) -> Turn
+    // Whether datagrams on this socket were waited for. What is waited for stands by rising numbers, the link before all sockets.
+    fn waits_for(&self, number: u64) -> bool
+        ensures { result ≡ true → reads (Udp number) self.now.wants ≡ true }
+    {
+        let wants = self.wants.items();
+        match wants.binary_search_by_key(&Some(number), |want| socket_of(want.of)) {
+            Ok(place) => reads_at(wants, place, number),
+            Err(_) => false,
+        }
+    }
+
+    // Serves an item of what a wait reported: the link where a frame is still to be read, or a socket that was waited for.
+    fn serve_item<W: World>(&mut self, world: &mut W, item: &Want, to_read: bool) -> Turn
         requires on { ReadsOn (under_way self.old.link) }
         requires number { to_read ≡ true → self.old.slirp.number + 1 < 2 ^ 64 }
-        ensures makes { (config : Config) (count : ℕ) → Brings (W.tells world.old) (W.tells world.new)
-            (Holds config (standing count to_read) self.old.slirp self.old.link) (AfterTurn result config (standing count (still to_read item.now)) self.new.slirp self.new.link) }
+        ensures makes { (config : Config) (count : ℕ) (items : List AnItem) → (to_read ≡ true → reads TheLink self.old.wants ≡ true) → Brings (W.tells world.old) (W.tells world.new)
+            (Holds config (standing count self.old.wants (item.now ∷ items)) self.old.slirp self.old.link) (AfterTurn result config (standing count self.old.wants items) self.new.slirp self.new.link) }
+        ensures faults { IsCounted result (W.tells world.old).faults (W.tells world.new).faults }
         ensures on { GoesOnAfter result self.new.link }
         ensures config { self.new.slirp.config ≡ self.old.slirp.config }
         ensures number { self.new.slirp.number ≤ self.old.slirp.number + (if is_read_now to_read item.now then 1 else 0) }
-        ensures ready { self.new.ready ≡ self.old.ready }
+        ensures reports { (self.new.wants ≡ self.old.wants) × (self.new.ready ≡ self.old.ready) }
     {
+        if !item.read {
+            return Turn::Again;
+        }
         match item.of {
-            Who::Link if item.read && to_read => self.receive(world),
-            Who::Udp(number) if item.read && hears => {
-                self.hear(world, number);
+            Who::Link => {
+                if to_read {
+                    self.receive(world)
+                } else {
+                    Turn::Again
+                }
+            }
+            Who::Udp(number) => {
+                if self.waits_for(number) {
+                    self.hear(world, number);
+                }
                 Turn::Again
             }
-            _ => Turn::Again,
+            Who::Listener(_) | Who::Tcp(_) => Turn::Again,
         }
     }
 
     // The same, and sends what is then owed.
-    fn attend<W: World>(&mut self, world: &mut W, item: &Want, to_read: bool, hears: bool) -> Turn
+    fn attend<W: World>(&mut self, world: &mut W, item: &Want, to_read: bool) -> Turn
         requires on { ReadsOn (under_way self.old.link) }
         requires number { to_read ≡ true → self.old.slirp.number + 1 < 2 ^ 64 }
-        ensures makes { (config : Config) (count : ℕ) → Brings (W.tells world.old) (W.tells world.new)
-            (Holds config (standing count to_read) self.old.slirp self.old.link) (AfterTurn result config (standing count (still to_read item.now)) self.new.slirp self.new.link) }
+        ensures makes { (config : Config) (count : ℕ) (items : List AnItem) → (to_read ≡ true → reads TheLink self.old.wants ≡ true) → Brings (W.tells world.old) (W.tells world.new)
+            (Holds config (standing count self.old.wants (item.now ∷ items)) self.old.slirp self.old.link) (AfterTurn result config (standing count self.old.wants items) self.new.slirp self.new.link) }
+        ensures faults { IsCounted result (W.tells world.old).faults (W.tells world.new).faults }
         ensures on { GoesOnAfter result self.new.link }
         ensures config { self.new.slirp.config ≡ self.old.slirp.config }
         ensures number { self.new.slirp.number ≤ self.old.slirp.number + (if is_read_now to_read item.now then 1 else 0) }
-        ensures ready { self.new.ready ≡ self.old.ready }
+        ensures reports { (self.new.wants ≡ self.old.wants) × (self.new.ready ≡ self.old.ready) }
     {
-        match self.serve_item(world, item, to_read, hears) {
+        match self.serve_item(world, item, to_read) {
             Turn::Again => self.pump(world),
             Turn::Ended(end) => Turn::Ended(end),
         }
     }
 
-    // What follows a wait that was woken, where frames and datagrams were waited for or not: each item that it reported is served, in their order. A socket that was opened since wasn't waited for.
-    fn work<W: World>(&mut self, world: &mut W, listened: bool) -> Turn
+    // Whether a frame is to be read: the link was waited for, and reported.
+    fn may_read(&self) -> bool
+        ensures { result ≡ (reads TheLink self.now.wants && reads TheLink self.now.ready) }
+    {
+        reads_link(self.wants.items()) && reads_link(self.ready.items())
+    }
+
+    // The item at a place of what the last wait reported.
+    fn item(&self, place: usize) -> Want
+        requires { place < length self.now.ready }
+        ensures { drop place self.now.ready ≡ result ∷ drop (place + 1) self.now.ready }
+    {
+        self.ready.items()[place]
+    }
+
+    // What follows a wait that was woken: each item that it reported is served, in their order.
+    fn work<W: World>(&mut self, world: &mut W) -> Turn
         requires on { ReadsOn (under_way self.old.link) }
         requires number { self.old.slirp.number + 1 < 2 ^ 64 }
         ensures makes { (config : Config) (count : ℕ) → Brings (W.tells world.old) (W.tells world.new)
-            (Holds config (standing count (listened && reads TheLink self.old.ready)) self.old.slirp self.old.link) (AfterTurn result config (after count) self.new.slirp self.new.link) }
+            (Holds config (standing count self.old.wants self.old.ready) self.old.slirp self.old.link) (AfterTurn result config (after count) self.new.slirp self.new.link) }
+        ensures faults { IsCounted result (W.tells world.old).faults (W.tells world.new).faults }
         ensures on { GoesOnAfter result self.new.link }
         ensures config { self.new.slirp.config ≡ self.old.slirp.config }
         ensures number { self.new.slirp.number ≤ self.old.slirp.number + 1 }
     {
-        let opened = self.slirp.next_number();
-        let mut to_read = listened && reads_link(self.ready.items());
+        let mut to_read = self.may_read();
         for place in 0..self.ready.items().len() {
-            let item = self.ready.items()[place];
-            let hears = listened && is_before(&item, opened);
-            match self.attend(world, &item, to_read, hears) {
+            let item = self.item(place);
+            match self.attend(world, &item, to_read) {
                 Turn::Again => to_read = still(to_read, &item),
                 Turn::Ended(end) => return Turn::Ended(end),
             }
@@ -272,12 +313,13 @@ impl Service {
         requires number { self.old.slirp.number + 1 < 2 ^ 64 }
         ensures makes { (config : Config) (count : ℕ) → count < config.turns → Brings (W.tells world.old) (W.tells world.new)
             (Holds config (after count) self.old.slirp self.old.link) (AfterTurn result config (after (count + 1)) self.new.slirp self.new.link) }
+        ensures faults { IsCounted result (W.tells world.old).faults (W.tells world.new).faults }
         ensures on { GoesOnAfter result self.new.link }
         ensures config { self.new.slirp.config ≡ self.old.slirp.config }
         ensures number { self.new.slirp.number ≤ self.old.slirp.number + 1 }
     {
         match self.sleep(world) {
-            Slept::Ready(listened) => self.work(world, listened),
+            Slept::Ready => self.work(world),
             Slept::Stopped => Turn::Ended(End::Done),
             Slept::Failed => Turn::Ended(End::WaitFault),
         }
@@ -303,6 +345,8 @@ impl Service {
         requires number { self.old.slirp.number + 1 < 2 ^ 64 }
         ensures makes { (config : Config) (count : ℕ) → count < config.turns → Brings (W.tells world.old) (W.tells world.new)
             (Holds config (after count) self.old.slirp self.old.link) (AfterTurn result config (after (count + 1)) self.new.slirp self.new.link) }
+        // Where it ended by a fault the count of the link's, or of the waits', rose.
+        ensures faults { IsCounted result (W.tells world.old).faults (W.tells world.new).faults }
         ensures on { GoesOnAfter result self.new.link }
         ensures config { self.new.slirp.config ≡ self.old.slirp.config }
         ensures number { self.new.slirp.number ≤ self.old.slirp.number + 1 }
@@ -318,6 +362,7 @@ impl Service {
     fn run<W: World>(&mut self, world: &mut W) -> End
         requires { IsNew self.old }
         ensures makes { Makes (W.tells world.old) (W.tells world.new) (Closing self.old.slirp.config result self.new.slirp.associations) }
+        ensures faults { IsCounted (Turn.Ended result) (W.tells world.old).faults (W.tells world.new).faults }
         ensures config { self.new.slirp.config ≡ self.old.slirp.config }
     {
         let _begun = self.start(world);
@@ -337,6 +382,8 @@ impl Service {
         // The calls that it makes are lawful, nothing more is to be done, and the end is the one that they tell.
         ensures makes { let config = self.old.slirp.config in
             Makes (W.tells world.old) (W.tells world.new) (λ made. Lawful config made × Finished config made × (result ≡ end_of config (phase config made))) }
+        // Where it ended by a fault the count of the link's, or of the waits', rose.
+        ensures faults { IsCounted (Turn.Ended result) (W.tells world.old).faults (W.tells world.new).faults }
         // What a World that was live tells of them.
         ensures served { Served self.old.slirp.config (W.tells world.old) (W.tells world.new) }
     {
@@ -373,9 +420,29 @@ fn still(to_read: bool, item: &Want) -> bool
     to_read && !(item.of == Who::Link && item.read)
 }
 
-// Whether the item is a socket with a number under this one.
-fn is_before(item: &Want, number: u64) -> bool {
-    matches!(item.of, Who::Udp(socket) if socket < number)
+// The number of the socket that an item is of.
+fn socket_of(who: Who) -> Option<u64> {
+    match who {
+        Who::Link => None,
+        Who::Listener(number) | Who::Udp(number) | Who::Tcp(number) => Some(number),
+    }
+}
+
+// Whether the socket with this number stands at the place, for reading.
+fn reads_at(wants: &[Want], place: usize, number: u64) -> bool
+    ensures { result ≡ true → reads (Udp number) wants.now ≡ true }
+{
+    let Some(want) = wants.get(place) else {
+        return false;
+    };
+    is_read(want, number)
+}
+
+// Whether it is the socket with this number, for reading.
+fn is_read(want: &Want, number: u64) -> bool
+    ensures { result ≡ true → is_to_read (Udp number) want.now ≡ true }
+{
+    want.of == Who::Udp(number) && want.read
 }
 
 // Whether the link is among these for reading.

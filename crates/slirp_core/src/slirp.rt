@@ -3,7 +3,8 @@ ghost use Rattle.std.specs.Prelude.{[], ◌≡◌, ℕ, ◌+◌, ◌^◌, ◌<�
 ghost use Rattle.poll_list.specs.Listing.{AreWants};
 ghost use Rattle.arp_table.specs.Arp.{arp_of};
 ghost use Rattle.ipv4_head.specs.Ip.{ip_of, is_unbroken};
-ghost use Rattle.slirp_laws.specs.Answers.{our_mac, owed_for_arp, is_message_to_us};
+ghost use Rattle.slirp_laws.specs.Answers.{our_mac, owed_for_arp};
+ghost use Rattle.slirp_core.specs.Packets.{is_message_to_us};
 ghost use Rattle.slirp_core.specs.Pumps.{pumped_of, link_want, udp_want};
 ghost use Rattle.slirp_core.specs.Packets.{packets_of, reply_to};
 
@@ -73,7 +74,11 @@ impl Model for Slirp {
 }
 
 impl Slirp {
-    ghost use Rattle.std.specs.Prelude.{nat_lt, false, Some, IfOk, IfSome, min, max};
+    ghost use Rattle.poll_list.specs.declared.Want.{Want as AnItem};
+    ghost use Rattle.poll_list.specs.declared.Who.TheVariants.{Udp};
+    ghost use Rattle.slirp_laws.specs.Agenda.{is_to_read, wanted_of};
+    ghost use Rattle.world_face.specs.Tells.{Rose};
+    ghost use Rattle.std.specs.Prelude.{nat_lt, false, List, ◌∷◌, Some, IfOk, IfSome, min, max};
     ghost use Rattle.std.specs.Option.{option_map, option_and_then};
     ghost use Rattle.host_policy.specs.Addresses.{Config};
     ghost use Rattle.host_policy.specs.Settings.{settings};
@@ -83,17 +88,20 @@ impl Slirp {
     ghost use Rattle.icmp_echo.specs.Icmp.{Icmp, icmp_of, read_icmp};
     ghost use Rattle.udp_assoc.specs.Associations.{is_over, numbered, numbers};
     ghost use Rattle.udp_assoc.specs.declared.assocs.Association.{Association as AnAssociation};
-    ghost use Rattle.slirp_laws.specs.Shape.{is_among};
-    ghost use Rattle.slirp_laws.specs.Guests.{with_pair, with_arp, with_ip, with_ether};
-    ghost use Rattle.slirp_laws.specs.Answers.{frames_of, owed_for, owed_for_ip, owed_for_icmp, owed_for_datagram, owed_for_frame, told_about, reply};
-    ghost use Rattle.slirp_laws.specs.Datagrams.{NeedsRoom, NeedsSocket, NeedsSending, step_for, errand_of as errand_by_law, errand_of_ip, errand_in, without_socket};
+    ghost use Rattle.run_laws.specs.Sockets.{is_among};
+    ghost use Rattle.slirp_core.specs.Packets.{with_address, with_arp, with_ip, with_ether};
+    ghost use Rattle.slirp_laws.specs.Answers.{frames_of, owed_for_icmp, owed_for_datagram, told_about, reply};
+    ghost use Rattle.slirp_core.specs.Packets.{owed_for, owed_for_ip, owed_for_frame};
+    ghost use Rattle.slirp_laws.specs.Datagrams.{NeedsRoom, NeedsSocket, NeedsSending, step_for, errand_of as errand_by_law, without_socket};
+    ghost use Rattle.slirp_core.specs.Packets.{errand_of_ip, errand_in};
     ghost use Rattle.world_face.specs.Tells.{Brings, Makes};
     ghost use Rattle.slirp_core.specs.Hearing.{Receives};
     ghost use Rattle.stream_netdev.specs.State.{LinkState, under_way};
     ghost use Rattle.slirp_core.specs.Datagrams.{datagram_of, errand_of, FitsErrand};
     ghost use Rattle.slirp_core.specs.Outgoing.{sent_after};
     ghost use Rattle.slirp_core.specs.Pumps.{keep, is_settled, time_left, WantsOf};
-    ghost use Rattle.slirp_core.specs.Holds.{Standing, Holds, HoldsAt, AfterPump, Leaves, LeavesRest, Closing, AfterClosing, Ran};
+    ghost use Rattle.slirp_core.specs.Holds.{Standing, standing, Holds, HoldsAt, AfterPump, Leaves, LeavesRest, Closing, AfterClosing, Ran};
+    ghost use Rattle.slirp_core.specs.Ends.{AreGrown};
     ghost use Rattle.slirp_core.specs.declared.service.End.{End};
 
     /// A network in which no guest is known, no socket is open and nothing is owed. It takes all the memory that it will ever need.
@@ -296,7 +304,7 @@ impl Slirp {
 
     // The guest's address is known from now on.
     fn learn(&mut self, ip: Ip4, mac: Mac)
-        ensures { self.new ≡ record self.old { known = with_pair self.old.config ip.0 mac.0 self.old.known } }
+        ensures { self.new ≡ record self.old { known = with_address self.old.config ip.0 mac.0 self.old.known } }
     {
         if self.policy.is_guest(ip) {
             self.guests.learn(ip, mac);
@@ -345,6 +353,7 @@ impl Slirp {
     fn pump_rest<W: World>(&self, world: &mut W, link: &mut Link) -> Pumped
         ensures makes { (config : Config) (at : Standing) → Brings (W.tells world.old) (W.tells world.new)
             (Holds config at self.now link.old) (AfterPump result config at self.now link.new) }
+        ensures failed { result ≡ Pumped.Failed → Rose (W.tells world.old).faults.link (W.tells world.new).faults.link }
         ensures leaves { LeavesRest result link.new }
         ensures same { under_way link.new ≡ under_way link.old }
     {
@@ -364,6 +373,7 @@ impl Slirp {
         requires none { link.old.tail ≡ [] }
         ensures makes { (config : Config) (at : Standing) → Brings (W.tells world.old) (W.tells world.new)
             (Holds config at self.old link.old) (AfterPump result config at self.new link.new) }
+        ensures failed { result ≡ Pumped.Failed → Rose (W.tells world.old).faults.link (W.tells world.new).faults.link }
         ensures leaves { Leaves result self.new link.new }
         ensures same { under_way link.new ≡ under_way link.old }
         ensures config { self.new.config ≡ self.old.config }
@@ -392,6 +402,7 @@ impl Slirp {
     pub fn pump<W: World>(&mut self, world: &mut W, link: &mut Link) -> Pumped
         ensures makes { (config : Config) (at : Standing) → Brings (W.tells world.old) (W.tells world.new)
             (Holds config at self.old link.old) (AfterPump result config at self.new link.new) }
+        ensures failed { result ≡ Pumped.Failed → Rose (W.tells world.old).faults.link (W.tells world.new).faults.link }
         ensures leaves { Leaves result self.new link.new }
         ensures same { under_way link.new ≡ under_way link.old }
         ensures config { self.new.config ≡ self.old.config }
@@ -491,8 +502,9 @@ impl Slirp {
         requires room { length into.old ≡ 65507 }
         // Where the socket is open a datagram is asked for on it, once.
         ensures receives { (a : AnAssociation) → numbered number self.old.associations ≡ Some a → Makes (W.tells world.old) (W.tells world.new) (Receives number) }
-        ensures makes { (config : Config) (at : Standing) (link : LinkState) → link.tail ≡ [] → Brings (W.tells world.old) (W.tells world.new)
-            (Holds config at self.old link) (Holds config at self.new link) }
+        ensures makes { (config : Config) (count : ℕ) (wants : List AnItem) (item : AnItem) (items : List AnItem) (link : LinkState) → is_to_read (Udp number) (wanted_of wants item) ≡ true → link.tail ≡ [] → Brings (W.tells world.old) (W.tells world.new)
+            (Holds config (standing count wants (item ∷ items)) self.old link) (Holds config (standing count wants items) self.new link) }
+        ensures counts { AreGrown (W.tells world.old).faults (W.tells world.new).faults }
         ensures number { self.new.number ≡ self.old.number }
         ensures config { self.new.config ≡ self.old.config }
         ensures room { length into.new ≡ 65507 }

@@ -1,7 +1,7 @@
 -- What is owed to a guest for the frame or datagram that came last, and what of it isn't out yet.
 use Rattle.std.specs.Prelude.{◌≡◌, ℕ, ◌+◌, ◌%◌, ◌^◌, ◌==◌, ◌&&◌, ◌||◌, not, nat_le, Bool, true, false, List, [], ◌∷◌, drop, length, map, bytes_eq, Option, Some, None, if◌then◌else◌}
+use Rattle.world_face.specs.Frames.{goes_out}
 use Rattle.world_face.specs.Journal.{Entry, LinkWrite, UdpOpen, UdpSend, UdpRecv}
-use Rattle.world_face.specs.Frames.{arrives, goes_out}
 use Rattle.world_face.specs.declared.Made.{Made}
 use Rattle.world_face.specs.declared.Made.TheVariants.{Done as MadeDone, Failed as MadeFailed}
 use Rattle.world_face.specs.declared.Sent.{Sent}
@@ -13,35 +13,37 @@ use Rattle.net_octets.specs.Kinds.{arp_kind, ipv4_kind, icmp_proto, udp_proto}
 use Rattle.net_octets.specs.Octets.{two_at, four}
 use Rattle.host_policy.specs.Addresses.{Config, address, last_address, is_ours, is_guest}
 use Rattle.host_policy.specs.Targets.{is_group_or_reserved, shown, is_hidden}
-use Rattle.ether_frame.specs.Ether.{Ether, read_ether, ether_octets}
-use Rattle.arp_table.specs.Arp.{Arp, read_arp, arp_octets}
-use Rattle.ipv4_head.specs.Ip.{Ip, read_ip, ip_octets, is_unbroken}
-use Rattle.icmp_echo.specs.Icmp.{Icmp, echo, unreachable, other, read_icmp, echo_octets, unreachable_octets}
+use Rattle.ether_frame.specs.Ether.{ether_octets}
+use Rattle.arp_table.specs.Arp.{Arp, arp_octets}
+use Rattle.ipv4_head.specs.Ip.{Ip, ip_octets}
+use Rattle.icmp_echo.specs.Icmp.{Icmp, echo, unreachable, other, echo_octets, unreachable_octets}
 use Rattle.udp_assoc.specs.Udp.{udp_octets}
 use Rattle.udp_assoc.specs.Associations.{numbered}
 use Rattle.udp_assoc.specs.declared.assocs.Association.{Association}
-use Rattle.slirp_laws.specs.Datagrams.{Datagram, udp_of, Fate, Ignored, Refused, GoesTo, fate, Step, Settled, NeedsRoom, NeedsSocket, NeedsSending, relay}
+use Rattle.run_laws.specs.Happenings.{Arrival, Happening, happens}
+use Rattle.run_laws.specs.Packets.{Packet, Unheard, ArpPacket, Message, DatagramPacket, Segment, Datagram}
+use Rattle.slirp_laws.specs.Datagrams.{Fate, Ignored, Refused, GoesTo, fate, Step, Settled, NeedsRoom, NeedsSocket, NeedsSending, relay}
 
 -- the hardware address of one of ours: 52:55 and the four octets of its address
 abbrev pub our_mac : ℕ → List ℕ
 our_mac addr = 82 ∷ 85 ∷ four addr
 
--- One frame to a guest: an ARP packet, or a datagram, and the hardware address to which it goes. A datagram gets its identification when it goes out.
-pub data Packet : Type 0 where
-  ArpPacket : (to : List ℕ) → Arp → Packet
-  IpPacket : (to : List ℕ) (proto from guest : ℕ) (body : List ℕ) → Packet
+-- One answer to a guest: an ARP packet, or a datagram, and the hardware address to which it goes.
+pub data Answer : Type 0 where
+  ArpAnswer : (to : List ℕ) → Arp → Answer
+  IpAnswer : (to : List ℕ) (proto from guest : ℕ) (body : List ℕ) → Answer
 
 -- we answer for the addresses of the virtual host and name server (RFC 826)
-abbrev pub arp_reply : Arp → Packet
-arp_reply arp = ArpPacket arp.sender_mac (record { is_reply = true; sender_mac = our_mac arp.target; sender = arp.target; target_mac = arp.sender_mac; target = arp.sender })
+abbrev pub arp_reply : Arp → Answer
+arp_reply arp = ArpAnswer arp.sender_mac (record { is_reply = true; sender_mac = our_mac arp.target; sender = arp.target; target_mac = arp.sender_mac; target = arp.sender })
 
-abbrev pub owed_for_arp : Config → Arp → List Packet
+abbrev pub owed_for_arp : Config → Arp → List Answer
 owed_for_arp config arp = if not arp.is_reply && is_ours config arp.target then arp_reply arp ∷ [] else []
 
 -- an echo is answered with its own identifier, number and payload, to the hardware address from which it came (RFC 792; RFC 1122, 3.2.2.6)
-abbrev pub owed_for_icmp : List ℕ → Ip → Icmp → List Packet
+abbrev pub owed_for_icmp : List ℕ → Ip → Icmp → List Answer
 owed_for_icmp mac ip (echo true ident number body) = []
-owed_for_icmp mac ip (echo false ident number body) = IpPacket mac icmp_proto ip.to ip.from (echo_octets true ident number body) ∷ []
+owed_for_icmp mac ip (echo false ident number body) = IpAnswer mac icmp_proto ip.to ip.from (echo_octets true ident number body) ∷ []
 owed_for_icmp mac ip (unreachable code quoted) = []
 owed_for_icmp mac ip (other kind code) = []
 
@@ -49,9 +51,9 @@ owed_for_icmp mac ip (other kind code) = []
 abbrev pub most_body : ℕ
 most_body = 1480
 
--- a guest's whole datagram with a message to one of ours; one whose answer doesn't fit a frame owes nothing yet
-abbrev pub is_message_to_us : Config → Ip → Bool
-is_message_to_us config ip = is_guest config ip.from && is_ours config ip.to && (ip.proto == icmp_proto) && is_unbroken ip && nat_le (length ip.body) most_body
+-- a message to one of ours; one whose answer doesn't fit a frame owes nothing yet
+abbrev pub owed_for_message : Config → List ℕ → Ip → Icmp → List Answer
+owed_for_message config mac ip message = if is_ours config ip.to && nat_le (length ip.body) most_body then owed_for_icmp mac ip message else []
 
 -- no unreachable is sent to nobody, nor about what went to many (RFC 1122, 3.2.2)
 abbrev pub is_untold : Config → Datagram → Bool
@@ -64,75 +66,46 @@ prohibited = 10
 abbrev pub no_network : ℕ
 no_network = 0
 
-abbrev pub told_about : Config → ℕ → Datagram → List Packet
-told_about config code d = if is_untold config d then [] else IpPacket d.mac icmp_proto config.vhost (address d.from) (unreachable_octets code d.quote) ∷ []
+abbrev pub told_about : Config → ℕ → Datagram → List Answer
+told_about config code d = if is_untold config d then [] else IpAnswer d.mac icmp_proto config.vhost (address d.from) (unreachable_octets code d.quote) ∷ []
 
 -- a datagram that may go nowhere is answered
-abbrev pub owed_for_fate : Config → Datagram → Fate → List Packet
+abbrev pub owed_for_fate : Config → Datagram → Fate → List Answer
 owed_for_fate config d Ignored = []
 owed_for_fate config d Refused = told_about config prohibited d
 owed_for_fate config d (GoesTo to) = []
 
-abbrev pub owed_for_datagram : Config → Datagram → List Packet
+abbrev pub owed_for_datagram : Config → Datagram → List Answer
 owed_for_datagram config d = owed_for_fate config d (fate config d)
 
-abbrev pub owed_for : {A : Type 0} → (A → List Packet) → Option A → List Packet
-owed_for owes None = []
-owed_for owes (Some a) = owes a
-
-abbrev pub owed_for_ip : Config → List ℕ → Ip → List Packet
-owed_for_ip config mac ip = if is_message_to_us config ip then owed_for (owed_for_icmp mac ip) (read_icmp ip.body) else owed_for (owed_for_datagram config) (udp_of config mac ip)
-
--- what a frame owes
-abbrev pub owed_for_ether : Config → Ether → List Packet
-owed_for_ether config ether =
-    if ether.kind == arp_kind then owed_for (owed_for_arp config) (read_arp ether.body)
-    else (if ether.kind == ipv4_kind then owed_for (owed_for_ip config ether.from) (read_ip ether.body) else [])
-
-abbrev pub owed_for_frame : Config → List ℕ → List Packet
-owed_for_frame config frame = owed_for (owed_for_ether config) (read_ether frame)
+-- what a packet of the guests owes
+abbrev pub owed_for_packet : Config → Packet → List Answer
+owed_for_packet config Unheard = []
+owed_for_packet config (ArpPacket arp) = owed_for_arp config arp
+owed_for_packet config (Message mac ip message) = owed_for_message config mac ip message
+owed_for_packet config (DatagramPacket d) = owed_for_datagram config d
+owed_for_packet config (Segment mac ip tcp) = []
 
 -- What a peer's datagram owes: the same payload to the guest's port of the association, at the hardware address from which its last datagram came. Nothing where the peer isn't shown; and where the answer doesn't fit a frame nothing yet.
 abbrev pub most_payload : ℕ
 most_payload = 1472
 
-abbrev pub reply : Config → Endpoint → List ℕ → Association → List Packet
+abbrev pub reply : Config → Endpoint → List ℕ → Association → List Answer
 reply config peer octets a =
     let from = shown config peer in
     if is_hidden config peer || not (nat_le (length octets) most_payload) then []
-    else IpPacket a.mac.0 udp_proto (address from) (address a.guest) (udp_octets (address from) (address a.guest) (record { from_port = from.port; to_port = a.guest.port; body = octets })) ∷ []
+    else IpAnswer a.mac.0 udp_proto (address from) (address a.guest) (udp_octets (address from) (address a.guest) (record { from_port = from.port; to_port = a.guest.port; body = octets })) ∷ []
 
-abbrev pub owed_for_peer : Config → Endpoint → List ℕ → Option Association → List Packet
+abbrev pub owed_for_peer : Config → Endpoint → List ℕ → Option Association → List Answer
 owed_for_peer config peer octets None = []
 owed_for_peer config peer octets (Some a) = reply config peer octets a
 
-abbrev pub owed_for_got : Config → Got → List ℕ → Option Association → List Packet → List Packet
-owed_for_got config (From peer n) octets association left = owed_for_peer config peer octets association
-owed_for_got config GotNotYet octets association left = left
-owed_for_got config GotFailed octets association left = left
-
--- a datagram that could get no socket, or couldn't be sent on it
-abbrev pub unsent : Config → Step → List Packet → List Packet
-unsent config Settled left = left
-unsent config (NeedsRoom oldest errand) left = left
-unsent config (NeedsSocket errand) left = told_about config no_network errand.datagram
-unsent config (NeedsSending socket errand) left = told_about config no_network errand.datagram
-
-abbrev pub unless_made : Made → List Packet → List Packet → List Packet
-unless_made MadeDone told left = left
-unless_made MadeFailed told left = told
-
-abbrev pub unless_sent : Sent → List Packet → List Packet → List Packet
-unless_sent SentDone told left = left
-unless_sent SentNotYet told left = left
-unless_sent SentFailed told left = told
-
 -- a packet as it goes out, a datagram with this identification
-abbrev pub frame_of : Config → ℕ → Packet → List ℕ
-frame_of config ident (ArpPacket to arp) = ether_octets to arp.sender_mac arp_kind (arp_octets arp)
-frame_of config ident (IpPacket to proto from guest body) = ether_octets to (our_mac config.vhost) ipv4_kind (ip_octets ident 0 proto from guest body)
+abbrev pub frame_of : Config → ℕ → Answer → List ℕ
+frame_of config ident (ArpAnswer to arp) = ether_octets to arp.sender_mac arp_kind (arp_octets arp)
+frame_of config ident (IpAnswer to proto from guest body) = ether_octets to (our_mac config.vhost) ipv4_kind (ip_octets ident 0 proto from guest body)
 
-abbrev pub frames_of : Config → ℕ → List Packet → List (List ℕ)
+abbrev pub frames_of : Config → ℕ → List Answer → List (List ℕ)
 frames_of config ident packets = map (frame_of config ident) packets
 
 -- a frame that carries a datagram, or the first part of one
@@ -154,32 +127,61 @@ datagrams_out (e ∷ past) = with_datagrams (goes_out e past) (datagrams_out pas
 abbrev pub identification : List Entry → ℕ
 identification past = datagrams_out past % 2 ^ 16
 
--- this frame is that of the first packet that is left
-abbrev pub is_first : Config → ℕ → List ℕ → List Packet → Bool
-is_first config ident frame [] = false
-is_first config ident frame (packet ∷ packets) = bytes_eq frame (frame_of config ident packet)
+abbrev pub owed_for_got : Config → ℕ → Got → List ℕ → Option Association → List (List ℕ) → List (List ℕ)
+owed_for_got config ident (From peer n) octets association left = frames_of config ident (owed_for_peer config peer octets association)
+owed_for_got config ident GotNotYet octets association left = left
+owed_for_got config ident GotFailed octets association left = left
 
--- a frame that goes out takes the first packet away where it is that packet's
-abbrev pub taken : Config → ℕ → Option (List ℕ) → List Packet → List Packet
-taken config ident None left = left
-taken config ident (Some frame) left = if is_first config ident frame left then drop 1 left else left
+-- a datagram that could get no socket, or couldn't be sent on it
+abbrev pub unsent : Config → ℕ → Step → List (List ℕ) → List (List ℕ)
+unsent config ident Settled left = left
+unsent config ident (NeedsRoom oldest errand) left = left
+unsent config ident (NeedsSocket errand) left = frames_of config ident (told_about config no_network errand.datagram)
+unsent config ident (NeedsSending socket errand) left = frames_of config ident (told_about config no_network errand.datagram)
 
-abbrev pub left_by_call : Config → List Entry → Entry → List Packet → List Packet
-left_by_call config past (LinkWrite octets answer) left = taken config (identification past) (goes_out (LinkWrite octets answer) past) left
-left_by_call config past (UdpOpen socket at answer) left = unless_made answer (unsent config (relay config past).step left) left
-left_by_call config past (UdpSend socket to octets answer) left = unless_sent answer (unsent config (relay config past).step left) left
-left_by_call config past (UdpRecv socket asked answer octets) left = owed_for_got config answer octets (numbered socket (relay config past).associations) left
-left_by_call config past _ left = left
+abbrev pub unless_made : Made → List (List ℕ) → List (List ℕ) → List (List ℕ)
+unless_made MadeDone told left = left
+unless_made MadeFailed told left = told
 
--- the packets of the frame or datagram that came last that aren't out
-abbrev pub left_after : Config → List Entry → Entry → Option (List ℕ) → List Packet → List Packet
-left_after config past e None left = left_by_call config past e left
-left_after config past e (Some frame) left = owed_for_frame config frame
+abbrev pub unless_sent : Sent → List (List ℕ) → List (List ℕ) → List (List ℕ)
+unless_sent SentDone told left = left
+unless_sent SentNotYet told left = left
+unless_sent SentFailed told left = told
 
-abbrev pub left : Config → List Entry → List Packet
+-- this frame is the first that is left
+abbrev pub is_first : List ℕ → List (List ℕ) → Bool
+is_first frame [] = false
+is_first frame (first ∷ frames) = bytes_eq frame first
+
+-- a frame that goes out takes the first one away where it is that one
+abbrev pub taken : Option (List ℕ) → List (List ℕ) → List (List ℕ)
+taken None left = left
+taken (Some frame) left = if is_first frame left then drop 1 left else left
+
+abbrev pub left_by_call : Config → List Entry → Happening → Entry → List (List ℕ) → List (List ℕ)
+left_by_call config past h (LinkWrite octets answer) left = taken h.went left
+left_by_call config past h (UdpOpen socket at answer) left = unless_made answer (unsent config (identification past) (relay config past).step left) left
+left_by_call config past h (UdpSend socket to octets answer) left = unless_sent answer (unsent config (identification past) (relay config past).step left) left
+left_by_call config past h (UdpRecv socket asked answer octets) left = owed_for_got config (identification past) answer octets (numbered socket (relay config past).associations) left
+left_by_call config past h _ left = left
+
+-- the frames that are owed for the frame or datagram that came last and aren't out; a datagram has the identification that was the next one when it came to be owed
+abbrev pub left_after : Config → List Entry → Happening → Option Arrival → List (List ℕ) → List (List ℕ)
+left_after config past h None left = left_by_call config past h h.call left
+left_after config past h (Some arrival) left = frames_of config (identification past) (owed_for_packet config arrival.packet)
+
+abbrev pub left : Config → List Entry → List (List ℕ)
 left config [] = []
-left config (e ∷ past) = left_after config past e (arrives e past) (left config past)
+left config (e ∷ past) = left_after config past (happens config past e) (happens config past e).came (left config past)
 
--- a frame may go out that is the first packet's
-abbrev pub Explained : Config → List Entry → List ℕ → Type 0
-Explained config past frame = is_first config (identification past) frame (left config past) ≡ true
+-- what else may go out, where nothing is left of the answer to what came last: nothing yet
+abbrev pub is_beside : Config → List Entry → List ℕ → Bool
+is_beside config past frame = false
+
+abbrev pub is_out : List (List ℕ) → Bool
+is_out [] = true
+is_out (frame ∷ frames) = false
+
+-- A frame may go out that is the next one of the answer to what came last, or that has another reason where nothing is left of that answer.
+abbrev pub is_explained : Config → List Entry → List ℕ → Bool
+is_explained config past frame = is_first frame (left config past) || (is_out (left config past) && is_beside config past frame)

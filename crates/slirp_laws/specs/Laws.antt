@@ -1,16 +1,54 @@
--- What call may follow what past. Each sentence has a case for each of the eighteen calls.
-use Rattle.std.specs.Prelude.{◌≡◌, ℕ, ◌==◌, ◌<◌, ◌&&◌, ◌||◌, Bool, true, false, is_some, List, [], ◌∷◌, drop, slice_index, MatchOption, Option, Some, None}
-use Rattle.world_face.specs.Journal.{Entry, Call, Follows, CallNow, CallWait, CallLinkOpen, CallLinkRead, CallLinkWrite, CallConnect, CallConnected, CallListen, CallAccept, CallTcpRead, CallTcpWrite, CallTcpEnd, CallClose, CallUdpOpen, CallUdpSend, CallUdpRecv, CallFileLen, CallFileRead}
+-- What call may follow what past.
+use Rattle.std.specs.Prelude.{◌≡◌, ℕ, ◌==◌, ◌&&◌, ◌||◌, not, nat_lt, Bool, true, false, is_some, List, [], ◌∷◌, drop, slice_index, MatchOption, Option, Some, None, if◌then◌else◌}
+use Rattle.poll_list.specs.Listing.{reads}
+use Rattle.poll_list.specs.declared.Want.{Want}
+use Rattle.poll_list.specs.declared.Who.TheVariants.{Link, Udp}
+use Rattle.net_octets.specs.declared.Endpoint.{Endpoint}
+use Rattle.world_face.specs.Journal.{Entry, Call, Follows, Close, CallNow, CallWait, CallLinkOpen, CallLinkRead, CallLinkWrite, CallConnect, CallConnected, CallListen, CallAccept, CallTcpRead, CallTcpWrite, CallTcpEnd, CallClose, CallUdpOpen, CallUdpSend, CallUdpRecv, CallFileLen, CallFileRead}
 use Rattle.world_face.specs.Frames.{MayFrame, tail}
-use Rattle.host_policy.specs.Addresses.{Config}
 use Rattle.world_face.specs.Limits.{most_to_udp}
-use Rattle.udp_assoc.specs.Associations.{numbered, is_idle}
+use Rattle.host_policy.specs.Addresses.{Config}
+use Rattle.udp_assoc.specs.Associations.{is_idle}
+use Rattle.run_laws.specs.Moments.{moment, waits}
+use Rattle.run_laws.specs.Shape.{phase, may_turn, is_working, is_over, is_ended, due_in}
+use Rattle.run_laws.specs.Sockets.{Kind, Association, DnsSocket, Forward, Listener, Flow, is_among, is_association, kind_of, next_number, open_sockets}
+use Rattle.slirp_laws.specs.Agenda.{agenda}
+use Rattle.slirp_laws.specs.Answers.{is_explained, is_out, left}
 use Rattle.slirp_laws.specs.Datagrams.{Step, Settled, NeedsRoom, NeedsSocket, NeedsSending, relay, due_for}
-use Rattle.slirp_laws.specs.Shape.{Working, phase, is_ended, waits, moment, open_sockets, is_among, next_number, due_in}
-use Rattle.slirp_laws.specs.Answers.{left, Explained}
-use Rattle.slirp_laws.specs.Readiness.{is_readable}
 
--- the call that must come next, if one must
+-- What a call does: it asks the clock, waits, reads of the link or writes to it, opens a socket, sends a datagram on one, asks for one, or closes a socket. What isn't built yet doesn't come.
+pub data Deed : Type 0 where
+  Asks : Deed
+  Waits : Deed
+  Reads : Deed
+  Writes : (octets : List ℕ) → Deed
+  Opens : (socket : ℕ) → Deed
+  Sends : (socket : ℕ) → Deed
+  Hears : (socket asked : ℕ) → Deed
+  Shuts : (socket : ℕ) → Deed
+  Unbuilt : Deed
+
+abbrev pub deed_of : Call → Deed
+deed_of CallNow = Asks
+deed_of (CallWait wants timeout) = Waits
+deed_of (CallLinkOpen at) = Unbuilt
+deed_of (CallLinkRead asked) = Reads
+deed_of (CallLinkWrite octets) = Writes octets
+deed_of (CallConnect socket to) = Unbuilt
+deed_of (CallConnected socket) = Unbuilt
+deed_of (CallListen socket at) = Opens socket
+deed_of (CallAccept listener socket) = Unbuilt
+deed_of (CallTcpRead socket asked) = Unbuilt
+deed_of (CallTcpWrite socket octets) = Unbuilt
+deed_of (CallTcpEnd socket) = Unbuilt
+deed_of (CallClose socket) = Shuts socket
+deed_of (CallUdpOpen socket at) = Opens socket
+deed_of (CallUdpSend socket to octets) = Sends socket
+deed_of (CallUdpRecv socket asked) = Hears socket asked
+deed_of (CallFileLen name) = Unbuilt
+deed_of (CallFileRead name place asked) = Unbuilt
+
+-- the call that must come next, if one must: by where the run stands, else for the datagram that came last
 abbrev pub unless_due : Option Call → Option Call → Option Call
 unless_due None other = other
 unless_due (Some call) other = Some call
@@ -22,26 +60,17 @@ due config past = unless_due (due_in (phase config past) past) (due_for (relay c
 abbrev pub MayDue : Config → List Entry → Call → Type 0
 MayDue config past call = MatchOption (due config past) (Unit {0}) (λ d. call ≡ d)
 
--- The shape of a run. The clock is asked, ports are opened and datagrams are sent only where that is due. There are only so many waits. What isn't built yet doesn't come.
-abbrev pub MayShape : Config → List Entry → Call → Type 0
-MayShape config past CallNow = due config past ≡ Some CallNow
-MayShape config past (CallWait wants timeout) = (phase config past ≡ Working) × (waits past < config.turns)
-MayShape config past (CallLinkOpen at) = ⊥
-MayShape config past (CallLinkRead asked) = phase config past ≡ Working
-MayShape config past (CallLinkWrite octets) = phase config past ≡ Working
-MayShape config past (CallConnect socket to) = ⊥
-MayShape config past (CallConnected socket) = ⊥
-MayShape config past (CallListen socket at) = due config past ≡ Some (CallListen socket at)
-MayShape config past (CallAccept listener socket) = ⊥
-MayShape config past (CallTcpRead socket asked) = ⊥
-MayShape config past (CallTcpWrite socket octets) = ⊥
-MayShape config past (CallTcpEnd socket) = ⊥
-MayShape config past (CallClose socket) = Unit {0}
-MayShape config past (CallUdpOpen socket at) = due config past ≡ Some (CallUdpOpen socket at)
-MayShape config past (CallUdpSend socket to octets) = due config past ≡ Some (CallUdpSend socket to octets)
-MayShape config past (CallUdpRecv socket asked) = phase config past ≡ Working
-MayShape config past (CallFileLen name) = ⊥
-MayShape config past (CallFileRead name place asked) = ⊥
+-- The shape of a run. The clock is asked, sockets are opened and datagrams are sent only where that is due. A turn begins with a wait, of which there are only so many; the other calls come after it.
+abbrev pub has_place : Config → List Entry → Deed → Bool
+has_place config past Asks = is_some (due config past)
+has_place config past Waits = may_turn (phase config past) && nat_lt (waits past) config.turns
+has_place config past Reads = is_working (phase config past)
+has_place config past (Writes octets) = is_working (phase config past)
+has_place config past (Opens socket) = is_some (due config past)
+has_place config past (Sends socket) = is_some (due config past)
+has_place config past (Hears socket asked) = is_working (phase config past)
+has_place config past (Shuts socket) = is_working (phase config past) || is_over (phase config past)
+has_place config past Unbuilt = false
 
 -- the longest unused of as many as may be open gives way
 abbrev pub gives_way : ℕ → Step → Bool
@@ -50,102 +79,116 @@ gives_way socket (NeedsRoom oldest errand) = socket == oldest
 gives_way socket (NeedsSocket errand) = false
 gives_way socket (NeedsSending number errand) = false
 
--- a socket is closed once: after the end by rising number, before it only after its idle life, or as the longest unused
+-- Why a socket may be closed before the end, by its kind: an association gives way as the longest unused, or its idle life is over.
+abbrev pub may_part : Config → List Entry → ℕ → Option Kind → Bool
+may_part config past socket None = false
+may_part config past socket (Some Association) = gives_way socket (relay config past).step || is_idle socket (moment past) (relay config past).associations
+may_part config past socket (Some DnsSocket) = false
+may_part config past socket (Some Forward) = false
+may_part config past socket (Some Listener) = false
+may_part config past socket (Some Flow) = false
+
+abbrev pub parts : Config → List Entry → ℕ → Bool
+parts config past socket = may_part config past socket (kind_of socket past)
+
+-- A close that only the end allows begins the closing.
+abbrev pub begins_closing : Config → List Entry → Entry → Bool
+begins_closing config past (Close socket) = not (parts config past socket)
+begins_closing config past _ = false
+
+abbrev pub is_closing : Config → List Entry → Bool
+is_closing config [] = false
+is_closing config (e ∷ past) = if begins_closing config past e then true else is_closing config past
+
+-- the least of the open sockets
+abbrev pub is_least : ℕ → List ℕ → Bool
+is_least socket [] = false
+is_least socket (n ∷ sockets) = n == socket
+
+-- a socket is closed once: for a reason of its kind, or after the end; once the closing has begun, by rising number
 abbrev pub may_close : Config → List Entry → ℕ → Bool
 may_close config past socket =
     is_among socket (open_sockets past)
-    && ((is_ended config past && (slice_index (open_sockets past) 0 == socket)) || gives_way socket (relay config past).step || is_idle socket (moment past) (relay config past).associations)
+    && (if is_closing config past then is_least socket (open_sockets past)
+    else parts config past socket || (is_ended config past && is_least socket (open_sockets past)))
 
 -- an open socket that carries a guest's datagrams
-abbrev pub carries : Config → List Entry → ℕ → Bool
-carries config past socket = is_among socket (open_sockets past) && is_some (numbered socket (relay config past).associations)
+abbrev pub carries : List Entry → ℕ → Bool
+carries past socket = is_among socket (open_sockets past) && is_association (kind_of socket past)
 
--- Numbers of sockets are drawn upward; calls on sockets are on such as are open.
-abbrev pub MaySocket : Config → List Entry → Call → Type 0
-MaySocket config past CallNow = Unit {0}
-MaySocket config past (CallWait wants timeout) = Unit {0}
-MaySocket config past (CallLinkOpen at) = Unit {0}
-MaySocket config past (CallLinkRead asked) = Unit {0}
-MaySocket config past (CallLinkWrite octets) = Unit {0}
-MaySocket config past (CallConnect socket to) = ⊥
-MaySocket config past (CallConnected socket) = ⊥
-MaySocket config past (CallListen socket at) = socket ≡ next_number past
-MaySocket config past (CallAccept listener socket) = ⊥
-MaySocket config past (CallTcpRead socket asked) = ⊥
-MaySocket config past (CallTcpWrite socket octets) = ⊥
-MaySocket config past (CallTcpEnd socket) = ⊥
-MaySocket config past (CallClose socket) = may_close config past socket ≡ true
-MaySocket config past (CallUdpOpen socket at) = socket ≡ next_number past
-MaySocket config past (CallUdpSend socket to octets) = carries config past socket ≡ true
-MaySocket config past (CallUdpRecv socket asked) = (carries config past socket ≡ true) × (asked ≡ most_to_udp)
-MaySocket config past (CallFileLen name) = ⊥
-MaySocket config past (CallFileRead name place asked) = ⊥
+-- Numbers of sockets are drawn upward; calls on sockets are on such as are open, and of their kind.
+abbrev pub has_socket : Config → List Entry → Deed → Bool
+has_socket config past Asks = true
+has_socket config past Waits = true
+has_socket config past Reads = true
+has_socket config past (Writes octets) = true
+has_socket config past (Opens socket) = socket == next_number past
+has_socket config past (Sends socket) = carries past socket
+has_socket config past (Hears socket asked) = carries past socket && (asked == most_to_udp)
+has_socket config past (Shuts socket) = may_close config past socket
+has_socket config past Unbuilt = false
 
--- A frame is read only where the link was wanted and reported for reading, and one for each report.
-abbrev pub MayRead : List Entry → Call → Type 0
-MayRead past CallNow = Unit {0}
-MayRead past (CallWait wants timeout) = Unit {0}
-MayRead past (CallLinkOpen at) = Unit {0}
-MayRead past (CallLinkRead asked) = is_readable past ≡ true
-MayRead past (CallLinkWrite octets) = Unit {0}
-MayRead past (CallConnect socket to) = Unit {0}
-MayRead past (CallConnected socket) = Unit {0}
-MayRead past (CallListen socket at) = Unit {0}
-MayRead past (CallAccept listener socket) = Unit {0}
-MayRead past (CallTcpRead socket asked) = Unit {0}
-MayRead past (CallTcpWrite socket octets) = Unit {0}
-MayRead past (CallTcpEnd socket) = Unit {0}
-MayRead past (CallClose socket) = Unit {0}
-MayRead past (CallUdpOpen socket at) = Unit {0}
-MayRead past (CallUdpSend socket to octets) = Unit {0}
-MayRead past (CallUdpRecv socket asked) = Unit {0}
-MayRead past (CallFileLen name) = Unit {0}
-MayRead past (CallFileRead name place asked) = Unit {0}
+-- Frames and datagrams are read only where the last wait wanted and reported it, in the order of its list, and once for each report.
+abbrev pub is_served : List Want → Deed → Bool
+is_served agenda Asks = true
+is_served agenda Waits = true
+is_served agenda Reads = reads Link agenda
+is_served agenda (Writes octets) = true
+is_served agenda (Opens socket) = true
+is_served agenda (Sends socket) = true
+is_served agenda (Hears socket asked) = reads (Udp socket) agenda
+is_served agenda (Shuts socket) = true
+is_served agenda Unbuilt = true
 
--- all that was owed is out
-abbrev pub AllOut : Config → List Entry → Type 0
-AllOut config past = (tail past ≡ []) × (left config past ≡ [])
+-- nothing is left of the frame before, nor of the answer to what came last
+abbrev pub is_nothing : List ℕ → Bool
+is_nothing [] = true
+is_nothing (x ∷ octets) = false
+
+abbrev pub is_all_out : Config → List Entry → Bool
+is_all_out config past = is_nothing (tail past) && is_out (left config past)
 
 -- a write begins a frame where nothing is left of the one before
-abbrev pub MayBegin : Config → List Entry → List ℕ → List ℕ → Type 0
-MayBegin config past [] octets = Explained config past (drop 4 octets)
-MayBegin config past (x ∷ rest) octets = Unit {0}
+abbrev pub may_begin : Config → List Entry → List ℕ → List ℕ → Bool
+may_begin config past [] octets = is_explained config past (drop 4 octets)
+may_begin config past (x ∷ rest) octets = true
 
--- Each frame that goes out is the next one owed. Frames and datagrams are read only where all that was owed is out.
-abbrev pub MayAnswer : Config → List Entry → Call → Type 0
-MayAnswer config past CallNow = Unit {0}
-MayAnswer config past (CallWait wants timeout) = Unit {0}
-MayAnswer config past (CallLinkOpen at) = Unit {0}
-MayAnswer config past (CallLinkRead asked) = AllOut config past
-MayAnswer config past (CallLinkWrite octets) = MayBegin config past (tail past) octets
-MayAnswer config past (CallConnect socket to) = Unit {0}
-MayAnswer config past (CallConnected socket) = Unit {0}
-MayAnswer config past (CallListen socket at) = Unit {0}
-MayAnswer config past (CallAccept listener socket) = Unit {0}
-MayAnswer config past (CallTcpRead socket asked) = Unit {0}
-MayAnswer config past (CallTcpWrite socket octets) = Unit {0}
-MayAnswer config past (CallTcpEnd socket) = Unit {0}
-MayAnswer config past (CallClose socket) = Unit {0}
-MayAnswer config past (CallUdpOpen socket at) = Unit {0}
-MayAnswer config past (CallUdpSend socket to octets) = Unit {0}
-MayAnswer config past (CallUdpRecv socket asked) = AllOut config past
-MayAnswer config past (CallFileLen name) = Unit {0}
-MayAnswer config past (CallFileRead name place asked) = Unit {0}
+-- Each frame that goes out has its reason. Frames and datagrams are read only where all that was owed is out.
+abbrev pub is_answered : Config → List Entry → Deed → Bool
+is_answered config past Asks = true
+is_answered config past Waits = true
+is_answered config past Reads = is_all_out config past
+is_answered config past (Writes octets) = may_begin config past (tail past) octets
+is_answered config past (Opens socket) = true
+is_answered config past (Sends socket) = true
+is_answered config past (Hears socket asked) = is_all_out config past
+is_answered config past (Shuts socket) = true
+is_answered config past Unbuilt = true
+
+-- Once the closing has begun nothing comes but that sockets are closed.
+abbrev pub is_shut : Deed → Bool
+is_shut (Shuts socket) = true
+is_shut _ = false
+
+abbrev pub goes_on : Config → List Entry → Deed → Bool
+goes_on config past deed = not (is_closing config past) || is_shut deed
 
 -- the next call is one that may come
 pub record May (config : Config) (past : List Entry) (call : Call) : Type 0 where
   pub framed : MayFrame past call
   pub due : MayDue config past call
-  pub shape : MayShape config past call
-  pub socket : MaySocket config past call
-  pub read : MayRead past call
-  pub answer : MayAnswer config past call
+  pub place : has_place config past (deed_of call) ≡ true
+  pub socket : has_socket config past (deed_of call) ≡ true
+  pub served : is_served (agenda past) (deed_of call) ≡ true
+  pub answered : is_answered config past (deed_of call) ≡ true
+  pub goes_on : goes_on config past (deed_of call) ≡ true
 
 -- every call was one that may follow its past
-pub record Lawful (config : Config) (past : List Entry) : Type 0 where
-  pub framed : Follows MayFrame past
-  pub due : Follows (MayDue config) past
-  pub shape : Follows (MayShape config) past
-  pub socket : Follows (MaySocket config) past
-  pub read : Follows MayRead past
-  pub answer : Follows (MayAnswer config) past
+abbrev pub Lawful : Config → List Entry → Type 0
+Lawful config past = Follows (May config) past
+
+-- nothing more is to be done: the run has ended, no call is due, and each socket is closed
+pub record Finished (config : Config) (past : List Entry) : Type 0 where
+  pub ended : is_ended config past ≡ true
+  pub none_due : due config past ≡ None
+  pub closed : open_sockets past ≡ []

@@ -1,9 +1,11 @@
 use Rattle.std.proofs.Common.{sym, subst}
 use Rattle.world_face.specs.Tells.{Brings}
 use Rattle.world_face.proofs.Telling.{brings_as}
-use Rattle.slirp_core.specs.Holds.{Holds, AfterTurn}
+use Rattle.slirp_core.specs.Ends.{IsCounted}
+use Rattle.slirp_core.specs.Holds.{Holds, after, AfterTurn}
 use Rattle.slirp_core.specs.Served.{ServiceState}
 use Rattle.slirp_core.proofs.Turning.{pumped}
+use Rattle.slirp_core.proofs.Counted.{grown, pump_counted}
 use Rattle.slirp_core.proofs.service.Service.pump.Goals as goal
 
 pub returns-clause-makes : goal.returns-clause-makes
@@ -12,3 +14,8 @@ returns-clause-makes g c config at =
     let made = brings_as (c.pump-pumped.ensures.makes config at) (λ past after.
     subst (λ t. AfterTurn t config at new.self new.link past) (sym c.turn_of.ensures) (pumped c.pump-pumped.result config at new.self new.link past after)) in
     subst (λ (s : ServiceState). Brings (g.W.World.tells c.args.world.now) (g.W.World.tells new.world) (Holds config at s.slirp s.link) (AfterTurn c.turn_of.result config at new.self new.link)) c.self.view_is made
+
+pub returns-clause-faults : goal.returns-clause-faults
+returns-clause-faults g c =
+    let more = grown _ _ _ (c.pump-pumped.ensures.makes c.args.self.now.slirp.config (after 0)).counted in
+    subst (λ t. IsCounted t (g.W.World.tells c.args.world.now).faults (g.W.World.tells c.pump-pumped.new.world).faults) (sym c.turn_of.ensures) (pump_counted c.pump-pumped.result _ _ more c.pump-pumped.ensures.failed)

@@ -2,6 +2,7 @@ use Rattle.std.proofs.Common.{◌≡◌, ◌≤◌}
 use Rattle.world_face.specs.Tells.{Makes}
 use Rattle.stream_netdev.specs.Keeps.{ReadsOn}
 use Rattle.stream_netdev.specs.State.{under_way}
+use Rattle.slirp_core.specs.Ends.{AreGrown}
 use Rattle.slirp_core.specs.Holds.{Holds, after}
 use Rattle.slirp_core.proofs.service.Service.run.Given as goal
 
@@ -11,4 +12,5 @@ invariant-loop-count g l = record {
   on : ReadsOn (under_way l.self.link);
   config : l.self.slirp.config ≡ l.fn.self.slirp.config;
   number : l.self.slirp.number ≤ l._count;
+  counts : AreGrown (g.W.World.tells l.fn.world).faults (g.W.World.tells l.world).faults;
 }

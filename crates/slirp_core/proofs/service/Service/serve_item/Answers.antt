@@ -1,12 +1,24 @@
-use Rattle.std.proofs.Common.{Bool, sym, subst}
-use Rattle.world_face.specs.Tells.{Brings}
-use Rattle.slirp_core.specs.Holds.{Holds, standing}
-use Rattle.slirp_core.proofs.Turning.{still_by_socket}
+use Rattle.std.proofs.Common.{◌≡◌, true, not, Bool, refl}
+use Rattle.world_face.proofs.Telling.{brings_none}
+use Rattle.slirp_core.proofs.Turning.{of_link, of_socket, passes_over}
 use Rattle.slirp_core.proofs.service.Service.serve_item.Goals as goal
 
-pub returns-in-Udp-clause-makes : goal.returns-in-Udp-clause-makes
-returns-in-Udp-clause-makes g c config count =
-    let old = c.args.self.now in
-    let new = c.hear.new in
-    subst (λ (b : Bool). Brings (g.W.World.tells c.args.world.now) (g.W.World.tells new.world) (Holds config (standing count c.args.to_read) old.slirp old.link) (Holds config (standing count b) new.self.slirp new.self.link))
-    (sym (still_by_socket c.args.to_read c.args.item.now c.in-Udp.number c.in-Udp.is)) (c.hear.ensures.makes config (standing count c.args.to_read))
+pub returns-then-not-item-clause-makes : goal.returns-then-not-item-clause-makes
+returns-then-not-item-clause-makes g c config count items wanted = brings_none (λ past holds. passes_over config count c.args.self.now.wants c.args.item.now items c.args.self.now.slirp c.args.self.now.link past holds)
+
+pub returns-then-to_read-clause-makes : goal.returns-then-to_read-clause-makes
+returns-then-to_read-clause-makes g c config count items wanted =
+    c.receive.ensures.makes config count c.args.self.now.wants c.args.item.now items (of_link c.args.self.now.wants c.args.item.now c.in-Link.is c.if-not-item.false (wanted c.if-to_read.true))
+
+pub returns-else-to_read-clause-makes : goal.returns-else-to_read-clause-makes
+returns-else-to_read-clause-makes g c config count items wanted = brings_none (λ past holds. passes_over config count c.args.self.now.wants c.args.item.now items c.args.self.now.slirp c.args.self.now.link past holds)
+
+pub returns-then-waits_for-clause-makes : goal.returns-then-waits_for-clause-makes
+returns-then-waits_for-clause-makes g c config count items wanted =
+    c.hear.ensures.makes config count c.args.self.now.wants c.args.item.now items (of_socket c.in-Udp.number c.args.self.now.wants c.args.item.now c.in-Udp.is c.if-not-item.false (c.waits_for.ensures c.if-waits_for.true))
+
+pub returns-else-waits_for-clause-makes : goal.returns-else-waits_for-clause-makes
+returns-else-waits_for-clause-makes g c config count items wanted = brings_none (λ past holds. passes_over config count c.args.self.now.wants c.args.item.now items c.args.self.now.slirp c.args.self.now.link past holds)
+
+pub returns-in-Listener-clause-makes : goal.returns-in-Listener-clause-makes
+returns-in-Listener-clause-makes g c config count items wanted = brings_none (λ past holds. passes_over config count c.args.self.now.wants c.args.item.now items c.args.self.now.slirp c.args.self.now.link past holds)

@@ -11,7 +11,7 @@ use Rattle.slirp_core.proofs.service.Service.start.Goals as goal
 pub returns-clause-makes : goal.returns-clause-makes
 returns-clause-makes g c =
     let i = c.self.inside in
-    let view : ServiceState = record { slirp = i.slirp; link = i.link; ready = i.ready.items } in
+    let view : ServiceState = record { slirp = i.slirp; link = i.link; wants = i.wants.items; ready = i.ready.items } in
     let told = c.now-told.result in
     subst (λ (s : ServiceState). Makes (g.W.World.tells c.args.world.now) (g.W.World.tells c.now-told.new.self) (Holds s.slirp.config (after 0) c.tell_moment.new.self i.link)) c.self.view_is
     (makes_one _ _ _ _ c.now-told.ensures (λ allowed.
@@ -20,5 +20,5 @@ returns-clause-makes g c =
 pub returns-clause-on : goal.returns-clause-on
 returns-clause-on g c =
     let i = c.self.inside in
-    let view : ServiceState = record { slirp = i.slirp; link = i.link; ready = i.ready.items } in
+    let view : ServiceState = record { slirp = i.slirp; link = i.link; wants = i.wants.items; ready = i.ready.items } in
     reads_new view (subst IsNew (sym c.self.view_is) c.requires)

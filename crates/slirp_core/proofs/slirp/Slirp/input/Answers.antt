@@ -2,9 +2,10 @@ use Rattle.std.proofs.Common.{◌∙◌, ap}
 use Rattle.std.specs.Option.{option_and_then}
 use Rattle.ether_frame.specs.Ether.{ether_of}
 use Rattle.ipv4_head.specs.Ip.{read_ip}
-use Rattle.slirp_laws.specs.Answers.{frames_of, owed_for, owed_for_ip}
-use Rattle.slirp_laws.specs.Datagrams.{errand_of_ip}
-use Rattle.slirp_laws.specs.Guests.{with_ip}
+use Rattle.slirp_laws.specs.Answers.{frames_of}
+use Rattle.slirp_core.specs.Packets.{owed_for, owed_for_ip}
+use Rattle.slirp_core.specs.Packets.{errand_of_ip}
+use Rattle.slirp_core.specs.Packets.{with_ip}
 use Rattle.slirp_core.specs.State.{SlirpState}
 use Rattle.slirp_core.proofs.Taking.{frame_of_packet, errand_of_packet}
 use Rattle.slirp_core.proofs.slirp.Slirp.input.Goals as goal

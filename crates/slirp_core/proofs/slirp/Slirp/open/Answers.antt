@@ -7,7 +7,7 @@ use Rattle.world_face.specs.declared.Made.TheVariants.{Done, Failed}
 use Rattle.world_face.proofs.Telling.{brings_one, brings_then}
 use Rattle.host_policy.specs.Targets.{anywhere}
 use Rattle.udp_assoc.specs.Associations.{numbers}
-use Rattle.slirp_laws.specs.Shape.{is_among}
+use Rattle.run_laws.specs.Sockets.{is_among}
 use Rattle.udp_assoc.specs.declared.assocs.Association.{Association}
 use Rattle.slirp_laws.specs.Datagrams.{NeedsSocket, NeedsSending, association}
 use Rattle.slirp_core.specs.Holds.{HoldsAt, Holds}

@@ -9,7 +9,7 @@ use Rattle.udp_assoc.specs.Associations.{numbers}
 use Rattle.udp_assoc.specs.declared.assocs.Association.{Association}
 use Rattle.slirp_laws.specs.Answers.{frames_of, told_about, no_network}
 use Rattle.slirp_laws.specs.Datagrams.{NeedsSending}
-use Rattle.slirp_laws.specs.Shape.{is_among}
+use Rattle.run_laws.specs.Sockets.{is_among}
 use Rattle.slirp_core.specs.Holds.{HoldsAt, Holds}
 use Rattle.slirp_core.proofs.Relaying.{after_sent, after_failure}
 use Rattle.slirp_core.proofs.slirp.Slirp.send.Goals as goal

@@ -2,8 +2,9 @@ use Rattle.std.proofs.Common.{◌≡◌, true, false, Some, sym, ◌∙◌, ap}
 use Rattle.ipv4_head.specs.Ip.{ip_of}
 use Rattle.icmp_echo.specs.Icmp.{read_icmp}
 use Rattle.host_policy.specs.Addresses.{Config}
-use Rattle.slirp_laws.specs.Answers.{is_message_to_us, frames_of, owed_for, owed_for_icmp, owed_for_datagram}
-use Rattle.slirp_laws.specs.Datagrams.{udp_of}
+use Rattle.slirp_core.specs.Packets.{is_message_to_us, owed_for}
+use Rattle.slirp_laws.specs.Answers.{frames_of, owed_for_icmp, owed_for_datagram}
+use Rattle.slirp_core.specs.Packets.{udp_of}
 use Rattle.slirp_core.specs.Datagrams.{datagram_of}
 use Rattle.slirp_core.specs.State.{SlirpState}
 use Rattle.slirp_core.proofs.Taking.{message_to_us, no_message, no_errand}

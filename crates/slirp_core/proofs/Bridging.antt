@@ -1,0 +1,217 @@
+-- What the core makes of a frame, step by step, is what the packet in it asks for.
+use Rattle.std.proofs.Common.{◌≡◌, ℕ, ◌==◌, ◌&&◌, ◌||◌, nat_le, Bool, true, false, List, [], length, Option, Some, None, if◌then◌else◌, refl, sym, ◌∙◌, ap, arith}
+use Rattle.std.proofs.lemmas.Bool.Decides.{nat_tests}
+use Rattle.std.specs.Option.{option_and_then, option_map}
+use Rattle.net_octets.specs.declared.Ip4.{Ip4}
+use Rattle.net_octets.specs.declared.Mac.{Mac}
+use Rattle.net_octets.specs.Kinds.{arp_kind, ipv4_kind, icmp_proto, tcp_proto, udp_proto}
+use Rattle.host_policy.specs.Addresses.{Config, is_guest, is_ours}
+use Rattle.ether_frame.specs.Ether.{Ether, read_ether}
+use Rattle.arp_table.specs.Arp.{Arp, read_arp}
+use Rattle.arp_table.specs.Table.{learnt}
+use Rattle.ipv4_head.specs.Ip.{Ip, read_ip, is_unbroken}
+use Rattle.icmp_echo.specs.Icmp.{Icmp, read_icmp}
+use Rattle.udp_assoc.specs.Udp.{Udp, read_udp}
+use Rattle.tcp_segment.specs.Tcp.{Tcp, read_tcp}
+use Rattle.run_laws.specs.Guests.{with_pair}
+use Rattle.run_laws.specs.Packets.{Packet, Unheard, ArpPacket, Message, DatagramPacket, Segment, Datagram, datagram_in, datagram_of, may_come, packet_of, packet_of_ip, pair_by, pair_by_arp, pair_by_ip, pair_in, pair_of, packet_in, unless_unheard, whole_packet}
+use Rattle.slirp_laws.specs.Answers.{Answer, most_body, owed_for_arp, owed_for_icmp, owed_for_message, owed_for_datagram, owed_for_packet}
+use Rattle.slirp_laws.specs.Datagrams.{Errand, errand_of, errand_by_packet}
+use Rattle.slirp_core.specs.Packets.{errand_in, errand_of_ether, errand_of_ip, is_message_to_us, owed_for, owed_for_ether, owed_for_frame, owed_for_ip, udp_of, with_address, with_arp, with_ether, with_frame, with_ip}
+
+-- what a packet that may be none owes and asks for
+abbrev owes : Config → Option Packet → List Answer
+owes config p = owed_for_packet config (unless_unheard p)
+
+abbrev sends : Config → Option Packet → Option Errand
+sends config p = errand_by_packet config (unless_unheard p)
+
+arp_owes : (config : Config) (o : Option Arp) → owes config (option_map ArpPacket o) ≡ owed_for (owed_for_arp config) o
+arp_owes config None = refl
+arp_owes config (Some arp) = refl
+
+arp_sends : (config : Config) (o : Option Arp) → sends config (option_map ArpPacket o) ≡ None
+arp_sends config None = refl
+arp_sends config (Some arp) = refl
+
+-- a datagram of UDP
+abbrev came : Config → List ℕ → Ip → Udp → Option Packet
+came config mac ip udp = if may_come config ip udp then Some (DatagramPacket (datagram_of mac ip udp)) else None
+
+abbrev comes : Config → List ℕ → Ip → Udp → Option Datagram
+comes config mac ip udp = if may_come config ip udp then Some (datagram_of mac ip udp) else None
+
+udp_owes : (config : Config) (mac : List ℕ) (ip : Ip) (o : Option Udp) → owes config (option_and_then (came config mac ip) o) ≡ owed_for (owed_for_datagram config) (option_and_then (comes config mac ip) o)
+udp_owes config mac ip None = refl
+udp_owes config mac ip (Some udp) = by (may_come config ip udp)
+  where
+    by : (b : Bool) → owes config (if b then Some (DatagramPacket (datagram_of mac ip udp)) else None) ≡ owed_for (owed_for_datagram config) (if b then Some (datagram_of mac ip udp) else None)
+    by true = refl
+    by false = refl
+
+udp_sends : (config : Config) (mac : List ℕ) (ip : Ip) (o : Option Udp) → sends config (option_and_then (came config mac ip) o) ≡ option_and_then (errand_of config) (option_and_then (comes config mac ip) o)
+udp_sends config mac ip None = refl
+udp_sends config mac ip (Some udp) = by (may_come config ip udp)
+  where
+    by : (b : Bool) → sends config (if b then Some (DatagramPacket (datagram_of mac ip udp)) else None) ≡ option_and_then (errand_of config) (if b then Some (datagram_of mac ip udp) else None)
+    by true = refl
+    by false = refl
+
+-- a message to us, or to another
+message_owes : (config : Config) (mac : List ℕ) (ip : Ip) (o : Option Icmp) (ours fits : Bool) → is_ours config ip.to ≡ ours → nat_le (length ip.body) most_body ≡ fits
+    → owes config (option_map (Message mac ip) o) ≡ (if ours && fits then owed_for (owed_for_icmp mac ip) o else [])
+message_owes config mac ip None true true o f = refl
+message_owes config mac ip None true false o f = refl
+message_owes config mac ip None false fits o f = refl
+message_owes config mac ip (Some m) ours fits o f =
+    ap (λ (b : Bool). if b && nat_le (length ip.body) most_body then owed_for_icmp mac ip m else []) o ∙ ap (λ (b : Bool). if ours && b then owed_for_icmp mac ip m else []) f
+
+message_sends : (config : Config) (mac : List ℕ) (ip : Ip) (o : Option Icmp) → sends config (option_map (Message mac ip) o) ≡ None
+message_sends config mac ip None = refl
+message_sends config mac ip (Some m) = refl
+
+segment_owes : (config : Config) (mac : List ℕ) (ip : Ip) (o : Option Tcp) → owes config (option_map (Segment mac ip) o) ≡ []
+segment_owes config mac ip None = refl
+segment_owes config mac ip (Some tcp) = refl
+
+segment_sends : (config : Config) (mac : List ℕ) (ip : Ip) (o : Option Tcp) → sends config (option_map (Segment mac ip) o) ≡ None
+segment_sends config mac ip None = refl
+segment_sends config mac ip (Some tcp) = refl
+
+-- the tests on a datagram of IPv4, each by its answer
+record Tests (config : Config) (ip : Ip) (whole udp icmp tcp guest ours fits : Bool) : Type 0 where
+  is_whole : is_unbroken ip ≡ whole
+  is_udp : (ip.proto == udp_proto) ≡ udp
+  is_icmp : (ip.proto == icmp_proto) ≡ icmp
+  is_tcp : (ip.proto == tcp_proto) ≡ tcp
+  is_of_guest : is_guest config ip.from ≡ guest
+  is_to_us : is_ours config ip.to ≡ ours
+  is_short : nat_le (length ip.body) most_body ≡ fits
+
+one_proto : (proto : ℕ) → (proto == 17) ≡ true → (proto == 1) ≡ true → ⊥
+one_proto proto a b = let first : proto ≡ 17 = grind (arith, nat_tests, a) in let second : proto ≡ 1 = grind (arith, nat_tests, b) in omega (arith, first, second)
+
+-- what is tested, with the answers in the place of the tests
+abbrev packet_by : Config → List ℕ → Ip → (whole udp icmp tcp guest : Bool) → Option Packet
+packet_by config mac ip whole udp icmp tcp guest =
+    if whole then
+    (if udp then datagram_in config mac ip
+    else (if guest then
+    (if icmp then option_map (Message mac ip) (read_icmp ip.body)
+    else (if tcp then option_map (Segment mac ip) (read_tcp ip.from ip.to ip.body) else None))
+    else None))
+    else None
+
+abbrev udp_by : Config → List ℕ → Ip → (udp whole : Bool) → Option Datagram
+udp_by config mac ip udp whole = if udp && whole then option_and_then (comes config mac ip) (read_udp ip.from ip.to ip.body) else None
+
+abbrev owed_by : Config → List ℕ → Ip → (guest ours icmp whole fits udp : Bool) → List Answer
+owed_by config mac ip guest ours icmp whole fits udp =
+    if guest && ours && icmp && whole && fits then owed_for (owed_for_icmp mac ip) (read_icmp ip.body) else owed_for (owed_for_datagram config) (udp_by config mac ip udp whole)
+
+owes_by : (config : Config) (mac : List ℕ) (ip : Ip) (whole udp icmp tcp guest ours fits : Bool) → Tests config ip whole udp icmp tcp guest ours fits
+    → owes config (packet_by config mac ip whole udp icmp tcp guest) ≡ owed_by config mac ip guest ours icmp whole fits udp
+owes_by config mac ip true true true tcp guest ours fits t = absurd (one_proto ip.proto t.is_udp t.is_icmp)
+owes_by config mac ip true true false tcp true true fits t = udp_owes config mac ip (read_udp ip.from ip.to ip.body)
+owes_by config mac ip true true false tcp true false fits t = udp_owes config mac ip (read_udp ip.from ip.to ip.body)
+owes_by config mac ip true true false tcp false ours fits t = udp_owes config mac ip (read_udp ip.from ip.to ip.body)
+owes_by config mac ip true false true tcp true true true t = message_owes config mac ip (read_icmp ip.body) true true t.is_to_us t.is_short
+owes_by config mac ip true false true tcp true true false t = message_owes config mac ip (read_icmp ip.body) true false t.is_to_us t.is_short
+owes_by config mac ip true false true tcp true false fits t = message_owes config mac ip (read_icmp ip.body) false fits t.is_to_us t.is_short
+owes_by config mac ip true false false true true true fits t = segment_owes config mac ip (read_tcp ip.from ip.to ip.body)
+owes_by config mac ip true false false true true false fits t = segment_owes config mac ip (read_tcp ip.from ip.to ip.body)
+owes_by config mac ip true false false false true true fits t = refl
+owes_by config mac ip true false false false true false fits t = refl
+owes_by config mac ip true false icmp tcp false ours fits t = refl
+owes_by config mac ip false true true tcp true true fits t = refl
+owes_by config mac ip false true true tcp true false fits t = refl
+owes_by config mac ip false true true tcp false ours fits t = refl
+owes_by config mac ip false true false tcp true true fits t = refl
+owes_by config mac ip false true false tcp true false fits t = refl
+owes_by config mac ip false true false tcp false ours fits t = refl
+owes_by config mac ip false false true tcp true true fits t = refl
+owes_by config mac ip false false true tcp true false fits t = refl
+owes_by config mac ip false false true tcp false ours fits t = refl
+owes_by config mac ip false false false tcp true true fits t = refl
+owes_by config mac ip false false false tcp true false fits t = refl
+owes_by config mac ip false false false tcp false ours fits t = refl
+
+sends_by : (config : Config) (mac : List ℕ) (ip : Ip) (whole udp icmp tcp guest : Bool)
+    → sends config (packet_by config mac ip whole udp icmp tcp guest) ≡ option_and_then (errand_of config) (udp_by config mac ip udp whole)
+sends_by config mac ip true true icmp tcp guest = udp_sends config mac ip (read_udp ip.from ip.to ip.body)
+sends_by config mac ip true false true tcp true = message_sends config mac ip (read_icmp ip.body)
+sends_by config mac ip true false false true true = segment_sends config mac ip (read_tcp ip.from ip.to ip.body)
+sends_by config mac ip true false false false true = refl
+sends_by config mac ip true false icmp tcp false = refl
+sends_by config mac ip false true icmp tcp guest = refl
+sends_by config mac ip false false icmp tcp guest = refl
+
+ip_owes : (config : Config) (mac : List ℕ) (o : Option Ip) → owes config (option_and_then (whole_packet config mac) o) ≡ owed_for (owed_for_ip config mac) o
+ip_owes config mac None = refl
+ip_owes config mac (Some ip) =
+    owes_by config mac ip (is_unbroken ip) (ip.proto == udp_proto) (ip.proto == icmp_proto) (ip.proto == tcp_proto) (is_guest config ip.from) (is_ours config ip.to) (nat_le (length ip.body) most_body)
+    (record { is_whole = refl; is_udp = refl; is_icmp = refl; is_tcp = refl; is_of_guest = refl; is_to_us = refl; is_short = refl })
+
+ip_sends : (config : Config) (mac : List ℕ) (o : Option Ip) → sends config (option_and_then (whole_packet config mac) o) ≡ option_and_then (errand_of_ip config mac) o
+ip_sends config mac None = refl
+ip_sends config mac (Some ip) = sends_by config mac ip (is_unbroken ip) (ip.proto == udp_proto) (ip.proto == icmp_proto) (ip.proto == tcp_proto) (is_guest config ip.from)
+
+ether_owes : (config : Config) (o : Option Ether) → owes config (option_and_then (packet_of config) o) ≡ owed_for (owed_for_ether config) o
+ether_owes config None = refl
+ether_owes config (Some ether) = by (ether.kind == arp_kind) (ether.kind == ipv4_kind)
+  where
+    by : (arp ip : Bool) → owes config (if arp then option_map ArpPacket (read_arp ether.body) else (if ip then option_and_then (whole_packet config ether.from) (read_ip ether.body) else None))
+        ≡ (if arp then owed_for (owed_for_arp config) (read_arp ether.body) else (if ip then owed_for (owed_for_ip config ether.from) (read_ip ether.body) else []))
+    by true ip = arp_owes config (read_arp ether.body)
+    by false true = ip_owes config ether.from (read_ip ether.body)
+    by false false = refl
+
+two_kinds : (kind : ℕ) → (kind == arp_kind) ≡ true → (kind == ipv4_kind) ≡ true → ⊥
+two_kinds kind a b = let first : kind ≡ 2054 = grind (arith, nat_tests, a) in let second : kind ≡ 2048 = grind (arith, nat_tests, b) in omega (arith, first, second)
+
+ether_sends : (config : Config) (o : Option Ether) → sends config (option_and_then (packet_of config) o) ≡ option_and_then (errand_of_ether config) o
+ether_sends config None = refl
+ether_sends config (Some ether) = by (ether.kind == arp_kind) (ether.kind == ipv4_kind) refl refl
+  where
+    by : (arp ip : Bool) → (ether.kind == arp_kind) ≡ arp → (ether.kind == ipv4_kind) ≡ ip
+        → sends config (if arp then option_map ArpPacket (read_arp ether.body) else (if ip then option_and_then (whole_packet config ether.from) (read_ip ether.body) else None))
+        ≡ (if ip then option_and_then (errand_of_ip config ether.from) (read_ip ether.body) else None)
+    by true true a i = absurd (two_kinds ether.kind a i)
+    by true false a i = arp_sends config (read_arp ether.body)
+    by false true a i = ip_sends config ether.from (read_ip ether.body)
+    by false false a i = refl
+
+-- what it owes, what it sends, and whom it makes known
+pub owes_same : (config : Config) (frame : List ℕ) → owed_for_packet config (packet_in config frame) ≡ owed_for_frame config frame
+owes_same config frame = ether_owes config (read_ether frame)
+
+pub sends_same : (config : Config) (frame : List ℕ) → errand_by_packet config (packet_in config frame) ≡ errand_in config frame
+sends_same config frame = ether_sends config (read_ether frame)
+
+pair_same : (config : Config) (address : ℕ) (mac : List ℕ) (pairs : List (Ip4 × Mac)) → with_pair (pair_of config address mac) pairs ≡ with_address config address mac pairs
+pair_same config address mac pairs = by (is_guest config address)
+  where
+    by : (b : Bool) → with_pair (if b then Some (record { address = address; mac = mac }) else None) pairs ≡ (if b then learnt (record { 0 = address }) (record { 0 = mac }) pairs else pairs)
+    by true = refl
+    by false = refl
+
+arp_teaches : (config : Config) (o : Option Arp) (pairs : List (Ip4 × Mac)) → with_pair (option_and_then (pair_by_arp config) o) pairs ≡ with_arp config o pairs
+arp_teaches config None pairs = refl
+arp_teaches config (Some arp) pairs = pair_same config arp.sender arp.sender_mac pairs
+
+ip_teaches : (config : Config) (mac : List ℕ) (o : Option Ip) (pairs : List (Ip4 × Mac)) → with_pair (option_and_then (pair_by_ip config mac) o) pairs ≡ with_ip config mac o pairs
+ip_teaches config mac None pairs = refl
+ip_teaches config mac (Some ip) pairs = pair_same config ip.from mac pairs
+
+ether_teaches : (config : Config) (o : Option Ether) (pairs : List (Ip4 × Mac)) → with_pair (option_and_then (pair_by config) o) pairs ≡ with_ether config o pairs
+ether_teaches config None pairs = refl
+ether_teaches config (Some ether) pairs = by (ether.kind == arp_kind) (ether.kind == ipv4_kind)
+  where
+    by : (arp ip : Bool) → with_pair (if arp then option_and_then (pair_by_arp config) (read_arp ether.body) else (if ip then option_and_then (pair_by_ip config ether.from) (read_ip ether.body) else None)) pairs
+        ≡ (if arp then with_arp config (read_arp ether.body) pairs else (if ip then with_ip config ether.from (read_ip ether.body) pairs else pairs))
+    by true ip = arp_teaches config (read_arp ether.body) pairs
+    by false true = ip_teaches config ether.from (read_ip ether.body) pairs
+    by false false = refl
+
+pub teaches_same : (config : Config) (frame : List ℕ) (pairs : List (Ip4 × Mac)) → with_pair (pair_in config frame) pairs ≡ with_frame config (Some frame) pairs
+teaches_same config frame pairs = ether_teaches config (read_ether frame) pairs

@@ -1,0 +1,166 @@
+-- What the core has, part by part, after an entry that isn't the part's.
+use Rattle.std.proofs.Common.{◌≡◌, ℕ, ◌<◌, ◌&&◌, ◌||◌, not, Bool, true, false, List, [], ◌∷◌, ◌++◌, MatchOption, Option, Some, None, if◌then◌else◌, refl, sym, ◌∙◌, ap, subst}
+use Rattle.poll_list.specs.Listing.{reads, same_who}
+use Rattle.poll_list.specs.declared.Want.{Want}
+use Rattle.poll_list.specs.declared.Who.{Who}
+use Rattle.world_face.specs.Journal.{Entry, Call, call_of, Close, UdpOpen, UdpSend, UdpRecv, CallClose, CallUdpOpen, CallUdpSend, CallUdpRecv}
+use Rattle.world_face.specs.declared.Made.{Made}
+use Rattle.world_face.specs.declared.Made.TheVariants.{Done, Failed}
+use Rattle.world_face.specs.Frames.{MayFrame, partial, tail, is_blocked}
+use Rattle.host_policy.specs.Addresses.{Config}
+use Rattle.run_laws.specs.Guests.{known}
+use Rattle.run_laws.specs.Moments.{moment, waits}
+use Rattle.run_laws.specs.Shape.{Started, Working, phase, due_in, opened}
+use Rattle.run_laws.specs.Sockets.{next_number}
+use Rattle.slirp_laws.specs.Agenda.{agenda, all_wanted, behind, from, is_to_read}
+use Rattle.slirp_laws.specs.Datagrams.{Step, Settled, relay, due_for}
+use Rattle.slirp_laws.specs.Laws.{May, MayDue, begins_closing, due, is_closing, unless_due}
+use Rattle.stream_netdev.specs.Keeps.{Keeps}
+use Rattle.stream_netdev.specs.State.{LinkState}
+use Rattle.slirp_core.specs.Holds.{Standing, HoldsAt, InTurn, IsLast, OfAnswers, OfClock, OfSockets, Stands, Turns, Begins, Unbegun}
+use Rattle.slirp_core.specs.State.{SlirpState}
+
+-- ---- which call is due
+
+pub due_is : (config : Config) (past : List Entry) (step : Step) → phase config past ≡ Working → (relay config past).step ≡ step → due config past ≡ due_for step (next_number past)
+due_is config past step working asks =
+    ap (λ p. unless_due (due_in p past) (due_for (relay config past).step (next_number past))) working ∙ ap (λ s. due_for s (next_number past)) asks
+
+pub this_due : (config : Config) (past : List Entry) (call : Call) → due config past ≡ Some call → MayDue config past call
+this_due config past call is = subst (λ o. MatchOption o (Unit {0}) (λ d. call ≡ d)) (sym is) refl
+
+-- any one where nothing is asked for
+pub any_due : (config : Config) (past : List Entry) (call : Call) → due config past ≡ None → MayDue config past call
+any_due config past call is = subst (λ o. MatchOption o (Unit {0}) (λ d. call ≡ d)) (sym is) tt
+
+pub any_call : (config : Config) (past : List Entry) (call : Call) → phase config past ≡ Working → (relay config past).step ≡ Settled → MayDue config past call
+any_call config past call working asks = any_due config past call (due_is config past Settled working asks)
+
+pub or_first : (a b : Bool) → a ≡ true → (a || b) ≡ true
+or_first true b is = refl
+or_first false b is = cc
+
+pub or_second : (a b : Bool) → b ≡ true → (a || b) ≡ true
+or_second true b is = refl
+or_second false b is = is
+
+-- ---- parts that an entry leaves
+
+pub keeps_by : (link : LinkState) (e : Entry) (past : List Entry) → MayFrame past (call_of e) → partial (e ∷ past) ≡ partial past → tail (e ∷ past) ≡ tail past → is_blocked (e ∷ past) ≡ is_blocked past
+    → Keeps link past → Keeps link (e ∷ past)
+keeps_by link e past may partly rest blocked keeps = record { framed = (may, keeps.framed); partly = partly ∙ keeps.partly; rest = rest ∙ keeps.rest; blocked = blocked ∙ keeps.blocked }
+
+-- the closing has not begun by an entry that doesn't begin it
+pub still_open : (config : Config) (e : Entry) (past : List Entry) → begins_closing config past e ≡ false → is_closing config past ≡ false → is_closing config (e ∷ past) ≡ false
+still_open config e past not_begun open_yet = ap (λ (b : Bool). if b then true else is_closing config past) not_begun ∙ open_yet
+
+pub goes_on : (config : Config) (past : List Entry) (shuts : Bool) → is_closing config past ≡ false → (not (is_closing config past) || shuts) ≡ true
+goes_on config past shuts open_yet = ap (λ (b : Bool). not b || shuts) open_yet
+
+-- calls on sockets
+abbrev pub IsOnSocket : Entry → Type 0
+IsOnSocket (Close socket) = Unit {0}
+IsOnSocket (UdpOpen socket at answer) = Unit {0}
+IsOnSocket (UdpSend socket to octets answer) = Unit {0}
+IsOnSocket (UdpRecv socket asked answer octets) = Unit {0}
+IsOnSocket _ = ⊥
+
+still_in_turn : (config : Config) (e : Entry) (past : List Entry) → IsOnSocket e → InTurn config past → InTurn config (e ∷ past)
+still_in_turn config (Close socket) past on turn = record { working = turn.working; waited = turn.waited }
+still_in_turn config (UdpOpen socket at Done) past on turn = record { working = ap (opened Done) turn.working; waited = turn.waited }
+still_in_turn config (UdpOpen socket at Failed) past on turn = record { working = ap (opened Failed) turn.working; waited = turn.waited }
+still_in_turn config (UdpSend socket to octets answer) past on turn = record { working = turn.working; waited = turn.waited }
+still_in_turn config (UdpRecv socket asked answer octets) past on turn = record { working = turn.working; waited = turn.waited }
+still_in_turn config _ past on turn = absurd on
+
+link_stays : (link : LinkState) (e : Entry) (past : List Entry) → IsOnSocket e → Keeps link past → Keeps link (e ∷ past)
+link_stays link (Close socket) past on keeps = keeps_by link (Close socket) past tt refl refl refl keeps
+link_stays link (UdpOpen socket at answer) past on keeps = keeps_by link (UdpOpen socket at answer) past tt refl refl refl keeps
+link_stays link (UdpSend socket to octets answer) past on keeps = keeps_by link (UdpSend socket to octets answer) past tt refl refl refl keeps
+link_stays link (UdpRecv socket asked answer octets) past on keeps = keeps_by link (UdpRecv socket asked answer octets) past tt refl refl refl keeps
+link_stays link _ past on keeps = absurd on
+
+guests_stay : (config : Config) (slirp new : SlirpState) (e : Entry) (past : List Entry) → IsOnSocket e → new.known ≡ slirp.known → known config past ≡ slirp.known
+    → known config (e ∷ past) ≡ new.known
+guests_stay config slirp new (Close socket) past on same is = is ∙ sym same
+guests_stay config slirp new (UdpOpen socket at answer) past on same is = is ∙ sym same
+guests_stay config slirp new (UdpSend socket to octets answer) past on same is = is ∙ sym same
+guests_stay config slirp new (UdpRecv socket asked answer octets) past on same is = is ∙ sym same
+guests_stay config slirp new _ past on same is = absurd on
+
+clock_stays : (at after : Standing) (slirp new : SlirpState) (e : Entry) (past : List Entry) → IsOnSocket e → new.moment ≡ slirp.moment → after.count ≡ at.count → OfClock at slirp past → OfClock after new (e ∷ past)
+clock_stays at after slirp new (Close socket) past on same count clock = record { moment = clock.moment ∙ sym same; counted = clock.counted ∙ sym count }
+clock_stays at after slirp new (UdpOpen socket to answer) past on same count clock = record { moment = clock.moment ∙ sym same; counted = clock.counted ∙ sym count }
+clock_stays at after slirp new (UdpSend socket to octets answer) past on same count clock = record { moment = clock.moment ∙ sym same; counted = clock.counted ∙ sym count }
+clock_stays at after slirp new (UdpRecv socket asked answer octets) past on same count clock = record { moment = clock.moment ∙ sym same; counted = clock.counted ∙ sym count }
+clock_stays at after slirp new _ past on same count clock = absurd on
+
+-- what a call on a socket changes: the call was allowed, and what it made of answers, associations, sockets, agenda and closing
+pub record Changes (config : Config) (after : Standing) (step : Step) (new : SlirpState) (e : Entry) (past : List Entry) : Type 0 where
+  pub may : May config past (call_of e)
+  pub answers : OfAnswers config new (e ∷ past)
+  pub relayed : relay config (e ∷ past) ≡ record { associations = new.associations; step = step }
+  pub sockets : OfSockets new (e ∷ past)
+  pub agenda : IsLast (all_wanted after.wants after.left) (agenda (e ∷ past))
+  pub open_yet : is_closing config (e ∷ past) ≡ false
+
+-- and the rest stays
+pub after_socket : (config : Config) (at after : Standing) (step new_step : Step) (slirp new : SlirpState) (link : LinkState) (e : Entry) (past : List Entry) → IsOnSocket e
+    → new.config ≡ slirp.config → new.known ≡ slirp.known → new.moment ≡ slirp.moment → after.count ≡ at.count → InTurn config past
+    → HoldsAt config at step slirp link past → Changes config after new_step new e past → HoldsAt config after new_step new link (e ∷ past)
+after_socket config at after step new_step slirp new link e past on same_config same_known same_moment same_count turn holds changes = record {
+  settings = same_config ∙ holds.settings;
+  lawful = (changes.may, holds.lawful);
+  keeps = link_stays link e past on holds.keeps;
+  answers = changes.answers;
+  guests = guests_stay config slirp new e past on same_known holds.guests;
+  relayed = changes.relayed;
+  sockets = changes.sockets;
+  clock = clock_stays at after slirp new e past on same_moment same_count holds.clock;
+  stands = Turns (still_in_turn config e past on turn);
+  agenda = changes.agenda;
+  open_yet = changes.open_yet;
+}
+
+-- a turn has begun, where that is against what is so before
+pub in_turn : {config : Config} {step : Step} {slirp : SlirpState} {link : LinkState} {past : List Entry} → Stands config step slirp link past → (Unbegun config step slirp link past → ⊥) → InTurn config past
+in_turn (Turns turn) not_before = turn
+in_turn (Begins unbegun) not_before = absurd (not_before unbegun)
+
+-- ---- items of what a wait reported
+
+pub skipped : (item : Want) (items all : List Want) → IsLast (item ∷ items) all → IsLast items all
+skipped item items all (before, is) = (before ++ (item ∷ []), is ∙ moved before)
+  where
+    moved : (xs : List Want) → xs ++ (item ∷ items) ≡ (xs ++ (item ∷ [])) ++ items
+    moved [] = refl
+    moved (x ∷ xs) = ap (λ l. x ∷ l) (moved xs)
+
+pub reads_last : (who : Who) (item : Want) (items before : List Want) → is_to_read who item ≡ true → reads who (before ++ (item ∷ items)) ≡ true
+reads_last who item items [] is = ap (λ (b : Bool). b || reads who items) is
+reads_last who item items (x ∷ before) is = or_second (same_who who x.of && x.read) (reads who (before ++ (item ∷ items))) (reads_last who item items before is)
+
+pub reads_of : (who : Who) (item : Want) (items all : List Want) → is_to_read who item ≡ true → IsLast (item ∷ items) all → reads who all ≡ true
+reads_of who item items all is (before, last) = ap (reads who) last ∙ reads_last who item items before is
+
+behind_last : (who : Who) (item : Want) (items before : List Want) → is_to_read who item ≡ true → IsLast items (behind who (before ++ (item ∷ items)))
+behind_last who item items [] is = ([], ap (λ (b : Bool). if b then items else behind who items) is)
+behind_last who item items (x ∷ before) is = by (is_to_read who x) (behind_last who item items before is)
+  where
+    by : (b : Bool) → IsLast items (behind who (before ++ (item ∷ items))) → IsLast items (if b then before ++ (item ∷ items) else behind who (before ++ (item ∷ items)))
+    by true later = skipped item items (before ++ (item ∷ items)) (before, refl)
+    by false later = later
+
+pub behind_of : (who : Who) (item : Want) (items all : List Want) → is_to_read who item ≡ true → IsLast (item ∷ items) all → IsLast items (behind who all)
+behind_of who item items all is (before, last) = subst (λ l. IsLast items (behind who l)) (sym last) (behind_last who item items before is)
+
+from_last : (who : Who) (item : Want) (items before : List Want) → is_to_read who item ≡ true → IsLast (item ∷ items) (from who (before ++ (item ∷ items)))
+from_last who item items [] is = ([], ap (λ (b : Bool). if b then item ∷ items else from who items) is)
+from_last who item items (x ∷ before) is = by (is_to_read who x) (from_last who item items before is)
+  where
+    by : (b : Bool) → IsLast (item ∷ items) (from who (before ++ (item ∷ items))) → IsLast (item ∷ items) (if b then x ∷ (before ++ (item ∷ items)) else from who (before ++ (item ∷ items)))
+    by true later = (x ∷ before, refl)
+    by false later = later
+
+pub from_of : (who : Who) (item : Want) (items all : List Want) → is_to_read who item ≡ true → IsLast (item ∷ items) all → IsLast (item ∷ items) (from who all)
+from_of who item items all is (before, last) = subst (λ l. IsLast (item ∷ items) (from who l)) (sym last) (from_last who item items before is)
