@@ -78,6 +78,7 @@ impl Service {
     ghost use Rattle.std.specs.Prelude.{ℕ, ◌+◌, ◌<◌, ◌≤◌, ◌^◌, [], true, if◌then◌else◌, IfOk};
     ghost use Rattle.world_face.specs.Tells.{Makes, Brings};
     ghost use Rattle.host_policy.specs.Addresses.{Config};
+    ghost use Rattle.host_policy.specs.Ranges.{IsSound};
     ghost use Rattle.host_policy.specs.Settings.{settings};
     ghost use Rattle.slirp_laws.specs.Laws.{Lawful};
     ghost use Rattle.slirp_laws.specs.Shape.{Finished, phase};
@@ -91,6 +92,8 @@ impl Service {
 
     /// A network with these settings that has served nothing. It takes all the memory that it will ever need.
     pub fn open(alloc: Global, c: &SlirpConfig) -> Result<Service, NoMemory>
+        requires sound { IsSound (settings c.now) }
+        requires no_forward { (settings c.now).forwards ≡ [] }
         ensures new { IfOk result (λ service. IsNew service) }
         ensures config { IfOk result (λ service. service.slirp.config ≡ settings c.now) }
     {
