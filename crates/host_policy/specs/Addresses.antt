@@ -1,16 +1,38 @@
 -- The virtual network, and whose its addresses are.
-use Rattle.std.specs.Prelude.{ℕ, ◌+◌, ◌-◌, ◌/◌, ◌^◌, ◌==◌, ◌&&◌, ◌||◌, not, Bool, List}
+use Rattle.std.specs.Prelude.{ℕ, ◌+◌, ◌-◌, ◌/◌, ◌^◌, ◌==◌, ◌&&◌, ◌||◌, not, Bool, List, [], ◌∷◌, Option, map}
 use Rattle.net_octets.specs.declared.Endpoint.{Endpoint}
 use Rattle.host_policy.specs.declared.Forward.{Forward}
+use Rattle.host_policy.specs.declared.GuestFwd.{GuestFwd}
 
--- what the laws read of the settings: addresses and the mask as numbers, the ports of the host that are given to guests, and the most turns of a run
+-- what the laws read of the settings: addresses and the mask as numbers, texts as octets, the ports of the host that are given to guests, and the most turns of a run
 pub record Config : Type 0 where
-  pub network : ℕ
+  pub version : ℕ
+  pub in_enabled : Bool
+  pub restricted : Bool
+  pub no_loopback : Bool
   pub mask : ℕ
+  pub network : ℕ
   pub vhost : ℕ
   pub vnameserver : ℕ
-  pub forwards : List Forward
+  pub dhcp_start : ℕ
+  pub hostname : List ℕ
+  pub domainname : List ℕ
+  pub tftp_server_name : List ℕ
+  pub bootfile : List ℕ
+  pub tftp_path : Option (List ℕ)
+  pub mtu : ℕ
+  pub mru : ℕ
+  pub flows : ℕ
+  pub ring : ℕ
+  pub resolver : Option Endpoint
   pub turns : ℕ
+  pub forwards : List Forward
+  pub outbound : Option ℕ
+  pub no_dns : Bool
+  pub no_dhcp : Bool
+  pub guest_forwards : List GuestFwd
+  pub control : Option Endpoint
+  pub congestion : Bool
 
 abbrev pub endpoint : ℕ → ℕ → Endpoint
 endpoint addr port = record { addr = record { 0 = addr }; port = port }
@@ -29,9 +51,17 @@ in_network config a = a / network_size config == config.network / network_size c
 abbrev pub last_address : Config → ℕ
 last_address config = config.network + network_size config - 1
 
+-- in the network, and neither its first nor its last address: one host can have it
+abbrev pub is_of_one_host : Config → ℕ → Bool
+is_of_one_host config a = in_network config a && not (a == config.network) && not (a == last_address config)
+
 abbrev pub is_ours : Config → ℕ → Bool
 is_ours config a = (a == config.vhost) || (a == config.vnameserver)
 
--- in the network, and neither its first nor its last address, the host nor the name server
+-- an address of one host that is neither the virtual host's nor the name server's
 abbrev pub is_guest : Config → ℕ → Bool
-is_guest config a = in_network config a && not (a == config.network) && not (a == last_address config) && not (is_ours config a)
+is_guest config a = is_of_one_host config a && not (is_ours config a)
+
+-- the 16 addresses that are lent to guests
+abbrev pub pool : Config → List ℕ
+pool config = map (λ k. config.dhcp_start + k) (0 ∷ 1 ∷ 2 ∷ 3 ∷ 4 ∷ 5 ∷ 6 ∷ 7 ∷ 8 ∷ 9 ∷ 10 ∷ 11 ∷ 12 ∷ 13 ∷ 14 ∷ 15 ∷ [])

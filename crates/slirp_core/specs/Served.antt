@@ -1,5 +1,6 @@
 -- A service, and one that has served nothing.
-use Rattle.std.specs.Prelude.{◌≡◌, List, [], false}
+use Rattle.std.specs.Prelude.{◌≡◌, List, [], false, None}
+use Rattle.host_policy.specs.Addresses.{Config}
 use Rattle.poll_list.specs.declared.Want.{Want}
 use Rattle.stream_netdev.specs.State.{LinkState, under_way}
 use Rattle.slirp_core.specs.State.{SlirpState}
@@ -10,6 +11,17 @@ pub record ServiceState : Type 0 where
   pub link : LinkState
   pub wants : List Want
   pub ready : List Want
+
+-- No part is asked for that isn't built: no port of the host or of the network is forwarded, names aren't served, nor files, datagrams go out from no address of their own, there is no control, and frames to guests are of the usual size.
+pub record IsBuilt (config : Config) : Type 0 where
+  pub forwards : config.forwards ≡ []
+  pub guest_forwards : config.guest_forwards ≡ []
+  pub resolver : config.resolver ≡ None
+  pub files : config.tftp_path ≡ None
+  pub outbound : config.outbound ≡ None
+  pub control : config.control ≡ None
+  pub congestion : config.congestion ≡ false
+  pub mtu : config.mtu ≡ 1500
 
 -- nothing was read or written, no datagram was sent, no guest is known, no socket is open, no moment was told and nothing is owed; no port of the host is given to a guest yet
 pub record IsNew (service : ServiceState) : Type 0 where

@@ -82,6 +82,7 @@ impl Service {
     ghost use Rattle.std.specs.Prelude.{ℕ, ◌+◌, ◌<◌, ◌≤◌, ◌^◌, List, [], ◌∷◌, drop, length, if◌then◌else◌, IfOk};
     ghost use Rattle.world_face.specs.Tells.{Makes, Brings, Rose};
     ghost use Rattle.host_policy.specs.Addresses.{Config};
+    ghost use Rattle.host_policy.specs.Ranges.{IsSound};
     ghost use Rattle.host_policy.specs.Settings.{settings};
     ghost use Rattle.slirp_laws.specs.Agenda.{wanted_of};
     ghost use Rattle.slirp_laws.specs.Laws.{Finished, Lawful};
@@ -92,10 +93,12 @@ impl Service {
     ghost use Rattle.slirp_core.specs.Ends.{end_of, AreGrown, IsCounted};
     ghost use Rattle.slirp_core.specs.Holds.{Holds, Closing, after, standing, AfterSleep, AfterTurn, GoesOnAfter};
     ghost use Rattle.slirp_core.specs.Pumps.{is_settled};
-    ghost use Rattle.slirp_core.specs.Served.{IsNew};
+    ghost use Rattle.slirp_core.specs.Served.{IsBuilt, IsNew};
 
     /// A network with these settings that has served nothing. It takes all the memory that it will ever need.
     pub fn open(alloc: Global, c: &SlirpConfig) -> Result<Service, NoMemory>
+        requires sound { IsSound (settings c.now) }
+        requires built { IsBuilt (settings c.now) }
         ensures new { IfOk result (λ service. IsNew service) }
         ensures config { IfOk result (λ service. service.slirp.config ≡ settings c.now) }
     {

@@ -81,6 +81,7 @@ impl Slirp {
     ghost use Rattle.std.specs.Prelude.{nat_lt, false, List, ◌∷◌, Some, IfOk, IfSome, min, max};
     ghost use Rattle.std.specs.Option.{option_map, option_and_then};
     ghost use Rattle.host_policy.specs.Addresses.{Config};
+    ghost use Rattle.host_policy.specs.Ranges.{IsSound};
     ghost use Rattle.host_policy.specs.Settings.{settings};
     ghost use Rattle.ether_frame.specs.Ether.{read_ether};
     ghost use Rattle.arp_table.specs.Arp.{read_arp};
@@ -106,6 +107,7 @@ impl Slirp {
 
     /// A network in which no guest is known, no socket is open and nothing is owed. It takes all the memory that it will ever need.
     pub fn new(alloc: Global, c: &SlirpConfig) -> Result<Slirp, NoMemory>
+        requires { IsSound (settings c.now) }
         ensures config { IfOk result (λ slirp. slirp.config ≡ settings c.now) }
         ensures known { IfOk result (λ slirp. slirp.known ≡ []) }
         ensures sent { IfOk result (λ slirp. slirp.sent ≡ 0) }

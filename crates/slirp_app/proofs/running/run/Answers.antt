@@ -17,7 +17,7 @@ pub returns-in-Ok-put_record-clause-came : goal.returns-in-Ok-put_record-clause-
 returns-in-Ok-put_record-clause-came g c =
     let new = c.serve-end.new.world in
     let end = c.serve-end.result in
-    let settings : c.in-Ok.service.slirp.config ≡ usual = c.in-Ok.ensures.config ∙ c.usual.ensures in
+    let settings : c.in-Ok.service.slirp.config ≡ usual = c.in-Ok.ensures.config ∙ c.usual.ensures.usual in
     let makes = subst (λ (k : Config). Makes (script_tells c.args.script) (script_tells new) (λ made. Lawful k made × Finished k made × (end ≡ end_of k (phase k made)))) settings c.serve-end.ensures.makes in
     let put = c.put_record.ensures.ok (ap is_ok c.in-Ok-put_record.is) ∙ ap (λ n. added (text (script_tells new).kept ++ end_line n) (g.K.Sink.holds c.args.out.now)) c.code.ensures in
     let left = c.ended-outcome.ensures in

@@ -1,0 +1,162 @@
+//! Whose the addresses of the virtual network are, and where packets of guests may go.
+ghost use Rattle.std.specs.Prelude.{◌≡◌, ◌==◌, ◌||◌, Some, None, if◌then◌else◌};
+ghost use Rattle.host_policy.specs.Ranges.{IsSound};
+ghost use Rattle.host_policy.specs.Targets.{is_group_or_reserved};
+
+use crate::config::{first_octet, is_group_or_reserved, is_loopback};
+use crate::{Proto, Rule, SlirpConfig, Verdict};
+use net_octets::{Endpoint, Ip4};
+use std::marker::Model;
+
+/// 127.0.0.1, by which the host reaches itself (RFC 1122, 3.2.1.3).
+const LOOPBACK: Ip4 = Ip4(0x7f00_0001);
+
+/// The port at which names are asked for (RFC 1035, 4.2).
+const NAMES: u16 = 53;
+
+/// Whose the addresses of the virtual network are, and where packets of guests may go.
+#[derive(Drop)]
+pub struct Policy {
+    config: SlirpConfig,
+}
+
+impl Model for Policy {
+    ghost use Rattle.host_policy.specs.Addresses.{Config};
+    ghost use Rattle.host_policy.specs.Settings.{settings};
+
+    ghost Value = { Config };
+
+    ghost view = { λ p. settings p.config };
+}
+
+impl Policy {
+    ghost use Rattle.host_policy.specs.Addresses.{is_guest, in_network, is_ours, last_address};
+    ghost use Rattle.host_policy.specs.Settings.{settings};
+    ghost use Rattle.host_policy.specs.Targets.{target, led_to, resolver_on, by_rules, shown, is_hidden};
+
+    /// The policy of these settings, of which `check` answers Ok.
+    pub fn new(c: &SlirpConfig) -> Policy
+        requires { IsSound (settings c.now) }
+        ensures { result ≡ settings c.now }
+    {
+        Policy { config: c.copied() }
+    }
+
+    /// Whether the address is the host's or the name server's.
+    pub fn is_ours(&self, a: Ip4) -> bool
+        ensures { result ≡ is_ours self.now a.0 }
+    {
+        self.config.is_ours(a.0 as u64)
+    }
+
+    /// The host's address.
+    pub fn vhost(&self) -> Ip4
+        ensures { result.0 ≡ self.now.vhost }
+    {
+        self.config.vhost
+    }
+
+    /// Where a packet of a guest to this endpoint goes. A forward of guests comes first, for TCP. Else the first rule that fits denies it: where guests are restricted; to port 0; for the name server, unless a resolver answers on port 53; for the host, whose address is 127.0.0.1, where its loopback is shut; for another address of the virtual network; for one in 0/8, 127/8, 224/4 or 240/4.
+    pub fn target(&self, proto: Proto, to: Endpoint) -> Verdict
+        ensures { result ≡ target self.now proto to }
+    {
+        match self.led_to(proto, to) {
+            Some(host) => Verdict::Go(host),
+            None => self.by_rules(to),
+        }
+    }
+
+    // Where a forward of guests leads.
+    fn led_to(&self, proto: Proto, to: Endpoint) -> Option<Endpoint>
+        ensures { result ≡ led_to self.now proto to }
+    {
+        match proto {
+            Proto::Tcp => self.config.leads(to),
+            Proto::Udp => None,
+        }
+    }
+
+    fn by_rules(&self, to: Endpoint) -> Verdict
+        ensures { result ≡ by_rules self.now to }
+    {
+        if self.config.restricted {
+            Verdict::Denied(Rule::Restricted)
+        } else if to.port == 0 {
+            Verdict::Denied(Rule::PortZero)
+        } else if to.addr == self.config.vnameserver {
+            match self.resolver_on(to.port) {
+                Some(resolver) => Verdict::Go(resolver),
+                None => Verdict::Denied(Rule::NameServer),
+            }
+        } else if to.addr == self.config.vhost {
+            if self.config.disable_host_loopback {
+                Verdict::Denied(Rule::HostLoopback)
+            } else {
+                Verdict::Go(Endpoint {
+                    addr: LOOPBACK,
+                    port: to.port,
+                })
+            }
+        } else if self.is_inside(to.addr) {
+            Verdict::Denied(Rule::Network)
+        } else if first_octet(to.addr) == 0
+            || is_loopback(to.addr)
+            || is_group_or_reserved(to.addr)
+        {
+            Verdict::Denied(Rule::Reserved)
+        } else {
+            Verdict::Go(to)
+        }
+    }
+
+    // Who answers for the name server on this port.
+    fn resolver_on(&self, port: u16) -> Option<Endpoint>
+        ensures { result ≡ resolver_on self.now port }
+    {
+        if port == NAMES && !self.config.disable_dns {
+            self.config.resolver
+        } else {
+            None
+        }
+    }
+
+    /// How a peer is shown to a guest: with the host's address, where its own is in 127/8; not at all, where it is another address of the virtual network.
+    pub fn shown(&self, peer: Endpoint) -> Option<Endpoint>
+        ensures { result ≡ (if is_hidden self.now peer then None else Some (shown self.now peer)) }
+    {
+        let addr = if is_loopback(peer.addr) {
+            self.config.vhost
+        } else {
+            peer.addr
+        };
+        if self.is_inside(addr) && addr != self.config.vhost {
+            return None;
+        }
+        Some(Endpoint {
+            addr,
+            port: peer.port,
+        })
+    }
+
+    // Whether the address is in the virtual network.
+    fn is_inside(&self, a: Ip4) -> bool
+        ensures { result ≡ in_network self.now a.0 }
+    {
+        self.config.is_inside(a.0 as u64)
+    }
+
+    /// Whether the address is one of many: of a group, reserved, or the network's last.
+    pub fn is_of_many(&self, a: Ip4) -> bool
+        ensures { result ≡ (is_group_or_reserved a.0 || (a.0 == last_address self.now)) }
+    {
+        is_group_or_reserved(a)
+            || a.0 as u64 == self.config.vnetwork.0 as u64 + self.config.network_size() - 1
+    }
+
+    /// Whether the address is a guest's: in the network, and neither its first nor its last address, the host's nor the name server's.
+    pub fn is_guest(&self, a: Ip4) -> bool
+        ensures { result ≡ is_guest self.now a.0 }
+    {
+        self.config.is_guest(a.0 as u64)
+    }
+}
