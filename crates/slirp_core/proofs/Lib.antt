@@ -4,6 +4,7 @@ mod Datagramming
 mod Filling
 mod Parts
 mod Taking
+mod Ticking
 pub mod Closing
 pub mod Pumping
 pub mod Relaying

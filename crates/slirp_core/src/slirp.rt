@@ -96,7 +96,7 @@ impl Slirp {
     ghost use Rattle.slirp_laws.specs.Datagrams.{NeedsRoom, NeedsSocket, NeedsSending, step_for, errand_of as errand_by_law, without_socket};
     ghost use Rattle.slirp_core.specs.Packets.{errand_of_ip, errand_in};
     ghost use Rattle.world_face.specs.Tells.{Brings, Makes};
-    ghost use Rattle.slirp_core.specs.Hearing.{Receives};
+    ghost use Rattle.slirp_core.specs.Hearing.{ClosesLeast, ClosesRising, Receives};
     ghost use Rattle.stream_netdev.specs.State.{LinkState, under_way};
     ghost use Rattle.slirp_core.specs.Datagrams.{datagram_of, errand_of, FitsErrand};
     ghost use Rattle.slirp_core.specs.Outgoing.{sent_after};
@@ -133,13 +133,6 @@ impl Slirp {
         ensures { result ≡ nat_lt 0 (length self.now.pending) }
     {
         self.outgoing.is_some()
-    }
-
-    /// The number that the next socket gets.
-    pub fn next_number(&self) -> u64
-        ensures { result ≡ self.now.number }
-    {
-        self.number
     }
 
     /// The clock told a moment, in milliseconds: the moment in force is the greatest so far, at most 2^62.
@@ -528,16 +521,18 @@ impl Slirp {
     pub fn tick<W: World>(&mut self, world: &mut W)
         ensures makes { (config : Config) (at : Standing) (link : LinkState) → Brings (W.tells world.old) (W.tells world.new)
             (Holds config at self.old link) (Holds config at self.new link) }
+        ensures rising { Makes (W.tells world.old) (W.tells world.new) ClosesRising }
         ensures none { All (λ a. is_over self.new.moment a ≡ false) self.new.associations }
         ensures same { self.new ≡ record self.old { associations = self.new.associations } }
     {
         while self.close_idle(world) {}
     }
 
-    // Closes the first socket whose idle life is over, and answers whether there was one.
+    // Closes the socket with the least number of those whose idle life is over, and answers whether there was one.
     fn close_idle<W: World>(&mut self, world: &mut W) -> bool
         ensures makes { (config : Config) (at : Standing) (link : LinkState) → Brings (W.tells world.old) (W.tells world.new)
             (Holds config at self.old link) (Holds config at self.new link) }
+        ensures closes { Makes (W.tells world.old) (W.tells world.new) (ClosesLeast result self.old.moment self.old.associations self.new.associations) }
         ensures fewer { result ≡ true → length self.new.associations < length self.old.associations }
         ensures none { result ≡ false → All (λ a. is_over self.new.moment a ≡ false) self.new.associations }
         ensures same { self.new ≡ record self.old { associations = self.new.associations } }

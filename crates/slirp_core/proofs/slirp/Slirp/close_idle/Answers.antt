@@ -1,10 +1,11 @@
-use Rattle.std.proofs.Common.{List, ◌∷◌, length, ◌<◌, sym, subst}
-use Rattle.world_face.specs.Tells.{Brings}
+use Rattle.std.proofs.Common.{List, ◌∷◌, length, ◌<◌, true, refl, sym, subst}
+use Rattle.world_face.specs.Tells.{Brings, Makes}
 use Rattle.slirp_core.specs.State.{SlirpState}
 use Rattle.world_face.specs.Journal.{Close}
-use Rattle.world_face.proofs.Telling.{brings_one}
+use Rattle.world_face.proofs.Telling.{brings_one, makes_none, makes_one}
 use Rattle.udp_assoc.specs.Associations.{is_over}
 use Rattle.udp_assoc.specs.declared.assocs.Association.{Association}
+use Rattle.slirp_core.specs.Hearing.{ClosesLeast}
 use Rattle.slirp_core.specs.Holds.{Holds}
 use Rattle.slirp_core.proofs.Relaying.{after_idling}
 use Rattle.slirp_core.proofs.Sockets.{fewer}
@@ -23,3 +24,14 @@ returns-clause-fewer g c is =
     let i = c.self.inside in
     let less = fewer c.in-Some.number (is_over i.moment) i.associations c.in-Some.ensures.0 in
     subst (λ (s : SlirpState). length c.close-2.new.self < length s.associations) c.self.view_is (subst (λ (l : List Association). length l < length i.associations) (sym c.close-2.ensures) less)
+
+pub returns-clause-closes : goal.returns-clause-closes
+returns-clause-closes g c =
+    let list = c.self.inside.associations in
+    let now = c.self.inside.moment in
+    let number = c.in-Some.number in
+    subst (λ (s : SlirpState). Makes (g.W.World.tells c.args.world.now) (g.W.World.tells c.close.new.self) (ClosesLeast true s.moment s.associations c.close-2.new.self)) c.self.view_is
+    (makes_one _ _ (Close number) (ClosesLeast true now list c.close-2.new.self) c.close.ensures (λ allowed. (number, refl, c.in-Some.ensures, c.close-2.ensures)))
+
+pub returns-in_default-clause-closes : goal.returns-in_default-clause-closes
+returns-in_default-clause-closes g c = makes_none _ _ refl
