@@ -1,40 +1,46 @@
 -- What an outcome tells, status by status.
-use Rattle.std.proofs.Common.{◌≡◌, ◌↔◌, ◌≢◌, ◌⊎◌, inl, inr, ℕ, ◌<◌, List, [], ◌∷◌, Option, Result, Ok, Err, IsTrue, refl, sym, ◌∙◌, ap, subst, arith}
+use Rattle.std.proofs.Common.{◌≡◌, ◌↔◌, ◌≢◌, ◌⊎◌, inl, inr, ℕ, ◌<◌, List, [], ◌∷◌, Option, Result, Ok, Err, IsTrue, false, refl, sym, ◌∙◌, ap, subst, arith}
 use Rattle.host_policy.specs.Settings.{usual}
 use Rattle.replay.specs.Unread.{IsFirstUnread}
 use Rattle.replay.specs.declared.Divergence.{Divergence}
 use Rattle.slirp_app.specs.Causes.{Came, CannotRead, Caused, IsTooLarge, RanOn}
-use Rattle.slirp_app.specs.Counting.{Rose}
 use Rattle.slirp_app.specs.Fetching.{IsUnreadable, is_read, octets_read}
 use Rattle.slirp_app.specs.Ran.{Ceased, EndsBy, FetchesFile, IsAtEnd, Replayed}
 use Rattle.slirp_app.specs.Statuses.{code_of, outcome_of, is_run}
 use Rattle.slirp_app.specs.Texts.{text_of}
 use Rattle.slirp_app.specs.declared.status.Outcome.{Outcome}
-use Rattle.slirp_app.specs.declared.status.Outcome.TheVariants.{Done, Usage, ScheduleRead, ScheduleTooLarge, ScheduleLine, Diverged, FrameTooLong, FrameCut, LinkFault, WaitFault, TurnsSpent, SinkFault, NoMemory}
+use Rattle.slirp_app.specs.declared.status.Outcome.TheVariants.{Done, Usage, ScheduleRead, ScheduleTooLarge, ScheduleLine, Diverged, FrameTooLong, FrameCut, LinkFault, WaitFault, TurnsSpent, ListenRefused, SinkFault, NoMemory}
 use Rattle.slirp_app.proofs.Ending.{ends_by, long_frame, waits_spent, meant_by}
 use Rattle.slirp_core.specs.Ends.{end_of}
 use Rattle.slirp_laws.specs.Laws.{Lawful}
-use Rattle.slirp_laws.specs.Shape.{By, Over, Finished, phase, waits}
+use Rattle.run_laws.specs.Shape.{By, Over, Refused, phase}
+use Rattle.slirp_laws.specs.Laws.{Finished}
+use Rattle.run_laws.specs.Moments.{waits}
 use Rattle.world_face.specs.Frames.{LinkCut, LinkEnded, LinkFailed, LongFrame, Stopped, WaitFailed, partial}
 use Rattle.world_face.specs.Journal.{Entry, AreAllowed, FileLen, FileRead}
 use Rattle.world_face.specs.Puts.{Puts, added}
-use Rattle.world_face.specs.Tells.{Telling, Counted, Makes}
+use Rattle.world_face.specs.Tells.{Telling, Counted, Makes, Rose}
+use Rattle.world_face.specs.Faults.{file_failed}
+use Rattle.world_face.proofs.Counting.{file_rose, some_failed}
 use Rattle.world_face.proofs.Telling.{makes_as}
 use Rattle.world_face.specs.declared.FileSize.TheVariants.{Length, Missing, Failed as SizeFailed}
 use Rattle.world_face.specs.declared.Io.TheVariants.{Done as IoDone, End, NotYet, Failed as IoFailed}
 use Rattle.world_face.specs.declared.sink.Failed.{Failed}
 
+not_run : IsTrue false → ⊥
+not_run is = cc
+
 -- a file that can't be read
 pub cannot_read : (old new : Telling) (made : List Entry) → AreAllowed made → Counted old.faults new.faults made → IsUnreadable made → CannotRead old new made
-cannot_read old new [] allowed counted is = cc
+cannot_read old new [] allowed counted is = absurd (not_run is)
 cannot_read old new (FileLen name (Length n) ∷ past) allowed counted is = inr is
 cannot_read old new (FileLen name Missing ∷ past) allowed counted is = inr refl
-cannot_read old new (FileLen name SizeFailed ∷ past) allowed counted is = inl (omega (arith, counted.file))
-cannot_read old new (FileRead name place asked (IoDone k) octets ∷ past) allowed counted is = cc
+cannot_read old new (FileLen name SizeFailed ∷ past) allowed counted is = inl (file_rose old.faults new.faults (FileLen name SizeFailed ∷ past) counted (some_failed file_failed (FileLen name SizeFailed) past refl))
+cannot_read old new (FileRead name place asked (IoDone k) octets ∷ past) allowed counted is = absurd (not_run is)
 cannot_read old new (FileRead name place asked End octets ∷ past) allowed counted is = inr refl
 cannot_read old new (FileRead name place asked NotYet octets ∷ past) allowed counted is = absurd allowed.0.0
-cannot_read old new (FileRead name place asked IoFailed octets ∷ past) allowed counted is = inl (omega (arith, counted.file))
-cannot_read old new (_ ∷ past) allowed counted is = cc
+cannot_read old new (FileRead name place asked IoFailed octets ∷ past) allowed counted is = inl (file_rose old.faults new.faults (FileRead name place asked IoFailed octets ∷ past) counted (some_failed file_failed (FileRead name place asked IoFailed octets) past refl))
+cannot_read old new (_ ∷ past) allowed counted is = absurd (not_run is)
 
 -- a text that was put where the count of faults didn't rise
 pub got : {X : Type 0} (old new : Option (List ℕ)) (f g : ℕ) (text : List ℕ) (result : Result X Failed) → Puts old new f g text result → ¬ Rose f g → new ≡ added text old
@@ -44,13 +50,30 @@ got old new f g text (Err e) puts calm = absurd (calm (puts.err refl))
 pub no_text : (outcome : Outcome) → (code_of outcome ≡ 0) ⊎ (code_of outcome ≡ 12) → text_of outcome ≡ []
 no_text Done is = refl
 no_text SinkFault is = refl
-no_text _ (inl is) = cc
-no_text _ (inr is) = cc
+no_text _ (inl is) = absurd (omega (arith, is))
+no_text _ (inr is) = absurd (omega (arith, is))
 
 -- the outcome that has a status
 is_misspelt : (outcome : Outcome) → code_of outcome ≡ 4 → (line : ℕ) × (outcome ≡ ScheduleLine line)
 is_misspelt (ScheduleLine line) is = (line, refl)
 is_misspelt _ is = cc
+
+is_divergence : (outcome : Outcome) → code_of outcome ≡ 5 → (divergence : Divergence) × (outcome ≡ Diverged divergence)
+is_divergence (Diverged divergence) is = (divergence, refl)
+is_divergence _ is = cc
+
+is_length : (outcome : Outcome) → code_of outcome ≡ 6 → (n : ℕ) × (outcome ≡ FrameTooLong n)
+is_length (FrameTooLong n) is = (n, refl)
+is_length _ is = cc
+
+is_done : (outcome : Outcome) → code_of outcome ≡ 0 → outcome ≡ Done
+is_done Done is = refl
+is_done _ is = cc
+
+is_no_schedule : (outcome : Outcome) → code_of outcome ≡ 3 → (outcome ≡ ScheduleRead) ⊎ (outcome ≡ ScheduleTooLarge)
+is_no_schedule ScheduleRead is = inl refl
+is_no_schedule ScheduleTooLarge is = inr refl
+is_no_schedule _ is = cc
 
 is_cut : (outcome : Outcome) → code_of outcome ≡ 7 → (n : ℕ) × (outcome ≡ FrameCut n)
 is_cut (FrameCut n) is = (n, refl)
@@ -68,6 +91,10 @@ is_spent : (outcome : Outcome) → code_of outcome ≡ 10 → (n : ℕ) × (outc
 is_spent (TurnsSpent n) is = (n, refl)
 is_spent _ is = cc
 
+is_refusal : (outcome : Outcome) → code_of outcome ≡ 11 → (n : ℕ) × (outcome ≡ ListenRefused n)
+is_refusal (ListenRefused n) is = (n, refl)
+is_refusal _ is = cc
+
 -- the same record, of which more is known
 replayed_as : (status : ℕ) (schedule : List ℕ) (old new : Option (List ℕ)) (P Q : List Entry → Type 0) → Replayed status schedule old new P → ((journal : List Entry) → Lawful usual journal → P journal → Q journal) → Replayed status schedule old new Q
 replayed_as status schedule old new P Q ran here =
@@ -84,11 +111,13 @@ module _ (world world_new : Telling) (words : List (List ℕ)) (old new : Option
   of_run outcome status P Q makes read came here =
       makes_as world world_new _ _ makes (λ made holds. (holds.1.whole read, replayed_as status (octets_read made) old new (Q (octets_read made)) (P (octets_read made)) (came (octets_read made) (holds.1.came read)) (here (octets_read made))))
 
+  unreadable_by : (outcome : Outcome) → By_calls outcome → (outcome ≡ ScheduleRead) ⊎ (outcome ≡ ScheduleTooLarge) → Makes world world_new (λ made. CannotRead world world_new made ⊎ IsTooLarge made)
+  unreadable_by outcome makes (inl is) =
+      record { made = makes.made; same = makes.same; allowed = makes.allowed; told = makes.told; counted = makes.counted; holds = inl (cannot_read world world_new makes.made makes.allowed makes.counted (makes.holds.1.unreadable is)) }
+  unreadable_by outcome makes (inr is) = makes_as world world_new _ _ makes (λ made holds. inr (holds.1.large is))
+
   pub unreadable : (outcome : Outcome) → By_calls outcome → code_of outcome ≡ 3 → Makes world world_new (λ made. CannotRead world world_new made ⊎ IsTooLarge made)
-  unreadable ScheduleRead makes is =
-      record { made = makes.made; same = makes.same; allowed = makes.allowed; told = makes.told; counted = makes.counted; holds = inl (cannot_read world world_new makes.made makes.allowed makes.counted (makes.holds.1.unreadable refl)) }
-  unreadable ScheduleTooLarge makes is = makes_as world world_new _ _ makes (λ made holds. inr (holds.1.large refl))
-  unreadable _ _ is = cc
+  unreadable outcome makes is = unreadable_by outcome makes (is_no_schedule outcome is)
 
   -- a line that has no reading
   pub misspelt : (outcome : Outcome) → By_calls outcome → IsTrue (is_read (code_of outcome)) → Makes world world_new (λ made. (code_of outcome ≡ 4) ↔ (line : ℕ) × IsFirstUnread (octets_read made) line)
@@ -110,36 +139,39 @@ module _ (world world_new : Telling) (words : List (List ℕ)) (old new : Option
 
   pub ran : (outcome : Outcome) → By_calls outcome → IsTrue (is_run (code_of outcome)) → RanOn world world_new (code_of outcome) old new (AtEnd (code_of outcome))
   ran Done makes is = ended_run Done makes refl (λ schedule came. came)
-  ran Usage _ is = cc
-  ran ScheduleRead _ is = cc
-  ran ScheduleTooLarge _ is = cc
-  ran (ScheduleLine line) _ is = cc
+  ran Usage _ is = absurd (not_run is)
+  ran ScheduleRead _ is = absurd (not_run is)
+  ran ScheduleTooLarge _ is = absurd (not_run is)
+  ran (ScheduleLine line) _ is = absurd (not_run is)
   ran (Diverged divergence) makes is = of_run (Diverged divergence) 5 (AtEnd 5) (λ schedule. Ceased schedule divergence) makes refl (λ schedule came. came) (λ schedule journal lawful ceased other. absurd (other refl))
   ran (FrameTooLong n) makes is = ended_run (FrameTooLong n) makes refl (λ schedule came. came)
   ran (FrameCut octets) makes is = ended_run (FrameCut octets) makes refl (λ schedule came. came)
   ran LinkFault makes is = ended_run LinkFault makes refl (λ schedule came. came)
   ran WaitFault makes is = ended_run WaitFault makes refl (λ schedule came. came)
   ran (TurnsSpent turns) makes is = ended_run (TurnsSpent turns) makes refl (λ schedule came. came)
-  ran SinkFault _ is = cc
-  ran NoMemory _ is = cc
+  ran (ListenRefused forward) makes is = ended_run (ListenRefused forward) makes refl (λ schedule came. came)
+  ran SinkFault _ is = absurd (not_run is)
+  ran NoMemory _ is = absurd (not_run is)
 
   module _ (Told : Outcome → Type 0) where
     abbrev Diverges : List ℕ → List Entry → Type 0
     Diverges schedule journal = (divergence : Divergence) × Ceased schedule divergence journal × Told (Diverged divergence)
 
-    pub diverged : (outcome : Outcome) → By_calls outcome → Told outcome → code_of outcome ≡ 5
-        → RanOn world world_new 5 old new Diverges
-    diverged (Diverged d) makes told is = of_run (Diverged d) 5 Diverges (λ schedule. Ceased schedule d) makes refl (λ schedule came. came) (λ schedule journal lawful ceased. (d, ceased, told))
-    diverged _ _ _ is = cc
+    of_divergence : (d : Divergence) → By_calls (Diverged d) → Told (Diverged d) → RanOn world world_new 5 old new Diverges
+    of_divergence d makes told = of_run (Diverged d) 5 Diverges (λ schedule. Ceased schedule d) makes refl (λ schedule came. came) (λ schedule journal lawful ceased. (d, ceased, told))
+
+    pub diverged : (outcome : Outcome) → By_calls outcome → Told outcome → code_of outcome ≡ 5 → RanOn world world_new 5 old new Diverges
+    diverged outcome makes told is = let found = is_divergence outcome is in of_divergence found.0 (subst By_calls found.1 makes) (subst Told found.1 told)
 
     abbrev IsTooLong : List ℕ → List Entry → Type 0
     IsTooLong schedule journal = (size : ℕ) × EndsBy (LongFrame size) journal × (69632 < size) × Told (FrameTooLong size)
 
-    pub too_long : (outcome : Outcome) → By_calls outcome → Told outcome → code_of outcome ≡ 6
-        → RanOn world world_new 6 old new IsTooLong
-    too_long (FrameTooLong n) makes told is = of_run (FrameTooLong n) 6 IsTooLong (λ schedule. IsAtEnd (FrameTooLong n)) makes refl (λ schedule came. came)
-        (λ schedule journal lawful at. let by = ends_by usual (LongFrame n) journal (meant_by (FrameTooLong n) (phase usual journal) at.1) in (n, by, long_frame by.entry (partial by.past) n by.ends, told))
-    too_long _ _ _ is = cc
+    of_length : (n : ℕ) → By_calls (FrameTooLong n) → Told (FrameTooLong n) → RanOn world world_new 6 old new IsTooLong
+    of_length n makes told = of_run (FrameTooLong n) 6 IsTooLong (λ schedule. IsAtEnd (FrameTooLong n)) makes refl (λ schedule came. came)
+        (λ schedule journal lawful at. let by = ends_by usual (LongFrame n) journal (meant_by usual (FrameTooLong n) (phase usual journal) at.1) in (n, by, long_frame by.entry (partial by.past) n by.ends, told))
+
+    pub too_long : (outcome : Outcome) → By_calls outcome → Told outcome → code_of outcome ≡ 6 → RanOn world world_new 6 old new IsTooLong
+    too_long outcome makes told is = let found = is_length outcome is in of_length found.0 (subst By_calls found.1 makes) (subst Told found.1 told)
 
     abbrev IsCut : List ℕ → List Entry → Type 0
     IsCut schedule journal = (octets : ℕ) × EndsBy (LinkCut octets) journal × Told (FrameCut octets)
@@ -147,7 +179,7 @@ module _ (world world_new : Telling) (words : List (List ℕ)) (old new : Option
     of_cut : (n : ℕ) → By_calls (FrameCut n) → Told (FrameCut n)
         → RanOn world world_new 7 old new IsCut
     of_cut n makes told = of_run (FrameCut n) 7 IsCut (λ schedule. IsAtEnd (FrameCut n)) makes refl (λ schedule came. came)
-        (λ schedule journal lawful at. (n, ends_by usual (LinkCut n) journal (meant_by (FrameCut n) (phase usual journal) at.1), told))
+        (λ schedule journal lawful at. (n, ends_by usual (LinkCut n) journal (meant_by usual (FrameCut n) (phase usual journal) at.1), told))
 
     pub cut : (outcome : Outcome) → By_calls outcome → Told outcome → code_of outcome ≡ 7 → RanOn world world_new 7 old new IsCut
     cut outcome makes told is = let found = is_cut outcome is in of_cut found.0 (subst By_calls found.1 makes) (subst Told found.1 told)
@@ -158,28 +190,40 @@ module _ (world world_new : Telling) (words : List (List ℕ)) (old new : Option
     of_spent : (n : ℕ) → By_calls (TurnsSpent n) → Told (TurnsSpent n)
         → RanOn world world_new 10 old new IsSpent
     of_spent n makes told = of_run (TurnsSpent n) 10 IsSpent (λ schedule. IsAtEnd (TurnsSpent n)) makes refl (λ schedule came. came)
-        (λ schedule journal lawful at. let turns = meant_by (TurnsSpent n) (phase usual journal) at.1 in
-        (waits_spent journal lawful at.0 (sym (ap TurnsSpent (sym turns) ∙ at.1)), subst (λ m. Told (TurnsSpent m)) turns told))
+        (λ schedule journal lawful at. let turns = meant_by usual (TurnsSpent n) (phase usual journal) at.1 in
+        (waits_spent usual journal lawful at.0 (sym (ap TurnsSpent (sym turns) ∙ at.1)), subst (λ m. Told (TurnsSpent m)) turns told))
 
     pub spent : (outcome : Outcome) → By_calls outcome → Told outcome → code_of outcome ≡ 10 → RanOn world world_new 10 old new IsSpent
     spent outcome makes told is = let found = is_spent outcome is in of_spent found.0 (subst By_calls found.1 makes) (subst Told found.1 told)
 
+    abbrev IsRefused : List ℕ → List Entry → Type 0
+    IsRefused schedule journal = (forward : ℕ) × (phase usual journal ≡ Over (Refused forward)) × Told (ListenRefused forward)
+
+    of_refusal : (n : ℕ) → By_calls (ListenRefused n) → Told (ListenRefused n) → RanOn world world_new 11 old new IsRefused
+    of_refusal n makes told = of_run (ListenRefused n) 11 IsRefused (λ schedule. IsAtEnd (ListenRefused n)) makes refl (λ schedule came. came)
+        (λ schedule journal lawful at. (n, meant_by usual (ListenRefused n) (phase usual journal) at.1, told))
+
+    pub forward_refused : (outcome : Outcome) → By_calls outcome → Told outcome → code_of outcome ≡ 11 → RanOn world world_new 11 old new IsRefused
+    forward_refused outcome makes told is = let found = is_refusal outcome is in of_refusal found.0 (subst By_calls found.1 makes) (subst Told found.1 told)
+
   abbrev IsDone : List ℕ → List Entry → Type 0
   IsDone schedule journal = EndsBy Stopped journal ⊎ EndsBy LinkEnded journal
 
+  either_end : (journal : List Entry) → (phase usual journal ≡ Over (By Stopped)) ⊎ (phase usual journal ≡ Over (By LinkEnded)) → EndsBy Stopped journal ⊎ EndsBy LinkEnded journal
+  either_end journal (inl stopped) = inl (ends_by usual Stopped journal stopped)
+  either_end journal (inr ended) = inr (ends_by usual LinkEnded journal ended)
+
+  of_done : By_calls Done → RanOn world world_new 0 old new IsDone
+  of_done makes = of_run Done 0 IsDone (λ schedule. IsAtEnd Done) makes refl (λ schedule came. came) (λ schedule journal lawful at. either_end journal (meant_by usual Done (phase usual journal) at.1))
+
   pub done : (outcome : Outcome) → By_calls outcome → code_of outcome ≡ 0 → RanOn world world_new 0 old new IsDone
-  done Done makes is = of_run Done 0 IsDone (λ schedule. IsAtEnd Done) makes refl (λ schedule came. came) (λ schedule journal lawful at. either journal (meant_by Done (phase usual journal) at.1))
-    where
-      either : (journal : List Entry) → (phase usual journal ≡ Over (By Stopped)) ⊎ (phase usual journal ≡ Over (By LinkEnded)) → EndsBy Stopped journal ⊎ EndsBy LinkEnded journal
-      either journal (inl stopped) = inl (ends_by usual Stopped journal stopped)
-      either journal (inr ended) = inr (ends_by usual LinkEnded journal ended)
-  done _ _ is = cc
+  done outcome makes is = of_done (subst By_calls (is_done outcome is) makes)
 
   abbrev HasLinkFault : List ℕ → List Entry → Type 0
   HasLinkFault schedule journal = EndsBy LinkFailed journal
 
   of_link_fault : By_calls LinkFault → RanOn world world_new 8 old new HasLinkFault
-  of_link_fault makes = of_run LinkFault 8 HasLinkFault (λ schedule. IsAtEnd LinkFault) makes refl (λ schedule came. came) (λ schedule journal lawful at. ends_by usual LinkFailed journal (meant_by LinkFault (phase usual journal) at.1))
+  of_link_fault makes = of_run LinkFault 8 HasLinkFault (λ schedule. IsAtEnd LinkFault) makes refl (λ schedule came. came) (λ schedule journal lawful at. ends_by usual LinkFailed journal (meant_by usual LinkFault (phase usual journal) at.1))
 
   pub link_fault : (outcome : Outcome) → By_calls outcome → code_of outcome ≡ 8 → RanOn world world_new 8 old new HasLinkFault
   link_fault outcome makes is = of_link_fault (subst By_calls (is_link_fault outcome is) makes)
@@ -188,7 +232,7 @@ module _ (world world_new : Telling) (words : List (List ℕ)) (old new : Option
   HasWaitFault schedule journal = EndsBy WaitFailed journal
 
   of_wait_fault : By_calls WaitFault → RanOn world world_new 9 old new HasWaitFault
-  of_wait_fault makes = of_run WaitFault 9 HasWaitFault (λ schedule. IsAtEnd WaitFault) makes refl (λ schedule came. came) (λ schedule journal lawful at. ends_by usual WaitFailed journal (meant_by WaitFault (phase usual journal) at.1))
+  of_wait_fault makes = of_run WaitFault 9 HasWaitFault (λ schedule. IsAtEnd WaitFault) makes refl (λ schedule came. came) (λ schedule journal lawful at. ends_by usual WaitFailed journal (meant_by usual WaitFault (phase usual journal) at.1))
 
   pub wait_fault : (outcome : Outcome) → By_calls outcome → code_of outcome ≡ 9 → RanOn world world_new 9 old new HasWaitFault
   wait_fault outcome makes is = of_wait_fault (subst By_calls (is_wait_fault outcome is) makes)

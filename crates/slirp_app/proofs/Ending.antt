@@ -1,13 +1,12 @@
 -- The end that a record of calls tells.
-use Rattle.std.proofs.Common.{◌≡◌, ◌⊎◌, inl, inr, ℕ, ◌<◌, ◌≤◌, Bool, true, false, cond, List, [], ◌∷◌, ◌++◌, length, Option, Some, None, MatchOption, refl, sym, ap, subst, arith}
+use Rattle.std.proofs.Common.{◌≡◌, ◌⊎◌, inl, inr, ℕ, ◌+◌, ◌<◌, ◌≤◌, Bool, true, false, cond, List, [], ◌∷◌, ◌++◌, length, Option, Some, None, MatchOption, refl, sym, ap, subst, arith}
 use Rattle.std.proofs.lemmas.Bool.Decides.{nat_tests}
-use Rattle.std.specs.Prelude.{nat_lt, nat_le, ◌||◌}
-use Rattle.host_policy.specs.Settings.{usual}
+use Rattle.std.specs.Prelude.{nat_lt, nat_le, ◌&&◌, ◌||◌}
 use Rattle.host_policy.specs.Addresses.{Config}
 use Rattle.slirp_core.specs.Ends.{end_of}
-use Rattle.slirp_laws.specs.Datagrams.{relay, due_for}
-use Rattle.slirp_laws.specs.Laws.{MayDue, MayShape, Lawful, unless_due}
-use Rattle.slirp_laws.specs.Shape.{By, Refused, Phase, Opening, Woken, Working, Over, Finished, is_over, waits, phase, phase_by, phase_after, due_in, next_number}
+use Rattle.slirp_laws.specs.Laws.{Finished, Lawful}
+use Rattle.run_laws.specs.Shape.{By, Refused, Phase, Opening, Started, Woken, Working, Over, is_over, may_turn, phase, phase_by, phase_after}
+use Rattle.run_laws.specs.Moments.{waits}
 use Rattle.world_face.specs.Frames.{Ending, LinkEnded, LinkCut, LongFrame, LinkFailed, Stopped, WaitFailed, ending, partial, read_ending, spelt_length, is_too_long}
 use Rattle.world_face.specs.Journal.{Entry, Call, Now, Wait, LinkOpen, LinkRead, LinkWrite, Connect, Connected, Listen, Accept, TcpRead, TcpWrite, TcpEnd, Close, UdpOpen, UdpSend, UdpRecv, FileLen, FileRead, Follows, call_of}
 use Rattle.world_face.specs.declared.Io.{Io}
@@ -17,12 +16,13 @@ use Rattle.world_face.specs.declared.Waited.TheVariants.{Ready, Stop, Failed as 
 use Rattle.slirp_app.specs.Ran.{EndsBy}
 use Rattle.slirp_app.specs.Statuses.{outcome_of}
 use Rattle.slirp_app.specs.declared.status.Outcome.{Outcome}
-use Rattle.slirp_app.specs.declared.status.Outcome.TheVariants.{Done, FrameTooLong, FrameCut, LinkFault, WaitFault, TurnsSpent}
+use Rattle.slirp_app.specs.declared.status.Outcome.TheVariants.{Done, FrameTooLong, FrameCut, LinkFault, WaitFault, TurnsSpent, ListenRefused}
 
 -- an entry that ends nothing leaves a run over that was over
 
 leaves : (why : Ending) (e : Entry) (stands : Phase) → phase_by e stands ≡ Over (By why) → stands ≡ Over (By why)
 leaves why (Now moment) (Opening n forwards) is = cc
+leaves why (Now moment) Started is = cc
 leaves why (Now moment) Woken is = cc
 leaves why (Now moment) Working is = cc
 leaves why (Now moment) (Over cause) is = is
@@ -34,10 +34,12 @@ leaves why (Connect socket to answer) stands is = is
 leaves why (Connected socket answer) stands is = is
 leaves why (Listen socket at MadeDone) (Opening n []) is = is
 leaves why (Listen socket at MadeDone) (Opening n (f ∷ fs)) is = cc
+leaves why (Listen socket at MadeDone) Started is = is
 leaves why (Listen socket at MadeDone) Woken is = is
 leaves why (Listen socket at MadeDone) Working is = is
 leaves why (Listen socket at MadeDone) (Over cause) is = is
 leaves why (Listen socket at MadeFailed) (Opening n forwards) is = cc
+leaves why (Listen socket at MadeFailed) Started is = is
 leaves why (Listen socket at MadeFailed) Woken is = is
 leaves why (Listen socket at MadeFailed) Working is = is
 leaves why (Listen socket at MadeFailed) (Over cause) is = is
@@ -48,10 +50,12 @@ leaves why (TcpEnd socket answer) stands is = is
 leaves why (Close socket) stands is = is
 leaves why (UdpOpen socket at MadeDone) (Opening n []) is = is
 leaves why (UdpOpen socket at MadeDone) (Opening n (f ∷ fs)) is = cc
+leaves why (UdpOpen socket at MadeDone) Started is = is
 leaves why (UdpOpen socket at MadeDone) Woken is = is
 leaves why (UdpOpen socket at MadeDone) Working is = is
 leaves why (UdpOpen socket at MadeDone) (Over cause) is = is
 leaves why (UdpOpen socket at MadeFailed) (Opening n forwards) is = cc
+leaves why (UdpOpen socket at MadeFailed) Started is = is
 leaves why (UdpOpen socket at MadeFailed) Woken is = is
 leaves why (UdpOpen socket at MadeFailed) Working is = is
 leaves why (UdpOpen socket at MadeFailed) (Over cause) is = is
@@ -64,6 +68,7 @@ leaves why (FileRead name place asked answer octets) stands is = is
 over_now : (why : Ending) (e : Entry) (found : Option Ending) (stands : Phase) → phase_after e found stands ≡ Over (By why) → (found ≡ Some why) ⊎ (stands ≡ Over (By why))
 over_now why e None stands is = inr (leaves why e stands is)
 over_now why e (Some other) (Opening n forwards) is = inl cc
+over_now why e (Some other) Started is = inl cc
 over_now why e (Some other) Woken is = inl cc
 over_now why e (Some other) Working is = inl cc
 over_now why e (Some other) (Over cause) is = inr is
@@ -111,121 +116,56 @@ long_frame (LinkWrite octets NotYet) so_far n is = cc
 long_frame (LinkWrite octets IoFailed) so_far n is = cc
 long_frame _ so_far n is = cc
 
--- no port of the host is given to a guest, so none is refused
-abbrev IsSound : Phase → Type 0
-IsSound (Opening n []) = Unit {0}
-IsSound (Opening n (f ∷ fs)) = ⊥
-IsSound Woken = Unit {0}
-IsSound Working = Unit {0}
-IsSound (Over (By why)) = Unit {0}
-IsSound (Over (Refused forward)) = ⊥
-
-abbrev Comes : Phase → List Entry → Entry → Type 0
-Comes stands past e = MatchOption (due_in stands past) (Unit {0}) (λ d. call_of e ≡ d)
-
-sound_by : (e : Entry) (past : List Entry) (stands : Phase) → Comes stands past e → IsSound stands → IsSound (phase_by e stands)
-sound_by (Now moment) past (Opening n forwards) due sound = tt
-sound_by (Now moment) past Woken due sound = tt
-sound_by (Now moment) past Working due sound = tt
-sound_by (Now moment) past (Over cause) due sound = sound
-sound_by (Wait wants timeout answer ready) past stands due sound = tt
-sound_by (LinkOpen at answer) past stands due sound = sound
-sound_by (LinkRead asked answer octets) past stands due sound = sound
-sound_by (LinkWrite octets answer) past stands due sound = sound
-sound_by (Connect socket to answer) past stands due sound = sound
-sound_by (Connected socket answer) past stands due sound = sound
-sound_by (Listen socket at MadeDone) past (Opening n []) due sound = tt
-sound_by (Listen socket at MadeFailed) past (Opening n []) due sound = cc
-sound_by (Listen socket at answer) past (Opening n (f ∷ fs)) due sound = absurd sound
-sound_by (Listen socket at MadeDone) past Woken due sound = tt
-sound_by (Listen socket at MadeDone) past Working due sound = tt
-sound_by (Listen socket at MadeDone) past (Over cause) due sound = sound
-sound_by (Listen socket at MadeFailed) past Woken due sound = tt
-sound_by (Listen socket at MadeFailed) past Working due sound = tt
-sound_by (Listen socket at MadeFailed) past (Over cause) due sound = sound
-sound_by (Accept listener socket answer) past stands due sound = sound
-sound_by (TcpRead socket asked answer octets) past stands due sound = sound
-sound_by (TcpWrite socket octets answer) past stands due sound = sound
-sound_by (TcpEnd socket answer) past stands due sound = sound
-sound_by (Close socket) past stands due sound = sound
-sound_by (UdpOpen socket at MadeDone) past (Opening n []) due sound = tt
-sound_by (UdpOpen socket at MadeFailed) past (Opening n []) due sound = cc
-sound_by (UdpOpen socket at answer) past (Opening n (f ∷ fs)) due sound = absurd sound
-sound_by (UdpOpen socket at MadeDone) past Woken due sound = tt
-sound_by (UdpOpen socket at MadeDone) past Working due sound = tt
-sound_by (UdpOpen socket at MadeDone) past (Over cause) due sound = sound
-sound_by (UdpOpen socket at MadeFailed) past Woken due sound = tt
-sound_by (UdpOpen socket at MadeFailed) past Working due sound = tt
-sound_by (UdpOpen socket at MadeFailed) past (Over cause) due sound = sound
-sound_by (UdpSend socket to octets answer) past stands due sound = sound
-sound_by (UdpRecv socket asked answer octets) past stands due sound = sound
-sound_by (FileLen name answer) past stands due sound = sound
-sound_by (FileRead name place asked answer octets) past stands due sound = sound
-
-sound_after : (e : Entry) (past : List Entry) (found : Option Ending) (stands : Phase) → Comes stands past e → IsSound stands → IsSound (phase_after e found stands)
-sound_after e past None stands due sound = sound_by e past stands due sound
-sound_after e past (Some why) (Opening n forwards) due sound = tt
-sound_after e past (Some why) Woken due sound = tt
-sound_after e past (Some why) Working due sound = tt
-sound_after e past (Some why) (Over cause) due sound = sound
-
--- what is due by the phase goes before what a datagram asks for
-comes_first : (by_phase by_datagram : Option Call) (call : Call) → MatchOption (unless_due by_phase by_datagram) (Unit {0}) (λ d. call ≡ d) → MatchOption by_phase (Unit {0}) (λ d. call ≡ d)
-comes_first None by_datagram call due = tt
-comes_first (Some d) by_datagram call due = due
-
-sound : (journal : List Entry) → Follows (MayDue usual) journal → IsSound (phase usual journal)
-sound [] due = tt
-sound (e ∷ past) due =
-    let comes = comes_first (due_in (phase usual past) past) (due_for (relay usual past).step (next_number past)) (call_of e) due.0 in
-    sound_after e past (ending e (partial past)) (phase usual past) comes (sound past due.1)
-
 -- where no entry ended a run that is finished, it made all its waits
-waited : (stands : Phase) (count : ℕ) → IsSound stands → (is_over stands || nat_le usual.turns count) ≡ true → outcome_of (end_of usual stands) ≡ TurnsSpent usual.turns → usual.turns ≤ count
-waited (Opening n forwards) count sound ended is = grind (arith, nat_tests)
-waited Woken count sound ended is = grind (arith, nat_tests)
-waited Working count sound ended is = grind (arith, nat_tests)
-waited (Over (By LinkEnded)) count sound ended is = cc
-waited (Over (By (LinkCut octets))) count sound ended is = cc
-waited (Over (By (LongFrame n))) count sound ended is = cc
-waited (Over (By LinkFailed)) count sound ended is = cc
-waited (Over (By Stopped)) count sound ended is = cc
-waited (Over (By WaitFailed)) count sound ended is = cc
-waited (Over (Refused forward)) count sound ended is = absurd sound
-
-all_waits : (journal : List Entry) → Follows (MayDue usual) journal → Finished usual journal → outcome_of (end_of usual (phase usual journal)) ≡ TurnsSpent usual.turns → usual.turns ≤ waits journal
-all_waits journal due finished is = waited (phase usual journal) (waits journal) (sound journal due) finished.0 is
+waited : (config : Config) (stands : Phase) (count : ℕ) → (is_over stands || nat_le config.turns count) ≡ true → outcome_of (end_of config stands) ≡ TurnsSpent config.turns → config.turns ≤ count
+waited config (Opening n forwards) count ended is = grind (arith, nat_tests)
+waited config Started count ended is = grind (arith, nat_tests)
+waited config Woken count ended is = grind (arith, nat_tests)
+waited config Working count ended is = grind (arith, nat_tests)
+waited config (Over (By LinkEnded)) count ended is = cc
+waited config (Over (By (LinkCut octets))) count ended is = cc
+waited config (Over (By (LongFrame n))) count ended is = cc
+waited config (Over (By LinkFailed)) count ended is = cc
+waited config (Over (By Stopped)) count ended is = cc
+waited config (Over (By WaitFailed)) count ended is = cc
+waited config (Over (Refused forward)) count ended is = cc
 
 -- there are no more waits than the settings allow
-few_waits : (journal : List Entry) → Follows (MayShape usual) journal → waits journal ≤ usual.turns
-few_waits [] shape = omega arith
-few_waits (Wait wants timeout answer ready ∷ past) shape = omega (arith, shape.0.1)
-few_waits (_ ∷ past) shape = few_waits past shape.1
+few : (may : Bool) (count turns : ℕ) → (may && nat_lt count turns) ≡ true → count + 1 ≤ turns
+few true count turns is = grind (arith, nat_tests)
+few false count turns is = cc
 
-pub waits_spent : (journal : List Entry) → Lawful usual journal → Finished usual journal → outcome_of (end_of usual (phase usual journal)) ≡ TurnsSpent usual.turns → waits journal ≡ usual.turns
-waits_spent journal lawful finished is = omega (arith, few_waits journal lawful.shape, all_waits journal lawful.due finished is)
+few_waits : (config : Config) (journal : List Entry) → Lawful config journal → waits journal ≤ config.turns
+few_waits config [] lawful = omega arith
+few_waits config (Wait wants timeout answer ready ∷ past) lawful = few (may_turn (phase config past)) (waits past) config.turns lawful.0.place
+few_waits config (_ ∷ past) lawful = few_waits config past lawful.1
+
+pub waits_spent : (config : Config) (journal : List Entry) → Lawful config journal → Finished config journal → outcome_of (end_of config (phase config journal)) ≡ TurnsSpent config.turns → waits journal ≡ config.turns
+waits_spent config journal lawful finished is = omega (arith, few_waits config journal lawful, waited config (phase config journal) (waits journal) finished.ended is)
 
 -- what each outcome says of where the run stood
-abbrev pub Meant : Outcome → Phase → Type 0
-Meant Done stands = (stands ≡ Over (By Stopped)) ⊎ (stands ≡ Over (By LinkEnded))
-Meant (FrameTooLong n) stands = stands ≡ Over (By (LongFrame n))
-Meant (FrameCut octets) stands = stands ≡ Over (By (LinkCut octets))
-Meant LinkFault stands = stands ≡ Over (By LinkFailed)
-Meant WaitFault stands = stands ≡ Over (By WaitFailed)
-Meant (TurnsSpent turns) stands = turns ≡ usual.turns
-Meant _ stands = Unit {0}
+abbrev pub Meant : Config → Outcome → Phase → Type 0
+Meant config Done stands = (stands ≡ Over (By Stopped)) ⊎ (stands ≡ Over (By LinkEnded))
+Meant config (FrameTooLong n) stands = stands ≡ Over (By (LongFrame n))
+Meant config (FrameCut octets) stands = stands ≡ Over (By (LinkCut octets))
+Meant config LinkFault stands = stands ≡ Over (By LinkFailed)
+Meant config WaitFault stands = stands ≡ Over (By WaitFailed)
+Meant config (TurnsSpent turns) stands = turns ≡ config.turns
+Meant config (ListenRefused forward) stands = stands ≡ Over (Refused forward)
+Meant config _ stands = Unit {0}
 
-meant : (stands : Phase) → Meant (outcome_of (end_of usual stands)) stands
-meant (Opening n forwards) = refl
-meant Woken = refl
-meant Working = refl
-meant (Over (By LinkEnded)) = inr refl
-meant (Over (By (LinkCut octets))) = refl
-meant (Over (By (LongFrame n))) = refl
-meant (Over (By LinkFailed)) = refl
-meant (Over (By Stopped)) = inl refl
-meant (Over (By WaitFailed)) = refl
-meant (Over (Refused forward)) = refl
+meant : (config : Config) (stands : Phase) → Meant config (outcome_of (end_of config stands)) stands
+meant config (Opening n forwards) = refl
+meant config Started = refl
+meant config Woken = refl
+meant config Working = refl
+meant config (Over (By LinkEnded)) = inr refl
+meant config (Over (By (LinkCut octets))) = refl
+meant config (Over (By (LongFrame n))) = refl
+meant config (Over (By LinkFailed)) = refl
+meant config (Over (By Stopped)) = inl refl
+meant config (Over (By WaitFailed)) = refl
+meant config (Over (Refused forward)) = refl
 
-pub meant_by : (outcome : Outcome) (stands : Phase) → outcome ≡ outcome_of (end_of usual stands) → Meant outcome stands
-meant_by outcome stands is = subst (λ o. Meant o stands) (sym is) (meant stands)
+pub meant_by : (config : Config) (outcome : Outcome) (stands : Phase) → outcome ≡ outcome_of (end_of config stands) → Meant config outcome stands
+meant_by config outcome stands is = subst (λ o. Meant config o stands) (sym is) (meant config stands)

@@ -9,11 +9,11 @@ use Rattle.world_face.specs.Tells.{Told, on, ceased, silent, Makes}
 use Rattle.world_face.proofs.Following.{follows_before, all_before}
 use Rattle.host_policy.specs.Settings.{usual}
 use Rattle.slirp_laws.specs.Laws.{May, Lawful}
-use Rattle.slirp_laws.specs.Shape.{Finished, phase}
-use Rattle.slirp_laws.proofs.Sentences.{call_by_call, sentence_by_sentence}
+use Rattle.slirp_laws.specs.Laws.{Finished}
+use Rattle.run_laws.specs.Shape.{phase}
 use Rattle.slirp_core.specs.Ends.{end_of}
 use Rattle.slirp_core.specs.declared.service.End.{End}
-use Rattle.slirp_core.specs.declared.service.End.TheVariants.{Done, TooLong, Cut, LinkFault, WaitFault, TurnsSpent}
+use Rattle.slirp_core.specs.declared.service.End.TheVariants.{Done, TooLong, Cut, LinkFault, WaitFault, TurnsSpent, ListenRefused}
 use Rattle.replay.specs.Fitting.{FitsNone, StopsRightly, divergence_of}
 use Rattle.replay.specs.Names.{name_of}
 use Rattle.replay.specs.Rows.{Row, AreReadable, Fits, FitsBefore, entries_of, row_text, schedule_text, turned_text}
@@ -84,6 +84,7 @@ at_end (Cut n) schedule old new ran = ran
 at_end LinkFault schedule old new ran = ran
 at_end WaitFault schedule old new ran = ran
 at_end (TurnsSpent n) schedule old new ran = ran
+at_end (ListenRefused n) schedule old new ran = ran
 
 -- a run, lawful and finished, with the end that its record tells
 abbrev pub Ran : End → List Entry → Type 0
@@ -143,7 +144,7 @@ module _ (script new : Script) (end : End) (outcome : Outcome) (before after : O
       }))
   by_told made same allowed run (ceased was now later told e made_is kept stop) =
       let is : told ≡ (script_tells new).kept = sym (kept ∙ ap (λ l. told ++ l) nothing_kept ∙ append-nil told) in
-      let lawful = call_by_call usual (later ++ (e ∷ told)) (subst (Lawful usual) made_is run.0) in
+      let lawful = subst (Lawful usual) made_is run.0 in
       let next = follows_before (May usual) later (e ∷ told) lawful in
       let left = dead now in
       subst (λ o. Came o (schedule_text script.lines) before after) (sym left.1) (record {
@@ -151,7 +152,7 @@ module _ (script new : Script) (end : End) (outcome : Outcome) (before after : O
         put = put_as (Diverged left.0) left.1;
         fits = fits same;
         allowed = subst AreAllowed is (all_before later (e ∷ told) (subst AreAllowed made_is allowed)).1;
-        lawful = subst (Lawful usual) is (sentence_by_sentence usual told next.1);
+        lawful = subst (Lawful usual) is next.1;
         holds = there left.0 left.2 told e is stop next.0 same;
       })
   by_told made same allowed run (silent quiet now kept stop) = cc

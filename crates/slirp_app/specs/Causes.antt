@@ -1,19 +1,18 @@
 -- What an outcome tells of the calls on the outer World, of the schedule, and of what was put.
 use Rattle.std.specs.Prelude.{◌≡◌, ◌⊎◌, ℕ, IsTrue, List, ◌∷◌, Option, Bool, true, false, nat_lt}
 use Rattle.world_face.specs.Journal.{Entry, FileLen, FileRead}
-use Rattle.world_face.specs.Tells.{Telling, Makes}
 use Rattle.world_face.specs.declared.FileSize.{FileSize}
 use Rattle.world_face.specs.declared.FileSize.TheVariants.{Length, Missing, Failed}
 use Rattle.world_face.specs.declared.Io.{Io}
 use Rattle.world_face.specs.declared.Io.TheVariants.{End}
 use Rattle.replay.specs.Rows.{TakesTooMuch}
 use Rattle.replay.specs.Unread.{IsFirstUnread}
-use Rattle.slirp_app.specs.Counting.{Rose}
+use Rattle.world_face.specs.Tells.{Telling, Makes, Rose}
 use Rattle.slirp_app.specs.Fetching.{IsWhole, IsUnreadable, is_read, octets_read}
 use Rattle.slirp_app.specs.Ran.{Replayed, IsAtEnd, Ceased}
 use Rattle.slirp_app.specs.Statuses.{code_of}
 use Rattle.slirp_app.specs.declared.status.Outcome.{Outcome}
-use Rattle.slirp_app.specs.declared.status.Outcome.TheVariants.{Done, Usage, ScheduleRead, ScheduleTooLarge, ScheduleLine, Diverged, FrameTooLong, FrameCut, LinkFault, WaitFault, TurnsSpent, SinkFault, NoMemory}
+use Rattle.slirp_app.specs.declared.status.Outcome.TheVariants.{Done, Usage, ScheduleRead, ScheduleTooLarge, ScheduleLine, Diverged, FrameTooLong, FrameCut, LinkFault, WaitFault, TurnsSpent, ListenRefused, SinkFault, NoMemory}
 
 -- Where a run was made, a record of it was put. It diverged, or came to its end.
 abbrev pub Came : Outcome → (schedule : List ℕ) → (old new : Option (List ℕ)) → Type 0
@@ -28,6 +27,7 @@ Came (FrameCut octets) schedule old new = Replayed 7 schedule old new (IsAtEnd (
 Came LinkFault schedule old new = Replayed 8 schedule old new (IsAtEnd LinkFault)
 Came WaitFault schedule old new = Replayed 9 schedule old new (IsAtEnd WaitFault)
 Came (TurnsSpent turns) schedule old new = Replayed 10 schedule old new (IsAtEnd (TurnsSpent turns))
+Came (ListenRefused forward) schedule old new = Replayed 11 schedule old new (IsAtEnd (ListenRefused forward))
 Came SinkFault schedule old new = Unit {0}
 Came NoMemory schedule old new = Unit {0}
 

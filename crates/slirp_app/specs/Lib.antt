@@ -1,5 +1,4 @@
 pub mod Causes
-pub mod Counting
 pub mod Fetching
 pub mod Ran
 pub mod Statuses

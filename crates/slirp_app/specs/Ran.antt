@@ -5,7 +5,8 @@ use Rattle.world_face.specs.Journal.{Entry, Call, call_of, AreAllowed, Follows}
 use Rattle.world_face.specs.Puts.{added}
 use Rattle.host_policy.specs.Settings.{usual}
 use Rattle.slirp_laws.specs.Laws.{May, Lawful}
-use Rattle.slirp_laws.specs.Shape.{Finished, phase}
+use Rattle.slirp_laws.specs.Laws.{Finished}
+use Rattle.run_laws.specs.Shape.{phase}
 use Rattle.slirp_core.specs.Ends.{end_of}
 use Rattle.replay.specs.Fitting.{FitsNone}
 use Rattle.replay.specs.Names.{name_of}

@@ -1,9 +1,9 @@
 -- The statuses of the program.
 use Rattle.std.specs.Prelude.{ℕ, ◌==◌, ◌||◌, not, Bool}
 use Rattle.slirp_core.specs.declared.service.End.{End}
-use Rattle.slirp_core.specs.declared.service.End.TheVariants.{Done as EndDone, TooLong, Cut, LinkFault as EndLink, WaitFault as EndWait, TurnsSpent as EndTurns}
+use Rattle.slirp_core.specs.declared.service.End.TheVariants.{Done as EndDone, TooLong, Cut, LinkFault as EndLink, WaitFault as EndWait, TurnsSpent as EndTurns, ListenRefused as EndRefused}
 use Rattle.slirp_app.specs.declared.status.Outcome.{Outcome}
-use Rattle.slirp_app.specs.declared.status.Outcome.TheVariants.{Done, Usage, ScheduleRead, ScheduleTooLarge, ScheduleLine, Diverged, FrameTooLong, FrameCut, LinkFault, WaitFault, TurnsSpent, SinkFault, NoMemory}
+use Rattle.slirp_app.specs.declared.status.Outcome.TheVariants.{Done, Usage, ScheduleRead, ScheduleTooLarge, ScheduleLine, Diverged, FrameTooLong, FrameCut, LinkFault, WaitFault, TurnsSpent, ListenRefused, SinkFault, NoMemory}
 
 abbrev pub code_of : Outcome → ℕ
 code_of Done = 0
@@ -17,6 +17,7 @@ code_of (FrameCut octets) = 7
 code_of LinkFault = 8
 code_of WaitFault = 9
 code_of (TurnsSpent turns) = 10
+code_of (ListenRefused forward) = 11
 code_of SinkFault = 12
 code_of NoMemory = 13
 
@@ -28,6 +29,7 @@ outcome_of (Cut octets) = FrameCut octets
 outcome_of EndLink = LinkFault
 outcome_of EndWait = WaitFault
 outcome_of (EndTurns turns) = TurnsSpent turns
+outcome_of (EndRefused forward) = ListenRefused forward
 
 -- nothing was run: the words or the schedule have no reading, or there was no memory
 abbrev pub is_unrun : ℕ → Bool

@@ -3,9 +3,9 @@ use Rattle.std.specs.Prelude.{◌≡◌, ℕ, List, [], ◌∷◌, ◌++◌, cod
 use Rattle.world_face.specs.Puts.{added}
 use Rattle.replay.specs.Names.{name_text}
 use Rattle.replay.specs.declared.CallName.{CallName}
-use Rattle.slirp_app.specs.Counting.{Rose}
+use Rattle.world_face.specs.Tells.{Rose}
 use Rattle.slirp_app.specs.declared.status.Outcome.{Outcome}
-use Rattle.slirp_app.specs.declared.status.Outcome.TheVariants.{Done, Usage, ScheduleRead, ScheduleTooLarge, ScheduleLine, Diverged, FrameTooLong, FrameCut, LinkFault, WaitFault, TurnsSpent, SinkFault, NoMemory}
+use Rattle.slirp_app.specs.declared.status.Outcome.TheVariants.{Done, Usage, ScheduleRead, ScheduleTooLarge, ScheduleLine, Diverged, FrameTooLong, FrameCut, LinkFault, WaitFault, TurnsSpent, ListenRefused, SinkFault, NoMemory}
 
 -- the call of the line that stands next, where one is left
 abbrev pub wanted_text : Option CallName → List ℕ
@@ -25,6 +25,7 @@ text_of (FrameCut octets) = codes "slirpd: link ended inside a frame, " ++ decim
 text_of LinkFault = codes "slirpd: link fault"
 text_of WaitFault = codes "slirpd: wait fault"
 text_of (TurnsSpent turns) = codes "slirpd: " ++ decimal turns ++ codes " turns spent"
+text_of (ListenRefused forward) = codes "slirpd: forward " ++ decimal forward ++ codes " refused"
 text_of SinkFault = []
 text_of NoMemory = codes "slirpd: out of memory"
 

@@ -10,20 +10,21 @@ ghost use Rattle.replay.specs.Text.{text};
 ghost use Rattle.replay.specs.Unread.{IsFirstUnread};
 ghost use Rattle.replay.specs.declared.Divergence.{Divergence};
 ghost use Rattle.slirp_app.specs.Causes.{Came, CannotRead, Caused, IsTooLarge, RanOn};
-ghost use Rattle.slirp_app.specs.Counting.{Rose};
 ghost use Rattle.slirp_app.specs.Fetching.{IsWhole, MayFetch, is_read, octets_read};
 ghost use Rattle.slirp_app.specs.Ran.{Ceased, EndsBy, FetchesFile, end_line};
 ghost use Rattle.slirp_app.specs.Statuses.{code_of, outcome_of, is_run, is_unrun};
 ghost use Rattle.slirp_app.specs.Texts.{Got};
 ghost use Rattle.slirp_app.specs.Words.{file_of, is_file};
 ghost use Rattle.slirp_app.specs.declared.status.Outcome.{Outcome as AnOutcome};
-ghost use Rattle.slirp_app.specs.declared.status.Outcome.TheVariants.{Diverged, FrameCut, FrameTooLong, NoMemory as OfMemory, ScheduleLine, ScheduleRead, ScheduleTooLarge, TurnsSpent};
+ghost use Rattle.slirp_app.specs.declared.status.Outcome.TheVariants.{Diverged, FrameCut, FrameTooLong, NoMemory as OfMemory, ScheduleLine, ScheduleRead, ScheduleTooLarge, TurnsSpent, ListenRefused};
 ghost use Rattle.slirp_core.specs.Ends.{end_of};
-ghost use Rattle.slirp_laws.specs.Shape.{Finished, phase, waits};
+ghost use Rattle.slirp_laws.specs.Laws.{Finished};
+ghost use Rattle.run_laws.specs.Shape.{Over, Refused, phase};
+ghost use Rattle.run_laws.specs.Moments.{waits};
 ghost use Rattle.world_face.specs.Frames.{LinkCut, LinkEnded, LinkFailed, LongFrame, Stopped, WaitFailed};
 ghost use Rattle.world_face.specs.Journal.{Follows};
 ghost use Rattle.world_face.specs.Puts.{Puts};
-ghost use Rattle.world_face.specs.Tells.{Makes};
+ghost use Rattle.world_face.specs.Tells.{Makes, Rose};
 
 use crate::fetching::{Unread, read_file};
 use crate::gathering::Gathering;
@@ -82,6 +83,9 @@ pub fn slirp_main<W: World, K: Sink, E: Sink>(
     ensures wait_fault { result ≡ 9 → RanOn (W.tells world.old) (W.tells world.new) 9 (K.holds out.old) (K.holds out.new) (λ schedule journal. EndsBy WaitFailed journal) }
     // With 10 there were as many waits as the settings allow, and the text has their number.
     ensures spent { result ≡ 10 → RanOn (W.tells world.old) (W.tells world.new) 10 (K.holds out.old) (K.holds out.new) (λ schedule journal. (waits journal ≡ usual.turns) × Got (E.holds err.old) (E.holds err.new) (E.faults err.old) (E.faults err.new) (TurnsSpent usual.turns)) }
+    // With 11 the host refused a forward, and the text has its number, counted from 0.
+    ensures forward_refused { result ≡ 11 → RanOn (W.tells world.old) (W.tells world.new) 11 (K.holds out.old) (K.holds out.new)
+        (λ schedule journal. (forward : ℕ) × (phase usual journal ≡ Over (Refused forward)) × Got (E.holds err.old) (E.holds err.new) (E.faults err.old) (E.faults err.new) (ListenRefused forward)) }
     // It is 12 only where a put to `out` failed.
     ensures refused { result ≡ 12 → Rose (K.faults out.old) (K.faults out.new) }
 {

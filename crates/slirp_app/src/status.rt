@@ -28,6 +28,8 @@ pub enum Outcome {
     LinkFault,
     WaitFault,
     TurnsSpent(u64),
+    /// The host refused the forward with this number, counted from 0.
+    ListenRefused(usize),
     SinkFault,
     NoMemory,
 }
@@ -48,6 +50,7 @@ impl Outcome {
             Outcome::LinkFault => 8,
             Outcome::WaitFault => 9,
             Outcome::TurnsSpent(_) => 10,
+            Outcome::ListenRefused(_) => 11,
             Outcome::SinkFault => 12,
             Outcome::NoMemory => 13,
         }
@@ -86,6 +89,12 @@ impl Outcome {
             Outcome::LinkFault => err.put(b"slirpd: link fault\n"),
             Outcome::WaitFault => err.put(b"slirpd: wait fault\n"),
             Outcome::TurnsSpent(turns) => tell_number(err, b"slirpd: ", *turns, b" turns spent\n"),
+            Outcome::ListenRefused(forward) => tell_number(
+                err,
+                b"slirpd: forward ",
+                *forward as u64,
+                b" refused\n",
+            ),
             Outcome::NoMemory => err.put(b"slirpd: out of memory\n"),
         }
     }
@@ -105,6 +114,7 @@ pub fn outcome_of(end: End) -> Outcome
         End::LinkFault => Outcome::LinkFault,
         End::WaitFault => Outcome::WaitFault,
         End::TurnsSpent(turns) => Outcome::TurnsSpent(turns),
+        End::ListenRefused(forward) => Outcome::ListenRefused(forward),
     }
 }
 

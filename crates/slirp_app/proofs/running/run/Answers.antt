@@ -1,17 +1,28 @@
-use Rattle.std.proofs.Common.{◌≡◌, ◌++◌, ◌∙◌, ap, subst}
+use Rattle.std.proofs.Common.{◌≡◌, ◌++◌, refl, sym, ◌∙◌, ap, subst}
 use Rattle.std.specs.Result.{is_ok, is_err}
 use Rattle.world_face.specs.Puts.{added}
 use Rattle.world_face.specs.Tells.{Makes}
 use Rattle.host_policy.specs.Addresses.{Config}
 use Rattle.host_policy.specs.Settings.{usual}
 use Rattle.slirp_laws.specs.Laws.{Lawful}
-use Rattle.slirp_laws.specs.Shape.{Finished, phase}
+use Rattle.slirp_laws.specs.Laws.{Finished}
+use Rattle.run_laws.specs.Shape.{phase}
 use Rattle.slirp_core.specs.Ends.{end_of}
+use Rattle.slirp_core.specs.Served.{IsBuilt}
 use Rattle.replay.specs.Script.{script_tells}
 use Rattle.replay.specs.Text.{text}
 use Rattle.slirp_app.specs.Ran.{end_line}
 use Rattle.slirp_app.proofs.Replaying.{replayed}
 use Rattle.slirp_app.proofs.running.run.Goals as goal
+
+pub open-requires-clause-sound : goal.open-requires-clause-sound
+open-requires-clause-sound g c = c.usual.ensures.sound
+
+is_built : IsBuilt usual
+is_built = record { forwards = refl; guest_forwards = refl; resolver = refl; files = refl; outbound = refl; control = refl; congestion = refl; mtu = refl }
+
+pub open-requires-clause-built : goal.open-requires-clause-built
+open-requires-clause-built g c = subst IsBuilt (sym c.usual.ensures.usual) is_built
 
 pub returns-in-Ok-put_record-clause-came : goal.returns-in-Ok-put_record-clause-came
 returns-in-Ok-put_record-clause-came g c =

@@ -1,20 +1,34 @@
-use Rattle.std.proofs.Common.{◌≡◌, ◌≢◌, ◌↔◌, ℕ, IsTrue, map, sym, ◌∙◌, subst}
+use Rattle.std.proofs.Common.{◌≡◌, ◌≢◌, ◌↔◌, ◌⊎◌, None, ℕ, IsTrue, map, sym, ◌∙◌, subst}
 use Rattle.std.specs.String.{string_bytes}
 use Rattle.host_policy.specs.Settings.{usual}
 use Rattle.slirp_core.specs.Ends.{end_of}
-use Rattle.slirp_laws.specs.Shape.{Finished, phase}
+use Rattle.slirp_laws.specs.Laws.{Finished}
+use Rattle.run_laws.specs.Shape.{phase}
 use Rattle.slirp_app.specs.Causes.{RanOn}
 use Rattle.replay.specs.Unread.{IsFirstUnread}
 use Rattle.slirp_app.specs.Fetching.{is_read, octets_read}
 use Rattle.world_face.specs.Tells.{Makes}
-use Rattle.slirp_app.specs.Statuses.{code_of, outcome_of, is_run}
+use Rattle.slirp_app.specs.Statuses.{code_of, outcome_of, is_run, is_unrun}
 use Rattle.slirp_app.specs.Texts.{Got, told_text}
+use Rattle.slirp_app.specs.Words.{file_of}
 use Rattle.slirp_app.proofs.Causing as causing
 use Rattle.slirp_app.proofs.running.slirp_main.Goals as goal
 use Rattle.world_face.proofs.Telling.{makes_as}
 
 pub returns-clause-calls : goal.returns-clause-calls
 returns-clause-calls g c = makes_as _ _ _ _ c.run_words-outcome.ensures.calls (λ made ran. ran.0)
+
+pub returns-clause-nothing : goal.returns-clause-nothing
+returns-clause-nothing g c is = c.run_words-outcome.ensures.nothing (subst (λ n. IsTrue (is_unrun n)) c.code.ensures is)
+
+pub returns-clause-silent : goal.returns-clause-silent
+returns-clause-silent g c is = c.tell-told.ensures.silent (causing.no_text c.run_words-outcome.result (subst (λ n. (n ≡ 0) ⊎ (n ≡ 12)) c.code.ensures is))
+
+pub returns-clause-usage : goal.returns-clause-usage
+returns-clause-usage g c = subst (λ n. (n ≡ 1) ↔ (file_of (map string_bytes c.args.words.now.items) ≡ None)) (sym c.code.ensures) c.run_words-outcome.ensures.usage
+
+pub returns-clause-refused : goal.returns-clause-refused
+returns-clause-refused g c is = c.run_words-outcome.ensures.refused (sym c.code.ensures ∙ is)
 
 pub returns-clause-told : goal.returns-clause-told
 returns-clause-told g c =
@@ -55,6 +69,12 @@ pub returns-clause-spent : goal.returns-clause-spent
 returns-clause-spent g c is =
     let outcome = c.run_words-outcome.result in
     causing.spent _ _ (map string_bytes c.args.words.now.items) _ _ (λ o. Got (g.E.Sink.holds c.args.err.now) (g.E.Sink.holds c.tell-told.new.err) (g.E.Sink.faults c.args.err.now) (g.E.Sink.faults c.tell-told.new.err) o)
+    outcome c.run_words-outcome.ensures.calls (causing.got _ _ _ _ (told_text outcome) c.tell-told.result c.tell-told.ensures.text) (sym c.code.ensures ∙ is)
+
+pub returns-clause-forward_refused : goal.returns-clause-forward_refused
+returns-clause-forward_refused g c is =
+    let outcome = c.run_words-outcome.result in
+    causing.forward_refused _ _ (map string_bytes c.args.words.now.items) _ _ (λ o. Got (g.E.Sink.holds c.args.err.now) (g.E.Sink.holds c.tell-told.new.err) (g.E.Sink.faults c.args.err.now) (g.E.Sink.faults c.tell-told.new.err) o)
     outcome c.run_words-outcome.ensures.calls (causing.got _ _ _ _ (told_text outcome) c.tell-told.result c.tell-told.ensures.text) (sym c.code.ensures ∙ is)
 
 pub returns-clause-done : goal.returns-clause-done

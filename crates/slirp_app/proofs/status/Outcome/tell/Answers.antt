@@ -19,3 +19,7 @@ returns-in-WaitFault-clause-text g c = puts_same _ _ _ _ _ _ _ c.put-in-WaitFaul
 
 pub returns-in-NoMemory-clause-text : goal.returns-in-NoMemory-clause-text
 returns-in-NoMemory-clause-text g c = puts_same _ _ _ _ _ _ _ c.put-in-NoMemory.ensures (ap told_text (sym c.in-NoMemory.is))
+
+pub returns-in-ListenRefused-clause-text : goal.returns-in-ListenRefused-clause-text
+returns-in-ListenRefused-clause-text g c =
+    puts_same _ _ _ _ _ _ _ c.tell_number-in-ListenRefused.ensures (ap (λ t. codes "slirpd: forward " ++ t) (sym (append_assoc (decimal c.in-ListenRefused.forward) (codes " refused") (10 ∷ []))) ∙ ap told_text (sym c.in-ListenRefused.is))
