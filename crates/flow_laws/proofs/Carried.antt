@@ -1,5 +1,5 @@
 -- Whatever the guest does: each octet that was written came at its number.
-use Rattle.std.proofs.Common.{refl, ◌≡◌, ℕ, zero, suc, ◌+◌, ◌^◌, ◌%◌, List, [], ◌∷◌, ◌++◌, length, take, Option, None, Some, is_some, slice_get, ◌⊎◌, inl, inr, subst, sym, ap, ◌∙◌, Bool, true, false, not, ◌&&◌, if◌then◌else◌, IsTrue}
+use Rattle.std.proofs.Common.{refl, ◌≡◌, ℕ, zero, suc, ◌+◌, ◌^◌, ◌%◌, List, [], ◌∷◌, ◌++◌, take, Option, None, Some, is_some, slice_get, ◌⊎◌, inl, inr, sym, ap, ◌∙◌, Bool, true, false, if◌then◌else◌}
 use Rattle.std.specs.Option.{option_or, option_map}
 use Rattle.seq_space.specs.Places.{number_of}
 use Rattle.flow_laws.specs.Settings.{Settings}

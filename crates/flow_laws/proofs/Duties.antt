@@ -1,16 +1,16 @@
 -- Where the test of what is done holds, it was done as it must be: sentence by sentence.
-use Rattle.std.proofs.Common.{refl, ◌≡◌, ℕ, ◌+◌, ◌-◌, ◌<◌, ◌≤◌, List, [], ◌∷◌, length, min, Option, None, Some, is_some, ◌⊎◌, inl, inr, arith, subst, ap, sym, ◌∙◌, Bool, true, false, not, ◌&&◌, ◌||◌, if◌then◌else◌, IsTrue, MatchOption, nat_eq, nat_le, nat_lt}
+use Rattle.std.proofs.Common.{refl, ◌≡◌, ℕ, ◌+◌, ◌-◌, List, [], ◌∷◌, length, min, Option, None, Some, is_some, ◌⊎◌, inl, inr, arith, Bool, true, false, not, ◌&&◌, ◌||◌, if◌then◌else◌, IsTrue, MatchOption, nat_eq, nat_le, nat_lt}
 use Rattle.std.proofs.lemmas.Bool.Decides.{nat_tests}
 use Rattle.std.specs.Option.{unwrap_or}
 use Rattle.seq_space.specs.Places.{number_of}
 use Rattle.flow_laws.specs.Settings.{Settings}
 use Rattle.flow_laws.specs.Event.{Segment, Departs, At, Story}
-use Rattle.flow_laws.specs.Guest.{Up, Acked, EndsAt, Honest, IsAcknowledged, ackd, front, written, has_ended}
+use Rattle.flow_laws.specs.Guest.{Up, Acked, EndsAt, Honest, ackd, front, written, has_ended}
 use Rattle.flow_laws.specs.Flow.{guest, push, acknowledges, their_number, is_closed, is_connecting}
 use Rattle.flow_laws.specs.Windows.{field, our_shift}
 use Rattle.flow_laws.specs.Close.{before, newest_rst}
 use Rattle.flow_laws.specs.Lawful.{Act, AskConnected, Write, EndHost, Read, Send, Close, act_of}
-use Rattle.flow_laws.specs.Dutiful.{MayWaitToWrite, TellsRoom, OffersEnough, MustClose, SendsItsRoom, OffersWhatWasAcknowledged, ClosesAfterReset, Must, IsDutiful}
+use Rattle.flow_laws.specs.Dutiful.{MayWaitToWrite, TellsRoom, MustClose, SendsItsRoom, OffersWhatWasAcknowledged, ClosesAfterReset, Must, IsDutiful}
 use Rattle.flow_laws.specs.Computed.{acknowledged, ends_at}
 use Rattle.flow_laws.specs.CheckDuty.{may_wait_to_write, tells_room, sends_its_room, offers_what_was_acknowledged, is_all_acked, resets_at_next, must_close, closes_after_reset, must, must_happen, is_dutiful}
 use Rattle.flow_laws.proofs.Computing.{both, either, imply, is_false, nat_same, nat_within, three_parts}

@@ -1,15 +1,14 @@
 -- What was done in the courses was done as it must be: each tells its room, offers what was acknowledged, and is closed after a reset.
-use Rattle.std.proofs.Common.{refl, ◌≡◌, [], ◌∷◌, true, false, IsTrue}
+use Rattle.std.proofs.Common.{refl, ◌≡◌, ◌∷◌, inl, false, IsTrue}
 use Rattle.flow_laws.specs.Event.{Arrives, At}
-use Rattle.flow_laws.specs.Lawful.{AskConnected, Close, Read, Send, Write}
+use Rattle.flow_laws.specs.Lawful.{Read}
 use Rattle.flow_laws.specs.Dutiful.{Must}
-use Rattle.flow_laws.specs.CheckDuty.{is_dutiful, must, must_close}
+use Rattle.flow_laws.specs.CheckDuty.{is_dutiful, must_close}
 use Rattle.flow_laws.proofs.Refuting.{never}
 use Rattle.flow_laws.proofs.Honesty.{honest}
 use Rattle.flow_laws.specs.Flow.{guest}
-use Rattle.std.proofs.Common.{inl}
 use Rattle.flow_laws.proofs.Ends.{ends_has}
-use Rattle.flow_laws.proofs.Courses.{usual, opened, refused, established, short_writes, wrapped, repeated, ended_held, windowed, given_up, resets, reset}
+use Rattle.flow_laws.proofs.Courses.{usual, refused, established, short_writes, wrapped, repeated, ended_held, windowed, given_up, resets, reset}
 use Rattle.flow_laws.proofs.Closings.{accepted_open, both_open, turned_away, guest_ended, fin_again}
 use Rattle.flow_laws.proofs.Failures.{read_failed, reset_while_late, unheard, reset_passed, reset_after_octets}
 use Rattle.flow_laws.proofs.Corners.{crossing, probe, tend_fails, unsent}

@@ -1,9 +1,9 @@
 -- No more is acknowledged than was written or found room.
-use Rattle.std.proofs.Common.{refl, ◌≡◌, ℕ, ◌+◌, ◌≤◌, ◌<◌, List, [], ◌∷◌, ◌++◌, length, take, Option, None, Some, is_some, slice_get, get_or, ◌⊎◌, inl, inr, arith, sym, Bool, true, false, not, ◌&&◌, if◌then◌else◌, IsTrue, length-append}
+use Rattle.std.proofs.Common.{refl, ◌≡◌, ℕ, ◌+◌, ◌≤◌, ◌<◌, List, [], ◌∷◌, length, take, None, Some, is_some, get_or, ◌⊎◌, inl, inr, arith, Bool, true, false, not, ◌&&◌, if◌then◌else◌, IsTrue, length-append}
 use Rattle.std.proofs.lemmas.Bool.{cases_lt}
 use Rattle.std.proofs.lemmas.Option.{slice_get-get_or}
 use Rattle.flow_laws.specs.Settings.{Settings}
-use Rattle.flow_laws.specs.Event.{Segment, Connects, Arrives, Departs, Writes, WriteFails, EndsHost, EndFails, At, Story}
+use Rattle.flow_laws.specs.Event.{Connects, Arrives, Departs, Writes, WriteFails, EndsHost, EndFails, At, Story}
 use Rattle.flow_laws.specs.Guest.{Up, Known, Came, Acked, Wrote, Ended, Carries, EndsAt, Honest, HasCome, IsAcknowledged, front, written, ackd}
 use Rattle.flow_laws.specs.Flow.{guest, their_number, acknowledges, push}
 use Rattle.flow_laws.specs.Lawful.{IsLawful}

@@ -1,9 +1,9 @@
 -- What opens a flow, what closes it, and what is sent afterwards.
-use Rattle.std.proofs.Common.{refl, ◌≡◌, ℕ, [], ◌∷◌, Bool, true, false, not, ◌&&◌, ◌||◌, IsTrue, ◌⊎◌, inl, inr}
+use Rattle.std.proofs.Common.{refl, ◌≡◌, [], ◌∷◌, Bool, true, false, not, ◌&&◌, ◌||◌, IsTrue, inl, inr}
 use Rattle.flow_laws.specs.Settings.{Settings}
-use Rattle.flow_laws.specs.Event.{Segment, Accepts, Departs, Connected, ConnectsYet, ConnectFails, Writes, WriteFails, Reads, ReadsEnd, ReadFails, EndsHost, EndFails, Closes, At, Story}
+use Rattle.flow_laws.specs.Event.{Accepts, Departs, Connected, Closes, At, Story}
 use Rattle.flow_laws.specs.Flow.{is_accepted, is_closed, has_connected, syn_is_out}
-use Rattle.flow_laws.specs.Close.{is_done, follows_reset, host_failed, gives_up, connects_too_long, owes_reset, owes_at_close, is_owed_reset}
+use Rattle.flow_laws.specs.Close.{is_done, follows_reset, host_failed, gives_up, connects_too_long, owes_reset, is_owed_reset}
 use Rattle.flow_laws.specs.Lawful.{IsLawful}
 use Rattle.flow_laws.specs.Said.{something_is_out, reset_is_out, has_failed, closed_as_failed}
 use Rattle.flow_laws.proofs.Computing.{both, either}

@@ -1,5 +1,5 @@
 -- What refutes an act: tests and lists that differ.
-use Rattle.std.proofs.Common.{refl, ◌≡◌, ℕ, ◌+◌, List, [], ◌∷◌, ◌++◌, Some, arith, true, false, not, IsTrue, pos, nat_eq}
+use Rattle.std.proofs.Common.{refl, ◌≡◌, ℕ, List, [], ◌∷◌, ◌++◌, Some, arith, true, false, not, IsTrue, pos, nat_eq}
 use Rattle.std.proofs.lemmas.Bool.Decides.{nat_tests}
 use Rattle.std.proofs.lemmas.Int.{ints}
 use Rattle.flow_laws.specs.Lawful.{IsPrefixOf}

@@ -1,5 +1,5 @@
 -- Where the test of a story holds, the story is lawful: sentence by sentence.
-use Rattle.std.proofs.Common.{refl, ◌≡◌, ℕ, ◌+◌, ◌^◌, ◌<◌, ◌≤◌, List, [], ◌∷◌, ◌++◌, length, Option, None, Some, is_some, inl, inr, arith, Bool, true, false, not, ◌&&◌, ◌||◌, IsTrue, MatchOption, IfSome, pos, ◌+ℤ◌, nat_lt, nat_eq}
+use Rattle.std.proofs.Common.{◌≡◌, ℕ, ◌+◌, ◌^◌, ◌<◌, ◌≤◌, [], ◌∷◌, ◌++◌, length, Option, None, Some, is_some, inl, inr, arith, Bool, false, not, ◌&&◌, ◌||◌, IsTrue, MatchOption, IfSome, pos, ◌+ℤ◌, nat_lt, nat_eq}
 use Rattle.std.proofs.lemmas.Bool.Decides.{nat_tests}
 use Rattle.seq_space.specs.Places.{number_of, steps_up}
 use Rattle.flow_laws.specs.Settings.{Settings}
@@ -9,7 +9,7 @@ use Rattle.flow_laws.specs.Host.{got, got_end, our_place}
 use Rattle.flow_laws.specs.Flow.{guest, host, their_number, our_number, next_number, is_closed, is_accepted, has_connected, syn_is_out}
 use Rattle.flow_laws.specs.Close.{is_done, IsReset, newest_rst, before, follows_reset, host_failed, gives_up, connects_too_long, finds_no_guest, owes_reset, is_owed_reset}
 use Rattle.flow_laws.specs.Lawful.{our_mss, our_scale, Act, AskConnected, Write, EndHost, Read, Send, Close, act_of, HasCause, May, IsLawful, WritesWhatTheGuestSent, WritesWhatCame, SendsWhatTheHostSent, SendsAgainWithReason, EndsAfterAll, SendsEndAfterAll, ReadsToTheEnd, AcknowledgesWhatCame, ClosesWithCause, ClosesAfterFailure, CallsOpenSocket, ResetsWhereOwed, SendsNothingAfterClose, OpensAfterHost, OpensWithSyn, SendsItsOptions}
-use Rattle.flow_laws.specs.Computed.{begins_with, brings_all, ends_at, has_come, is_at, is_number, same_bool}
+use Rattle.flow_laws.specs.Computed.{ends_at, has_come, is_at, is_number, same_bool}
 use Rattle.flow_laws.specs.Check.{writes_what_the_guest_sent, writes_what_came, sends_what_the_host_sent, sends_again_with_reason, ends_after_all, sends_end_after_all, reads_to_the_end, acknowledges_what_came, closes_with_cause, closes_after_failure, calls_open_socket, resets_where_owed, sends_nothing_after_close, opens_after_host, opens_with_syn, sends_its_options, acks_syn, has_cause, is_reset, is_reset_at, may_stream, may_end, may_close, may_open, may, may_happen, is_lawful}
 use Rattle.flow_laws.proofs.Computing.{all_brought, at_is, begins_prefix, both, either, empty_is, imply, is_false, nat_same, number_is, same_bool_is, sends_read_is, three_parts, four_parts}
 use Rattle.flow_laws.proofs.Ends.{ends_at_is, has_come_is}

@@ -8,7 +8,7 @@ use Rattle.flow_laws.specs.Guest.{Up, is_empty, Acked, front, written, has_ended
 use Rattle.flow_laws.specs.Host.{got, got_end, our_place}
 use Rattle.flow_laws.specs.Flow.{guest, host, their_number, our_number, next_number, is_closed, is_accepted, has_connected, syn_is_out}
 use Rattle.flow_laws.specs.Close.{is_done, newest_rst, before, follows_reset, host_failed, gives_up, connects_too_long, finds_no_guest, owes_reset, is_owed_reset}
-use Rattle.flow_laws.specs.Lawful.{our_mss, our_scale, Act, AskConnected, Write, EndHost, Read, Send, Close, act_of, is_prompted, is_overdue, repeats}
+use Rattle.flow_laws.specs.Lawful.{our_mss, our_scale, Act, Write, EndHost, Read, Send, Close, act_of, is_prompted, is_overdue, repeats}
 use Rattle.flow_laws.specs.Computed.{begins_with, brings_all, ends_at, has_come, is_at, is_number, same_bool, sends_read}
 
 -- ---- streams

@@ -1,6 +1,6 @@
 -- Words in which laws of a flow are said, on its story alone.
-use Rattle.std.specs.Prelude.{◌≡◌, ℕ, ◌+◌, ◌^◌, ◌%◌, List, [], ◌∷◌, Bool, true, false, not, ◌&&◌, ◌||◌, Some, is_some, slice_get, ◌⊎◌}
-use Rattle.flow_laws.specs.Event.{Segment, Connects, Arrives, Departs, Closes, At, Story}
+use Rattle.std.specs.Prelude.{◌≡◌, ℕ, ◌+◌, ◌^◌, ◌%◌, [], ◌∷◌, Bool, false, not, ◌&&◌, ◌||◌, Some, is_some, slice_get, ◌⊎◌}
+use Rattle.flow_laws.specs.Event.{Arrives, Departs, Closes, At, Story}
 use Rattle.flow_laws.specs.Close.{host_failed, gives_up, connects_too_long}
 
 -- a segment came from the guest with the octet x at this number
