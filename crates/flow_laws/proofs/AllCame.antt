@@ -8,9 +8,9 @@ use Rattle.flow_laws.specs.Lawful.{AtPlaces, IsPrefixOf, IsLawful}
 use Rattle.flow_laws.proofs.Streams.{carried_prefix, front_carried, length_within}
 use Rattle.flow_laws.proofs.GuestLaws.{end_comes_after_all, written_is_a_prefix}
 
--- Each list of octets that the guest's segments gave to their places begins the front, and the front is one.
-pub front_is_longest : (past : List Up) → Honest past → AtPlaces (Carries past) (front past) × ((xs : List ℕ) → AtPlaces (Carries past) xs → IsPrefixOf xs (front past))
-front_is_longest past honest = (front_carried past, λ xs carried. carried_prefix past xs carried honest)
+-- Each list of octets that an honest guest's segments gave to their places begins the front.
+pub front_is_longest : (past : List Up) → Honest past → (xs : List ℕ) → AtPlaces (Carries past) xs → IsPrefixOf xs (front past)
+front_is_longest past honest xs carried = carried_prefix past xs carried honest
 
 empty_is : (xs : List ℕ) → length xs ≤ 0 → xs ≡ []
 empty_is [] low = refl
