@@ -117,6 +117,12 @@ is_honest past =
     every_below (top past) (λ i. are_same (octets_of past i) && none_past i (all_ends past) (octets_of past i))
     && (are_same (all_ends past) && is_near past)
 
+-- each segment has a number of 32 bits, and no more octets than there are numbers
+abbrev pub are_sized : List Up → Bool
+are_sized [] = true
+are_sized (Came n xs fin heeded ∷ past) = (nat_lt n (2 ^ 32) && nat_le (length xs) (2 ^ 32)) && are_sized past
+are_sized (_ ∷ past) = are_sized past
+
 -- ---- of the host's stream
 
 -- the octets were read at this place, and leave no gap
