@@ -1,6 +1,5 @@
 -- Where the test of what is done holds, it was done as it must be: sentence by sentence.
-use Rattle.std.proofs.Common.{refl, ◌≡◌, ℕ, ◌+◌, ◌-◌, List, [], ◌∷◌, length, min, Option, None, Some, is_some, ◌⊎◌, inl, inr, arith, Bool, true, false, not, ◌&&◌, ◌||◌, if◌then◌else◌, IsTrue, MatchOption, nat_eq, nat_le, nat_lt}
-use Rattle.std.proofs.lemmas.Bool.Decides.{nat_tests}
+use Rattle.std.proofs.Common.{refl, ◌≡◌, ℕ, ◌+◌, ◌-◌, List, [], ◌∷◌, length, min, Option, None, Some, is_some, ◌⊎◌, inl, inr, arith, Bool, true, false, not, ◌&&◌, if◌then◌else◌, IsTrue, MatchOption, nat_eq, nat_le, nat_lt}
 use Rattle.std.specs.Option.{unwrap_or}
 use Rattle.seq_space.specs.Places.{number_of}
 use Rattle.flow_laws.specs.Settings.{Settings}
@@ -16,6 +15,7 @@ use Rattle.flow_laws.specs.CheckDuty.{may_wait_to_write, tells_room, sends_its_r
 use Rattle.flow_laws.proofs.Computing.{both, either, imply, is_false, nat_same, nat_within, three_parts}
 use Rattle.flow_laws.proofs.Ends.{acknowledged_is, ends_at_is, ends_has}
 use Rattle.flow_laws.proofs.Answering.{nat_less}
+use Rattle.flow_laws.proofs.Holding.{and_true, or_left, or_right, same_nat, three_true}
 
 -- ---- what may be waited for
 
@@ -36,7 +36,7 @@ may_wait_to_write_is past is =
 
 -- ---- the room that is told
 
-honest_departs : (now : ℕ) (past : Story) (seg : Segment) → Honest (guest past) → Honest (guest (At now (Departs seg) ∷ past))
+pub honest_departs : (now : ℕ) (past : Story) (seg : Segment) → Honest (guest past) → Honest (guest (At now (Departs seg) ∷ past))
 honest_departs now past seg h = by (acknowledges past seg)
   where
     by : (b : Bool) → Honest (push (if b then Some (Acked seg.acknowledgement) else None) (guest past))
@@ -74,34 +74,14 @@ offers_is past _ is = tt
 
 -- ---- the close after a reset
 
-or_left : (a b : Bool) → IsTrue a → IsTrue (a || b)
-or_left true b x = refl
-or_left false b x = absurd cc
-
-or_right : (a b : Bool) → IsTrue b → IsTrue (a || b)
-or_right true b y = refl
-or_right false b y = y
-
-and_true : (a b : Bool) → IsTrue a → IsTrue b → IsTrue (a && b)
-and_true true b x y = y
-and_true false b x y = absurd cc
-
-all_three : (a b c : Bool) → IsTrue a → IsTrue b → IsTrue c → IsTrue (a && b && c)
-all_three true true c x y z = z
-all_three true false c x y z = absurd cc
-all_three false b c x y z = absurd cc
-
-not_true : (b : Bool) → (IsTrue b → ⊥) → IsTrue (not b)
-not_true true f = absurd (f refl)
-not_true false f = refl
-
-same_nat : (m n : ℕ) → m ≡ n → IsTrue (nat_eq m n)
-same_nat m n is = grind (arith, nat_tests)
+no_test : (b : Bool) → (IsTrue b → ⊥) → IsTrue (not b)
+no_test true f = absurd (f refl)
+no_test false f = refl
 
 all_acked_is : (past : List Up) → ((ackd past ≡ length (front past)) × (EndsAt past (length (front past)) → ⊥)) ⊎ (EndsAt past (length (front past)) × (ackd past ≡ length (front past) + 1)) → IsTrue (is_all_acked past)
 all_acked_is past (inl (all, no_end)) =
     or_left (nat_eq (ackd past) (length (front past)) && not (ends_at past (length (front past)))) (ends_at past (length (front past)) && nat_eq (ackd past) (length (front past) + 1))
-    (and_true (nat_eq (ackd past) (length (front past))) (not (ends_at past (length (front past)))) (same_nat (ackd past) (length (front past)) all) (not_true (ends_at past (length (front past))) (λ has. no_end (ends_at_is past (length (front past)) has))))
+    (and_true (nat_eq (ackd past) (length (front past))) (not (ends_at past (length (front past)))) (same_nat (ackd past) (length (front past)) all) (no_test (ends_at past (length (front past))) (λ has. no_end (ends_at_is past (length (front past)) has))))
 all_acked_is past (inr (end, all)) =
     or_right (nat_eq (ackd past) (length (front past)) && not (ends_at past (length (front past)))) (ends_at past (length (front past)) && nat_eq (ackd past) (length (front past) + 1))
     (and_true (ends_at past (length (front past))) (nat_eq (ackd past) (length (front past) + 1)) (ends_has past (length (front past)) end) (same_nat (ackd past) (length (front past) + 1) all))
@@ -110,7 +90,7 @@ all_acked_is past (inr (end, all)) =
 pub must_close_is : (past : Story) → MustClose past → IsTrue (must_close past)
 must_close_is past (seg, newest, open_yet, honest, known, number, all) =
     and_true (not (is_closed past)) (resets_at_next (before past) (newest_rst past)) (rw open_yet refl)
-    (rw newest (all_three (is_some (their_number (before past))) (nat_eq seg.number (number_of (unwrap_or (their_number (before past)) 0) (ackd (guest (before past))))) (is_all_acked (guest (before past)))
+    (rw newest (three_true (is_some (their_number (before past))) (nat_eq seg.number (number_of (unwrap_or (their_number (before past)) 0) (ackd (guest (before past))))) (is_all_acked (guest (before past)))
     known (same_nat seg.number (number_of (unwrap_or (their_number (before past)) 0) (ackd (guest (before past)))) number) (all_acked_is (guest (before past)) all)))
 
 no_close : (past : Story) → IsTrue (not (must_close past)) → MustClose past → ⊥

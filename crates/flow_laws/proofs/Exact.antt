@@ -1,16 +1,16 @@
 -- Of an honest guest the test misses nothing: what the law allows passes it, sentence by sentence.
-use Rattle.std.proofs.Common.{refl, ◌≡◌, ℕ, ◌+◌, ◌^◌, ◌<◌, ◌≤◌, List, [], ◌∷◌, ◌++◌, length, Option, None, Some, is_some, inl, inr, arith, ap, sym, ◌∙◌, Bool, true, false, not, ◌&&◌, ◌||◌, IsTrue, MatchOption, IfSome, pos, ◌+ℤ◌, nat_le, nat_lt, nat_eq}
+use Rattle.std.proofs.Common.{refl, ◌≡◌, ℕ, ◌+◌, ◌^◌, ◌<◌, ◌≤◌, List, [], ◌∷◌, ◌++◌, length, Option, None, Some, is_some, inl, inr, arith, Bool, true, false, not, ◌&&◌, ◌||◌, IsTrue, MatchOption, IfSome, pos, ◌+ℤ◌, nat_le, nat_lt, nat_eq}
 use Rattle.std.proofs.lemmas.Bool.Decides.{nat_tests}
 use Rattle.seq_space.specs.Places.{number_of, steps_up}
 use Rattle.flow_laws.specs.Settings.{Settings}
-use Rattle.flow_laws.specs.Event.{Segment, Arrives, Departs, Beat, At, Story}
-use Rattle.flow_laws.specs.Guest.{Up, Known, Came, Acked, Wrote, Ended, is_empty, Honest, HasCome, front, top, written, has_ended, ackd}
+use Rattle.flow_laws.specs.Event.{Segment, At, Story}
+use Rattle.flow_laws.specs.Guest.{Up, Known, Came, Acked, Wrote, Ended, is_empty, Honest, HasCome, front, written, has_ended, ackd}
 use Rattle.flow_laws.specs.Host.{got, got_end, our_place}
 use Rattle.flow_laws.specs.Flow.{guest, host, push, up_of, their_number, our_number, next_number, is_closed, is_accepted, has_connected, syn_is_out}
 use Rattle.flow_laws.specs.Close.{is_done, IsReset, newest_rst, before, follows_reset, host_failed, gives_up, connects_too_long, finds_no_guest, owes_reset, is_owed_reset}
-use Rattle.flow_laws.specs.Lawful.{our_mss, our_scale, Act, AskConnected, Write, EndHost, Read, Send, Close, act_of, HasCause, May, IsLawful, WritesWhatTheGuestSent, WritesWhatCame, SendsWhatTheHostSent, EndsAfterAll, SendsEndAfterAll, ReadsToTheEnd, AcknowledgesWhatCame, ClosesWithCause, ClosesAfterFailure, CallsOpenSocket, ResetsWhereOwed, SendsNothingAfterClose, OpensAfterHost, OpensWithSyn, SendsItsOptions, SendsAgainWithReason}
+use Rattle.flow_laws.specs.Lawful.{our_mss, our_scale, Act, AskConnected, Write, EndHost, Read, Send, Close, act_of, May, IsLawful, WritesWhatTheGuestSent, WritesWhatCame, SendsWhatTheHostSent, EndsAfterAll, SendsEndAfterAll, ReadsToTheEnd, AcknowledgesWhatCame, ClosesWithCause, ClosesAfterFailure, CallsOpenSocket, ResetsWhereOwed, SendsNothingAfterClose, OpensAfterHost, OpensWithSyn, SendsItsOptions, SendsAgainWithReason}
 use Rattle.flow_laws.specs.Computed.{is_honest, are_sized, ends_at, has_come, is_at, is_number, same_bool}
-use Rattle.flow_laws.specs.Check.{writes_what_the_guest_sent, writes_what_came, sends_what_the_host_sent, sends_again_with_reason, ends_after_all, sends_end_after_all, reads_to_the_end, acknowledges_what_came, closes_with_cause, closes_after_failure, calls_open_socket, resets_where_owed, sends_nothing_after_close, opens_after_host, opens_with_syn, sends_its_options, acks_syn, has_cause, is_reset, is_reset_at, may_stream, may_end, may_close, may_open, may, may_happen, is_lawful}
+use Rattle.flow_laws.specs.Check.{writes_what_the_guest_sent, writes_what_came, sends_what_the_host_sent, sends_again_with_reason, ends_after_all, sends_end_after_all, reads_to_the_end, acknowledges_what_came, closes_with_cause, closes_after_failure, calls_open_socket, resets_where_owed, sends_nothing_after_close, opens_after_host, opens_with_syn, sends_its_options, acks_syn, is_reset, is_reset_at, may_stream, may_end, may_close, may_open, may, may_happen, is_lawful}
 use Rattle.flow_laws.proofs.Streams.{carried_length, front_carried, near_top}
 use Rattle.flow_laws.proofs.Acks.{acked_exact}
 use Rattle.flow_laws.proofs.GuestLaws.{honest_before}

@@ -4,8 +4,8 @@ use Rattle.std.proofs.lemmas.Bool.Decides.{nat_tests}
 use Rattle.std.proofs.lemmas.Option.{slice_get_within}
 use Rattle.seq_space.specs.Places.{number_of, steps_up}
 use Rattle.flow_laws.specs.Event.{Segment, Story}
-use Rattle.flow_laws.specs.Guest.{Up, is_empty, Known, Came, Acked, Wrote, Ended, Brought, EndsAt, HasCome, first_of, front}
-use Rattle.flow_laws.specs.Host.{got, sent, our_place, StandAt}
+use Rattle.flow_laws.specs.Guest.{Up, is_empty, Known, Came, Acked, Wrote, Ended, Brought, HasCome, first_of, front}
+use Rattle.flow_laws.specs.Host.{got, sent, our_place}
 use Rattle.flow_laws.specs.Flow.{host}
 use Rattle.flow_laws.specs.Lawful.{IsPiece}
 use Rattle.flow_laws.specs.Computed.{same_bool, is_at, is_number, begins_with, is_octet, brings, brings_all, are_sized, ends_at, has_come, stands_at, sends_read}

@@ -1,13 +1,13 @@
 -- What a flow waits for, offers and asks for, by what it keeps.
-use Rattle.std.proofs.Common.{refl, ◌≡◌, ℕ, ◌+◌, ◌-◌, ◌<◌, ◌≤◌, List, ◌++◌, length, take, min, arith, ◌⊎◌, inl, inr, Option, None, Some, is_some, Bool, true, false, if◌then◌else◌, nat_lt, subst, sym, ap, ◌∙◌, length-append, length-take, length-drop}
+use Rattle.std.proofs.Common.{refl, ◌≡◌, ℕ, ◌+◌, ◌-◌, ◌<◌, ◌≤◌, List, length, take, min, arith, ◌⊎◌, inl, inr, Option, None, Some, is_some, Bool, true, false, if◌then◌else◌, nat_lt, subst, sym, ap, ◌∙◌, length-append, length-take, length-drop}
 use Rattle.std.proofs.lemmas.Bool.{cases_lt}
 use Rattle.std.proofs.lemmas.Bool.Decides.{nat_tests}
 use Rattle.std.specs.Option.{unwrap_or}
 use Rattle.seq_space.specs.Places.{number_of}
 use Rattle.flow_laws.specs.Settings.{Settings}
 use Rattle.flow_laws.specs.Event.{Story}
-use Rattle.flow_laws.specs.Guest.{Up, EndsAt, Honest, IsAcknowledged, ackd, first_of, front, written, has_ended}
-use Rattle.flow_laws.specs.Host.{acked, got, got_end, sent, owned}
+use Rattle.flow_laws.specs.Guest.{Up, EndsAt, Honest, IsAcknowledged, ackd, front, written, has_ended}
+use Rattle.flow_laws.specs.Host.{acked, got, got_end, owned}
 use Rattle.flow_laws.specs.Flow.{guest, host, their_number, is_closed, is_connecting}
 use Rattle.flow_laws.specs.Close.{before}
 use Rattle.flow_laws.specs.Dutiful.{must_wait_to_write, MayWaitToWrite, OffersEnough, MustClose, read_size}
