@@ -1,20 +1,19 @@
 -- Of an honest guest the test misses nothing: what the law allows passes it, sentence by sentence.
-use Rattle.std.proofs.Common.{refl, ◌≡◌, ℕ, ◌+◌, ◌^◌, ◌<◌, ◌≤◌, List, [], ◌∷◌, ◌++◌, length, Option, None, Some, is_some, inl, inr, arith, Bool, true, false, not, ◌&&◌, ◌||◌, IsTrue, MatchOption, IfSome, pos, ◌+ℤ◌, nat_le, nat_lt, nat_eq}
+use Rattle.std.proofs.Common.{refl, ◌≡◌, ℕ, ◌+◌, ◌^◌, ◌<◌, ◌≤◌, List, [], ◌∷◌, ◌++◌, length, Option, None, Some, is_some, inl, inr, arith, not, ◌&&◌, ◌||◌, IsTrue, MatchOption, IfSome, pos, ◌+ℤ◌, nat_lt, nat_eq}
 use Rattle.std.proofs.lemmas.Bool.Decides.{nat_tests}
 use Rattle.seq_space.specs.Places.{number_of, steps_up}
 use Rattle.flow_laws.specs.Settings.{Settings}
-use Rattle.flow_laws.specs.Event.{Segment, At, Story}
-use Rattle.flow_laws.specs.Guest.{Up, Known, Came, Acked, Wrote, Ended, is_empty, Honest, HasCome, front, written, has_ended, ackd}
+use Rattle.flow_laws.specs.Event.{Segment, Story}
+use Rattle.flow_laws.specs.Guest.{Up, Acked, is_empty, Honest, HasCome, front, written, has_ended, ackd}
 use Rattle.flow_laws.specs.Host.{got, got_end, our_place}
-use Rattle.flow_laws.specs.Flow.{guest, host, push, up_of, their_number, our_number, next_number, is_closed, is_accepted, has_connected, syn_is_out}
+use Rattle.flow_laws.specs.Flow.{guest, host, their_number, our_number, next_number, is_closed, is_accepted, has_connected, syn_is_out}
 use Rattle.flow_laws.specs.Close.{is_done, IsReset, newest_rst, before, follows_reset, host_failed, gives_up, connects_too_long, finds_no_guest, owes_reset, is_owed_reset}
-use Rattle.flow_laws.specs.Lawful.{our_mss, our_scale, Act, AskConnected, Write, EndHost, Read, Send, Close, act_of, May, IsLawful, WritesWhatTheGuestSent, WritesWhatCame, SendsWhatTheHostSent, EndsAfterAll, SendsEndAfterAll, ReadsToTheEnd, AcknowledgesWhatCame, ClosesWithCause, ClosesAfterFailure, CallsOpenSocket, ResetsWhereOwed, SendsNothingAfterClose, OpensAfterHost, OpensWithSyn, SendsItsOptions, SendsAgainWithReason}
-use Rattle.flow_laws.specs.Computed.{is_honest, are_sized, ends_at, has_come, is_at, is_number, same_bool}
-use Rattle.flow_laws.specs.Check.{writes_what_the_guest_sent, writes_what_came, sends_what_the_host_sent, sends_again_with_reason, ends_after_all, sends_end_after_all, reads_to_the_end, acknowledges_what_came, closes_with_cause, closes_after_failure, calls_open_socket, resets_where_owed, sends_nothing_after_close, opens_after_host, opens_with_syn, sends_its_options, acks_syn, is_reset, is_reset_at, may_stream, may_end, may_close, may_open, may, may_happen, is_lawful}
+use Rattle.flow_laws.specs.Lawful.{our_mss, our_scale, Act, AskConnected, Write, EndHost, Read, Send, Close, May, WritesWhatTheGuestSent, WritesWhatCame, SendsWhatTheHostSent, EndsAfterAll, SendsEndAfterAll, ReadsToTheEnd, AcknowledgesWhatCame, ClosesWithCause, ClosesAfterFailure, CallsOpenSocket, ResetsWhereOwed, SendsNothingAfterClose, OpensAfterHost, OpensWithSyn, SendsItsOptions, SendsAgainWithReason}
+use Rattle.flow_laws.specs.Computed.{are_sized, ends_at, has_come, is_at, is_number, same_bool}
+use Rattle.flow_laws.specs.Check.{writes_what_the_guest_sent, writes_what_came, sends_what_the_host_sent, sends_again_with_reason, ends_after_all, sends_end_after_all, reads_to_the_end, acknowledges_what_came, closes_with_cause, closes_after_failure, calls_open_socket, resets_where_owed, sends_nothing_after_close, opens_after_host, opens_with_syn, sends_its_options, acks_syn, is_reset, is_reset_at, may_stream, may_end, may_close, may_open, may}
 use Rattle.flow_laws.proofs.Streams.{carried_length, front_carried, near_top}
 use Rattle.flow_laws.proofs.Acks.{acked_exact}
 use Rattle.flow_laws.proofs.GuestLaws.{honest_before}
-use Rattle.flow_laws.proofs.Computing.{both}
 use Rattle.flow_laws.proofs.Honesty.{honest}
 use Rattle.flow_laws.proofs.Ends.{ends_has}
 use Rattle.flow_laws.proofs.Refuting.{prefix_begins}
@@ -183,38 +182,3 @@ may_holds s past now act honest sized m =
     (cause_holds past honest now act m.closes_with_cause) (failure_holds past act m.closes_after_failure) (socket_holds past act m.calls_open_socket) (owed_holds past act m.resets_where_owed))
     (four_true (sends_nothing_after_close past act) (opens_after_host past act) (opens_with_syn past act) (sends_its_options s past act)
     (quiet_holds past act m.sends_nothing_after_close) (after_holds past act m.opens_after_host) (syn_holds past act m.opens_with_syn) (options_hold s past act m.sends_its_options))
-
--- ---- a story
-
-sized_push : (o : Option Up) (past : List Up) → IsTrue (are_sized (push o past)) → IsTrue (are_sized past)
-sized_push None past sized = sized
-sized_push (Some (Came n xs fin heeded)) past sized = (both (nat_lt n (2 ^ 32) && nat_le (length xs) (2 ^ 32)) (are_sized past) sized).1
-sized_push (Some (Known f)) past sized = sized
-sized_push (Some (Acked n)) past sized = sized
-sized_push (Some (Wrote xs n)) past sized = sized
-sized_push (Some Ended) past sized = sized
-
-happens_holds : (s : Settings) (past : Story) (now : ℕ) (o : Option Act) → Honest (guest past) → IsTrue (are_sized (guest past))
-    → MatchOption o (host_failed past ≡ false) (λ act. May s past now act) → IsTrue (may_happen s past now o)
-happens_holds s past now None honest sized is = not_true (host_failed past) is
-happens_holds s past now (Some act) honest sized is = may_holds s past now act honest sized is
-
--- A lawful story of an honest guest passes the test.
-pub lawful_holds : (s : Settings) (story : Story) → Honest (guest story) → IsTrue (are_sized (guest story)) → IsLawful s story → IsTrue (is_lawful s story)
-lawful_holds s [] honest sized l = refl
-lawful_holds s (At m e ∷ past) honest sized l =
-    let was = honest_before (At m e) past honest in
-    let small = sized_push (up_of past e) (guest past) sized in
-    and_true (may_happen s past m (act_of e)) (is_lawful s past) (happens_holds s past m (act_of e) was small l.0) (lawful_holds s past was small l.1)
-
--- ---- so what fails it is refuted
-
-not_both : (b : Bool) → b ≡ true → b ≡ false → ⊥
-not_both true x y = absurd cc
-not_both false x y = absurd cc
-
-pub refutes : (s : Settings) (past : Story) (now : ℕ) (act : Act) → IsTrue (is_honest (guest past)) → IsTrue (are_sized (guest past)) → may s past now act ≡ false → May s past now act → ⊥
-refutes s past now act fair sized fails m = not_both (may s past now act) (may_holds s past now act (honest (guest past) fair) sized m) fails
-
-pub refutes_story : (s : Settings) (story : Story) → IsTrue (is_honest (guest story)) → IsTrue (are_sized (guest story)) → is_lawful s story ≡ false → IsLawful s story → ⊥
-refutes_story s story fair sized fails l = not_both (is_lawful s story) (lawful_holds s story (honest (guest story) fair) sized l) fails

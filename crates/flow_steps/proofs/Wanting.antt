@@ -1,5 +1,5 @@
 -- What a flow waits for, offers and asks for, by what it keeps.
-use Rattle.std.proofs.Common.{refl, ◌≡◌, ℕ, ◌+◌, ◌-◌, ◌<◌, ◌≤◌, List, length, take, min, arith, ◌⊎◌, inl, inr, Option, None, Some, is_some, Bool, true, false, if◌then◌else◌, nat_lt, subst, sym, ap, ◌∙◌, length-append, length-take, length-drop}
+use Rattle.std.proofs.Common.{refl, ◌≡◌, ℕ, ◌+◌, ◌-◌, ◌<◌, ◌≤◌, List, ◌++◌, length, take, min, arith, ◌⊎◌, inl, inr, Option, None, Some, is_some, Bool, true, false, if◌then◌else◌, nat_lt, subst, sym, ap, ◌∙◌, length-append, length-take, length-drop}
 use Rattle.std.proofs.lemmas.Bool.{cases_lt}
 use Rattle.std.proofs.lemmas.Bool.Decides.{nat_tests}
 use Rattle.std.specs.Option.{unwrap_or}
@@ -10,8 +10,9 @@ use Rattle.flow_laws.specs.Guest.{Up, EndsAt, Honest, IsAcknowledged, ackd, fron
 use Rattle.flow_laws.specs.Host.{acked, got, got_end, owned}
 use Rattle.flow_laws.specs.Flow.{guest, host, their_number, is_closed, is_connecting}
 use Rattle.flow_laws.specs.Close.{before}
+use Rattle.flow_laws.specs.Lawful.{IsPrefixOf}
 use Rattle.flow_laws.specs.Dutiful.{must_wait_to_write, MayWaitToWrite, OffersEnough, MustClose, read_size}
-use Rattle.flow_laws.proofs.Streams.{carried_seen, front_carried, length_within}
+use Rattle.flow_laws.proofs.Streams.{carried_prefix, carried_seen, front_carried, length_within}
 use Rattle.flow_laws.proofs.HostLaws.{InOrder, sent_within}
 use Rattle.flow_laws.proofs.Laws.{must_parts}
 use Rattle.flow_laws.proofs.Answering.{nat_less}
@@ -26,7 +27,7 @@ places_few : (b : Bool) (t : ℕ) → (if b then t + 1 else t) ≤ t + 1
 places_few true t = omega arith
 places_few false t = omega arith
 
-open_places : (b : Bool) (t : ℕ) → b ≡ false → (if b then t + 1 else t) ≡ t
+pub open_places : (b : Bool) (t : ℕ) → b ≡ false → (if b then t + 1 else t) ≡ t
 open_places b t is = rw is refl
 
 -- ---- the host takes octets
@@ -48,11 +49,15 @@ module _ (ring : ℕ) (past : List Up) (p : Part) (f : Follows ring p past) wher
           absurd (omega (arith, f.acknowledged, places, counted, none, more))
 
   -- what was taken of an honest guest is in its front
-  in_front : Honest past → length (written past) + length p.up.held ≤ length (front past)
+  pub in_front : Honest past → length (written past) + length p.up.held ≤ length (front past)
   in_front honest = let seen = carried_seen past (so_far p past) (f.carried honest) honest in omega (arith, seen, length-append (written past) p.up.held)
 
+  -- what was written and is held begins what it sent
+  pub begins_front : Honest past → IsPrefixOf (written past ++ p.up.held) (front past)
+  begins_front honest = carried_prefix past (so_far p past) (f.carried honest) honest
+
   -- and where its end was taken, it is the front
-  front_ended : Honest past → p.received.ended ≡ true → EndsAt past (length (front past)) × (length (front past) ≡ p.received.taken)
+  pub front_ended : Honest past → p.received.ended ≡ true → EndsAt past (length (front past)) × (length (front past) ≡ p.received.taken)
   front_ended honest ended =
       let end = f.end ended honest in
       let few = length_within (front past) (length (so_far p past)) (λ i x at. honest.within (length (so_far p past)) i x end (front_carried past i x at)) in
@@ -60,8 +65,8 @@ module _ (ring : ℕ) (past : List Up) (p : Part) (f : Follows ring p past) wher
       let same : length (so_far p past) ≡ length (front past) = omega (arith, few, seen) in
       (subst (λ (n : ℕ). EndsAt past n) same end, omega (arith, same, f.taken))
 
-  -- what was acknowledged is written or held
-  acknowledged_few : Honest past → (a : ℕ) → IsAcknowledged past a → a ≤ length (written past) + length p.up.held
+  -- what was acknowledged of an honest guest is written or held
+  pub acknowledged_few : Honest past → (a : ℕ) → IsAcknowledged past a → a ≤ length (written past) + length p.up.held
   acknowledged_few honest a acked = by p.received.ended refl acked
     where
       by : (b : Bool) → p.received.ended ≡ b → IsAcknowledged past a → a ≤ length (written past) + length p.up.held

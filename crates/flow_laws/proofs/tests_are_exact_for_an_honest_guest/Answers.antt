@@ -1,4 +1,5 @@
-use Rattle.flow_laws.proofs.Exact.{may_holds, lawful_holds}
+use Rattle.flow_laws.proofs.Exact.{may_holds}
+use Rattle.flow_laws.proofs.Refuted.{lawful_holds}
 use Rattle.flow_laws.proofs.ExactDuty.{must_holds}
 use Rattle.flow_laws.proofs.tests_are_exact_for_an_honest_guest.Goals as goal
 
