@@ -53,11 +53,11 @@ sends_other_octets m =
 sends_the_next : may usual ten_sent 1700 (Send (data_segment 250011 1001 65535 (octets 10 20))) ≡ true
 sends_the_next = refl
 
--- ---- our SYN-ACK went out a second ago, and wasn't acknowledged
+-- ---- our SYN-ACK went out once, and wasn't acknowledged
 
-resets_at_first_expiry : (directly known : Bool) → May usual opened 2500 (Close directly false known) → ⊥
-resets_at_first_expiry true known m = elim m.closes_with_cause [ inl one ↦ never one | inr rest ↦ elim rest [ inl two ↦ never two | inr three ↦ three.1 ] ]
-resets_at_first_expiry false known m = elim m.closes_with_cause [ inl one ↦ never one | inr rest ↦ elim rest [ inl two ↦ never two | inr three ↦ never three.0 ] ]
+resets_at_first_expiry : (directly known : Bool) (now : ℕ) → May usual opened now (Close directly false known) → ⊥
+resets_at_first_expiry true known now m = elim m.closes_with_cause [ inl one ↦ never one | inr rest ↦ elim rest [ inl two ↦ never two | inr three ↦ three.1 ] ]
+resets_at_first_expiry false known now m = elim m.closes_with_cause [ inl one ↦ never one | inr rest ↦ elim rest [ inl two ↦ never two | inr three ↦ never three.0 ] ]
 
 -- nor does a reset go out of a flow that isn't closed
 resets_an_open_flow : May usual opened 2500 (Send (reset_ack 250001 1001)) → ⊥
@@ -70,12 +70,12 @@ resets_a_moment_early m = elim m.closes_with_cause [ inl one ↦ never one | inr
 resets_in_time : may usual nine 244500 (Close false false true) ≡ true
 resets_in_time = refl
 
--- it never goes again: the program may not wait where a minute has passed
-never_resends : (known rests : Bool) → IsSettled usual opened known rests 61500 → ⊥
-never_resends known rests has = late has.resends.0
+-- it never goes again: the program may not wait once a minute has passed
+never_resends : (known rests : Bool) (now : ℕ) → 61500 ≤ now → IsSettled usual opened known rests now → ⊥
+never_resends known rests now passed has = late has.resends.0
   where
-    late : 61500 < 61500 → ⊥
-    late is = absurd (omega (arith, is))
+    late : now < 61500 → ⊥
+    late is = absurd (omega (arith, is, passed))
 
 must_resend : resend_deadline opened ≡ 61500 ∷ []
 must_resend = refl
