@@ -1,0 +1,13 @@
+use Rattle.flow_laws.proofs.Exact.{may_holds}
+use Rattle.flow_laws.proofs.Refuted.{lawful_holds}
+use Rattle.flow_laws.proofs.ExactDuty.{must_holds}
+use Rattle.flow_laws.proofs.tests_are_exact_for_an_honest_guest.Goals as goal
+
+pub returns-clause-act : goal.returns-clause-act
+returns-clause-act c = may_holds
+
+pub returns-clause-duty : goal.returns-clause-duty
+returns-clause-duty c = must_holds
+
+pub returns-clause-lawful : goal.returns-clause-lawful
+returns-clause-lawful c = lawful_holds

@@ -1,0 +1,26 @@
+use Rattle.flow_laws.proofs.Sound.{may_is, lawful}
+use Rattle.flow_laws.proofs.Duties.{must_is, dutiful, may_wait_to_write_is}
+use Rattle.flow_laws.proofs.Honesty.{honest}
+use Rattle.flow_laws.proofs.Settled.{settled}
+use Rattle.flow_laws.proofs.tests_are_sound.Goals as goal
+
+pub returns-clause-act : goal.returns-clause-act
+returns-clause-act c = may_is
+
+pub returns-clause-duty : goal.returns-clause-duty
+returns-clause-duty c = must_is
+
+pub returns-clause-lawful : goal.returns-clause-lawful
+returns-clause-lawful c = lawful
+
+pub returns-clause-dutiful : goal.returns-clause-dutiful
+returns-clause-dutiful c = dutiful
+
+pub returns-clause-honest : goal.returns-clause-honest
+returns-clause-honest c = honest
+
+pub returns-clause-settled : goal.returns-clause-settled
+returns-clause-settled c = settled
+
+pub returns-clause-writing : goal.returns-clause-writing
+returns-clause-writing c = may_wait_to_write_is
