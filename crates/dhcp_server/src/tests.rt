@@ -1,4 +1,6 @@
 //! Tests of the server, message by message.
+ghost use Rattle.std.specs.Prelude.{◌+◌, ◌<◌, ◌≤◌, length};
+
 use crate::{Leases, options_read, options_written};
 use byteorder::{BigEndian, ByteOrder};
 use host_policy::{Reply, SlirpConfig};
@@ -96,15 +98,38 @@ fn octets_of(m: &Message) -> [u8; 320] {
     let mut octets = front(m.client);
     octets[12..16].copy_from_slice(&m.own.to_be_bytes());
     octets[240..243].copy_from_slice(&[53, 1, m.kind]);
-    if m.asked != 0 {
-        octets[244..246].copy_from_slice(&[50, 4]);
-        octets[246..250].copy_from_slice(&m.asked.to_be_bytes());
-    }
-    if m.server != 0 {
-        octets[252..254].copy_from_slice(&[54, 4]);
-        octets[254..258].copy_from_slice(&m.server.to_be_bytes());
-    }
+    put_address(&mut octets, 244, 50, m.asked);
+    put_address(&mut octets, 252, 54, m.server);
     octets[260] = 255;
+    octets
+}
+
+// Writes an option with an address, unless that is 0.
+fn put_address(octets: &mut [u8; 320], place: usize, code: u8, address: u32)
+    requires { place + 6 ≤ 320 }
+{
+    if address != 0 {
+        octets[place] = code;
+        octets[place + 1] = 4;
+        octets[place + 2..place + 6].copy_from_slice(&address.to_be_bytes());
+    }
+}
+
+// A message of client 1 with these options.
+fn with_options(options: &[u8]) -> [u8; 320]
+    requires { length options.now ≤ 80 }
+{
+    let mut octets = front(1);
+    octets[240..240 + options.len()].copy_from_slice(options);
+    octets
+}
+
+// That message with one octet changed.
+fn changed(m: &Message, place: usize, octet: u8) -> [u8; 320]
+    requires { place < 320 }
+{
+    let mut octets = octets_of(m);
+    octets[place] = octet;
     octets
 }
 
@@ -357,61 +382,75 @@ fn other_kinds_are_not_answered(rt: HostRuntime) {
 
 #[test]
 fn what_is_no_request_over_ethernet_is_not_answered(rt: HostRuntime) {
-    let good = octets_of(&says(0, DISCOVER, 1));
-    assert_eq!(rt; alone(&good), Got::Offer(FIRST));
-    let mut reply = good;
-    reply[0] = 2;
-    assert_eq!(rt; alone(&reply), Got::Nothing);
-    let mut hardware = good;
-    hardware[1] = 6;
-    assert_eq!(rt; alone(&hardware), Got::Nothing);
-    let mut seven = good;
-    seven[2] = 7;
-    assert_eq!(rt; alone(&seven), Got::Nothing);
-    let mut relayed = good;
-    relayed[27] = 1;
-    assert_eq!(rt; alone(&relayed), Got::Nothing);
-    let mut cookie = good;
-    cookie[239] = 98;
-    assert_eq!(rt; alone(&cookie), Got::Nothing);
-    assert_eq!(rt; alone(&good[..239]), Got::Nothing);
+    let good = says(0, DISCOVER, 1);
+    assert_eq!(rt; alone(&octets_of(&good)), Got::Offer(FIRST));
+    assert_eq!(rt; alone(&changed(&good, 0, 2)), Got::Nothing);
+    assert_eq!(rt; alone(&changed(&good, 1, 6)), Got::Nothing);
+    assert_eq!(rt; alone(&changed(&good, 2, 7)), Got::Nothing);
+    assert_eq!(rt; alone(&changed(&good, 239, 98)), Got::Nothing);
+    assert_eq!(rt; alone(&octets_of(&good)[0..239]), Got::Nothing);
     assert_eq!(rt; alone(&[]), Got::Nothing);
 }
 
 #[test]
-fn options_that_are_no_list_are_not_answered(rt: HostRuntime) {
-    let mut octets = front(1);
-    // No end.
-    octets[240..243].copy_from_slice(&[53, 1, 1]);
-    assert_eq!(rt; alone(&octets), Got::Nothing);
-    assert_eq!(rt; alone(&octets[..243]), Got::Nothing);
-    // No kind.
-    octets[240..243].copy_from_slice(&[255, 1, 1]);
-    assert_eq!(rt; alone(&octets), Got::Nothing);
-    // A kind of two octets, and one without any.
-    octets[240..245].copy_from_slice(&[53, 2, 1, 1, 255]);
-    assert_eq!(rt; alone(&octets), Got::Nothing);
-    octets[240..243].copy_from_slice(&[53, 0, 255]);
-    assert_eq!(rt; alone(&octets), Got::Nothing);
-    // The kind again.
-    octets[240..247].copy_from_slice(&[53, 1, 1, 53, 1, 1, 255]);
-    assert_eq!(rt; alone(&octets), Got::Nothing);
-    // An address of three octets.
-    octets[240..249].copy_from_slice(&[53, 1, 1, 50, 3, 10, 0, 2, 255]);
-    assert_eq!(rt; alone(&octets), Got::Nothing);
-    // A body that isn't all there.
-    octets[240..243].copy_from_slice(&[53, 1, 1]);
-    octets[243..245].copy_from_slice(&[99, 200]);
-    assert_eq!(rt; alone(&octets), Got::Nothing);
+fn message_that_a_relay_passed_on_is_not_answered(rt: HostRuntime) {
+    assert_eq!(rt; alone(&changed(&says(0, DISCOVER, 1), 27, 1)), Got::Nothing);
+    assert_eq!(rt;
+        alone(&changed(&says(0, DISCOVER, 1), 24, 10)),
+        Got::Nothing
+    );
+}
+
+#[test]
+fn options_without_an_end_are_not_answered(rt: HostRuntime) {
+    assert_eq!(rt; alone(&with_options(&[53, 1, 1])), Got::Nothing);
+    assert_eq!(rt; alone(&with_options(&[53, 1, 1, 99, 200])), Got::Nothing);
+    assert_eq!(rt; alone(&with_options(&[53, 1, 1, 255])), Got::Offer(FIRST));
+}
+
+#[test]
+fn options_that_are_cut_are_not_answered(rt: HostRuntime) {
+    let octets = with_options(&[53, 1, 1]);
+    assert_eq!(rt; alone(&octets[0..243]), Got::Nothing);
+    assert_eq!(rt; alone(&octets[0..242]), Got::Nothing);
+}
+
+#[test]
+fn kind_is_there_once_with_one_octet(rt: HostRuntime) {
+    assert_eq!(rt; alone(&with_options(&[255])), Got::Nothing);
+    assert_eq!(rt; alone(&with_options(&[53, 2, 1, 1, 255])), Got::Nothing);
+    assert_eq!(rt; alone(&with_options(&[53, 0, 255])), Got::Nothing);
+    assert_eq!(rt;
+        alone(&with_options(&[53, 1, 1, 53, 1, 1, 255])),
+        Got::Nothing
+    );
+}
+
+#[test]
+fn options_have_their_lengths(rt: HostRuntime) {
+    assert_eq!(rt;
+        alone(&with_options(b"\x35\x01\x01\x32\x03\x0a\x00\x02\xff")),
+        Got::Nothing
+    );
+    assert_eq!(rt;
+        alone(&with_options(b"\x35\x01\x01\x3d\x01\x01\xff")),
+        Got::Nothing
+    );
+    assert_eq!(rt;
+        alone(&with_options(b"\x35\x01\x01\x3d\x02\x01\x01\xff")),
+        Got::Offer(FIRST)
+    );
+    assert_eq!(rt;
+        alone(&with_options(b"\x35\x01\x01\x0c\x00\xff")),
+        Got::Nothing
+    );
 }
 
 #[test]
 fn options_come_in_any_order_and_unknown_ones_are_passed_over(rt: HostRuntime) {
-    let mut octets = front(1);
-    octets[240..264].copy_from_slice(&[
-        55, 3, 1, 3, 6, 50, 4, 10, 0, 2, 20, 0, 12, 1, 65, 12, 1, 66, 53, 1, 1, 57, 0, 255,
-    ]);
-    assert_eq!(rt; alone(&octets), Got::Offer(0x0a000214));
+    let options =
+        b"\x37\x03\x01\x03\x06\x32\x04\x0a\x00\x02\x14\x00\x0c\x01A\x0c\x01B\x35\x01\x01\x39\x00\xff";
+    assert_eq!(rt; alone(&with_options(options)), Got::Offer(0x0a000214));
 }
 
 #[test]
@@ -433,7 +472,7 @@ fn offer_octet_for_octet(rt: HostRuntime) {
     };
     assert_eq!(rt; reply, everybody);
     assert_eq!(rt;
-        &into[..44],
+        &into[0..44],
         b"\x02\x01\x06\x00\x39\x03\xf3\x26\x00\x00\x00\x00\x00\x00\x00\x00\x0a\x00\x02\x0f\x0a\x00\x02\x02\x00\x00\x00\x00\x52\x54\x00\x12\x34\x56\x00\x00\x00\x00\x00\x00\x00\x00\x00\x00".as_slice()
     );
     assert_eq!(rt; &into[44..236], [0; 192].as_slice());
@@ -461,8 +500,7 @@ fn ack_to_a_client_with_an_address_octet_for_octet(rt: HostRuntime) {
     }
     let mut leases = Leases::new(&config);
     let mut into = [0xee; 1024];
-    let mut octets = octets_of(&owns(0, REQUEST, 0x56, FIRST));
-    octets[10..12].copy_from_slice(&[0x80, 0x00]);
+    let octets = changed(&owns(0, REQUEST, 0x56, FIRST), 10, 0x80);
     let reply = leases.message(0, &octets, &mut into);
     let own = Reply::Datagram {
         length: 300,
@@ -478,7 +516,7 @@ fn ack_to_a_client_with_an_address_octet_for_octet(rt: HostRuntime) {
     };
     assert_eq!(rt; reply, own);
     assert_eq!(rt;
-        &into[..44],
+        &into[0..44],
         b"\x02\x01\x06\x00\x39\x03\xf3\x26\x00\x00\x80\x00\x0a\x00\x02\x0f\x0a\x00\x02\x0f\x0a\x00\x02\x02\x00\x00\x00\x00\x52\x54\x00\x12\x34\x56\x00\x00\x00\x00\x00\x00\x00\x00\x00\x00".as_slice()
     );
     assert_eq!(rt; &into[44..108], [0; 64].as_slice());

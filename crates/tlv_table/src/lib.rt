@@ -487,4 +487,31 @@ mod tests {
             .expect(&rt, "the last row's option");
         assert_eq!(rt; fields.first(64), Some(b"\x07".as_slice()));
     }
+
+    #[test]
+    fn put_options_are_read(rt: HostRuntime) {
+        let Some(table) = Table::new(DHCP, rows![12: 1 to 127, once; 53: 1 to 1, once]) else {
+            return;
+        };
+        let mut octets = [0xee; 8];
+        assert_eq!(rt; table.put(53, b"\x02", &mut octets), Some(3));
+        assert_eq!(rt; table.put(12, b"ab", &mut octets[3..]), Some(4));
+        assert_eq!(rt; table.put(12, b"ab", &mut octets[5..]), None);
+        octets[7] = 255;
+        assert_eq!(rt; octets.as_slice(), b"\x35\x01\x02\x0c\x02ab\xff".as_slice());
+        let Ok(fields) = table.read(&octets) else {
+            return;
+        };
+        assert_eq!(rt; fields.first(12), Some(b"ab".as_slice()));
+    }
+
+    #[test]
+    fn put_length_counts_the_head(rt: HostRuntime) {
+        let Some(table) = Table::new(TCP, rows![2: 2 to 2, repeats]) else {
+            return;
+        };
+        let mut octets = [0xee; 4];
+        assert_eq!(rt; table.put(2, b"\x05\xb4", &mut octets), Some(4));
+        assert_eq!(rt; octets.as_slice(), b"\x02\x04\x05\xb4".as_slice());
+    }
 }

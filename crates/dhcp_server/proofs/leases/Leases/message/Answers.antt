@@ -36,7 +36,7 @@ returns-clause-octets c =
     let config = settings c.self.inside.config in
     let m = c.in-Some.message in
     let is : octets_of_reply config m c.outcome_of-outcome.result.answer ≡ replied_octets c.args.self.now.config c.args.now c.args.self.now.leases (read_message c.args.body.now) =
-        ap (λ (o : Outcome). octets_of_reply config m o.answer) c.outcome_of-outcome.ensures
-        ∙ ap (λ (s : Lending). replied_octets s.config c.args.now s.leases (Some m)) c.self.view_is
-        ∙ ap (replied_octets c.args.self.now.config c.args.now c.args.self.now.leases) c.in-Some.ensures in
+    ap (λ (o : Outcome). octets_of_reply config m o.answer) c.outcome_of-outcome.ensures
+    ∙ ap (λ (s : Lending). replied_octets s.config c.args.now s.leases (Some m)) c.self.view_is
+    ∙ ap (replied_octets c.args.self.now.config c.args.now c.args.self.now.leases) c.in-Some.ensures in
     c.write_reply.ensures.octets ∙ ap (λ (xs : List ℕ). xs ++ drop (length xs) c.args.into.now) is
