@@ -1,11 +1,11 @@
 -- Octets that are written behind others stand one after another.
-use Rattle.std.proofs.Common.{◌≡◌, ℕ, ◌+◌, ◌-◌, ◌≤◌, List, [], ◌∷◌, ◌++◌, length, take, drop, refl, sym, ap, ◌∙◌, subst, arith, append_assoc, append-nil, flat_map, map}
+use Rattle.std.proofs.Common.{◌≡◌, ℕ, ◌+◌, ◌≤◌, List, [], ◌∷◌, ◌++◌, length, take, drop, refl, sym, ap, ◌∙◌, subst, arith, append_assoc, append-nil}
 use Rattle.std.proofs.lemmas.List.{take_at, drop_at, drop-drop, take-append-drop, length-append, length-take-le}
 use Rattle.net_octets.proofs.Writing.{written, written_front}
 use borrow.Rule.Slice.PartMut.{put_mid}
 use Rattle.tlv_table.specs.declared.Form.{Form}
-use Rattle.tlv_table.specs.Grammar.{Item, Field, item_octets, octets_of}
-use Rattle.tlv_table.specs.Putting.{items_of, put_octets}
+use Rattle.tlv_table.specs.Grammar.{Field, item_octets}
+use Rattle.tlv_table.specs.Putting.{put_octets}
 use Rattle.dhcp_server.specs.Writing.{Adds}
 
 -- a list with octets behind its front, and its own behind them

@@ -1,9 +1,9 @@
 -- No hardware address has two addresses, whatever message comes.
-use Rattle.std.proofs.Common.{◌≡◌, ◌≢◌, ◌⊎◌, inl, inr, ℕ, zero, suc, ◌+◌, ◌-◌, ◌<◌, ◌≤◌, ◌==◌, nat_lt, nat_le, Bool, true, false, not, ◌&&◌, ◌||◌, if◌then◌else◌, List, [], ◌∷◌, length, map, set, get_or, replicate, Option, Some, None, refl, sym, ap, ◌∙◌, subst, arith, get_or-set_same, get_or-set_other}
-use Rattle.std.specs.Prelude.{⊤, IfSome, position}
+use Rattle.std.proofs.Common.{◌≡◌, ◌≢◌, ◌⊎◌, inl, inr, ℕ, zero, suc, ◌+◌, ◌-◌, ◌<◌, ◌≤◌, ◌==◌, nat_lt, nat_le, Bool, true, false, ◌&&◌, if◌then◌else◌, List, [], ◌∷◌, length, map, set, get_or, replicate, Option, Some, None, refl, sym, ap, ◌∙◌, subst, arith, get_or-set_same, get_or-set_other}
+use Rattle.std.specs.Prelude.{IfSome, position}
 use Rattle.std.specs.List.{position_or_len}
 use Rattle.std.specs.Option.{option_or, option_and_then}
-use Rattle.std.proofs.lemmas.Bool.{false≢true, cases_eq, cases_lt, cases_Bool, and_parts, or_cases}
+use Rattle.std.proofs.lemmas.Bool.{false≢true, cases_eq, cases_lt, and_parts}
 use Rattle.std.proofs.lemmas.Bool.Decides.{nat_tests}
 use Rattle.std.proofs.lemmas.List.{get_or_past, length-map}
 use Rattle.std.proofs.lemmas.List.Quantifiers.{position-Some}
@@ -15,11 +15,10 @@ use Rattle.host_policy.specs.Addresses.{Config}
 use Rattle.dhcp_server.specs.declared.leases.Lease.{Lease}
 use Rattle.dhcp_server.specs.declared.leases.Lease.TheVariants.{Free, Reserved, Bound, Declined}
 use Rattle.dhcp_server.specs.declared.message.Message.{Message}
-use Rattle.dhcp_server.specs.declared.serving.Answer.{Answer}
-use Rattle.dhcp_server.specs.declared.serving.Answer.TheVariants.{Silence, Offers, Lends, Informs, Refuses}
+use Rattle.dhcp_server.specs.declared.serving.Answer.TheVariants.{Silence, Lends, Informs, Refuses}
 use Rattle.dhcp_server.specs.declared.serving.Outcome.{Outcome}
-use Rattle.dhcp_server.specs.Leases.{same_mac, at_moment, is_free, is_of, is_reserved_for, lease_at, place_of, free_asked, offered, reserved, reserve, freed, not_reserved, can_have, lend, replaced, lease_time, declined_time, IsOneToOne}
-use Rattle.dhcp_server.specs.Serving.{leaves, asked_place, offers, discovered, is_for_another, wanted, lends, requested, given_up, outcome_of, served}
+use Rattle.dhcp_server.specs.Leases.{same_mac, at_moment, is_free, is_of, is_reserved_for, lease_at, place_of, free_asked, offered, reserved, freed, not_reserved, can_have, lend, replaced, lease_time, declined_time, IsOneToOne}
+use Rattle.dhcp_server.specs.Serving.{leaves, asked_place, offers, discovered, is_for_another, wanted, lends, requested, given_up, outcome_of}
 use Rattle.dhcp_server.specs.Replies.{IsPlaced}
 
 same_is : (a b : Mac) → same_mac a b ≡ true → a ≡ b

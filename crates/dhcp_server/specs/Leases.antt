@@ -1,5 +1,5 @@
 -- The list of leases: one entry for each address that is lent, in their order (RFC 2131, 2.2).
-use Rattle.std.specs.Prelude.{◌≡◌, ℕ, ◌+◌, ◌-◌, ◌^◌, ◌==◌, nat_eq, nat_lt, nat_le, ◌&&◌, ◌||◌, Bool, true, false, List, length, map, position, slice_index_or, slice_set, Option, Some, None, if◌then◌else◌}
+use Rattle.std.specs.Prelude.{◌≡◌, ℕ, ◌+◌, ◌-◌, nat_eq, nat_lt, nat_le, ◌&&◌, ◌||◌, Bool, true, false, List, map, position, slice_index_or, slice_set, Option, Some, None, if◌then◌else◌}
 use Rattle.std.specs.Option.{option_and_then, option_or}
 use Rattle.std.specs.Cmp.Lexicographic.{pointwise}
 use Rattle.net_octets.specs.declared.Mac.{Mac}

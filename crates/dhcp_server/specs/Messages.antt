@@ -3,7 +3,6 @@ use Rattle.std.specs.Prelude.{ℕ, ◌==◌, nat_le, ◌&&◌, Bool, List, [], �
 use Rattle.std.specs.Option.{option_map, option_and_then}
 use Rattle.net_octets.specs.Octets.{one_at, four_at, part}
 use Rattle.net_octets.specs.declared.Ip4.{Ip4}
-use Rattle.net_octets.specs.declared.Mac.{Mac}
 use Rattle.tlv_table.specs.declared.Form.{Form}
 use Rattle.tlv_table.specs.declared.Row.{Row}
 use Rattle.tlv_table.specs.declared.TlvFault.{TlvFault}

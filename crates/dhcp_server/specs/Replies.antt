@@ -1,6 +1,6 @@
 -- The octets of a reply, and where it goes (RFC 2131, 2 and 4.1; RFC 2132).
-use Rattle.std.specs.Prelude.{ℕ, ◌+◌, ◌-◌, ◌<◌, ◌==◌, ◌&&◌, ◌||◌, not, Bool, true, false, ⊤, List, [], ◌∷◌, ◌++◌, length, replicate, Option, Some, None, if◌then◌else◌}
-use Rattle.std.specs.Option.{option_map, is_some}
+use Rattle.std.specs.Prelude.{ℕ, ◌-◌, ◌<◌, ◌==◌, ◌&&◌, ◌||◌, not, Bool, true, false, ⊤, List, [], ◌∷◌, ◌++◌, length, replicate, Option, Some, None, if◌then◌else◌}
+use Rattle.std.specs.Option.{is_some}
 use Rattle.net_octets.specs.Octets.{four}
 use Rattle.net_octets.specs.declared.Mac.{Mac}
 use Rattle.tlv_table.specs.declared.Row.{Row}

@@ -1,8 +1,7 @@
 -- The option is put at the front of what is left.
-use Rattle.std.proofs.Common.{◌≡◌, ◌+◌, ◌-◌, ◌++◌, ◌∷◌, [], ◌∙◌, sym, ap, subst, length, take, drop, refl, arith, append-nil}
+use Rattle.std.proofs.Common.{◌≡◌, ◌+◌, ◌-◌, ◌++◌, [], ◌∙◌, sym, ap, length, take, drop, refl, arith, append-nil}
 use Rattle.tlv_table.specs.Tables.{Rules}
 use Rattle.tlv_table.specs.Grammar.{Field, item_octets}
-use Rattle.tlv_table.specs.Putting.{put_octets}
 use Rattle.dhcp_server.specs.Messages.{form}
 use Rattle.dhcp_server.proofs.Adding.{adds_front}
 use Rattle.dhcp_server.proofs.reply.put.Goals as goal

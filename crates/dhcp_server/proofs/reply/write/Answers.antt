@@ -1,5 +1,5 @@
 -- The parts one after another, and zeros up to 300 octets.
-use Rattle.std.proofs.Common.{◌≡◌, ◌-◌, ◌∙◌, ap, subst, length, arith}
+use Rattle.std.proofs.Common.{◌-◌, ◌∙◌, ap, subst, arith}
 use Rattle.dhcp_server.specs.Replies.{zeros}
 use Rattle.dhcp_server.specs.Writing.{Adds}
 use Rattle.dhcp_server.proofs.Adding.{then}

@@ -1,5 +1,5 @@
 -- What is written stands at the front.
-use Rattle.std.proofs.Common.{◌≡◌, List, [], ◌++◌, Bool, false, sym, ◌∙◌, subst, length, drop, if◌then◌else◌}
+use Rattle.std.proofs.Common.{◌≡◌, [], ◌++◌, Bool, false, sym, ◌∙◌, subst, length, drop, if◌then◌else◌}
 use Rattle.host_policy.specs.Settings.{settings}
 use Rattle.dhcp_server.specs.Replies.{is_silence, reply_octets}
 use Rattle.dhcp_server.proofs.Adding.{all_written}
