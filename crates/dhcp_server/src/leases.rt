@@ -182,7 +182,7 @@ impl Leases {
         }
     }
 
-    /// Takes a client's message at a moment of at most 2^62 milliseconds, and writes its reply at the front of `into`, which has room for 1,024 octets. A message that is none is answered by nothing and changes nothing.
+    /// Takes a client's message at a moment of at most 2^62 milliseconds, and writes its reply at the front of `into`, which has room for 1,024 octets; no reply has over 790. A message that is none is answered by nothing and changes nothing.
     pub fn message(&mut self, now: u64, body: &[u8], into: &mut [u8]) -> Reply
         requires moment { now ≤ 2 ^ 62 }
         requires room { 1024 ≤ length into.old }
@@ -191,6 +191,7 @@ impl Leases {
         ensures reply { result ≡ reply_to self.old.config now self.old.leases (read_message body.now) }
         ensures octets { let octets = replied_octets self.old.config now self.old.leases (read_message body.now) in
             into.new ≡ octets ++ drop (length octets) into.old }
+        ensures few { length (replied_octets self.old.config now self.old.leases (read_message body.now)) ≤ 790 }
         ensures one_to_one { IsOneToOne self.new.leases }
     {
         let leases = self.leases;

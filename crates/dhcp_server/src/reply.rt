@@ -35,6 +35,7 @@ pub fn write_reply(config: &SlirpConfig, m: &Message, answer: Answer, into: &mut
     requires place { IsPlaced answer }
     ensures reply { result ≡ reply_of (settings config.now) m.now answer }
     ensures octets { let octets = octets_of_reply (settings config.now) m.now answer in into.new ≡ octets ++ drop (length octets) into.old }
+    ensures few { length (octets_of_reply (settings config.now) m.now answer) ≤ 790 }
 {
     if is_silence(answer) {
         return Reply::Nothing;
@@ -86,7 +87,8 @@ fn write(config: &SlirpConfig, m: &Message, answer: Answer, into: &mut [u8]) -> 
     requires room { 1024 ≤ length into.old }
     requires start { config.now.vdhcp_start.0 + 15 < 2 ^ 32 }
     requires place { IsPlaced answer }
-    ensures { Adds into.old 0 into.new result (reply_octets (settings config.now) m.now answer) }
+    ensures written { Adds into.old 0 into.new result (reply_octets (settings config.now) m.now answer) }
+    ensures end { result ≤ 790 }
 {
     let at = put_front(m, into, 0);
     let at = put_addresses(config, m, answer, into, at);

@@ -5,8 +5,8 @@ use Rattle.dhcp_server.specs.Writing.{Adds}
 use Rattle.dhcp_server.proofs.Adding.{then}
 use Rattle.dhcp_server.proofs.reply.write.Goals as goal
 
-pub returns : goal.returns
-returns c =
+pub returns-clause-written : goal.returns-clause-written
+returns-clause-written c =
     let head = then _ _ _ _ _ _ _ _ (then _ _ _ _ _ _ _ _ c.put_front-at.ensures.written c.put_addresses-at.ensures.written) c.put_back-at.ensures.written in
     let cookie = then _ _ _ _ _ _ _ _ head c.add-at.ensures.written in
     let options = then _ _ _ _ _ _ _ _ cookie c.put_options-at.ensures.written in

@@ -1,5 +1,5 @@
 -- What the message leaves and how it is answered is the definition's, and no hardware address has two addresses.
-use Rattle.std.proofs.Common.{◌≡◌, ◌++◌, List, ℕ, Some, length, drop, sym, ap, ◌∙◌, subst, arith}
+use Rattle.std.proofs.Common.{◌≡◌, ◌≤◌, ◌++◌, List, ℕ, Some, length, drop, sym, ap, ◌∙◌, subst, arith}
 use Rattle.host_policy.specs.Settings.{settings}
 use Rattle.dhcp_server.specs.declared.serving.Outcome.{Outcome}
 use Rattle.dhcp_server.specs.Leases.{IsOneToOne}
@@ -40,3 +40,13 @@ returns-clause-octets c =
     ∙ ap (λ (s : Lending). replied_octets s.config c.args.now s.leases (Some m)) c.self.view_is
     ∙ ap (replied_octets c.args.self.now.config c.args.now c.args.self.now.leases) c.in-Some.ensures in
     c.write_reply.ensures.octets ∙ ap (λ (xs : List ℕ). xs ++ drop (length xs) c.args.into.now) is
+
+pub returns-clause-few : goal.returns-clause-few
+returns-clause-few c =
+    let config = settings c.self.inside.config in
+    let m = c.in-Some.message in
+    let is : octets_of_reply config m c.outcome_of-outcome.result.answer ≡ replied_octets c.args.self.now.config c.args.now c.args.self.now.leases (read_message c.args.body.now) =
+    ap (λ (o : Outcome). octets_of_reply config m o.answer) c.outcome_of-outcome.ensures
+    ∙ ap (λ (s : Lending). replied_octets s.config c.args.now s.leases (Some m)) c.self.view_is
+    ∙ ap (replied_octets c.args.self.now.config c.args.now c.args.self.now.leases) c.in-Some.ensures in
+    subst (λ (xs : List ℕ). length xs ≤ 790) is c.write_reply.ensures.few
