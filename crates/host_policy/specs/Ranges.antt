@@ -1,7 +1,7 @@
 -- The range of each field of the settings, and the order in which they are checked.
-use Rattle.std.specs.Prelude.{ℕ, ◌+◌, ◌-◌, ◌*◌, ◌%◌, ◌^◌, ◌==◌, ◌&&◌, ◌||◌, not, nat_le, Bool, true, false, IsTrue, List, [], ◌∷◌, length, Option, find}
+use Rattle.std.specs.Prelude.{ℕ, ◌+◌, ◌-◌, ◌*◌, ◌%◌, ◌^◌, ◌==◌, ◌&&◌, ◌||◌, not, nat_le, nat_lt, Bool, true, false, IsTrue, List, [], ◌∷◌, length, Option, find}
 use Rattle.std.specs.List.{list_any, list_all}
-use Rattle.std.specs.Option.{option_map_or, is_none}
+use Rattle.std.specs.Option.{option_map_or}
 use Rattle.net_octets.specs.declared.Endpoint.{Endpoint}
 use Rattle.host_policy.specs.declared.Forward.{Forward}
 use Rattle.host_policy.specs.declared.GuestFwd.{GuestFwd}
@@ -88,7 +88,7 @@ in_range config Vnetmask = is_mask config.mask
 in_range config Vnetwork = (config.network % network_size config == 0) && is_of_one config.network && not (is_loopback config.network)
 in_range config Vhost = is_of_one_host config config.vhost
 in_range config Vnameserver = is_of_one_host config config.vnameserver && not (config.vnameserver == config.vhost)
-in_range config VdhcpStart = list_all (is_guest config) (pool config)
+in_range config VdhcpStart = nat_lt (config.dhcp_start + 15) (2 ^ 32) && list_all (is_guest config) (pool config)
 in_range config Vhostname = is_word config.hostname
 in_range config Vdomainname = is_word config.domainname
 in_range config TftpServerName = is_word config.tftp_server_name

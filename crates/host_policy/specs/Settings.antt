@@ -1,5 +1,5 @@
 -- The settings as the laws read them.
-use Rattle.std.specs.Prelude.{[], true, false, Some, None}
+use Rattle.std.specs.Prelude.{[], true, false, None}
 use Rattle.std.specs.Option.{option_map}
 use Rattle.host_policy.specs.Addresses.{Config}
 use Rattle.host_policy.specs.declared.config.SlirpConfig.{SlirpConfig}

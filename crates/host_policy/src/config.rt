@@ -287,7 +287,9 @@ impl SlirpConfig {
             Field::Vnameserver => {
                 self.is_of_one_host(self.vnameserver.0 as u64) && self.vnameserver != self.vhost
             }
-            Field::VdhcpStart => self.lends_to_guests(),
+            Field::VdhcpStart => {
+                self.vdhcp_start.0 as u64 + 15 < 1 << 32 && self.lends_to_guests()
+            }
             Field::Vhostname => is_word(self.vhostname.as_slice()),
             Field::Vdomainname => is_word(self.vdomainname.as_slice()),
             Field::TftpServerName => is_word(self.tftp_server_name.as_slice()),

@@ -260,9 +260,9 @@ fn names_have_no_blank_and_no_control(rt: HostRuntime) {
 
 #[test]
 fn folder_has_no_octet_0(rt: HostRuntime) -> Result<(), Fail> {
-    let path: ArrayString<1024> = ArrayString::from("served")?;
+    let path: ArrayString<1024> = ArrayString::from("tftp")?;
     assert_eq!(rt; fault!(tftp_path = Some(path)), None);
-    let cut: ArrayString<1024> = ArrayString::from("/srv\0tftp")?;
+    let cut: ArrayString<1024> = ArrayString::from("tf\0tp")?;
     assert_eq!(rt; fault!(tftp_path = Some(cut)), Some(Field::TftpPath));
     Ok(())
 }

@@ -2,3 +2,4 @@ pub mod Walks
 pub mod Marks
 pub mod Firsts
 pub mod Laws
+mod Puts

@@ -2,10 +2,11 @@
 //! as in TCP (RFC 9293, 3.1) and DHCP (RFC 2132, 2). Nothing is allocated.
 #![tactic(auto)]
 
-ghost use Rattle.std.specs.Prelude.{◌≡◌, ℕ, ◌+◌, ◌==◌, true, false, List, length, replicate, Option, Ok, Err, is_ok, is_some, option_copied, position, IfSome, IfOk, OnOk, IfErr, MatchResult};
+ghost use Rattle.std.specs.Prelude.{◌≡◌, ℕ, ◌+◌, ◌≤◌, ◌==◌, ◌↔◌, ◌++◌, true, false, List, length, drop, IsSome, IfNone, replicate, Option, Ok, Err, is_ok, is_some, option_copied, position, IfSome, IfOk, OnOk, IfErr, MatchResult};
 ghost use Rattle.tlv_table.specs.Tables.{is_below, is_rising, is_row, are_rows, is_table, row_of};
-ghost use Rattle.tlv_table.specs.Reading.{Found, first_body, body_in, judged, option_step, Agrees, Takes, reading, found_in};
-ghost use Rattle.tlv_table.specs.Grammar.{IsListOf, IsNoList};
+ghost use Rattle.tlv_table.specs.Reading.{Found, first_body, body_in, head_counted, judged, option_step, Agrees, Takes, reading, found_in};
+ghost use Rattle.tlv_table.specs.Grammar.{Field, item_octets, IsListOf, IsNoList};
+ghost use Rattle.tlv_table.specs.Putting.{CanPut, CanPutAll, ReadsAgain};
 ghost use Rattle.tlv_table.specs.declared.Row.{Row};
 ghost use Rattle.tlv_table.specs.declared.TlvFault.{TlvFault};
 
@@ -132,6 +133,29 @@ impl<const N: usize> Table<N> {
             → result ≡ Err fault }
     {
         self.fields_of(octets)
+    }
+
+    /// Writes an option at the front of `into`, and answers how many octets it has. The code has a
+    /// row, the body's length is in its range and fits an octet, with the head where it is counted.
+    /// The answer is None exactly where `into` is too short; it is unchanged then, and past the option.
+    pub fn put(&self, code: u8, body: &[u8], into: &mut [u8]) -> Option<usize>
+        requires { CanPut self.now.form self.now.rows code body.now }
+        ensures written { IfSome result (λ n. into.new ≡ item_octets self.now.form (Field code body.now) ++ drop n into.old) }
+        ensures length { IfSome result (λ n. n ≡ 2 + length body.now) }
+        ensures room { IsSome result ↔ (2 + length body.now ≤ length into.old) }
+        ensures unchanged { IfNone result (into.new ≡ into.old) }
+    {
+        let table = *self;
+        put_option(&table.form, code, body, into)
+    }
+
+    /// Options that are put one after another, with the end code behind them, are read again, where
+    /// none is put twice that may not repeat.
+    pub fn put_options_are_read_again(&self)
+        ensures { (pairs : List (ℕ × List ℕ)) (rest : List ℕ) → CanPutAll self.now.form self.now.rows pairs
+            → ReadsAgain self.now.form self.now.rows pairs rest }
+    {
+        law_of_put(&self.form, &self.rows);
     }
 
     fn fields_of<'a>(&self, octets: &'a [u8]) -> Result<Fields<'a, N>, TlvFault>
@@ -308,6 +332,36 @@ fn first_body<'a>(form: &Form, rows: &[Row], octets: &'a [u8], code: u8) -> Opti
     None
 }
 
+// That options which are put are read again.
+fn law_of_put(form: &Form, rows: &[Row])
+    requires { is_table form.now rows.now ≡ true }
+    ensures { (pairs : List (ℕ × List ℕ)) (rest : List ℕ) → CanPutAll form.now rows.now pairs
+        → ReadsAgain form.now rows.now pairs rest }
+{}
+
+// Writes an option at the front of a slice, where there is room.
+fn put_option(form: &Form, code: u8, body: &[u8], into: &mut [u8]) -> Option<usize>
+    requires { head_counted form.now + length body.now ≤ 255 }
+    ensures written { IfSome result (λ n. into.new ≡ item_octets form.now (Field code body.now) ++ drop n into.old) }
+    ensures length { IfSome result (λ n. n ≡ 2 + length body.now) }
+    ensures room { IsSome result ↔ (2 + length body.now ≤ length into.old) }
+    ensures unchanged { IfNone result (into.new ≡ into.old) }
+{
+    let length = 2 + body.len();
+    if into.len() < length {
+        return None;
+    }
+    let size = if form.counts_head {
+        2 + body.len()
+    } else {
+        body.len()
+    };
+    let head = [code, size as u8];
+    into[..2].copy_from_slice(&head);
+    into[2..length].copy_from_slice(body);
+    Some(length)
+}
+
 #[cfg(test)]
 mod tests {
     use super::*;
@@ -432,5 +486,32 @@ mod tests {
             .read(b"\x40\x01\x07\xff")
             .expect(&rt, "the last row's option");
         assert_eq!(rt; fields.first(64), Some(b"\x07".as_slice()));
+    }
+
+    #[test]
+    fn put_options_are_read(rt: HostRuntime) {
+        let Some(table) = Table::new(DHCP, rows![12: 1 to 127, once; 53: 1 to 1, once]) else {
+            return;
+        };
+        let mut octets = [0xee; 8];
+        assert_eq!(rt; table.put(53, b"\x02", &mut octets), Some(3));
+        assert_eq!(rt; table.put(12, b"ab", &mut octets[3..]), Some(4));
+        assert_eq!(rt; table.put(12, b"ab", &mut octets[5..]), None);
+        octets[7] = 255;
+        assert_eq!(rt; octets.as_slice(), b"\x35\x01\x02\x0c\x02ab\xff".as_slice());
+        let Ok(fields) = table.read(&octets) else {
+            return;
+        };
+        assert_eq!(rt; fields.first(12), Some(b"ab".as_slice()));
+    }
+
+    #[test]
+    fn put_length_counts_the_head(rt: HostRuntime) {
+        let Some(table) = Table::new(TCP, rows![2: 2 to 2, repeats]) else {
+            return;
+        };
+        let mut octets = [0xee; 4];
+        assert_eq!(rt; table.put(2, b"\x05\xb4", &mut octets), Some(4));
+        assert_eq!(rt; octets.as_slice(), b"\x02\x04\x05\xb4".as_slice());
     }
 }

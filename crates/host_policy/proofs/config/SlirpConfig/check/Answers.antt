@@ -1,5 +1,5 @@
 -- That none is the first to break its range says that each is in it, and the other way.
-use Rattle.std.proofs.Common.{◌≡◌, sym, ◌∙◌, Some, None}
+use Rattle.std.proofs.Common.{sym, ◌∙◌}
 use Rattle.host_policy.specs.Settings.{settings}
 use Rattle.host_policy.proofs.Soundness.{each_in_range, none_broken}
 use Rattle.host_policy.proofs.config.SlirpConfig.check.Goals as goal

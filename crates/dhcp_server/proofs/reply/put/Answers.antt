@@ -1,0 +1,20 @@
+-- The option is put at the front of what is left.
+use Rattle.std.proofs.Common.{◌≡◌, ◌+◌, ◌-◌, ◌++◌, [], ◌∙◌, sym, ap, length, take, drop, refl, arith, append-nil}
+use Rattle.tlv_table.specs.Tables.{Rules}
+use Rattle.tlv_table.specs.Grammar.{Field, item_octets}
+use Rattle.dhcp_server.specs.Messages.{form}
+use Rattle.dhcp_server.proofs.Adding.{adds_front}
+use Rattle.dhcp_server.proofs.reply.put.Goals as goal
+
+pub returns-clause-written : goal.returns-clause-written
+returns-clause-written c =
+    let at = c.args.at in
+    let body = c.args.body.now in
+    let into = c.args.into.now in
+    let item = item_octets form (Field c.args.code body) in
+    let size = c.in-Some.ensures.length in
+    let octets : c.put.new.into ≡ (item ++ []) ++ drop c.in-Some.length (take (length into - at) (drop at into)) =
+    c.in-Some.ensures.written
+    ∙ ap (λ (r : Rules). item_octets r.form (Field c.args.code body) ++ drop c.in-Some.length (take (length into - at) (drop at into))) c.requires.table
+    ∙ ap (λ xs. xs ++ drop c.in-Some.length (take (length into - at) (drop at into))) (sym (append-nil item)) in
+    adds_front into c.put.new.into (item ++ []) at c.in-Some.length (length into - at) (at + c.in-Some.length) (omega (arith, size, ap length (append-nil item))) refl (omega (arith, size, c.requires.room)) (omega (arith, size, c.requires.room)) octets

@@ -1,0 +1,9 @@
+-- One behind the other.
+use Rattle.host_policy.specs.Settings.{settings}
+use Rattle.dhcp_server.specs.Messages.{form}
+use Rattle.dhcp_server.specs.Replies.{lease_option, network_options}
+use Rattle.dhcp_server.proofs.Adding.{then_options}
+use Rattle.dhcp_server.proofs.reply.put_lease.Goals as goal
+
+pub returns-clause-written : goal.returns-clause-written
+returns-clause-written c = then_options form _ _ _ lease_option (network_options (settings c.args.config.now)) _ _ _ c.put_number-at.ensures.written c.put_network.ensures.written

@@ -1,0 +1,11 @@
+-- One entry more is changed.
+use Rattle.std.proofs.Common.{◌<◌, length, arith}
+use Rattle.dhcp_server.specs.declared.leases.Lease.TheVariants.{Free}
+use Rattle.dhcp_server.specs.Leases.{freed}
+use Rattle.dhcp_server.proofs.Mapping.{goes_on}
+use Rattle.dhcp_server.proofs.serving.without.Goals as goal
+
+pub loop-lease-preserved : goal.loop-lease-preserved
+loop-lease-preserved c =
+    let within : c.loop-lease.lease-index < length c.args.leases = omega (arith, c.loop-lease-test.true) in
+    goes_on (freed c.args.mac) Free c.args.leases c.loop-lease.lease-items c.loop-lease.lease-index _ within c.loop-lease.invariant c.freed.ensures

@@ -1,0 +1,8 @@
+-- What contracts see of the leases: the settings, and the entry of each address that is lent.
+use Rattle.std.specs.Prelude.{List}
+use Rattle.host_policy.specs.Addresses.{Config}
+use Rattle.dhcp_server.specs.declared.leases.Lease.{Lease}
+
+pub record Lending : Type 0 where
+  pub config : Config
+  pub leases : List Lease

@@ -1,0 +1,13 @@
+//! A server of DHCP (RFC 2131): guests are lent 16 addresses, and told of the network. It takes no memory.
+#![tactic(auto)]
+
+mod leases;
+mod message;
+mod options;
+mod reply;
+mod serving;
+#[cfg(test)]
+mod tests;
+
+pub use leases::{Lease, Leases};
+pub use options::{options_read, options_written};
