@@ -1,4 +1,7 @@
+pub mod Bools
 pub mod Checks
+pub mod OpenSockets
 pub mod Rows
 pub mod Sentences
+pub mod Steps
 pub mod UdpRows

@@ -3,4 +3,5 @@ pub mod Answers
 pub mod Check
 pub mod Datagrams
 pub mod Laws
+pub mod Ports
 pub mod Served
