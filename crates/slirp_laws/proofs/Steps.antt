@@ -33,72 +33,89 @@ pub record Asks (config : Config) (last : Option Datagram) (errand : Errand) : T
   pub datagram : last ≡ Some errand.datagram
   pub goes : fate config errand.datagram ≡ GoesTo errand.to
 
+-- of each errand that is asked for, this holds
+abbrev pub OfStep : (Errand → Type 0) → Step → Type 0
+OfStep Q Settled = Unit {0}
+OfStep Q (NeedsRoom oldest errand) = Q errand
+OfStep Q (NeedsSocket errand) = Q errand
+OfStep Q (NeedsSending socket errand) = Q errand
+
+pub of_step : (Q R : Errand → Type 0) → ((errand : Errand) → Q errand → R errand) → (step : Step) → OfStep Q step → OfStep R step
+of_step Q R more Settled is = tt
+of_step Q R more (NeedsRoom oldest errand) is = more errand is
+of_step Q R more (NeedsSocket errand) is = more errand is
+of_step Q R more (NeedsSending socket errand) is = more errand is
+
+module _ (Q : Errand → Type 0) where
+  by_close : (socket : ℕ) (r : Relay) (step : Step) → OfStep Q step → OfStep Q (after_close socket r step).step
+  by_close socket r Settled is = is
+  by_close socket r (NeedsRoom oldest errand) is = is
+  by_close socket r (NeedsSocket errand) is = is
+  by_close socket r (NeedsSending s errand) is = is
+
+  by_open : (answer : Made) (socket now : ℕ) (r : Relay) (step : Step) → r.step ≡ step → OfStep Q step → OfStep Q (after_open answer socket now r step).step
+  by_open Done socket now r (NeedsSocket errand) same is = is
+  by_open Failed socket now r step same is = tt
+  by_open Done socket now r Settled same is = subst (OfStep Q) (sym same) is
+  by_open Done socket now r (NeedsRoom oldest errand) same is = subst (OfStep Q) (sym same) is
+  by_open Done socket now r (NeedsSending s errand) same is = subst (OfStep Q) (sym same) is
+
+  by_send : (socket now : ℕ) (r : Relay) (step : Step) → r.step ≡ step → OfStep Q step → OfStep Q (after_send socket now r step).step
+  by_send socket now r (NeedsSending s errand) same is = tt
+  by_send socket now r Settled same is = subst (OfStep Q) (sym same) is
+  by_send socket now r (NeedsRoom oldest errand) same is = subst (OfStep Q) (sym same) is
+  by_send socket now r (NeedsSocket errand) same is = subst (OfStep Q) (sym same) is
+
+  by_got : (answer : Got) (socket now : ℕ) (r : Relay) → OfStep Q r.step → OfStep Q (after_got answer socket now r).step
+  by_got (From peer n) socket now r is = is
+  by_got GotNotYet socket now r is = is
+  by_got GotFailed socket now r is = is
+
+  pub by_call : (e : Entry) (now : ℕ) (r : Relay) → OfStep Q r.step → OfStep Q (after_call e now r).step
+  by_call (Close socket) now r is = by_close socket r r.step is
+  by_call (UdpOpen socket at answer) now r is = by_open answer socket now r r.step refl is
+  by_call (UdpSend socket to octets answer) now r is = by_send socket now r r.step refl is
+  by_call (UdpRecv socket count answer octets) now r is = by_got answer socket now r is
+  by_call _ now r is = is
+
+  room : (b : Bool) (oldest : ℕ) (errand : Errand) → Q errand → OfStep Q (if b then NeedsRoom oldest errand else NeedsSocket errand)
+  room true oldest errand is = is
+  room false oldest errand is = is
+
+  fresh : (list : List Association) (errand : Errand) → Q errand → OfStep Q (without_socket list errand)
+  fresh [] errand is = is
+  fresh (oldest ∷ list) errand is = room (nat_le most_associations (length (oldest ∷ list))) oldest.number errand is
+
+  chosen : (found : Option ℕ) (list : List Association) (errand : Errand) → Q errand → OfStep Q (with_socket found list errand)
+  chosen None list errand is = fresh list errand is
+  chosen (Some socket) list errand is = is
+
+  pub of_errand : (list : List Association) (o : Option Errand) → ((errand : Errand) → o ≡ Some errand → Q errand) → OfStep Q (step_for list o)
+  of_errand list None is = tt
+  of_errand list (Some errand) is = chosen (socket_of errand.datagram.from list) list errand (is errand refl)
+
 abbrev pub StepAsks : Config → Option Datagram → Step → Type 0
-StepAsks config last Settled = Unit {0}
-StepAsks config last (NeedsRoom oldest errand) = Asks config last errand
-StepAsks config last (NeedsSocket errand) = Asks config last errand
-StepAsks config last (NeedsSending socket errand) = Asks config last errand
-
-by_close : (config : Config) (last : Option Datagram) (socket : ℕ) (r : Relay) (step : Step) → StepAsks config last step → StepAsks config last (after_close socket r step).step
-by_close config last socket r Settled is = is
-by_close config last socket r (NeedsRoom oldest errand) is = is
-by_close config last socket r (NeedsSocket errand) is = is
-by_close config last socket r (NeedsSending s errand) is = is
-
-by_open : (config : Config) (last : Option Datagram) (answer : Made) (socket now : ℕ) (r : Relay) (step : Step) → r.step ≡ step → StepAsks config last step → StepAsks config last (after_open answer socket now r step).step
-by_open config last Done socket now r (NeedsSocket errand) same is = is
-by_open config last Failed socket now r step same is = tt
-by_open config last Done socket now r Settled same is = subst (StepAsks config last) (sym same) is
-by_open config last Done socket now r (NeedsRoom oldest errand) same is = subst (StepAsks config last) (sym same) is
-by_open config last Done socket now r (NeedsSending s errand) same is = subst (StepAsks config last) (sym same) is
-
-by_send : (config : Config) (last : Option Datagram) (socket now : ℕ) (r : Relay) (step : Step) → r.step ≡ step → StepAsks config last step → StepAsks config last (after_send socket now r step).step
-by_send config last socket now r (NeedsSending s errand) same is = tt
-by_send config last socket now r Settled same is = subst (StepAsks config last) (sym same) is
-by_send config last socket now r (NeedsRoom oldest errand) same is = subst (StepAsks config last) (sym same) is
-by_send config last socket now r (NeedsSocket errand) same is = subst (StepAsks config last) (sym same) is
-
-by_got : (config : Config) (last : Option Datagram) (answer : Got) (socket now : ℕ) (r : Relay) → StepAsks config last r.step → StepAsks config last (after_got answer socket now r).step
-by_got config last (From peer n) socket now r is = is
-by_got config last GotNotYet socket now r is = is
-by_got config last GotFailed socket now r is = is
-
-by_call : (config : Config) (last : Option Datagram) (e : Entry) (now : ℕ) (r : Relay) → StepAsks config last r.step → StepAsks config last (after_call e now r).step
-by_call config last (Close socket) now r is = by_close config last socket r r.step is
-by_call config last (UdpOpen socket at answer) now r is = by_open config last answer socket now r r.step refl is
-by_call config last (UdpSend socket to octets answer) now r is = by_send config last socket now r r.step refl is
-by_call config last (UdpRecv socket count answer octets) now r is = by_got config last answer socket now r is
-by_call config last _ now r is = is
+StepAsks config last step = OfStep (Asks config last) step
 
 -- a datagram that came begins its steps
-room : (config : Config) (last : Option Datagram) (b : Bool) (oldest : ℕ) (errand : Errand) → Asks config last errand → StepAsks config last (if b then NeedsRoom oldest errand else NeedsSocket errand)
-room config last true oldest errand is = is
-room config last false oldest errand is = is
-
-fresh : (config : Config) (last : Option Datagram) (list : List Association) (errand : Errand) → Asks config last errand → StepAsks config last (without_socket list errand)
-fresh config last [] errand is = is
-fresh config last (oldest ∷ list) errand is = room config last (nat_le most_associations (length (oldest ∷ list))) oldest.number errand is
-
-chosen : (config : Config) (last : Option Datagram) (found : Option ℕ) (list : List Association) (errand : Errand) → Asks config last errand → StepAsks config last (with_socket found list errand)
-chosen config last None list errand is = fresh config last list errand is
-chosen config last (Some socket) list errand is = is
-
-begun : (config : Config) (before : Option Datagram) (list : List Association) (d : Datagram) (what : Fate) → fate config d ≡ what → StepAsks config (Some d) (step_for list (errand_by d what))
-begun config before list d Ignored is = tt
-begun config before list d Refused is = tt
-begun config before list d (GoesTo to) is =
-    let errand : Errand = record { datagram = d; to = to } in
-    chosen config (Some d) (socket_of d.from list) list errand (record { datagram = refl; goes = is })
+begun : (config : Config) (d : Datagram) (what : Fate) → fate config d ≡ what → (errand : Errand) → errand_by d what ≡ Some errand → Asks config (Some d) errand
+begun config d Ignored is errand this = cc
+begun config d Refused is errand this = cc
+begun config d (GoesTo to) is errand this =
+    let that : Errand = record { datagram = d; to = to } in
+    let whole : that ≡ errand = cc in
+    let asks : Asks config (Some d) that = record { datagram = refl; goes = is } in
+    subst (Asks config (Some d)) whole asks
 
 by_packet : (config : Config) (before : Option Datagram) (packet : Packet) (r : Relay) → StepAsks config (or_before (datagram_by packet) before) (asked (errand_by_packet config packet) r).step
-by_packet config before (DatagramPacket d) r = begun config before r.associations d (fate config d) refl
+by_packet config before (DatagramPacket d) r = of_errand (Asks config (Some d)) r.associations (errand_of config d) (begun config d (fate config d) refl)
 by_packet config before Unheard r = tt
 by_packet config before (ArpPacket arp) r = tt
 by_packet config before (Message mac ip message) r = tt
 by_packet config before (Segment mac ip tcp) r = tt
 
 by_arrival : (config : Config) (e : Entry) (o : Option Arrival) (now : ℕ) (r : Relay) (last : Option Datagram) → StepAsks config last r.step → StepAsks config (or_before (datagram_came o) last) (relay_after config e o now r).step
-by_arrival config e None now r last is = by_call config last e now r is
+by_arrival config e None now r last is = by_call (Asks config last) e now r is
 by_arrival config e (Some arrival) now r last is = by_packet config last arrival.packet r
 
 pub step_asks : (config : Config) (past : List Entry) → StepAsks config (last_datagram config past) (relay config past).step
