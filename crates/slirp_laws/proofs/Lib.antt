@@ -1,8 +1,10 @@
 pub mod Bools
 pub mod Checks
+pub mod Joining
 pub mod OpenSockets
 pub mod Phases
 pub mod Rows
 pub mod Sentences
 pub mod Steps
 pub mod UdpRows
+pub mod Uses
