@@ -2,7 +2,9 @@ pub mod Bools
 pub mod Checks
 pub mod Joining
 pub mod OpenSockets
+pub mod Parting
 pub mod Phases
+pub mod Policy
 pub mod Rows
 pub mod Sentences
 pub mod Steps

@@ -52,6 +52,9 @@ next_is_new config past lawful = by (is_among (next_number past) (open_sockets p
 pub sends_on_open : (config : Config) (past : List Entry) (socket : ℕ) → carries past socket ≡ true → is_among socket (open_sockets past) ≡ true
 sends_on_open config past socket is = first_of (is_among socket (open_sockets past)) (is_association (kind_of socket past)) is
 
+pub hears_on_open : (config : Config) (past : List Entry) (socket asked : ℕ) → (carries past socket && (asked == most_to_udp)) ≡ true → is_among socket (open_sockets past) ≡ true
+hears_on_open config past socket asked is = sends_on_open config past socket (first_of (carries past socket) (asked == most_to_udp) is)
+
 pub closes_open : (config : Config) (past : List Entry) (socket : ℕ) → May config past (call_of (Close socket)) → is_among socket (open_sockets past) ≡ true
 closes_open config past socket may =
     first_of (is_among socket (open_sockets past))

@@ -4,4 +4,5 @@ pub mod Check
 pub mod Datagrams
 pub mod Laws
 pub mod Ports
+pub mod Said
 pub mod Served
