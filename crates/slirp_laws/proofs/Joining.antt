@@ -200,7 +200,7 @@ unused_below config past socket at answer [] is kept = tt
 unused_below config past socket at answer (a ∷ list) is kept =
     (let drawn = kept.0.drawn in grind (arith, nat_tests, drawn, is), unused_below config past socket at answer list is kept.1)
 
-settled_early : (n : ℕ) (step : Step) → n ≡ 0 → AsksAfterWaits n step → step ≡ Settled
+pub settled_early : (n : ℕ) (step : Step) → n ≡ 0 → AsksAfterWaits n step → step ≡ Settled
 settled_early n Settled is asks = refl
 settled_early n (NeedsRoom oldest errand) is asks = absurd (omega (arith, is, asks))
 settled_early n (NeedsSocket errand) is asks = absurd (omega (arith, is, asks))

@@ -2,6 +2,7 @@ pub mod Bools
 pub mod Checks
 pub mod Joining
 pub mod OpenSockets
+pub mod Owing
 pub mod Parting
 pub mod Phases
 pub mod Policy

@@ -69,7 +69,7 @@ pub has_waited : (config : Config) (past : List Entry) → HasWaited (phase conf
 has_waited config [] = refl
 has_waited config (e ∷ past) = after e (ending e (partial past)) (phase config past) past (has_waited config past)
 
-working_waited : (p : Phase) (n : ℕ) → is_working p ≡ true → HasWaited p n → 0 < n
+pub working_waited : (p : Phase) (n : ℕ) → is_working p ≡ true → HasWaited p n → 0 < n
 working_waited Working n working is = is
 working_waited (Opening count forwards) n working is = cc
 working_waited Started n working is = cc
@@ -78,7 +78,7 @@ working_waited (Over cause) n working is = cc
 
 -- ---- what asks came after a wait
 
-more_waits : (e : Entry) (past : List Entry) → 0 < waits past → 0 < waits (e ∷ past)
+pub more_waits : (e : Entry) (past : List Entry) → 0 < waits past → 0 < waits (e ∷ past)
 more_waits (Wait wants timeout answer ready) past is = omega (arith, is)
 more_waits _ past is = is
 
@@ -91,7 +91,7 @@ on_arrival config e past None r waited is = by_call (λ (errand : Errand). 0 < w
 on_arrival config e past (Some arrival) r waited is = of_errand (λ (errand : Errand). 0 < waits past) r.associations (errand_by_packet config arrival.packet) (λ errand this. waited arrival refl)
 
 -- a frame comes in a turn alone
-comes_working : (config : Config) (e : Entry) (past : List Entry) → May config past (call_of e) → (arrival : Arrival) → (happens config past e).came ≡ Some arrival → is_working (phase config past) ≡ true
+pub comes_working : (config : Config) (e : Entry) (past : List Entry) → May config past (call_of e) → (arrival : Arrival) → (happens config past e).came ≡ Some arrival → is_working (phase config past) ≡ true
 comes_working config (LinkRead asked answer octets) past may arrival is = may.place
 comes_working config _ past may arrival is = cc
 

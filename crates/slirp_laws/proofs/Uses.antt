@@ -78,7 +78,7 @@ drawn_for (FromPeer peer) n m is = omega arith
 drawn_for NoPeer n m is = is
 drawn_for AcceptFailed n m is = is
 
-drawn_on : (e : Entry) (past : List Entry) (n : ℕ) → n < next_number past → n < next_number (e ∷ past)
+pub drawn_on : (e : Entry) (past : List Entry) (n : ℕ) → n < next_number past → n < next_number (e ∷ past)
 drawn_on (Connect socket to answer) past n is = omega arith
 drawn_on (Listen socket at answer) past n is = omega arith
 drawn_on (UdpOpen socket at answer) past n is = omega arith
