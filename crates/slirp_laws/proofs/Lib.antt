@@ -1,11 +1,14 @@
 pub mod Bools
 pub mod Checks
+pub mod Counting
 pub mod Joining
 pub mod OpenSockets
 pub mod Owing
 pub mod Parting
 pub mod Phases
 pub mod Policy
+pub mod Reading
+pub mod Replies
 pub mod Rows
 pub mod Sentences
 pub mod Steps

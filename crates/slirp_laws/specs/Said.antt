@@ -1,5 +1,5 @@
 -- What the laws come to, in the words of guests, their ports and their datagrams.
-use Rattle.std.specs.Prelude.{◌≡◌, ℕ, ◌+◌, ◌≤◌, ◌||◌, not, nat_le, true, List, [], ◌∷◌, length, Option, Some, None, if◌then◌else◌}
+use Rattle.std.specs.Prelude.{◌≡◌, ℕ, ◌+◌, ◌≤◌, ◌||◌, not, nat_le, true, false, List, [], ◌∷◌, length, Option, Some, None, if◌then◌else◌}
 use Rattle.world_face.specs.Journal.{Entry, UdpOpen, UdpSend, UdpRecv}
 use Rattle.world_face.specs.declared.Made.{Made}
 use Rattle.world_face.specs.declared.Made.TheVariants.{Done as MadeDone, Failed as MadeFailed}
@@ -118,6 +118,7 @@ pub record RepliesToItsPort (config : Config) (past : List Entry) (frame : List 
   pub peer : Endpoint
   pub octets : List ℕ
   pub last : last_occasion config past ≡ Heard socket peer octets
+  pub seen : is_hidden config peer ≡ false
   pub guest : Endpoint
   pub port : opened_for config socket past ≡ Some guest
   pub mac : List ℕ
