@@ -1,5 +1,5 @@
 -- How datagrams that go out are counted.
-use Rattle.std.proofs.Common.{◌≡◌, ℕ, ◌+◌, ◌%◌, ◌^◌, ◌≤◌, ◌==◌, ◌&&◌, nat_le, Bool, true, false, List, [], ◌∷◌, ◌++◌, length, Option, Some, None, if◌then◌else◌, refl, sym, ◌∙◌, ap, subst, arith}
+use Rattle.std.proofs.Common.{◌≡◌, ℕ, ◌+◌, ◌%◌, ◌^◌, ◌==◌, ◌&&◌, nat_le, Bool, true, List, [], ◌∷◌, length, Some, if◌then◌else◌, refl, sym, ◌∙◌, ap, subst, arith}
 use Rattle.std.proofs.lemmas.Bool.Decides.{nat_tests}
 use Rattle.world_face.specs.Journal.{Entry}
 use Rattle.world_face.specs.Frames.{goes_out}
@@ -7,9 +7,8 @@ use Rattle.net_octets.specs.Kinds.{ipv4_kind}
 use Rattle.net_octets.specs.Octets.{two_at}
 use Rattle.net_octets.proofs.Six.{Six, six}
 use Rattle.host_policy.specs.Addresses.{Config}
-use Rattle.ether_frame.specs.Ether.{ether_octets}
-use Rattle.ipv4_head.specs.Ip.{Ip, ip_octets}
-use Rattle.slirp_laws.specs.Answers.{Answer, ArpAnswer, IpAnswer, begins_datagram, datagrams_in, datagrams_out, with_datagrams, frame_of, identification, our_mac}
+use Rattle.ipv4_head.specs.Ip.{Ip}
+use Rattle.slirp_laws.specs.Answers.{Answer, ArpAnswer, IpAnswer, begins_datagram, datagrams_in, datagrams_out, with_datagrams, frame_of, identification}
 use Rattle.slirp_laws.specs.Laws.{Lawful}
 use Rattle.slirp_laws.specs.Said.{Carries}
 use Rattle.slirp_laws.proofs.Bools.{and_both}

@@ -1,5 +1,5 @@
 -- The list of associations in the order of use, and what the record says of sockets, are one.
-use Rattle.std.proofs.Common.{◌≡◌, ℕ, ◌+◌, ◌<◌, ◌≤◌, ◌==◌, ◌&&◌, ◌||◌, not, nat_le, nat_lt, Bool, true, false, List, [], ◌∷◌, ◌++◌, length, filter, find, Option, Some, None, option_map, if◌then◌else◌, ◌⊎◌, inl, inr, refl, sym, ◌∙◌, ap, subst, arith}
+use Rattle.std.proofs.Common.{◌≡◌, ℕ, ◌<◌, ◌≤◌, ◌==◌, ◌&&◌, ◌||◌, not, nat_le, nat_lt, Bool, true, false, List, [], ◌∷◌, ◌++◌, length, filter, find, Option, Some, None, option_map, if◌then◌else◌, inl, inr, refl, sym, ◌∙◌, ap, subst, arith}
 use Rattle.std.proofs.lemmas.Bool.Decides.{nat_tests}
 use Rattle.world_face.specs.Journal.{Entry, Connect, Listen, Accept, Close, LinkRead, UdpOpen, UdpSend, UdpRecv, call_of}
 use Rattle.world_face.specs.declared.Io.{Io}
@@ -9,22 +9,22 @@ use Rattle.world_face.specs.declared.Sent.{Sent}
 use Rattle.world_face.specs.declared.Got.{Got}
 use Rattle.world_face.specs.declared.Got.TheVariants.{From, NotYet as GotNotYet, Failed as GotFailed}
 use Rattle.net_octets.specs.declared.Endpoint.{Endpoint}
-use Rattle.host_policy.specs.Addresses.{Config, address}
+use Rattle.host_policy.specs.Addresses.{Config}
 use Rattle.host_policy.specs.Targets.{same_endpoint}
 use Rattle.udp_assoc.specs.Associations.{most_associations, heard_at, is_of, is_numbered, moved_last, numbers, sent_from, socket_of, without}
 use Rattle.udp_assoc.specs.declared.assocs.Association.{Association}
 use Rattle.run_laws.specs.Happenings.{Arrival, happens}
 use Rattle.run_laws.specs.Moments.{moment, waits}
 use Rattle.run_laws.specs.Packets.{Datagram}
-use Rattle.run_laws.specs.Sockets.{Association as OfAssociation, Forward as OfForward, Listener as OfListener, Kind, datagram_kind, is_among, is_association, kind_of, next_number, open_sockets, with_made}
-use Rattle.slirp_laws.specs.Datagrams.{Errand, errand_by_packet, Step, Settled, NeedsRoom, NeedsSocket, NeedsSending, Relay, relay, relay_after, asked, step_for, with_socket, without_socket, association, after_close, after_open, after_send, after_got}
+use Rattle.run_laws.specs.Sockets.{Listener as OfListener, Kind, datagram_kind, is_among, is_association, kind_of, next_number, open_sockets, with_made}
+use Rattle.slirp_laws.specs.Datagrams.{Errand, errand_by_packet, Step, Settled, NeedsRoom, NeedsSocket, NeedsSending, Relay, relay, relay_after, asked, step_for, with_socket, without_socket, association, after_close, after_open, after_send}
 use Rattle.slirp_laws.specs.Laws.{May, Lawful, carries}
 use Rattle.slirp_laws.specs.Ports.{is_used_by, last_datagram, last_mac, last_port, last_use, mac_of, opened_for, used_at}
 use Rattle.slirp_laws.proofs.Bools.{and_false, equal, first_of, second_of, or_second, same, turned, among_last, among_without}
 use Rattle.slirp_laws.proofs.OpenSockets.{next_is_new}
-use Rattle.slirp_laws.proofs.Phases.{AsksAfterWaits, Opens, Sends, asks_after_waits, hears_settled, opens, sends}
+use Rattle.slirp_laws.proofs.Phases.{AsksAfterWaits, asks_after_waits, hears_settled, opens, sends}
 use Rattle.slirp_laws.proofs.Steps.{Asks, OfStep, step_asks}
-use Rattle.slirp_laws.proofs.Uses.{AllBefore, AreKept, AreUnused, Before, BeforeAll, InOrder, Kept, NoneOf, Use, all_unused, are_kept_on, in_order_last, in_order_moved, in_order_on, in_order_without, kept_last, kept_moved, kept_without, none_of, none_without, port_unused, use_unused}
+use Rattle.slirp_laws.proofs.Uses.{AllBefore, AreKept, AreUnused, InOrder, Kept, NoneOf, Use, all_unused, are_kept_on, in_order_last, in_order_moved, in_order_on, in_order_without, kept_last, kept_moved, kept_without, none_of, none_without, port_unused, use_unused}
 
 -- ---- numbers
 
@@ -97,7 +97,7 @@ silent config e past list step none carried joined = quiet config e past list st
 
 -- ---- a datagram came
 
-equal_endpoints : (a b : Endpoint) → same_endpoint a b ≡ true → a ≡ b
+pub equal_endpoints : (a b : Endpoint) → same_endpoint a b ≡ true → a ≡ b
 equal_endpoints a b is =
     let addr : a.addr.0 ≡ b.addr.0 = equal a.addr.0 b.addr.0 (first_of (a.addr.0 == b.addr.0) (a.port == b.port) is) in
     let port : a.port ≡ b.port = equal a.port b.port (second_of (a.addr.0 == b.addr.0) (a.port == b.port) is) in
@@ -227,10 +227,13 @@ module _ (config : Config) (past : List Entry) (socket : ℕ) (at : Endpoint) (a
 
   before_new : (list : List Association) → AreUnused (UdpOpen socket at answer) list → AreKept config past list → NoneOf errand.datagram.from list → AllBefore (UdpOpen socket at answer ∷ past) list (association socket errand (moment past))
   before_new [] unused kept none = tt
-  before_new (a ∷ list) unused kept none = (record {
-    sooner = (let placed = kept.0.placed in let same = use_unused (UdpOpen socket at answer) past a.number unused.0 in let now = use_new in omega (arith, placed, same, now));
-    guests = none.0;
-  }, before_new list unused.1 kept.1 none.1)
+  before_new (a ∷ list) unused kept none = (
+    record {
+      sooner = (let placed = kept.0.placed in let same = use_unused (UdpOpen socket at answer) past a.number unused.0 in let now = use_new in omega (arith, placed, same, now));
+      guests = none.0;
+    },
+    before_new list unused.1 kept.1 none.1,
+  )
 
 module _ (config : Config) (past : List Entry) (socket : ℕ) (at : Endpoint) (number : (socket == next_number past) ≡ true) (new : is_among socket (open_sockets past) ≡ false) (r : Relay) (joined : JoinedTo config past r) where
   unused : (answer : Made) → AreUnused (UdpOpen socket at answer) r.associations

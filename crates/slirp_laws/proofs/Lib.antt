@@ -1,6 +1,7 @@
 pub mod Bools
 pub mod Checks
 pub mod Counting
+pub mod Finding
 pub mod Joining
 pub mod OpenSockets
 pub mod Owing

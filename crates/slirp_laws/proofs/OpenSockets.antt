@@ -1,7 +1,7 @@
 -- Which sockets are open in a lawful run.
-use Rattle.std.proofs.Common.{◌≡◌, ℕ, ◌+◌, ◌<◌, ◌≤◌, ◌==◌, ◌&&◌, ◌||◌, not, Bool, true, false, List, [], ◌∷◌, ◌++◌, filter, if◌then◌else◌, refl, sym, ◌∙◌, ap, subst, arith}
+use Rattle.std.proofs.Common.{◌≡◌, ℕ, ◌+◌, ◌<◌, ◌==◌, ◌&&◌, ◌||◌, not, Bool, true, false, List, [], ◌∷◌, ◌++◌, if◌then◌else◌, refl, sym, ◌∙◌, ap, arith}
 use Rattle.std.proofs.lemmas.Bool.Decides.{nat_tests}
-use Rattle.world_face.specs.Journal.{Entry, Connect, Listen, Accept, Close, UdpOpen, UdpSend, UdpRecv, call_of}
+use Rattle.world_face.specs.Journal.{Entry, Connect, Listen, Accept, Close, UdpOpen, call_of}
 use Rattle.world_face.specs.declared.Made.{Made}
 use Rattle.world_face.specs.declared.Made.TheVariants.{Done, Failed}
 use Rattle.world_face.specs.Limits.{most_to_udp}
@@ -9,7 +9,7 @@ use Rattle.host_policy.specs.Addresses.{Config}
 use Rattle.run_laws.specs.Sockets.{is_among, is_association, kind_of, next_number, open_sockets, with_made}
 use Rattle.run_laws.specs.Shape.{is_ended}
 use Rattle.slirp_laws.specs.Laws.{May, Lawful, carries, is_closing, is_least, parts}
-use Rattle.slirp_laws.proofs.Bools.{first_of, second_of, equal, same, turned, among_last, among_without}
+use Rattle.slirp_laws.proofs.Bools.{first_of, second_of, equal, same, among_last, among_without}
 
 abbrev pub IsBelow : ℕ → List ℕ → Type 0
 IsBelow bound sockets = (n : ℕ) → is_among n sockets ≡ true → n < bound

@@ -1,8 +1,8 @@
 -- What is left to be sent is what is owed for what came last.
-use Rattle.std.proofs.Common.{◌≡◌, ℕ, ◌+◌, ◌%◌, ◌^◌, ◌<◌, ◌≤◌, ◌==◌, ◌&&◌, ◌||◌, not, nat_le, Bool, true, false, List, [], ◌∷◌, ◌++◌, drop, length, find, bytes_eq, Option, Some, None, if◌then◌else◌, ◌⊎◌, inl, inr, refl, sym, ◌∙◌, ap, subst, arith}
+use Rattle.std.proofs.Common.{◌≡◌, ℕ, ◌%◌, ◌^◌, ◌<◌, ◌≤◌, ◌==◌, ◌&&◌, ◌||◌, Bool, true, false, List, [], ◌∷◌, drop, length, Option, Some, None, if◌then◌else◌, ◌⊎◌, inl, inr, refl, sym, ◌∙◌, ap, subst, arith}
 use Rattle.std.proofs.lemmas.Bool.Decides.{nat_tests}
-use Rattle.world_face.specs.Journal.{Entry, LinkRead, LinkWrite, Connect, Accept, UdpOpen, UdpSend, UdpRecv, call_of}
-use Rattle.world_face.specs.Frames.{goes_out, opens, begun_by, tail}
+use Rattle.world_face.specs.Journal.{Entry, LinkRead, LinkWrite, UdpOpen, UdpSend, UdpRecv, call_of}
+use Rattle.world_face.specs.Frames.{goes_out, opens, tail}
 use Rattle.world_face.specs.declared.Io.{Io}
 use Rattle.world_face.specs.declared.Io.TheVariants.{Done as IoDone, End, NotYet as IoNotYet, Failed as IoFailed}
 use Rattle.world_face.specs.declared.Made.{Made}
@@ -12,29 +12,27 @@ use Rattle.world_face.specs.declared.Sent.TheVariants.{Done as SentDone, NotYet 
 use Rattle.world_face.specs.declared.Got.{Got}
 use Rattle.world_face.specs.declared.Got.TheVariants.{From, NotYet as GotNotYet, Failed as GotFailed}
 use Rattle.net_octets.specs.declared.Endpoint.{Endpoint}
-use Rattle.host_policy.specs.Addresses.{Config, is_ours}
-use Rattle.host_policy.specs.Targets.{is_hidden}
-use Rattle.arp_table.specs.Arp.{Arp}
+use Rattle.host_policy.specs.Addresses.{Config}
 use Rattle.ipv4_head.specs.Ip.{Ip}
 use Rattle.icmp_echo.specs.Icmp.{Icmp, echo, unreachable, other}
-use Rattle.udp_assoc.specs.Associations.{is_numbered, numbered, numbers}
+use Rattle.udp_assoc.specs.Associations.{numbered, numbers}
 use Rattle.udp_assoc.specs.declared.assocs.Association.{Association}
-use Rattle.run_laws.specs.Happenings.{Arrival, Happening, happens, datagram_came}
+use Rattle.run_laws.specs.Happenings.{Arrival, happens, datagram_came}
 use Rattle.run_laws.specs.Moments.{moment, waits}
 use Rattle.run_laws.specs.Packets.{Datagram, Packet, Unheard, ArpPacket, Message, DatagramPacket, Segment}
-use Rattle.run_laws.specs.Shape.{is_working, phase}
-use Rattle.run_laws.specs.Sockets.{is_among, next_number, open_sockets}
-use Rattle.slirp_laws.specs.Answers.{Answer, datagrams_out, with_datagrams, frame_of, frames_of, identification, is_beside, is_first, is_explained, is_out, is_untold, left, left_after, most_payload, no_network, owed_for_arp, owed_for_fate, owed_for_icmp, owed_for_message, owed_for_packet, owed_for_peer, reply, taken, told_about, unsent}
+use Rattle.run_laws.specs.Shape.{phase}
+use Rattle.run_laws.specs.Sockets.{is_among, next_number}
+use Rattle.slirp_laws.specs.Answers.{Answer, datagrams_out, with_datagrams, frame_of, frames_of, identification, is_first, is_out, is_untold, left, left_after, no_network, owed_for_fate, owed_for_icmp, owed_for_packet, owed_for_peer, reply, taken, told_about, unsent}
 use Rattle.slirp_laws.specs.Datagrams.{Errand, Fate, Ignored, Refused, GoesTo, fate, Step, Settled, NeedsRoom, NeedsSocket, NeedsSending, Relay, relay, relay_after, after_call}
 use Rattle.slirp_laws.specs.Laws.{May, Lawful, carries, may_begin}
 use Rattle.slirp_laws.specs.Ports.{last_datagram, last_mac, last_port, mac_of, opened_for, or_before}
-use Rattle.slirp_laws.specs.Said.{AnswersLast, Occasion, NoOccasion, Came, Heard, Unsent, last_occasion, occasion_after, owed_for, reply_at, reply_for, unsent_or}
-use Rattle.slirp_laws.proofs.Bools.{equal, equal_octets, first_of, same, turned}
+use Rattle.slirp_laws.specs.Said.{AnswersLast, Occasion, NoOccasion, Came, Heard, Unsent, last_occasion, occasion_after, owed_for, reply_for, unsent_or}
+use Rattle.slirp_laws.proofs.Bools.{equal, equal_octets, first_of, turned}
 use Rattle.slirp_laws.proofs.Joining.{joined, settled_early}
 use Rattle.slirp_laws.proofs.OpenSockets.{open_below, hears_on_open}
 use Rattle.slirp_laws.proofs.Phases.{asks_after_waits, comes_working, has_waited, hears_settled, more_waits, opens as opened_where, sends, working_waited}
 use Rattle.slirp_laws.proofs.Steps.{Asks, OfStep, by_call, step_asks}
-use Rattle.slirp_laws.proofs.Uses.{AreKept, Kept, drawn_on}
+use Rattle.slirp_laws.proofs.Uses.{AreKept, drawn_on}
 
 -- ---- one answer at most
 
@@ -163,7 +161,7 @@ unchanged config e past may is = record {
 
 by_read : (config : Config) (asked : ℕ) (answer : Io) (octets : List ℕ) (past : List Entry) (o : Option Arrival) → May config past (call_of (LinkRead asked answer octets)) → OwingAt config past
     → Owing config (LinkRead asked answer octets ∷ past) (left_after config past (happens config past (LinkRead asked answer octets)) o (left config past)) (identification past)
-        (occasion_after (LinkRead asked answer octets) o (last_datagram config past) (last_occasion config past)) (relay_after config (LinkRead asked answer octets) o (moment past) (relay config past)).step
+    (occasion_after (LinkRead asked answer octets) o (last_datagram config past) (last_occasion config past)) (relay_after config (LinkRead asked answer octets) o (moment past) (relay config past)).step
 by_read config asked answer octets past None may is = unchanged config (LinkRead asked answer octets) past may is
 by_read config asked answer octets past (Some arrival) may is = record { owed = inr refl; heard = tt }
 
@@ -193,7 +191,7 @@ by_write : (config : Config) (past : List Entry) (octets : List ℕ) (answer : I
 by_write config past octets answer (x ∷ rest) clear may is = (unchanged config (LinkWrite octets answer) past may is).owed
 by_write config past octets (IoDone n) [] clear may is =
     inl (ap (λ (b : Bool). if b then drop 1 (left config past) else left config past) (first_left config past octets clear may.answered)
-        ∙ nothing_more config past (left config past) (identification past) (last_occasion config past) is.owed)
+    ∙ nothing_more config past (left config past) (identification past) (last_occasion config past) is.owed)
 by_write config past octets End [] clear may is = (unchanged config (LinkWrite octets End) past may is).owed
 by_write config past octets IoNotYet [] clear may is = (unchanged config (LinkWrite octets IoNotYet) past may is).owed
 by_write config past octets IoFailed [] clear may is = (unchanged config (LinkWrite octets IoFailed) past may is).owed
@@ -226,7 +224,7 @@ by_open config past socket at MadeFailed may lawful is = record {
     asks errand is = subst (OfStep (Asks config (last_datagram config past))) is (step_asks config past)
 
     none_yet : waits past ≡ 0 → last_datagram config past ≡ None
-    none_yet early = elim (came_after_waits config past lawful) [ | inl none ↦ none | inr waited ↦ absurd (omega (arith, early, waited)) ]
+    none_yet early = elim (came_after_waits config past lawful) [ inl none ↦ none | inr waited ↦ absurd (omega (arith, early, waited)) ]
 
     before : waits past ≡ 0 → IsOwed config (UdpOpen socket at MadeFailed ∷ past) (unsent config (identification past) (relay config past).step (left config past)) (identification past) (unsent_or (last_datagram config past) (last_occasion config past))
     before early =

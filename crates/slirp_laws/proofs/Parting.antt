@@ -1,24 +1,23 @@
 -- Why a socket is closed before the end.
-use Rattle.std.proofs.Common.{◌≡◌, ℕ, ◌+◌, ◌<◌, ◌≤◌, ◌==◌, ◌&&◌, ◌||◌, not, nat_le, Bool, true, false, List, [], ◌∷◌, ◌++◌, length, filter, Option, Some, None, if◌then◌else◌, ◌⊎◌, inl, inr, refl, sym, ◌∙◌, ap, subst, arith}
+use Rattle.std.proofs.Common.{◌≡◌, ℕ, ◌+◌, ◌<◌, ◌≤◌, ◌==◌, ◌&&◌, ◌||◌, not, nat_le, Bool, true, false, List, [], ◌∷◌, length, filter, Option, Some, None, if◌then◌else◌, ◌⊎◌, inl, inr, refl, sym, ◌∙◌, ap, subst, arith}
 use Rattle.std.proofs.lemmas.Bool.Decides.{nat_tests}
-use Rattle.std.specs.List.{list_any}
 use Rattle.world_face.specs.Journal.{Entry, Close, Now, Wait, Listen, UdpOpen, CallClose, call_of}
 use Rattle.world_face.specs.Frames.{Ending, ending, partial}
 use Rattle.world_face.specs.declared.Made.{Made}
 use Rattle.world_face.specs.declared.Made.TheVariants.{Done, Failed}
 use Rattle.host_policy.specs.Addresses.{Config}
-use Rattle.udp_assoc.specs.Associations.{idle_life, is_idle, is_numbered, is_over as has_outlived, most_associations, numbers}
+use Rattle.udp_assoc.specs.Associations.{idle_life, is_idle, is_over as has_outlived, numbers}
 use Rattle.udp_assoc.specs.declared.assocs.Association.{Association}
 use Rattle.run_laws.specs.Moments.{moment, waits}
-use Rattle.run_laws.specs.Shape.{Cause, Phase, Opening, Started, Woken, Working, Over, phase, phase_by, phase_after, opened, unless_over, may_turn, is_over, is_ended}
+use Rattle.run_laws.specs.Shape.{Cause, Phase, Opening, Started, Woken, Working, Over, phase, phase_by, phase_after, opened, may_turn, is_over, is_ended}
 use Rattle.run_laws.specs.Sockets.{Kind, Association as OfAssociation, DnsSocket, Forward as OfForward, Listener, Flow, is_among, is_association, kind_of, open_sockets}
 use Rattle.slirp_laws.specs.Datagrams.{Step, Settled, NeedsRoom, NeedsSocket, NeedsSending, relay}
-use Rattle.slirp_laws.specs.Laws.{May, Lawful, begins_closing, carries, gives_way, is_closing, is_least, may_part, parts}
+use Rattle.slirp_laws.specs.Laws.{May, Lawful, begins_closing, gives_way, is_closing, is_least, may_part, parts}
 use Rattle.slirp_laws.specs.Ports.{associations_open, last_use, used_at}
 use Rattle.slirp_laws.specs.Said.{IsIdle, IsLongestUnused}
 use Rattle.slirp_laws.proofs.Bools.{equal, first_of, second_of, or_second, same, turned, among_without}
-use Rattle.slirp_laws.proofs.Joining.{IsFull, Joined, StepJoins, joined}
-use Rattle.slirp_laws.proofs.Uses.{AreKept, BeforeAll, InOrder, Kept}
+use Rattle.slirp_laws.proofs.Joining.{Joined, joined}
+use Rattle.slirp_laws.proofs.Uses.{AreKept, BeforeAll, InOrder}
 
 -- ---- the end stays
 
@@ -97,7 +96,7 @@ idle_is config past n now (a ∷ list) kept is = by (a.number == n) (has_outlive
 
 -- ---- the longest unused
 
-all_after : (past : List Entry) (a : Association) (list : List Association) (n : ℕ) → BeforeAll past a list → is_among n (numbers list) ≡ true → last_use a.number past < last_use n past
+pub all_after : (past : List Entry) (a : Association) (list : List Association) (n : ℕ) → BeforeAll past a list → is_among n (numbers list) ≡ true → last_use a.number past < last_use n past
 all_after past a [] n is among = cc
 all_after past a (b ∷ list) n is among = by (n == b.number) refl (λ more. all_after past a list n is.1 more) among
   where

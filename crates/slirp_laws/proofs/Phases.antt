@@ -1,7 +1,7 @@
 -- Where a run stands, and which calls are due there.
-use Rattle.std.proofs.Common.{◌≡◌, ℕ, ◌+◌, ◌<◌, Bool, true, false, List, [], ◌∷◌, is_some, MatchOption, Option, Some, None, option_map, ◌⊎◌, inl, inr, refl, sym, ◌∙◌, ap, subst, arith}
-use Rattle.world_face.specs.Journal.{Entry, Call, Now, Wait, LinkRead, Connect, Accept, Listen, Close, UdpOpen, UdpSend, UdpRecv, CallClose, CallListen, CallUdpOpen, CallUdpSend, CallUdpRecv, call_of}
-use Rattle.world_face.specs.Frames.{Ending, ending, partial, arrives}
+use Rattle.std.proofs.Common.{◌≡◌, ℕ, ◌<◌, true, List, [], ◌∷◌, is_some, MatchOption, Option, Some, None, option_map, ◌⊎◌, inl, inr, refl, sym, ap, arith}
+use Rattle.world_face.specs.Journal.{Entry, Call, Now, Wait, LinkRead, Listen, UdpOpen, CallClose, CallListen, CallUdpOpen, CallUdpSend, CallUdpRecv, call_of}
+use Rattle.world_face.specs.Frames.{Ending, ending, partial}
 use Rattle.world_face.specs.declared.Made.{Made}
 use Rattle.world_face.specs.declared.Made.TheVariants.{Done, Failed}
 use Rattle.net_octets.specs.declared.Endpoint.{Endpoint}
@@ -15,7 +15,7 @@ use Rattle.run_laws.specs.Moments.{moment, waits}
 use Rattle.run_laws.specs.Shape.{Phase, Opening, Started, Woken, Working, Over, phase, phase_by, phase_after, opened, clocked, unless_over, due_in, opening_of, is_working}
 use Rattle.run_laws.specs.Sockets.{first, next_number, open_sockets}
 use Rattle.slirp_laws.specs.Datagrams.{Errand, Step, Settled, NeedsRoom, NeedsSocket, NeedsSending, Relay, relay, relay_after, errand_by_packet, due_for}
-use Rattle.slirp_laws.specs.Laws.{May, MayDue, Lawful, due, unless_due}
+use Rattle.slirp_laws.specs.Laws.{May, Lawful, due, unless_due}
 use Rattle.slirp_laws.proofs.Steps.{OfStep, of_step, by_call, of_errand}
 
 -- ---- waits

@@ -1,5 +1,5 @@
 -- Where sockets are opened, and where datagrams go.
-use Rattle.std.proofs.Common.{◌≡◌, ℕ, ◌<◌, List, [], ◌∷◌, Some, inl, inr, refl, sym, ◌∙◌, ap, subst, arith}
+use Rattle.std.proofs.Common.{◌≡◌, ℕ, ◌<◌, List, [], Some, inl, inr, sym, ◌∙◌, ap, subst, arith}
 use Rattle.world_face.specs.Journal.{Entry, CallUdpOpen, CallUdpSend}
 use Rattle.net_octets.specs.declared.Endpoint.{Endpoint}
 use Rattle.host_policy.specs.declared.Proto.TheVariants.{Udp as ByUdp}
@@ -10,7 +10,7 @@ use Rattle.run_laws.specs.Moments.{waits}
 use Rattle.run_laws.specs.Packets.{Datagram}
 use Rattle.slirp_laws.specs.Datagrams.{relay}
 use Rattle.slirp_laws.specs.Laws.{May, Lawful}
-use Rattle.slirp_laws.specs.Ports.{last_datagram, opened_for}
+use Rattle.slirp_laws.specs.Ports.{last_datagram}
 use Rattle.slirp_laws.specs.Said.{SendsWhatCame}
 use Rattle.slirp_laws.proofs.Joining.{StepJoins, joined}
 use Rattle.slirp_laws.proofs.Phases.{opens, opens_none, sends}

@@ -1,9 +1,9 @@
 -- Our frames, as they are read.
-use Rattle.std.proofs.Common.{◌≡◌, ℕ, ◌+◌, ◌-◌, ◌/◌, ◌%◌, ◌^◌, ◌<◌, ◌≤◌, ◌==◌, ◌&&◌, ◌||◌, not, nat_le, Bool, true, false, List, [], ◌∷◌, ◌++◌, length, take, drop, Option, Some, None, option_map, option_and_then, if◌then◌else◌, inl, inr, refl, sym, ◌∙◌, ap, subst, arith, lit<}
+use Rattle.std.proofs.Common.{◌≡◌, ℕ, ◌-◌, ◌/◌, ◌%◌, ◌^◌, ◌<◌, ◌≤◌, ◌==◌, ◌&&◌, ◌||◌, not, nat_le, Bool, true, false, List, [], ◌∷◌, length, take, drop, Option, Some, None, option_map, option_and_then, if◌then◌else◌, inl, inr, refl, sym, ◌∙◌, ap, subst, arith, lit<}
 use Rattle.std.proofs.lemmas.Bool.Decides.{nat_tests}
 use Rattle.std.proofs.lemmas.Nat.{from_be_bytes-to_be_bytes_2}
 use Rattle.std.proofs.lemmas.Option.{cond_some}
-use Rattle.world_face.specs.Journal.{Entry, UdpOpen, UdpSend, UdpRecv, call_of}
+use Rattle.world_face.specs.Journal.{Entry, UdpOpen, UdpSend, UdpRecv}
 use Rattle.world_face.specs.declared.Made.{Made}
 use Rattle.world_face.specs.declared.Made.TheVariants.{Done as MadeDone, Failed as MadeFailed}
 use Rattle.world_face.specs.declared.Sent.{Sent}
@@ -13,25 +13,24 @@ use Rattle.world_face.specs.declared.Got.TheVariants.{From, NotYet as GotNotYet,
 use Rattle.world_face.specs.Frames.{arrives, goes_out}
 use Rattle.net_octets.specs.declared.Endpoint.{Endpoint}
 use Rattle.net_octets.specs.Kinds.{arp_kind, ipv4_kind, icmp_proto, udp_proto, tcp_proto}
-use Rattle.net_octets.specs.Octets.{one_at, two_at, four_at, part, two, four}
+use Rattle.net_octets.specs.Octets.{one_at, two_at, four_at, part}
 use Rattle.net_octets.proofs.Parts.{length-part}
-use Rattle.net_octets.proofs.Six.{Six, six}
-use Rattle.host_policy.specs.Addresses.{Config, address, is_guest, is_ours}
-use Rattle.host_policy.specs.Targets.{is_hidden, shown}
+use Rattle.host_policy.specs.Addresses.{Config, is_guest, is_ours}
+use Rattle.host_policy.specs.Targets.{is_hidden}
 use Rattle.ether_frame.specs.Ether.{Ether, read_ether, ether_octets}
 use Rattle.ether_frame.proofs.Spelling.{reads as reads_frame}
 use Rattle.arp_table.specs.Arp.{Arp, read_arp, is_arp, arp_octets}
 use Rattle.ipv4_head.specs.Ip.{Ip, read_ip, is_ip, ip_octets, head_length, is_unbroken}
 use Rattle.icmp_echo.specs.Icmp.{Icmp, echo, unreachable, other as another, read_icmp}
-use Rattle.udp_assoc.specs.Udp.{Udp, read_udp, udp_octets}
+use Rattle.udp_assoc.specs.Udp.{Udp, read_udp}
 use Rattle.tcp_segment.specs.Tcp.{Tcp, read_tcp}
-use Rattle.run_laws.specs.Happenings.{Arrival, arrival_of, happens, datagram_by, datagram_came}
+use Rattle.run_laws.specs.Happenings.{arrival_of, datagram_by, datagram_came}
 use Rattle.run_laws.specs.Packets.{Datagram, Packet, Unheard, ArpPacket, Message, DatagramPacket, Segment, datagram_in, datagram_of, may_come, packet_in, packet_of, packet_of_ip, unless_unheard, whole_packet}
-use Rattle.slirp_laws.specs.Answers.{Answer, ArpAnswer, IpAnswer, arp_reply, begins_datagram, datagrams_in, datagrams_out, with_datagrams, frame_of, frames_of, identification, is_untold, left, most_payload, no_network, our_mac, owed_for_arp, owed_for_fate, owed_for_icmp, owed_for_message, owed_for_packet, told_about}
+use Rattle.slirp_laws.specs.Answers.{Answer, ArpAnswer, IpAnswer, arp_reply, frame_of, frames_of, identification, is_untold, left, most_payload, no_network, our_mac, owed_for_fate, owed_for_icmp, owed_for_packet, told_about}
 use Rattle.slirp_laws.specs.Datagrams.{Fate, Ignored, Refused, GoesTo, fate}
-use Rattle.slirp_laws.specs.Laws.{May, Lawful}
+use Rattle.slirp_laws.specs.Laws.{Lawful}
 use Rattle.slirp_laws.specs.Ports.{last_datagram, last_mac, mac_by, mac_of, opened_for, or_before}
-use Rattle.slirp_laws.specs.Said.{AnswersLast, Carries, Occasion, NoOccasion, Came, Heard, Unsent, RepliesToItsPort, by_call, by_got, by_made, by_sent, last_occasion, occasion_after, owed_for, reply_at, reply_for, unsent_or}
+use Rattle.slirp_laws.specs.Said.{Carries, Occasion, NoOccasion, Came, Heard, Unsent, by_call, by_got, by_made, by_sent, last_occasion, occasion_after, owed_for, reply_for, unsent_or}
 use Rattle.slirp_laws.proofs.Bools.{first_of}
 use Rattle.slirp_laws.proofs.Owing.{answers_last, owing}
 

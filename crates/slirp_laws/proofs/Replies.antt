@@ -3,7 +3,7 @@ use Rattle.std.proofs.Common.{◌≡◌, ℕ, ◌||◌, not, nat_le, Bool, true,
 use Rattle.world_face.specs.Journal.{Entry}
 use Rattle.world_face.specs.Frames.{goes_out}
 use Rattle.net_octets.specs.declared.Endpoint.{Endpoint}
-use Rattle.net_octets.specs.Kinds.{icmp_proto, udp_proto}
+use Rattle.net_octets.specs.Kinds.{udp_proto}
 use Rattle.host_policy.specs.Addresses.{Config, address}
 use Rattle.host_policy.specs.Targets.{is_hidden, shown}
 use Rattle.ipv4_head.specs.Ip.{Ip}
@@ -11,7 +11,7 @@ use Rattle.udp_assoc.specs.Udp.{udp_octets}
 use Rattle.slirp_laws.specs.Answers.{Answer, ArpAnswer, IpAnswer, frame_of, identification, most_payload, no_network, owed_for_packet, told_about}
 use Rattle.slirp_laws.specs.Laws.{Lawful}
 use Rattle.slirp_laws.specs.Ports.{mac_of, opened_for}
-use Rattle.slirp_laws.specs.Said.{Carries, Occasion, NoOccasion, Came, Heard, Unsent, RepliesToItsPort, last_occasion, owed_for, reply_at, reply_for}
+use Rattle.slirp_laws.specs.Said.{Carries, Occasion, NoOccasion, Came, Heard, Unsent, RepliesToItsPort, last_occasion, owed_for, reply_for}
 use Rattle.slirp_laws.proofs.Owing.{answers_last}
 use Rattle.slirp_laws.proofs.Reading.{AllAnswers, IsOurs, SixAnswer, SixOccasion, ident_fits, no_arp, ours_packet, ours_told, out_six, reads_answer, six_occasion}
 

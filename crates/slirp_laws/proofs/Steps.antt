@@ -1,31 +1,23 @@
 -- What the datagram that came last asks for, by the record.
-use Rattle.std.proofs.Common.{◌≡◌, ℕ, ◌==◌, ◌&&◌, ◌||◌, nat_le, nat_lt, ◌<◌, ◌+◌, Bool, true, false, List, [], ◌∷◌, length, is_some, MatchOption, Option, Some, None, option_map, if◌then◌else◌, refl, sym, ◌∙◌, ap, subst, arith}
-use Rattle.std.proofs.lemmas.Bool.Decides.{nat_tests}
-use Rattle.world_face.specs.Journal.{Entry, Call, Now, Wait, LinkRead, Listen, Close, UdpOpen, UdpSend, UdpRecv, CallClose, CallListen, CallUdpOpen, CallUdpSend, CallUdpRecv, call_of}
-use Rattle.world_face.specs.Frames.{Ending, ending, partial, arrives}
+use Rattle.std.proofs.Common.{◌≡◌, ℕ, ◌==◌, ◌&&◌, ◌||◌, nat_le, Bool, true, false, List, [], ◌∷◌, length, Option, Some, None, if◌then◌else◌, refl, sym, subst}
+use Rattle.world_face.specs.Journal.{Entry, Close, UdpOpen, UdpSend, UdpRecv}
 use Rattle.world_face.specs.declared.Made.{Made}
 use Rattle.world_face.specs.declared.Made.TheVariants.{Done, Failed}
 use Rattle.world_face.specs.declared.Got.{Got}
 use Rattle.world_face.specs.declared.Got.TheVariants.{From, NotYet as GotNotYet, Failed as GotFailed}
 use Rattle.net_octets.specs.declared.Endpoint.{Endpoint}
-use Rattle.host_policy.specs.declared.Forward.{Forward}
-use Rattle.host_policy.specs.declared.Proto.{Proto}
-use Rattle.host_policy.specs.declared.Proto.TheVariants.{Tcp, Udp as ByUdp}
+use Rattle.host_policy.specs.declared.Proto.TheVariants.{Udp as ByUdp}
 use Rattle.host_policy.specs.declared.Verdict.{Verdict}
 use Rattle.host_policy.specs.declared.Verdict.TheVariants.{Go, Denied}
 use Rattle.host_policy.specs.Addresses.{Config, address}
-use Rattle.host_policy.specs.Targets.{anywhere, target}
+use Rattle.host_policy.specs.Targets.{target}
 use Rattle.udp_assoc.specs.Associations.{most_associations, socket_of}
 use Rattle.udp_assoc.specs.declared.assocs.Association.{Association}
-use Rattle.run_laws.specs.Happenings.{Arrival, arrival_of, happens, datagram_by, datagram_came}
-use Rattle.run_laws.specs.Moments.{moment, waits}
+use Rattle.run_laws.specs.Happenings.{Arrival, happens, datagram_by, datagram_came}
+use Rattle.run_laws.specs.Moments.{moment}
 use Rattle.run_laws.specs.Packets.{Packet, Unheard, ArpPacket, Message, DatagramPacket, Segment, Datagram}
-use Rattle.run_laws.specs.Shape.{Phase, Opening, Started, Woken, Working, Over, phase, phase_by, phase_after, opened, clocked, unless_over, due_in, opening_of, is_working, may_turn}
-use Rattle.run_laws.specs.Sockets.{first, next_number, open_sockets}
-use Rattle.slirp_laws.specs.Datagrams.{Fate, Ignored, Refused, GoesTo, fate, fate_by, Errand, errand_of, errand_by, errand_by_packet, Step, Settled, NeedsRoom, NeedsSocket, NeedsSending, Relay, relay, relay_after, asked, step_for, with_socket, without_socket, after_call, after_close, after_open, after_send, after_got, due_for}
-use Rattle.slirp_laws.specs.Laws.{May, MayDue, Lawful, due, unless_due, has_place, deed_of}
+use Rattle.slirp_laws.specs.Datagrams.{Fate, Ignored, Refused, GoesTo, fate, fate_by, Errand, errand_of, errand_by, errand_by_packet, Step, Settled, NeedsRoom, NeedsSocket, NeedsSending, Relay, relay, relay_after, asked, step_for, with_socket, without_socket, after_call, after_close, after_open, after_send, after_got}
 use Rattle.slirp_laws.specs.Ports.{or_before, last_datagram}
-use Rattle.slirp_laws.proofs.Bools.{first_of}
 
 -- ---- an errand is that of the datagram that came last
 

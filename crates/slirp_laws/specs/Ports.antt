@@ -6,7 +6,7 @@ use Rattle.world_face.specs.declared.Got.TheVariants.{From, NotYet as GotNotYet,
 use Rattle.net_octets.specs.declared.Endpoint.{Endpoint}
 use Rattle.host_policy.specs.Addresses.{Config}
 use Rattle.host_policy.specs.Targets.{same_endpoint}
-use Rattle.run_laws.specs.Happenings.{Arrival, Happening, happens, datagram_came}
+use Rattle.run_laws.specs.Happenings.{happens, datagram_came}
 use Rattle.run_laws.specs.Moments.{moment}
 use Rattle.run_laws.specs.Packets.{Datagram}
 use Rattle.run_laws.specs.Sockets.{is_association, kind_of, open_sockets}

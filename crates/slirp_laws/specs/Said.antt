@@ -1,5 +1,5 @@
 -- What the laws come to, in the words of guests, their ports and their datagrams.
-use Rattle.std.specs.Prelude.{◌≡◌, ℕ, ◌+◌, ◌≤◌, ◌||◌, not, nat_le, true, false, List, [], ◌∷◌, length, Option, Some, None, if◌then◌else◌}
+use Rattle.std.specs.Prelude.{◌≡◌, ℕ, ◌+◌, ◌<◌, ◌≤◌, ◌||◌, not, nat_le, true, false, List, [], ◌∷◌, length, Option, Some, None, if◌then◌else◌}
 use Rattle.world_face.specs.Journal.{Entry, UdpOpen, UdpSend, UdpRecv}
 use Rattle.world_face.specs.declared.Made.{Made}
 use Rattle.world_face.specs.declared.Made.TheVariants.{Done as MadeDone, Failed as MadeFailed}
@@ -16,6 +16,7 @@ use Rattle.host_policy.specs.Targets.{is_hidden, shown, target}
 use Rattle.ether_frame.specs.Ether.{Ether, read_ether}
 use Rattle.ipv4_head.specs.Ip.{Ip, read_ip}
 use Rattle.udp_assoc.specs.Associations.{idle_life, most_associations}
+use Rattle.udp_assoc.specs.declared.assocs.Association.{Association}
 use Rattle.udp_assoc.specs.Udp.{udp_octets}
 use Rattle.run_laws.specs.Happenings.{Arrival, happens}
 use Rattle.run_laws.specs.Moments.{moment}
@@ -125,3 +126,18 @@ pub record RepliesToItsPort (config : Config) (past : List Entry) (frame : List 
   pub at : mac_of config socket past ≡ Some mac
   pub is : frame ≡ frame_of config (identification past) (IpAnswer mac udp_proto (address (shown config peer)) (address guest)
       (udp_octets (address (shown config peer)) (address guest) (record { from_port = (shown config peer).port; to_port = guest.port; body = octets })))
+
+-- what an association of the list in the order of use has of its socket is what the record says
+pub record SaysOf (config : Config) (past : List Entry) (n : ℕ) (a : Association) : Type 0 where
+  pub guest : opened_for config n past ≡ Some a.guest
+  pub mac : mac_of config n past ≡ Some a.mac.0
+  pub used : used_at n past ≡ a.used
+
+-- sockets by rising last use
+abbrev pub AllUsedAfter : List Entry → ℕ → List ℕ → Type 0
+AllUsedAfter past socket [] = Unit {0}
+AllUsedAfter past socket (other ∷ sockets) = (last_use socket past < last_use other past) × AllUsedAfter past socket sockets
+
+abbrev pub AreByLastUse : List Entry → List ℕ → Type 0
+AreByLastUse past [] = Unit {0}
+AreByLastUse past (socket ∷ sockets) = AllUsedAfter past socket sockets × AreByLastUse past sockets
