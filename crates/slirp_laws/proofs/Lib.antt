@@ -8,6 +8,8 @@ pub mod Owing
 pub mod Parting
 pub mod Phases
 pub mod Policy
+pub mod Ranges
+pub mod ReadBack
 pub mod Reading
 pub mod Replies
 pub mod Rows

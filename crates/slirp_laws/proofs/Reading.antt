@@ -130,7 +130,7 @@ six_mac_by n (UdpOpen s at answer) one before is was = six_either (s == n) one b
 six_mac_by n (UdpSend s to octets answer) one before is was = six_either (s == n) one before is was
 six_mac_by n _ one before is was = was
 
-six_mac : (config : Config) (n : ℕ) (past : List Entry) → SixMac (mac_of config n past)
+pub six_mac : (config : Config) (n : ℕ) (past : List Entry) → SixMac (mac_of config n past)
 six_mac config n [] = tt
 six_mac config n (e ∷ past) = six_mac_by n e (last_mac config past) (mac_of config n past) (six_mac_of (last_datagram config past) (six_last config past)) (six_mac config n past)
 
@@ -272,6 +272,13 @@ reads_answer config ident to proto from guest body ip fits to_six c =
     let ours = framed_ip to (our_mac config.vhost) (ip_octets ident 0 proto from guest body) ipv4_kind to_six (our_six config.vhost) (lit< tt) in
     let same = same_frame (read_ether (frame_of config ident (IpAnswer to proto from guest body))) c.ether (record { to = to; from = our_mac config.vhost; kind = ipv4_kind; body = ip_octets ident 0 proto from guest body }) c.framed ours in
     reads_ip ident proto from guest body ip fits (ap (λ (e : Ether). read_ip e.body) (sym same) ∙ c.holds)
+
+-- what the frame of a datagram holds
+pub carried_ip : (config : Config) (ident : ℕ) (to : List ℕ) (proto from guest : ℕ) (body : List ℕ) (ip : Ip) → length to ≡ 6 → Carries (frame_of config ident (IpAnswer to proto from guest body)) ip → read_ip (ip_octets ident 0 proto from guest body) ≡ Some ip
+carried_ip config ident to proto from guest body ip to_six c =
+    let ours = framed_ip to (our_mac config.vhost) (ip_octets ident 0 proto from guest body) ipv4_kind to_six (our_six config.vhost) (lit< tt) in
+    let same = same_frame (read_ether (frame_of config ident (IpAnswer to proto from guest body))) c.ether (record { to = to; from = our_mac config.vhost; kind = ipv4_kind; body = ip_octets ident 0 proto from guest body }) c.framed ours in
+    ap (λ (e : Ether). read_ip e.body) (sym same) ∙ c.holds
 
 pub no_arp : (config : Config) (ident : ℕ) (to : List ℕ) (arp : Arp) (ip : Ip) → length to ≡ 6 → length arp.sender_mac ≡ 6 → Carries (frame_of config ident (ArpAnswer to arp)) ip → ⊥
 no_arp config ident to arp ip to_six from_six c =

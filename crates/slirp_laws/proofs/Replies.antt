@@ -1,5 +1,6 @@
 -- A frame that carries a datagram of UDP is a reply to what a peer sent.
-use Rattle.std.proofs.Common.{◌≡◌, ℕ, ◌||◌, not, nat_le, Bool, true, false, List, [], ◌∷◌, length, Option, Some, None, if◌then◌else◌, refl, sym, ◌∙◌, ap, subst, arith}
+use Rattle.std.proofs.Common.{◌≡◌, ℕ, ◌≤◌, ◌||◌, not, nat_le, Bool, true, false, List, [], ◌∷◌, length, Option, Some, None, if◌then◌else◌, refl, sym, ◌∙◌, ap, subst, arith}
+use Rattle.std.proofs.lemmas.Bool.Decides.{nat_tests}
 use Rattle.world_face.specs.Journal.{Entry}
 use Rattle.world_face.specs.Frames.{goes_out}
 use Rattle.net_octets.specs.declared.Endpoint.{Endpoint}
@@ -30,6 +31,14 @@ or_first : (a b : Bool) → (a || b) ≡ false → a ≡ false
 or_first true b is = cc
 or_first false b is = refl
 
+fits_frame : (b : Bool) (n m : ℕ) → (b || not (nat_le n m)) ≡ false → n ≤ m
+fits_frame true n m is = cc
+fits_frame false n m is = by (nat_le n m) refl is
+  where
+    by : (t : Bool) → nat_le n m ≡ t → not t ≡ false → n ≤ m
+    by true less is = grind (arith, nat_tests, less)
+    by false more is = cc
+
 module _ (config : Config) (past : List Entry) (frame : List ℕ) (a : Answer) (frame_is : frame ≡ frame_of config (identification past) a) where
   replied : (socket : ℕ) (peer : Endpoint) (octets : List ℕ) (guest : Endpoint) (mac : List ℕ) (b : Bool) → (is_hidden config peer || not (nat_le (length octets) most_payload)) ≡ b
       → last_occasion config past ≡ Heard socket peer octets → opened_for config socket past ≡ Some guest → mac_of config socket past ≡ Some mac
@@ -42,6 +51,7 @@ module _ (config : Config) (past : List Entry) (frame : List ℕ) (a : Answer) (
     octets = octets;
     last = last;
     seen = or_first (is_hidden config peer) (not (nat_le (length octets) most_payload)) hides;
+    fits = fits_frame (is_hidden config peer) (length octets) most_payload hides;
     guest = guest;
     port = port;
     mac = mac;

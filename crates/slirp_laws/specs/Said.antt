@@ -11,13 +11,13 @@ use Rattle.net_octets.specs.declared.Endpoint.{Endpoint}
 use Rattle.net_octets.specs.Kinds.{ipv4_kind, udp_proto}
 use Rattle.host_policy.specs.declared.Proto.TheVariants.{Udp as ByUdp}
 use Rattle.host_policy.specs.declared.Verdict.TheVariants.{Go}
-use Rattle.host_policy.specs.Addresses.{Config, address}
+use Rattle.host_policy.specs.Addresses.{Config, address, endpoint}
 use Rattle.host_policy.specs.Targets.{is_hidden, shown, target}
 use Rattle.ether_frame.specs.Ether.{Ether, read_ether}
 use Rattle.ipv4_head.specs.Ip.{Ip, read_ip}
 use Rattle.udp_assoc.specs.Associations.{idle_life, most_associations}
 use Rattle.udp_assoc.specs.declared.assocs.Association.{Association}
-use Rattle.udp_assoc.specs.Udp.{udp_octets}
+use Rattle.udp_assoc.specs.Udp.{Udp, udp_octets}
 use Rattle.run_laws.specs.Happenings.{Arrival, happens}
 use Rattle.run_laws.specs.Moments.{moment}
 use Rattle.run_laws.specs.Packets.{Datagram, Packet}
@@ -120,12 +120,22 @@ pub record RepliesToItsPort (config : Config) (past : List Entry) (frame : List 
   pub octets : List ℕ
   pub last : last_occasion config past ≡ Heard socket peer octets
   pub seen : is_hidden config peer ≡ false
+  pub fits : length octets ≤ most_payload
   pub guest : Endpoint
   pub port : opened_for config socket past ≡ Some guest
   pub mac : List ℕ
   pub at : mac_of config socket past ≡ Some mac
   pub is : frame ≡ frame_of config (identification past) (IpAnswer mac udp_proto (address (shown config peer)) (address guest)
       (udp_octets (address (shown config peer)) (address guest) (record { from_port = (shown config peer).port; to_port = guest.port; body = octets })))
+
+-- The same of a frame as it is read: what it carries is what was received last, whole; it goes to the port for which the socket was opened, and from the peer as it is shown.
+pub record IsReplyToItsPort (config : Config) (past : List Entry) (ip : Ip) (udp : Udp) : Type 0 where
+  pub socket : ℕ
+  pub peer : Endpoint
+  pub last : last_occasion config past ≡ Heard socket peer udp.body
+  pub port : opened_for config socket past ≡ Some (endpoint ip.to udp.to_port)
+  pub seen : is_hidden config peer ≡ false
+  pub source : shown config peer ≡ endpoint ip.from udp.from_port
 
 -- what an association of the list in the order of use has of its socket is what the record says
 pub record SaysOf (config : Config) (past : List Entry) (n : ℕ) (a : Association) : Type 0 where
