@@ -1,5 +1,5 @@
 -- What is owed to a guest for the frame or datagram that came last, and what of it isn't out yet.
-use Rattle.std.specs.Prelude.{ℕ, ◌+◌, ◌%◌, ◌^◌, ◌==◌, ◌&&◌, ◌||◌, not, nat_le, Bool, true, false, List, [], ◌∷◌, drop, length, map, bytes_eq, Option, Some, None, if◌then◌else◌}
+use Rattle.std.specs.Prelude.{◌≡◌, ℕ, ◌+◌, ◌%◌, ◌^◌, ◌==◌, ◌&&◌, ◌||◌, not, nat_le, Bool, true, false, List, [], ◌∷◌, drop, length, map, bytes_eq, Option, Some, None, if◌then◌else◌}
 use Rattle.world_face.specs.Frames.{goes_out}
 use Rattle.world_face.specs.Journal.{Entry, LinkWrite, UdpOpen, UdpSend, UdpRecv}
 use Rattle.world_face.specs.declared.Made.{Made}
@@ -11,7 +11,7 @@ use Rattle.world_face.specs.declared.Got.TheVariants.{From, NotYet as GotNotYet,
 use Rattle.net_octets.specs.declared.Endpoint.{Endpoint}
 use Rattle.net_octets.specs.Kinds.{arp_kind, ipv4_kind, icmp_proto, udp_proto}
 use Rattle.net_octets.specs.Octets.{two_at, four}
-use Rattle.host_policy.specs.Addresses.{Config, address, last_address, is_ours}
+use Rattle.host_policy.specs.Addresses.{Config, address, last_address, is_ours, is_guest}
 use Rattle.host_policy.specs.Targets.{is_group_or_reserved, shown, is_hidden}
 use Rattle.ether_frame.specs.Ether.{ether_octets}
 use Rattle.arp_table.specs.Arp.{Arp, arp_octets}

@@ -1,6 +1,6 @@
 -- A test that says of a record whether it is lawful, by computing.
 use Rattle.std.specs.Prelude.{ℕ, ◌==◌, ◌&&◌, not, nat_le, Bool, true, false, List, [], ◌∷◌, drop, length, bytes_eq, Option, Some, None}
-use Rattle.world_face.specs.Journal.{Entry, Call, call_of, CallNow, CallLinkRead, CallLinkWrite, CallListen, CallClose, CallUdpOpen, CallUdpSend}
+use Rattle.world_face.specs.Journal.{Entry, Call, call_of, CallNow, CallWait, CallLinkOpen, CallLinkRead, CallLinkWrite, CallConnect, CallConnected, CallListen, CallAccept, CallTcpRead, CallTcpWrite, CallTcpEnd, CallClose, CallUdpOpen, CallUdpSend, CallUdpRecv, CallFileLen, CallFileRead}
 use Rattle.world_face.specs.Frames.{missing, partial, spelling, tail, is_blocked}
 use Rattle.world_face.specs.Limits.{most_to_link}
 use Rattle.net_octets.specs.declared.Endpoint.{Endpoint}
