@@ -1,0 +1,212 @@
+-- What guests and peers say is in its range where each answer is one that a World may give.
+use Rattle.std.proofs.Common.{◌≡◌, ℕ, ◌-◌, ◌/◌, ◌%◌, ◌^◌, ◌<◌, ◌==◌, nat_le, Bool, true, false, List, [], ◌∷◌, ◌++◌, get_or, length, take, drop, Option, Some, None, option_map, option_and_then, if◌then◌else◌, inl, inr, refl, ap, subst, arith}
+use Rattle.std.proofs.lemmas.Bool.{cases_lt}
+use Rattle.std.proofs.lemmas.List.{get_or_past}
+use Rattle.std.proofs.lemmas.List.Elements.{All-append, All-drop, All-get_or, All-take}
+use Rattle.std.proofs.lemmas.Option.{cond_some}
+use Rattle.world_face.specs.Journal.{Entry, LinkRead, UdpOpen, UdpSend, UdpRecv, AreAllowed, AreOctets, IsEndpoint}
+use Rattle.world_face.specs.Frames.{arrives, is_whole, partial}
+use Rattle.world_face.specs.declared.Made.{Made}
+use Rattle.world_face.specs.declared.Made.TheVariants.{Done as MadeDone, Failed as MadeFailed}
+use Rattle.world_face.specs.declared.Sent.{Sent}
+use Rattle.world_face.specs.declared.Sent.TheVariants.{Done as SentDone, NotYet as SentNotYet, Failed as SentFailed}
+use Rattle.world_face.specs.declared.Got.TheVariants.{From, NotYet as GotNotYet, Failed as GotFailed}
+use Rattle.net_octets.specs.declared.Endpoint.{Endpoint}
+use Rattle.net_octets.specs.Kinds.{arp_kind, ipv4_kind, icmp_proto, udp_proto, tcp_proto}
+use Rattle.net_octets.specs.Octets.{IsOctets, one_at, two_at, four_at, part}
+use Rattle.net_octets.proofs.Parts.{two_at-fits, four_at-fits}
+use Rattle.host_policy.specs.Addresses.{Config, is_guest}
+use Rattle.ether_frame.specs.Ether.{Ether, read_ether}
+use Rattle.arp_table.specs.Arp.{Arp, read_arp}
+use Rattle.ipv4_head.specs.Ip.{Ip, read_ip, is_ip, head_length, is_unbroken}
+use Rattle.icmp_echo.specs.Icmp.{Icmp, read_icmp}
+use Rattle.udp_assoc.specs.Udp.{Udp, is_udp, read_udp}
+use Rattle.tcp_segment.specs.Tcp.{Tcp, read_tcp}
+use Rattle.run_laws.specs.Happenings.{Arrival, arrival_of, happens, datagram_by, datagram_came}
+use Rattle.run_laws.specs.Packets.{Datagram, Packet, Unheard, ArpPacket, Message, DatagramPacket, Segment, datagram_in, datagram_of, may_come, packet_in, packet_of, packet_of_ip, unless_unheard, whole_packet}
+use Rattle.slirp_laws.specs.Ports.{last_datagram, last_port, opened_by, opened_for, or_before}
+use Rattle.slirp_laws.specs.Said.{Occasion, Heard, by_call, by_made, by_sent, last_occasion, occasion_after, unsent_or}
+
+abbrev IsOctet : ℕ → Type 0
+IsOctet octet = octet < 2 ^ 8
+
+in_range : (xs : List ℕ) → AreOctets xs → IsOctets xs
+in_range xs all i = elim (cases_lt i (length xs)) [
+  | inl within ↦ All-get_or IsOctet xs i 0 within all
+  | inr past ↦ (let zero : get_or xs i 0 ≡ 0 = get_or_past xs i 0 past in omega (arith, zero))
+]
+
+no_octets : AreOctets []
+no_octets = λ k d less. absurd (omega (arith, less))
+
+-- ---- frames
+
+unless_whole : (b : Bool) (xs : List ℕ) → AreOctets xs → AreOctets (if b then [] else xs)
+unless_whole true xs is = no_octets
+unless_whole false xs is = is
+
+partial_range : (e : Entry) (past : List Entry) → AreAllowed (e ∷ past) → AreOctets (partial past) → AreOctets (partial (e ∷ past))
+partial_range (LinkRead asked answer octets) past allowed is = unless_whole (is_whole (partial past ++ octets)) (partial past ++ octets) (All-append IsOctet (partial past) octets is allowed.0.1.1)
+partial_range _ past allowed is = is
+
+partial_octets : (past : List Entry) → AreAllowed past → AreOctets (partial past)
+partial_octets [] allowed = no_octets
+partial_octets (e ∷ past) allowed = partial_range e past allowed (partial_octets past allowed.1)
+
+whole_frame : (b : Bool) (xs frame : List ℕ) → AreOctets xs → (if b then Some (drop 4 xs) else None) ≡ Some frame → AreOctets frame
+whole_frame true xs frame is same = let this : drop 4 xs ≡ frame = cc in subst AreOctets this (All-drop IsOctet 4 xs is)
+whole_frame false xs frame is same = cc
+
+frame_octets : (e : Entry) (past : List Entry) (frame : List ℕ) → AreAllowed (e ∷ past) → arrives e past ≡ Some frame → AreOctets frame
+frame_octets (LinkRead asked answer octets) past frame allowed is =
+    whole_frame (is_whole (partial past ++ octets)) (partial past ++ octets) frame (All-append IsOctet (partial past) octets (partial_octets past allowed.1) allowed.0.1.1) is
+frame_octets _ past frame allowed is = cc
+
+-- ---- packets
+
+abbrev InRange : Packet → Type 0
+InRange (DatagramPacket d) = IsEndpoint d.from
+InRange _ = Unit {0}
+
+abbrev RangeIn : Option Packet → Type 0
+RangeIn packet = InRange (unless_unheard packet)
+
+range_if : (b : Bool) (one two : Option Packet) → RangeIn one → RangeIn two → RangeIn (if b then one else two)
+range_if true one two is was = is
+range_if false one two is was = was
+
+range_arp : (o : Option Arp) → RangeIn (option_map ArpPacket o)
+range_arp None = tt
+range_arp (Some arp) = tt
+
+range_icmp : (mac : List ℕ) (ip : Ip) (o : Option Icmp) → RangeIn (option_map (Message mac ip) o)
+range_icmp mac ip None = tt
+range_icmp mac ip (Some message) = tt
+
+range_tcp : (mac : List ℕ) (ip : Ip) (o : Option Tcp) → RangeIn (option_map (Segment mac ip) o)
+range_tcp mac ip None = tt
+range_tcp mac ip (Some tcp) = tt
+
+range_udp : (config : Config) (mac : List ℕ) (ip : Ip) (o : Option Udp) → read_udp ip.from ip.to ip.body ≡ o → ip.from < 2 ^ 32 → AreOctets ip.body
+    → RangeIn (option_and_then (λ udp. if may_come config ip udp then Some (DatagramPacket (datagram_of mac ip udp)) else None) o)
+range_udp config mac ip None is from octets = tt
+range_udp config mac ip (Some udp) is from octets =
+    let found = cond_some (is_udp ip.from ip.to ip.body) (record { from_port = two_at ip.body 0; to_port = two_at ip.body 2; body = part ip.body 8 (two_at ip.body 4 - 8) }) udp is in
+    let port : two_at ip.body 0 ≡ udp.from_port = ap (λ (u : Udp). u.from_port) found.1 in
+    range_if (may_come config ip udp) (Some (DatagramPacket (datagram_of mac ip udp))) None
+    (from, subst (λ n. n < 2 ^ 16) port (two_at-fits ip.body 0 (in_range ip.body octets))) tt
+
+range_ip : (config : Config) (mac : List ℕ) (ip : Ip) → ip.from < 2 ^ 32 → AreOctets ip.body → RangeIn (packet_of_ip config mac ip)
+range_ip config mac ip from octets =
+    range_if (ip.proto == udp_proto) (datagram_in config mac ip) _ (range_udp config mac ip (read_udp ip.from ip.to ip.body) refl from octets)
+    (range_if (is_guest config ip.from) _ None
+    (range_if (ip.proto == icmp_proto) (option_map (Message mac ip) (read_icmp ip.body)) _ (range_icmp mac ip (read_icmp ip.body))
+    (range_if (ip.proto == tcp_proto) (option_map (Segment mac ip) (read_tcp ip.from ip.to ip.body)) None (range_tcp mac ip (read_tcp ip.from ip.to ip.body)) tt))
+    tt)
+
+range_whole : (config : Config) (mac octets : List ℕ) (o : Option Ip) → read_ip octets ≡ o → AreOctets octets → RangeIn (option_and_then (whole_packet config mac) o)
+range_whole config mac octets None is all = tt
+range_whole config mac octets (Some ip) is all =
+    let found = cond_some (is_ip octets) (record {
+      ident = two_at octets 4;
+      more = (two_at octets 6 / 2 ^ 13) % 2 == 1;
+      place = two_at octets 6 % 2 ^ 13;
+      proto = one_at octets 9;
+      from = four_at octets 12;
+      to = four_at octets 16;
+      head = take (head_length octets) octets;
+      body = part octets (head_length octets) (two_at octets 2 - head_length octets);
+    }) ip is in
+    let from : four_at octets 12 ≡ ip.from = ap (λ (i : Ip). i.from) found.1 in
+    let body : part octets (head_length octets) (two_at octets 2 - head_length octets) ≡ ip.body = ap (λ (i : Ip). i.body) found.1 in
+    range_if (is_unbroken ip) (packet_of_ip config mac ip) None
+    (range_ip config mac ip (subst (λ n. n < 2 ^ 32) from (four_at-fits octets 12 (in_range octets all)))
+    (subst AreOctets body (All-take IsOctet (two_at octets 2 - head_length octets) (drop (head_length octets) octets) (All-drop IsOctet (head_length octets) octets all)))) tt
+
+range_ether : (config : Config) (frame : List ℕ) (o : Option Ether) → read_ether frame ≡ o → AreOctets frame → RangeIn (option_and_then (packet_of config) o)
+range_ether config frame None is all = tt
+range_ether config frame (Some ether) is all =
+    let found = cond_some (nat_le 14 (length frame)) (record { to = part frame 0 6; from = part frame 6 6; kind = two_at frame 12; body = drop 14 frame }) ether is in
+    let body : drop 14 frame ≡ ether.body = ap (λ (e : Ether). e.body) found.1 in
+    range_if (ether.kind == arp_kind) (option_map ArpPacket (read_arp ether.body)) _ (range_arp (read_arp ether.body))
+    (range_if (ether.kind == ipv4_kind) (option_and_then (whole_packet config ether.from) (read_ip ether.body)) None
+    (range_whole config ether.from ether.body (read_ip ether.body) refl (subst AreOctets body (All-drop IsOctet 14 frame all))) tt)
+
+range_packet : (config : Config) (frame : List ℕ) → AreOctets frame → InRange (packet_in config frame)
+range_packet config frame all = range_ether config frame (read_ether frame) refl all
+
+-- ---- ports
+
+abbrev RangeLast : Option Datagram → Type 0
+RangeLast None = Unit {0}
+RangeLast (Some d) = IsEndpoint d.from
+
+range_by : (packet : Packet) (last : Option Datagram) → InRange packet → RangeLast last → RangeLast (or_before (datagram_by packet) last)
+range_by (DatagramPacket d) last is before = is
+range_by Unheard last is before = before
+range_by (ArpPacket arp) last is before = before
+range_by (Message mac ip message) last is before = before
+range_by (Segment mac ip tcp) last is before = before
+
+range_came : (config : Config) (o : Option (List ℕ)) (last : Option Datagram) → ((frame : List ℕ) → o ≡ Some frame → AreOctets frame) → RangeLast last → RangeLast (or_before (datagram_came (option_map (arrival_of config) o)) last)
+range_came config None last octets before = before
+range_came config (Some frame) last octets before = range_by (packet_in config frame) last (range_packet config frame (octets frame refl)) before
+
+range_last : (config : Config) (past : List Entry) → AreAllowed past → RangeLast (last_datagram config past)
+range_last config [] allowed = tt
+range_last config (e ∷ past) allowed = range_came config (arrives e past) (last_datagram config past) (λ frame is. frame_octets e past frame allowed is) (range_last config past allowed.1)
+
+abbrev pub RangePort : Option Endpoint → Type 0
+RangePort None = Unit {0}
+RangePort (Some port) = IsEndpoint port
+
+range_from : (o : Option Datagram) → RangeLast o → RangePort (option_map (λ (d : Datagram). d.from) o)
+range_from None is = tt
+range_from (Some d) is = is
+
+range_either : (b : Bool) (one before : Option Endpoint) → RangePort one → RangePort before → RangePort (if b then one else before)
+range_either true one before is was = is
+range_either false one before is was = was
+
+range_opened : (n : ℕ) (e : Entry) (one before : Option Endpoint) → RangePort one → RangePort before → RangePort (opened_by n e one before)
+range_opened n (UdpOpen s at answer) one before is was = range_either (s == n) one before is was
+range_opened n _ one before is was = was
+
+pub range_port : (config : Config) (n : ℕ) (past : List Entry) → AreAllowed past → RangePort (opened_for config n past)
+range_port config n [] allowed = tt
+range_port config n (e ∷ past) allowed = range_opened n e (last_port config past) (opened_for config n past) (range_from (last_datagram config past) (range_last config past allowed.1)) (range_port config n past allowed.1)
+
+-- ---- peers
+
+abbrev pub RangePeer : Occasion → Type 0
+RangePeer (Heard socket peer octets) = IsEndpoint peer
+RangePeer _ = Unit {0}
+
+peer_unsent : (last : Option Datagram) (o : Occasion) → RangePeer o → RangePeer (unsent_or last o)
+peer_unsent None o before = before
+peer_unsent (Some d) o before = tt
+
+peer_made : (answer : Made) (last : Option Datagram) (o : Occasion) → RangePeer o → RangePeer (by_made answer last o)
+peer_made MadeDone last o before = before
+peer_made MadeFailed last o before = peer_unsent last o before
+
+peer_sent : (answer : Sent) (last : Option Datagram) (o : Occasion) → RangePeer o → RangePeer (by_sent answer last o)
+peer_sent SentDone last o before = before
+peer_sent SentNotYet last o before = before
+peer_sent SentFailed last o before = peer_unsent last o before
+
+peer_by : (e : Entry) (past : List Entry) (last : Option Datagram) (o : Occasion) → AreAllowed (e ∷ past) → RangePeer o → RangePeer (by_call e last o)
+peer_by (UdpOpen socket at answer) past last o allowed before = peer_made answer last o before
+peer_by (UdpSend socket to octets answer) past last o allowed before = peer_sent answer last o before
+peer_by (UdpRecv socket asked (From peer n) octets) past last o allowed before = allowed.0.0.1
+peer_by (UdpRecv socket asked GotNotYet octets) past last o allowed before = before
+peer_by (UdpRecv socket asked GotFailed octets) past last o allowed before = before
+peer_by _ past last o allowed before = before
+
+peer_after : (e : Entry) (past : List Entry) (came : Option Arrival) (last : Option Datagram) (o : Occasion) → AreAllowed (e ∷ past) → RangePeer o → RangePeer (occasion_after e came last o)
+peer_after e past None last o allowed before = peer_by e past last o allowed before
+peer_after e past (Some arrival) last o allowed before = tt
+
+pub range_peer : (config : Config) (past : List Entry) → AreAllowed past → RangePeer (last_occasion config past)
+range_peer config [] allowed = tt
+range_peer config (e ∷ past) allowed = peer_after e past (happens config past e).came (last_datagram config past) (last_occasion config past) allowed (range_peer config past allowed.1)

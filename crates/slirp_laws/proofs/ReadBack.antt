@@ -1,0 +1,92 @@
+-- A reply as it is read has what the peer sent, for the port that asked.
+use Rattle.std.proofs.Common.{◌≡◌, ℕ, ◌+◌, ◌^◌, ◌<◌, Bool, true, false, List, [], ◌∷◌, length, take, Option, Some, if◌then◌else◌, refl, sym, ◌∙◌, ap, subst, arith, append-nil}
+use Rattle.std.proofs.lemmas.List.{take_all}
+use Rattle.world_face.specs.Journal.{Entry, AreAllowed, IsEndpoint}
+use Rattle.world_face.specs.Frames.{goes_out}
+use Rattle.net_octets.specs.declared.Endpoint.{Endpoint}
+use Rattle.net_octets.specs.Kinds.{udp_proto}
+use Rattle.host_policy.specs.Addresses.{Config, address, endpoint}
+use Rattle.host_policy.specs.Targets.{is_loopback, shown}
+use Rattle.ipv4_head.specs.Ip.{Ip, ip_octets, read_ip, summed_head}
+use Rattle.ipv4_head.proofs.Plain.{written_is}
+use Rattle.ipv4_head.proofs.Spelling.{reads as reads_datagram}
+use Rattle.udp_assoc.specs.Udp.{Udp, read_udp, summed, udp_octets, udp_with, written_sum}
+use Rattle.udp_assoc.proofs.Spelling.{length-udp, reads as reads_udp}
+use Rattle.udp_assoc.proofs.Writing.{front_is}
+use Rattle.slirp_laws.specs.Answers.{identification}
+use Rattle.slirp_laws.specs.Laws.{Lawful}
+use Rattle.slirp_laws.specs.Said.{Carries, Heard, IsReplyToItsPort, RepliesToItsPort}
+use Rattle.slirp_laws.proofs.Ranges.{RangePeer, RangePort, range_peer, range_port}
+use Rattle.slirp_laws.proofs.Reading.{SixMac, carried_ip, ident_fits, six_mac}
+use Rattle.slirp_laws.proofs.Replies.{replies}
+
+same_some : {A : Type 0} (o : Option A) (one two : A) → o ≡ Some one → o ≡ Some two → one ≡ two
+same_some o one two is was = let both : Some one ≡ Some two = sym is ∙ was in cc
+
+-- a datagram of IPv4 that is written is read back
+ip_back : (ident proto from to : ℕ) (body : List ℕ) → ident < 2 ^ 16 → from < 2 ^ 32 → to < 2 ^ 32 → 20 + length body < 2 ^ 16
+    → read_ip (ip_octets ident 0 proto from to body) ≡ Some (record { ident = ident; more = false; place = 0; proto = proto; from = from; to = to; head = summed_head 64 ident 0 proto from to (length body); body = body })
+ip_back ident proto from to body i f t size =
+    let now = ip_octets ident 0 proto from to body in
+    let long : length now ≡ 20 + length body = omega arith in
+    let all : take (20 + length body) now ≡ now = take_all (20 + length body) now (omega (arith, long)) in
+    let written = written_is 64 ident 0 proto from to false body now [] i (omega arith) f t size (sym (append-nil now)) in
+    ap read_ip (sym all) ∙ reads_datagram (take (20 + length body) now) _ written.0
+
+-- and one of UDP
+udp_back : (from to : ℕ) (udp : Udp) → udp.from_port < 2 ^ 16 → udp.to_port < 2 ^ 16 → 8 + length udp.body < 2 ^ 16 → read_udp from to (udp_octets from to udp) ≡ Some udp
+udp_back from to udp f t size =
+    let now = udp_octets from to udp in
+    let long : length now ≡ 8 + length udp.body = length-udp (written_sum (summed from to (udp_with 0 udp))) udp in
+    let all : take (8 + length udp.body) now ≡ now = take_all (8 + length udp.body) now (omega (arith, long)) in
+    let written = front_is from to udp (8 + length udp.body) now [] f t size refl (sym (append-nil now)) in
+    ap (read_udp from to) (sym all) ∙ reads_udp from to (take (8 + length udp.body) now) udp written.0
+
+-- a peer as it is shown is in range
+shown_range : (config : Config) (peer : Endpoint) → config.vhost < 2 ^ 32 → IsEndpoint peer → IsEndpoint (shown config peer)
+shown_range config peer ours is = by (is_loopback (address peer))
+  where
+    by : (b : Bool) → IsEndpoint (if b then endpoint config.vhost peer.port else peer)
+    by true = (ours, is.1)
+    by false = is
+
+module _ (config : Config) (past : List Entry) (frame : List ℕ) (ip : Ip) (udp : Udp) (r : RepliesToItsPort config past frame) (peer_range : IsEndpoint (shown config r.peer)) (guest_range : IsEndpoint r.guest) where
+  from : ℕ
+  from = address (shown config r.peer)
+
+  to : ℕ
+  to = address r.guest
+
+  reply : Udp
+  reply = record { from_port = (shown config r.peer).port; to_port = r.guest.port; body = r.octets }
+
+  as_read : length r.mac ≡ 6 → Carries frame ip → read_udp ip.from ip.to ip.body ≡ Some udp → IsReplyToItsPort config past ip udp
+  unfolding from to reply
+  as_read six c is =
+      let fits = r.fits in
+      let body = udp_octets from to reply in
+      let long : length body ≡ 8 + length r.octets = length-udp (written_sum (summed from to (udp_with 0 reply))) reply in
+      let held = carried_ip config (identification past) r.mac udp_proto from to body ip six (subst (λ f. Carries f ip) r.is c) in
+      let whole = same_some (read_ip (ip_octets (identification past) 0 udp_proto from to body)) ip _ held
+      (ip_back (identification past) udp_proto from to body (ident_fits past) peer_range.0 guest_range.0 (omega (arith, long, fits))) in
+      let that : read_udp from to body ≡ Some udp = ap (λ (i : Ip). read_udp i.from i.to i.body) (sym whole) ∙ is in
+      let same = same_some (read_udp from to body) udp reply that (udp_back from to reply peer_range.1 guest_range.1 (omega (arith, fits))) in
+      let sent_to : r.guest ≡ endpoint ip.to udp.to_port = λ i. record { addr = record { 0 = (sym whole i).to }; port = (sym same i).to_port } in
+      let sent_from : shown config r.peer ≡ endpoint ip.from udp.from_port = λ i. record { addr = record { 0 = (sym whole i).from }; port = (sym same i).from_port } in
+      record {
+        socket = r.socket;
+        peer = r.peer;
+        last = r.last ∙ ap (λ (u : Udp). Heard r.socket r.peer u.body) (sym same);
+        port = r.port ∙ ap Some sent_to;
+        seen = r.seen;
+        source = sent_from;
+      }
+
+pub reply_as_read : (config : Config) (e : Entry) (past : List Entry) (frame : List ℕ) (ip : Ip) (udp : Udp) → Lawful config (e ∷ past) → AreAllowed past → config.vhost < 2 ^ 32 → goes_out e past ≡ Some frame
+    → Carries frame ip → ip.proto ≡ udp_proto → read_udp ip.from ip.to ip.body ≡ Some udp → IsReplyToItsPort config past ip udp
+reply_as_read config e past frame ip udp lawful allowed ours out c proto is =
+    let r = replies config e past frame ip lawful out c proto in
+    let peer : IsEndpoint r.peer = subst RangePeer r.last (range_peer config past allowed) in
+    let guest : IsEndpoint r.guest = subst RangePort r.port (range_port config r.socket past allowed) in
+    let six : length r.mac ≡ 6 = subst SixMac r.at (six_mac config r.socket past) in
+    as_read config past frame ip udp r (shown_range config r.peer ours peer) guest six c is

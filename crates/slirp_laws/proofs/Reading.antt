@@ -1,0 +1,320 @@
+-- Our frames, as they are read.
+use Rattle.std.proofs.Common.{◌≡◌, ℕ, ◌-◌, ◌/◌, ◌%◌, ◌^◌, ◌<◌, ◌≤◌, ◌==◌, ◌&&◌, ◌||◌, not, nat_le, Bool, true, false, List, [], ◌∷◌, length, take, drop, Option, Some, None, option_map, option_and_then, if◌then◌else◌, inl, inr, refl, sym, ◌∙◌, ap, subst, arith, lit<}
+use Rattle.std.proofs.lemmas.Bool.Decides.{nat_tests}
+use Rattle.std.proofs.lemmas.Nat.{from_be_bytes-to_be_bytes_2}
+use Rattle.std.proofs.lemmas.Option.{cond_some}
+use Rattle.world_face.specs.Journal.{Entry, UdpOpen, UdpSend, UdpRecv}
+use Rattle.world_face.specs.declared.Made.{Made}
+use Rattle.world_face.specs.declared.Made.TheVariants.{Done as MadeDone, Failed as MadeFailed}
+use Rattle.world_face.specs.declared.Sent.{Sent}
+use Rattle.world_face.specs.declared.Sent.TheVariants.{Done as SentDone, NotYet as SentNotYet, Failed as SentFailed}
+use Rattle.world_face.specs.declared.Got.{Got}
+use Rattle.world_face.specs.declared.Got.TheVariants.{From, NotYet as GotNotYet, Failed as GotFailed}
+use Rattle.world_face.specs.Frames.{arrives, goes_out}
+use Rattle.net_octets.specs.declared.Endpoint.{Endpoint}
+use Rattle.net_octets.specs.Kinds.{arp_kind, ipv4_kind, icmp_proto, udp_proto, tcp_proto}
+use Rattle.net_octets.specs.Octets.{one_at, two_at, four_at, part}
+use Rattle.net_octets.proofs.Parts.{length-part}
+use Rattle.host_policy.specs.Addresses.{Config, is_guest, is_ours}
+use Rattle.host_policy.specs.Targets.{is_hidden}
+use Rattle.ether_frame.specs.Ether.{Ether, read_ether, ether_octets}
+use Rattle.ether_frame.proofs.Spelling.{reads as reads_frame}
+use Rattle.arp_table.specs.Arp.{Arp, read_arp, is_arp, arp_octets}
+use Rattle.ipv4_head.specs.Ip.{Ip, read_ip, is_ip, ip_octets, head_length, is_unbroken}
+use Rattle.icmp_echo.specs.Icmp.{Icmp, echo, unreachable, other as another, read_icmp}
+use Rattle.udp_assoc.specs.Udp.{Udp, read_udp}
+use Rattle.tcp_segment.specs.Tcp.{Tcp, read_tcp}
+use Rattle.run_laws.specs.Happenings.{arrival_of, datagram_by, datagram_came}
+use Rattle.run_laws.specs.Packets.{Datagram, Packet, Unheard, ArpPacket, Message, DatagramPacket, Segment, datagram_in, datagram_of, may_come, packet_in, packet_of, packet_of_ip, unless_unheard, whole_packet}
+use Rattle.slirp_laws.specs.Answers.{Answer, ArpAnswer, IpAnswer, arp_reply, frame_of, frames_of, identification, is_untold, left, most_payload, no_network, our_mac, owed_for_fate, owed_for_icmp, owed_for_packet, told_about}
+use Rattle.slirp_laws.specs.Datagrams.{Fate, Ignored, Refused, GoesTo, fate}
+use Rattle.slirp_laws.specs.Laws.{Lawful}
+use Rattle.slirp_laws.specs.Ports.{last_datagram, last_mac, mac_by, mac_of, opened_for, or_before}
+use Rattle.slirp_laws.specs.Said.{Carries, Occasion, NoOccasion, Came, Heard, Unsent, by_call, by_got, by_made, by_sent, last_occasion, occasion_after, owed_for, reply_for, unsent_or}
+use Rattle.slirp_laws.proofs.Bools.{first_of}
+use Rattle.slirp_laws.proofs.Owing.{answers_last, owing}
+
+-- ---- hardware addresses have six octets
+
+abbrev pub SixPacket : Packet → Type 0
+SixPacket Unheard = Unit {0}
+SixPacket (ArpPacket arp) = length arp.sender_mac ≡ 6
+SixPacket (Message mac ip message) = length mac ≡ 6
+SixPacket (DatagramPacket d) = length d.mac ≡ 6
+SixPacket (Segment mac ip tcp) = length mac ≡ 6
+
+abbrev SixIn : Option Packet → Type 0
+SixIn packet = SixPacket (unless_unheard packet)
+
+six_if : (b : Bool) (one other : Option Packet) → SixIn one → SixIn other → SixIn (if b then one else other)
+six_if true one other is else_ = is
+six_if false one other is else_ = else_
+
+six_arp : (octets : List ℕ) (o : Option Arp) → read_arp octets ≡ o → SixIn (option_map ArpPacket o)
+six_arp octets None is = tt
+six_arp octets (Some arp) is =
+    let found = cond_some (is_arp octets) (record { is_reply = two_at octets 6 == 2; sender_mac = part octets 8 6; sender = four_at octets 14; target_mac = part octets 18 6; target = four_at octets 24 }) arp is in
+    let long : nat_le 28 (length octets) ≡ true = first_of _ _ (first_of _ _ (first_of _ _ (first_of _ _ (first_of _ _ found.0)))) in
+    let enough : 14 ≤ length octets = grind (arith, nat_tests, long) in
+    ap (λ (a : Arp). length a.sender_mac) (sym found.1) ∙ length-part octets 8 6 enough
+
+six_udp : (config : Config) (mac : List ℕ) (ip : Ip) (o : Option Udp) → length mac ≡ 6 → SixIn (option_and_then (λ udp. if may_come config ip udp then Some (DatagramPacket (datagram_of mac ip udp)) else None) o)
+six_udp config mac ip None is = tt
+six_udp config mac ip (Some udp) is = six_if (may_come config ip udp) (Some (DatagramPacket (datagram_of mac ip udp))) None is tt
+
+six_icmp : (mac : List ℕ) (ip : Ip) (o : Option Icmp) → length mac ≡ 6 → SixIn (option_map (Message mac ip) o)
+six_icmp mac ip None is = tt
+six_icmp mac ip (Some message) is = is
+
+six_tcp : (mac : List ℕ) (ip : Ip) (o : Option Tcp) → length mac ≡ 6 → SixIn (option_map (Segment mac ip) o)
+six_tcp mac ip None is = tt
+six_tcp mac ip (Some tcp) is = is
+
+six_ip : (config : Config) (mac : List ℕ) (ip : Ip) → length mac ≡ 6 → SixIn (packet_of_ip config mac ip)
+six_ip config mac ip is =
+    six_if (ip.proto == udp_proto) (datagram_in config mac ip) _ (six_udp config mac ip (read_udp ip.from ip.to ip.body) is)
+    (six_if (is_guest config ip.from) _ None
+    (six_if (ip.proto == icmp_proto) (option_map (Message mac ip) (read_icmp ip.body)) _ (six_icmp mac ip (read_icmp ip.body) is)
+    (six_if (ip.proto == tcp_proto) (option_map (Segment mac ip) (read_tcp ip.from ip.to ip.body)) None (six_tcp mac ip (read_tcp ip.from ip.to ip.body) is) tt))
+    tt)
+
+six_whole : (config : Config) (mac : List ℕ) (o : Option Ip) → length mac ≡ 6 → SixIn (option_and_then (whole_packet config mac) o)
+six_whole config mac None is = tt
+six_whole config mac (Some ip) is = six_if (is_unbroken ip) (packet_of_ip config mac ip) None (six_ip config mac ip is) tt
+
+six_ether : (config : Config) (frame : List ℕ) (o : Option Ether) → read_ether frame ≡ o → SixIn (option_and_then (packet_of config) o)
+six_ether config frame None is = tt
+six_ether config frame (Some ether) is =
+    let found = cond_some (nat_le 14 (length frame)) (record { to = part frame 0 6; from = part frame 6 6; kind = two_at frame 12; body = drop 14 frame }) ether is in
+    let enough : 12 ≤ length frame = (let long = found.0 in grind (arith, nat_tests, long)) in
+    let mac : length ether.from ≡ 6 = ap (λ (e : Ether). length e.from) (sym found.1) ∙ length-part frame 6 6 enough in
+    six_if (ether.kind == arp_kind) (option_map ArpPacket (read_arp ether.body)) _ (six_arp ether.body (read_arp ether.body) refl)
+    (six_if (ether.kind == ipv4_kind) (option_and_then (whole_packet config ether.from) (read_ip ether.body)) None (six_whole config ether.from (read_ip ether.body) mac) tt)
+
+six_packet : (config : Config) (frame : List ℕ) → SixPacket (packet_in config frame)
+six_packet config frame = six_ether config frame (read_ether frame) refl
+
+abbrev SixDatagram : Option Datagram → Type 0
+SixDatagram None = Unit {0}
+SixDatagram (Some d) = length d.mac ≡ 6
+
+six_by : (packet : Packet) (last : Option Datagram) → SixPacket packet → SixDatagram last → SixDatagram (or_before (datagram_by packet) last)
+six_by (DatagramPacket d) last is before = is
+six_by Unheard last is before = before
+six_by (ArpPacket arp) last is before = before
+six_by (Message mac ip message) last is before = before
+six_by (Segment mac ip tcp) last is before = before
+
+six_came : (config : Config) (o : Option (List ℕ)) (last : Option Datagram) → SixDatagram last → SixDatagram (or_before (datagram_came (option_map (arrival_of config) o)) last)
+six_came config None last before = before
+six_came config (Some frame) last before = six_by (packet_in config frame) last (six_packet config frame) before
+
+six_last : (config : Config) (past : List Entry) → SixDatagram (last_datagram config past)
+six_last config [] = tt
+six_last config (e ∷ past) = six_came config (arrives e past) (last_datagram config past) (six_last config past)
+
+abbrev pub SixMac : Option (List ℕ) → Type 0
+SixMac None = Unit {0}
+SixMac (Some mac) = length mac ≡ 6
+
+six_mac_of : (o : Option Datagram) → SixDatagram o → SixMac (option_map (λ (d : Datagram). d.mac) o)
+six_mac_of None is = tt
+six_mac_of (Some d) is = is
+
+six_either : (b : Bool) (one before : Option (List ℕ)) → SixMac one → SixMac before → SixMac (if b then one else before)
+six_either true one before is was = is
+six_either false one before is was = was
+
+six_mac_by : (n : ℕ) (e : Entry) (one before : Option (List ℕ)) → SixMac one → SixMac before → SixMac (mac_by n e one before)
+six_mac_by n (UdpOpen s at answer) one before is was = six_either (s == n) one before is was
+six_mac_by n (UdpSend s to octets answer) one before is was = six_either (s == n) one before is was
+six_mac_by n _ one before is was = was
+
+pub six_mac : (config : Config) (n : ℕ) (past : List Entry) → SixMac (mac_of config n past)
+six_mac config n [] = tt
+six_mac config n (e ∷ past) = six_mac_by n e (last_mac config past) (mac_of config n past) (six_mac_of (last_datagram config past) (six_last config past)) (six_mac config n past)
+
+-- ---- of each answer
+
+abbrev pub SixAnswer : Answer → Type 0
+SixAnswer (ArpAnswer to arp) = (length to ≡ 6) × (length arp.sender_mac ≡ 6)
+SixAnswer (IpAnswer to proto from guest body) = length to ≡ 6
+
+-- a message, where it isn't a reply to what a peer sent
+abbrev pub IsMessage : Answer → Type 0
+IsMessage (ArpAnswer to arp) = Unit {0}
+IsMessage (IpAnswer to proto from guest body) = proto ≡ icmp_proto
+
+abbrev pub AllAnswers : (Answer → Type 0) → List Answer → Type 0
+AllAnswers P [] = Unit {0}
+AllAnswers P (a ∷ answers) = P a × AllAnswers P answers
+
+abbrev pub IsOurs : Answer → Type 0
+IsOurs a = SixAnswer a × IsMessage a
+
+all_if : (P : Answer → Type 0) (b : Bool) (one other : List Answer) → AllAnswers P one → AllAnswers P other → AllAnswers P (if b then one else other)
+all_if P true one other is else_ = is
+all_if P false one other is else_ = else_
+
+our_six : (a : ℕ) → length (our_mac a) ≡ 6
+our_six a = refl
+
+ours_icmp : (mac : List ℕ) (ip : Ip) (message : Icmp) → length mac ≡ 6 → AllAnswers IsOurs (owed_for_icmp mac ip message)
+ours_icmp mac ip (echo true ident number body) is = tt
+ours_icmp mac ip (echo false ident number body) is = ((is, refl), tt)
+ours_icmp mac ip (unreachable code quoted) is = tt
+ours_icmp mac ip (another kind code) is = tt
+
+pub ours_told : (config : Config) (code : ℕ) (d : Datagram) → length d.mac ≡ 6 → AllAnswers IsOurs (told_about config code d)
+ours_told config code d is = all_if IsOurs (is_untold config d) [] _ tt ((is, refl), tt)
+
+ours_fate : (config : Config) (d : Datagram) (what : Fate) → length d.mac ≡ 6 → AllAnswers IsOurs (owed_for_fate config d what)
+ours_fate config d Ignored is = tt
+ours_fate config d Refused is = ours_told config _ d is
+ours_fate config d (GoesTo to) is = tt
+
+pub ours_packet : (config : Config) (packet : Packet) → SixPacket packet → AllAnswers IsOurs (owed_for_packet config packet)
+ours_packet config Unheard is = tt
+ours_packet config (ArpPacket arp) is = all_if IsOurs (not arp.is_reply && is_ours config arp.target) (arp_reply arp ∷ []) [] (((is, our_six arp.target), tt), tt) tt
+ours_packet config (Message mac ip message) is = all_if IsOurs _ (owed_for_icmp mac ip message) [] (ours_icmp mac ip message is) tt
+ours_packet config (DatagramPacket d) is = ours_fate config d (fate config d) is
+ours_packet config (Segment mac ip tcp) is = tt
+
+six_reply : (config : Config) (peer : Endpoint) (octets : List ℕ) (port : Option Endpoint) (mac : Option (List ℕ)) → SixMac mac → AllAnswers SixAnswer (reply_for config peer octets port mac)
+six_reply config peer octets (Some guest) (Some mac) is = all_if SixAnswer (is_hidden config peer || not (nat_le (length octets) most_payload)) [] _ tt (is, tt)
+six_reply config peer octets (Some guest) None is = tt
+six_reply config peer octets None mac is = tt
+
+abbrev pub SixOccasion : Occasion → Type 0
+SixOccasion (Came packet) = SixPacket packet
+SixOccasion (Unsent d) = length d.mac ≡ 6
+SixOccasion _ = Unit {0}
+
+six_unsent : (last : Option Datagram) (o : Occasion) → SixDatagram last → SixOccasion o → SixOccasion (unsent_or last o)
+six_unsent None o is before = before
+six_unsent (Some d) o is before = is
+
+all_six : (answers : List Answer) → AllAnswers IsOurs answers → AllAnswers SixAnswer answers
+all_six [] is = tt
+all_six (a ∷ answers) is = (is.0.0, all_six answers is.1)
+
+six_owed : (config : Config) (past : List Entry) (o : Occasion) → SixOccasion o → AllAnswers SixAnswer (owed_for config past o)
+six_owed config past NoOccasion is = tt
+six_owed config past (Came packet) is = all_six (owed_for_packet config packet) (ours_packet config packet is)
+six_owed config past (Heard socket peer octets) is = six_reply config peer octets (opened_for config socket past) (mac_of config socket past) (six_mac config socket past)
+six_owed config past (Unsent d) is = all_six (told_about config no_network d) (ours_told config no_network d is)
+
+six_by_made : (answer : Made) (last : Option Datagram) (o : Occasion) → SixDatagram last → SixOccasion o → SixOccasion (by_made answer last o)
+six_by_made MadeDone last o is before = before
+six_by_made MadeFailed last o is before = six_unsent last o is before
+
+six_by_sent : (answer : Sent) (last : Option Datagram) (o : Occasion) → SixDatagram last → SixOccasion o → SixOccasion (by_sent answer last o)
+six_by_sent SentDone last o is before = before
+six_by_sent SentNotYet last o is before = before
+six_by_sent SentFailed last o is before = six_unsent last o is before
+
+six_by_got : (answer : Got) (socket : ℕ) (octets : List ℕ) (o : Occasion) → SixOccasion o → SixOccasion (by_got answer socket octets o)
+six_by_got (From peer n) socket octets o before = tt
+six_by_got GotNotYet socket octets o before = before
+six_by_got GotFailed socket octets o before = before
+
+six_by_call : (e : Entry) (last : Option Datagram) (o : Occasion) → SixDatagram last → SixOccasion o → SixOccasion (by_call e last o)
+six_by_call (UdpOpen socket at answer) last o is before = six_by_made answer last o is before
+six_by_call (UdpSend socket to octets answer) last o is before = six_by_sent answer last o is before
+six_by_call (UdpRecv socket asked answer octets) last o is before = six_by_got answer socket octets o before
+six_by_call _ last o is before = before
+
+six_after : (config : Config) (e : Entry) (frame : Option (List ℕ)) (last : Option Datagram) (o : Occasion) → SixDatagram last → SixOccasion o → SixOccasion (occasion_after e (option_map (arrival_of config) frame) last o)
+six_after config e None last o is before = six_by_call e last o is before
+six_after config e (Some frame) last o is before = six_packet config frame
+
+pub six_occasion : (config : Config) (past : List Entry) → SixOccasion (last_occasion config past)
+six_occasion config [] = tt
+six_occasion config (e ∷ past) = six_after config e (arrives e past) (last_datagram config past) (last_occasion config past) (six_last config past) (six_occasion config past)
+
+-- ---- what our frames carry
+
+-- a datagram of ours, as it is read
+pub record ReadsBack (number protocol : ℕ) (ip : Ip) : Type 0 where
+  pub ident : ip.ident ≡ number
+  pub place : ip.place ≡ 0
+  pub proto : ip.proto ≡ protocol
+
+reads_ip : (ident proto from guest : ℕ) (body : List ℕ) (ip : Ip) → ident < 2 ^ 16 → read_ip (ip_octets ident 0 proto from guest body) ≡ Some ip → ReadsBack ident proto ip
+reads_ip ident proto from guest body ip fits is =
+    let octets = ip_octets ident 0 proto from guest body in
+    let found = cond_some (is_ip octets) (record {
+      ident = two_at octets 4;
+      more = (two_at octets 6 / 2 ^ 13) % 2 == 1;
+      place = two_at octets 6 % 2 ^ 13;
+      proto = one_at octets 9;
+      from = four_at octets 12;
+      to = four_at octets 16;
+      head = take (head_length octets) octets;
+      body = part octets (head_length octets) (two_at octets 2 - head_length octets);
+    }) ip is in
+    record {
+      ident = ap (λ (i : Ip). i.ident) (sym found.1) ∙ from_be_bytes-to_be_bytes_2 ident fits;
+      place = ap (λ (i : Ip). i.place) (sym found.1);
+      proto = ap (λ (i : Ip). i.proto) (sym found.1);
+    }
+
+-- the frame of an answer is read as it was written
+framed_ip : (to from body : List ℕ) (kind : ℕ) → length to ≡ 6 → length from ≡ 6 → kind < 2 ^ 16 → read_ether (ether_octets to from kind body) ≡ Some (record { to = to; from = from; kind = kind; body = body })
+framed_ip to from body kind to_six from_six fits =
+    reads_frame (ether_octets to from kind body) (record { to = to; from = from; kind = kind; body = body }) (record { to = to_six; from = from_six; kind = fits; is = refl })
+
+same_frame : (o : Option Ether) (one other : Ether) → o ≡ Some one → o ≡ Some other → one ≡ other
+same_frame o one other is was = let both : Some one ≡ Some other = sym is ∙ was in cc
+
+pub reads_answer : (config : Config) (ident : ℕ) (to : List ℕ) (proto from guest : ℕ) (body : List ℕ) (ip : Ip) → ident < 2 ^ 16 → length to ≡ 6 → Carries (frame_of config ident (IpAnswer to proto from guest body)) ip → ReadsBack ident proto ip
+reads_answer config ident to proto from guest body ip fits to_six c =
+    let ours = framed_ip to (our_mac config.vhost) (ip_octets ident 0 proto from guest body) ipv4_kind to_six (our_six config.vhost) (lit< tt) in
+    let same = same_frame (read_ether (frame_of config ident (IpAnswer to proto from guest body))) c.ether (record { to = to; from = our_mac config.vhost; kind = ipv4_kind; body = ip_octets ident 0 proto from guest body }) c.framed ours in
+    reads_ip ident proto from guest body ip fits (ap (λ (e : Ether). read_ip e.body) (sym same) ∙ c.holds)
+
+-- what the frame of a datagram holds
+pub carried_ip : (config : Config) (ident : ℕ) (to : List ℕ) (proto from guest : ℕ) (body : List ℕ) (ip : Ip) → length to ≡ 6 → Carries (frame_of config ident (IpAnswer to proto from guest body)) ip → read_ip (ip_octets ident 0 proto from guest body) ≡ Some ip
+carried_ip config ident to proto from guest body ip to_six c =
+    let ours = framed_ip to (our_mac config.vhost) (ip_octets ident 0 proto from guest body) ipv4_kind to_six (our_six config.vhost) (lit< tt) in
+    let same = same_frame (read_ether (frame_of config ident (IpAnswer to proto from guest body))) c.ether (record { to = to; from = our_mac config.vhost; kind = ipv4_kind; body = ip_octets ident 0 proto from guest body }) c.framed ours in
+    ap (λ (e : Ether). read_ip e.body) (sym same) ∙ c.holds
+
+pub no_arp : (config : Config) (ident : ℕ) (to : List ℕ) (arp : Arp) (ip : Ip) → length to ≡ 6 → length arp.sender_mac ≡ 6 → Carries (frame_of config ident (ArpAnswer to arp)) ip → ⊥
+no_arp config ident to arp ip to_six from_six c =
+    let ours = framed_ip to arp.sender_mac (arp_octets arp) arp_kind to_six from_six (lit< tt) in
+    let same = same_frame (read_ether (frame_of config ident (ArpAnswer to arp))) c.ether (record { to = to; from = arp.sender_mac; kind = arp_kind; body = arp_octets arp }) c.framed ours in
+    let kinds : 2048 ≡ 2054 = sym c.kind ∙ ap (λ (e : Ether). e.kind) same in
+    absurd (omega (arith, kinds))
+
+pub ident_fits : (past : List Entry) → identification past < 2 ^ 16
+ident_fits past = omega arith
+
+-- ---- identifications
+
+pub next_ident : (config : Config) (past : List Entry) (answer : Answer) (ip : Ip) → SixAnswer answer → Carries (frame_of config (identification past) answer) ip → (ip.ident ≡ identification past) × (ip.place ≡ 0)
+next_ident config past (ArpAnswer to arp) ip is c = absurd (no_arp config (identification past) to arp ip is.0 is.1 c)
+next_ident config past (IpAnswer to proto from guest body) ip is c = let r = reads_answer config (identification past) to proto from guest body ip (ident_fits past) is c in (r.ident, r.place)
+
+one_six : (answers : List Answer) (a : Answer) → answers ≡ a ∷ [] → AllAnswers SixAnswer answers → SixAnswer a
+one_six answers a is all = (subst (AllAnswers SixAnswer) is all).0
+
+pub out_six : (config : Config) (past : List Entry) (a : Answer) → owed_for config past (last_occasion config past) ≡ a ∷ [] → SixAnswer a
+out_six config past a is = one_six (owed_for config past (last_occasion config past)) a is (six_owed config past (last_occasion config past) (six_occasion config past))
+
+pub out_ident : (config : Config) (e : Entry) (past : List Entry) (frame : List ℕ) (ip : Ip) → Lawful config (e ∷ past) → goes_out e past ≡ Some frame → Carries frame ip → (ip.ident ≡ identification past) × (ip.place ≡ 0)
+out_ident config e past frame ip lawful out c =
+    let a = answers_last config e past frame lawful out in
+    next_ident config past a.answer ip (out_six config past a.answer a.owed) (subst (λ f. Carries f ip) a.is c)
+
+-- the first that is left
+first_answer : (config : Config) (ident : ℕ) (answers : List Answer) (frame : List ℕ) (rest : List (List ℕ)) → frames_of config ident answers ≡ frame ∷ rest → AllAnswers SixAnswer answers → (a : Answer) × (frame ≡ frame_of config ident a) × SixAnswer a
+first_answer config ident [] frame rest is all = cc
+first_answer config ident (a ∷ answers) frame rest is all = (a, cc, all.0)
+
+pub left_ident : (config : Config) (past : List Entry) (frame : List ℕ) (rest : List (List ℕ)) (ip : Ip) → Lawful config past → left config past ≡ frame ∷ rest → Carries frame ip → ip.ident ≡ identification past
+left_ident config past frame rest ip lawful is c = elim (owing config past lawful).owed [
+  | inl none ↦ (let never : [] ≡ frame ∷ rest = sym none ∙ is in cc)
+  | inr some ↦ (let a = first_answer config (identification past) (owed_for config past (last_occasion config past)) frame rest (sym some ∙ is) (six_owed config past (last_occasion config past) (six_occasion config past)) in
+      (next_ident config past a.0 ip a.2 (subst (λ f. Carries f ip) a.1 c)).0)
+]

@@ -1,0 +1,153 @@
+-- What the laws come to, in the words of guests, their ports and their datagrams.
+use Rattle.std.specs.Prelude.{◌≡◌, ℕ, ◌+◌, ◌<◌, ◌≤◌, ◌||◌, not, nat_le, true, false, List, [], ◌∷◌, length, Option, Some, None, if◌then◌else◌}
+use Rattle.world_face.specs.Journal.{Entry, UdpOpen, UdpSend, UdpRecv}
+use Rattle.world_face.specs.declared.Made.{Made}
+use Rattle.world_face.specs.declared.Made.TheVariants.{Done as MadeDone, Failed as MadeFailed}
+use Rattle.world_face.specs.declared.Sent.{Sent}
+use Rattle.world_face.specs.declared.Sent.TheVariants.{Done as SentDone, NotYet as SentNotYet, Failed as SentFailed}
+use Rattle.world_face.specs.declared.Got.{Got}
+use Rattle.world_face.specs.declared.Got.TheVariants.{From, NotYet as GotNotYet, Failed as GotFailed}
+use Rattle.net_octets.specs.declared.Endpoint.{Endpoint}
+use Rattle.net_octets.specs.Kinds.{ipv4_kind, udp_proto}
+use Rattle.host_policy.specs.declared.Proto.TheVariants.{Udp as ByUdp}
+use Rattle.host_policy.specs.declared.Verdict.TheVariants.{Go}
+use Rattle.host_policy.specs.Addresses.{Config, address, endpoint}
+use Rattle.host_policy.specs.Targets.{is_hidden, shown, target}
+use Rattle.ether_frame.specs.Ether.{Ether, read_ether}
+use Rattle.ipv4_head.specs.Ip.{Ip, read_ip}
+use Rattle.udp_assoc.specs.Associations.{idle_life, most_associations}
+use Rattle.udp_assoc.specs.declared.assocs.Association.{Association}
+use Rattle.udp_assoc.specs.Udp.{Udp, udp_octets}
+use Rattle.run_laws.specs.Happenings.{Arrival, happens}
+use Rattle.run_laws.specs.Moments.{moment}
+use Rattle.run_laws.specs.Packets.{Datagram, Packet}
+use Rattle.run_laws.specs.Sockets.{is_among}
+use Rattle.slirp_laws.specs.Answers.{Answer, IpAnswer, frame_of, identification, most_payload, no_network, owed_for_packet, told_about}
+use Rattle.slirp_laws.specs.Ports.{associations_open, last_datagram, last_use, mac_of, opened_for, used_at}
+
+-- A datagram that is sent is the payload, whole, of the one that came last; it goes where that one may go, on a socket that was opened for the port from which it came.
+pub record SendsWhatCame (config : Config) (past : List Entry) (socket : ℕ) (to : Endpoint) (octets : List ℕ) : Type 0 where
+  pub datagram : Datagram
+  pub last : last_datagram config past ≡ Some datagram
+  pub port : opened_for config socket past ≡ Some datagram.from
+  pub goes : target config ByUdp datagram.to ≡ Go to
+  pub whole : octets ≡ datagram.body
+
+-- As many sockets of guests' ports are open as may be, and none of them was used before this one.
+pub record IsLongestUnused (socket : ℕ) (past : List Entry) : Type 0 where
+  pub full : most_associations ≤ length (associations_open past)
+  pub least : (other : ℕ) → is_among other (associations_open past) ≡ true → last_use socket past ≤ last_use other past
+
+-- the life of a socket is over that was not used for so long (RFC 4787, 4.3)
+abbrev pub IsIdle : ℕ → List Entry → Type 0
+IsIdle socket past = used_at socket past + idle_life ≤ moment past
+
+-- What came last that an answer may be owed for: a packet of the guests; or a peer's datagram, on a socket; or word that the datagram of a guest that came last could get no socket, or couldn't be sent.
+pub data Occasion : Type 0 where
+  NoOccasion : Occasion
+  Came : Packet → Occasion
+  Heard : (socket : ℕ) (peer : Endpoint) (octets : List ℕ) → Occasion
+  Unsent : Datagram → Occasion
+
+abbrev pub unsent_or : Option Datagram → Occasion → Occasion
+unsent_or None before = before
+unsent_or (Some d) before = Unsent d
+
+abbrev pub by_made : Made → Option Datagram → Occasion → Occasion
+by_made MadeDone last before = before
+by_made MadeFailed last before = unsent_or last before
+
+abbrev pub by_sent : Sent → Option Datagram → Occasion → Occasion
+by_sent SentDone last before = before
+by_sent SentNotYet last before = before
+by_sent SentFailed last before = unsent_or last before
+
+abbrev pub by_got : Got → ℕ → List ℕ → Occasion → Occasion
+by_got (From peer n) socket octets before = Heard socket peer octets
+by_got GotNotYet socket octets before = before
+by_got GotFailed socket octets before = before
+
+abbrev pub by_call : Entry → Option Datagram → Occasion → Occasion
+by_call (UdpOpen socket at answer) last before = by_made answer last before
+by_call (UdpSend socket to octets answer) last before = by_sent answer last before
+by_call (UdpRecv socket asked answer octets) last before = by_got answer socket octets before
+by_call _ last before = before
+
+abbrev pub occasion_after : Entry → Option Arrival → Option Datagram → Occasion → Occasion
+occasion_after e None last before = by_call e last before
+occasion_after e (Some arrival) last before = Came arrival.packet
+
+abbrev pub last_occasion : Config → List Entry → Occasion
+last_occasion config [] = NoOccasion
+last_occasion config (e ∷ past) = occasion_after e (happens config past e).came (last_datagram config past) (last_occasion config past)
+
+-- A peer's datagram owes its payload to the port for which the socket was opened, at the hardware address from which that port spoke last. Nothing where the peer isn't shown, nor, yet, where the answer doesn't fit a frame.
+abbrev pub reply_at : Config → Endpoint → List ℕ → Endpoint → List ℕ → List Answer
+reply_at config peer octets guest mac =
+    let from = shown config peer in
+    if is_hidden config peer || not (nat_le (length octets) most_payload) then []
+    else IpAnswer mac udp_proto (address from) (address guest) (udp_octets (address from) (address guest) (record { from_port = from.port; to_port = guest.port; body = octets })) ∷ []
+
+abbrev pub reply_for : Config → Endpoint → List ℕ → Option Endpoint → Option (List ℕ) → List Answer
+reply_for config peer octets (Some guest) (Some mac) = reply_at config peer octets guest mac
+reply_for config peer octets (Some guest) None = []
+reply_for config peer octets None mac = []
+
+-- what is owed for it
+abbrev pub owed_for : Config → List Entry → Occasion → List Answer
+owed_for config past NoOccasion = []
+owed_for config past (Came packet) = owed_for_packet config packet
+owed_for config past (Heard socket peer octets) = reply_for config peer octets (opened_for config socket past) (mac_of config socket past)
+owed_for config past (Unsent d) = told_about config no_network d
+
+-- A frame answers what came last: one answer is owed for that, and the frame is this one, with the next identification.
+pub record AnswersLast (config : Config) (past : List Entry) (frame : List ℕ) : Type 0 where
+  pub answer : Answer
+  pub owed : owed_for config past (last_occasion config past) ≡ answer ∷ []
+  pub is : frame ≡ frame_of config (identification past) answer
+
+-- what a frame carries, as it is read: a datagram of IPv4 (RFC 894; RFC 791, 3.1)
+pub record Carries (frame : List ℕ) (ip : Ip) : Type 0 where
+  pub ether : Ether
+  pub framed : read_ether frame ≡ Some ether
+  pub kind : ether.kind ≡ ipv4_kind
+  pub holds : read_ip ether.body ≡ Some ip
+
+-- A frame is the reply to what was received last: on a socket that was opened for this port of a guest, its payload whole, from the peer as it is shown.
+pub record RepliesToItsPort (config : Config) (past : List Entry) (frame : List ℕ) : Type 0 where
+  pub socket : ℕ
+  pub peer : Endpoint
+  pub octets : List ℕ
+  pub last : last_occasion config past ≡ Heard socket peer octets
+  pub seen : is_hidden config peer ≡ false
+  pub fits : length octets ≤ most_payload
+  pub guest : Endpoint
+  pub port : opened_for config socket past ≡ Some guest
+  pub mac : List ℕ
+  pub at : mac_of config socket past ≡ Some mac
+  pub is : frame ≡ frame_of config (identification past) (IpAnswer mac udp_proto (address (shown config peer)) (address guest)
+      (udp_octets (address (shown config peer)) (address guest) (record { from_port = (shown config peer).port; to_port = guest.port; body = octets })))
+
+-- The same of a frame as it is read: what it carries is what was received last, whole; it goes to the port for which the socket was opened, and from the peer as it is shown.
+pub record IsReplyToItsPort (config : Config) (past : List Entry) (ip : Ip) (udp : Udp) : Type 0 where
+  pub socket : ℕ
+  pub peer : Endpoint
+  pub last : last_occasion config past ≡ Heard socket peer udp.body
+  pub port : opened_for config socket past ≡ Some (endpoint ip.to udp.to_port)
+  pub seen : is_hidden config peer ≡ false
+  pub source : shown config peer ≡ endpoint ip.from udp.from_port
+
+-- what an association of the list in the order of use has of its socket is what the record says
+pub record SaysOf (config : Config) (past : List Entry) (n : ℕ) (a : Association) : Type 0 where
+  pub guest : opened_for config n past ≡ Some a.guest
+  pub mac : mac_of config n past ≡ Some a.mac.0
+  pub used : used_at n past ≡ a.used
+
+-- sockets by rising last use
+abbrev pub AllUsedAfter : List Entry → ℕ → List ℕ → Type 0
+AllUsedAfter past socket [] = Unit {0}
+AllUsedAfter past socket (other ∷ sockets) = (last_use socket past < last_use other past) × AllUsedAfter past socket sockets
+
+abbrev pub AreByLastUse : List Entry → List ℕ → Type 0
+AreByLastUse past [] = Unit {0}
+AreByLastUse past (socket ∷ sockets) = AllUsedAfter past socket sockets × AreByLastUse past sockets
