@@ -1,1 +1,2 @@
-pub mod FirstTimer
+mod FirstTimer
+mod Waiting
