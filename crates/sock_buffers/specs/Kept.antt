@@ -77,15 +77,12 @@ octets_with (o ∷ os) zero (x ∷ xs) = kept_or o x ∷ octets_with os zero xs
 octets_with [] (suc from) octets = None ∷ octets_with [] from octets
 octets_with (o ∷ os) (suc from) octets = o ∷ octets_with os from octets
 
-abbrev pub octet_of : Option ℕ → List ℕ
-octet_of None = []
-octet_of (Some x) = x ∷ []
-
--- the octets at the first so many places
+-- the octets at the first so many places, up to one where none is kept
 abbrev pub first_octets : Octets → ℕ → List ℕ
 first_octets kept zero = []
 first_octets [] (suc n) = []
-first_octets (o ∷ os) (suc n) = octet_of o ++ first_octets os n
+first_octets (None ∷ os) (suc n) = []
+first_octets (Some x ∷ os) (suc n) = x ∷ first_octets os n
 
 -- the octet at a place of a ring after the first so many of these octets were written from the place ahead past what is
 -- held on, but for the places that are covered
