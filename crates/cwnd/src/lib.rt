@@ -15,7 +15,7 @@ const THIRD: u8 = 3;
 
 /// The congestion window of a connection, in octets. A contract sees a `Congestion`: the most octets of a segment (SMSS),
 /// the window (cwnd), the threshold (ssthresh) and the number of duplicates.
-#[derive(Drop)]
+#[derive(Clone, Copy)]
 pub struct Cwnd {
     mss: u16,
     window: u64,
@@ -30,6 +30,8 @@ impl Model for Cwnd {
     ghost Value = { Congestion };
 
     ghost view = { λ c. congestion c.mss c.window c.threshold c.duplicates };
+
+    ghost inverse = { λ c. record { mss = c.mss; window = c.window; threshold = c.threshold; duplicates = c.duplicates } };
 
     ghost invariant = { λ c. (1 ≤ c.mss) × (c.mss ≤ c.window) × (c.window ≤ 2 ^ 30) × (2 * c.mss ≤ c.threshold) × (c.duplicates ≤ 3) };
 }
@@ -105,6 +107,7 @@ impl Cwnd {
         ensures window { result ≡ self.now.window }
         ensures least { self.now.mss ≤ result }
         ensures greatest { result ≤ 2 ^ 30 }
+        ensures threshold { 2 * self.now.mss ≤ self.now.threshold }
     {
         self.window
     }

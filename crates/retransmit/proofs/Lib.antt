@@ -1,2 +1,3 @@
 mod FirstTimer
+pub mod Steady
 mod Waiting
