@@ -2,10 +2,10 @@
 //! the end of the stream, and whether an acknowledgement is owed (RFC 9293, 3.10.7.4).
 #![tactic(auto)]
 
-ghost use Rattle.std.specs.Prelude.{◌≡◌, ℕ, List, slice_get, ◌+◌, ◌-◌, ◌^◌, ◌<◌, ◌≤◌, ◌++◌, length, take, min, pos, ◌+ℤ◌, ◌<ℤ◌, ◌≤ℤ◌, IsTrue, ◌↔◌, ◌⊎◌, ◌||◌, None, false};
+ghost use Rattle.std.specs.Prelude.{◌≡◌, ℕ, List, slice_get, ◌+◌, ◌-◌, ◌^◌, ◌<◌, ◌≤◌, ◌++◌, length, drop, take, min, pos, ◌+ℤ◌, ◌<ℤ◌, ◌≤ℤ◌, IsTrue, ◌↔◌, ◌⊎◌, ◌||◌, None, false};
 ghost use Rattle.seq_space.specs.Places.{place as place_of};
 ghost use Rattle.sock_buffers.specs.Kept.{KeepsAt, octet_at};
-ghost use Rattle.sock_buffers.specs.Upward.{after_join};
+ghost use Rattle.sock_buffers.specs.Upward.{Upward, after_join, empty};
 ghost use Rattle.tcp_receive.specs.Received.{Fills, Received, StandsAt, place_in, placed, received, next_number, next_octets, octets_from, places_taken, up_after, IsAckOwed, IsEndTaken};
 
 use seq_space::{Seq, nearest, number_at};
@@ -184,6 +184,16 @@ fn put_first(up: &mut Up, place: i64, taken: u64, octets: &[u8])
         up.take(from_place(octets, place, taken));
     }
 }
+
+/// A buffer is that of a stream at first, and stays so while the host socket takes octets.
+pub fn a_buffer_stays_that_of_its_stream()
+    ensures first { (first size : ℕ) → Fills (received first 0 false) (empty size) }
+    ensures written { (r : Received) (up : Upward) (n : ℕ) → n ≤ length up.held → Fills r up
+        → Fills r (record up {
+          held = drop n up.held;
+          written = up.written + n;
+        }) }
+{}
 
 /// Whether an acknowledgement is owed: what carries octets or a FIN owes one, and so does a number
 /// before the next expected one.
