@@ -1,8 +1,8 @@
 -- What holds of the timer stays so.
-use Rattle.std.proofs.Common.{◌≡◌, ℕ, suc, zero, ◌+◌, ◌*◌, ◌^◌, ◌<◌, ◌≤◌, Bool, true, false, Option, None, Some, nat_le, min, max, if◌then◌else◌, arith, rules, add-one, refl, sym, ap, subst}
+use Rattle.std.proofs.Common.{◌≡◌, ℕ, ◌+◌, ◌*◌, ◌^◌, ◌<◌, ◌≤◌, Bool, true, false, Option, None, Some, min, if◌then◌else◌, arith, rules, add-one, refl}
 use Rattle.std.proofs.lemmas.Bool.Decides.{nat_tests}
-use Rattle.retransmit.specs.Estimate.{Estimate, after_sample, wait_of}
-use Rattle.retransmit.specs.Resending.{IsInRange, IsSteady, Resending, after_answered, after_expired, after_measured, after_moved, after_sent, after_start, after_stop, begun, counted, doublings, due_of, expired_by, is_given_up, is_off, least_wait, resending, set_unless_running}
+use Rattle.retransmit.specs.Estimate.{Estimate}
+use Rattle.retransmit.specs.Resending.{IsSteady, Resending, after_answered, after_expired, after_measured, after_moved, after_sent, after_start, after_stop, begun, counted, doublings, expired_by, is_given_up, least_wait, resending, set_unless_running}
 use Rattle.retransmit.specs.declared.Timer.{Timer}
 use Rattle.retransmit.specs.declared.Timer.TheVariants.{Off, Since, Expired}
 use Rattle.retransmit.proofs.Waiting.{doubled_less, fewer}

@@ -1,5 +1,5 @@
 -- What lies between the first sending and the base of the timer.
-use Rattle.std.proofs.Common.{◌≡◌, ℕ, suc, zero, ◌+◌, ◌*◌, ◌^◌, ◌<◌, ◌≤◌, Bool, true, false, min, if◌then◌else◌, arith, rules, add-one, refl}
+use Rattle.std.proofs.Common.{◌≡◌, ℕ, ◌+◌, ◌*◌, ◌^◌, ◌<◌, ◌≤◌, true, min, arith, rules, add-one, refl}
 use Rattle.retransmit.specs.Resending.{IsNotBefore, WaitsSince, counted, doublings, is_off, least_wait, least_waits, set_unless_running}
 use Rattle.retransmit.specs.declared.Timer.{Timer}
 use Rattle.retransmit.specs.declared.Timer.TheVariants.{Off, Since, Expired}

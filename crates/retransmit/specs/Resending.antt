@@ -1,5 +1,5 @@
 -- When what wasn't acknowledged goes again, and how often (RFC 6298, 5; RFC 9293, 3.8.3).
-use Rattle.std.specs.Prelude.{◌≡◌, ℕ, zero, suc, ◌+◌, ◌*◌, ◌^◌, ◌<◌, ◌≤◌, Bool, true, false, nat_le, Option, None, Some, min, if◌then◌else◌}
+use Rattle.std.specs.Prelude.{◌≡◌, ℕ, zero, suc, ◌+◌, ◌*◌, ◌^◌, ◌≤◌, Bool, true, false, nat_le, Option, None, Some, min, if◌then◌else◌}
 use Rattle.retransmit.specs.Estimate.{Estimate, at_first, after_sample, after_expiry}
 use Rattle.retransmit.specs.declared.Timer.{Timer}
 use Rattle.retransmit.specs.declared.Timer.TheVariants.{Off, Since, Expired}

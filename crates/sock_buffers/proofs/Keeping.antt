@@ -5,10 +5,10 @@ use Rattle.std.proofs.lemmas.Bool.Decides.{nat_tests}
 use Rattle.std.proofs.lemmas.Option.{slice_get_past}
 use Rattle.std.proofs.lemmas.List.{take_all, drop-take}
 use Rattle.circular_buffer.proofs.Places.{slice_get-drop, slice_get-take, slice_get-append_left, slice_get-append_right, slice_get-set_same, slice_get-set_other, slice_get-some}
-use Rattle.sock_buffers.specs.Kept.{Octets, covers, first_covered, first_octets, kept_or, masked, octet_at, octets_with, past, span, uncovered, with_range, written_at, AreApart, has_place, range}
+use Rattle.sock_buffers.specs.Kept.{Octets, covers, first_covered, first_octets, kept_or, masked, octet_at, octets_with, past, span, uncovered, with_range, written_at, AreApart, range}
 use Rattle.sock_buffers.specs.declared.ranges.KeptRange.{KeptRange}
 use Rattle.sock_buffers.specs.Upward.{Upward, after_join, after_keep, after_take, fitting, keeps_none, range_of, upward, within}
-use Rattle.sock_buffers.proofs.Covering.{past_all, past_none, apart_past, apart_with, covers-past, covers-with_range, covers_none_past, first_are_covered, first_within, next_not_covered, span-past, span-with_range}
+use Rattle.sock_buffers.proofs.Covering.{past_all, past_none, covers-past, covers-with_range, covers_none_past, first_are_covered, first_within, next_not_covered}
 
 -- two lists with the same octets
 pub same_octets : (os ps : Octets) → length os ≡ length ps → ((place : ℕ) → octet_at os place ≡ octet_at ps place) → os ≡ ps

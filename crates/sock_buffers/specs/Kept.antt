@@ -1,6 +1,6 @@
 -- Places past the octets that are held, where octets are kept that came before others: ranges of them, by how many
 -- places each begins and ends past the held octets.
-use Rattle.std.specs.Prelude.{◌≡◌, ℕ, zero, suc, ◌+◌, ◌-◌, ◌<◌, ◌≤◌, Bool, ◌&&◌, not, nat_lt, nat_le, nat_eq, List, [], ◌∷◌, ◌++◌, length, Option, None, Some, slice_get, min, max, if◌then◌else◌}
+use Rattle.std.specs.Prelude.{◌≡◌, ℕ, zero, suc, ◌+◌, ◌-◌, ◌<◌, ◌≤◌, Bool, ◌&&◌, not, nat_lt, nat_le, nat_eq, List, [], ◌∷◌, Option, None, Some, slice_get, min, max, if◌then◌else◌}
 use Rattle.std.specs.List.{list_any}
 use Rattle.sock_buffers.specs.declared.ranges.KeptRange.{KeptRange}
 

@@ -1,5 +1,5 @@
 -- What a contract sees of a buffer of octets on their way up, from a guest to a host socket.
-use Rattle.std.specs.Prelude.{◌≡◌, ℕ, ◌+◌, ◌-◌, ◌<◌, ◌≤◌, Bool, ◌||◌, nat_lt, nat_eq, List, [], ◌++◌, length, take, drop, min, if◌then◌else◌}
+use Rattle.std.specs.Prelude.{ℕ, ◌+◌, ◌-◌, Bool, ◌||◌, nat_lt, nat_eq, List, [], ◌++◌, length, take, drop, min, if◌then◌else◌}
 use Rattle.sock_buffers.specs.Kept.{Octets, octets_with, first_octets, first_covered, past, range, uncovered, with_range}
 use Rattle.sock_buffers.specs.declared.ranges.KeptRange.{KeptRange}
 

@@ -1,4 +1,4 @@
-use Rattle.std.proofs.Common.{◌≡◌, ℕ, ◌+◌, ◌-◌, ◌<◌, length, take, length-take, min, arith, ap, subst, sym, ◌∙◌, List}
+use Rattle.std.proofs.Common.{◌≡◌, ℕ, ◌+◌, ◌-◌, ◌<◌, length, take, min, arith, ap, subst, sym, ◌∙◌, List}
 use Rattle.std.specs.List.{slice_get}
 use Rattle.sock_buffers.specs.Kept.{AreApart, range, span, with_range, written_at}
 use Rattle.sock_buffers.specs.Upward.{Upward, after_keep}

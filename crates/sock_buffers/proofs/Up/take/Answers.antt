@@ -1,10 +1,9 @@
-use Rattle.std.proofs.Common.{◌≡◌, ℕ, ◌+◌, ◌-◌, ◌≤◌, ◌++◌, List, [], length, take, min, arith, ap, subst, sym, ◌∙◌, refl, length-take, length-append}
+use Rattle.std.proofs.Common.{◌≡◌, ℕ, ◌+◌, ◌-◌, ◌++◌, length, take, min, arith, ap, subst, sym, ◌∙◌, length-take, length-append}
 use Rattle.circular_buffer.specs.Buffer.{Buffer, buffer}
 use Rattle.sock_buffers.specs.Kept.{AreApart, past, span}
 use Rattle.sock_buffers.specs.Upward.{Upward, after_take, fitting}
-use Rattle.sock_buffers.specs.declared.ranges.KeptRange.{KeptRange}
 use Rattle.sock_buffers.proofs.Covering.{apart_less, apart_past, span-past}
-use Rattle.sock_buffers.proofs.Keeping.{over_front, seen, takes_all, takes_over}
+use Rattle.sock_buffers.proofs.Keeping.{seen, takes_all, takes_over}
 use Rattle.sock_buffers.proofs.Up.take.Goals as goal
 use Rattle.sock_buffers.proofs.Up.take.Goals.{then-self-count, else-self-count}
 

@@ -1,4 +1,4 @@
-use Rattle.std.proofs.Common.{◌≡◌, ◌+◌, ◌-◌, ◌≤◌, ℕ, length, take, drop, length-take, arith, ap, ◌∙◌, subst, sym}
+use Rattle.std.proofs.Common.{◌≡◌, ◌+◌, ◌-◌, ◌≤◌, ℕ, length, drop, length-take, arith, ap, ◌∙◌, subst, sym}
 use Rattle.circular_buffer.specs.Buffer.{Buffer}
 use Rattle.sock_buffers.specs.Upward.{Upward}
 use Rattle.sock_buffers.proofs.Keeping.{gives_up, seen}

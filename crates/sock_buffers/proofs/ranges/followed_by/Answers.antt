@@ -1,4 +1,4 @@
-use Rattle.std.proofs.Common.{◌≡◌, ◌+◌, ◌≤◌, ◌∷◌, ◌++◌, List, length, take, arith, ap, ◌∙◌, length-append, length-take}
+use Rattle.std.proofs.Common.{◌≡◌, ◌+◌, ◌∷◌, List, length, take, arith, ap, ◌∙◌, length-append, length-take}
 use Rattle.sock_buffers.specs.declared.ranges.KeptRange.{KeptRange}
 use Rattle.sock_buffers.proofs.ranges.followed_by.Goals as goal
 

@@ -1,8 +1,8 @@
-use Rattle.std.proofs.Common.{◌≡◌, ℕ, ◌+◌, Bool, true, false, List, length, get_or, Option, Some, arith, sym, subst, ap, ◌∙◌, set, if◌then◌else◌, length-set}
+use Rattle.std.proofs.Common.{◌≡◌, ℕ, ◌+◌, Bool, true, false, List, length, get_or, arith, sym, ap, ◌∙◌, set, if◌then◌else◌, length-set}
 use Rattle.std.specs.List.{slice_get}
 use Rattle.std.proofs.lemmas.Option.{slice_get-get_or}
 use Rattle.circular_buffer.specs.Buffer.{Buffer}
-use Rattle.sock_buffers.specs.Kept.{covers, written_at}
+use Rattle.sock_buffers.specs.Kept.{covers}
 use Rattle.sock_buffers.proofs.Keeping.{step_set, step_kept, one_more_counted}
 use Rattle.sock_buffers.proofs.ring.overwrite.Goals as goal
 use Rattle.sock_buffers.proofs.ring.overwrite.Goals.{then-not-covers, else-not-covers}
