@@ -1,12 +1,12 @@
 -- Where each octet that is held or kept comes from.
-use Rattle.std.proofs.Common.{◌≡◌, ℕ, suc, zero, ◌+◌, ◌-◌, ◌<◌, ◌≤◌, Bool, true, false, ◌⊎◌, inl, inr, nat_lt, nat_le, List, [], ◌∷◌, ◌++◌, length, take, drop, Option, None, Some, min, if◌then◌else◌, ℤ, pos, negsuc, ◌+ℤ◌, arith, refl, sym, ap, ◌∙◌, subst, length-append, length-take}
+use Rattle.std.proofs.Common.{◌≡◌, ℕ, suc, zero, ◌+◌, ◌-◌, ◌<◌, ◌≤◌, Bool, true, false, ◌⊎◌, inl, inr, nat_lt, nat_le, List, [], ◌∷◌, ◌++◌, length, take, drop, Option, None, Some, if◌then◌else◌, ℤ, pos, negsuc, arith, refl, sym, ap, ◌∙◌, subst, length-append, length-take}
 use Rattle.std.specs.List.{slice_get}
 use Rattle.std.proofs.lemmas.Int.{ints}
 use Rattle.std.proofs.lemmas.Bool.Decides.{nat_tests}
-use Rattle.std.proofs.lemmas.Option.{slice_get_past, slice_get_within}
+use Rattle.std.proofs.lemmas.Option.{slice_get_within}
 use Rattle.circular_buffer.proofs.Places.{slice_get-take, slice_get-append_left, slice_get-append_right}
-use Rattle.sock_buffers.specs.Kept.{KeepsAt, Octets, first_covered, first_octets, octet_at, octets_with, with_range}
-use Rattle.sock_buffers.specs.Upward.{Upward, after_join, after_keep, after_take, fitting, keeps_none, range_of, within}
+use Rattle.sock_buffers.specs.Kept.{KeepsAt, Octets, first_octets, octet_at, octets_with, with_range}
+use Rattle.sock_buffers.specs.Upward.{Upward, after_keep, after_take, fitting, keeps_none, range_of, within}
 use Rattle.sock_buffers.proofs.Keeping.{kept_else, more_at, more_before, more_from, octet_at-drop, octet_at-octets_with}
 use Rattle.tcp_receive.specs.Received.{StandsAt, gap, octets_from, placed}
 use Rattle.tcp_receive.proofs.Standing.{stands}

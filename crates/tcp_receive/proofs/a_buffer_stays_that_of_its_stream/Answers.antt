@@ -1,4 +1,4 @@
-use Rattle.std.proofs.Common.{◌≡◌, ◌+◌, refl, arith, length-drop}
+use Rattle.std.proofs.Common.{refl, arith, length-drop}
 use Rattle.tcp_receive.proofs.a_buffer_stays_that_of_its_stream.Goals as goal
 
 pub returns-clause-first : goal.returns-clause-first

@@ -1,8 +1,7 @@
-use Rattle.std.proofs.Common.{◌≡◌, ℕ, ◌+◌, ◌-◌, ◌<◌, ◌++◌, List, drop, length, Some, arith, ap, subst, sym, ◌∙◌}
+use Rattle.std.proofs.Common.{◌≡◌, ℕ, ◌+◌, ◌-◌, ◌++◌, List, drop, length, arith, ap, subst, sym, ◌∙◌}
 use Rattle.std.specs.List.{slice_get}
-use Rattle.std.proofs.lemmas.Grind.{common_steps}
 use Rattle.std.proofs.lemmas.Int.{ints, to_z-of_z}
-use Rattle.sock_buffers.specs.Kept.{KeepsAt, first_covered, first_octets}
+use Rattle.sock_buffers.specs.Kept.{KeepsAt, first_octets}
 use Rattle.sock_buffers.specs.Upward.{Upward}
 use Rattle.tcp_receive.specs.Received.{placed}
 use Rattle.tcp_receive.proofs.Arriving.{CameFrom, Holds_rest, comes_from}

@@ -1,4 +1,4 @@
-use Rattle.std.proofs.Common.{◌≡◌, ◌+◌, arith, ap, sym}
+use Rattle.std.proofs.Common.{◌+◌, arith, ap}
 use Rattle.std.proofs.lemmas.Int.{ints, to_z-of_z}
 use Rattle.tcp_receive.specs.Received.{Received, place_in}
 use Rattle.tcp_receive.proofs.Arriving.{same_origin, same_place}
