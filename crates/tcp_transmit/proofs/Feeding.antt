@@ -1,7 +1,7 @@
 -- The buffer stays that of its connection.
-use Rattle.std.proofs.Common.{◌≡◌, ℕ, ◌+◌, ◌*◌, ◌-◌, ◌/◌, ◌^◌, ◌<◌, ◌≤◌, List, ◌++◌, length, Bool, true, false, ◌&&◌, ◌||◌, ◌⊎◌, inl, inr, IsSome, not, nat_lt, nat_le, nat_eq, Option, None, Some, min, max, if◌then◌else◌, arith, rules, refl, subst, sym, ap, ◌∙◌, ℤ, length-append, length-drop}
+use Rattle.std.proofs.Common.{◌≡◌, ℕ, ◌+◌, ◌*◌, ◌^◌, ◌<◌, ◌≤◌, List, ◌++◌, length, Bool, true, false, ◌&&◌, ◌||◌, ◌⊎◌, inl, inr, IsSome, nat_lt, nat_eq, Option, None, Some, min, max, if◌then◌else◌, arith, refl, subst, sym, ap, ◌∙◌, ℤ, length-append, length-drop}
 use Rattle.std.proofs.lemmas.Bool.Decides.{nat_tests}
-use Rattle.cwnd.specs.Congestion.{Congestion, after_acked, after_duplicate, after_expiry, growth, half_of}
+use Rattle.cwnd.specs.Congestion.{Congestion, after_expiry, growth, half_of}
 use Rattle.retransmit.specs.Resending.{IsSteady, Resending, after_answered, after_moved, after_start, after_stop, begun, due_by, expired_by, is_expired, is_off, set_unless_running}
 use Rattle.retransmit.specs.Estimate as estimates
 use Rattle.retransmit.specs.Resending as resending
@@ -12,15 +12,13 @@ use Rattle.sock_buffers.specs.Downward.{Downward}
 use Rattle.seq_space.specs.declared.Seq.{Seq}
 use Rattle.tcp_transmit.specs.Acks.{IsSeenAs, acknowledged, after_ack, congested, congested_by, cwnd_after, is_acceptable, is_duplicate, is_last_window, is_newer, is_same, is_third, moved, octets_acked, opened, windowed, without}
 use Rattle.tcp_transmit.specs.Pieces.{end_of, next, numbers, piece_owed}
-use Rattle.tcp_transmit.specs.Timing.{after_expired, after_sent, cwnd_expired, goes_again, is_given_up, round_trip, timed_past, watched, watched_over}
+use Rattle.tcp_transmit.specs.Timing.{after_expired, after_sent, cwnd_expired, goes_again, is_given_up, round_trip, watched, watched_over}
 use Rattle.tcp_transmit.specs.Transmission.{Feeds, IsOfSegments, IsSentOf, IsSound, Transmission, edge_of, end_places, flight, is_closed, octets_read, places}
 use Rattle.tcp_transmit.specs.declared.AckSeen.{AckSeen}
 use Rattle.tcp_transmit.specs.declared.AckSeen.TheVariants.{Old, Same, Forward, FinToo, TooFar}
 use Rattle.tcp_transmit.specs.declared.End.{End}
 use Rattle.tcp_transmit.specs.declared.End.TheVariants.{Open, Unsent, Sent}
 use Rattle.tcp_transmit.specs.declared.Piece.{Piece}
-use Rattle.tcp_transmit.specs.declared.Timed.{Timed}
-use Rattle.tcp_transmit.specs.declared.Window.{Window}
 use Rattle.tcp_transmit.proofs.Owed.{Lies, next_lies}
 
 begun_on : (timer : Timer) (now : ℕ) → is_off (begun timer now) ≡ false

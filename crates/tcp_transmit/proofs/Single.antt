@@ -1,5 +1,5 @@
 -- Without a congestion window all is as the guest's window says.
-use Rattle.std.proofs.Common.{◌≡◌, ℕ, Bool, Option, None, Some, if◌then◌else◌, refl, sym, ap, ◌∙◌}
+use Rattle.std.proofs.Common.{◌≡◌, Option, None, if◌then◌else◌, sym, ap, ◌∙◌}
 use Rattle.cwnd.specs.Congestion.{Congestion}
 use Rattle.retransmit.specs.Resending as resending
 use Rattle.tcp_transmit.specs.Acks.{congested_by, is_duplicate, octets_acked}

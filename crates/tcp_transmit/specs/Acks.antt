@@ -1,7 +1,7 @@
 -- What an acknowledgement does (RFC 9293, 3.10.7.4; RFC 6298, 5.2 and 5.3; RFC 5681, 3).
 use Rattle.std.specs.Prelude.{◌≡◌, ℕ, ◌+◌, ◌-◌, ◌<◌, ◌≤◌, ◌^◌, Bool, true, false, ◌&&◌, ◌||◌, nat_lt, nat_le, nat_eq, Option, None, Some, drop, ℤ, pos, ◌<ℤ◌, if◌then◌else◌}
 use Rattle.cwnd.specs.Congestion.{Congestion, after_acked, after_duplicate}
-use Rattle.retransmit.specs.Resending.{Resending, after_answered, after_moved}
+use Rattle.retransmit.specs.Resending.{after_answered, after_moved}
 use Rattle.seq_space.specs.Places.{place, steps_up}
 use Rattle.seq_space.specs.declared.Seq.{Seq}
 use Rattle.sock_buffers.specs.Downward.{Downward}

@@ -1,7 +1,7 @@
 -- The timer of pieces (RFC 6298, 5) and of probes (RFC 9293, 3.8.6.1), and the round trip that is measured (RFC 6298, 3).
-use Rattle.std.specs.Prelude.{◌≡◌, ℕ, ◌+◌, ◌-◌, ◌<◌, ◌^◌, Bool, true, false, ◌&&◌, ◌||◌, ◌⊎◌, not, nat_lt, nat_le, Option, None, Some, min, max, if◌then◌else◌}
+use Rattle.std.specs.Prelude.{◌≡◌, ℕ, ◌-◌, ◌<◌, ◌^◌, Bool, true, false, ◌&&◌, ◌||◌, ◌⊎◌, not, nat_lt, nat_le, Option, None, Some, min, max, if◌then◌else◌}
 use Rattle.cwnd.specs.Congestion.{Congestion, after_expiry}
-use Rattle.retransmit.specs.Resending.{Resending, after_expired as resend_expired, after_sent as resend_sent, after_start, after_stop, is_expired, is_given_up as is_given_up_by}
+use Rattle.retransmit.specs.Resending.{after_expired as resend_expired, after_sent as resend_sent, after_start, after_stop, is_expired, is_given_up as is_given_up_by}
 use Rattle.sock_buffers.specs.Downward.{Downward}
 use Rattle.tcp_transmit.specs.Pieces.{end_of}
 use Rattle.tcp_transmit.specs.Transmission.{Transmission, edge_of, flight, places, is_closed}

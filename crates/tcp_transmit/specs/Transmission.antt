@@ -1,9 +1,8 @@
 -- What a contract sees of the sending half of a connection (RFC 9293, 3.3.1). It speaks of places in the host's stream:
 -- octets have the places from 0 on, and the end of the stream, our FIN, has the place after its last octet.
-use Rattle.std.specs.Prelude.{◌≡◌, ℕ, ◌+◌, ◌*◌, ◌-◌, ◌<◌, ◌≤◌, ◌^◌, length, Bool, true, false, ◌&&◌, ◌||◌, nat_lt, nat_le, is_some, Option, None, Some, min, if◌then◌else◌}
+use Rattle.std.specs.Prelude.{◌≡◌, ℕ, ◌+◌, ◌-◌, ◌<◌, ◌≤◌, ◌^◌, length, Bool, true, false, ◌&&◌, ◌||◌, nat_le, is_some, Option, None, Some, min}
 use Rattle.cwnd.specs.Congestion.{Congestion}
 use Rattle.retransmit.specs.Resending.{Resending, IsSteady, at_rest, is_expired, is_off}
-use Rattle.retransmit.specs.declared.Timer.{Timer}
 use Rattle.sock_buffers.specs.Downward.{Downward}
 use Rattle.tcp_transmit.specs.declared.End.{End}
 use Rattle.tcp_transmit.specs.declared.End.TheVariants.{Open, Unsent, Sent}

@@ -1,7 +1,7 @@
 use Rattle.std.proofs.Common.{◌≡◌, ◌<◌, ◌⊎◌, Bool, true, arith, ap, subst, sym, refl, ◌∙◌}
 use Rattle.std.proofs.lemmas.Grind.{common_steps}
 use Rattle.sock_buffers.specs.Downward.{Downward}
-use Rattle.tcp_transmit.specs.Acks.{IsSeenAs, acknowledged, after_ack, congested, congested_by, is_acceptable, is_duplicate, octets_acked, opened, place_acked, windowed, without}
+use Rattle.tcp_transmit.specs.Acks.{IsSeenAs, acknowledged, after_ack, congested, congested_by, is_acceptable, is_duplicate, octets_acked, opened, place_acked, windowed}
 use Rattle.tcp_transmit.specs.Timing.{watched, watched_over}
 use Rattle.tcp_transmit.specs.Transmission.{Feeds, Transmission, is_closed, octets_read}
 use Rattle.tcp_transmit.specs.declared.AckSeen.{AckSeen}

@@ -1,6 +1,5 @@
-use Rattle.std.proofs.Common.{ℕ, ◌<◌, arith, ap, subst, sym}
+use Rattle.std.proofs.Common.{arith, ap, subst, sym}
 use Rattle.tcp_transmit.specs.Pieces.{GoesAgain, IsOfStream, IsWithin, Probes, end_of, numbers}
-use Rattle.tcp_transmit.specs.Transmission.{edge_of}
 use Rattle.tcp_transmit.specs.declared.Piece.{Piece}
 use Rattle.tcp_transmit.proofs.Owed.{next_again, next_none, next_of_stream, next_probes, next_window, next_within}
 use Rattle.tcp_transmit.proofs.Transmit.next_piece.Goals as goal

@@ -1,4 +1,4 @@
-use Rattle.std.proofs.Common.{◌≡◌, ◌≤◌, ◌+◌, arith, subst, sym}
+use Rattle.std.proofs.Common.{◌≤◌, ◌+◌, arith, subst, sym}
 use Rattle.std.proofs.lemmas.Grind.{common_steps}
 use Rattle.tcp_transmit.specs.Pieces.{end_of}
 use Rattle.tcp_transmit.specs.Transmission.{Feeds, Transmission, octets_read}
