@@ -1,1 +1,3 @@
-pub mod FirstTimer
+mod FirstTimer
+pub mod Steady
+mod Waiting

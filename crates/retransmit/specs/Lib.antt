@@ -1,2 +1,3 @@
 pub mod Estimate
 pub mod Moments
+pub mod Resending

@@ -1,9 +1,11 @@
-//! When to send again: the retransmission timeout of a connection (RFC 6298), and timers over slots.
+//! When to send again: the retransmission timeout of a connection (RFC 6298), the timer of what wasn't acknowledged with
+//! the count of how often it went again, and timers over slots. Moments and times are in milliseconds.
 #![tactic(auto)]
 
-ghost use Rattle.std.specs.Prelude.{◌≡◌, ℕ, ◌+◌, ◌^◌, ◌<◌, ◌≤◌, List, [], ◌∷◌, length, replicate, slice_set, IfOk, IfSome, IfNone};
+ghost use Rattle.std.specs.Prelude.{◌≡◌, ℕ, ◌+◌, ◌^◌, ◌<◌, ◌≤◌, List, [], ◌∷◌, length, replicate, slice_set, IfOk, IsSome, IfSome, IfNone, IsTrue, ◌↔◌};
 ghost use Rattle.retransmit.specs.Estimate.{AreBounded, Event, Expired, Sampled, after_expiry, after_sample, estimate_after, round_trips_after, wait_of as wait_by};
 ghost use Rattle.retransmit.specs.Moments.{IsDue, IsEarliest, NoneRuns, AllRunPast};
+ghost use Rattle.retransmit.specs.Resending.{HasWaitedSince, counted as counted_by, doublings, IsNotBefore, after_answered, after_expired, after_moved, after_sent, after_start, after_stop, at_rest, due_of, is_expired as is_expired_by, expired_by, IsInRange, set_unless_running};
 
 use std::alloc::{AllocError, Global};
 use std::marker::Model;
@@ -121,6 +123,204 @@ fn timeout(t: RoundTrips) -> u64
     wait.max(SHORTEST).min(LONGEST)
 }
 
+/// How often something goes again before it is given up (RFC 9293, 3.8.3).
+const RESENDINGS: u8 = 8;
+
+/// The timer of what wasn't acknowledged: it is off; it runs since a moment, its base, and expires one timeout later; or
+/// it expired at a moment, and what it made owed again is unsent.
+#[derive(Clone, Copy, Debug, PartialEq, Eq)]
+pub enum Timer {
+    Off,
+    Since(u64),
+    Expired(u64),
+}
+
+/// When something goes again that wasn't acknowledged, as a SYN, a request or the oldest octets under way, and how often:
+/// eight times, and the ninth expiry gives it up. A contract sees a `Resending`: the estimate of the timeout, the timer,
+/// and how often something went again since the timer expired, after the last acceptable acknowledgement.
+#[derive(Drop)]
+pub struct Resend {
+    rto: Rto,
+    timer: Timer,
+    resent: u8,
+}
+
+impl Model for Resend {
+    ghost use Rattle.retransmit.specs.Resending.{IsSteady, Resending, resending};
+
+    ghost Value = { Resending };
+
+    ghost view = { λ r. resending r.rto r.timer r.resent };
+
+    ghost invariant = { λ r. IsSteady (resending r.rto r.timer r.resent) };
+}
+
+impl Resend {
+    /// Before anything was sent: the timer is off, and the timeout is 1,000 milliseconds.
+    pub fn new() -> Resend
+        ensures { result ≡ at_rest }
+    {
+        Resend {
+            rto: Rto::new(),
+            timer: Timer::Off,
+            resent: 0,
+        }
+    }
+
+    /// Something was sent, `again` where it went before. The timer is set where it doesn't run (RFC 6298, 5.1), and set
+    /// anew with what goes again, which is counted where the timer had expired.
+    pub fn sent(&mut self, again: bool, now: u64)
+        requires { now ≤ 2 ^ 62 }
+        ensures sent { self.new ≡ after_sent self.old again now }
+        ensures begins { self.old.timer ≡ Timer.Off → HasWaitedSince now self.new }
+        ensures waited { (first : ℕ) → first ≤ now → IsNotBefore self.old.timer now → HasWaitedSince first self.old
+            → HasWaitedSince first self.new }
+    {
+        if again {
+            self.resent = counted(self.timer, self.resent);
+            self.timer = Timer::Since(now);
+        } else {
+            self.timer = running(self.timer, now);
+        }
+    }
+
+    /// The timer expired. True where what it waits for is given up, since it went again eight times with no acceptable
+    /// acknowledgement between; nothing changes then. Else the timeout is doubled, and it is owed again (RFC 6298, 5.4 and
+    /// 5.5). It is given up 243,000 milliseconds at least after it first went, or after the last acceptable
+    /// acknowledgement.
+    pub fn expired(&mut self) -> bool
+        requires runs { IsSome (due_of self.old) }
+        ensures given_up { IsTrue result ↔ (8 ≤ self.old.resent) }
+        ensures change { self.new ≡ after_expired self.old }
+        ensures waited { (first : ℕ) → HasWaitedSince first self.old → HasWaitedSince first self.new }
+        ensures late { IsTrue result → (first at : ℕ) → HasWaitedSince first self.old → due_of self.old ≡ Some at
+            → first + 243000 ≤ at }
+    {
+        if self.resent >= RESENDINGS {
+            return true;
+        }
+        self.timer = expired_after(self.timer, self.rto.wait());
+        self.rto.expired();
+        false
+    }
+
+    /// Something was acknowledged for the first time, with a measured round trip where there is one (RFC 6298, 3); what
+    /// was owed again no longer is. The timer is set anew where more is under way (5.3), and else cleared (5.2).
+    pub fn moved(&mut self, measured: Option<u64>, under_way: bool, now: u64)
+        requires measured { IfSome measured (λ ms. ms ≤ 2 ^ 40) }
+        requires now { now ≤ 2 ^ 62 }
+        ensures moved { self.new ≡ after_moved self.old measured under_way now }
+        ensures begins { HasWaitedSince now self.new }
+    {
+        if let Some(ms) = measured {
+            self.rto.sample(ms);
+        }
+        self.resent = 0;
+        self.timer = if under_way {
+            Timer::Since(now)
+        } else {
+            Timer::Off
+        };
+    }
+
+    /// An acceptable acknowledgement moved nothing: what is owed stays so, and its count begins anew.
+    pub fn answered(&mut self)
+        ensures answered { self.new ≡ after_answered self.old }
+        ensures waited { (first : ℕ) → HasWaitedSince first self.old → HasWaitedSince first self.new }
+    {
+        self.resent = 0;
+    }
+
+    /// Sets the timer, where it is off, for something that waits without having gone, as octets for a closed window
+    /// (RFC 9293, 3.8.6.1).
+    pub fn start(&mut self, now: u64)
+        requires { now ≤ 2 ^ 62 }
+        ensures started { self.new ≡ after_start self.old now }
+        ensures waited { (first : ℕ) → first ≤ now → HasWaitedSince first self.old → HasWaitedSince first self.new }
+    {
+        if self.timer == Timer::Off {
+            self.timer = Timer::Since(now);
+        }
+    }
+
+    /// Clears the timer, since nothing waits.
+    pub fn stop(&mut self)
+        ensures stopped { self.new ≡ after_stop self.old }
+    {
+        self.timer = Timer::Off;
+        self.resent = 0;
+    }
+
+    /// The moment at which the timer expires: a timeout after its base. `None` exactly where it doesn't run.
+    pub fn due(&self) -> Option<u64>
+        ensures { result ≡ due_of self.now }
+    {
+        match self.timer {
+            Timer::Since(base) => Some(base + self.rto.wait()),
+            Timer::Off | Timer::Expired(_) => None,
+        }
+    }
+
+    /// The timer.
+    pub fn timer(&self) -> Timer
+        ensures { result ≡ self.now.timer }
+    {
+        self.timer
+    }
+
+    /// Whether the timer expired and what it made owed again is unsent.
+    pub fn has_expired(&self) -> bool
+        ensures { result ≡ is_expired_by self.now.timer }
+    {
+        match self.timer {
+            Timer::Expired(_) => true,
+            Timer::Off | Timer::Since(_) => false,
+        }
+    }
+
+    /// How long to wait for an acknowledgement, in milliseconds.
+    pub fn wait(&self) -> u64
+        ensures wait { result ≡ self.now.estimate.wait }
+        ensures shortest { 1000 ≤ result }
+        ensures longest { result ≤ 60000 }
+    {
+        self.rto.wait()
+    }
+}
+
+/// A timer that runs, from now on unless it runs already.
+fn running(timer: Timer, now: u64) -> Timer
+    ensures { result ≡ set_unless_running timer now }
+{
+    match timer {
+        Timer::Off | Timer::Expired(_) => Timer::Since(now),
+        Timer::Since(base) => Timer::Since(base),
+    }
+}
+
+/// How often something went again, with what goes again now.
+fn counted(timer: Timer, resent: u8) -> u8
+    requires { doublings timer resent ≤ 8 }
+    ensures { result ≡ counted_by timer resent }
+{
+    match timer {
+        Timer::Expired(_) => resent + 1,
+        Timer::Off | Timer::Since(_) => resent,
+    }
+}
+
+/// A timer that ran out.
+fn expired_after(timer: Timer, wait: u64) -> Timer
+    requires wait { wait ≤ 60000 }
+    requires range { IsInRange timer }
+    ensures { result ≡ expired_by timer wait }
+{
+    match timer {
+        Timer::Since(base) => Timer::Expired(base + wait),
+        Timer::Off | Timer::Expired(_) => timer,
+    }
+}
+
 /// A timer for each of a fixed number of slots. A contract sees a list with the moment of each
 /// slot whose timer runs. Moments are in milliseconds.
 #[derive(Drop)]
@@ -190,22 +390,22 @@ impl Timers {
 
 /// A timer that runs: its slot and its moment.
 #[derive(Clone, Copy)]
-struct Timer {
+struct SlotTimer {
     slot: usize,
     at: u64,
 }
 
 /// The timer with the earliest moment, that of the lowest slot where slots share it.
-fn earliest(moments: &[Option<u64>]) -> Option<Timer>
+fn earliest(moments: &[Option<u64>]) -> Option<SlotTimer>
     ensures earliest { IfSome result (λ first. IsEarliest moments.now first.slot first.at) }
     ensures none { IfNone result (NoneRuns moments.now) }
 {
-    let mut found: Option<Timer> = None;
+    let mut found: Option<SlotTimer> = None;
     for (slot, moment) in moments.iter().enumerate() {
         if let Some(at) = *moment {
             match found {
                 Some(first) if first.at <= at => {}
-                _ => found = Some(Timer { slot, at }),
+                _ => found = Some(SlotTimer { slot, at }),
             }
         }
     }
@@ -249,6 +449,76 @@ mod tests {
             rto.expired();
             assert_eq!(rt; rto.wait(), wait);
         }
+    }
+
+    /// Lets the timer expire, if it runs, and answers when it did, and whether that gave it up.
+    fn expire(resend: &mut Resend) -> Option<(u64, bool)> {
+        let at = resend.due()?;
+        Some((at, resend.expired()))
+    }
+
+    #[test]
+    fn the_ninth_expiry_gives_a_syn_up(rt: HostRuntime) {
+        let mut syn = Resend::new();
+        assert_eq!(rt; syn.due(), None);
+        syn.sent(false, 500);
+        for at in [
+            1_500, 3_500, 7_500, 15_500, 31_500, 63_500, 123_500, 183_500,
+        ] {
+            assert_eq!(rt; expire(&mut syn), Some((at, false)));
+            assert!(rt; syn.has_expired());
+            assert_eq!(rt; syn.due(), None);
+            syn.sent(true, at);
+        }
+        assert_eq!(rt; expire(&mut syn), Some((243_500, true)));
+        assert_eq!(rt; (syn.wait(), syn.timer()), (60_000, Timer::Since(183_500)));
+    }
+
+    #[test]
+    fn what_waits_for_the_link_is_counted_when_it_goes(rt: HostRuntime) {
+        let mut resend = Resend::new();
+        resend.sent(false, 0);
+        assert_eq!(rt; expire(&mut resend), Some((1_000, false)));
+        resend.answered();
+        resend.sent(true, 1_700);
+        for at in [3_700, 7_700, 15_700, 31_700, 63_700, 123_700, 183_700] {
+            assert_eq!(rt; expire(&mut resend), Some((at, false)));
+            resend.sent(true, at);
+        }
+        assert_eq!(rt; expire(&mut resend), Some((243_700, true)));
+    }
+
+    #[test]
+    fn what_goes_again_early_is_not_counted(rt: HostRuntime) {
+        let mut resend = Resend::new();
+        resend.sent(false, 0);
+        resend.sent(false, 300);
+        assert_eq!(rt; resend.timer(), Timer::Since(0));
+        resend.sent(true, 700);
+        assert_eq!(rt; resend.timer(), Timer::Since(700));
+        for at in [
+            1_700, 3_700, 7_700, 15_700, 31_700, 63_700, 123_700, 183_700,
+        ] {
+            assert_eq!(rt; expire(&mut resend), Some((at, false)));
+            resend.sent(true, at);
+        }
+        assert_eq!(rt; expire(&mut resend), Some((243_700, true)));
+    }
+
+    #[test]
+    fn an_acknowledgement_that_moves(rt: HostRuntime) {
+        let mut resend = Resend::new();
+        resend.start(40);
+        resend.start(50);
+        assert_eq!(rt; resend.timer(), Timer::Since(40));
+        resend.stop();
+        assert_eq!(rt; resend.timer(), Timer::Off);
+        resend.sent(false, 100);
+        assert_eq!(rt; expire(&mut resend), Some((1_100, false)));
+        resend.moved(Some(800), true, 1_200);
+        assert_eq!(rt; (resend.wait(), resend.due()), (2_400, Some(3_600)));
+        resend.moved(None, false, 1_300);
+        assert_eq!(rt; (resend.wait(), resend.due()), (2_400, None));
     }
 
     #[test]

@@ -1,2 +1,3 @@
 pub mod Downward
+pub mod Kept
 pub mod Upward

@@ -2,28 +2,43 @@
 //! A buffer takes all its room when it is opened, and no other call takes memory.
 #![tactic(auto)]
 
-ghost use Rattle.std.specs.Prelude.{◌≡◌, ◌+◌, ◌-◌, ◌^◌, ◌≤◌, [], ◌++◌, length, take, drop, min, IfOk};
+ghost use Rattle.std.specs.Prelude.{◌≡◌, ℕ, ◌+◌, ◌-◌, ◌^◌, ◌<◌, ◌≤◌, [], ◌++◌, length, take, drop, min, None, IfOk, IsSome, IsTrue, ◌↔◌, true};
 ghost use Rattle.sock_buffers.specs.Downward.{downward};
-ghost use Rattle.sock_buffers.specs.Upward.{upward};
+ghost use Rattle.sock_buffers.specs.Kept.{AreApart, covers, first_covered, octet_at};
+ghost use Rattle.sock_buffers.specs.Upward.{after_join, after_keep, after_take, empty, fitting, newly_kept, room_of};
 
+mod ranges;
+mod ring;
+
+use arrayvec::ArrayVec;
 use circular_buffer::HeapCircularBuffer;
+pub use ranges::KeptRange;
+use ranges::{Ranges, first_places, past_first, with_range};
+use ring::{overwrite, reach};
 use std::alloc::{AllocError, Global};
 use std::marker::Model;
 
-/// The octets of a guest that its host socket has not taken yet. A contract sees the octets that
-/// are held, the oldest first, the count of octets that were written before them, and the size.
+/// The octets of a guest that its host socket has not taken yet, and past them octets that are kept until those between
+/// come, in at most 32 ranges. A contract sees the octets that are held, the oldest first, the count of octets that were
+/// written before them, the size, and the kept octets by their places with the ranges of these.
 #[derive(Drop)]
 pub struct Up {
     ring: HeapCircularBuffer<u8>,
+    held: usize,
     written: u64,
+    ranges: Ranges,
 }
 
 impl Model for Up {
+    ghost use Rattle.std.specs.Prelude.{◌≡◌, ◌+◌, length, take, drop};
+    ghost use Rattle.sock_buffers.specs.Kept.{AreApart, masked, span};
     ghost use Rattle.sock_buffers.specs.Upward.{Upward, upward};
 
     ghost Value = { Upward };
 
-    ghost view = { λ u. upward u.ring.items u.written u.ring.capacity };
+    ghost view = { λ u. upward (take u.held u.ring.items) u.written u.ring.capacity u.ranges.items (masked u.ranges.items 0 (drop u.held u.ring.items)) };
+
+    ghost invariant = { λ u. (length u.ring.items ≡ u.held + span u.ranges.items) × AreApart 0 u.ranges.items };
 }
 
 impl Up {
@@ -32,36 +47,117 @@ impl Up {
     /// # Errors
     /// `AllocError` where no memory is left.
     pub fn open(alloc: Global, size: usize) -> Result<Up, AllocError>
-        ensures { IfOk result (λ up. up ≡ upward [] 0 size) }
+        ensures { IfOk result (λ up. up ≡ empty size) }
     {
         let ring = HeapCircularBuffer::with_capacity(alloc, size)?;
-        Ok(Up { ring, written: 0 })
+        Ok(Up {
+            ring,
+            held: 0,
+            written: 0,
+            ranges: ArrayVec::new(),
+        })
     }
 
     /// Forgets all octets and counts, for the next connection.
     pub fn reset(&mut self)
-        ensures { self.new ≡ upward [] 0 self.old.size }
+        ensures { self.new ≡ empty self.old.size }
     {
         self.ring.clear();
+        self.held = 0;
         self.written = 0;
+        self.ranges = ArrayVec::new();
     }
 
-    /// Appends the longest front of `octets` that fits, and answers its length.
+    /// Appends the longest front of `octets` that fits, and answers its length. These octets take the places of kept
+    /// ones.
     pub fn take(&mut self, octets: &[u8]) -> usize
         ensures count { result ≡ min (length octets.now) (self.old.size - length self.old.held) }
-        ensures appended { self.new ≡ record self.old {
+        ensures appended { self.new.held ≡ self.old.held ++ take result octets.now }
+        ensures taken { self.new ≡ after_take self.old octets.now }
+        ensures alone { self.old.ranges ≡ [] → self.new ≡ record self.old {
           held = self.old.held ++ take result octets.now;
         } }
     {
-        self.ring.fill_from_slice(octets)
+        let count = octets.len().min(self.ring.capacity() - self.held);
+        if self.held + count >= self.ring.len() {
+            self.ring.truncate_back(self.held);
+            self.ring.fill_from_slice(octets);
+            self.ranges.clear();
+        } else {
+            overwrite(&mut self.ring, self.held, 0, &octets[..count], &[]);
+            self.ranges = past_first(&self.ranges, count);
+        }
+        self.held += count;
+        count
     }
 
-    /// How many octets fit.
+    /// Keeps octets that come before others: they begin `ahead` places past the held ones. A place that is kept already
+    /// keeps its octet. Those past the size are not kept, and none is where their range would be a 33rd. Answers at how
+    /// many places octets are newly kept.
+    pub fn keep(&mut self, ahead: usize, octets: &[u8]) -> usize
+        requires { 1 ≤ ahead }
+        ensures count { result ≡ newly_kept self.old ahead octets.now }
+        ensures few { result ≤ length octets.now }
+        ensures kept { self.new ≡ after_keep self.old ahead octets.now }
+    {
+        let room = self.ring.capacity() - self.held;
+        let count = octets.len().min(room.saturating_sub(ahead));
+        if count == 0 {
+            return 0;
+        }
+        let new = KeptRange {
+            start: ahead,
+            end: ahead + count,
+        };
+        let Some(ranges) = with_range(self.ranges.as_slice(), new) else {
+            return 0;
+        };
+        reach(&mut self.ring, self.held + new.end);
+        let newly = overwrite(
+            &mut self.ring,
+            self.held,
+            ahead,
+            &octets[..count],
+            self.ranges.as_slice(),
+        );
+        self.ranges = ranges;
+        newly
+    }
+
+    /// Holds the kept octets that come next, and answers how many.
+    pub fn join(&mut self) -> usize
+        ensures count { result ≡ first_covered self.old.ranges }
+        ensures joined { self.new ≡ after_join self.old }
+        ensures length { length self.new.held ≡ length self.old.held + result }
+        ensures next { octet_at self.new.kept 0 ≡ None }
+    {
+        let count = first_places(self.ranges.as_slice());
+        if count == 0 {
+            return 0;
+        }
+        prove!(self.held <= self.ring.len());
+        self.held += count;
+        self.ranges = past_first(&self.ranges, count);
+        count
+    }
+
+    /// How many ranges of places are kept: they rise, and a place that isn't kept lies between each and the next.
+    pub fn ranges(&self) -> usize
+        ensures ranges { result ≡ length self.now.ranges }
+        ensures few { result ≤ 32 }
+        ensures apart { AreApart 0 self.now.ranges }
+        ensures kept { (place : ℕ) → IsSome (octet_at self.now.kept place) ↔ (covers self.now.ranges place ≡ true) }
+    {
+        self.ranges.len()
+    }
+
+    /// How many octets fit. Kept ones don't count.
     pub fn room(&self) -> usize
         ensures room { result ≡ self.now.size - length self.now.held }
         ensures within { length self.now.held ≤ self.now.size }
     {
-        self.ring.capacity() - self.ring.len()
+        let size = self.ring.capacity();
+        size - self.held
     }
 
     /// How many octets are held.
@@ -69,17 +165,19 @@ impl Up {
         ensures held { result ≡ length self.now.held }
         ensures within { result ≤ self.now.size }
     {
-        self.ring.len()
+        prove!(self.held <= self.ring.len());
+        self.held
     }
 
-    /// Copies the oldest octets, as many as there are and fit, to the start of `into`, and answers
-    /// how many. What lies past them in `into` stays, and so do the octets that are held.
+    /// Copies the oldest octets, as many as are held and fit, to the start of `into`, and answers how many. What lies past
+    /// them in `into` stays, and so do the octets that are held.
     pub fn front_piece(&self, into: &mut [u8]) -> usize
         ensures count { result ≡ min (length into.old) (length self.now.held) }
         ensures copied { into.new ≡ take result self.now.held ++ drop result into.old }
     {
         let (older, newer) = self.ring.as_slices();
-        copy_two(older, newer, into)
+        let count = into.len().min(self.held);
+        copy_two(older, newer, &mut into[..count])
     }
 
     /// Gives up the `n` oldest octets, which the host socket took.
@@ -91,9 +189,17 @@ impl Up {
           written = self.old.written + n;
         } }
     {
-        let kept = self.ring.len() - n;
-        self.ring.truncate_front(kept);
+        let rest = self.ring.len() - n;
+        self.ring.truncate_front(rest);
+        self.held -= n;
         self.written += n as u64;
+    }
+
+    /// How many octets the host socket took.
+    pub fn count(&self) -> u64
+        ensures { result ≡ self.now.written }
+    {
+        self.written
     }
 }
 
@@ -268,6 +374,130 @@ mod tests {
             down_round_the_end(rt.alloc(), 65_535)?,
             (65_534, [1, 2, 3, 9])
         );
+        Ok(())
+    }
+
+    /// The octets that are held, in a row of eight, with points past them.
+    fn front(up: &Up) -> [u8; 8] {
+        let mut front = *b"........";
+        up.front_piece(&mut front);
+        front
+    }
+
+    #[test]
+    fn a_gap_is_filled_from_behind(rt: HostRuntime) -> Result<(), Fail> {
+        let mut up = Up::open(rt.alloc(), 8)?;
+        assert_eq!(rt; up.keep(4, b"ef"), 2);
+        assert_eq!(rt; (up.ranges(), up.held(), up.room()), (1, 0, 8));
+        assert_eq!(rt; up.keep(2, b"cd"), 2);
+        assert_eq!(rt; (up.ranges(), up.join(), up.held()), (1, 0, 0));
+        assert_eq!(rt; up.take(b"ab"), 2);
+        assert_eq!(rt;
+            (up.join(), up.ranges(), up.held(), up.room()),
+            (4, 0, 6, 2)
+        );
+        assert_eq!(rt; front(&up), *b"abcdef..");
+        Ok(())
+    }
+
+    #[test]
+    fn a_gap_is_filled_from_both_sides(rt: HostRuntime) -> Result<(), Fail> {
+        let mut up = Up::open(rt.alloc(), 8)?;
+        assert_eq!(rt; (up.keep(1, b"b"), up.keep(5, b"fgh")), (1, 3));
+        assert_eq!(rt; (up.keep(3, b"d"), up.ranges()), (1, 3));
+        assert_eq!(rt; (up.keep(1, b"XcXeX"), up.ranges()), (2, 1));
+        assert_eq!(rt; up.take(b"a"), 1);
+        assert_eq!(rt; (up.join(), up.ranges(), up.room()), (7, 0, 0));
+        assert_eq!(rt; front(&up), *b"abcdefgh");
+        Ok(())
+    }
+
+    #[test]
+    fn octets_that_come_next_take_the_places_of_kept_ones(rt: HostRuntime) -> Result<(), Fail> {
+        let mut up = Up::open(rt.alloc(), 8)?;
+        up.keep(1, b"XXdXX");
+        assert_eq!(rt; up.take(b"abc"), 3);
+        assert_eq!(rt; (up.ranges(), up.held()), (1, 3));
+        assert_eq!(rt; (up.join(), up.held()), (3, 6));
+        assert_eq!(rt; front(&up), *b"abcdXX..");
+        up.keep(1, b"h");
+        assert_eq!(rt; up.take(b"gXXX"), 2);
+        assert_eq!(rt; (up.join(), up.ranges()), (0, 0));
+        assert_eq!(rt; front(&up), *b"abcdXXgX");
+        Ok(())
+    }
+
+    #[test]
+    fn kept_octets_lie_across_the_end(rt: HostRuntime) -> Result<(), Fail> {
+        let mut up = Up::open(rt.alloc(), 8)?;
+        up.take(b"1234567");
+        up.written(up.held().min(6));
+        assert_eq!(rt; (up.keep(2, b"cdefXYZ"), up.room()), (5, 7));
+        assert_eq!(rt;
+            (up.keep(7, b"h"), up.keep(1_000, b"i"), up.keep(8, b"i")),
+            (0, 0, 0)
+        );
+        assert_eq!(rt; (up.take(b"ab"), up.join()), (2, 5));
+        assert_eq!(rt; front(&up), *b"7abcdefX");
+        up.written(up.held().min(4));
+        assert_eq!(rt; (up.room(), up.held(), up.count()), (4, 4, 10));
+        assert_eq!(rt; front(&up), *b"defX....");
+        Ok(())
+    }
+
+    #[test]
+    fn forty_octets_in_even_places(rt: HostRuntime) -> Result<(), Fail> {
+        let mut up = Up::open(rt.alloc(), 100)?;
+        let mut kept: usize = 0;
+        for k in 0..40 {
+            kept = kept.saturating_add(up.keep(2 + 2 * k, b"k"));
+        }
+        assert_eq!(rt; (kept, up.ranges()), (32, 32));
+        assert_eq!(rt; (up.keep(65, b"j"), up.ranges()), (1, 32));
+        assert_eq!(rt; (up.keep(3, b"j"), up.ranges()), (1, 31));
+        assert_eq!(rt;
+            (up.keep(80, b"j"), up.keep(90, b"j"), up.ranges()),
+            (1, 0, 32)
+        );
+        assert_eq!(rt; (up.take(&[b'j'; 66]), up.ranges(), up.join()), (66, 1, 0));
+        up.reset();
+        assert_eq!(rt; (up.ranges(), up.held(), up.room()), (0, 0, 100));
+        Ok(())
+    }
+
+    /// Lets the host socket take octets, as many as are held.
+    fn drain(up: &mut Up, count: u32) {
+        let count = (count as usize).min(up.held());
+        if up.count() < 1 << 40 {
+            up.written(count);
+        }
+    }
+
+    /// So many octets, all the same.
+    fn filled(alloc: Global, octet: u8, count: u32) -> Result<Vec<u8>, AllocError> {
+        vec![in alloc; octet; count as usize]
+    }
+
+    #[test]
+    fn a_ring_of_a_mebibyte(rt: HostRuntime) -> Result<(), Fail> {
+        let mut up = Up::open(rt.alloc(), 1_048_576)?;
+        let piece = filled(rt.alloc(), 7, 16_384)?;
+        for _ in 0..100 {
+            assert_eq!(rt; up.take(&piece), 16_384);
+            drain(&mut up, 16_384);
+        }
+        assert_eq!(rt; up.keep(1_032_192, &piece), 16_384);
+        assert_eq!(rt;
+            (up.keep(1_048_575, b"8"), up.keep(1_048_576, b"8")),
+            (0, 0)
+        );
+        let all = filled(rt.alloc(), 6, 1_032_192)?;
+        assert_eq!(rt;
+            (up.take(&all), up.join(), up.room()),
+            (1_032_192, 16_384, 0)
+        );
+        drain(&mut up, 1_032_190);
+        assert_eq!(rt; front(&up), [6, 6, 7, 7, 7, 7, 7, 7]);
         Ok(())
     }
 

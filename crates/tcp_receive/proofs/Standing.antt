@@ -16,7 +16,7 @@ is_within : (o t : ℕ) → o ≤ t → nat_le o t ≡ true
 is_within o t within = grind (arith, nat_tests)
 
 -- what is in the octets from a place on stands there
-stands : (o : ℤ) (xs : List ℕ) (t k x : ℕ) → slice_get (octets_from o xs t) k ≡ Some x → StandsAt o xs (t + k) x
+pub stands : (o : ℤ) (xs : List ℕ) (t k x : ℕ) → slice_get (octets_from o xs t) k ≡ Some x → StandsAt o xs (t + k) x
 stands (pos o) xs t k x e =
     let at = from_within o t k x xs e in
     (t - o + k, (rw (slice_get-drop (t - o) xs k) at at.1, omega (arith, ints)))

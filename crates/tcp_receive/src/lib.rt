@@ -2,9 +2,11 @@
 //! the end of the stream, and whether an acknowledgement is owed (RFC 9293, 3.10.7.4).
 #![tactic(auto)]
 
-ghost use Rattle.std.specs.Prelude.{◌≡◌, ℕ, List, slice_get, ◌+◌, ◌-◌, ◌^◌, ◌<◌, ◌≤◌, ◌++◌, length, take, min, pos, ◌+ℤ◌, ◌<ℤ◌, ◌≤ℤ◌, IsTrue, ◌↔◌, ◌⊎◌, ◌||◌, false};
+ghost use Rattle.std.specs.Prelude.{◌≡◌, ℕ, List, slice_get, ◌+◌, ◌-◌, ◌^◌, ◌<◌, ◌≤◌, ◌++◌, length, drop, take, min, pos, ◌+ℤ◌, ◌<ℤ◌, ◌≤ℤ◌, IsTrue, ◌↔◌, ◌⊎◌, ◌||◌, None, false};
 ghost use Rattle.seq_space.specs.Places.{place as place_of};
-ghost use Rattle.tcp_receive.specs.Received.{Received, StandsAt, place_in, received, next_number, next_octets, octets_from, places_taken, IsAckOwed, IsEndTaken};
+ghost use Rattle.sock_buffers.specs.Kept.{KeepsAt, octet_at};
+ghost use Rattle.sock_buffers.specs.Upward.{Upward, after_join, empty};
+ghost use Rattle.tcp_receive.specs.Received.{Fills, Received, StandsAt, place_in, placed, received, next_number, next_octets, octets_from, places_taken, up_after, IsAckOwed, IsEndTaken};
 
 use seq_space::{Seq, nearest, number_at};
 use sock_buffers::Up;
@@ -48,16 +50,15 @@ impl Receive {
         }
     }
 
-    /// A segment arrived. Takes into `up` those of its octets that come next and fit, none once the
-    /// end was taken, and takes its FIN where every octet before it is taken. A FIN needs no room.
-    /// Octets past a gap are not kept.
+    /// A segment arrived. Takes into `up` those of its octets that come next and fit, keeps there those that come past a
+    /// gap, and then takes the kept octets that come next; none once the end was taken. Takes its FIN where every octet
+    /// before it is taken then. A FIN needs no room, and one past a gap is not kept.
     pub fn arrive(&mut self, up: &mut Up, seq: Seq, octets: &[u8], fin: bool) -> Took
-        requires { self.old.taken + length octets.now < 2 ^ 62 }
-        ensures octets { let next = next_octets self.old seq.0 octets.now in
-            result.octets ≡ min (length next) (up.old.size - length up.old.held) }
-        ensures few { result.octets ≤ length octets.now }
-        ensures appended { let next = next_octets self.old seq.0 octets.now in
-            up.new ≡ record up.old { held = up.old.held ++ take result.octets next } }
+        requires { self.old.taken + length octets.now + up.old.size < 2 ^ 62 }
+        ensures octets { length up.new.held ≡ length up.old.held + result.octets }
+        ensures up { up.new ≡ up_after self.old seq.0 octets.now up.old }
+        ensures few { result.octets ≤ up.old.size }
+        ensures size { up.new.size ≡ up.old.size }
         ensures fin { let taken_now = self.old.taken + result.octets in
             IsTrue result.fin ↔ IsEndTaken self.old seq.0 octets.now fin taken_now }
         ensures taken { self.new ≡ record self.old {
@@ -65,6 +66,13 @@ impl Receive {
           ended = self.old.ended || result.fin;
         } }
         ensures ack_owed { IsTrue result.ack_owed ↔ IsAckOwed self.old seq.0 octets.now fin }
+
+        // Each octet that is held now or kept was kept before at its place, or is the segment's there.
+        ensures held { (k x : ℕ) → k < result.octets → slice_get up.new.held (length up.old.held + k) ≡ Some x
+            → KeepsAt up.old.kept k x ⊎ StandsAt (place_in self.old seq.0) octets.now (self.old.taken + k) x }
+        ensures kept { (k x : ℕ) → KeepsAt up.new.kept k x → KeepsAt up.old.kept (result.octets + k) x
+            ⊎ StandsAt (place_in self.old seq.0) octets.now (self.old.taken + (result.octets + k)) x }
+        ensures fills { Fills self.old up.old → Fills self.new up.new }
     {
         let carries = !octets.is_empty() || fin;
         let ack_owed = is_ack_owed(self.first, seq, self.taken, self.places(), carries);
@@ -76,14 +84,21 @@ impl Receive {
             };
         }
         let place = nearest(seq, self.first, self.taken);
-        let count = up.take(from_place(octets, place, self.taken));
+        let count = put(up, place, self.taken, octets);
         self.taken += count as u64;
-        self.ended = fin && place + octets.len() as i64 == self.taken as i64;
+        self.ended = fin && is_end(place, octets.len(), self.taken);
         Took {
             octets: count,
             fin: self.ended,
             ack_owed,
         }
+    }
+
+    /// How many octets were taken.
+    pub fn taken(&self) -> u64
+        ensures { result ≡ self.now.taken }
+    {
+        self.taken
     }
 
     /// The number that comes next, and so the one to acknowledge.
@@ -120,6 +135,64 @@ pub fn next_octets_stand_at_their_places()
         → place_in r number ≤ℤ pos r.taken
         → StandsAt (place_in r number) octets (r.taken + k) x
         → slice_get (next_octets r number octets) k ≡ Some x }
+{}
+
+/// Whether so many octets that begin at `place` end where `taken` ones do.
+fn is_end(place: i64, length: usize, taken: u64) -> bool
+    requires low { pos 0 ≤ℤ (place +ℤ pos (2 ^ 32)) }
+    requires high { (place +ℤ pos length) <ℤ pos (2 ^ 62 + 2 ^ 31) }
+    requires length { length < 2 ^ 62 }
+    requires taken { taken < 2 ^ 62 }
+    ensures { IsTrue result ↔ ((place +ℤ pos length) ≡ pos taken) }
+{
+    place + length as i64 == taken as i64
+}
+
+/// Puts octets that begin at `place` into the buffer: those from the place `taken` on are held as far as they fit, and those
+/// past a gap are kept. Then kept octets that come next are held. Answers how many are newly held.
+fn put(up: &mut Up, place: i64, taken: u64, octets: &[u8]) -> usize
+    requires low { pos 0 ≤ℤ (place +ℤ pos (2 ^ 32)) }
+    requires taken { taken < 2 ^ 62 }
+    ensures up { up.new ≡ after_join (placed place taken octets.now up.old) }
+    ensures count { length up.new.held ≡ length up.old.held + result }
+    ensures few { result ≤ up.old.size }
+    ensures size { up.new.size ≡ up.old.size }
+    ensures held { (k x : ℕ) → k < result → slice_get up.new.held (length up.old.held + k) ≡ Some x
+        → KeepsAt up.old.kept k x ⊎ StandsAt place octets.now (taken + k) x }
+    ensures kept { (k x : ℕ) → KeepsAt up.new.kept k x → KeepsAt up.old.kept (result + k) x
+        ⊎ StandsAt place octets.now (taken + (result + k)) x }
+    ensures next { octet_at up.new.kept 0 ≡ None }
+{
+    let before = up.held();
+    put_first(up, place, taken, octets);
+    up.join();
+    up.held() - before
+}
+
+/// The same, before the kept octets are held.
+fn put_first(up: &mut Up, place: i64, taken: u64, octets: &[u8])
+    requires low { pos 0 ≤ℤ (place +ℤ pos (2 ^ 32)) }
+    requires taken { taken < 2 ^ 62 }
+    ensures up { up.new ≡ placed place taken octets.now up.old }
+    ensures size { up.new.size ≡ up.old.size }
+    ensures held { length up.old.held ≤ length up.new.held }
+{
+    let at = taken as i64;
+    if place > at {
+        up.keep((place - at) as usize, octets);
+    } else {
+        up.take(from_place(octets, place, taken));
+    }
+}
+
+/// A buffer is that of a stream at first, and stays so while the host socket takes octets.
+pub fn a_buffer_stays_that_of_its_stream()
+    ensures first { (first size : ℕ) → Fills (received first 0 false) (empty size) }
+    ensures written { (r : Received) (up : Upward) (n : ℕ) → n ≤ length up.held → Fills r up
+        → Fills r (record up {
+          held = drop n up.held;
+          written = up.written + n;
+        }) }
 {}
 
 /// Whether an acknowledgement is owed: what carries octets or a FIN owes one, and so does a number
@@ -217,6 +290,108 @@ mod tests {
         Ok(())
     }
 
+    /// Octets at a place arrive, where the SYN has the number 100 and the buffer is no larger than usual.
+    fn receive_at(receive: &mut Receive, up: &mut Up, place: u16, octets: &[u8]) {
+        let is_small = up.room() <= 65_535 && up.held() <= 65_535 && octets.len() <= 65_535;
+        if receive.taken() < 1 << 32 && is_small {
+            receive.arrive(up, Seq(101 + u32::from(place)), octets, false);
+        }
+    }
+
+    /// The number that comes next.
+    fn next(receive: &Receive) -> Option<Seq> {
+        if receive.taken() < 1 << 32 {
+            Some(receive.expected())
+        } else {
+            None
+        }
+    }
+
+    #[test]
+    fn octets_come_from_behind(rt: HostRuntime) -> Result<(), Fail> {
+        let mut up = Up::open(rt.alloc(), 65_535)?;
+        let mut receive = Receive::new(Seq(100));
+        receive.arrive(&mut up, Seq(106), b"56789", false);
+        assert_eq!(rt;
+            (receive.expected(), up.held(), up.ranges()),
+            (Seq(101), 0, 1)
+        );
+        let took = receive.arrive(&mut up, Seq(101), b"01234", false);
+        assert_eq!(rt;
+            took,
+            Took {
+                octets: 10,
+                fin: false,
+                ack_owed: true
+            }
+        );
+        assert_eq!(rt;
+            (receive.expected(), receive.taken(), up.held(), up.ranges()),
+            (Seq(111), 10, 10, 0)
+        );
+        let mut piece = [0; 10];
+        up.front_piece(&mut piece);
+        assert_eq!(rt; piece, *b"0123456789");
+        Ok(())
+    }
+
+    #[test]
+    fn kept_octets_past_the_wrap(rt: HostRuntime) -> Result<(), Fail> {
+        let mut up = Up::open(rt.alloc(), 65_535)?;
+        let mut receive = Receive::new(Seq(0xFFFF_FFFB));
+        receive.arrive(&mut up, Seq(2), b"ghijkl", true);
+        assert_eq!(rt; (receive.expected(), up.ranges()), (Seq(0xFFFF_FFFC), 1));
+        receive.arrive(&mut up, Seq(0xFFFF_FFFC), b"abcdef", false);
+        assert_eq!(rt; (receive.expected(), receive.ended()), (Seq(8), false));
+        let took = receive.arrive(&mut up, Seq(8), b"", true);
+        assert!(rt; took.fin);
+        assert_eq!(rt; (receive.expected(), receive.ended()), (Seq(9), true));
+        Ok(())
+    }
+
+    #[test]
+    fn the_thirty_third_range_is_not_kept(rt: HostRuntime) -> Result<(), Fail> {
+        let mut up = Up::open(rt.alloc(), 65_535)?;
+        let mut receive = Receive::new(Seq(100));
+        for k in 1..34 {
+            receive_at(&mut receive, &mut up, 2 * k, b"k");
+        }
+        assert_eq!(rt; (next(&receive), up.ranges()), (Some(Seq(101)), 32));
+        receive_at(&mut receive, &mut up, 0, &[b'u'; 66]);
+        assert_eq!(rt; (next(&receive), up.ranges()), (Some(Seq(167)), 0));
+        Ok(())
+    }
+
+    #[test]
+    fn a_fin_past_a_gap_is_not_kept(rt: HostRuntime) -> Result<(), Fail> {
+        let mut up = Up::open(rt.alloc(), 65_535)?;
+        let mut receive = Receive::new(Seq(100));
+        receive.arrive(&mut up, Seq(111), b"abcdefghij", true);
+        receive.arrive(&mut up, Seq(101), b"0123456789", false);
+        assert_eq!(rt; (receive.expected(), receive.ended()), (Seq(121), false));
+        receive.arrive(&mut up, Seq(121), b"", true);
+        assert_eq!(rt; (receive.expected(), receive.ended()), (Seq(122), true));
+        Ok(())
+    }
+
+    #[test]
+    fn a_fin_in_a_gap_before_a_kept_octet(rt: HostRuntime) -> Result<(), Fail> {
+        let mut up = Up::open(rt.alloc(), 65_535)?;
+        let mut receive = Receive::new(Seq(100));
+        receive.arrive(&mut up, Seq(106), b"5", false);
+        let took = receive.arrive(&mut up, Seq(101), b"01234", true);
+        assert_eq!(rt;
+            took,
+            Took {
+                octets: 6,
+                fin: false,
+                ack_owed: true
+            }
+        );
+        assert_eq!(rt; (receive.expected(), receive.ended()), (Seq(107), false));
+        Ok(())
+    }
+
     #[test]
     fn a_fin_waits_for_the_gap(rt: HostRuntime) -> Result<(), Fail> {
         let mut up = Up::open(rt.alloc(), 6)?;
@@ -237,7 +412,7 @@ mod tests {
         assert_eq!(rt;
             took,
             Took {
-                octets: 3,
+                octets: 0,
                 fin: true,
                 ack_owed: true
             }

@@ -11,14 +11,15 @@ use Rattle.net_octets.proofs.Parts.{parted, length-part, two-two_at, four-four_a
 use Rattle.tlv_table.specs.declared.TlvFault.{TlvFault}
 use Rattle.tlv_table.specs.Reading.{Found, reading}
 use Rattle.tlv_table.proofs.Laws.{list_read, read_list}
+use Rattle.tcp_segment.specs.declared.Options.{Options}
 use Rattle.tcp_segment.specs.declared.TcpView.{TcpView}
-use Rattle.tcp_segment.specs.Tcp.{Tcp, IsTcp, tcp_form, tcp_rows, mss_in, segment_with, summed, head_length, head_reading, mss_found, mss_reading, fields_of, ◌>>=◌, tcp_reading, read_tcp, tcp_of}
+use Rattle.tcp_segment.specs.Tcp.{Tcp, IsTcp, tcp_form, tcp_rows, mss_in, scale_in, options_in, segment_with, summed, head_length, head_reading, options_found, options_reading, fields_of, ◌>>=◌, tcp_reading, read_tcp, tcp_of}
 
 -- a segment by the parts of its reading
-read_by : (from to : ℕ) (octets : List ℕ) (head : ℕ) (mss : Option ℕ) → head_reading from to octets ≡ Ok head → mss_reading (part octets 20 (head - 20)) ≡ Ok mss → tcp_reading from to octets ≡ Ok (fields_of octets head mss)
-read_by from to octets head mss head_is mss_is =
-    ap (λ r. r >>= λ h. mss_reading (part octets 20 (h - 20)) >>= λ m. Ok (fields_of octets h m)) head_is
-    ∙ ap (λ r. r >>= λ m. Ok (fields_of octets head m)) mss_is
+read_by : (from to : ℕ) (octets : List ℕ) (head : ℕ) (said : Options) → head_reading from to octets ≡ Ok head → options_reading (part octets 20 (head - 20)) ≡ Ok said → tcp_reading from to octets ≡ Ok (fields_of octets head said)
+read_by from to octets head said head_is said_is =
+    ap (λ r. r >>= λ h. options_reading (part octets 20 (h - 20)) >>= λ m. Ok (fields_of octets h m)) head_is
+    ∙ ap (λ r. r >>= λ m. Ok (fields_of octets head m)) said_is
 
 -- the tests of a header, by its lengths and its sum
 abbrev head_by : (n h : ℕ) (s : Bool) → Result ℕ Fault
@@ -32,9 +33,9 @@ head_passes n h s enough within is =
     let fits : (nat_lt h 20 || nat_lt n h) ≡ false = grind (arith, nat_tests) in
     rw (long, fits, is) refl
 
-tcp_same : (a b c d e f g h i j k l : ℕ) (m n : Option ℕ) (o p : List ℕ) → a ≡ b → c ≡ d → e ≡ f → g ≡ h → i ≡ j → k ≡ l → m ≡ n → o ≡ p
-    → ◌≡◌ {A = Tcp} (record { from_port = a; to_port = c; seq = e; ack = g; flags = i; window = k; mss = m; body = o }) (record { from_port = b; to_port = d; seq = f; ack = h; flags = j; window = l; mss = n; body = p })
-tcp_same a b c d e f g h i j k l m n o p ab cd ef gh ij kl mn op = cc
+tcp_same : (a b c d e f g h i j k l : ℕ) (m n q r : Option ℕ) (o p : List ℕ) → a ≡ b → c ≡ d → e ≡ f → g ≡ h → i ≡ j → k ≡ l → m ≡ n → q ≡ r → o ≡ p
+    → ◌≡◌ {A = Tcp} (record { from_port = a; to_port = c; seq = e; ack = g; flags = i; window = k; mss = m; scale = q; body = o }) (record { from_port = b; to_port = d; seq = f; ack = h; flags = j; window = l; mss = n; scale = r; body = p })
+tcp_same a b c d e f g h i j k l m n q r o p ab cd ef gh ij kl mn qr op = cc
 
 pub length-segment : (words reserved sum urgent : ℕ) (options : List ℕ) (tcp : Tcp) → length (segment_with words reserved sum urgent options tcp) ≡ 20 + length options + length tcp.body
 length-segment words reserved sum urgent options tcp = omega (arith, length-append options tcp.body)
@@ -48,14 +49,14 @@ reads from to octets tcp g =
     let holds : sum_ok (summed from to written) ≡ true = sym (ap (λ o. sum_ok (summed from to o)) g.is) ∙ g.holds in
     let passes : head_reading from to written ≡ Ok (4 * g.words) = head_passes (length written) (head_length written) (sum_ok (summed from to written)) (omega (arith, head)) (omega (arith, head, size)) holds ∙ ap Ok head in
     let options_are : part written 20 (4 * g.words - 20) ≡ g.options = take_at g.options tcp.body (4 * g.words - 20) (omega arith) in
-    let mss_is : mss_reading (part written 20 (4 * g.words - 20)) ≡ Ok tcp.mss = ap mss_reading options_are ∙ ap mss_found (list_read tcp_form tcp_rows g.options g.found g.lists) ∙ ap Ok (sym g.mss) in
+    let said_is : options_reading (part written 20 (4 * g.words - 20)) ≡ Ok (options_in g.found) = ap options_reading options_are ∙ ap options_found (list_read tcp_form tcp_rows g.options g.found g.lists) in
     let body_is : drop (4 * g.words) written ≡ tcp.body =
     ap (λ n. drop n written) (sym g.options_size) ∙ sym (drop-drop (length g.options) 20 written) ∙ drop_at g.options tcp.body (length g.options) refl in
-    ap (tcp_reading from to) g.is ∙ read_by from to written (4 * g.words) tcp.mss passes mss_is
-    ∙ ap Ok (tcp_same _ tcp.from_port _ tcp.to_port _ tcp.seq _ tcp.ack _ tcp.flags _ tcp.window _ tcp.mss _ tcp.body
+    ap (tcp_reading from to) g.is ∙ read_by from to written (4 * g.words) (options_in g.found) passes said_is
+    ∙ ap Ok (tcp_same _ tcp.from_port _ tcp.to_port _ tcp.seq _ tcp.ack _ tcp.flags _ tcp.window _ tcp.mss _ tcp.scale _ tcp.body
     (from_be_bytes-to_be_bytes_2 tcp.from_port g.fits.from_port) (from_be_bytes-to_be_bytes_2 tcp.to_port g.fits.to_port)
     (from_be_bytes-to_be_bytes_4 tcp.seq g.fits.seq) (from_be_bytes-to_be_bytes_4 tcp.ack g.fits.ack) refl
-    (from_be_bytes-to_be_bytes_2 tcp.window g.fits.window) refl body_is)
+    (from_be_bytes-to_be_bytes_2 tcp.window g.fits.window) (sym g.mss) (sym g.scale) body_is)
   where
     quotient : (words reserved : ℕ) → reserved < 16 → (16 * words + reserved) / 16 ≡ words
     quotient words reserved fits = omega arith
@@ -88,14 +89,14 @@ head_found n h s head is =
     by_tests false false false e = cc
     by_tests false false true e = (refl, refl, cc)
 
-mss_is_found : (r : Result (List Found) TlvFault) (mss : Option ℕ) → mss_found r ≡ Ok mss → (found : List Found) × (r ≡ Ok found) × (mss ≡ mss_in found)
-mss_is_found (Ok found) mss is = (found, refl, same (mss_in found) mss is)
+options_are_found : (r : Result (List Found) TlvFault) (said : Options) → options_found r ≡ Ok said → (found : List Found) × (r ≡ Ok found) × (said ≡ options_in found)
+options_are_found (Ok found) said is = (found, refl, same (options_in found) said is)
   where
-    same : (x y : Option ℕ) → ◌≡◌ {A = Result (Option ℕ) Fault} (Ok x) (Ok y) → y ≡ x
+    same : (x y : Options) → ◌≡◌ {A = Result Options Fault} (Ok x) (Ok y) → y ≡ x
     same x y e = cc
-mss_is_found (Err fault) mss is = absurd (apart is)
+options_are_found (Err fault) said is = absurd (apart is)
   where
-    apart : ◌≡◌ {A = Result (Option ℕ) Fault} (Err (record { kind = BadLength; at = 20 })) (Ok mss) → ⊥
+    apart : ◌≡◌ {A = Result Options Fault} (Err (record { kind = BadLength; at = 20 })) (Ok said) → ⊥
     apart e = cc
 
 -- one part more
@@ -113,9 +114,9 @@ middle octets fits long =
     halves : (n : ℕ) → n ≡ 16 * (n / 16) + n % 16
     halves n = omega arith
 
-whole : (octets : List ℕ) (head : ℕ) (mss : Option ℕ) → IsOctets octets → 20 ≤ length octets → 20 ≤ head
-    → octets ≡ segment_with (one_at octets 12 / 16) (one_at octets 12 % 16) (two_at octets 16) (two_at octets 18) (part octets 20 (head - 20)) (fields_of octets head mss)
-whole octets head mss fits long enough =
+whole : (octets : List ℕ) (head : ℕ) (said : Options) → IsOctets octets → 20 ≤ length octets → 20 ≤ head
+    → octets ≡ segment_with (one_at octets 12 / 16) (one_at octets 12 % 16) (two_at octets 16) (two_at octets 18) (part octets 20 (head - 20)) (fields_of octets head said)
+whole octets head said fits long enough =
     let one = two (two_at octets 0) in
     let two_ = one ++ two (two_at octets 2) in
     let three = two_ ++ four (four_at octets 4) in
@@ -136,11 +137,11 @@ whole octets head mss fits long enough =
 -- what is read is spelled so
 pub spelled : (from to : ℕ) (octets : List ℕ) (tcp : Tcp) → IsOctets octets → tcp_reading from to octets ≡ Ok tcp → IsTcp from to octets tcp
 spelled from to octets tcp fits is =
-    let head = bind_ok (head_reading from to octets) (λ h. mss_reading (part octets 20 (h - 20)) >>= λ m. Ok (fields_of octets h m)) tcp is in
-    let mss = bind_ok (mss_reading (part octets 20 (head.0 - 20))) (λ m. Ok (fields_of octets head.0 m)) tcp head.2 in
+    let head = bind_ok (head_reading from to octets) (λ h. options_reading (part octets 20 (h - 20)) >>= λ m. Ok (fields_of octets h m)) tcp is in
+    let said = bind_ok (options_reading (part octets 20 (head.0 - 20))) (λ m. Ok (fields_of octets head.0 m)) tcp head.2 in
     let there = head_found (length octets) (head_length octets) (sum_ok (summed from to octets)) head.0 head.1 in
-    let found = mss_is_found (reading tcp_form tcp_rows (part octets 20 (head.0 - 20))) mss.0 mss.1 in
-    subst (λ (t : Tcp). IsTcp from to octets t) (same (fields_of octets head.0 mss.0) tcp mss.2) (record {
+    let found = options_are_found (reading tcp_form tcp_rows (part octets 20 (head.0 - 20))) said.0 said.1 in
+    subst (λ (t : Tcp). IsTcp from to octets t) (same (fields_of octets head.0 said.0) tcp said.2) (record {
       words = one_at octets 12 / 16;
       words_fit = (omega arith, omega (arith, fits 12));
       reserved = one_at octets 12 % 16;
@@ -160,8 +161,9 @@ spelled from to octets tcp fits is =
         ack = four_at-fits octets 8 fits;
         window = two_at-fits octets 14 fits;
       };
-      mss = found.2;
-      is = whole octets head.0 mss.0 fits (omega arith) (omega arith);
+      mss = ap (λ (o : Options). o.mss) found.2;
+      scale = ap (λ (o : Options). o.scale) found.2;
+      is = whole octets head.0 said.0 fits (omega arith) (omega arith);
       holds = there.holds;
     })
   where

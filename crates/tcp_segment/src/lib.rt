@@ -4,7 +4,7 @@
 ghost use Rattle.std.specs.Prelude.{◌≡◌, ℕ, List, [], None, Some, Ok, Err, ◌+◌, ◌-◌, ◌*◌, ◌/◌, ◌≤◌, ◌<◌, ◌^◌, ◌↔◌, ◌++◌, ◌∷◌, length, take, drop, IsOk, IfOk, IfSome, OnErr, MatchResult};
 ghost use Rattle.std.specs.Result.{result_err};
 ghost use Rattle.net_octets.specs.Octets.{IsOctets, two};
-ghost use Rattle.tcp_segment.specs.Tcp.{Tcp, Fits, IsTcp, head_length, head_reading, mss_reading, fields_of, tcp_reading, read_tcp, tcp_fault, options_octets, head_octets, tcp_length, tcp_with, tcp_octets, tcp_of};
+ghost use Rattle.tcp_segment.specs.Tcp.{Tcp, Fits, IsTcp, has, head_length, head_reading, options_reading, fields_of, tcp_reading, read_tcp, tcp_fault, mss_octets, scale_octets, words_of as words_by, numbers_of, head_octets, tcp_length, tcp_with, tcp_octets, tcp_of};
 
 use byteorder::{BigEndian, ByteOrder};
 use net_octets::{Fault, FaultKind, Ip4, NoRoom, checksum_after, pseudo};
@@ -25,8 +25,25 @@ const FORM: Form = Form {
     counts_head: true,
 };
 
-/// A segment. `flags` has the eight bits from CWR down to FIN, and `mss` is the greatest segment
-/// size that its options say first.
+/// The flag of a segment after which its sender sends no more.
+pub const FIN: u8 = 0x01;
+
+/// The flag of a segment that begins a connection.
+pub const SYN: u8 = 0x02;
+
+/// The flag of a segment that resets a connection.
+pub const RST: u8 = 0x04;
+
+/// The flag of a segment whose octets are to be handed on at once.
+pub const PSH: u8 = 0x08;
+
+/// The flag of a segment whose acknowledgement number counts.
+pub const ACK: u8 = 0x10;
+
+/// A segment. `flags` has the eight bits from CWR down to FIN. `mss` is the greatest segment size
+/// that its options say first, and `scale` the first window scale, as it stands there: from 0 to
+/// 255, on any segment. That it counts only with SYN, and as 14 at most (RFC 7323, 2.2 and 2.3),
+/// is for the connection to see.
 #[derive(Clone, Copy, Debug, PartialEq, Eq)]
 pub struct TcpView<'a> {
     pub from_port: u16,
@@ -36,7 +53,53 @@ pub struct TcpView<'a> {
     pub flags: u8,
     pub window: u16,
     pub mss: Option<u16>,
+    pub scale: Option<u8>,
     pub body: &'a [u8],
+}
+
+impl TcpView<'_> {
+    /// Whether the segment has FIN.
+    pub fn is_fin(&self) -> bool
+        ensures { result ≡ has FIN self.now.flags }
+    {
+        self.flags & FIN != 0
+    }
+
+    /// Whether the segment has SYN.
+    pub fn is_syn(&self) -> bool
+        ensures { result ≡ has SYN self.now.flags }
+    {
+        self.flags & SYN != 0
+    }
+
+    /// Whether the segment has RST.
+    pub fn is_rst(&self) -> bool
+        ensures { result ≡ has RST self.now.flags }
+    {
+        self.flags & RST != 0
+    }
+
+    /// Whether the segment has ACK.
+    pub fn is_ack(&self) -> bool
+        ensures { result ≡ has ACK self.now.flags }
+    {
+        self.flags & ACK != 0
+    }
+
+    /// How many sequence numbers the segment takes: one for each octet, one for SYN and one for
+    /// FIN (RFC 9293, 3.4, SEG.LEN).
+    pub fn numbers(&self) -> u64
+        ensures { result ≡ numbers_of (tcp_of self.now) }
+    {
+        self.body.len() as u64 + u64::from(self.is_syn()) + u64::from(self.is_fin())
+    }
+}
+
+/// What the options of a segment say first.
+#[derive(Clone, Copy)]
+struct Options {
+    mss: Option<u16>,
+    scale: Option<u8>,
 }
 
 /// Reads a segment between two addresses, of at most 65,535 octets. The fault is the first of
@@ -60,8 +123,8 @@ fn segment_in(octets: &[u8], from: Ip4, to: Ip4) -> Result<TcpView<'_>, Fault>
         (λ fault. tcp_reading from.0 to.0 octets.now ≡ Err fault) }
 {
     let head = head_in(octets, from, to)?;
-    let mss = mss_in(&octets[HEAD..head])?;
-    Ok(fields_in(octets, head, mss))
+    let options = options_in(&octets[HEAD..head])?;
+    Ok(fields_in(octets, head, options))
 }
 
 /// The length of the header, once the header and the sum are right.
@@ -85,11 +148,11 @@ fn head_in(octets: &[u8], from: Ip4, to: Ip4) -> Result<usize, Fault>
     Ok(head)
 }
 
-/// The first greatest segment size that options say.
-fn mss_in(options: &[u8]) -> Result<Option<u16>, Fault>
-    ensures { result ≡ mss_reading options.now }
+/// The first greatest segment size and the first window scale that options say.
+fn options_in(options: &[u8]) -> Result<Options, Fault>
+    ensures { result ≡ options_reading options.now }
 {
-    let Some(table) = Table::new(FORM, rows![2: 2 to 2, repeats]) else {
+    let Some(table) = Table::new(FORM, rows![2: 2 to 2, repeats; 3: 1 to 1, repeats]) else {
         unreachable!();
     };
     let Ok(fields) = table.read(options) else {
@@ -98,12 +161,15 @@ fn mss_in(options: &[u8]) -> Result<Option<u16>, Fault>
             at: HEAD,
         });
     };
-    Ok(fields.first(2).map(|body| BigEndian::read_u16(body)))
+    Ok(Options {
+        mss: fields.first(2).map(|body| BigEndian::read_u16(body)),
+        scale: fields.first(3).map(|body| body[0]),
+    })
 }
 
-fn fields_in(octets: &[u8], head: usize, mss: Option<u16>) -> TcpView<'_>
+fn fields_in(octets: &[u8], head: usize, options: Options) -> TcpView<'_>
     requires { (20 ≤ head) × (head ≤ length octets.now) }
-    ensures { tcp_of result ≡ fields_of octets.now head mss }
+    ensures { tcp_of result ≡ fields_of octets.now head options }
 {
     TcpView {
         from_port: BigEndian::read_u16(&octets[..2]),
@@ -112,13 +178,15 @@ fn fields_in(octets: &[u8], head: usize, mss: Option<u16>) -> TcpView<'_>
         ack: Seq(BigEndian::read_u32(&octets[8..12])),
         flags: octets[13],
         window: BigEndian::read_u16(&octets[14..16]),
-        mss,
+        mss: options.mss,
+        scale: options.scale,
         body: &octets[head..],
     }
 }
 
 /// Writes a segment between two addresses at the front of `into`, with the greatest segment size
-/// where there is one, and answers its length in octets. The whole has under 65,536 octets. `into`
+/// where there is one, and after it a pad and the window scale where there is one, as it is given
+/// (RFC 7323, 2.2). Answers the length in octets. The whole has under 65,536 octets. `into`
 /// is unchanged where it is too short, and past the segment.
 pub fn encode(v: &TcpView<'_>, from: Ip4, to: Ip4, into: &mut [u8]) -> Result<usize, NoRoom>
     requires { tcp_length (tcp_of v.now) < 2 ^ 16 }
@@ -142,13 +210,19 @@ fn length_of(v: &TcpView<'_>) -> usize
     requires { tcp_length (tcp_of v.now) < 2 ^ 16 }
     ensures { result ≡ tcp_length (tcp_of v.now) }
 {
-    HEAD + options_size(v.mss) + v.body.len()
+    HEAD + mss_size(v.mss) + scale_size(v.scale) + v.body.len()
 }
 
-fn options_size(mss: Option<u16>) -> usize
-    ensures { result ≡ length (options_octets mss) }
+fn mss_size(mss: Option<u16>) -> usize
+    ensures { result ≡ length (mss_octets mss) }
 {
     if mss.is_some() { 4 } else { 0 }
+}
+
+fn scale_size(scale: Option<u8>) -> usize
+    ensures { result ≡ length (scale_octets scale) }
+{
+    if scale.is_some() { 4 } else { 0 }
 }
 
 /// Writes a segment into exactly as many octets as it takes. Its octets are summed once, with 0 in
@@ -160,8 +234,9 @@ fn write(v: &TcpView<'_>, from: Ip4, to: Ip4, segment: &mut [u8])
     ensures fits { Fits (tcp_of v.now) }
     ensures mss { IfSome v.now.mss (λ mss. mss < 2 ^ 16) }
 {
-    let options = options(v.mss);
-    put(&head(v), &options[..options_size(v.mss)], v.body, segment);
+    let options = written_options(v.mss, v.scale);
+    let options_size = mss_size(v.mss) + scale_size(v.scale);
+    put(&head(v), &options[..options_size], v.body, segment);
     let start = pseudo(from, to, PROTOCOL, segment.len() as u16);
     let sum = checksum_after(start, segment);
     BigEndian::write_u16(&mut segment[16..18], sum);
@@ -188,26 +263,33 @@ fn head(v: &TcpView<'_>) -> [u8; HEAD]
     BigEndian::write_u16(&mut head[2..4], v.to_port);
     BigEndian::write_u32(&mut head[4..8], v.seq.0);
     BigEndian::write_u32(&mut head[8..12], v.ack.0);
-    head[12] = words_of(v.mss) * 16;
+    head[12] = words_of(v) * 16;
     head[13] = v.flags;
     BigEndian::write_u16(&mut head[14..16], v.window);
     head
 }
 
 /// The words of four octets that a header takes.
-fn words_of(mss: Option<u16>) -> u8
-    ensures { result ≡ (20 + length (options_octets mss)) / 4 }
+fn words_of(v: &TcpView<'_>) -> u8
+    ensures words { result ≡ words_by (tcp_of v.now) }
+    ensures few { result < 16 }
 {
-    ((HEAD + options_size(mss)) / 4) as u8
+    ((HEAD + mss_size(v.mss) + scale_size(v.scale)) / 4) as u8
 }
 
-/// The option that says the greatest segment size.
-fn options(mss: Option<u16>) -> [u8; 4]
-    ensures octets { options_octets mss ≡ take (length (options_octets mss)) result }
+/// The options that we write, with octets of no meaning after them.
+fn written_options(mss: Option<u16>, scale: Option<u8>) -> [u8; 8]
+    ensures octets { mss_octets mss ++ scale_octets scale
+        ≡ take (length (mss_octets mss) + length (scale_octets scale)) result }
     ensures fits { IfSome mss (λ mss. mss < 2 ^ 16) }
 {
     let [high, low] = mss.unwrap_or(0).to_be_bytes();
-    [2, 4, high, low]
+    let shift = scale.unwrap_or(0);
+    if mss.is_some() {
+        [2, 4, high, low, 1, 3, 3, shift]
+    } else {
+        [1, 3, 3, shift, 0, 0, 0, 0]
+    }
 }
 
 /// The grammar of segments holds of octets and fields exactly where these fields are read.
@@ -224,7 +306,7 @@ mod tests {
 
     const PEER: Ip4 = Ip4(0xc000_0207);
 
-    const SYN: &[u8] =
+    const SYN_WITH_MSS: &[u8] =
         b"\x0f\xa0\x00\x50\x00\x00\x03\xe8\x00\x00\x00\x00\x60\x02\xff\xff\xb6\x38\x00\x00\x02\x04\x05\xb4";
 
     const SYN_ACK: &[u8] =
@@ -235,6 +317,21 @@ mod tests {
 
     const WITH_WINDOW_SCALE: &[u8] =
         b"\x0f\xa0\x00\x50\x00\x00\x03\xe8\x00\x00\x00\x00\x70\x02\xff\xff\xa2\x2a\x00\x00\x02\x04\x05\xb4\x01\x03\x03\x07";
+
+    const SYN_ACK_WITH_SCALE: &[u8] =
+        b"\x00\x50\x0f\xa0\x00\x03\xd0\x90\x00\x00\x03\xe9\x70\x12\xff\xff\xd1\x8c\x00\x00\x02\x04\x05\xb4\x01\x03\x03\x00";
+
+    const SCALE_WITHOUT_BODY: &[u8] =
+        b"\x0f\xa0\x00\x50\x00\x00\x03\xe8\x00\x00\x00\x00\x60\x02\xff\xff\xb9\xed\x00\x00\x01\x01\x03\x02";
+
+    const SCALE_OF_TWO: &[u8] =
+        b"\x0f\xa0\x00\x50\x00\x00\x03\xe8\x00\x00\x00\x00\x60\x10\xff\xff\xb3\xde\x00\x00\x03\x04\x07\x00";
+
+    const TWO_SCALES: &[u8] =
+        b"\x0f\xa0\x00\x50\x00\x00\x03\xe9\x00\x00\x00\x05\x70\x10\xff\xff\xa3\xd3\x00\x00\x01\x03\x03\xff\x03\x03\x02\x00";
+
+    const SCALE_ALONE: &[u8] =
+        b"\x0f\xa0\x00\x50\x00\x00\x03\xe9\x00\x00\x00\x05\x60\x10\xff\xff\xf4\x74\x00\x00\x01\x03\x03\xff\x61\x62\x63";
 
     const WRONG_OPTIONS: &[u8] =
         b"\x0f\xa0\x00\x50\x00\x00\x03\xe8\x00\x00\x00\x00\x60\x02\xff\xff\xb6\xed\x00\x00\x02\x03\x05\x00";
@@ -253,7 +350,7 @@ mod tests {
 
     #[test]
     fn syn_with_mss(rt: HostRuntime) {
-        let syn = decode(SYN, GUEST, PEER).expect(&rt, "a segment");
+        let syn = decode(SYN_WITH_MSS, GUEST, PEER).expect(&rt, "a segment");
         assert_eq!(rt; (syn.from_port, syn.to_port), (4000, 80));
         assert_eq!(rt; (syn.seq, syn.ack), (Seq(1000), Seq(0)));
         assert_eq!(rt; (syn.flags, syn.window), (2, 65535));
@@ -271,11 +368,12 @@ mod tests {
             flags: 2,
             window: 65535,
             mss: Some(1460),
+            scale: None,
             body: &[],
         };
         let mut written = [7; 25];
         assert_eq!(rt; encode(&syn, GUEST, PEER, &mut written), Ok(24));
-        assert_eq!(rt; &written[..24], SYN);
+        assert_eq!(rt; &written[..24], SYN_WITH_MSS);
         assert_eq!(rt; written[24], 7);
     }
 
@@ -296,6 +394,7 @@ mod tests {
             flags: 0x12,
             window: 65535,
             mss: Some(1460),
+            scale: None,
             body: &[],
         };
         let mut written = [0; 24];
@@ -320,6 +419,7 @@ mod tests {
             flags: 0x14,
             window: 0,
             mss: None,
+            scale: None,
             body: &[],
         };
         let mut written = [0; 20];
@@ -328,24 +428,64 @@ mod tests {
     }
 
     #[test]
-    fn unknown_options_are_passed_over(rt: HostRuntime) {
+    fn window_scale_is_read(rt: HostRuntime) {
         let syn = decode(WITH_WINDOW_SCALE, GUEST, PEER).expect(&rt, "a segment");
-        assert_eq!(rt; syn.mss, Some(1460));
+        assert_eq!(rt; (syn.mss, syn.scale), (Some(1460), Some(7)));
+        assert!(rt; syn.is_syn() && !syn.is_ack() && !syn.is_rst() && !syn.is_fin());
+        assert_eq!(rt; syn.numbers(), 1);
+        let later = decode(TWO_SCALES, GUEST, PEER).expect(&rt, "a segment");
+        assert_eq!(rt; (later.mss, later.scale), (None, Some(255)));
+        assert!(rt; !later.is_syn() && later.is_ack());
+        assert_eq!(rt; later.numbers(), 0);
+    }
+
+    #[test]
+    fn window_scale_is_written(rt: HostRuntime) {
+        let mut written = [0; 28];
+        let answer = decode(SYN_ACK_WITH_SCALE, PEER, GUEST).expect(&rt, "a segment");
+        assert_eq!(rt; (answer.mss, answer.scale), (Some(1460), Some(0)));
+        assert_eq!(rt; encode(&answer, PEER, GUEST, &mut written), Ok(28));
+        assert_eq!(rt; written.as_slice(), SYN_ACK_WITH_SCALE);
+        let alone = decode(SCALE_ALONE, GUEST, PEER).expect(&rt, "a segment");
+        assert_eq!(rt; (alone.scale, alone.numbers()), (Some(255), 3));
+        assert_eq!(rt; encode(&alone, GUEST, PEER, &mut written), Ok(27));
+        assert_eq!(rt; &written[..27], SCALE_ALONE);
+    }
+
+    #[test]
+    fn flags_and_numbers(rt: HostRuntime) {
+        let last = TcpView {
+            from_port: 4000,
+            to_port: 80,
+            seq: Seq(1001),
+            ack: Seq(1),
+            flags: FIN | SYN | RST | PSH | ACK,
+            window: 65535,
+            mss: None,
+            scale: None,
+            body: b"abcde",
+        };
+        assert!(rt; last.is_fin() && last.is_syn() && last.is_rst() && last.is_ack());
+        assert_eq!(rt; (last.flags, last.numbers()), (0x1f, 7));
+        let reset = decode(RESET, PEER, GUEST).expect(&rt, "a segment");
+        assert!(rt; reset.is_rst() && reset.is_ack() && !reset.is_syn() && !reset.is_fin());
     }
 
     #[test]
     fn segments_that_are_wrong(rt: HostRuntime) {
         let at = |kind, at| Some(Fault { kind, at });
-        assert_eq!(rt; fault(&SYN[..19]), at(FaultKind::Short, 19));
+        assert_eq!(rt; fault(&SYN_WITH_MSS[..19]), at(FaultKind::Short, 19));
         assert_eq!(rt; fault(FOUR_WORDS), at(FaultKind::BadLength, 12));
-        assert_eq!(rt; fault(&SYN[..20]), at(FaultKind::BadLength, 12));
+        assert_eq!(rt; fault(&SYN_WITH_MSS[..20]), at(FaultKind::BadLength, 12));
         assert_eq!(rt; fault(OTHER_SUM), at(FaultKind::BadSum, 16));
         assert_eq!(rt; fault(WRONG_OPTIONS), at(FaultKind::BadLength, 20));
+        assert_eq!(rt; fault(SCALE_WITHOUT_BODY), at(FaultKind::BadLength, 20));
+        assert_eq!(rt; fault(SCALE_OF_TWO), at(FaultKind::BadLength, 20));
     }
 
     #[test]
     fn no_room_changes_nothing(rt: HostRuntime) {
-        let syn = decode(SYN, GUEST, PEER).expect(&rt, "a segment");
+        let syn = decode(SYN_WITH_MSS, GUEST, PEER).expect(&rt, "a segment");
         let mut short = [7; 23];
         assert_eq!(rt; encode(&syn, GUEST, PEER, &mut short), Err(NoRoom));
         assert_eq!(rt; short, [7; 23]);

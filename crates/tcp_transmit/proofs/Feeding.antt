@@ -1,46 +1,52 @@
 -- The buffer stays that of its connection.
-use Rattle.std.proofs.Common.{◌≡◌, ℕ, ◌+◌, ◌*◌, ◌-◌, ◌^◌, ◌<◌, ◌≤◌, List, ◌++◌, length, Bool, true, false, ◌&&◌, nat_lt, nat_le, Option, None, Some, min, max, if◌then◌else◌, arith, rules, refl, subst, sym, ◌∙◌, ℤ, length-append, length-drop}
+use Rattle.std.proofs.Common.{◌≡◌, ℕ, ◌+◌, ◌*◌, ◌^◌, ◌<◌, ◌≤◌, List, ◌++◌, length, Bool, true, false, ◌&&◌, ◌||◌, ◌⊎◌, inl, inr, IsSome, nat_lt, nat_eq, Option, None, Some, min, max, if◌then◌else◌, arith, refl, subst, sym, ap, ◌∙◌, ℤ, length-append, length-drop}
 use Rattle.std.proofs.lemmas.Bool.Decides.{nat_tests}
+use Rattle.cwnd.specs.Congestion.{Congestion, after_expiry, growth, half_of}
+use Rattle.retransmit.specs.Resending.{IsSteady, Resending, after_answered, after_moved, after_start, after_stop, begun, due_by, expired_by, is_expired, is_off, set_unless_running}
+use Rattle.retransmit.specs.Estimate as estimates
+use Rattle.retransmit.specs.Resending as resending
+use Rattle.retransmit.specs.declared.Timer.{Timer}
+use Rattle.retransmit.specs.declared.Timer.TheVariants.{Off, Since, Expired}
+use Rattle.retransmit.proofs.Steady.{steady_answered, steady_expired, steady_moved, steady_sent, steady_start, steady_stop}
 use Rattle.sock_buffers.specs.Downward.{Downward}
 use Rattle.seq_space.specs.declared.Seq.{Seq}
-use Rattle.tcp_transmit.specs.Acks.{IsSeenAs, acknowledged, is_acceptable, is_newer, moved, octets_acked, windowed, without}
+use Rattle.tcp_transmit.specs.Acks.{IsSeenAs, acknowledged, after_ack, congested, congested_by, cwnd_after, is_acceptable, is_duplicate, is_last_window, is_newer, is_same, is_third, moved, octets_acked, opened, windowed, without}
 use Rattle.tcp_transmit.specs.Pieces.{end_of, next, numbers, piece_owed}
-use Rattle.retransmit.specs.Estimate.{after_sample}
-use Rattle.tcp_transmit.specs.Timing.{after_sent, begun, kept_running, measured, measured_by, set_now, watched_over}
-use Rattle.tcp_transmit.specs.Transmission.{Feeds, IsSentOf, IsSound, Transmission, is_closed, is_off, octets_read, places}
+use Rattle.tcp_transmit.specs.Timing.{after_expired, after_sent, cwnd_expired, goes_again, is_given_up, round_trip, watched, watched_over}
+use Rattle.tcp_transmit.specs.Transmission.{Feeds, IsOfSegments, IsSentOf, IsSound, Transmission, edge_of, end_places, flight, is_closed, octets_read, places}
 use Rattle.tcp_transmit.specs.declared.AckSeen.{AckSeen}
 use Rattle.tcp_transmit.specs.declared.AckSeen.TheVariants.{Old, Same, Forward, FinToo, TooFar}
 use Rattle.tcp_transmit.specs.declared.End.{End}
 use Rattle.tcp_transmit.specs.declared.End.TheVariants.{Open, Unsent, Sent}
 use Rattle.tcp_transmit.specs.declared.Piece.{Piece}
-use Rattle.tcp_transmit.specs.declared.Timed.{Timed}
-use Rattle.tcp_transmit.specs.declared.Timer.{Timer}
-use Rattle.tcp_transmit.specs.declared.Timer.TheVariants.{Off, Until, Expired}
 use Rattle.tcp_transmit.proofs.Owed.{Lies, next_lies}
 
-begun_on : (timer : Timer) (at : ℕ) → is_off (begun timer (Until at)) ≡ false
-begun_on Off at = refl
-begun_on (Until now) at = refl
-begun_on Expired at = refl
+begun_on : (timer : Timer) (now : ℕ) → is_off (begun timer now) ≡ false
+begun_on Off now = refl
+begun_on (Since base) now = refl
+begun_on (Expired at) now = refl
 
 -- another timer, where nothing is under way
-timed : (t : Transmission) (timer : Timer) → IsSound t → (t.acked < t.sent → ⊥) → IsSound (record t { timer = timer })
-timed t timer sound rests = record {
-  mss = sound.mss;
+rested : (t : Transmission) (resend : Resending) → IsSound t → (t.acked < t.sent → ⊥) → IsSteady resend → resend.resent ≡ 0 → IsSound (record t { resend = resend })
+rested t resend sound rests steady none = record {
+  least = sound.least;
+  most = sound.most;
   order = sound.order;
   set = λ under. absurd (rests under);
-  resent = sound.resent;
-  doubled = sound.doubled;
-  longest = sound.longest;
+  steady = steady;
+  begins = λ _. none;
+  segments = sound.segments;
+  early = sound.early;
+  probes = sound.probes;
 }
 
 -- the timer of a closed window, by what it looks at
 watched_by : (t : Transmission) (down : Downward) (now : ℕ) (under closed unsent : Bool)
-    → nat_lt t.acked t.sent ≡ under → is_closed t ≡ closed → nat_lt t.sent (places t down) ≡ unsent
+    → nat_lt t.acked t.sent ≡ under → is_closed t ≡ closed → nat_lt t.sent (places t down) ≡ unsent → now ≤ 2 ^ 62
     → IsSound t → down.first ≡ min t.acked (octets_read down) → IsSentOf t.end t.sent (octets_read down)
     → octets_read down < 2 ^ 62
-    → Feeds (if under then t else record t { timer = if closed && unsent then begun t.timer (set_now t now) else Off }) down
-watched_by t down now true closed unsent u c s sound from all few = record {
+    → Feeds (if under then t else record t { resend = if closed && unsent then after_start t.resend now else after_stop t.resend }) down
+watched_by t down now true closed unsent u c s soon sound from all few = record {
   sound = sound;
   first = from;
   all = all;
@@ -48,24 +54,27 @@ watched_by t down now true closed unsent u c s sound from all few = record {
   rests = λ at _. absurd (grind (arith, nat_tests));
   waits = λ at _ _. absurd (grind (arith, nat_tests));
 }
-watched_by t down now false true true u c s sound from all few = record {
-  sound = timed t _ sound (λ under. absurd (grind (arith, nat_tests)));
-  first = from;
-  all = all;
-  few = few;
-  rests = λ at _. (c, grind (arith, nat_tests));
-  waits = λ at _ _. begun_on t.timer (now + t.estimate.wait);
-}
-watched_by t down now false true false u c s sound from all few = record {
-  sound = timed t _ sound (λ under. absurd (grind (arith, nat_tests)));
+watched_by t down now false true true u c s soon sound from all few =
+    let order = sound.order in
+    let at_rest : t.acked ≡ t.sent = grind (arith, nat_tests) in
+    record {
+      sound = rested t (after_start t.resend now) sound (λ under. absurd (grind (arith, nat_tests))) (steady_start t.resend now soon sound.steady) (sound.begins at_rest);
+      first = from;
+      all = all;
+      few = few;
+      rests = λ at _. (c, grind (arith, nat_tests));
+      waits = λ at _ _. begun_on t.resend.timer now;
+    }
+watched_by t down now false true false u c s soon sound from all few = record {
+  sound = rested t (after_stop t.resend) sound (λ under. absurd (grind (arith, nat_tests))) (steady_stop t.resend sound.steady) refl;
   first = from;
   all = all;
   few = few;
   rests = λ at off. absurd (cc off);
   waits = λ at _ more. absurd (grind (arith, nat_tests));
 }
-watched_by t down now false false unsent u c s sound from all few = record {
-  sound = timed t _ sound (λ under. absurd (grind (arith, nat_tests)));
+watched_by t down now false false unsent u c s soon sound from all few = record {
+  sound = rested t (after_stop t.resend) sound (λ under. absurd (grind (arith, nat_tests))) (steady_stop t.resend sound.steady) refl;
   first = from;
   all = all;
   few = few;
@@ -73,9 +82,9 @@ watched_by t down now false false unsent u c s sound from all few = record {
   waits = λ at closed _. absurd (cc (c, closed));
 }
 
-pub watched_feeds : (t : Transmission) (down : Downward) (now : ℕ) → IsSound t → down.first ≡ min t.acked (octets_read down)
+pub watched_feeds : (t : Transmission) (down : Downward) (now : ℕ) → now ≤ 2 ^ 62 → IsSound t → down.first ≡ min t.acked (octets_read down)
     → IsSentOf t.end t.sent (octets_read down) → octets_read down < 2 ^ 62 → Feeds (watched_over t down now) down
-watched_feeds t down now = watched_by t down now (nat_lt t.acked t.sent) (is_closed t) (nat_lt t.sent (places t down)) refl refl refl
+watched_feeds t down now soon = watched_by t down now (nat_lt t.acked t.sent) (is_closed t) (nat_lt t.sent (places t down)) refl refl refl soon
 
 open_on : (end : End) (acked sent octets first more : ℕ) → end ≡ Open → acked ≤ sent → IsSentOf end sent octets → first ≡ min acked octets
     → (first ≡ min acked (octets + more)) × IsSentOf end sent (octets + more)
@@ -84,13 +93,13 @@ open_on Unsent acked sent octets first more is within all from = cc
 open_on Sent acked sent octets first more is within all from = cc
 
 -- more octets of the host
-pub more_feeds : (t : Transmission) (down : Downward) (more : List ℕ) (now : ℕ) → t.end ≡ Open → Feeds t down
+pub more_feeds : (t : Transmission) (down : Downward) (more : List ℕ) (now : ℕ) → now ≤ 2 ^ 62 → t.end ≡ Open → Feeds t down
     → octets_read down + length more < 2 ^ 62
     → Feeds (watched_over t (record down { octets = down.octets ++ more }) now) (record down { octets = down.octets ++ more })
-more_feeds t down more now on feeds few =
+more_feeds t down more now soon on feeds few =
     let is : down.first + length (down.octets ++ more) ≡ octets_read down + length more = omega (arith, length-append down.octets more) in
     let both = open_on t.end t.acked t.sent (octets_read down) down.first (length more) on feeds.sound.order feeds.all feeds.first in
-    watched_feeds t (record down { octets = down.octets ++ more }) now feeds.sound
+    watched_feeds t (record down { octets = down.octets ++ more }) now soon feeds.sound
     (subst (λ n. down.first ≡ min t.acked n) (sym is) both.0)
     (subst (λ n. IsSentOf t.end t.sent n) (sym is) both.1)
     (omega arith)
@@ -130,24 +139,28 @@ pub owed_ends : (t : Transmission) (down : Downward) (p : Piece) → Feeds t dow
 owed_ends t down p feeds owed =
     ends_within t.end p.fin down.first t.acked t.sent (octets_read down) p.place p.length (owed_lies t down p feeds owed)
 
-pub running_on : (timer : Timer) (at : ℕ) → is_off (kept_running timer (Until at)) ≡ false
-running_on Off at = refl
-running_on (Until now) at = refl
-running_on Expired at = refl
+sent_on : (timer : Timer) (again : Bool) (now : ℕ) → is_off (if again then Since now else set_unless_running timer now) ≡ false
+sent_on timer true now = refl
+sent_on Off false now = refl
+sent_on (Since base) false now = refl
+sent_on (Expired at) false now = refl
 
 -- a piece was sent
-pub sent_feeds : (t : Transmission) (down : Downward) (p : Piece) (now : ℕ) → Feeds t down → piece_owed t down ≡ Some p
+pub sent_feeds : (t : Transmission) (down : Downward) (p : Piece) (now : ℕ) → now ≤ 2 ^ 62 → Feeds t down → piece_owed t down ≡ Some p
     → Feeds (after_sent t p now) down
-sent_feeds t down p now feeds owed =
+sent_feeds t down p now soon feeds owed =
     let lies = owed_lies t down p feeds owed in
     record {
       sound = record {
-        mss = feeds.sound.mss;
+        least = feeds.sound.least;
+        most = feeds.sound.most;
         order = let order = feeds.sound.order in omega arith;
-        set = λ _. running_on t.timer (now + t.estimate.wait);
-        resent = feeds.sound.resent;
-        doubled = feeds.sound.doubled;
-        longest = feeds.sound.longest;
+        set = λ _. sent_on t.resend.timer (goes_again t p) now;
+        steady = steady_sent t.resend (goes_again t p) now soon feeds.sound.steady;
+        begins = λ at. absurd (omega (arith, lies.under_way));
+        segments = feeds.sound.segments;
+        early = λ no. cc;
+        probes = λ _. lies.under_way;
       };
       first = feeds.first;
       all = sent_of t.end p.fin down.first t.acked t.sent (octets_read down) p.place p.length lies feeds.all;
@@ -156,132 +169,254 @@ sent_feeds t down p now feeds owed =
       waits = λ at _ _. absurd (omega (arith, lies.under_way));
     }
 
--- what neither a measured round trip nor a window changes
-record Keeps (t u : Transmission) : Type 0 where
-  mss : t.mss ≡ u.mss
+-- the timer expired
+same_off : (timer : Timer) (wait : ℕ) → is_off (expired_by timer wait) ≡ is_off timer
+same_off Off wait = refl
+same_off (Since base) wait = refl
+same_off (Expired at) wait = refl
+
+segments_expired : (cwnd : Option Congestion) (mss flight : ℕ) (again : Bool) → IsOfSegments cwnd mss → IsOfSegments (cwnd_expired cwnd flight again) mss
+segments_expired None mss flight again segments = tt
+segments_expired (Some c) mss flight again segments = by_tests (nat_lt 0 flight) again
+  where
+    by_tests : (b a : Bool) → IsOfSegments (if b then Some (after_expiry c flight a) else Some c) mss
+    by_tests false a = segments
+    by_tests true true = (segments.0, omega (arith, segments.0), segments.2)
+    by_tests true false = (segments.0, omega (arith, segments.0), omega (arith, segments.0))
+
+expired_now : (t : Transmission) (down : Downward) → is_given_up t ≡ false → Feeds t down
+    → Feeds (record t { resend = resending.after_expired t.resend; cwnd = cwnd_expired t.cwnd (flight t) t.again }) down
+expired_now t down on feeds =
+    let r = t.resend in
+    let timer_is : (resending.after_expired r).timer ≡ expired_by r.timer r.estimate.wait =
+    ap (λ (b : Bool). (if b then r else record r { estimate = estimates.after_expiry r.estimate; timer = expired_by r.timer r.estimate.wait }).timer) on in
+    let off_is : is_off (resending.after_expired r).timer ≡ is_off r.timer = ap is_off timer_is ∙ same_off r.timer r.estimate.wait in
+    let resent_is : (resending.after_expired r).resent ≡ r.resent =
+    ap (λ (b : Bool). (if b then r else record r { estimate = estimates.after_expiry r.estimate; timer = expired_by r.timer r.estimate.wait }).resent) on in
+    record {
+      sound = record {
+        least = feeds.sound.least;
+        most = feeds.sound.most;
+        order = feeds.sound.order;
+        set = λ under. off_is ∙ feeds.sound.set under;
+        steady = steady_expired r feeds.sound.steady;
+        begins = λ at. resent_is ∙ feeds.sound.begins at;
+        segments = segments_expired t.cwnd t.mss (flight t) t.again feeds.sound.segments;
+        early = feeds.sound.early;
+        probes = feeds.sound.probes;
+      };
+      first = feeds.first;
+      all = feeds.all;
+      few = feeds.few;
+      rests = λ at off. feeds.rests at (sym off_is ∙ off);
+      waits = λ at closed more. off_is ∙ feeds.waits at closed more;
+    }
+
+pub expired_feeds : (t : Transmission) (down : Downward) → Feeds t down → Feeds (after_expired t) down
+expired_feeds t down feeds = by_test (is_given_up t) refl
+  where
+    by_test : (b : Bool) → is_given_up t ≡ b → Feeds (if b then t else record t { resend = resending.after_expired t.resend; cwnd = cwnd_expired t.cwnd (flight t) t.again }) down
+    by_test true is = feeds
+    by_test false is = expired_now t down is feeds
+
+-- a step of an acknowledgement: what it keeps
+record Steps (t u : Transmission) : Type 0 where
   acked : t.acked ≡ u.acked
   sent : t.sent ≡ u.sent
   end : t.end ≡ u.end
+  sound : IsSound u
 
-kept_by_test : (b : Bool) (t u : Transmission) → Keeps t u → Keeps t (if b then u else t)
-kept_by_test true t u keeps = keeps
-kept_by_test false t u keeps = record { mss = refl; acked = refl; sent = refl; end = refl }
-
-measured_keeps : (timed : Option Timed) (t : Transmission) (place now : ℕ) → Keeps t (measured_by timed t place now)
-measured_keeps None t place now = record { mss = refl; acked = refl; sent = refl; end = refl }
-measured_keeps (Some m) t place now =
-    kept_by_test (nat_le m.end place) t (record t { estimate = after_sample t.estimate (min (now - m.at) (2 ^ 40)); timed = None })
-    (record { mss = refl; acked = refl; sent = refl; end = refl })
-
-windowed_keeps : (t : Transmission) (seq : Seq) (window : ℕ) → Keeps t (windowed t seq window)
-windowed_keeps t seq window =
-    kept_by_test (is_newer t.window seq.0 t.acked) t
-    (record t { window = Some (record { edge = t.acked + window; seq = seq; ack = t.acked }) })
-    (record { mss = refl; acked = refl; sent = refl; end = refl })
-
-windowed_sound : (t : Transmission) (seq : Seq) (window : ℕ) → IsSound t → IsSound (windowed t seq window)
-windowed_sound t seq window sound =
-    by_test (is_newer t.window seq.0 t.acked) (record t { window = Some (record { edge = t.acked + window; seq = seq; ack = t.acked }) })
-    (record {
-      mss = sound.mss;
-      order = sound.order;
-      set = sound.set;
-      resent = sound.resent;
-      doubled = sound.doubled;
-      longest = sound.longest;
-    })
+-- congestion
+segments_after : (c : Congestion) (mss flight octets : ℕ) (duplicate : Bool) → mss ≤ 1460 → IsOfSegments (Some c) mss → IsOfSegments (Some (cwnd_after c duplicate flight octets)) mss
+segments_after c mss flight octets true most segments = by_tests (nat_lt c.duplicates 2) (nat_eq c.duplicates 2)
   where
-    by_test : (b : Bool) (u : Transmission) → IsSound u → IsSound (if b then u else t)
-    by_test true u is = is
-    by_test false u is = sound
-
--- a wait is from a second to a minute
-a_second : (k w : ℕ) → min 60000 (1000 * 2 ^ k) ≤ w → 1000 ≤ w
-a_second k w doubled = let some : 0 < 2 ^ k = search rules in omega arith
-
-measured_wait : (timed : Option Timed) (t : Transmission) (place now : ℕ) → IsSound t
-    → (1000 ≤ (measured_by timed t place now).estimate.wait) × ((measured_by timed t place now).estimate.wait ≤ 60000)
-measured_wait None t place now sound = (a_second t.resent t.estimate.wait sound.doubled, sound.longest)
-measured_wait (Some m) t place now sound =
-    by_test (nat_le m.end place) (record t { estimate = after_sample t.estimate (min (now - m.at) (2 ^ 40)); timed = None })
-    (omega arith, omega arith)
+    by_tests : (a b : Bool) → IsOfSegments (Some (if a then record c { duplicates = c.duplicates + 1 } else (if b then record { mss = c.mss; window = min (2 ^ 30) (half_of c flight + 3 * c.mss); threshold = half_of c flight; duplicates = 3 } else record c { window = min (2 ^ 30) (c.window + c.mss) }))) mss
+    by_tests true b = segments
+    by_tests false true = (segments.0, omega (arith, segments.0, segments.1), omega (arith, segments.0))
+    by_tests false false = (segments.0, omega (arith, segments.0, segments.1), segments.2)
+segments_after c mss flight octets false most segments = by_tests (nat_lt 0 octets) (nat_lt c.duplicates 3)
   where
-    by_test : (b : Bool) (u : Transmission) → (1000 ≤ u.estimate.wait) × (u.estimate.wait ≤ 60000)
-        → (1000 ≤ (if b then u else t).estimate.wait) × ((if b then u else t).estimate.wait ≤ 60000)
-    by_test true u is = is
-    by_test false u is = (a_second t.resent t.estimate.wait sound.doubled, sound.longest)
+    by_tests : (a b : Bool) → IsOfSegments (Some (if a then record c { window = min (2 ^ 30) (if b then c.window + growth c octets else c.threshold); duplicates = 0 } else c)) mss
+    by_tests false b = segments
+    by_tests true true = (segments.0, omega (arith, segments.1), segments.2)
+    by_tests true false = (segments.0, omega (arith, segments.2), segments.2)
 
-set_under : (under : Bool) (at : ℕ) → under ≡ true → is_off (if under then Until at else Off) ≡ false
-set_under true at is = refl
-set_under false at is = cc
-
-moved_sound : (t : Transmission) (place now : ℕ) → IsSound t → place ≤ t.sent → IsSound (moved t place now)
-moved_sound t place now sound within =
-    let keeps = measured_keeps t.timed t place now in
-    let wait = measured_wait t.timed t place now sound in
-    let sent = keeps.sent in
-    record {
-      mss = subst (λ n. 0 < n) keeps.mss sound.mss;
-      order = omega arith;
-      set = λ under. set_under (nat_lt place (measured t place now).sent) (now + (measured t place now).estimate.wait) (grind (arith, nat_tests));
-      resent = omega arith;
-      doubled = omega arith;
-      longest = wait.1;
-    }
-
-same_sound : (t : Transmission) → IsSound t → IsSound (record t { resent = 0 })
-same_sound t sound = record {
-  mss = sound.mss;
+congested_sound : (cwnd : Option Congestion) (t : Transmission) (duplicate : Bool) (octets : ℕ) → t.cwnd ≡ cwnd → (duplicate ≡ true → t.acked < t.sent) → IsSound t
+    → IsSound (congested_by cwnd t duplicate octets)
+congested_sound None t duplicate octets is under sound = sound
+congested_sound (Some c) t duplicate octets is under sound = record {
+  least = sound.least;
+  most = sound.most;
   order = sound.order;
   set = sound.set;
-  resent = omega arith;
-  doubled = let second = a_second t.resent t.estimate.wait sound.doubled in omega arith;
-  longest = sound.longest;
+  steady = sound.steady;
+  begins = sound.begins;
+  segments = segments_after c t.mss (flight t) octets duplicate sound.most (subst (λ w. IsOfSegments w t.mss) is sound.segments);
+  early = by_test t.early duplicate refl under;
+  probes = sound.probes;
+}
+  where
+    by_test : (e d : Bool) → t.early ≡ e → (d ≡ true → t.acked < t.sent) → (e || is_third c d) ≡ true → t.acked < t.sent
+    by_test true d early under owed = sound.early early
+    by_test false true early under owed = under refl
+    by_test false false early under owed = cc
+
+pub duplicate_under : (t : Transmission) (window : ℕ) (bare : Bool) (seen : AckSeen) → is_duplicate t window bare seen ≡ true → t.acked < t.sent
+duplicate_under t window bare seen is = by_tests bare (is_same seen) (nat_lt t.acked t.sent) refl is
+  where
+    by_tests : (a b c : Bool) → nat_lt t.acked t.sent ≡ c → (a && b && c && is_last_window t.window window) ≡ true → t.acked < t.sent
+    by_tests true true true under is = grind (arith, nat_tests)
+    by_tests true true false under is = cc
+    by_tests true false c under is = cc
+    by_tests false b c under is = cc
+
+pub congested_feeds : (cwnd : Option Congestion) (t : Transmission) (down : Downward) (duplicate : Bool) (octets : ℕ) → t.cwnd ≡ cwnd → (duplicate ≡ true → t.acked < t.sent) → Feeds t down
+    → Feeds (congested_by cwnd t duplicate octets) down
+congested_feeds None t down duplicate octets is under feeds = feeds
+congested_feeds (Some c) t down duplicate octets is under feeds = record {
+  sound = congested_sound (Some c) t duplicate octets is under feeds.sound;
+  first = feeds.first;
+  all = feeds.all;
+  few = feeds.few;
+  rests = feeds.rests;
+  waits = feeds.waits;
+}
+
+pub congested_seen : (cwnd : Option Congestion) (t : Transmission) (down : Downward) (duplicate : Bool) (octets : ℕ) (at : ℤ) (seen : AckSeen) → IsSeenAs t down at seen
+    → IsSeenAs (congested_by cwnd t duplicate octets) down at seen
+congested_seen None t down duplicate octets at seen is = is
+congested_seen (Some c) t down duplicate octets at Old is = is
+congested_seen (Some c) t down duplicate octets at Same is = is
+congested_seen (Some c) t down duplicate octets at (Forward n) is = is
+congested_seen (Some c) t down duplicate octets at (FinToo n) is = is
+congested_seen (Some c) t down duplicate octets at TooFar is = is
+
+-- the window, and a probe for which it has room
+windowed_step : (t : Transmission) (seq : Seq) (window : ℕ) → IsSound t → Steps t (windowed t seq window)
+windowed_step t seq window sound = by_test (is_newer t.window seq.0 t.acked)
+  where
+    by_test : (b : Bool) → Steps t (if b then record t { window = Some (record { edge = t.acked + window; seq = seq; ack = t.acked }) } else t)
+    by_test true = record {
+      acked = refl;
+      sent = refl;
+      end = refl;
+      sound = record {
+        least = sound.least;
+        most = sound.most;
+        order = sound.order;
+        set = sound.set;
+        steady = sound.steady;
+        begins = sound.begins;
+        segments = sound.segments;
+        early = sound.early;
+        probes = sound.probes;
+      };
+    }
+    by_test false = record { acked = refl; sent = refl; end = refl; sound = sound }
+
+opened_step : (t : Transmission) → IsSound t → Steps t (opened t)
+opened_step t sound = by_test (nat_lt t.acked (edge_of t.window)) t.probing refl
+  where
+    by_test : (c b : Bool) → t.probing ≡ b → Steps t (if b && c then record t { early = true; probing = false } else t)
+    by_test true true probing = record {
+      acked = refl;
+      sent = refl;
+      end = refl;
+      sound = record {
+        least = sound.least;
+        most = sound.most;
+        order = sound.order;
+        set = sound.set;
+        steady = sound.steady;
+        begins = sound.begins;
+        segments = sound.segments;
+        early = λ _. sound.probes probing;
+        probes = λ no. cc;
+      };
+    }
+    by_test false true probing = record { acked = refl; sent = refl; end = refl; sound = sound }
+    by_test true false probing = record { acked = refl; sent = refl; end = refl; sound = sound }
+    by_test false false probing = record { acked = refl; sent = refl; end = refl; sound = sound }
+
+set_under : (under : Bool) (now : ℕ) → under ≡ true → is_off (if under then Since now else Off) ≡ false
+set_under true now is = refl
+set_under false now is = cc
+
+moved_sound : (t : Transmission) (place now : ℕ) → now ≤ 2 ^ 62 → IsSound t → place ≤ t.sent → IsSound (moved t place now)
+moved_sound t place now soon sound within = record {
+  least = sound.least;
+  most = sound.most;
+  order = within;
+  set = λ under. set_under (nat_lt place t.sent) now (grind (arith, nat_tests));
+  steady = steady_moved t.resend (round_trip t.timed place now) (nat_lt place t.sent) now soon sound.steady;
+  begins = λ _. refl;
+  segments = sound.segments;
+  early = λ no. cc;
+  probes = λ no. cc;
+}
+
+same_sound : (t : Transmission) → IsSound t → IsSound (record t { resend = after_answered t.resend })
+same_sound t sound = record {
+  least = sound.least;
+  most = sound.most;
+  order = sound.order;
+  set = sound.set;
+  steady = steady_answered t.resend sound.steady;
+  begins = λ _. refl;
+  segments = sound.segments;
+  early = sound.early;
+  probes = sound.probes;
 }
 
 -- after octets were dropped, and the first unacknowledged place went on
-dropped_feeds : (t u : Transmission) (down : Downward) (n now : ℕ) → Feeds t down → u.sent ≡ t.sent → u.end ≡ t.end
+dropped_feeds : (t u : Transmission) (down : Downward) (n now : ℕ) → now ≤ 2 ^ 62 → Feeds t down → u.sent ≡ t.sent → u.end ≡ t.end
     → IsSound u → down.first + n ≡ min u.acked (octets_read down) → n ≤ length down.octets
     → Feeds (watched_over u (without n down) now) (without n down)
-dropped_feeds t u down n now feeds sent end sound first within =
+dropped_feeds t u down n now soon feeds sent end sound first within =
     let read : octets_read (without n down) ≡ octets_read down = omega (arith, length-drop n down.octets) in
-    watched_feeds u (without n down) now sound
+    watched_feeds u (without n down) now soon sound
     (subst (λ k. down.first + n ≡ min u.acked k) (sym read) first)
     (subst (λ k. IsSentOf u.end u.sent k) (sym read)
     (subst (λ e. IsSentOf e u.sent (octets_read down)) (sym end)
     (subst (λ k. IsSentOf t.end k (octets_read down)) (sym sent) feeds.all)))
     (let few = feeds.few in omega arith)
 
-windowed_feeds : (t u : Transmission) (down : Downward) (seq : Seq) (window n now : ℕ) → Feeds t down → u.sent ≡ t.sent → u.end ≡ t.end
+windowed_feeds : (t u : Transmission) (down : Downward) (seq : Seq) (window n now : ℕ) → now ≤ 2 ^ 62 → Feeds t down → u.sent ≡ t.sent → u.end ≡ t.end
     → IsSound u → down.first + n ≡ min u.acked (octets_read down) → n ≤ length down.octets
-    → Feeds (watched_over (windowed u seq window) (without n down) now) (without n down)
-windowed_feeds t u down seq window n now feeds sent end sound first within =
-    let keeps = windowed_keeps u seq window in
-    dropped_feeds t (windowed u seq window) down n now feeds (sym keeps.sent ∙ sent) (sym keeps.end ∙ end)
-    (windowed_sound u seq window sound)
-    (subst (λ a. down.first + n ≡ min a (octets_read down)) keeps.acked first) within
+    → Feeds (watched_over (opened (windowed u seq window)) (without n down) now) (without n down)
+windowed_feeds t u down seq window n now soon feeds sent end sound first within =
+    let one = windowed_step u seq window sound in
+    let two = opened_step (windowed u seq window) one.sound in
+    dropped_feeds t (opened (windowed u seq window)) down n now soon feeds (sym two.sent ∙ sym one.sent ∙ sent) (sym two.end ∙ sym one.end ∙ end) two.sound
+    (subst (λ a. down.first + n ≡ min a (octets_read down)) (one.acked ∙ two.acked) first) within
 
 -- an acceptable acknowledgement
-pub ack_feeds : (t : Transmission) (down : Downward) (seq : Seq) (window now : ℕ) (at : ℤ) (seen : AckSeen) → Feeds t down
+acknowledged_feeds : (t : Transmission) (down : Downward) (seq : Seq) (window now : ℕ) (at : ℤ) (seen : AckSeen) → now ≤ 2 ^ 62 → Feeds t down
     → IsSeenAs t down at seen → is_acceptable seen ≡ true
-    → Feeds (watched_over (windowed (acknowledged t seen now) seq window) (without (octets_acked seen) down) now) (without (octets_acked seen) down)
-ack_feeds t down seq window now at Old feeds is acceptable = cc
-ack_feeds t down seq window now at Same feeds is acceptable =
+    → Feeds (watched_over (opened (windowed (acknowledged t seen now) seq window)) (without (octets_acked seen) down) now) (without (octets_acked seen) down)
+acknowledged_feeds t down seq window now at Old soon feeds is acceptable = cc
+acknowledged_feeds t down seq window now at Same soon feeds is acceptable =
     let from = feeds.first in
-    windowed_feeds t (record t { resent = 0 }) down seq window 0 now feeds refl refl (same_sound t feeds.sound) (omega arith) (omega arith)
-ack_feeds t down seq window now at (Forward n) feeds is acceptable =
-    let from = feeds.first in
-    let high = is.2 in
-    let keeps = measured_keeps t.timed t (t.acked + n) now in
-    windowed_feeds t (acknowledged t (Forward n) now) down seq window n now feeds (sym keeps.sent) (sym keeps.end)
-    (moved_sound t (t.acked + n) now feeds.sound (omega arith)) (omega arith) (omega arith)
-ack_feeds t down seq window now at (FinToo n) feeds is acceptable =
+    windowed_feeds t (record t { resend = after_answered t.resend }) down seq window 0 now soon feeds refl refl (same_sound t feeds.sound) (omega arith) (omega arith)
+acknowledged_feeds t down seq window now at (Forward n) soon feeds is acceptable =
     let from = feeds.first in
     let high = is.2 in
-    let keeps = measured_keeps t.timed t (t.acked + n + 1) now in
-    windowed_feeds t (acknowledged t (FinToo n) now) down seq window n now feeds (sym keeps.sent) (sym keeps.end)
-    (moved_sound t (t.acked + n + 1) now feeds.sound (omega arith)) (omega arith) (omega arith)
-ack_feeds t down seq window now at TooFar feeds is acceptable = cc
+    windowed_feeds t (acknowledged t (Forward n) now) down seq window n now soon feeds refl refl
+    (moved_sound t (t.acked + n) now soon feeds.sound (omega arith)) (omega arith) (omega arith)
+acknowledged_feeds t down seq window now at (FinToo n) soon feeds is acceptable =
+    let from = feeds.first in
+    let high = is.2 in
+    windowed_feeds t (acknowledged t (FinToo n) now) down seq window n now soon feeds refl refl
+    (moved_sound t (t.acked + n + 1) now soon feeds.sound (omega arith)) (omega arith) (omega arith)
+acknowledged_feeds t down seq window now at TooFar soon feeds is acceptable = cc
+
+pub ack_feeds : (t : Transmission) (down : Downward) (seq : Seq) (window : ℕ) (bare : Bool) (now : ℕ) (at : ℤ) (seen : AckSeen) → now ≤ 2 ^ 62 → Feeds t down
+    → IsSeenAs t down at seen → is_acceptable seen ≡ true
+    → Feeds (watched_over (opened (windowed (acknowledged (congested t window bare seen) seen now) seq window)) (without (octets_acked seen) down) now) (without (octets_acked seen) down)
+ack_feeds t down seq window bare now at seen soon feeds is acceptable =
+    acknowledged_feeds (congested t window bare seen) down seq window now at seen soon
+    (congested_feeds t.cwnd t down (is_duplicate t window bare seen) (octets_acked seen) refl (duplicate_under t window bare seen) feeds)
+    (congested_seen t.cwnd t down (is_duplicate t window bare seen) (octets_acked seen) at seen is) acceptable
 
 -- no octet of the stream is lost by it
 pub ack_reads : (t : Transmission) (down : Downward) (at : ℤ) (seen : AckSeen) → Feeds t down → IsSeenAs t down at seen
@@ -291,3 +426,86 @@ ack_reads t down at Same feeds is = omega (arith, length-drop 0 down.octets)
 ack_reads t down at (Forward n) feeds is = let from = feeds.first in let high = is.2 in omega (arith, length-drop n down.octets)
 ack_reads t down at (FinToo n) feeds is = let from = feeds.first in let high = is.2 in omega (arith, length-drop n down.octets)
 ack_reads t down at TooFar feeds is = omega (arith, length-drop 0 down.octets)
+
+-- what the timer of a probe keeps
+record Stays (t u : Transmission) : Type 0 where
+  acked : t.acked ≡ u.acked
+  sent : t.sent ≡ u.sent
+  end : t.end ≡ u.end
+  resend : t.resend ≡ u.resend
+
+congested_stays : (cwnd : Option Congestion) (t : Transmission) (duplicate : Bool) (octets : ℕ) → Stays t (congested_by cwnd t duplicate octets)
+congested_stays None t duplicate octets = record { acked = refl; sent = refl; end = refl; resend = refl }
+congested_stays (Some c) t duplicate octets = record { acked = refl; sent = refl; end = refl; resend = refl }
+
+windowed_stays : (t : Transmission) (seq : Seq) (window : ℕ) → Stays t (windowed t seq window)
+windowed_stays t seq window = by_test (is_newer t.window seq.0 t.acked)
+  where
+    by_test : (b : Bool) → Stays t (if b then record t { window = Some (record { edge = t.acked + window; seq = seq; ack = t.acked }) } else t)
+    by_test true = record { acked = refl; sent = refl; end = refl; resend = refl }
+    by_test false = record { acked = refl; sent = refl; end = refl; resend = refl }
+
+opened_stays : (t : Transmission) → Stays t (opened t)
+opened_stays t = by_test (t.probing && nat_lt t.acked (edge_of t.window))
+  where
+    by_test : (b : Bool) → Stays t (if b then record t { early = true; probing = false } else t)
+    by_test true = record { acked = refl; sent = refl; end = refl; resend = refl }
+    by_test false = record { acked = refl; sent = refl; end = refl; resend = refl }
+
+pub runs_on : (timer : Timer) (wait : ℕ) → IsSome (due_by timer wait) → is_off timer ≡ false
+runs_on Off wait runs = cc runs
+runs_on (Since base) wait runs = refl
+runs_on (Expired at) wait runs = refl
+
+begun_same : (timer : Timer) (now : ℕ) → is_off timer ≡ false → begun timer now ≡ timer
+begun_same Off now on = cc on
+begun_same (Since base) now on = refl
+begun_same (Expired at) now on = refl
+
+-- a timer that runs goes on while something is under way or waits for a closed window
+pub watched_steady : (u : Transmission) (unsent : Bool) (now : ℕ) → is_off u.resend.timer ≡ false → (nat_lt u.acked u.sent ≡ false → (is_closed u ≡ true) × (unsent ≡ true))
+    → (watched u unsent now).resend.timer ≡ u.resend.timer
+watched_steady u unsent now on waits = by_test (nat_lt u.acked u.sent) refl
+  where
+    closed_on : (a b : Bool) → a ≡ true → b ≡ true → (if a && b then after_start u.resend now else after_stop u.resend).timer ≡ u.resend.timer
+    closed_on true true x y = begun_same u.resend.timer now on
+    closed_on true false x y = cc y
+    closed_on false b x y = cc x
+
+    by_test : (b : Bool) → nat_lt u.acked u.sent ≡ b → (if b then u else record u { resend = if is_closed u && unsent then after_start u.resend now else after_stop u.resend }).resend.timer ≡ u.resend.timer
+    by_test true is = refl
+    by_test false is = closed_on (is_closed u) unsent (waits is).0 (waits is).1
+
+pub same_steady : (t : Transmission) (down after : Downward) (seq : Seq) (window : ℕ) (bare : Bool) (now : ℕ) → Feeds t down → octets_read after ≡ octets_read down → is_off t.resend.timer ≡ false
+    → (((after_ack t after seq window bare now Same).acked < (after_ack t after seq window bare now Same).sent) ⊎ (is_closed (after_ack t after seq window bare now Same) ≡ true))
+    → (after_ack t after seq window bare now Same).resend.timer ≡ t.resend.timer
+same_steady t down after seq window bare now feeds read on left =
+    let c = congested t window bare Same in
+    let one = congested_stays t.cwnd t (is_duplicate t window bare Same) 0 in
+    let a = acknowledged c Same now in
+    let w = windowed a seq window in
+    let two = windowed_stays a seq window in
+    let u = opened w in
+    let three = opened_stays w in
+    let timer : u.resend.timer ≡ t.resend.timer =
+    ap (λ (r : Resending). r.timer) (sym three.resend) ∙ ap (λ (r : Resending). r.timer) (sym two.resend) ∙ ap (λ (r : Resending). r.timer) (sym one.resend) in
+    let acked : t.acked ≡ u.acked = one.acked ∙ two.acked ∙ three.acked in
+    let sent : t.sent ≡ u.sent = one.sent ∙ two.sent ∙ three.sent in
+    let end : t.end ≡ u.end = one.end ∙ two.end ∙ three.end in
+    watched_steady u (nat_lt u.sent (places u after)) now (ap is_off timer ∙ on)
+    (λ rests.
+    let at : t.acked ≡ t.sent = let order = feeds.sound.order in grind (arith, nat_tests) in
+    let more = (feeds.rests at on).1 in
+    let ends = ap end_places end in
+    (closed u (nat_lt u.sent (places u after)) rests left, grind (arith, nat_tests))) ∙ timer
+  where
+    closed : (u : Transmission) (unsent : Bool) → nat_lt u.acked u.sent ≡ false
+        → (((watched u unsent now).acked < (watched u unsent now).sent) ⊎ (is_closed (watched u unsent now) ≡ true)) → is_closed u ≡ true
+    closed u unsent rests left = by_test (nat_lt u.acked u.sent) refl left
+      where
+        by_test : (b : Bool) → nat_lt u.acked u.sent ≡ b
+            → (((if b then u else record u { resend = if is_closed u && unsent then after_start u.resend now else after_stop u.resend }).acked < (if b then u else record u { resend = if is_closed u && unsent then after_start u.resend now else after_stop u.resend }).sent)
+            ⊎ (is_closed (if b then u else record u { resend = if is_closed u && unsent then after_start u.resend now else after_stop u.resend }) ≡ true)) → is_closed u ≡ true
+        by_test true is left = cc (is, rests)
+        by_test false is (inl under) = absurd (grind (arith, nat_tests))
+        by_test false is (inr shut) = shut

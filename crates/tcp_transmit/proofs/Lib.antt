@@ -1,2 +1,3 @@
-pub mod Feeding
-pub mod Owed
+mod Feeding
+mod Owed
+mod Single

@@ -1,13 +1,14 @@
--- What an acknowledgement does (RFC 9293, 3.10.7.4; RFC 6298, 5.2 and 5.3).
-use Rattle.std.specs.Prelude.{◌≡◌, ℕ, ◌+◌, ◌<◌, ◌≤◌, ◌^◌, Bool, true, false, ◌&&◌, ◌||◌, nat_lt, nat_le, nat_eq, Option, None, Some, drop, ℤ, pos, ◌<ℤ◌, if◌then◌else◌}
+-- What an acknowledgement does (RFC 9293, 3.10.7.4; RFC 6298, 5.2 and 5.3; RFC 5681, 3).
+use Rattle.std.specs.Prelude.{◌≡◌, ℕ, ◌+◌, ◌-◌, ◌<◌, ◌≤◌, ◌^◌, Bool, true, false, ◌&&◌, ◌||◌, nat_lt, nat_le, nat_eq, Option, None, Some, drop, ℤ, pos, ◌<ℤ◌, if◌then◌else◌}
+use Rattle.cwnd.specs.Congestion.{Congestion, after_acked, after_duplicate}
+use Rattle.retransmit.specs.Resending.{after_answered, after_moved}
 use Rattle.seq_space.specs.Places.{place, steps_up}
 use Rattle.seq_space.specs.declared.Seq.{Seq}
 use Rattle.sock_buffers.specs.Downward.{Downward}
-use Rattle.tcp_transmit.specs.Timing.{measured, set_now, watched_over}
-use Rattle.tcp_transmit.specs.Transmission.{Transmission, octets_read}
+use Rattle.tcp_transmit.specs.Timing.{round_trip, timed_past, watched_over}
+use Rattle.tcp_transmit.specs.Transmission.{Transmission, edge_of, flight, octets_read}
 use Rattle.tcp_transmit.specs.declared.AckSeen.{AckSeen}
 use Rattle.tcp_transmit.specs.declared.AckSeen.TheVariants.{Old, Same, Forward, FinToo, TooFar}
-use Rattle.tcp_transmit.specs.declared.Timer.TheVariants.{Off}
 use Rattle.tcp_transmit.specs.declared.Window.{Window}
 
 -- the place that is acknowledged, the one nearest to what was sent
@@ -45,16 +46,59 @@ without n down = record down { octets = drop n down.octets; first = down.first +
 -- 5.2 and 5.3: where the acknowledgement moves the timer is set again, or cleared once all is acknowledged; a round trip
 -- is taken before; what was owed again is no longer owed
 abbrev pub moved : Transmission → ℕ → ℕ → Transmission
-moved t place now =
-    let m = measured t place now in
-    record m { acked = place; timer = if nat_lt place m.sent then set_now m now else Off; resent = 0 }
+moved t place now = record t {
+  acked = place;
+  resend = after_moved t.resend (round_trip t.timed place now) (nat_lt place t.sent) now;
+  timed = timed_past t.timed place;
+  early = false;
+  again = false;
+  probing = false;
+}
 
 abbrev pub acknowledged : Transmission → AckSeen → ℕ → Transmission
 acknowledged t Old now = t
-acknowledged t Same now = record t { resent = 0 }
+acknowledged t Same now = record t { resend = after_answered t.resend }
 acknowledged t (Forward n) now = moved t (t.acked + n) now
 acknowledged t (FinToo n) now = moved t (t.acked + n + 1) now
 acknowledged t TooFar now = t
+
+-- the last window that was taken is so large
+abbrev pub is_last_window : Option Window → ℕ → Bool
+is_last_window None window = false
+is_last_window (Some w) window = nat_eq window (w.edge - w.ack)
+
+abbrev pub is_same : AckSeen → Bool
+is_same Old = false
+is_same Same = true
+is_same (Forward n) = false
+is_same (FinToo n) = false
+is_same TooFar = false
+
+-- Whether a segment is a duplicate acknowledgement (RFC 5681, 2): numbers are under way, it has no octets, SYN or FIN, its
+-- acknowledgement is the last one, and its window is the last one.
+abbrev pub is_duplicate : Transmission → (window : ℕ) → (bare : Bool) → AckSeen → Bool
+is_duplicate t window bare seen = bare && is_same seen && nat_lt t.acked t.sent && is_last_window t.window window
+
+-- the congestion window after an acknowledgement, with so many numbers under way before: a duplicate, or one of so many
+-- octets more; an acknowledgement of FIN alone is no event
+abbrev pub cwnd_after : Congestion → (duplicate : Bool) → (flight octets : ℕ) → Congestion
+cwnd_after c duplicate flight octets =
+    if duplicate then after_duplicate c flight else (if nat_lt 0 octets then after_acked c octets else c)
+
+-- the third duplicate makes the oldest piece owed again
+abbrev pub is_third : Congestion → (duplicate : Bool) → Bool
+is_third c duplicate = duplicate && nat_eq c.duplicates 2
+
+-- What an acknowledgement says of congestion, where there is a congestion window.
+abbrev pub congested_by : Option Congestion → Transmission → (duplicate : Bool) → (octets : ℕ) → Transmission
+congested_by None t duplicate octets = t
+congested_by (Some c) t duplicate octets = record t {
+  cwnd = Some (cwnd_after c duplicate (flight t) octets);
+  early = t.early || is_third c duplicate;
+}
+
+abbrev pub congested : Transmission → (window : ℕ) → (bare : Bool) → AckSeen → Transmission
+congested t window bare seen = congested_by t.cwnd t (is_duplicate t window bare seen) (octets_acked seen)
 
 -- the number a is after b (3.4)
 abbrev pub is_after : ℕ → ℕ → Bool
@@ -72,8 +116,14 @@ windowed t seq window =
     then record t { window = Some (record { edge = t.acked + window; seq = seq; ack = t.acked }) }
     else t
 
+-- a probe that wasn't taken is owed again once the window has room for it
+abbrev pub opened : Transmission → Transmission
+opened t = if t.probing && nat_lt t.acked (edge_of t.window) then record t { early = true; probing = false } else t
+
 -- after an acknowledgement: one that isn't acceptable changes nothing; else it is counted, the window is taken, and a
 -- window that is closed then is watched
-abbrev pub after_ack : Transmission → Downward → Seq → ℕ → ℕ → AckSeen → Transmission
-after_ack t down seq window now seen =
-    if is_acceptable seen then watched_over (windowed (acknowledged t seen now) seq window) down now else t
+abbrev pub after_ack : Transmission → Downward → Seq → ℕ → Bool → ℕ → AckSeen → Transmission
+after_ack t down seq window bare now seen =
+    if is_acceptable seen
+    then watched_over (opened (windowed (acknowledged (congested t window bare seen) seen now) seq window)) down now
+    else t

@@ -1,4 +1,5 @@
 pub mod Acks
+pub mod Alone
 pub mod Pieces
 pub mod Timing
 pub mod Transmission

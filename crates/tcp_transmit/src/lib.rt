@@ -8,21 +8,22 @@
 //! calls here alone, and with under 2^62 octets of the stream in all. Each call says that it stays so (`Feeds`).
 #![tactic(auto)]
 
-ghost use Rattle.std.specs.Prelude.{◌≡◌, ℕ, ℤ, [], ◌+◌, ◌-◌, ◌^◌, ◌<◌, ◌≤◌, ◌++◌, ◌⊎◌, ◌↔◌, length, take, min, max, pos, ◌<ℤ◌, IsTrue, IsSome, IfSome, IfNone, true, false, nat_lt, is_some, if◌then◌else◌};
+ghost use Rattle.std.specs.Prelude.{◌≡◌, ℕ, ℤ, [], ◌+◌, ◌-◌, ◌^◌, ◌<◌, ◌≤◌, ◌++◌, ◌⊎◌, ◌↔◌, ◌&&◌, ◌||◌, length, take, min, max, pos, ◌<ℤ◌, IsTrue, IsSome, IfSome, IfNone, Option, None, Some, Bool, true, false, nat_lt, nat_eq, is_some, if◌then◌else◌};
+ghost use Rattle.cwnd.specs.Congestion.{Congestion};
+ghost use Rattle.retransmit.specs.Resending.{HasWaitedSince, due_of, is_expired};
 ghost use Rattle.sock_buffers.specs.Downward.{Downward, downward};
-ghost use Rattle.tcp_transmit.specs.Acks.{IsSeenAs, acknowledged, after_ack, is_acceptable, is_newer as newer_by, moved, octets_acked, place_acked, windowed, without};
-ghost use Rattle.tcp_transmit.specs.Pieces.{IsOfStream, OwesNothing, end_of, fresh, next, numbers, oldest, piece_owed, probe};
-ghost use Rattle.tcp_transmit.specs.Timing.{Runs, after_expired, after_sent, kept_running, measured, moment_of, timed_after, watched, watched_over};
-ghost use Rattle.tcp_transmit.specs.Transmission.{Feeds, edge_of, is_closed, is_expired, octets_read, places, unanswered};
+ghost use Rattle.tcp_transmit.specs.Acks.{IsSeenAs, acknowledged, after_ack, congested_by, cwnd_after, is_acceptable, is_duplicate as is_duplicate_by, is_last_window as is_last_window_by, is_newer as newer_by, is_same as is_same_as, is_third, moved, octets_acked, opened, place_acked, windowed, without};
+ghost use Rattle.tcp_transmit.specs.Alone.{IsAlone};
+ghost use Rattle.tcp_transmit.specs.Pieces.{GoesAgain, IsOfStream, IsWithin, OwesNothing, Probes, end_of, fresh, next, numbers, oldest, piece_owed, probe};
+ghost use Rattle.tcp_transmit.specs.Timing.{Runs, after_expired, after_sent, cwnd_expired, round_trip as round_trip_of, timed_after, timed_past as timed_past_by, watched, watched_over};
+ghost use Rattle.tcp_transmit.specs.Transmission.{Feeds, Transmission, edge_of, flight, is_closed, is_owed_again, octets_read, places, reach as reach_of, unanswered};
 ghost use Rattle.seq_space.specs.Places.{number_of};
 
-use retransmit::Rto;
+use cwnd::Cwnd;
+use retransmit::Resend;
 use seq_space::{Seq, ahead, nearest, number_at};
 use sock_buffers::Down;
 use std::marker::Model;
-
-/// How often a piece goes again before the connection is given up.
-const RESENDINGS: u8 = 8;
 
 /// The longest round trip that is measured: a longer one counts as so long.
 const LONGEST_ROUND_TRIP: u64 = 1 << 40;
@@ -42,14 +43,6 @@ pub struct Window {
     pub edge: u64,
     pub seq: Seq,
     pub ack: u64,
-}
-
-/// The timer of pieces and probes: it is off, or runs until a moment, or it expired and what it made owed is unsent.
-#[derive(Clone, Copy, Debug, PartialEq, Eq)]
-pub enum Timer {
-    Off,
-    Until(u64),
-    Expired,
 }
 
 /// The piece whose round trip is measured: the place after it, and when it was sent.
@@ -87,15 +80,17 @@ pub struct Transmit {
     sent: u64,
     end: End,
     window: Option<Window>,
-    rto: Rto,
-    timer: Timer,
-    resent: u8,
+    resend: Resend,
     timed: Option<Timed>,
+    cwnd: Option<Cwnd>,
+    early: bool,
+    again: bool,
+    probing: bool,
 }
 
 impl Model for Transmit {
-    ghost use Rattle.std.specs.Prelude.{◌≡◌, ◌≤◌, ◌<◌, ◌^◌, true};
-    ghost use Rattle.tcp_transmit.specs.Transmission.{Transmission, is_off};
+    ghost use Rattle.std.specs.Prelude.{◌≤◌, ◌^◌};
+    ghost use Rattle.tcp_transmit.specs.Transmission.{Transmission};
 
     ghost Value = { Transmission };
 
@@ -106,13 +101,15 @@ impl Model for Transmit {
       sent = t.sent;
       end = t.end;
       window = t.window;
-      estimate = t.rto;
-      timer = t.timer;
-      resent = t.resent;
+      resend = t.resend;
       timed = t.timed;
+      cwnd = t.cwnd;
+      early = t.early;
+      again = t.again;
+      probing = t.probing;
     } };
 
-    ghost invariant = { λ t. (0 < t.mss) × (t.acked ≤ t.sent) × (t.sent ≤ 2 ^ 62) × (is_off t.timer ≡ true → t.acked ≡ t.sent) };
+    ghost invariant = { λ t. (64 ≤ t.mss) × (t.mss ≤ 1460) × (t.acked ≤ t.sent) × (t.sent ≤ 2 ^ 62) };
 }
 
 impl Piece {
@@ -137,6 +134,28 @@ impl AckSeen {
     }
 }
 
+impl AckSeen {
+    /// Whether the acknowledgement is the last one again.
+    fn is_same(&self) -> bool
+        ensures { result ≡ is_same_as self.now }
+    {
+        match self {
+            AckSeen::Same => true,
+            AckSeen::Old | AckSeen::Forward(_) | AckSeen::FinToo(_) | AckSeen::TooFar => false,
+        }
+    }
+
+    /// How many octets it acknowledges that were not acknowledged before.
+    fn octets(&self) -> usize
+        ensures { result ≡ octets_acked self.now }
+    {
+        match self {
+            AckSeen::Forward(count) | AckSeen::FinToo(count) => *count,
+            AckSeen::Old | AckSeen::Same | AckSeen::TooFar => 0,
+        }
+    }
+}
+
 impl Transmit {
     /// A connection whose SYN has the number `first`, and whose pieces have at most `mss` octets, from 64 to 1,460
     /// (RFC 9293, 3.7.1). Nothing goes before the SYN is acknowledged.
@@ -153,11 +172,46 @@ impl Transmit {
             sent: 0,
             end: End::Open,
             window: None,
-            rto: Rto::new(),
-            timer: Timer::Off,
-            resent: 0,
+            resend: Resend::new(),
             timed: None,
+            cwnd: None,
+            early: false,
+            again: false,
+            probing: false,
         }
+    }
+
+    /// The most octets of a piece.
+    pub fn mss(&self) -> u16
+        ensures mss { result ≡ self.now.mss }
+        ensures least { 64 ≤ result }
+        ensures most { result ≤ 1460 }
+    {
+        self.mss
+    }
+
+    /// Lowers the most octets of a piece, from 64 to 1,460, to what the guest says. Nothing was sent yet.
+    pub fn limit(&mut self, mss: u16)
+        requires low { 64 ≤ mss }
+        requires high { mss ≤ 1460 }
+        requires unsent { self.old.sent ≡ 0 }
+        requires alone { self.old.cwnd ≡ None }
+        ensures limited { self.new ≡ record self.old { mss = min self.old.mss mss } }
+        ensures feeds { (down : Downward) → Feeds self.old down → Feeds self.new down }
+    {
+        self.mss = self.mss.min(mss);
+    }
+
+    /// From now on the congestion window, of pieces of this size, limits what is under way (RFC 5681). Nothing was sent
+    /// yet.
+    pub fn congest(&mut self, cwnd: Cwnd)
+        requires unsent { self.old.sent ≡ 0 }
+        requires segments { cwnd.mss ≡ self.old.mss }
+        ensures congested { self.new ≡ record self.old { cwnd = Some cwnd } }
+        ensures feeds { (down : Downward) → Feeds self.old down → Feeds self.new down }
+    {
+        prove!(cwnd.window() > 0);
+        self.cwnd = Some(cwnd);
     }
 
     /// Octets of the host, which has not ended its stream: keeps the longest front that fits, and answers its length.
@@ -170,6 +224,7 @@ impl Transmit {
         ensures count { result ≡ min (length octets.now) (down.old.size - length down.old.octets) }
         ensures given { down.new ≡ record down.old { octets = down.old.octets ++ take result octets.now } }
         ensures timer { self.new ≡ watched_over self.old down.new now }
+        ensures steady { IsSome (due_of self.old.resend) → self.new.resend.timer ≡ self.old.resend.timer }
         ensures feeds { Feeds self.new down.new }
     {
         let count = octets.len().min(down.room());
@@ -190,8 +245,9 @@ impl Transmit {
         self.watch(true, now);
     }
 
-    /// The piece that is to be sent next (RFC 9293, 3.8; RFC 6298, 5.4): what the expired timer owes, and else what wasn't
-    /// sent yet and the window has room for. `None` exactly where nothing is owed.
+    /// The piece that is to be sent next (RFC 9293, 3.8; RFC 6298, 5.4): what is owed again since the timer expired, a third
+    /// duplicate came or the window opened for a probe, and else what wasn't sent yet and both windows have room for.
+    /// `None` exactly where nothing is owed.
     pub fn next_piece(&self, down: &Down) -> Option<Piece>
         requires { Feeds self.now down.now }
         ensures piece { result ≡ piece_owed self.now down.now }
@@ -200,8 +256,11 @@ impl Transmit {
         ensures stream { IfSome result (λ p. IsOfStream self.now down.now p) }
         ensures carries { IfSome result (λ p. 0 < numbers p) }
         ensures mss { IfSome result (λ p. p.length ≤ self.now.mss) }
-        ensures window { IfSome result (λ p. is_expired self.now.timer ≡ false → end_of p ≤ edge_of self.now.window) }
-        ensures new { IfSome result (λ p. is_expired self.now.timer ≡ false → p.place ≡ self.now.sent) }
+        ensures window { IfSome result (λ p. is_owed_again self.now ≡ false → end_of p ≤ edge_of self.now.window) }
+        ensures congestion { IfSome result (λ p. self.now.sent < end_of p → IsWithin self.now.cwnd self.now.acked (end_of p)) }
+        ensures new { IfSome result (λ p. is_owed_again self.now ≡ false → p.place ≡ self.now.sent) }
+        ensures again { IfSome result (λ p. is_owed_again self.now ≡ true → self.now.acked < self.now.sent → GoesAgain self.now p) }
+        ensures probes { IfSome result (λ p. is_owed_again self.now ≡ true → self.now.acked ≡ self.now.sent → Probes self.now p) }
     {
         let piece = self.next(down);
         if piece.numbers() > 0 {
@@ -211,42 +270,60 @@ impl Transmit {
         }
     }
 
-    /// A piece was sent: one that `next_piece` gives in this state. The timer is set where it doesn't run (RFC 6298, 5.1),
-    /// and the piece is measured where none is and it went for the first time (3).
+    /// A piece was sent: one that `next_piece` gives in this state. The timer is set where it doesn't run (RFC 6298, 5.1) or
+    /// the piece goes again, and the piece is measured where none is and it went for the first time (3).
     pub fn sent(&mut self, p: &Piece, now: u64)
         requires owed { (down : Downward) × Feeds self.old down × (piece_owed self.old down ≡ Some p.now) }
         requires now { now ≤ 2 ^ 62 }
         ensures sent { self.new ≡ after_sent self.old p.now now }
         ensures feeds { (down : Downward) → Feeds self.old down → piece_owed self.old down ≡ Some p.now → Feeds self.new down }
     {
+        let edge = self.edge();
         let again = p.place < self.sent;
         let end = p.place + p.numbers();
         self.timed = timed_after(self.timed, again, end, now);
+        self.again = self.again || again && self.resend.has_expired();
+        self.probing = self.probing || !again && edge <= p.place;
+        self.early = false;
         self.sent = self.sent.max(end);
         if p.fin {
             self.end = End::Sent;
         }
-        self.timer = kept_running(self.timer, now + self.rto.wait());
+        self.resend.sent(again, now);
     }
 
-    /// An acceptable or other acknowledgement of the guest, with the number and the window of its segment (RFC 9293,
-    /// 3.10.7.4). Octets that are acknowledged for the first time leave `down`, and the timer is set again, or cleared
-    /// where nothing is left under way (RFC 6298, 5.2 and 5.3). What isn't acceptable changes nothing.
-    pub fn acked(&mut self, down: &mut Down, seq: Seq, ack: Seq, window: u16, now: u64) -> AckSeen
+    /// An acceptable or other acknowledgement of the guest, with the number of its segment and the window that this gives
+    /// (RFC 9293, 3.10.7.4), scaled already (RFC 7323, 2.3); `bare` says that the segment has no octets, SYN or FIN. Octets
+    /// that are acknowledged for the first time leave `down`, and the timer is set again, or cleared where nothing is left
+    /// under way (RFC 6298, 5.2 and 5.3). What isn't acceptable changes nothing.
+    pub fn acked(
+        &mut self,
+        down: &mut Down,
+        seq: Seq,
+        ack: Seq,
+        window: u32,
+        now: u64,
+        bare: bool,
+    ) -> AckSeen
         requires feeds { Feeds self.old down.old }
         requires now { now ≤ 2 ^ 62 }
         ensures seen { IsSeenAs self.old down.old (place_acked self.old ack.0) result }
         ensures dropped { down.new ≡ without (octets_acked result) down.old }
         ensures read { octets_read down.new ≡ octets_read down.old }
-        ensures change { self.new ≡ after_ack self.old down.new seq window now result }
+        ensures change { self.new ≡ after_ack self.old down.new seq window bare now result }
+        ensures steady { result ≡ AckSeen.Same → IsSome (due_of self.old.resend)
+            → (self.new.acked < self.new.sent) ⊎ (is_closed self.new ≡ true) → self.new.resend.timer ≡ self.old.resend.timer }
         ensures feeds { Feeds self.new down.new }
     {
         let seen = self.seen(down, ack);
         if !seen.is_acceptable() {
             return seen;
         }
+        let is_duplicate = self.is_duplicate(window, bare, seen);
+        self.count_congestion(is_duplicate, seen.octets());
         self.acknowledge(down, seen, now);
         self.take_window(seq, window);
+        self.owe_probe();
         let unsent = self.has_unsent(down);
         self.watch(unsent, now);
         seen
@@ -256,31 +333,28 @@ impl Transmit {
     /// acceptable acknowledgement between (RFC 9293, 3.8.3); nothing changes then. Else the wait is doubled, and that
     /// piece, or where nothing is under way a probe, is owed (RFC 6298, 5.4 and 5.5).
     pub fn expired(&mut self) -> bool
-        requires runs { IsSome (moment_of self.old.timer) }
-        ensures given_up { IsTrue result ↔ ((self.old.acked < self.old.sent) × (8 ≤ self.old.resent)) }
+        requires runs { IsSome (due_of self.old.resend) }
+        ensures given_up { IsTrue result ↔ (8 ≤ self.old.resend.resent) }
+        ensures under_way { (down : Downward) → Feeds self.old down → IsTrue result → self.old.acked < self.old.sent }
+        ensures late { IsTrue result → (first at : ℕ) → HasWaitedSince first self.old.resend → due_of self.old.resend ≡ Some at
+            → first + 243000 ≤ at }
         ensures change { self.new ≡ after_expired self.old }
         ensures feeds { (down : Downward) → Feeds self.old down → Feeds self.new down }
     {
-        let under_way = self.acked < self.sent;
-        if under_way && self.resent >= RESENDINGS {
+        if self.resend.expired() {
             return true;
         }
-        self.resent += u8::from(under_way);
-        self.timer = Timer::Expired;
-        self.rto.expired();
+        self.cwnd = cwnd_after_expiry(self.cwnd, self.sent - self.acked, self.again);
         false
     }
 
     /// The moment to which the timer of pieces and probes runs. `None` exactly where it doesn't run.
     pub fn due(&self) -> Option<u64>
-        ensures moment { result ≡ moment_of self.now.timer }
+        ensures moment { result ≡ due_of self.now.resend }
         ensures runs { (down : Downward) → Feeds self.now down → IsSome result → Runs self.now down }
         ensures rests { (down : Downward) → Feeds self.now down → Runs self.now down → IsSome result }
     {
-        match self.timer {
-            Timer::Until(at) => Some(at),
-            Timer::Off | Timer::Expired => None,
-        }
+        self.resend.due()
     }
 
     /// What is known of our end.
@@ -332,20 +406,29 @@ impl Transmit {
         self.sent < places
     }
 
+    /// The first place past both windows.
+    fn reach(&self) -> u64
+        ensures { result ≡ reach_of self.now }
+    {
+        match self.cwnd {
+            Some(cwnd) => self.edge().min(self.acked + cwnd.window()),
+            None => self.edge(),
+        }
+    }
+
     /// What goes next, with no number where nothing is owed.
     fn next(&self, down: &Down) -> Piece
         requires { Feeds self.now down.now }
         ensures { result ≡ next self.now down.now }
     {
-        match self.timer {
-            Timer::Expired => {
-                if self.acked < self.sent {
-                    self.oldest(down)
-                } else {
-                    self.probe(down)
-                }
+        if self.resend.has_expired() || self.early {
+            if self.acked < self.sent {
+                self.oldest(down)
+            } else {
+                self.probe(down)
             }
-            Timer::Off | Timer::Until(_) => self.fresh(down),
+        } else {
+            self.fresh(down)
         }
     }
 
@@ -355,7 +438,7 @@ impl Transmit {
         ensures { result ≡ fresh self.now down.now }
     {
         let octets = octets_read(down);
-        let edge = self.edge();
+        let edge = self.reach();
         let left = octets
             .saturating_sub(self.sent)
             .min(edge.saturating_sub(self.sent));
@@ -439,7 +522,7 @@ impl Transmit {
     {
         match seen {
             AckSeen::Old | AckSeen::TooFar => {}
-            AckSeen::Same => self.resent = 0,
+            AckSeen::Same => self.resend.answered(),
             AckSeen::Forward(count) => {
                 down.acked(count);
                 self.move_to(self.acked + count as u64, now);
@@ -458,31 +541,47 @@ impl Transmit {
         requires now { now ≤ 2 ^ 62 }
         ensures { self.new ≡ moved self.old place now }
     {
-        self.measure(place, now);
+        let measured = round_trip(self.timed, place, now);
+        self.timed = timed_past(self.timed, place);
         self.acked = place;
-        self.resent = 0;
-        self.timer = if place < self.sent {
-            Timer::Until(now + self.rto.wait())
-        } else {
-            Timer::Off
-        };
+        self.early = false;
+        self.again = false;
+        self.probing = false;
+        self.resend.moved(measured, place < self.sent, now);
     }
 
-    /// Takes the round trip of the measured piece, where it is acknowledged whole.
-    fn measure(&mut self, place: u64, now: u64)
-        ensures { self.new ≡ measured self.old place now }
+    /// Whether a segment is a duplicate acknowledgement.
+    fn is_duplicate(&self, window: u32, bare: bool, seen: AckSeen) -> bool
+        ensures { result ≡ is_duplicate_by self.now window bare seen }
     {
-        if let Some(timed) = self.timed {
-            if timed.end <= place {
-                self.rto
-                    .sample(now.saturating_sub(timed.at).min(LONGEST_ROUND_TRIP));
-                self.timed = None;
-            }
+        bare && seen.is_same() && self.acked < self.sent && is_last_window(self.window, window)
+    }
+
+    /// Counts a duplicate, or octets that were acknowledged for the first time, in the congestion window.
+    fn count_congestion(&mut self, is_duplicate: bool, octets: usize)
+        ensures { self.new ≡ congested_by self.old.cwnd self.old is_duplicate octets }
+    {
+        if let Some(cwnd) = self.cwnd {
+            let flight = self.sent - self.acked;
+            let (cwnd, is_third) = cwnd_after_ack(cwnd, is_duplicate, flight, octets as u64);
+            self.cwnd = Some(cwnd);
+            self.early = self.early || is_third;
+        }
+    }
+
+    /// A probe that wasn't taken is owed again once the window has room for it.
+    fn owe_probe(&mut self)
+        ensures { self.new ≡ opened self.old }
+    {
+        let edge = self.edge();
+        if self.probing && self.acked < edge {
+            self.early = true;
+            self.probing = false;
         }
     }
 
     /// Takes the window of a segment that is not older than the one of the last.
-    fn take_window(&mut self, seq: Seq, window: u16)
+    fn take_window(&mut self, seq: Seq, window: u32)
         ensures { self.new ≡ windowed self.old seq window }
     {
         if is_newer(self.window, seq, self.acked) {
@@ -502,13 +601,18 @@ impl Transmit {
         if self.acked < self.sent {
             return;
         }
-        if !(self.is_closed() && unsent) {
-            self.timer = Timer::Off;
-        } else if self.timer == Timer::Off {
-            self.timer = Timer::Until(now + self.rto.wait());
+        if self.is_closed() && unsent {
+            self.resend.start(now);
+        } else {
+            self.resend.stop();
         }
     }
 }
+
+/// Without a congestion window the guest's window alone limits what is sent, and duplicates change nothing.
+pub fn without_a_congestion_window()
+    ensures { (t : Transmission) → t.cwnd ≡ None → IsAlone t }
+{}
 
 /// How many octets the stream has so far.
 fn octets_read(down: &Down) -> u64
@@ -518,13 +622,64 @@ fn octets_read(down: &Down) -> u64
     down.first() + down.held() as u64
 }
 
-/// The timer after a piece was sent: one that runs goes on.
-fn kept_running(timer: Timer, set: u64) -> Timer
-    ensures { result ≡ kept_running timer (Timer.Until set) }
+/// The congestion window after a duplicate, or after octets were acknowledged, while so many numbers were under way; and
+/// whether the oldest piece is to go again.
+fn cwnd_after_ack(cwnd: Cwnd, is_duplicate: bool, flight: u64, octets: u64) -> (Cwnd, bool)
+    ensures cwnd { result.0 ≡ cwnd_after cwnd is_duplicate flight octets }
+    ensures third { result.1 ≡ is_third cwnd is_duplicate }
 {
-    match timer {
-        Timer::Off | Timer::Expired => Timer::Until(set),
-        Timer::Until(at) => Timer::Until(at),
+    let mut cwnd = cwnd;
+    if is_duplicate {
+        let is_third = cwnd.duplicate(flight);
+        return (cwnd, is_third);
+    }
+    if octets > 0 {
+        cwnd.acked(octets);
+    }
+    (cwnd, false)
+}
+
+/// The congestion window after the timer expired while so many numbers were under way.
+fn cwnd_after_expiry(cwnd: Option<Cwnd>, flight: u64, again: bool) -> Option<Cwnd>
+    ensures { result ≡ cwnd_expired cwnd flight again }
+{
+    let mut cwnd = cwnd?;
+    if flight > 0 {
+        cwnd.expired(flight, again);
+    }
+    Some(cwnd)
+}
+
+/// Whether the last window that was taken is so large.
+fn is_last_window(last: Option<Window>, window: u32) -> bool
+    ensures { result ≡ is_last_window_by last window }
+{
+    match last {
+        Some(last) => u64::from(window) == last.edge.saturating_sub(last.ack),
+        None => false,
+    }
+}
+
+/// The round trip of the measured piece, where it is acknowledged whole.
+fn round_trip(timed: Option<Timed>, place: u64, now: u64) -> Option<u64>
+    ensures value { result ≡ round_trip_of timed place now }
+    ensures longest { IfSome result (λ ms. ms ≤ 2 ^ 40) }
+{
+    match timed {
+        Some(timed) if timed.end <= place => {
+            Some(now.saturating_sub(timed.at).min(LONGEST_ROUND_TRIP))
+        }
+        _ => None,
+    }
+}
+
+/// The measured piece after all before a place was acknowledged.
+fn timed_past(timed: Option<Timed>, place: u64) -> Option<Timed>
+    ensures { result ≡ timed_past_by timed place }
+{
+    match timed {
+        Some(timed) if timed.end <= place => None,
+        _ => timed,
     }
 }
 

@@ -13,8 +13,10 @@ enum Step {
     Sends(u32, u64, usize, bool),
     /// Nothing is owed.
     OwesNothing,
-    /// An acknowledgement of all before a number, with a window.
-    Acks(u32, u32, u16, AckSeen),
+    /// An acknowledgement of all before a number, with a window, on a segment without octets.
+    Acks(u32, u32, u32, AckSeen),
+    /// The same on a segment with octets.
+    Carries(u32, u32, u32, AckSeen),
     /// The timer runs until a moment.
     Due(u64),
     /// The timer doesn't run.
@@ -25,7 +27,7 @@ enum Step {
     GivesUp,
 }
 
-use Step::{Acks, Due, Expires, GivesUp, OwesNothing, Rests, Sends};
+use Step::{Acks, Carries, Due, Expires, GivesUp, OwesNothing, Rests, Sends};
 
 /// Follows the steps.
 fn follow(rt: &impl Abort, transmit: &mut Transmit, down: &mut Down, steps: &[Step])
@@ -50,7 +52,13 @@ fn take_step(rt: &impl Abort, transmit: &mut Transmit, down: &mut Down, at: usiz
         }
         OwesNothing => assert_eq!(rt; transmit.next_piece(down), None, "step {at}"),
         Acks(now, number, window, seen) => {
-            let seen_now = transmit.acked(down, Seq(5_000), Seq(number), window, u64::from(now));
+            let now = u64::from(now);
+            let seen_now = transmit.acked(down, Seq(5_000), Seq(number), window, now, true);
+            assert_eq!(rt; seen_now, seen, "step {at}");
+        }
+        Carries(now, number, window, seen) => {
+            let now = u64::from(now);
+            let seen_now = transmit.acked(down, Seq(5_000), Seq(number), window, now, false);
             assert_eq!(rt; seen_now, seen, "step {at}");
         }
         Due(moment) => assert_eq!(rt; transmit.due(), Some(moment), "step {at}"),
@@ -371,7 +379,7 @@ fn an_older_segment_gives_no_window(rt: HostRuntime) -> Result<(), Fail> {
         &[Acks(0, 100, 500, AckSeen::Same)],
     );
     assert_eq!(rt;
-        transmit.acked(&mut down, Seq(4_999), Seq(100), 900, 0),
+        transmit.acked(&mut down, Seq(4_999), Seq(100), 900, 0, true),
         AckSeen::Same
     );
     follow(
@@ -381,9 +389,280 @@ fn an_older_segment_gives_no_window(rt: HostRuntime) -> Result<(), Fail> {
         &[Sends(0, 0, 500, false), OwesNothing],
     );
     assert_eq!(rt;
-        transmit.acked(&mut down, Seq(5_001), Seq(100), 700, 0),
+        transmit.acked(&mut down, Seq(5_001), Seq(100), 700, 0, true),
         AckSeen::Same
     );
     follow(&rt, &mut transmit, &mut down, &[Sends(0, 500, 200, false)]);
+    Ok(())
+}
+
+#[test]
+fn what_waited_for_the_link_is_counted_when_it_goes(rt: HostRuntime) -> Result<(), Fail> {
+    let steps = [
+        Acks(0, 100, 1_000, AckSeen::Same),
+        Sends(0, 0, 3, false),
+        Expires,
+        Acks(1_200, 100, 1_000, AckSeen::Same),
+        Sends(1_500, 0, 3, false),
+        Due(3_500),
+        Expires,
+        Sends(3_500, 0, 3, false),
+        Expires,
+        Sends(7_500, 0, 3, false),
+        Expires,
+        Sends(15_500, 0, 3, false),
+        Expires,
+        Sends(31_500, 0, 3, false),
+        Expires,
+        Sends(63_500, 0, 3, false),
+        Expires,
+        Sends(123_500, 0, 3, false),
+        Expires,
+        Sends(183_500, 0, 3, false),
+        Due(243_500),
+        GivesUp,
+    ];
+    follow_from(&rt, rt.alloc(), b"abc", false, &steps)?;
+    Ok(())
+}
+
+#[test]
+fn a_guest_that_keeps_acknowledging_is_probed(rt: HostRuntime) -> Result<(), Fail> {
+    let (mut transmit, mut down) = opened(rt.alloc(), b"abc", false)?;
+    let closed = [
+        Acks(0, 100, 0, AckSeen::Same),
+        Due(1_000),
+        Acks(400, 100, 0, AckSeen::Same),
+        Due(1_000),
+        Carries(800, 100, 0, AckSeen::Same),
+        Due(1_000),
+    ];
+    follow(&rt, &mut transmit, &mut down, &closed);
+    give(&mut transmit, &mut down, b"def", 900);
+    let probes = [
+        Due(1_000),
+        Expires,
+        Sends(1_000, 0, 1, false),
+        Acks(1_400, 100, 0, AckSeen::Same),
+        Acks(2_800, 100, 0, AckSeen::Same),
+        Due(3_000),
+    ];
+    follow(&rt, &mut transmit, &mut down, &probes);
+    Ok(())
+}
+
+#[test]
+fn a_probe_that_was_not_taken_goes_again_when_the_window_opens(
+    rt: HostRuntime,
+) -> Result<(), Fail> {
+    let steps = [
+        Acks(0, 100, 0, AckSeen::Same),
+        Expires,
+        Sends(1_000, 0, 1, false),
+        Acks(1_100, 100, 0, AckSeen::Same),
+        OwesNothing,
+        Acks(1_200, 100, 3, AckSeen::Same),
+        Sends(1_200, 0, 1, false),
+        Sends(1_200, 1, 2, false),
+        OwesNothing,
+        Due(3_200),
+        Acks(1_300, 100, 3, AckSeen::Same),
+        OwesNothing,
+        Expires,
+        Sends(3_200, 0, 3, false),
+        Expires,
+        Sends(7_200, 0, 3, false),
+        Expires,
+        Sends(15_200, 0, 3, false),
+        Expires,
+        Sends(31_200, 0, 3, false),
+        Expires,
+        Sends(63_200, 0, 3, false),
+        Expires,
+        Sends(123_200, 0, 3, false),
+        Expires,
+        Sends(183_200, 0, 3, false),
+        Expires,
+        Sends(243_200, 0, 3, false),
+        GivesUp,
+    ];
+    follow_from(&rt, rt.alloc(), b"abc", false, &steps)?;
+    Ok(())
+}
+
+#[test]
+fn a_round_trip_is_that_of_a_whole_piece(rt: HostRuntime) -> Result<(), Fail> {
+    let steps = [
+        Acks(0, 100, 4_000, AckSeen::Same),
+        Sends(0, 0, 1_460, false),
+        Acks(700, 800, 4_000, AckSeen::Forward(700)),
+        Due(1_700),
+        Acks(800, 1_560, 4_000, AckSeen::Forward(760)),
+        Sends(800, 1_460, 1_460, false),
+        Due(3_200),
+    ];
+    follow_from(&rt, rt.alloc(), &[7; 2_920], false, &steps)?;
+    Ok(())
+}
+
+#[test]
+fn the_guest_limits_the_pieces(rt: HostRuntime) -> Result<(), Fail> {
+    let (mut transmit, mut down) = opened(rt.alloc(), &[7; 1_000], true)?;
+    if transmit.next_number() == Seq(100) {
+        assert_eq!(rt; transmit.mss(), 1_460);
+    }
+    let mut limited = Transmit::new(Seq(99), 1_460);
+    limited.limit(536);
+    assert_eq!(rt; limited.mss(), 536);
+    limited.limit(1_000);
+    assert_eq!(rt; limited.mss(), 536);
+    follow(&rt, &mut transmit, &mut down, &[OwesNothing]);
+    let mut down = Down::open(rt.alloc(), 2_000)?;
+    limited.more(&mut down, &[7; 1_000], 0);
+    let steps = [
+        Acks(0, 100, 4_000, AckSeen::Same),
+        Sends(0, 0, 536, false),
+        Sends(0, 536, 464, false),
+    ];
+    follow(&rt, &mut limited, &mut down, &steps);
+    Ok(())
+}
+
+/// Sends all that is owed, and answers the number after it.
+fn send_all(transmit: &mut Transmit, down: &Down) -> Seq
+    requires { Feeds transmit.old down.now }
+    ensures { Feeds transmit.new down.now }
+{
+    for turn in 0..100 {
+        if send(transmit, down, turn).is_none() {
+            return transmit.next_number();
+        }
+    }
+    transmit.next_number()
+}
+
+#[test]
+fn a_scaled_window(rt: HostRuntime) -> Result<(), Fail> {
+    let mut transmit = Transmit::new(Seq(99), 1_460);
+    let mut down = Down::open(rt.alloc(), 131_072)?;
+    give_many(rt.alloc(), &mut transmit, &mut down)?;
+    follow(
+        &rt,
+        &mut transmit,
+        &mut down,
+        &[Acks(0, 100, 128_000, AckSeen::Same)],
+    );
+    assert_eq!(rt; send_all(&mut transmit, &down), Seq(128_100));
+    Ok(())
+}
+
+/// Fills the buffer.
+fn give_many(alloc: Global, transmit: &mut Transmit, down: &mut Down) -> Result<(), AllocError>
+    requires feeds { Feeds transmit.old down.old }
+    requires few { octets_read down.old < 2 ^ 32 }
+    ensures { IfOk result (λ _. Feeds transmit.new down.new) }
+{
+    let octets = filled(alloc, 131_072)?;
+    give(transmit, down, &octets, 0);
+    Ok(())
+}
+
+/// So many octets.
+fn filled(alloc: Global, count: u32) -> Result<Vec<u8>, AllocError>
+    ensures { IfOk result (λ octets. length octets.items ≡ count) }
+{
+    vec![in alloc; 7; count as usize]
+}
+
+/// Follows the steps with a congestion window.
+fn follow_congested(
+    rt: &impl Abort,
+    alloc: Global,
+    octets: &[u8],
+    steps: &[Step],
+) -> Result<(), AllocError>
+    requires { length octets.now < 2 ^ 32 }
+{
+    let mut transmit = Transmit::new(Seq(99), 1_460);
+    transmit.congest(Cwnd::new(1_460, false));
+    let mut down = Down::open(alloc, 65_535)?;
+    transmit.more(&mut down, octets, 0);
+    follow(rt, &mut transmit, &mut down, steps);
+    Ok(())
+}
+
+#[test]
+fn slow_start_and_a_third_duplicate(rt: HostRuntime) -> Result<(), Fail> {
+    let steps = [
+        Acks(0, 100, 65_535, AckSeen::Same),
+        Sends(0, 0, 1_460, false),
+        Sends(0, 1_460, 1_460, false),
+        Sends(0, 2_920, 1_460, false),
+        OwesNothing,
+        Acks(10, 1_560, 65_535, AckSeen::Forward(1_460)),
+        Sends(10, 4_380, 1_460, false),
+        Sends(10, 5_840, 1_460, false),
+        OwesNothing,
+        Acks(20, 1_560, 65_535, AckSeen::Same),
+        Acks(21, 1_560, 65_535, AckSeen::Same),
+        OwesNothing,
+        Acks(22, 1_560, 65_535, AckSeen::Same),
+        Sends(25, 1_460, 1_460, false),
+        Due(1_025),
+        Sends(25, 7_300, 1_460, false),
+        OwesNothing,
+        Acks(30, 7_400, 65_535, AckSeen::Forward(5_840)),
+        Sends(30, 8_760, 1_460, false),
+        OwesNothing,
+    ];
+    follow_congested(&rt, rt.alloc(), &[7; 16_384], &steps)?;
+    Ok(())
+}
+
+#[test]
+fn what_is_no_duplicate(rt: HostRuntime) -> Result<(), Fail> {
+    let steps = [
+        Acks(0, 100, 65_535, AckSeen::Same),
+        Acks(0, 100, 65_535, AckSeen::Same),
+        Sends(0, 0, 1_460, false),
+        Sends(0, 1_460, 1_460, false),
+        Sends(0, 2_920, 1_460, false),
+        Acks(1, 100, 65_535, AckSeen::Same),
+        Acks(1, 100, 65_535, AckSeen::Same),
+        Carries(2, 100, 65_535, AckSeen::Same),
+        Acks(3, 100, 65_534, AckSeen::Same),
+        OwesNothing,
+        Acks(4, 100, 65_534, AckSeen::Same),
+        Sends(4, 0, 1_460, false),
+        Sends(4, 4_380, 1_460, false),
+        Sends(4, 5_840, 1_460, false),
+        OwesNothing,
+        Acks(5, 100, 65_534, AckSeen::Same),
+        Sends(5, 7_300, 1_460, false),
+        OwesNothing,
+    ];
+    follow_congested(&rt, rt.alloc(), &[7; 16_384], &steps)?;
+    Ok(())
+}
+
+#[test]
+fn an_expiry_leaves_one_segment(rt: HostRuntime) -> Result<(), Fail> {
+    let steps = [
+        Acks(0, 100, 65_535, AckSeen::Same),
+        Sends(0, 0, 1_460, false),
+        Sends(0, 1_460, 1_460, false),
+        Sends(0, 2_920, 1_460, false),
+        Expires,
+        Sends(1_000, 0, 1_460, false),
+        OwesNothing,
+        Acks(1_100, 1_560, 65_535, AckSeen::Forward(1_460)),
+        OwesNothing,
+        Acks(1_200, 4_480, 65_535, AckSeen::Forward(2_920)),
+        Sends(1_200, 4_380, 1_460, false),
+        Sends(1_200, 5_840, 1_460, false),
+        Sends(1_200, 7_300, 730, false),
+        OwesNothing,
+    ];
+    follow_congested(&rt, rt.alloc(), &[7; 16_384], &steps)?;
     Ok(())
 }

@@ -1,27 +1,24 @@
-use Rattle.std.proofs.Common.{◌≡◌, ◌≤◌, ◌+◌, arith, ap, subst, sym, ◌∙◌, false}
+use Rattle.std.proofs.Common.{◌≤◌, ◌+◌, arith, subst, sym}
 use Rattle.std.proofs.lemmas.Grind.{common_steps}
 use Rattle.tcp_transmit.specs.Pieces.{end_of}
-use Rattle.tcp_transmit.specs.Transmission.{Feeds, Transmission, is_off, octets_read}
-use Rattle.tcp_transmit.proofs.Feeding.{sent_feeds, owed_ends, running_on}
+use Rattle.tcp_transmit.specs.Transmission.{Feeds, Transmission, octets_read}
+use Rattle.tcp_transmit.proofs.Feeding.{owed_ends, sent_feeds}
 use Rattle.tcp_transmit.proofs.Transmit.sent.Goals as goal
 use Rattle.tcp_transmit.proofs.Transmit.sent.Goals.{then-p, else-p}
 
 pub overflow_add-end : goal.overflow_add-end
 overflow_add-end c =
-    let within = subst (λ (t : Transmission). t.acked ≤ t.sent) c.self.view_is c.self.invariant.1 in
     let ends : end_of c.args.p.now ≤ octets_read c.requires.owed.0 + 1 = owed_ends c.args.self.now c.requires.owed.0 c.args.p.now c.requires.owed.1 c.requires.owed.2 in
     let few = c.requires.owed.1.few in
     omega arith
 
 pub invariant_of-self : goal.invariant_of-self
 invariant_of-self c =
-    let within = subst (λ (t : Transmission). t.acked ≤ t.sent) c.self.view_is c.self.invariant.1 in
     let ends : end_of c.args.p.now ≤ octets_read c.requires.owed.0 + 1 = owed_ends c.args.self.now c.requires.owed.0 c.args.p.now c.requires.owed.1 c.requires.owed.2 in
     let few = c.requires.owed.1.few in
-    let on : is_off c.kept_running-self-inside.result ≡ false = ap is_off c.kept_running-self-inside.ensures ∙ running_on c.if-p.self-inside.timer (c.args.now + c.wait.result) in
     elim c.if-p.branch [
-      | then-p w ↦ rw w.self-inside-is (c.self.invariant.0, omega arith, omega arith, λ off. cc)
-      | else-p w ↦ rw w.self-inside-is (c.self.invariant.0, omega arith, omega arith, λ off. cc)
+      | then-p w ↦ rw w.self-inside-is (c.self.invariant.0, c.self.invariant.1, omega (arith, c.self.invariant.2, c.max-self-inside.ensures), omega (arith, c.self.invariant.3, c.max-self-inside.ensures, c.numbers.ensures, ends, few))
+      | else-p w ↦ rw w.self-inside-is (c.self.invariant.0, c.self.invariant.1, omega (arith, c.self.invariant.2, c.max-self-inside.ensures), omega (arith, c.self.invariant.3, c.max-self-inside.ensures, c.numbers.ensures, ends, few))
     ]
 
 pub returns-clause-sent : goal.returns-clause-sent
@@ -29,4 +26,4 @@ returns-clause-sent c = grind (arith, common_steps)
 
 pub returns-clause-feeds : goal.returns-clause-feeds
 returns-clause-feeds c down feeds owed =
-    subst (λ (x : Transmission). Feeds x down) (sym (returns-clause-sent c)) (sent_feeds c.args.self.now down c.args.p.now c.args.now feeds owed)
+    subst (λ (x : Transmission). Feeds x down) (sym (returns-clause-sent c)) (sent_feeds c.args.self.now down c.args.p.now c.args.now c.requires.now feeds owed)
