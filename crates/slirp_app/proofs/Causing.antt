@@ -93,7 +93,7 @@ is_spent _ is = cc
 
 is_refusal : (outcome : Outcome) → code_of outcome ≡ 11 → (n : ℕ) × (outcome ≡ ListenRefused n)
 is_refusal (ListenRefused n) is = (n, refl)
-is_refusal _ is = cc
+is_refusal _ is = absurd (omega (arith, is))
 
 -- the same record, of which more is known
 replayed_as : (status : ℕ) (schedule : List ℕ) (old new : Option (List ℕ)) (P Q : List Entry → Type 0) → Replayed status schedule old new P → ((journal : List Entry) → Lawful usual journal → P journal → Q journal) → Replayed status schedule old new Q
