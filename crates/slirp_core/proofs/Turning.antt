@@ -166,8 +166,7 @@ module _ (config : Config) (count : ℕ) (wants : List Want) (item : Want) (item
   quiet (LinkRead asked (Done n) octets ∷ made) past pieces framed q lawful =
       let (before, so_far) = quiet made past pieces.3 framed.1 q lawful in
       let e = LinkRead asked (Done n) octets in
-      let frame = pieces.1 in
-      (
+      let frame = pieces.1 in (
         record {
           turn = record { working = ap (λ o. phase_after e o (phase config (made ++ past))) pieces.2 ∙ before.turn.working; waited = before.turn.waited };
           reported = subst (λ (b : Bool). IsLast (all_wanted wants (item ∷ items)) (if not b then from TheLink (agenda (made ++ past)) else behind TheLink (agenda (made ++ past))))

@@ -100,10 +100,13 @@ pub no_frame : (a c : Telling) (old link : LinkState) (answer : Io) (result : Ar
     → hands result link ≡ None → ending_of result ≡ read_ending answer link.octets → Tells result answer → Makes a c (λ made. IsLast answer made × ((past : List Entry) → Keeps old past → Read old answer made past link.octets))
     → Makes a c (λ made. EndsBy result made × ((past : List Entry) → Keeps old past → Keeps link (made ++ past) × ReadsFrame result link made past))
 no_frame a c old link answer result begun same unfinished none last tells read =
-    makes_as a c (λ made. IsLast answer made × ((past : List Entry) → Keeps old past → Read old answer made past link.octets)) (λ made. EndsBy result made × ((past : List Entry) → Keeps old past → Keeps link (made ++ past) × ReadsFrame result link made past)) read (λ made holds. (ends_by result answer made tells holds.0, λ past keeps.
-    let r = holds.1 past keeps in
-    let k = read_open old link answer made past begun same unfinished r in
-    (k.0, record { reads = r.reads; frame = k.1 ∙ sym none; last = r.last ∙ sym last })))
+    makes_as a c (λ made. IsLast answer made × ((past : List Entry) → Keeps old past → Read old answer made past link.octets)) (λ made. EndsBy result made × ((past : List Entry) → Keeps old past → Keeps link (made ++ past) × ReadsFrame result link made past)) read (λ made holds. (
+      ends_by result answer made tells holds.0,
+      λ past keeps.
+          let r = holds.1 past keeps in
+          let k = read_open old link answer made past begun same unfinished r in
+          (k.0, record { reads = r.reads; frame = k.1 ∙ sym none; last = r.last ∙ sym last }),
+    ))
 
 -- a read that moved something ends the run only by a length that is too great
 pub goes_on : (n : ℕ) (octets : List ℕ) → is_too_long octets ≡ false → read_ending (Done n) octets ≡ None

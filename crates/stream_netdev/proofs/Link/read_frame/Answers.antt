@@ -27,8 +27,11 @@ returns-in-Whole-clause-makes g c =
     let now = c.loop-self.invariant in
     let finished = c.finish.ensures in
     let read = a_read _ _ _ c.args.self.now _ new.octets _ now.makes c.in-Done.ensures.read in
-    makes_as _ _ _ _ read (λ made holds. (ends_by Frame (Done c.in-Done.field-0) made tt holds.0, λ past keeps. read_whole c.args.self.now c.finish.new.self _ made past new.octets c.in-Whole.ensures.0 (goes_on c.in-Done.field-0 new.octets c.in-Whole.ensures.1) finished.same.0 finished.whole
-    (finished.same.1 ∙ c.in-Done.ensures.same.0 ∙ now.same.0) (finished.same.2 ∙ c.in-Done.ensures.same.1 ∙ now.same.1) (holds.1 past keeps)))
+    makes_as _ _ _ _ read (λ made holds. (
+      ends_by Frame (Done c.in-Done.field-0) made tt holds.0,
+      λ past keeps. read_whole c.args.self.now c.finish.new.self _ made past new.octets c.in-Whole.ensures.0 (goes_on c.in-Done.field-0 new.octets c.in-Whole.ensures.1) finished.same.0 finished.whole
+          (finished.same.1 ∙ c.in-Done.ensures.same.0 ∙ now.same.0) (finished.same.2 ∙ c.in-Done.ensures.same.1 ∙ now.same.1) (holds.1 past keeps),
+    ))
 
 pub returns-in-TooLong-clause-makes : goal.returns-in-TooLong-clause-makes
 returns-in-TooLong-clause-makes g c =
