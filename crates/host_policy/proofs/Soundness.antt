@@ -1,10 +1,11 @@
 -- That each field is in its range where none is the first that breaks it.
-use Rattle.std.proofs.Common.{ℕ, zero, suc, ◌≡◌, refl, Bool, true, false, not, List, [], ◌∷◌, Option, Some, None, if◌then◌else◌}
+use Rattle.std.proofs.Common.{ℕ, zero, suc, ◌≤◌, arith, ◌≡◌, refl, Bool, true, false, not, List, [], ◌∷◌, Option, Some, None, if◌then◌else◌}
+use Rattle.std.proofs.lemmas.Bool.Decides.{nat_tests}
 use Rattle.std.specs.Prelude.{find, slice_get}
 use Rattle.host_policy.specs.declared.config.Field.{Field}
 use Rattle.host_policy.specs.declared.config.Field.TheVariants.{Version, InEnabled, Vnetmask, Vnetwork, Vhost, Vnameserver, VdhcpStart, Vhostname, Vdomainname, TftpServerName, Bootfile, TftpPath, IfMtu, IfMru, Flows, Ring, Resolver, Turns, Forwards, Outbound, DisableDns, DisableDhcp, Guestfwds, Control, Octets}
 use Rattle.host_policy.specs.Addresses.{Config}
-use Rattle.host_policy.specs.Ranges.{in_range, fields, first_broken, IsSound}
+use Rattle.host_policy.specs.Ranges.{in_range, fields, first_broken, is_between, IsSound}
 
 module _ {X : Type 0} where
   -- where the first of a list doesn't fail, it passes and none of the others fails
@@ -52,3 +53,10 @@ each_in_range config none Octets = refl
 
 pub none_broken : (config : Config) → IsSound config → first_broken config ≡ None
 none_broken config sound = none_fails (in_range config) fields sound.each
+
+-- the longest datagram to a guest
+pub mtu_between : (config : Config) → IsSound config → (576 ≤ config.mtu) × (config.mtu ≤ 1500)
+mtu_between config sound = between config.mtu (sound.each IfMtu)
+  where
+    between : (mtu : ℕ) → is_between 576 mtu 1500 ≡ true → (576 ≤ mtu) × (mtu ≤ 1500)
+    between mtu is = (grind (arith, nat_tests, is), grind (arith, nat_tests, is))

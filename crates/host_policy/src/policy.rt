@@ -1,5 +1,5 @@
 //! Whose the addresses of the virtual network are, and where packets of guests may go.
-ghost use Rattle.std.specs.Prelude.{◌≡◌, ◌==◌, ◌||◌, Some, None, if◌then◌else◌};
+ghost use Rattle.std.specs.Prelude.{◌≡◌, ◌≤◌, ◌==◌, ◌||◌, Some, None, if◌then◌else◌};
 ghost use Rattle.host_policy.specs.Ranges.{IsSound};
 ghost use Rattle.host_policy.specs.Targets.{is_group_or_reserved};
 
@@ -21,12 +21,15 @@ pub struct Policy {
 }
 
 impl Model for Policy {
+    ghost use Rattle.std.specs.Prelude.{◌≤◌};
     ghost use Rattle.host_policy.specs.Addresses.{Config};
     ghost use Rattle.host_policy.specs.Settings.{settings};
 
     ghost Value = { Config };
 
     ghost view = { λ p. settings p.config };
+
+    ghost invariant = { λ p. (576 ≤ p.config.if_mtu) × (p.config.if_mtu ≤ 1500) };
 }
 
 impl Policy {
@@ -54,6 +57,15 @@ impl Policy {
         ensures { result.0 ≡ self.now.vhost }
     {
         self.config.vhost
+    }
+
+    /// The octets of the longest datagram to a guest, 576 to 1,500 (RFC 894).
+    pub fn mtu(&self) -> u16
+        ensures settings { result ≡ self.now.mtu }
+        ensures least { 576 ≤ result }
+        ensures most { result ≤ 1500 }
+    {
+        self.config.if_mtu
     }
 
     /// Where a packet of a guest to this endpoint goes. A forward of guests comes first, for TCP. Else the first rule that fits denies it: where guests are restricted; to port 0; for the name server, unless a resolver answers on port 53; for the host, whose address is 127.0.0.1, where its loopback is shut; for another address of the virtual network; for one in 0/8, 127/8, 224/4 or 240/4.

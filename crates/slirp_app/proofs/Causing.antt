@@ -1,15 +1,16 @@
 -- What an outcome tells, status by status.
 use Rattle.std.proofs.Common.{◌≡◌, ◌↔◌, ◌≢◌, ◌⊎◌, inl, inr, ℕ, ◌<◌, List, [], ◌∷◌, Option, Result, Ok, Err, IsTrue, false, refl, sym, ◌∙◌, ap, subst, arith}
-use Rattle.host_policy.specs.Settings.{usual}
+use Rattle.host_policy.specs.Addresses.{Config}
 use Rattle.replay.specs.Unread.{IsFirstUnread}
 use Rattle.replay.specs.declared.Divergence.{Divergence}
 use Rattle.slirp_app.specs.Causes.{Came, CannotRead, Caused, IsTooLarge, RanOn}
-use Rattle.slirp_app.specs.Fetching.{IsUnreadable, is_read, octets_read}
-use Rattle.slirp_app.specs.Ran.{Ceased, EndsBy, FetchesFile, IsAtEnd, Replayed}
+use Rattle.slirp_app.specs.Doing.{ReplaysFile}
+use Rattle.slirp_app.specs.Fetching.{IsUnreadable, MayFetch, is_read, octets_read}
+use Rattle.slirp_app.specs.Ran.{Ceased, EndsBy, IsAtEnd, Replayed}
 use Rattle.slirp_app.specs.Statuses.{code_of, outcome_of, is_run}
 use Rattle.slirp_app.specs.Texts.{text_of}
 use Rattle.slirp_app.specs.declared.status.Outcome.{Outcome}
-use Rattle.slirp_app.specs.declared.status.Outcome.TheVariants.{Done, Usage, ScheduleRead, ScheduleTooLarge, ScheduleLine, Diverged, FrameTooLong, FrameCut, LinkFault, WaitFault, TurnsSpent, ListenRefused, SinkFault, NoMemory}
+use Rattle.slirp_app.specs.declared.status.Outcome.TheVariants.{Done, Usage, BadConfig, ScheduleRead, ScheduleTooLarge, ScheduleLine, Diverged, FrameTooLong, FrameCut, LinkFault, WaitFault, TurnsSpent, ListenRefused, SinkFault, NoMemory}
 use Rattle.slirp_app.proofs.Ending.{ends_by, long_frame, waits_spent, meant_by}
 use Rattle.slirp_core.specs.Ends.{end_of}
 use Rattle.slirp_laws.specs.Laws.{Lawful}
@@ -17,7 +18,7 @@ use Rattle.run_laws.specs.Shape.{By, Over, Refused, phase}
 use Rattle.slirp_laws.specs.Laws.{Finished}
 use Rattle.run_laws.specs.Moments.{waits}
 use Rattle.world_face.specs.Frames.{LinkCut, LinkEnded, LinkFailed, LongFrame, Stopped, WaitFailed, partial}
-use Rattle.world_face.specs.Journal.{Entry, AreAllowed, FileLen, FileRead}
+use Rattle.world_face.specs.Journal.{Entry, AreAllowed, FileLen, FileRead, Follows}
 use Rattle.world_face.specs.Puts.{Puts, added}
 use Rattle.world_face.specs.Tells.{Telling, Counted, Makes, Rose}
 use Rattle.world_face.specs.Faults.{file_failed}
@@ -96,20 +97,20 @@ is_refusal (ListenRefused n) is = (n, refl)
 is_refusal _ is = absurd (omega (arith, is))
 
 -- the same record, of which more is known
-replayed_as : (status : ℕ) (schedule : List ℕ) (old new : Option (List ℕ)) (P Q : List Entry → Type 0) → Replayed status schedule old new P → ((journal : List Entry) → Lawful usual journal → P journal → Q journal) → Replayed status schedule old new Q
-replayed_as status schedule old new P Q ran here =
+replayed_as : (config : Config) (status : ℕ) (schedule : List ℕ) (old new : Option (List ℕ)) (P Q : List Entry → Type 0) → Replayed config status schedule old new P → ((journal : List Entry) → Lawful config journal → P journal → Q journal) → Replayed config status schedule old new Q
+replayed_as config status schedule old new P Q ran here =
     record { journal = ran.journal; put = ran.put; fits = ran.fits; allowed = ran.allowed; lawful = ran.lawful; holds = here ran.journal ran.lawful ran.holds }
 
-module _ (world world_new : Telling) (words : List (List ℕ)) (old new : Option (List ℕ)) where
+module _ (config : Config) (world world_new : Telling) (file : List ℕ) (old new : Option (List ℕ)) where
   abbrev By_calls : Outcome → Type 0
-  By_calls outcome = Makes world world_new (λ made. FetchesFile words made × Caused outcome made old new)
+  By_calls outcome = Makes world world_new (λ made. Follows (MayFetch file) made × Caused config outcome made old new)
 
   -- of the record of a run
   of_run : (outcome : Outcome) (status : ℕ) (P : List ℕ → List Entry → Type 0) (Q : List ℕ → List Entry → Type 0) → By_calls outcome → IsTrue (is_read (code_of outcome))
-      → ((schedule : List ℕ) → Came outcome schedule old new → Replayed status schedule old new (Q schedule))
-      → ((schedule : List ℕ) (journal : List Entry) → Lawful usual journal → Q schedule journal → P schedule journal) → RanOn world world_new status old new P
+      → ((schedule : List ℕ) → Came config outcome schedule old new → Replayed config status schedule old new (Q schedule))
+      → ((schedule : List ℕ) (journal : List Entry) → Lawful config journal → Q schedule journal → P schedule journal) → RanOn config world world_new status old new P
   of_run outcome status P Q makes read came here =
-      makes_as world world_new _ _ makes (λ made holds. (holds.1.whole read, replayed_as status (octets_read made) old new (Q (octets_read made)) (P (octets_read made)) (came (octets_read made) (holds.1.came read)) (here (octets_read made))))
+      makes_as world world_new _ _ makes (λ made holds. (holds.1.whole read, replayed_as config status (octets_read made) old new (Q (octets_read made)) (P (octets_read made)) (came (octets_read made) (holds.1.came read)) (here (octets_read made))))
 
   unreadable_by : (outcome : Outcome) → By_calls outcome → (outcome ≡ ScheduleRead) ⊎ (outcome ≡ ScheduleTooLarge) → Makes world world_new (λ made. CannotRead world world_new made ⊎ IsTooLarge made)
   unreadable_by outcome makes (inl is) =
@@ -132,18 +133,19 @@ module _ (world world_new : Telling) (words : List (List ℕ)) (old new : Option
       makes_as world world_new _ _ makes (λ made holds. (at.0, holds.1.first at.0 at.1, subst Told at.1 told))
 
   abbrev AtEnd : ℕ → List ℕ → List Entry → Type 0
-  AtEnd status schedule journal = status ≢ 5 → Finished usual journal × (status ≡ code_of (outcome_of (end_of usual (phase usual journal))))
+  AtEnd status schedule journal = status ≢ 5 → Finished config journal × (status ≡ code_of (outcome_of (end_of config (phase config journal))))
 
-  ended_run : (outcome : Outcome) → By_calls outcome → IsTrue (is_read (code_of outcome)) → ((schedule : List ℕ) → Came outcome schedule old new → Replayed (code_of outcome) schedule old new (IsAtEnd outcome)) → RanOn world world_new (code_of outcome) old new (AtEnd (code_of outcome))
-  ended_run outcome makes read came = of_run outcome (code_of outcome) (AtEnd (code_of outcome)) (λ schedule. IsAtEnd outcome) makes read came (λ schedule journal lawful at other. (at.0, ap code_of at.1))
+  ended_run : (outcome : Outcome) → By_calls outcome → IsTrue (is_read (code_of outcome)) → ((schedule : List ℕ) → Came config outcome schedule old new → Replayed config (code_of outcome) schedule old new (IsAtEnd config outcome)) → RanOn config world world_new (code_of outcome) old new (AtEnd (code_of outcome))
+  ended_run outcome makes read came = of_run outcome (code_of outcome) (AtEnd (code_of outcome)) (λ schedule. IsAtEnd config outcome) makes read came (λ schedule journal lawful at other. (at.0, ap code_of at.1))
 
-  pub ran : (outcome : Outcome) → By_calls outcome → IsTrue (is_run (code_of outcome)) → RanOn world world_new (code_of outcome) old new (AtEnd (code_of outcome))
+  pub ran : (outcome : Outcome) → By_calls outcome → IsTrue (is_run (code_of outcome)) → RanOn config world world_new (code_of outcome) old new (AtEnd (code_of outcome))
   ran Done makes is = ended_run Done makes refl (λ schedule came. came)
   ran Usage _ is = absurd (not_run is)
+  ran (BadConfig field) _ is = absurd (not_run is)
   ran ScheduleRead _ is = absurd (not_run is)
   ran ScheduleTooLarge _ is = absurd (not_run is)
   ran (ScheduleLine line) _ is = absurd (not_run is)
-  ran (Diverged divergence) makes is = of_run (Diverged divergence) 5 (AtEnd 5) (λ schedule. Ceased schedule divergence) makes refl (λ schedule came. came) (λ schedule journal lawful ceased other. absurd (other refl))
+  ran (Diverged divergence) makes is = of_run (Diverged divergence) 5 (AtEnd 5) (λ schedule. Ceased config schedule divergence) makes refl (λ schedule came. came) (λ schedule journal lawful ceased other. absurd (other refl))
   ran (FrameTooLong n) makes is = ended_run (FrameTooLong n) makes refl (λ schedule came. came)
   ran (FrameCut octets) makes is = ended_run (FrameCut octets) makes refl (λ schedule came. came)
   ran LinkFault makes is = ended_run LinkFault makes refl (λ schedule came. came)
@@ -155,84 +157,103 @@ module _ (world world_new : Telling) (words : List (List ℕ)) (old new : Option
 
   module _ (Told : Outcome → Type 0) where
     abbrev Diverges : List ℕ → List Entry → Type 0
-    Diverges schedule journal = (divergence : Divergence) × Ceased schedule divergence journal × Told (Diverged divergence)
+    Diverges schedule journal = (divergence : Divergence) × Ceased config schedule divergence journal × Told (Diverged divergence)
 
-    of_divergence : (d : Divergence) → By_calls (Diverged d) → Told (Diverged d) → RanOn world world_new 5 old new Diverges
-    of_divergence d makes told = of_run (Diverged d) 5 Diverges (λ schedule. Ceased schedule d) makes refl (λ schedule came. came) (λ schedule journal lawful ceased. (d, ceased, told))
+    of_divergence : (d : Divergence) → By_calls (Diverged d) → Told (Diverged d) → RanOn config world world_new 5 old new Diverges
+    of_divergence d makes told = of_run (Diverged d) 5 Diverges (λ schedule. Ceased config schedule d) makes refl (λ schedule came. came) (λ schedule journal lawful ceased. (d, ceased, told))
 
-    pub diverged : (outcome : Outcome) → By_calls outcome → Told outcome → code_of outcome ≡ 5 → RanOn world world_new 5 old new Diverges
+    pub diverged : (outcome : Outcome) → By_calls outcome → Told outcome → code_of outcome ≡ 5 → RanOn config world world_new 5 old new Diverges
     diverged outcome makes told is = let found = is_divergence outcome is in of_divergence found.0 (subst By_calls found.1 makes) (subst Told found.1 told)
 
     abbrev IsTooLong : List ℕ → List Entry → Type 0
     IsTooLong schedule journal = (size : ℕ) × EndsBy (LongFrame size) journal × (69632 < size) × Told (FrameTooLong size)
 
-    of_length : (n : ℕ) → By_calls (FrameTooLong n) → Told (FrameTooLong n) → RanOn world world_new 6 old new IsTooLong
-    of_length n makes told = of_run (FrameTooLong n) 6 IsTooLong (λ schedule. IsAtEnd (FrameTooLong n)) makes refl (λ schedule came. came)
-        (λ schedule journal lawful at. let by = ends_by usual (LongFrame n) journal (meant_by usual (FrameTooLong n) (phase usual journal) at.1) in (n, by, long_frame by.entry (partial by.past) n by.ends, told))
+    of_length : (n : ℕ) → By_calls (FrameTooLong n) → Told (FrameTooLong n) → RanOn config world world_new 6 old new IsTooLong
+    of_length n makes told = of_run (FrameTooLong n) 6 IsTooLong (λ schedule. IsAtEnd config (FrameTooLong n)) makes refl (λ schedule came. came)
+        (λ schedule journal lawful at. let by = ends_by config (LongFrame n) journal (meant_by config (FrameTooLong n) (phase config journal) at.1) in (n, by, long_frame by.entry (partial by.past) n by.ends, told))
 
-    pub too_long : (outcome : Outcome) → By_calls outcome → Told outcome → code_of outcome ≡ 6 → RanOn world world_new 6 old new IsTooLong
+    pub too_long : (outcome : Outcome) → By_calls outcome → Told outcome → code_of outcome ≡ 6 → RanOn config world world_new 6 old new IsTooLong
     too_long outcome makes told is = let found = is_length outcome is in of_length found.0 (subst By_calls found.1 makes) (subst Told found.1 told)
 
     abbrev IsCut : List ℕ → List Entry → Type 0
     IsCut schedule journal = (octets : ℕ) × EndsBy (LinkCut octets) journal × Told (FrameCut octets)
 
     of_cut : (n : ℕ) → By_calls (FrameCut n) → Told (FrameCut n)
-        → RanOn world world_new 7 old new IsCut
-    of_cut n makes told = of_run (FrameCut n) 7 IsCut (λ schedule. IsAtEnd (FrameCut n)) makes refl (λ schedule came. came)
-        (λ schedule journal lawful at. (n, ends_by usual (LinkCut n) journal (meant_by usual (FrameCut n) (phase usual journal) at.1), told))
+        → RanOn config world world_new 7 old new IsCut
+    of_cut n makes told = of_run (FrameCut n) 7 IsCut (λ schedule. IsAtEnd config (FrameCut n)) makes refl (λ schedule came. came)
+        (λ schedule journal lawful at. (n, ends_by config (LinkCut n) journal (meant_by config (FrameCut n) (phase config journal) at.1), told))
 
-    pub cut : (outcome : Outcome) → By_calls outcome → Told outcome → code_of outcome ≡ 7 → RanOn world world_new 7 old new IsCut
+    pub cut : (outcome : Outcome) → By_calls outcome → Told outcome → code_of outcome ≡ 7 → RanOn config world world_new 7 old new IsCut
     cut outcome makes told is = let found = is_cut outcome is in of_cut found.0 (subst By_calls found.1 makes) (subst Told found.1 told)
 
     abbrev IsSpent : List ℕ → List Entry → Type 0
-    IsSpent schedule journal = (waits journal ≡ usual.turns) × Told (TurnsSpent usual.turns)
+    IsSpent schedule journal = (waits journal ≡ config.turns) × Told (TurnsSpent config.turns)
 
     of_spent : (n : ℕ) → By_calls (TurnsSpent n) → Told (TurnsSpent n)
-        → RanOn world world_new 10 old new IsSpent
-    of_spent n makes told = of_run (TurnsSpent n) 10 IsSpent (λ schedule. IsAtEnd (TurnsSpent n)) makes refl (λ schedule came. came)
-        (λ schedule journal lawful at. let turns = meant_by usual (TurnsSpent n) (phase usual journal) at.1 in
-        (waits_spent usual journal lawful at.0 (sym (ap TurnsSpent (sym turns) ∙ at.1)), subst (λ m. Told (TurnsSpent m)) turns told))
+        → RanOn config world world_new 10 old new IsSpent
+    of_spent n makes told = of_run (TurnsSpent n) 10 IsSpent (λ schedule. IsAtEnd config (TurnsSpent n)) makes refl (λ schedule came. came)
+        (λ schedule journal lawful at. let turns = meant_by config (TurnsSpent n) (phase config journal) at.1 in
+        (waits_spent config journal lawful at.0 (sym (ap TurnsSpent (sym turns) ∙ at.1)), subst (λ m. Told (TurnsSpent m)) turns told))
 
-    pub spent : (outcome : Outcome) → By_calls outcome → Told outcome → code_of outcome ≡ 10 → RanOn world world_new 10 old new IsSpent
+    pub spent : (outcome : Outcome) → By_calls outcome → Told outcome → code_of outcome ≡ 10 → RanOn config world world_new 10 old new IsSpent
     spent outcome makes told is = let found = is_spent outcome is in of_spent found.0 (subst By_calls found.1 makes) (subst Told found.1 told)
 
     abbrev IsRefused : List ℕ → List Entry → Type 0
-    IsRefused schedule journal = (forward : ℕ) × (phase usual journal ≡ Over (Refused forward)) × Told (ListenRefused forward)
+    IsRefused schedule journal = (forward : ℕ) × (phase config journal ≡ Over (Refused forward)) × Told (ListenRefused forward)
 
-    of_refusal : (n : ℕ) → By_calls (ListenRefused n) → Told (ListenRefused n) → RanOn world world_new 11 old new IsRefused
-    of_refusal n makes told = of_run (ListenRefused n) 11 IsRefused (λ schedule. IsAtEnd (ListenRefused n)) makes refl (λ schedule came. came)
-        (λ schedule journal lawful at. (n, meant_by usual (ListenRefused n) (phase usual journal) at.1, told))
+    of_refusal : (n : ℕ) → By_calls (ListenRefused n) → Told (ListenRefused n) → RanOn config world world_new 11 old new IsRefused
+    of_refusal n makes told = of_run (ListenRefused n) 11 IsRefused (λ schedule. IsAtEnd config (ListenRefused n)) makes refl (λ schedule came. came)
+        (λ schedule journal lawful at. (n, meant_by config (ListenRefused n) (phase config journal) at.1, told))
 
-    pub forward_refused : (outcome : Outcome) → By_calls outcome → Told outcome → code_of outcome ≡ 11 → RanOn world world_new 11 old new IsRefused
+    pub forward_refused : (outcome : Outcome) → By_calls outcome → Told outcome → code_of outcome ≡ 11 → RanOn config world world_new 11 old new IsRefused
     forward_refused outcome makes told is = let found = is_refusal outcome is in of_refusal found.0 (subst By_calls found.1 makes) (subst Told found.1 told)
 
   abbrev IsDone : List ℕ → List Entry → Type 0
   IsDone schedule journal = EndsBy Stopped journal ⊎ EndsBy LinkEnded journal
 
-  either_end : (journal : List Entry) → (phase usual journal ≡ Over (By Stopped)) ⊎ (phase usual journal ≡ Over (By LinkEnded)) → EndsBy Stopped journal ⊎ EndsBy LinkEnded journal
-  either_end journal (inl stopped) = inl (ends_by usual Stopped journal stopped)
-  either_end journal (inr ended) = inr (ends_by usual LinkEnded journal ended)
+  either_end : (journal : List Entry) → (phase config journal ≡ Over (By Stopped)) ⊎ (phase config journal ≡ Over (By LinkEnded)) → EndsBy Stopped journal ⊎ EndsBy LinkEnded journal
+  either_end journal (inl stopped) = inl (ends_by config Stopped journal stopped)
+  either_end journal (inr ended) = inr (ends_by config LinkEnded journal ended)
 
-  of_done : By_calls Done → RanOn world world_new 0 old new IsDone
-  of_done makes = of_run Done 0 IsDone (λ schedule. IsAtEnd Done) makes refl (λ schedule came. came) (λ schedule journal lawful at. either_end journal (meant_by usual Done (phase usual journal) at.1))
+  of_done : By_calls Done → RanOn config world world_new 0 old new IsDone
+  of_done makes = of_run Done 0 IsDone (λ schedule. IsAtEnd config Done) makes refl (λ schedule came. came) (λ schedule journal lawful at. either_end journal (meant_by config Done (phase config journal) at.1))
 
-  pub done : (outcome : Outcome) → By_calls outcome → code_of outcome ≡ 0 → RanOn world world_new 0 old new IsDone
+  pub done : (outcome : Outcome) → By_calls outcome → code_of outcome ≡ 0 → RanOn config world world_new 0 old new IsDone
   done outcome makes is = of_done (subst By_calls (is_done outcome is) makes)
 
   abbrev HasLinkFault : List ℕ → List Entry → Type 0
   HasLinkFault schedule journal = EndsBy LinkFailed journal
 
-  of_link_fault : By_calls LinkFault → RanOn world world_new 8 old new HasLinkFault
-  of_link_fault makes = of_run LinkFault 8 HasLinkFault (λ schedule. IsAtEnd LinkFault) makes refl (λ schedule came. came) (λ schedule journal lawful at. ends_by usual LinkFailed journal (meant_by usual LinkFault (phase usual journal) at.1))
+  of_link_fault : By_calls LinkFault → RanOn config world world_new 8 old new HasLinkFault
+  of_link_fault makes = of_run LinkFault 8 HasLinkFault (λ schedule. IsAtEnd config LinkFault) makes refl (λ schedule came. came) (λ schedule journal lawful at. ends_by config LinkFailed journal (meant_by config LinkFault (phase config journal) at.1))
 
-  pub link_fault : (outcome : Outcome) → By_calls outcome → code_of outcome ≡ 8 → RanOn world world_new 8 old new HasLinkFault
+  pub link_fault : (outcome : Outcome) → By_calls outcome → code_of outcome ≡ 8 → RanOn config world world_new 8 old new HasLinkFault
   link_fault outcome makes is = of_link_fault (subst By_calls (is_link_fault outcome is) makes)
 
   abbrev HasWaitFault : List ℕ → List Entry → Type 0
   HasWaitFault schedule journal = EndsBy WaitFailed journal
 
-  of_wait_fault : By_calls WaitFault → RanOn world world_new 9 old new HasWaitFault
-  of_wait_fault makes = of_run WaitFault 9 HasWaitFault (λ schedule. IsAtEnd WaitFault) makes refl (λ schedule came. came) (λ schedule journal lawful at. ends_by usual WaitFailed journal (meant_by usual WaitFault (phase usual journal) at.1))
+  of_wait_fault : By_calls WaitFault → RanOn config world world_new 9 old new HasWaitFault
+  of_wait_fault makes = of_run WaitFault 9 HasWaitFault (λ schedule. IsAtEnd config WaitFault) makes refl (λ schedule came. came) (λ schedule journal lawful at. ends_by config WaitFailed journal (meant_by config WaitFault (phase config journal) at.1))
 
-  pub wait_fault : (outcome : Outcome) → By_calls outcome → code_of outcome ≡ 9 → RanOn world world_new 9 old new HasWaitFault
+  pub wait_fault : (outcome : Outcome) → By_calls outcome → code_of outcome ≡ 9 → RanOn config world world_new 9 old new HasWaitFault
   wait_fault outcome makes is = of_wait_fault (subst By_calls (is_wait_fault outcome is) makes)
+
+  -- all of it
+  pub replays : (Told : Outcome → Type 0) (outcome : Outcome) → By_calls outcome → Told outcome → ReplaysFile file config (code_of outcome) world world_new old new Told
+  replays Told outcome makes told = record {
+    calls = makes_as world world_new _ _ makes (λ made ran. ran.0);
+    unreadable = unreadable outcome makes;
+    whole = λ is. makes_as world world_new _ _ makes (λ made ran. ran.1.whole is);
+    misspelt = misspelt outcome makes;
+    named = named Told outcome makes told;
+    ran = ran outcome makes;
+    diverged = diverged Told outcome makes told;
+    done = done outcome makes;
+    too_long = too_long Told outcome makes told;
+    cut = cut Told outcome makes told;
+    link_fault = link_fault outcome makes;
+    wait_fault = wait_fault outcome makes;
+    spent = spent Told outcome makes told;
+    forward_refused = forward_refused Told outcome makes told;
+  }

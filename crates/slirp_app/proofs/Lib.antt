@@ -1,4 +1,6 @@
 mod Causing
+mod Courses
 mod Ending
 mod Fetched
-mod Replaying
+mod Followed
+mod Opened

@@ -5,6 +5,7 @@ use Rattle.world_face.specs.declared.FileSize.{FileSize}
 use Rattle.world_face.specs.declared.FileSize.TheVariants.{Length, Missing, Failed}
 use Rattle.world_face.specs.declared.Io.{Io}
 use Rattle.world_face.specs.declared.Io.TheVariants.{End}
+use Rattle.host_policy.specs.Addresses.{Config}
 use Rattle.replay.specs.Rows.{TakesTooMuch}
 use Rattle.replay.specs.Unread.{IsFirstUnread}
 use Rattle.world_face.specs.Tells.{Telling, Makes, Rose}
@@ -12,34 +13,35 @@ use Rattle.slirp_app.specs.Fetching.{IsWhole, IsUnreadable, is_read, octets_read
 use Rattle.slirp_app.specs.Ran.{Replayed, IsAtEnd, Ceased}
 use Rattle.slirp_app.specs.Statuses.{code_of}
 use Rattle.slirp_app.specs.declared.status.Outcome.{Outcome}
-use Rattle.slirp_app.specs.declared.status.Outcome.TheVariants.{Done, Usage, ScheduleRead, ScheduleTooLarge, ScheduleLine, Diverged, FrameTooLong, FrameCut, LinkFault, WaitFault, TurnsSpent, ListenRefused, SinkFault, NoMemory}
+use Rattle.slirp_app.specs.declared.status.Outcome.TheVariants.{Done, Usage, BadConfig, ScheduleRead, ScheduleTooLarge, ScheduleLine, Diverged, FrameTooLong, FrameCut, LinkFault, WaitFault, TurnsSpent, ListenRefused, SinkFault, NoMemory}
 
 -- Where a run was made, a record of it was put. It diverged, or came to its end.
-abbrev pub Came : Outcome → (schedule : List ℕ) → (old new : Option (List ℕ)) → Type 0
-Came Done schedule old new = Replayed 0 schedule old new (IsAtEnd Done)
-Came Usage schedule old new = Unit {0}
-Came ScheduleRead schedule old new = Unit {0}
-Came ScheduleTooLarge schedule old new = Unit {0}
-Came (ScheduleLine line) schedule old new = Unit {0}
-Came (Diverged divergence) schedule old new = Replayed 5 schedule old new (Ceased schedule divergence)
-Came (FrameTooLong length) schedule old new = Replayed 6 schedule old new (IsAtEnd (FrameTooLong length))
-Came (FrameCut octets) schedule old new = Replayed 7 schedule old new (IsAtEnd (FrameCut octets))
-Came LinkFault schedule old new = Replayed 8 schedule old new (IsAtEnd LinkFault)
-Came WaitFault schedule old new = Replayed 9 schedule old new (IsAtEnd WaitFault)
-Came (TurnsSpent turns) schedule old new = Replayed 10 schedule old new (IsAtEnd (TurnsSpent turns))
-Came (ListenRefused forward) schedule old new = Replayed 11 schedule old new (IsAtEnd (ListenRefused forward))
-Came SinkFault schedule old new = Unit {0}
-Came NoMemory schedule old new = Unit {0}
+abbrev pub Came : Config → Outcome → (schedule : List ℕ) → (old new : Option (List ℕ)) → Type 0
+Came config Done schedule old new = Replayed config 0 schedule old new (IsAtEnd config Done)
+Came config Usage schedule old new = Unit {0}
+Came config (BadConfig field) schedule old new = Unit {0}
+Came config ScheduleRead schedule old new = Unit {0}
+Came config ScheduleTooLarge schedule old new = Unit {0}
+Came config (ScheduleLine line) schedule old new = Unit {0}
+Came config (Diverged divergence) schedule old new = Replayed config 5 schedule old new (Ceased config schedule divergence)
+Came config (FrameTooLong length) schedule old new = Replayed config 6 schedule old new (IsAtEnd config (FrameTooLong length))
+Came config (FrameCut octets) schedule old new = Replayed config 7 schedule old new (IsAtEnd config (FrameCut octets))
+Came config LinkFault schedule old new = Replayed config 8 schedule old new (IsAtEnd config LinkFault)
+Came config WaitFault schedule old new = Replayed config 9 schedule old new (IsAtEnd config WaitFault)
+Came config (TurnsSpent turns) schedule old new = Replayed config 10 schedule old new (IsAtEnd config (TurnsSpent turns))
+Came config (ListenRefused forward) schedule old new = Replayed config 11 schedule old new (IsAtEnd config (ListenRefused forward))
+Came config SinkFault schedule old new = Unit {0}
+Came config NoMemory schedule old new = Unit {0}
 
 -- FILE was read whole, each line has a reading, and its stars take over 1 GiB of room
 abbrev pub IsTooLarge : List Entry → Type 0
 IsTooLarge made = IsWhole made × TakesTooMuch (octets_read made)
 
-pub record Caused (outcome : Outcome) (made : List Entry) (old new : Option (List ℕ)) : Type 0 where
+pub record Caused (config : Config) (outcome : Outcome) (made : List Entry) (old new : Option (List ℕ)) : Type 0 where
   pub unreadable : outcome ≡ ScheduleRead → IsUnreadable made
   pub large : outcome ≡ ScheduleTooLarge → IsTooLarge made
   pub whole : IsTrue (is_read (code_of outcome)) → IsWhole made
-  pub came : IsTrue (is_read (code_of outcome)) → Came outcome (octets_read made) old new
+  pub came : IsTrue (is_read (code_of outcome)) → Came config outcome (octets_read made) old new
   pub first : (line : ℕ) → outcome ≡ ScheduleLine line → IsFirstUnread (octets_read made) line
   pub misspelt : IsTrue (is_read (code_of outcome)) → (line : ℕ) → IsFirstUnread (octets_read made) line → outcome ≡ ScheduleLine line
 
@@ -62,6 +64,6 @@ is_short _ = false
 abbrev pub CannotRead : (old new : Telling) (made : List Entry) → Type 0
 CannotRead old new made = Rose old.faults.file new.faults.file ⊎ (is_short made ≡ true)
 
--- A run was made on what was read of FILE, and P holds of the schedule and of the run's record.
-abbrev pub RanOn : (world world_new : Telling) (status : ℕ) (old new : Option (List ℕ)) (P : List ℕ → List Entry → Type 0) → Type 0
-RanOn world world_new status old new P = Makes world world_new (λ made. IsWhole made × Replayed status (octets_read made) old new (P (octets_read made)))
+-- A run was made with these settings on what was read of FILE, and P holds of the schedule and of the run's record.
+abbrev pub RanOn : (config : Config) (world world_new : Telling) (status : ℕ) (old new : Option (List ℕ)) (P : List ℕ → List Entry → Type 0) → Type 0
+RanOn config world world_new status old new P = Makes world world_new (λ made. IsWhole made × Replayed config status (octets_read made) old new (P (octets_read made)))

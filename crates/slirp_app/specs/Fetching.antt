@@ -56,6 +56,6 @@ is_unreadable _ = false
 abbrev pub IsUnreadable : List Entry → Type 0
 IsUnreadable past = is_unreadable past ≡ true
 
--- FILE was read to its end: not where the words have no reading, where FILE has none, and where there was no memory
+-- FILE was read to its end: not where the words have no reading, their settings aren't sound, FILE can't be read, and where there was no memory
 abbrev pub is_read : ℕ → Bool
-is_read status = not ((status == 1) || (status == 3) || (status == 13))
+is_read status = not ((status == 1) || (status == 2) || (status == 3) || (status == 13))

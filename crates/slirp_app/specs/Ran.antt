@@ -3,7 +3,7 @@ use Rattle.std.specs.Prelude.{◌≡◌, ℕ, ◌+◌, List, [], ◌∷◌, ◌+
 use Rattle.world_face.specs.Frames.{Ending, partial, ending}
 use Rattle.world_face.specs.Journal.{Entry, Call, call_of, AreAllowed, Follows}
 use Rattle.world_face.specs.Puts.{added}
-use Rattle.host_policy.specs.Settings.{usual}
+use Rattle.host_policy.specs.Addresses.{Config}
 use Rattle.slirp_laws.specs.Laws.{May, Lawful}
 use Rattle.slirp_laws.specs.Laws.{Finished}
 use Rattle.run_laws.specs.Shape.{phase}
@@ -13,40 +13,34 @@ use Rattle.replay.specs.Names.{name_of}
 use Rattle.replay.specs.Rows.{Row, AreReadable, Fits, FitsBefore, schedule_text}
 use Rattle.replay.specs.Text.{text}
 use Rattle.replay.specs.declared.Divergence.{Divergence}
-use Rattle.slirp_app.specs.Fetching.{MayFetch}
 use Rattle.slirp_app.specs.Statuses.{outcome_of}
-use Rattle.slirp_app.specs.Words.{file_of}
 use Rattle.slirp_app.specs.declared.status.Outcome.{Outcome}
-
--- on the outer World only the named file is read, and nothing at all where the words have no reading
-abbrev pub FetchesFile : List (List ℕ) → List Entry → Type 0
-FetchesFile words made = MatchOption (file_of words) (made ≡ []) (λ name. Follows (MayFetch name) made)
 
 -- the last line of a transcript
 abbrev pub end_line : ℕ → List ℕ
 end_line status = codes "end " ++ decimal status ++ 10 ∷ []
 
 -- There is one record of calls: it was put, and then the status; it fits the schedule's lines from the first; each answer is one that a World may give;
--- each call was lawful. P holds of it.
-pub record Replayed (status : ℕ) (schedule : List ℕ) (old new : Option (List ℕ)) (P : List Entry → Type 0) : Type 0 where
+-- each call was lawful for these settings. P holds of it.
+pub record Replayed (config : Config) (status : ℕ) (schedule : List ℕ) (old new : Option (List ℕ)) (P : List Entry → Type 0) : Type 0 where
   pub journal : List Entry
   pub put : new ≡ added (text journal ++ end_line status) old
   pub fits : Fits journal schedule
   pub allowed : AreAllowed journal
-  pub lawful : Lawful usual journal
+  pub lawful : Lawful config journal
   pub holds : P journal
 
 -- The schedule was followed to the end of the run: nothing more is to be done, and the outcome is that of the end which the record tells.
-abbrev pub IsAtEnd : Outcome → List Entry → Type 0
-IsAtEnd outcome journal = Finished usual journal × (outcome ≡ outcome_of (end_of usual (phase usual journal)))
+abbrev pub IsAtEnd : Config → Outcome → List Entry → Type 0
+IsAtEnd config outcome journal = Finished config journal × (outcome ≡ outcome_of (end_of config (phase config journal)))
 
 -- The run ceased at a call that may come next and that fits no line: of the lines that are left the first isn't of this call, or its answer isn't one that a World may give.
-pub record Ceased (schedule : List ℕ) (divergence : Divergence) (journal : List Entry) : Type 0 where
+pub record Ceased (config : Config) (schedule : List ℕ) (divergence : Divergence) (journal : List Entry) : Type 0 where
   pub left : List Row
   pub readable : AreReadable left
   pub before : FitsBefore journal schedule (schedule_text left)
   pub call : Call
-  pub may : May usual journal call
+  pub may : May config journal call
   pub fits_none : FitsNone left 0 call
   pub line : divergence.line ≡ length journal + 1
   pub made : divergence.made ≡ name_of call

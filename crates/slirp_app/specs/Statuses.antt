@@ -3,11 +3,12 @@ use Rattle.std.specs.Prelude.{ℕ, ◌==◌, ◌||◌, not, Bool}
 use Rattle.slirp_core.specs.declared.service.End.{End}
 use Rattle.slirp_core.specs.declared.service.End.TheVariants.{Done as EndDone, TooLong, Cut, LinkFault as EndLink, WaitFault as EndWait, TurnsSpent as EndTurns, ListenRefused as EndRefused}
 use Rattle.slirp_app.specs.declared.status.Outcome.{Outcome}
-use Rattle.slirp_app.specs.declared.status.Outcome.TheVariants.{Done, Usage, ScheduleRead, ScheduleTooLarge, ScheduleLine, Diverged, FrameTooLong, FrameCut, LinkFault, WaitFault, TurnsSpent, ListenRefused, SinkFault, NoMemory}
+use Rattle.slirp_app.specs.declared.status.Outcome.TheVariants.{Done, Usage, BadConfig, ScheduleRead, ScheduleTooLarge, ScheduleLine, Diverged, FrameTooLong, FrameCut, LinkFault, WaitFault, TurnsSpent, ListenRefused, SinkFault, NoMemory}
 
 abbrev pub code_of : Outcome → ℕ
 code_of Done = 0
 code_of Usage = 1
+code_of (BadConfig field) = 2
 code_of ScheduleRead = 3
 code_of ScheduleTooLarge = 3
 code_of (ScheduleLine line) = 4
@@ -31,9 +32,9 @@ outcome_of EndWait = WaitFault
 outcome_of (EndTurns turns) = TurnsSpent turns
 outcome_of (EndRefused forward) = ListenRefused forward
 
--- nothing was run: the words or the schedule have no reading, or there was no memory
+-- nothing was run: the words or the schedule have no reading, the settings aren't sound, or there was no memory
 abbrev pub is_unrun : ℕ → Bool
-is_unrun status = (status == 1) || (status == 3) || (status == 4) || (status == 13)
+is_unrun status = (status == 1) || (status == 2) || (status == 3) || (status == 4) || (status == 13)
 
 -- a run was made and its record put
 abbrev pub is_run : ℕ → Bool

@@ -1,11 +1,12 @@
 -- The texts that tell what the program came to.
 use Rattle.std.specs.Prelude.{◌≡◌, ℕ, List, [], ◌∷◌, ◌++◌, codes, decimal, Option, Some, None}
 use Rattle.world_face.specs.Puts.{added}
+use Rattle.host_policy.specs.Names.{field_name}
 use Rattle.replay.specs.Names.{name_text}
 use Rattle.replay.specs.declared.CallName.{CallName}
 use Rattle.world_face.specs.Tells.{Rose}
 use Rattle.slirp_app.specs.declared.status.Outcome.{Outcome}
-use Rattle.slirp_app.specs.declared.status.Outcome.TheVariants.{Done, Usage, ScheduleRead, ScheduleTooLarge, ScheduleLine, Diverged, FrameTooLong, FrameCut, LinkFault, WaitFault, TurnsSpent, ListenRefused, SinkFault, NoMemory}
+use Rattle.slirp_app.specs.declared.status.Outcome.TheVariants.{Done, Usage, BadConfig, ScheduleRead, ScheduleTooLarge, ScheduleLine, Diverged, FrameTooLong, FrameCut, LinkFault, WaitFault, TurnsSpent, ListenRefused, SinkFault, NoMemory}
 
 -- the call of the line that stands next, where one is left
 abbrev pub wanted_text : Option CallName → List ℕ
@@ -15,6 +16,7 @@ wanted_text None = codes ", no line left"
 abbrev pub text_of : Outcome → List ℕ
 text_of Done = []
 text_of Usage = codes "usage: slirpd serve --link AT [OPTIONS] [RULE]... | replay FILE [OPTIONS] [RULE]... | drive NUMBER OCTETS"
+text_of (BadConfig field) = codes "slirpd: config: " ++ field_name field
 text_of ScheduleRead = codes "slirpd: schedule cannot be read"
 text_of ScheduleTooLarge = codes "slirpd: schedule cannot be read"
 text_of (ScheduleLine line) = codes "slirpd: schedule line " ++ decimal line

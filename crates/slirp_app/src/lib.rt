@@ -1,14 +1,20 @@
 //! The program without its outside: `slirp_main` over any World and any sinks, and the parts of the outside that a replay needs.
 #![tactic(auto)]
 
+mod command;
 mod fetching;
-mod file_world;
 mod gathering;
 #[cfg(test)]
 mod gathering_tests;
 #[cfg(test)]
 mod link_tests;
-mod running;
+mod record;
+mod replaying;
+mod serving;
+#[cfg(test)]
+mod serving_tests;
+#[cfg(test)]
+mod settings_tests;
 #[cfg(test)]
 mod star_tests;
 mod status;
@@ -18,6 +24,5 @@ mod tests;
 #[cfg(test)]
 mod udp_tests;
 
-pub use file_world::FileWorld;
-pub use running::{out_of_memory, slirp_main};
+pub use command::{out_of_memory, slirp_main};
 pub use std_sink::StdSink;

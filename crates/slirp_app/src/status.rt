@@ -8,6 +8,7 @@ ghost use Rattle.slirp_app.specs.Statuses.{code_of, outcome_of};
 ghost use Rattle.slirp_app.specs.Texts.{text_of, told_text, wanted_text};
 ghost use Rattle.slirp_app.specs.declared.status.Outcome.TheVariants.{Diverged as IsDiverged};
 
+use host_policy::Field;
 use itoa::Buffer;
 use replay::{CallName, Divergence};
 use slirp_core::End;
@@ -18,6 +19,8 @@ use world_face::{Failed, Sink};
 pub enum Outcome {
     Done,
     Usage,
+    /// This field of the settings isn't in its range.
+    BadConfig(Field),
     ScheduleRead,
     /// Each line has a reading, but the room for stars passes its limit.
     ScheduleTooLarge,
@@ -42,6 +45,7 @@ impl Outcome {
         match self {
             Outcome::Done => 0,
             Outcome::Usage => 1,
+            Outcome::BadConfig(_) => 2,
             Outcome::ScheduleRead | Outcome::ScheduleTooLarge => 3,
             Outcome::ScheduleLine(_) => 4,
             Outcome::Diverged(_) => 5,
@@ -64,6 +68,9 @@ impl Outcome {
         match self {
             Outcome::Done | Outcome::SinkFault => Ok(()),
             Outcome::Usage => err.put(USAGE),
+            Outcome::BadConfig(field) => {
+                tell_named(err, b"slirpd: config: ", field.name(), b"\n")
+            }
             Outcome::ScheduleRead | Outcome::ScheduleTooLarge => {
                 err.put(b"slirpd: schedule cannot be read\n")
             }
@@ -116,6 +123,15 @@ pub fn outcome_of(end: End) -> Outcome
         End::TurnsSpent(turns) => Outcome::TurnsSpent(turns),
         End::ListenRefused(forward) => Outcome::ListenRefused(forward),
     }
+}
+
+// A name between two texts.
+fn tell_named<E: Sink>(err: &mut E, before: &[u8], name: &str, after: &[u8]) -> Result<(), Failed>
+    ensures { Puts (E.holds err.old) (E.holds err.new) (E.faults err.old) (E.faults err.new) (before.now ++ name.now ++ after.now) result }
+{
+    err.put(before)?;
+    err.put(name.as_bytes())?;
+    err.put(after)
 }
 
 // A number between two texts.

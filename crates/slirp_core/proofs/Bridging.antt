@@ -15,7 +15,7 @@ use Rattle.udp_assoc.specs.Udp.{Udp, read_udp}
 use Rattle.tcp_segment.specs.Tcp.{Tcp, read_tcp}
 use Rattle.run_laws.specs.Guests.{with_pair}
 use Rattle.run_laws.specs.Packets.{Packet, Unheard, ArpPacket, Message, DatagramPacket, Segment, Datagram, datagram_in, datagram_of, may_come, packet_of, packet_of_ip, pair_by, pair_by_arp, pair_by_ip, pair_in, pair_of, packet_in, unless_unheard, whole_packet}
-use Rattle.slirp_laws.specs.Answers.{Answer, most_body, owed_for_arp, owed_for_icmp, owed_for_message, owed_for_datagram, owed_for_packet}
+use Rattle.slirp_laws.specs.Answers.{Answer, fits_frame, owed_for_arp, owed_for_icmp, owed_for_message, owed_for_datagram, owed_for_packet}
 use Rattle.slirp_laws.specs.Datagrams.{Errand, errand_of, errand_by_packet}
 use Rattle.slirp_core.specs.Packets.{errand_in, errand_of_ether, errand_of_ip, is_message_to_us, owed_for, owed_for_ether, owed_for_frame, owed_for_ip, udp_of, with_address, with_arp, with_ether, with_frame, with_ip}
 
@@ -58,13 +58,13 @@ udp_sends config mac ip (Some udp) = by (may_come config ip udp)
     by false = refl
 
 -- a message to us, or to another
-message_owes : (config : Config) (mac : List ℕ) (ip : Ip) (o : Option Icmp) (ours fits : Bool) → is_ours config ip.to ≡ ours → nat_le (length ip.body) most_body ≡ fits
+message_owes : (config : Config) (mac : List ℕ) (ip : Ip) (o : Option Icmp) (ours fits : Bool) → is_ours config ip.to ≡ ours → fits_frame config (length ip.body) ≡ fits
     → owes config (option_map (Message mac ip) o) ≡ (if ours && fits then owed_for (owed_for_icmp mac ip) o else [])
 message_owes config mac ip None true true o f = refl
 message_owes config mac ip None true false o f = refl
 message_owes config mac ip None false fits o f = refl
 message_owes config mac ip (Some m) ours fits o f =
-    ap (λ (b : Bool). if b && nat_le (length ip.body) most_body then owed_for_icmp mac ip m else []) o ∙ ap (λ (b : Bool). if ours && b then owed_for_icmp mac ip m else []) f
+    ap (λ (b : Bool). if b && fits_frame config (length ip.body) then owed_for_icmp mac ip m else []) o ∙ ap (λ (b : Bool). if ours && b then owed_for_icmp mac ip m else []) f
 
 message_sends : (config : Config) (mac : List ℕ) (ip : Ip) (o : Option Icmp) → sends config (option_map (Message mac ip) o) ≡ None
 message_sends config mac ip None = refl
@@ -86,7 +86,7 @@ record Tests (config : Config) (ip : Ip) (whole udp icmp tcp guest ours fits : B
   is_tcp : (ip.proto == tcp_proto) ≡ tcp
   is_of_guest : is_guest config ip.from ≡ guest
   is_to_us : is_ours config ip.to ≡ ours
-  is_short : nat_le (length ip.body) most_body ≡ fits
+  is_short : fits_frame config (length ip.body) ≡ fits
 
 one_proto : (proto : ℕ) → (proto == 17) ≡ true → (proto == 1) ≡ true → ⊥
 one_proto proto a b = let first : proto ≡ 17 = grind (arith, nat_tests, a) in let second : proto ≡ 1 = grind (arith, nat_tests, b) in omega (arith, first, second)
@@ -149,7 +149,7 @@ sends_by config mac ip false false icmp tcp guest = refl
 ip_owes : (config : Config) (mac : List ℕ) (o : Option Ip) → owes config (option_and_then (whole_packet config mac) o) ≡ owed_for (owed_for_ip config mac) o
 ip_owes config mac None = refl
 ip_owes config mac (Some ip) =
-    owes_by config mac ip (is_unbroken ip) (ip.proto == udp_proto) (ip.proto == icmp_proto) (ip.proto == tcp_proto) (is_guest config ip.from) (is_ours config ip.to) (nat_le (length ip.body) most_body)
+    owes_by config mac ip (is_unbroken ip) (ip.proto == udp_proto) (ip.proto == icmp_proto) (ip.proto == tcp_proto) (is_guest config ip.from) (is_ours config ip.to) (fits_frame config (length ip.body))
     (record { is_whole = refl; is_udp = refl; is_icmp = refl; is_tcp = refl; is_of_guest = refl; is_to_us = refl; is_short = refl })
 
 ip_sends : (config : Config) (mac : List ℕ) (o : Option Ip) → sends config (option_and_then (whole_packet config mac) o) ≡ option_and_then (errand_of_ip config mac) o

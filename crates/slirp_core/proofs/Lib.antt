@@ -2,6 +2,7 @@ mod Bridging
 mod Counted
 mod Datagramming
 mod Filling
+mod Guests
 mod Parts
 mod Taking
 mod Ticking

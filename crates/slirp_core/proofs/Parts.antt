@@ -1,5 +1,5 @@
 -- What the core has, part by part, after an entry that isn't the part's.
-use Rattle.std.proofs.Common.{◌≡◌, ℕ, ◌<◌, ◌&&◌, ◌||◌, not, Bool, true, false, List, [], ◌∷◌, ◌++◌, MatchOption, Option, Some, None, if◌then◌else◌, refl, sym, ◌∙◌, ap, subst}
+use Rattle.std.proofs.Common.{◌≡◌, ℕ, ◌<◌, ◌&&◌, ◌||◌, not, nat_le, Bool, true, false, List, [], ◌∷◌, ◌++◌, length, Option, Some, None, if◌then◌else◌, refl, sym, ◌∙◌, ap, subst}
 use Rattle.poll_list.specs.Listing.{reads, same_who}
 use Rattle.poll_list.specs.declared.Want.{Want}
 use Rattle.poll_list.specs.declared.Who.{Who}
@@ -8,33 +8,58 @@ use Rattle.world_face.specs.declared.Made.{Made}
 use Rattle.world_face.specs.declared.Made.TheVariants.{Done, Failed}
 use Rattle.world_face.specs.Frames.{MayFrame, partial, tail, is_blocked}
 use Rattle.host_policy.specs.Addresses.{Config}
-use Rattle.run_laws.specs.Guests.{known}
+use Rattle.udp_assoc.specs.Associations.{most_associations, socket_of}
+use Rattle.udp_assoc.specs.declared.assocs.Association.{Association}
+use Rattle.run_laws.specs.Happenings.{happens}
 use Rattle.run_laws.specs.Moments.{moment, waits}
 use Rattle.run_laws.specs.Shape.{Started, Working, phase, due_in, opened}
 use Rattle.run_laws.specs.Sockets.{next_number}
 use Rattle.slirp_laws.specs.Agenda.{agenda, all_wanted, behind, from, is_to_read}
-use Rattle.slirp_laws.specs.Datagrams.{Step, Settled, relay, due_for}
-use Rattle.slirp_laws.specs.Laws.{May, MayDue, begins_closing, due, is_closing, unless_due}
+use Rattle.slirp_laws.specs.Datagrams.{Errand, Step, Settled, NeedsRoom, NeedsSocket, due_for}
+use Rattle.slirp_laws.specs.Relayed.{step_for, with_socket, without_socket}
+use Rattle.slirp_laws.specs.Asking.{errand_left, step}
+use Rattle.slirp_laws.specs.Laws.{May, begins_closing, due, is_closing, unless_due}
+use Rattle.slirp_laws.proofs.Joining.{joined_step}
+use Rattle.slirp_laws.proofs.Steps.{errand_in}
 use Rattle.stream_netdev.specs.Keeps.{Keeps}
 use Rattle.stream_netdev.specs.State.{LinkState}
-use Rattle.slirp_core.specs.Holds.{Standing, HoldsAt, InTurn, IsLast, OfAnswers, OfClock, OfSockets, Stands, Turns, Begins, Unbegun}
+use Rattle.slirp_core.specs.Holds.{Standing, HoldsAt, InTurn, IsLast, OfAnswers, OfClock, OfRelay, OfSockets, Stands, Turns, Begins, Unbegun}
 use Rattle.slirp_core.specs.State.{SlirpState}
+use Rattle.slirp_core.proofs.Guests.{guests_stay, of_guests}
 
 -- ---- which call is due
 
-pub due_is : (config : Config) (past : List Entry) (step : Step) → phase config past ≡ Working → (relay config past).step ≡ step → due config past ≡ due_for step (next_number past)
-due_is config past step working asks =
-    ap (λ p. unless_due (due_in p past) (due_for (relay config past).step (next_number past))) working ∙ ap (λ s. due_for s (next_number past)) asks
+pub due_is : (config : Config) (past : List Entry) (s : Step) → phase config past ≡ Working → step config past ≡ s → due config past ≡ due_for s (next_number past)
+due_is config past s working asks =
+    ap (λ p. unless_due (due_in p past) (due_for (step config past) (next_number past))) working ∙ ap (λ t. due_for t (next_number past)) asks
 
-pub this_due : (config : Config) (past : List Entry) (call : Call) → due config past ≡ Some call → MayDue config past call
-this_due config past call is = subst (λ o. MatchOption o (Unit {0}) (λ d. call ≡ d)) (sym is) refl
+-- what the list asks for is what the record says
+pub asked_for : (config : Config) (at : Standing) (s : Step) (slirp : SlirpState) (link : LinkState) (past : List Entry) → HoldsAt config at s slirp link past → step config past ≡ s
+asked_for config at s slirp link past holds = joined_step config past holds.lawful ∙ ap (λ l. step_for l (errand_left config past)) holds.relayed.list ∙ holds.relayed.asks
 
--- any one where nothing is asked for
-pub any_due : (config : Config) (past : List Entry) (call : Call) → due config past ≡ None → MayDue config past call
-any_due config past call is = subst (λ o. MatchOption o (Unit {0}) (λ d. call ≡ d)) (sym is) tt
+-- of which datagram
+in_fresh : (list : List Association) (errand : Errand) → errand_in (without_socket list errand) ≡ Some errand
+in_fresh [] errand = refl
+in_fresh (a ∷ list) errand = by (nat_le most_associations (length (a ∷ list)))
+  where
+    by : (b : Bool) → errand_in (if b then NeedsRoom a.number errand else NeedsSocket errand) ≡ Some errand
+    by true = refl
+    by false = refl
 
-pub any_call : (config : Config) (past : List Entry) (call : Call) → phase config past ≡ Working → (relay config past).step ≡ Settled → MayDue config past call
-any_call config past call working asks = any_due config past call (due_is config past Settled working asks)
+in_socket : (o : Option ℕ) (list : List Association) (errand : Errand) → errand_in (with_socket o list errand) ≡ Some errand
+in_socket None list errand = in_fresh list errand
+in_socket (Some socket) list errand = refl
+
+in_step : (list : List Association) (o : Option Errand) → errand_in (step_for list o) ≡ o
+in_step list None = refl
+in_step list (Some errand) = in_socket (socket_of errand.datagram.from list) list errand
+
+pub errand_for : (config : Config) (s : Step) (slirp : SlirpState) (past : List Entry) → OfRelay config s slirp past → errand_left config past ≡ errand_in s
+errand_for config s slirp past relayed = sym (in_step slirp.associations (errand_left config past)) ∙ ap errand_in relayed.asks
+
+-- nothing is asked for, whatever the list
+pub asks_nothing : (list : List Association) (o : Option Errand) → o ≡ None → step_for list o ≡ Settled
+asks_nothing list o is = ap (step_for list) is
 
 pub or_first : (a b : Bool) → a ≡ true → (a || b) ≡ true
 or_first true b is = refl
@@ -53,9 +78,6 @@ keeps_by link e past may partly rest blocked keeps = record { framed = (may, kee
 -- the closing has not begun by an entry that doesn't begin it
 pub still_open : (config : Config) (e : Entry) (past : List Entry) → begins_closing config past e ≡ false → is_closing config past ≡ false → is_closing config (e ∷ past) ≡ false
 still_open config e past not_begun open_yet = ap (λ (b : Bool). if b then true else is_closing config past) not_begun ∙ open_yet
-
-pub goes_on : (config : Config) (past : List Entry) (shuts : Bool) → is_closing config past ≡ false → (not (is_closing config past) || shuts) ≡ true
-goes_on config past shuts open_yet = ap (λ (b : Bool). not b || shuts) open_yet
 
 -- calls on sockets
 abbrev pub IsOnSocket : Entry → Type 0
@@ -80,13 +102,12 @@ link_stays link (UdpSend socket to octets answer) past on keeps = keeps_by link 
 link_stays link (UdpRecv socket asked answer octets) past on keeps = keeps_by link (UdpRecv socket asked answer octets) past tt refl refl refl keeps
 link_stays link _ past on keeps = absurd on
 
-guests_stay : (config : Config) (slirp new : SlirpState) (e : Entry) (past : List Entry) → IsOnSocket e → new.known ≡ slirp.known → known config past ≡ slirp.known
-    → known config (e ∷ past) ≡ new.known
-guests_stay config slirp new (Close socket) past on same is = is ∙ sym same
-guests_stay config slirp new (UdpOpen socket at answer) past on same is = is ∙ sym same
-guests_stay config slirp new (UdpSend socket to octets answer) past on same is = is ∙ sym same
-guests_stay config slirp new (UdpRecv socket asked answer octets) past on same is = is ∙ sym same
-guests_stay config slirp new _ past on same is = absurd on
+brings_none : (config : Config) (e : Entry) (past : List Entry) → IsOnSocket e → (happens config past e).came ≡ None
+brings_none config (Close socket) past on = refl
+brings_none config (UdpOpen socket at answer) past on = refl
+brings_none config (UdpSend socket to octets answer) past on = refl
+brings_none config (UdpRecv socket asked answer octets) past on = refl
+brings_none config _ past on = absurd on
 
 clock_stays : (at after : Standing) (slirp new : SlirpState) (e : Entry) (past : List Entry) → IsOnSocket e → new.moment ≡ slirp.moment → after.count ≡ at.count → OfClock at slirp past → OfClock after new (e ∷ past)
 clock_stays at after slirp new (Close socket) past on same count clock = record { moment = clock.moment ∙ sym same; counted = clock.counted ∙ sym count }
@@ -99,21 +120,20 @@ clock_stays at after slirp new _ past on same count clock = absurd on
 pub record Changes (config : Config) (after : Standing) (step : Step) (new : SlirpState) (e : Entry) (past : List Entry) : Type 0 where
   pub may : May config past (call_of e)
   pub answers : OfAnswers config new (e ∷ past)
-  pub relayed : relay config (e ∷ past) ≡ record { associations = new.associations; step = step }
+  pub relayed : OfRelay config step new (e ∷ past)
   pub sockets : OfSockets new (e ∷ past)
   pub agenda : IsLast (all_wanted after.wants after.left) (agenda (e ∷ past))
   pub open_yet : is_closing config (e ∷ past) ≡ false
 
 -- and the rest stays
 pub after_socket : (config : Config) (at after : Standing) (step new_step : Step) (slirp new : SlirpState) (link : LinkState) (e : Entry) (past : List Entry) → IsOnSocket e
-    → new.config ≡ slirp.config → new.known ≡ slirp.known → new.moment ≡ slirp.moment → after.count ≡ at.count → InTurn config past
+    → of_guests new ≡ of_guests slirp → new.moment ≡ slirp.moment → after.count ≡ at.count → InTurn config past
     → HoldsAt config at step slirp link past → Changes config after new_step new e past → HoldsAt config after new_step new link (e ∷ past)
-after_socket config at after step new_step slirp new link e past on same_config same_known same_moment same_count turn holds changes = record {
-  settings = same_config ∙ holds.settings;
+after_socket config at after step new_step slirp new link e past on same_guests same_moment same_count turn holds changes = record {
   lawful = (changes.may, holds.lawful);
   keeps = link_stays link e past on holds.keeps;
   answers = changes.answers;
-  guests = guests_stay config slirp new e past on same_known holds.guests;
+  guests = guests_stay config slirp new e past (brings_none config e past on) same_guests holds.guests;
   relayed = changes.relayed;
   sockets = changes.sockets;
   clock = clock_stays at after slirp new e past on same_moment same_count holds.clock;

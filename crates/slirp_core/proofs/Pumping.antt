@@ -1,7 +1,7 @@
 -- Writes of a pump.
 use Rattle.std.proofs.Common.{◌≡◌, ℕ, ◌+◌, ◌%◌, ◌^◌, ◌<◌, ◌==◌, ◌&&◌, Bool, true, false, List, [], ◌∷◌, ◌++◌, drop, length, bytes_eq, None, sym, ◌∙◌, ap, subst, arith, cond, refl}
 use Rattle.std.proofs.lemmas.Bool.Decides.{nat_tests}
-use Rattle.world_face.specs.Journal.{Entry, LinkWrite, CallLinkWrite}
+use Rattle.world_face.specs.Journal.{Entry, LinkWrite}
 use Rattle.world_face.specs.declared.Io.{Io}
 use Rattle.world_face.specs.declared.Io.TheVariants.{Done, End, NotYet, Failed}
 use Rattle.world_face.specs.Frames.{LinkFailed, goes_out, tail, spelling, opens}
@@ -22,7 +22,10 @@ use Rattle.slirp_core.specs.Pumps.{pumped_of, keep}
 use Rattle.slirp_core.specs.Sockets.{AreThoseOf}
 use Rattle.slirp_core.specs.State.{SlirpState}
 use Rattle.slirp_core.specs.declared.slirp.Pumped.{Pumped}
-use Rattle.slirp_core.proofs.Parts.{any_call, goes_on, in_turn, or_first}
+use Rattle.slirp_laws.specs.Asking.{errand_left}
+use Rattle.slirp_laws.proofs.Deeds.{writes}
+use Rattle.slirp_core.proofs.Guests.{guests_stay, of_guests}
+use Rattle.slirp_core.proofs.Parts.{asked_for, asks_nothing, due_is, errand_for, in_turn, or_first}
 
 -- what is owed after a write is what the network then has
 record Left (config : Config) (past : List Entry) (octets : List ℕ) (answer : Io) (slirp : SlirpState) : Type 0 where
@@ -38,15 +41,7 @@ after_write config at slirp new_slirp old new past octets answer blocked holds t
   where
     lawful : (a : Io) → Keeps new (LinkWrite octets a ∷ past) → Lawful config (LinkWrite octets a ∷ past)
     lawful a k = (
-      record {
-        framed = k.framed.0;
-        due = any_call config past (CallLinkWrite octets) turn.working (ap (λ r. r.step) holds.relayed);
-        place = ap is_working turn.working;
-        socket = refl;
-        served = refl;
-        answered = may;
-        goes_on = goes_on config past false holds.open_yet;
-      },
+      writes config past octets k.framed.0 (due_is config past Settled turn.working (asked_for config at Settled slirp old past holds)) (ap is_working turn.working) may holds.open_yet,
       holds.lawful,
     )
 
@@ -60,12 +55,14 @@ after_write config at slirp new_slirp old new past octets answer blocked holds t
 
     goes : (a : Io) → Keeps new (LinkWrite octets a ∷ past) → phase config (LinkWrite octets a ∷ past) ≡ phase config past → Left config past octets a new_slirp → Holds config at new_slirp new (LinkWrite octets a ∷ past)
     goes a k on l = record {
-      settings = ap (λ (s : SlirpState). s.config) same ∙ holds.settings;
       lawful = lawful a k;
       keeps = k;
       answers = record { sent = l.sent; pending = l.pending };
-      guests = holds.guests ∙ sym (ap (λ (s : SlirpState). s.known) same);
-      relayed = holds.relayed ∙ sym (ap (λ (s : SlirpState). record { associations = s.associations; step = Settled }) same);
+      guests = guests_stay config slirp new_slirp (LinkWrite octets a) past refl (ap of_guests same) holds.guests;
+      relayed = record {
+        list = holds.relayed.list ∙ sym (ap (λ (s : SlirpState). s.associations) same);
+        asks = asks_nothing new_slirp.associations (errand_left config past) (errand_for config Settled slirp past holds.relayed);
+      };
       sockets = sockets a;
       clock = record { moment = holds.clock.moment ∙ sym (ap (λ (s : SlirpState). s.moment) same); counted = holds.clock.counted };
       stands = Turns (record { working = on ∙ turn.working; waited = turn.waited });
@@ -83,7 +80,7 @@ after_write config at slirp new_slirp old new past octets answer blocked holds t
     by_answer Failed b k l = record {
       lawful = lawful Failed k;
       over = ap (λ p. unless_over p LinkFailed) turn.working;
-      asks = ap (λ r. r.step) holds.relayed;
+      asks = errand_for config Settled slirp past holds.relayed;
       rising = holds.sockets.rising;
       those = (sockets Failed).those;
     }

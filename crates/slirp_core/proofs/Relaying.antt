@@ -1,5 +1,5 @@
 -- Calls on sockets.
-use Rattle.std.proofs.Common.{◌≡◌, ℕ, ◌+◌, ◌<◌, ◌≤◌, ◌==◌, ◌&&◌, ◌||◌, not, Bool, true, false, nat_le, nat_lt, List, [], ◌∷◌, ◌++◌, length, slice_get, Option, Some, None, is_some, if◌then◌else◌, refl, sym, ◌∙◌, ap, subst, arith}
+use Rattle.std.proofs.Common.{◌≡◌, ℕ, ◌+◌, ◌<◌, ◌≤◌, ◌==◌, ◌&&◌, ◌||◌, not, Bool, true, false, nat_le, nat_lt, List, [], ◌∷◌, ◌++◌, length, slice_get, find, Option, Some, None, option_map, if◌then◌else◌, refl, sym, ◌∙◌, ap, subst, arith}
 use Rattle.std.proofs.lemmas.Bool.Decides.{nat_tests}
 use Rattle.std.specs.List.{list_any}
 use Rattle.poll_list.specs.declared.Want.{Want}
@@ -15,22 +15,30 @@ use Rattle.world_face.specs.declared.Sent.TheVariants.{Failed as SentFailed}
 use Rattle.world_face.specs.declared.Got.{Got}
 use Rattle.world_face.specs.declared.Got.TheVariants.{From, NotYet as GotNotYet, Failed as GotFailed}
 use Rattle.net_octets.specs.declared.Endpoint.{Endpoint}
-use Rattle.host_policy.specs.Addresses.{Config}
-use Rattle.host_policy.specs.Targets.{anywhere}
-use Rattle.udp_assoc.specs.Associations.{most_associations, numbers, numbered, is_numbered, is_idle, without, moved_last, sent_from, heard_at}
+use Rattle.host_policy.specs.Addresses.{Config, address}
+use Rattle.host_policy.specs.Targets.{anywhere, same_endpoint}
+use Rattle.udp_assoc.specs.Associations.{most_associations, numbers, numbered, is_numbered, is_idle, is_of, socket_of, without, moved_last, sent_from, heard_at}
 use Rattle.udp_assoc.specs.declared.assocs.Association.{Association}
 use Rattle.run_laws.specs.Moments.{moment, waits}
 use Rattle.run_laws.specs.Shape.{Working, phase, is_ended, is_over, is_working}
 use Rattle.run_laws.specs.Sockets.{Association as OfAssociation, Kind, datagram_kind, is_among, is_association, kind_of, next_number, open_sockets}
 use Rattle.slirp_laws.specs.Agenda.{agenda, all_wanted, is_to_read, wanted_of}
-use Rattle.slirp_laws.specs.Answers.{frames_of, identification, is_out, left, told_about, no_network, unsent, unless_sent, reply, owed_for_peer}
-use Rattle.slirp_laws.specs.Datagrams.{Errand, Step, Settled, NeedsRoom, NeedsSocket, NeedsSending, relay, association, after_call, due_for, without_socket}
-use Rattle.slirp_laws.specs.Laws.{May, MayDue, begins_closing, carries, due, gives_way, is_all_out, is_closing, is_least, is_nothing, may_close, may_part, parts}
+use Rattle.slirp_laws.specs.Answers.{frames_of, identification, is_out, left, told_about, no_network, unsent, unless_sent, reply_at, reply_for}
+use Rattle.slirp_laws.specs.Asking.{errand_left, step as asked}
+use Rattle.slirp_laws.specs.Ports.{mac_of}
+use Rattle.slirp_laws.specs.Said.{SaysOf}
+use Rattle.slirp_laws.specs.Datagrams.{Errand, Step, Settled, NeedsRoom, NeedsSocket, NeedsSending, due_for}
+use Rattle.slirp_laws.specs.Relayed.{association, associations, step_for, with_opened, with_sent, with_socket, without_socket}
+use Rattle.slirp_laws.specs.Laws.{May, MayDue, begins_closing, carries, due, gives_way, is_all_out, is_closing, is_least, is_nothing, is_unused, may_part, parts}
+use Rattle.slirp_laws.proofs.Deeds.{any_one, closes, hears, opens, sends, this_one}
+use Rattle.slirp_laws.proofs.Finding.{idle_is, says_of}
+use Rattle.slirp_laws.proofs.Joining.{joined}
+use Rattle.slirp_laws.proofs.Steps.{errand_in}
 use Rattle.stream_netdev.specs.State.{LinkState}
 use Rattle.slirp_core.specs.Holds.{Standing, standing, HoldsAt, Holds, InTurn, IsLast, OfAnswers, OfSockets, Turns, Unbegun}
 use Rattle.slirp_core.specs.Sockets.{AreThoseOf, IsRising}
 use Rattle.slirp_core.specs.State.{SlirpState}
-use Rattle.slirp_core.proofs.Parts.{after_socket, any_call, behind_of, due_is, goes_on, in_turn, or_first, or_second, reads_of, still_open, this_due}
+use Rattle.slirp_core.proofs.Parts.{after_socket, asked_for, asks_nothing, behind_of, due_is, errand_for, in_turn, or_first, or_second, reads_of, still_open}
 use Rattle.slirp_core.proofs.Sockets.{same, fewer, among_last, among_numbered, among_without, numbered_among, those_last, those_moved, those_without, idle_among, rising_last, rising_up, rising_without}
 
 pub and_both : (a b : Bool) → a ≡ true → b ≡ true → (a && b) ≡ true
@@ -46,9 +54,6 @@ second_of : (a b : Bool) → (a && b) ≡ true → b ≡ true
 second_of true true is = refl
 second_of true false is = cc
 second_of false b is = cc
-
-some_call : (o : Option Call) (call : Call) → o ≡ Some call → is_some o ≡ true
-some_call o call is = ap is_some is
 
 -- the kinds of sockets, one more
 kind_after_open : (number : ℕ) (answer : Made) (past : List Entry) → 0 < waits past → ((n : ℕ) → is_among n (open_sockets past) ≡ true → kind_of n past ≡ Some OfAssociation)
@@ -69,10 +74,61 @@ kind_after_open number answer past waited kinds n among = by (number == n) refl
     by true is = ap (λ (w : Bool). Some (datagram_kind w)) waits_on
     by false is = kinds n (only (is_among n (open_sockets past)) (n == number) (turned is) among)
 
+-- a datagram is sent on the socket that was opened for it
+none_for : (o : Option ℕ) (list : List Association) (errand : Errand) → with_socket o list errand ≡ NeedsSocket errand → o ≡ None
+none_for None list errand is = refl
+none_for (Some socket) list errand is = cc
+
+same_guest : (guest : Endpoint) → same_endpoint guest guest ≡ true
+same_guest guest = and_both (address guest == address guest) (guest.port == guest.port) (same (address guest)) (same guest.port)
+
+last_for : (errand : Errand) (number now : ℕ) (list : List Association) → socket_of errand.datagram.from list ≡ None → socket_of errand.datagram.from (list ++ (association number errand now ∷ [])) ≡ Some number
+last_for errand number now [] none = ap (λ (b : Bool). option_map (λ (x : Association). x.number) (if b then Some (association number errand now) else None)) (same_guest errand.datagram.from)
+last_for errand number now (a ∷ list) none = by (is_of errand.datagram.from a) none (λ rest. last_for errand number now list rest)
+  where
+    by : (b : Bool) → option_map (λ (x : Association). x.number) (if b then Some a else find (is_of errand.datagram.from) list) ≡ None
+        → (socket_of errand.datagram.from list ≡ None → socket_of errand.datagram.from (list ++ (association number errand now ∷ [])) ≡ Some number)
+        → option_map (λ (x : Association). x.number) (if b then Some a else find (is_of errand.datagram.from) (list ++ (association number errand now ∷ []))) ≡ Some number
+    by true none more = cc
+    by false none more = more none
+
+asks_to_send : (number : ℕ) (errand : Errand) (now : ℕ) (list : List Association) → step_for list (Some errand) ≡ NeedsSocket errand
+    → step_for (list ++ (association number errand now ∷ [])) (Some errand) ≡ NeedsSending number errand
+asks_to_send number errand now list is =
+    ap (λ o. with_socket o (list ++ (association number errand now ∷ [])) errand) (last_for errand number now list (none_for (socket_of errand.datagram.from list) list errand is))
+
+-- where one gave way there is room for one more
+pub has_room : (list : List Association) (errand : Errand) → nat_le most_associations (length list) ≡ false → without_socket list errand ≡ NeedsSocket errand
+has_room [] errand room = refl
+has_room (x ∷ others) errand room = ap (λ b. if b then NeedsRoom x.number errand else NeedsSocket errand) room
+
+none_of_room : (o : Option ℕ) (list : List Association) (socket : ℕ) (errand : Errand) → with_socket o list errand ≡ NeedsRoom socket errand → o ≡ None
+none_of_room None list socket errand is = refl
+none_of_room (Some s) list socket errand is = cc
+
+still_none : (guest : Endpoint) (socket : ℕ) (list : List Association) → socket_of guest list ≡ None → socket_of guest (without socket list) ≡ None
+still_none guest socket [] none = refl
+still_none guest socket (a ∷ list) none = by (is_of guest a) refl (is_numbered socket a) none (λ rest. still_none guest socket list rest)
+  where
+    by : (b : Bool) → is_of guest a ≡ b → (t : Bool) → option_map (λ (x : Association). x.number) (if b then Some a else find (is_of guest) list) ≡ None → (socket_of guest list ≡ None → socket_of guest (without socket list) ≡ None)
+        → socket_of guest (if not t then a ∷ without socket list else without socket list) ≡ None
+    by true here t none more = cc
+    by false here true none more = more none
+    by false here false none more = ap (λ (b : Bool). option_map (λ (x : Association). x.number) (if b then Some a else find (is_of guest) (without socket list))) here ∙ more none
+
+asks_for_one : (socket : ℕ) (errand : Errand) (list : List Association) → length (without socket list) < most_associations → step_for list (Some errand) ≡ NeedsRoom socket errand
+    → step_for (without socket list) (Some errand) ≡ NeedsSocket errand
+asks_for_one socket errand list room is =
+    ap (λ o. with_socket o (without socket list) errand) (still_none errand.datagram.from socket list (none_of_room (socket_of errand.datagram.from list) list socket errand is))
+    ∙ has_room (without socket list) errand (grind (arith, nat_tests, room))
+
 module _ (config : Config) (at : Standing) (slirp : SlirpState) (link : LinkState) (past : List Entry) where
   module _ (step : Step) (holds : HoldsAt config at step slirp link past) where
-    asks : (relay config past).step ≡ step
-    asks = ap (λ r. r.step) holds.relayed
+    asks : asked config past ≡ step
+    asks = asked_for config at step slirp link past holds
+
+    errand_is : errand_left config past ≡ errand_in step
+    errand_is = errand_for config step slirp past holds.relayed
 
     -- the socket is open and carries a guest's datagrams
     carried : (socket : ℕ) → is_among socket (numbers slirp.associations) ≡ true → carries past socket ≡ true
@@ -81,7 +137,7 @@ module _ (config : Config) (at : Standing) (slirp : SlirpState) (link : LinkStat
         and_both (is_among socket (open_sockets past)) (is_association (kind_of socket past)) here (ap is_association (holds.sockets.kinds socket here))
 
     -- and may be closed for a reason of its kind
-    parted : (socket : ℕ) → is_among socket (open_sockets past) ≡ true → (gives_way socket (relay config past).step || is_idle socket (moment past) (relay config past).associations) ≡ true → parts config past socket ≡ true
+    parted : (socket : ℕ) → is_among socket (open_sockets past) ≡ true → (gives_way socket (asked config past) || is_unused socket past) ≡ true → parts config past socket ≡ true
     parted socket here why = ap (may_part config past socket) (holds.sockets.kinds socket here) ∙ why
 
   -- a socket was opened, or wasn't
@@ -93,24 +149,21 @@ module _ (config : Config) (at : Standing) (slirp : SlirpState) (link : LinkStat
     open_due = due_is config past (NeedsSocket errand) turn.working (asks (NeedsSocket errand) holds) ∙ ap (λ n. Some (CallUdpOpen n anywhere)) holds.sockets.number
 
     may_open : May config past (CallUdpOpen slirp.number anywhere)
-    may_open = record {
-      framed = tt;
-      due = this_due config past (CallUdpOpen slirp.number anywhere) open_due;
-      place = some_call (due config past) (CallUdpOpen slirp.number anywhere) open_due;
-      socket = ap (λ n. slirp.number == n) holds.sockets.number ∙ same slirp.number;
-      served = refl;
-      answered = refl;
-      goes_on = goes_on config past false holds.open_yet;
-    }
+    may_open = opens config past slirp.number anywhere open_due (ap (λ n. slirp.number == n) holds.sockets.number ∙ same slirp.number) holds.open_yet
 
     pub after_open : HoldsAt config at (NeedsSending slirp.number errand)
         (record slirp { number = slirp.number + 1; associations = slirp.associations ++ (association slirp.number errand slirp.moment ∷ []) }) link (UdpOpen slirp.number anywhere MadeDone ∷ past)
     after_open = after_socket config at at (NeedsSocket errand) (NeedsSending slirp.number errand) slirp
-        (record slirp { number = slirp.number + 1; associations = slirp.associations ++ (association slirp.number errand slirp.moment ∷ []) }) link (UdpOpen slirp.number anywhere MadeDone) past tt refl refl refl refl turn holds (record {
+        (record slirp { number = slirp.number + 1; associations = slirp.associations ++ (association slirp.number errand slirp.moment ∷ []) }) link (UdpOpen slirp.number anywhere MadeDone) past tt refl refl refl turn holds (record {
           may = may_open;
           answers = record { sent = holds.answers.sent; pending = holds.answers.pending };
-          relayed = ap (after_call (UdpOpen slirp.number anywhere MadeDone) (moment past)) holds.relayed
-              ∙ ap (λ m. record { associations = slirp.associations ++ (association slirp.number errand m ∷ []); step = NeedsSending slirp.number errand }) holds.clock.moment;
+          relayed = record {
+            list = ap (λ o. with_opened MadeDone slirp.number (moment past) o (associations config past)) (errand_is (NeedsSocket errand) holds)
+                ∙ ap (λ l. l ++ (association slirp.number errand (moment past) ∷ [])) holds.relayed.list
+                ∙ ap (λ m. slirp.associations ++ (association slirp.number errand m ∷ [])) holds.clock.moment;
+            asks = ap (step_for (slirp.associations ++ (association slirp.number errand slirp.moment ∷ []))) (errand_is (NeedsSocket errand) holds)
+                ∙ asks_to_send slirp.number errand slirp.moment slirp.associations (sym (ap (step_for slirp.associations) (errand_is (NeedsSocket errand) holds)) ∙ holds.relayed.asks);
+          };
           sockets = record {
             number = ap (λ n. n + 1) holds.sockets.number;
             rising = subst (λ n. IsRising (next_number past + 1) (open_sockets past ++ (n ∷ []))) holds.sockets.number (rising_last (next_number past) (open_sockets past) holds.sockets.rising);
@@ -124,15 +177,15 @@ module _ (config : Config) (at : Standing) (slirp : SlirpState) (link : LinkStat
     pub after_refusal : Holds config at
         (record slirp { number = slirp.number + 1; pending = frames_of slirp.config slirp.sent (told_about slirp.config no_network errand.datagram) }) link (UdpOpen slirp.number anywhere MadeFailed ∷ past)
     after_refusal = after_socket config at at (NeedsSocket errand) Settled slirp
-        (record slirp { number = slirp.number + 1; pending = frames_of slirp.config slirp.sent (told_about slirp.config no_network errand.datagram) }) link (UdpOpen slirp.number anywhere MadeFailed) past tt refl refl refl refl turn holds (record {
+        (record slirp { number = slirp.number + 1; pending = frames_of slirp.config slirp.sent (told_about slirp.config no_network errand.datagram) }) link (UdpOpen slirp.number anywhere MadeFailed) past tt refl refl refl turn holds (record {
           may = may_open;
           answers = record {
             sent = holds.answers.sent;
             pending = ap (λ s. unsent config (identification past) s (left config past)) (asks (NeedsSocket errand) holds)
                 ∙ ap (λ i. frames_of config i (told_about config no_network errand.datagram)) holds.answers.sent
-                ∙ sym (ap (λ k. frames_of k slirp.sent (told_about k no_network errand.datagram)) holds.settings);
+                ∙ sym (ap (λ k. frames_of k slirp.sent (told_about k no_network errand.datagram)) holds.guests.settings);
           };
-          relayed = ap (after_call (UdpOpen slirp.number anywhere MadeFailed) (moment past)) holds.relayed;
+          relayed = record { list = holds.relayed.list; asks = refl };
           sockets = record {
             number = ap (λ n. n + 1) holds.sockets.number;
             rising = rising_up (next_number past) (open_sockets past) holds.sockets.rising;
@@ -152,15 +205,7 @@ module _ (config : Config) (at : Standing) (slirp : SlirpState) (link : LinkStat
     send_due = due_is config past (NeedsSending socket errand) send_turn.working (asks (NeedsSending socket errand) holds)
 
     may_send : May config past (CallUdpSend socket errand.to errand.datagram.body)
-    may_send = record {
-      framed = tt;
-      due = this_due config past (CallUdpSend socket errand.to errand.datagram.body) send_due;
-      place = some_call (due config past) (CallUdpSend socket errand.to errand.datagram.body) send_due;
-      socket = carried (NeedsSending socket errand) holds socket among;
-      served = refl;
-      answered = refl;
-      goes_on = goes_on config past false holds.open_yet;
-    }
+    may_send = sends config past socket errand.to errand.datagram.body send_due (carried (NeedsSending socket errand) holds socket among) holds.open_yet
 
     after_sending : (answer : Sent) (new : SlirpState) → new ≡ record slirp { associations = moved_last (sent_from (record { 0 = errand.datagram.mac }) slirp.moment) socket slirp.associations; pending = new.pending }
         → unless_sent answer (frames_of config (identification past) (told_about config no_network errand.datagram)) (left config past) ≡ new.pending → Holds config at new link (UdpSend socket errand.to errand.datagram.body answer ∷ past)
@@ -168,14 +213,18 @@ module _ (config : Config) (at : Standing) (slirp : SlirpState) (link : LinkStat
         let e = UdpSend socket errand.to errand.datagram.body answer in
         let moved = record slirp { associations = moved_last (sent_from (record { 0 = errand.datagram.mac }) slirp.moment) socket slirp.associations; pending = new.pending } in
         subst (λ s. Holds config at s link (e ∷ past)) (sym is)
-        (after_socket config at at (NeedsSending socket errand) Settled slirp moved link e past tt refl refl refl refl send_turn holds (record {
+        (after_socket config at at (NeedsSending socket errand) Settled slirp moved link e past tt refl refl refl send_turn holds (record {
           may = may_send;
           answers = record {
             sent = holds.answers.sent;
             pending = ap (λ s. unless_sent answer (unsent config (identification past) s (left config past)) (left config past)) (asks (NeedsSending socket errand) holds) ∙ owes;
           };
-          relayed = ap (after_call e (moment past)) holds.relayed
-              ∙ ap (λ m. record { associations = moved_last (sent_from (record { 0 = errand.datagram.mac }) m) socket slirp.associations; step = Settled }) holds.clock.moment;
+          relayed = record {
+            list = ap (λ o. with_sent socket (moment past) o (associations config past)) (errand_is (NeedsSending socket errand) holds)
+                ∙ ap (moved_last (sent_from (record { 0 = errand.datagram.mac }) (moment past)) socket) holds.relayed.list
+                ∙ ap (λ m. moved_last (sent_from (record { 0 = errand.datagram.mac }) m) socket slirp.associations) holds.clock.moment;
+            asks = refl;
+          };
           sockets = record {
             number = holds.sockets.number;
             rising = holds.sockets.rising;
@@ -200,27 +249,19 @@ module _ (config : Config) (at : Standing) (slirp : SlirpState) (link : LinkStat
         after_sending SentFailed (record slirp {
           associations = moved_last (sent_from (record { 0 = errand.datagram.mac }) slirp.moment) socket slirp.associations;
           pending = frames_of slirp.config slirp.sent (told_about slirp.config no_network errand.datagram);
-        }) refl (ap (λ i. frames_of config i (told_about config no_network errand.datagram)) holds.answers.sent ∙ sym (ap (λ k. frames_of k slirp.sent (told_about k no_network errand.datagram)) holds.settings))
+        }) refl (ap (λ i. frames_of config i (told_about config no_network errand.datagram)) holds.answers.sent ∙ sym (ap (λ k. frames_of k slirp.sent (told_about k no_network errand.datagram)) holds.guests.settings))
 
   -- a socket was closed for a reason of its kind
   module _ (socket : ℕ) (step new_step : Step) (holds : HoldsAt config at step slirp link past) (turn : InTurn config past) (here : is_among socket (open_sockets past) ≡ true) where
-    closes : MayDue config past (CallClose socket) → parts config past socket ≡ true
-        → after_call (Close socket) (moment past) (record { associations = slirp.associations; step = step }) ≡ record { associations = without socket slirp.associations; step = new_step }
+    parted_from : MayDue config past (CallClose socket) → parts config past socket ≡ true → step_for (without socket slirp.associations) (errand_left config past) ≡ new_step
         → HoldsAt config at new_step (record slirp { associations = without socket slirp.associations }) link (Close socket ∷ past)
-    closes may_due why comes = after_socket config at at step new_step slirp (record slirp { associations = without socket slirp.associations }) link (Close socket) past tt refl refl refl refl turn holds (record {
-      may = record {
-        framed = tt;
-        due = may_due;
-        place = or_first (is_working (phase config past)) (is_over (phase config past)) (ap is_working turn.working);
-        socket = and_both (is_among socket (open_sockets past)) _ here
-            (ap (λ (b : Bool). if b then is_least socket (open_sockets past) else parts config past socket || (is_ended config past && is_least socket (open_sockets past))) holds.open_yet
-            ∙ or_first (parts config past socket) (is_ended config past && is_least socket (open_sockets past)) why);
-        served = refl;
-        answered = refl;
-        goes_on = goes_on config past true holds.open_yet;
-      };
+    parted_from may_due why comes = after_socket config at at step new_step slirp (record slirp { associations = without socket slirp.associations }) link (Close socket) past tt refl refl refl turn holds (record {
+      may = closes config past socket may_due (or_first (is_working (phase config past)) (is_over (phase config past)) (ap is_working turn.working))
+          (and_both (is_among socket (open_sockets past)) _ here
+          (ap (λ (b : Bool). if b then is_least socket (open_sockets past) else parts config past socket || (is_ended config past && is_least socket (open_sockets past))) holds.open_yet
+          ∙ or_first (parts config past socket) (is_ended config past && is_least socket (open_sockets past)) why));
       answers = record { sent = holds.answers.sent; pending = holds.answers.pending };
-      relayed = ap (after_call (Close socket) (moment past)) holds.relayed ∙ comes;
+      relayed = record { list = ap (without socket) holds.relayed.list; asks = comes };
       sockets = record {
         number = holds.sockets.number;
         rising = rising_without (next_number past) socket (open_sockets past) holds.sockets.rising;
@@ -232,18 +273,19 @@ module _ (config : Config) (at : Standing) (slirp : SlirpState) (link : LinkStat
     })
 
   -- the longest unused one gave way
-  pub after_yielding : (oldest : Association) (others : List Association) (errand : Errand) → slirp.associations ≡ oldest ∷ others → HoldsAt config at (NeedsRoom oldest.number errand) slirp link past
+  pub after_yielding : (oldest : Association) (others : List Association) (errand : Errand) → slirp.associations ≡ oldest ∷ others → length (without oldest.number slirp.associations) < most_associations
+      → HoldsAt config at (NeedsRoom oldest.number errand) slirp link past
       → HoldsAt config at (NeedsSocket errand) (record slirp { associations = without oldest.number slirp.associations }) link (Close oldest.number ∷ past)
-  after_yielding oldest others errand first holds =
+  after_yielding oldest others errand first room holds =
       let socket = oldest.number in
       let step = NeedsRoom socket errand in
       let turn : InTurn config past = in_turn holds.stands (λ u. cc (u.unasked)) in
       let here : is_among socket (open_sockets past) ≡ true = holds.sockets.those socket ∙ ap (λ l. is_among socket (numbers l)) first ∙ ap (λ b. b || is_among socket (numbers others)) (same socket) in
-      closes socket step (NeedsSocket errand) holds turn here
-      (this_due config past (CallClose socket) (due_is config past step turn.working (asks step holds)))
-      (parted step holds socket here
-      (or_first (gives_way socket (relay config past).step) (is_idle socket (moment past) (relay config past).associations) (ap (gives_way socket) (asks step holds) ∙ same socket)))
-      refl
+      let left = errand_is step holds in
+      parted_from socket step (NeedsSocket errand) holds turn here
+      (this_one config past (CallClose socket) (due_is config past step turn.working (asks step holds)))
+      (parted step holds socket here (or_first (gives_way socket (asked config past)) (is_unused socket past) (ap (gives_way socket) (asks step holds) ∙ same socket)))
+      (ap (step_for (without socket slirp.associations)) left ∙ asks_for_one socket errand slirp.associations room (sym (ap (step_for slirp.associations) left) ∙ holds.relayed.asks))
 
   -- its idle life was over
   pub after_idling : (socket : ℕ) → is_idle socket slirp.moment slirp.associations ≡ true → Holds config at slirp link past
@@ -251,20 +293,20 @@ module _ (config : Config) (at : Standing) (slirp : SlirpState) (link : LinkStat
   after_idling socket idle holds =
       let turn : InTurn config past = in_turn holds.stands (λ u. cc (sym (ap (is_idle socket slirp.moment) u.alone) ∙ idle)) in
       let here = holds.sockets.those socket ∙ idle_among socket slirp.moment slirp.associations idle in
-      closes socket Settled Settled holds turn here
-      (any_call config past (CallClose socket) turn.working (asks Settled holds))
-      (parted Settled holds socket here
-      (or_second (gives_way socket (relay config past).step) (is_idle socket (moment past) (relay config past).associations)
-      (ap (λ r. is_idle socket (moment past) r.associations) holds.relayed ∙ ap (λ m. is_idle socket m slirp.associations) holds.clock.moment ∙ idle)))
-      refl
+      let over : is_idle socket (moment past) (associations config past) ≡ true = ap (is_idle socket (moment past)) holds.relayed.list ∙ ap (λ m. is_idle socket m slirp.associations) holds.clock.moment ∙ idle in
+      let long = idle_is config past socket (moment past) (associations config past) (joined config past holds.lawful).kept over in
+      parted_from socket Settled Settled holds turn here
+      (any_one config past (CallClose socket) (due_is config past Settled turn.working (asks Settled holds)))
+      (parted Settled holds socket here (or_second (gives_way socket (asked config past)) (is_unused socket past) (grind (arith, nat_tests, long))))
+      (asks_nothing (without socket slirp.associations) (errand_left config past) (errand_is Settled holds))
 
   -- nothing is left to be sent
   pub all_out : slirp.pending ≡ [] → link.tail ≡ [] → Holds config at slirp link past → is_all_out config past ≡ true
   all_out none out holds = ap (λ t. is_nothing t && is_out (left config past)) (holds.keeps.rest ∙ out) ∙ ap is_out (holds.answers.pending ∙ none)
 
 -- a datagram was received, or none, on a socket of which the last wait reported it
-module _ (config : Config) (count : ℕ) (wants : List Want) (item : Want) (items : List Want) (slirp : SlirpState) (link : LinkState) (past : List Entry) (socket asked : ℕ) (a : Association)
-    (reported : is_to_read (Udp socket) (wanted_of wants item) ≡ true) (is : numbered socket slirp.associations ≡ Some a) (whole : asked ≡ 65507) (none : slirp.pending ≡ []) (out : link.tail ≡ [])
+module _ (config : Config) (count : ℕ) (wants : List Want) (item : Want) (items : List Want) (slirp : SlirpState) (link : LinkState) (past : List Entry) (socket size : ℕ) (a : Association)
+    (reported : is_to_read (Udp socket) (wanted_of wants item) ≡ true) (is : numbered socket slirp.associations ≡ Some a) (whole : size ≡ 65507) (none : slirp.pending ≡ []) (out : link.tail ≡ [])
     (holds : Holds config (standing count wants (item ∷ items)) slirp link past) where
   abbrev before : Standing
   before = standing count wants (item ∷ items)
@@ -278,34 +320,35 @@ module _ (config : Config) (count : ℕ) (wants : List Want) (item : Want) (item
   hear_turn : InTurn config past
   hear_turn = in_turn holds.stands (λ u. cc (sym (ap (numbered socket) u.alone) ∙ is))
 
-  may_hear : May config past (CallUdpRecv socket asked)
-  may_hear = record {
-    framed = tt;
-    due = any_call config past (CallUdpRecv socket asked) hear_turn.working (asks config before slirp link past Settled holds);
-    place = ap is_working hear_turn.working;
-    socket = and_both (carries past socket) (asked == most_to_udp) (carried config before slirp link past Settled holds socket among) (ap (λ n. n == 65507) whole ∙ same 65507);
-    served = reads_of (Udp socket) (wanted_of wants item) (all_wanted wants items) (agenda past) reported holds.agenda;
-    answered = all_out config before slirp link past none out holds;
-    goes_on = goes_on config past false holds.open_yet;
-  }
+  may_hear : May config past (CallUdpRecv socket size)
+  may_hear = hears config past socket size (due_is config past Settled hear_turn.working (asks config before slirp link past Settled holds)) (ap is_working hear_turn.working)
+      (carried config before slirp link past Settled holds socket among) whole
+      (reads_of (Udp socket) (wanted_of wants item) (all_wanted wants items) (agenda past) reported holds.agenda) (all_out config before slirp link past none out holds) holds.open_yet
 
-  agenda_behind : (answer : Got) (octets : List ℕ) → IsLast (all_wanted wants items) (agenda (UdpRecv socket asked answer octets ∷ past))
+  -- the association has what the record says of its socket
+  says : SaysOf config past socket a
+  says = says_of config past socket (associations config past) a (joined config past holds.lawful).kept (ap (numbered socket) holds.relayed.list ∙ is)
+
+  agenda_behind : (answer : Got) (octets : List ℕ) → IsLast (all_wanted wants items) (agenda (UdpRecv socket size answer octets ∷ past))
   agenda_behind answer octets = behind_of (Udp socket) (wanted_of wants item) (all_wanted wants items) (agenda past) reported holds.agenda
 
   pub after_hearing : (peer : Endpoint) (count : ℕ) (octets : List ℕ)
-      → Holds config behind_it (record slirp { associations = moved_last (heard_at slirp.moment) socket slirp.associations; pending = frames_of slirp.config slirp.sent (reply slirp.config peer octets a) }) link (UdpRecv socket asked (From peer count) octets ∷ past)
+      → Holds config behind_it (record slirp { associations = moved_last (heard_at slirp.moment) socket slirp.associations; pending = frames_of slirp.config slirp.sent (reply_at slirp.config peer octets a.guest a.mac.0) }) link (UdpRecv socket size (From peer count) octets ∷ past)
   after_hearing peer count octets =
-      let e = UdpRecv socket asked (From peer count) octets in
+      let e = UdpRecv socket size (From peer count) octets in
       after_socket config before behind_it Settled Settled slirp
-      (record slirp { associations = moved_last (heard_at slirp.moment) socket slirp.associations; pending = frames_of slirp.config slirp.sent (reply slirp.config peer octets a) }) link e past tt refl refl refl refl hear_turn holds (record {
+      (record slirp { associations = moved_last (heard_at slirp.moment) socket slirp.associations; pending = frames_of slirp.config slirp.sent (reply_at slirp.config peer octets a.guest a.mac.0) }) link e past tt refl refl refl hear_turn holds (record {
         may = may_hear;
         answers = record {
           sent = holds.answers.sent;
-          pending = ap (λ r. frames_of config (identification past) (owed_for_peer config peer octets (numbered socket r.associations))) holds.relayed
-              ∙ ap (λ o. frames_of config (identification past) (owed_for_peer config peer octets o)) is
-              ∙ ap (λ i. frames_of config i (reply config peer octets a)) holds.answers.sent ∙ sym (ap (λ k. frames_of k slirp.sent (reply k peer octets a)) holds.settings);
+          pending = ap (λ g. frames_of config (identification past) (reply_for config peer octets g (mac_of config socket past))) says.guest
+              ∙ ap (λ m. frames_of config (identification past) (reply_for config peer octets (Some a.guest) m)) says.mac
+              ∙ ap (λ i. frames_of config i (reply_at config peer octets a.guest a.mac.0)) holds.answers.sent ∙ sym (ap (λ k. frames_of k slirp.sent (reply_at k peer octets a.guest a.mac.0)) holds.guests.settings);
         };
-        relayed = ap (after_call e (moment past)) holds.relayed ∙ ap (λ m. record { associations = moved_last (heard_at m) socket slirp.associations; step = Settled }) holds.clock.moment;
+        relayed = record {
+          list = ap (moved_last (heard_at (moment past)) socket) holds.relayed.list ∙ ap (λ m. moved_last (heard_at m) socket slirp.associations) holds.clock.moment;
+          asks = asks_nothing (moved_last (heard_at slirp.moment) socket slirp.associations) (errand_left config past) (errand_is config before slirp link past Settled holds);
+        };
         sockets = record {
           number = holds.sockets.number;
           rising = holds.sockets.rising;
@@ -316,22 +359,22 @@ module _ (config : Config) (count : ℕ) (wants : List Want) (item : Want) (item
         open_yet = holds.open_yet;
       })
 
-  heard_nothing : (answer : Got) (octets : List ℕ) → left config (UdpRecv socket asked answer octets ∷ past) ≡ slirp.pending
-      → relay config (UdpRecv socket asked answer octets ∷ past) ≡ relay config past → Holds config behind_it slirp link (UdpRecv socket asked answer octets ∷ past)
-  heard_nothing answer octets owes same_relay =
-      after_socket config before behind_it Settled Settled slirp slirp link (UdpRecv socket asked answer octets) past tt refl refl refl refl hear_turn holds (record {
+  heard_nothing : (answer : Got) (octets : List ℕ) → left config (UdpRecv socket size answer octets ∷ past) ≡ slirp.pending
+      → associations config (UdpRecv socket size answer octets ∷ past) ≡ associations config past → Holds config behind_it slirp link (UdpRecv socket size answer octets ∷ past)
+  heard_nothing answer octets owes same_list =
+      after_socket config before behind_it Settled Settled slirp slirp link (UdpRecv socket size answer octets) past tt refl refl refl hear_turn holds (record {
         may = may_hear;
         answers = record { sent = holds.answers.sent; pending = owes };
-        relayed = same_relay ∙ holds.relayed;
+        relayed = record { list = same_list ∙ holds.relayed.list; asks = holds.relayed.asks };
         sockets = record { number = holds.sockets.number; rising = holds.sockets.rising; those = holds.sockets.those; kinds = holds.sockets.kinds };
         agenda = agenda_behind answer octets;
         open_yet = holds.open_yet;
       })
 
-  pub after_not_yet : (octets : List ℕ) → Holds config behind_it slirp link (UdpRecv socket asked GotNotYet octets ∷ past)
+  pub after_not_yet : (octets : List ℕ) → Holds config behind_it slirp link (UdpRecv socket size GotNotYet octets ∷ past)
   after_not_yet octets = heard_nothing GotNotYet octets holds.answers.pending refl
 
-  pub after_no_hearing : (octets : List ℕ) → Holds config behind_it slirp link (UdpRecv socket asked GotFailed octets ∷ past)
+  pub after_no_hearing : (octets : List ℕ) → Holds config behind_it slirp link (UdpRecv socket size GotFailed octets ∷ past)
   after_no_hearing octets = heard_nothing GotFailed octets holds.answers.pending refl
 
 -- where as many sockets are open as may be, the longest unused one gives way
@@ -341,10 +384,6 @@ yields_first [] oldest errand is full = cc
 yields_first (x ∷ others) oldest errand is full =
     let this : x ≡ oldest = cc in
     (others, ap (λ a. a ∷ others) this, ap (λ b. if b then NeedsRoom x.number errand else NeedsSocket errand) full ∙ ap (λ (a : Association). NeedsRoom a.number errand) this)
-
-pub has_room : (list : List Association) (errand : Errand) → nat_le most_associations (length list) ≡ false → without_socket list errand ≡ NeedsSocket errand
-has_room [] errand room = refl
-has_room (x ∷ others) errand room = ap (λ b. if b then NeedsRoom x.number errand else NeedsSocket errand) room
 
 pub fewer_left : (list others : List Association) (oldest : Association) → list ≡ oldest ∷ others → length list ≤ most_associations → length (without oldest.number list) < most_associations
 fewer_left list others oldest is most =

@@ -22,28 +22,18 @@ use Rattle.slirp_core.specs.Holds.{Holds, after, Begins, EndedAs, Closing, OverB
 use Rattle.slirp_core.specs.Served.{IsNew, ServiceState}
 use Rattle.slirp_core.specs.declared.service.End.{End}
 use Rattle.slirp_core.specs.declared.service.End.TheVariants.{TurnsSpent}
-use Rattle.slirp_core.proofs.Parts.{this_due}
+use Rattle.slirp_laws.proofs.Deeds.{asks}
+use Rattle.slirp_core.proofs.Guests.{guests_begin}
+use Rattle.slirp_core.proofs.Parts.{errand_for}
 
 -- before the first turn
 pub started : (service : ServiceState) (told : ℕ) → IsNew service → Holds service.slirp.config (after 0) (record service.slirp { moment = max (min told (2 ^ 62)) service.slirp.moment }) service.link (Now told ∷ [])
 started service told new = record {
-  settings = refl;
-  lawful = (
-    record {
-      framed = tt;
-      due = this_due service.slirp.config [] CallNow (ap (λ f. unless_due (due_in (Opening 0 f) []) None) new.forwards);
-      place = ap (λ f. is_some (unless_due (due_in (Opening 0 f) []) None)) new.forwards;
-      socket = refl;
-      served = refl;
-      answered = refl;
-      goes_on = refl;
-    },
-    tt,
-  );
+  lawful = (asks service.slirp.config [] (ap (λ f. unless_due (due_in (Opening 0 f) []) None) new.forwards) refl, tt);
   keeps = record { framed = (tt, tt); partly = sym new.input; rest = sym new.output; blocked = sym new.free };
   answers = record { sent = sym new.sent; pending = sym new.pending };
-  guests = sym new.known;
-  relayed = ap (λ l. record { associations = l; step = Settled }) (sym new.associations);
+  guests = guests_begin (record service.slirp { moment = max (min told (2 ^ 62)) service.slirp.moment }) (Now told) refl new.known;
+  relayed = record { list = sym new.associations; asks = refl };
   sockets = record {
     number = sym new.number;
     rising = tt;
@@ -90,7 +80,7 @@ spent config count turns service made all is holds = rests holds.stands
       ended = ap (λ q. is_over q || nat_le config.turns (waits made)) at ∙ over;
       is = ap TurnsSpent is ∙ spent_so ∙ sym (ap (end_of config) at);
       rests = resting;
-      asks = ap (λ r. r.step) holds.relayed;
+      asks = errand_for config Settled service.slirp made holds.relayed;
       rising = holds.sockets.rising;
       those = holds.sockets.those;
     }

@@ -1,5 +1,5 @@
 -- What a frame asks for, by the kind of what it carries.
-use Rattle.std.proofs.Common.{◌≡◌, ℕ, ◌≤◌, ◌==◌, ◌&&◌, ◌||◌, not, nat_le, Bool, true, false, List, [], ◌∷◌, length, Option, Some, None, if◌then◌else◌, refl, sym, ◌∙◌, ap, arith}
+use Rattle.std.proofs.Common.{◌≡◌, ℕ, ◌+◌, ◌≤◌, ◌==◌, ◌&&◌, ◌||◌, not, nat_le, Bool, true, false, List, [], ◌∷◌, length, Option, Some, None, if◌then◌else◌, refl, sym, ◌∙◌, ap, arith}
 use Rattle.std.proofs.lemmas.Bool.Decides.{nat_tests}
 use Rattle.std.specs.Option.{option_and_then}
 use Rattle.net_octets.specs.Kinds.{arp_kind, ipv4_kind, icmp_proto, udp_proto}
@@ -12,7 +12,7 @@ use Rattle.ipv4_head.specs.Ip.{Ip, read_ip, ip_octets, is_unbroken}
 use Rattle.icmp_echo.specs.Icmp.{read_icmp, unreachable_octets}
 use Rattle.udp_assoc.specs.Udp.{udp_octets}
 use Rattle.udp_assoc.specs.declared.assocs.Association.{Association}
-use Rattle.slirp_laws.specs.Answers.{Answer, IpAnswer, our_mac, most_body, is_untold, told_about, reply, frames_of, owed_for_arp, owed_for_icmp, owed_for_datagram}
+use Rattle.slirp_laws.specs.Answers.{Answer, IpAnswer, our_mac, fits_frame, is_untold, told_about, reply_at, frames_of, owed_for_arp, owed_for_icmp, owed_for_datagram}
 use Rattle.slirp_core.specs.Packets.{is_message_to_us, owed_for, owed_for_ip, owed_for_ether, owed_for_frame}
 use Rattle.run_laws.specs.Packets.{Datagram}
 use Rattle.slirp_core.specs.Packets.{udp_of, errand_of_ip, errand_of_ether, errand_in}
@@ -53,7 +53,7 @@ message_proto a b proto c d is = grind (arith, nat_tests)
 
 pub no_udp : (config : Config) (ip : Ip) → is_message_to_us config ip ≡ true → ip.proto ≡ 17 → ⊥
 no_udp config ip asked udp =
-    let one : ip.proto ≡ 1 = message_proto (is_guest config ip.from) (is_ours config ip.to) ip.proto (is_unbroken ip) (nat_le (length ip.body) most_body) asked in
+    let one : ip.proto ≡ 1 = message_proto (is_guest config ip.from) (is_ours config ip.to) ip.proto (is_unbroken ip) (fits_frame config (length ip.body)) asked in
     omega arith
 
 -- what a packet asks for
@@ -90,18 +90,20 @@ shown_parts : (b : Bool) (from peer : Endpoint) → Some from ≡ (if b then Non
 shown_parts true from peer is = absurd cc
 shown_parts false from peer is = (refl, cc)
 
-fits_frame : (b : Bool) (n : ℕ) → b ≡ false → n ≤ 1472 → (b || not (nat_le n 1472)) ≡ false
-fits_frame b n is fits = grind (arith, nat_tests)
+seen_whole : (b fitting : Bool) → b ≡ false → fitting ≡ true → (b || not fitting) ≡ false
+seen_whole true fitting is whole = cc
+seen_whole false true is whole = refl
+seen_whole false false is whole = cc
 
 abbrev reply_packet : Endpoint → List ℕ → Association → Answer
 reply_packet from octets a =
     IpAnswer a.mac.0 udp_proto (address from) (address a.guest) (udp_octets (address from) (address a.guest) (record { from_port = from.port; to_port = a.guest.port; body = octets }))
 
 pub answered : (config : Config) (ident : ℕ) (peer from : Endpoint) (octets : List ℕ) (a : Association)
-    → Some from ≡ (if is_hidden config peer then None else Some (shown config peer)) → length octets ≤ 1472
+    → Some from ≡ (if is_hidden config peer then None else Some (shown config peer)) → fits_frame config (8 + length octets) ≡ true
     → ether_octets a.mac.0 (our_mac config.vhost) ipv4_kind (ip_octets ident 0 udp_proto (address from) (address a.guest) (udp_octets (address from) (address a.guest) (record { from_port = from.port; to_port = a.guest.port; body = octets }))) ∷ []
-    ≡ frames_of config ident (reply config peer octets a)
-answered config ident peer from octets a is fits =
+    ≡ frames_of config ident (reply_at config peer octets a.guest a.mac.0)
+answered config ident peer from octets a is whole =
     let p = shown_parts (is_hidden config peer) from (shown config peer) is in
     ap (λ (e : Endpoint). frames_of config ident (reply_packet e octets a ∷ [])) p.1
-    ∙ sym (ap (λ (b : Bool). frames_of config ident (if b then [] else reply_packet (shown config peer) octets a ∷ [])) (fits_frame (is_hidden config peer) (length octets) p.0 fits))
+    ∙ sym (ap (λ (b : Bool). frames_of config ident (if b then [] else reply_packet (shown config peer) octets a ∷ [])) (seen_whole (is_hidden config peer) (fits_frame config (8 + length octets)) p.0 whole))

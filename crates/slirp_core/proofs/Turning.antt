@@ -22,9 +22,12 @@ use Rattle.run_laws.specs.Moments.{moment, waits}
 use Rattle.run_laws.specs.Packets.{packet_in}
 use Rattle.run_laws.specs.Shape.{Phase, Started, Working, Over, By, due_in, phase, phase_after, unless_over, is_working, may_turn}
 use Rattle.run_laws.specs.Sockets.{next_number}
-use Rattle.slirp_laws.specs.Agenda.{agenda, all_wanted, behind, from, is_to_read, reads_on, wanted_of}
+use Rattle.slirp_laws.specs.Agenda.{agenda, all_wanted, behind, from, is_to_read, reads_on as goes_on_reading, wanted_of}
 use Rattle.slirp_laws.specs.Answers.{Answer, frames_of, identification, is_out, left, left_after}
-use Rattle.slirp_laws.specs.Datagrams.{Errand, Relay, Step, Settled, asked as set_out, due_for, errand_by_packet, relay, relay_after, step_for}
+use Rattle.slirp_laws.specs.Datagrams.{Errand, Step, Settled, due_for, errand_by_packet}
+use Rattle.slirp_laws.specs.Asking.{errand_after, errand_left, step, step_of}
+use Rattle.slirp_laws.specs.Relayed.{associations, step_for}
+use Rattle.slirp_laws.proofs.Deeds.{asks, reads_on, waits_now}
 use Rattle.slirp_laws.specs.Laws.{Lawful, May, due, is_closing, is_nothing, unless_due}
 use Rattle.stream_netdev.specs.Frames.{ended, Pieces, Reads}
 use Rattle.stream_netdev.specs.Keeps.{Keeps, ReadsFrame, hands, ending_of}
@@ -40,16 +43,18 @@ use Rattle.slirp_core.specs.declared.service.Turn.TheVariants.{Ended as TurnEnde
 use Rattle.slirp_core.specs.declared.slirp.Pumped.{Pumped}
 use Rattle.slirp_core.specs.declared.slirp.Pumped.TheVariants.{Clear, Blocked, Failed as PumpFailed}
 use Rattle.slirp_core.proofs.Bridging.{owes_same, sends_same, teaches_same}
-use Rattle.slirp_core.proofs.Parts.{any_call, any_due, behind_of, due_is, from_of, goes_on, in_turn, or_second, reads_of, skipped}
+use Rattle.slirp_core.proofs.Guests.{guests_learn, guests_stay}
+use Rattle.slirp_core.proofs.Parts.{asked_for, behind_of, due_is, errand_for, from_of, in_turn, or_second, reads_of, skipped}
 use Rattle.slirp_core.proofs.Sockets.{same}
 
 module _ (config : Config) (count : ℕ) (slirp : SlirpState) (old : LinkState) (past : List Entry) (wants : List Want) (timeout : Option ℕ)
     (few : count < config.turns) (holds : Holds config (after count) slirp old past) where
   -- a wait may begin a turn, the first or a later one
   none_due : Stands config Settled slirp old past → due config past ≡ None
-  none_due (Turns turn) = due_is config past Settled turn.working (ap (λ r. r.step) holds.relayed)
+  none_due (Turns turn) = due_is config past Settled turn.working (asked_for config (after count) Settled slirp old past holds)
   none_due (Begins unbegun) =
-      ap (λ p. unless_due (due_in p past) (due_for (relay config past).step (next_number past))) unbegun.started ∙ ap (λ (r : Relay). due_for r.step (next_number past)) holds.relayed
+      ap (λ p. unless_due (due_in p past) (due_for (step config past) (next_number past))) unbegun.started
+      ∙ ap (λ (t : Step). due_for t (next_number past)) (asked_for config (after count) Settled slirp old past holds)
 
   turns_on : Stands config Settled slirp old past → may_turn (phase config past) ≡ true
   turns_on (Turns turn) = ap may_turn turn.working
@@ -60,15 +65,7 @@ module _ (config : Config) (count : ℕ) (slirp : SlirpState) (old : LinkState) 
 
   waited : (answer : Waited) (ready : List Want) → Lawful config (Wait wants timeout answer ready ∷ past)
   waited answer ready = (
-    record {
-      framed = tt;
-      due = any_due config past (CallWait wants timeout) (none_due holds.stands);
-      place = ap (λ b. b && nat_lt (waits past) config.turns) (turns_on holds.stands) ∙ waits_on;
-      socket = refl;
-      served = refl;
-      answered = refl;
-      goes_on = goes_on config past false holds.open_yet;
-    },
+    waits_now config past wants timeout (none_due holds.stands) (turns_on holds.stands) waits_on holds.open_yet,
     holds.lawful,
   )
 
@@ -80,7 +77,7 @@ module _ (config : Config) (count : ℕ) (slirp : SlirpState) (old : LinkState) 
   wait_ends_it answer ready why is = record {
     lawful = waited answer ready;
     over = ap (λ o. phase_after (Wait wants timeout answer ready) o (phase config past)) is ∙ ends why holds.stands;
-    asks = ap (λ r. r.step) holds.relayed;
+    asks = errand_for config Settled slirp past holds.relayed;
     rising = holds.sockets.rising;
     those = holds.sockets.those;
   }
@@ -88,8 +85,7 @@ module _ (config : Config) (count : ℕ) (slirp : SlirpState) (old : LinkState) 
   pub wait_wakes : (ready : List Want) (told : ℕ) (new : LinkState) → under_way new ≡ under_way old → new.tail ≡ old.tail → new.blocked ≡ (if writes TheLink ready then false else old.blocked)
       → Holds config (standing (count + 1) wants ready) (record slirp { moment = max (min told (2 ^ 62)) slirp.moment }) new (Now told ∷ Wait wants timeout Ready ready ∷ past)
   wait_wakes ready told new same_in same_out free = record {
-    settings = holds.settings;
-    lawful = (record { framed = tt; due = refl; place = refl; socket = refl; served = refl; answered = refl; goes_on = goes_on config past false holds.open_yet }, waited Ready ready);
+    lawful = (asks config (Wait wants timeout Ready ready ∷ past) refl holds.open_yet, waited Ready ready);
     keeps = record {
       framed = (tt, (tt, holds.keeps.framed));
       partly = holds.keeps.partly ∙ sym same_in;
@@ -97,8 +93,8 @@ module _ (config : Config) (count : ℕ) (slirp : SlirpState) (old : LinkState) 
       blocked = ap (λ b. if writes TheLink ready then false else b) holds.keeps.blocked ∙ sym free;
     };
     answers = record { sent = holds.answers.sent; pending = holds.answers.pending };
-    guests = holds.guests;
-    relayed = holds.relayed;
+    guests = guests_stay config slirp (record slirp { moment = max (min told (2 ^ 62)) slirp.moment }) (Now told) (Wait wants timeout Ready ready ∷ past) refl refl (guests_stay config slirp slirp (Wait wants timeout Ready ready) past refl refl holds.guests);
+    relayed = record { list = holds.relayed.list; asks = holds.relayed.asks };
     sockets = record { number = holds.sockets.number; rising = holds.sockets.rising; those = holds.sockets.those; kinds = holds.sockets.kinds };
     clock = record { moment = ap (max (min told (2 ^ 62))) holds.clock.moment; counted = ap (λ n. n + 1) holds.clock.counted };
     stands = Turns (record { working = refl; waited = omega arith });
@@ -139,22 +135,18 @@ record Quiet (config : Config) (count : ℕ) (wants : List Want) (item : Want) (
   out : tail past ≡ []
   known_is : known config past ≡ slirp.known
   counted : waits past ≡ count
-  relayed : relay config past ≡ record { associations = slirp.associations; step = Settled }
+  list : associations config past ≡ slirp.associations
+  unasked : errand_left config past ≡ None
   clock : moment past ≡ slirp.moment
   sockets : OfSockets slirp past
 
 module _ (config : Config) (count : ℕ) (wants : List Want) (item : Want) (items : List Want) (slirp : SlirpState) (reads_it : is_to_read TheLink (wanted_of wants item) ≡ true) where
   -- a read may come, that asks for what is missing
   may_read : (asked : ℕ) (past : List Entry) → MayFrame past (CallLinkRead asked) → Quiet config count wants item items slirp past → May config past (CallLinkRead asked)
-  may_read asked past framed q = record {
-    framed = framed;
-    due = any_call config past (CallLinkRead asked) q.turn.working (ap (λ r. r.step) q.relayed);
-    place = ap is_working q.turn.working;
-    socket = refl;
-    served = reads_of TheLink (wanted_of wants item) (all_wanted wants items) (agenda past) reads_it q.reported;
-    answered = ap (λ t. is_nothing t && is_out (left config past)) q.out ∙ ap is_out q.none;
-    goes_on = goes_on config past false q.open_yet;
-  }
+  may_read asked past framed q =
+      reads_on config past asked framed (due_is config past Settled q.turn.working (ap (step_of config past) q.unasked)) (ap is_working q.turn.working)
+      (reads_of TheLink (wanted_of wants item) (all_wanted wants items) (agenda past) reads_it q.reported)
+      (ap (λ t. is_nothing t && is_out (left config past)) q.out ∙ ap is_out q.none) q.open_yet
 
   -- a frame that isn't handed over isn't whole
   not_whole : (octets : List ℕ) → (if is_whole octets then Some (drop 4 octets) else None) ≡ None → is_whole octets ≡ false
@@ -177,7 +169,8 @@ module _ (config : Config) (count : ℕ) (wants : List Want) (item : Want) (item
           out = before.out;
           known_is = ap (λ o. with_arrival (option_map (arrival_of config) o) (known config (made ++ past))) frame ∙ before.known_is;
           counted = before.counted;
-          relayed = ap (λ o. relay_after config e (option_map (arrival_of config) o) (moment (made ++ past)) (relay config (made ++ past))) frame ∙ before.relayed;
+          list = before.list;
+          unasked = ap (λ o. errand_after config e (option_map (arrival_of config) o) (errand_left config (made ++ past))) frame ∙ before.unasked;
           clock = before.clock;
           sockets = record { number = before.sockets.number; rising = before.sockets.rising; those = before.sockets.those; kinds = before.sockets.kinds };
         },
@@ -212,7 +205,8 @@ record AllRead (config : Config) (count : ℕ) (wants items : List Want) (slirp 
   left_is : left config all ≡ frames_of config slirp.sent (owed_by config (arrived all))
   known_is : known config all ≡ with_frame config (arrived all) slirp.known
   counted : waits all ≡ count
-  relayed : relay config all ≡ set_out (errand_by config (arrived all)) (record { associations = slirp.associations; step = Settled })
+  list : associations config all ≡ slirp.associations
+  asks : errand_left config all ≡ errand_by config (arrived all)
   clock : moment all ≡ slirp.moment
   sockets : OfSockets slirp all
 
@@ -226,13 +220,14 @@ all_read config count wants item items slirp reads_it (LinkRead asked answer oct
       lawful = (may_read config count wants item items slirp reads_it asked (made ++ past) framed.0 before, so_far);
       phase_is = ap (phase_after e (ending e (partial (made ++ past)))) before.turn.working ∙ stands (ending e (partial (made ++ past)));
       waited = before.turn.waited;
-      reported = passed (reads_on answer (partial (made ++ past) ++ octets)) before.reported;
+      reported = passed (goes_on_reading answer (partial (made ++ past) ++ octets)) before.reported;
       open_yet = before.open_yet;
       sent_is = before.sent_is;
       left_is = owes (arrives e (made ++ past)) before.none ∙ ap (λ i. frames_of config i (owed_by config (arrives e (made ++ past)))) before.sent_is;
       known_is = teaches (arrives e (made ++ past)) (known config (made ++ past)) ∙ ap (with_frame config (arrives e (made ++ past))) before.known_is;
       counted = before.counted;
-      relayed = relays (arrives e (made ++ past)) before.relayed;
+      list = before.list;
+      asks = sets_out (arrives e (made ++ past)) before.unasked;
       clock = before.clock;
       sockets = record { number = before.sockets.number; rising = before.sockets.rising; those = before.sockets.those; kinds = before.sockets.kinds };
     }
@@ -249,10 +244,10 @@ all_read config count wants item items slirp reads_it (LinkRead asked answer oct
     teaches None pairs = refl
     teaches (Some frame) pairs = teaches_same config frame pairs
 
-    relays : (o : Option (List ℕ)) → relay config (made ++ past) ≡ record { associations = slirp.associations; step = Settled }
-        → relay_after config (LinkRead asked answer octets) (option_map (arrival_of config) o) (moment (made ++ past)) (relay config (made ++ past)) ≡ set_out (errand_by config o) (record { associations = slirp.associations; step = Settled })
-    relays None is = is
-    relays (Some frame) is = ap (set_out (errand_by_packet config (packet_in config frame))) is ∙ ap (λ o. set_out o (record { associations = slirp.associations; step = Settled })) (sends_same config frame)
+    sets_out : (o : Option (List ℕ)) → errand_left config (made ++ past) ≡ None
+        → errand_after config (LinkRead asked answer octets) (option_map (arrival_of config) o) (errand_left config (made ++ past)) ≡ errand_by config o
+    sets_out None is = is
+    sets_out (Some frame) is = sends_same config frame
 
     owes : (o : Option (List ℕ)) → left config (made ++ past) ≡ []
         → left_after config (made ++ past) (happens config (made ++ past) (LinkRead asked answer octets)) (option_map (arrival_of config) o) (left config (made ++ past)) ≡ frames_of config (identification (made ++ past)) (owed_by config o)
@@ -280,9 +275,10 @@ module _ (config : Config) (count : ℕ) (wants : List Want) (item : Want) (item
         sent_is = holds.answers.sent;
         none = holds.answers.pending ∙ no_packet;
         out = holds.keeps.rest ∙ out;
-        known_is = holds.guests;
+        known_is = holds.guests.known;
         counted = holds.clock.counted;
-        relayed = holds.relayed;
+        list = holds.relayed.list;
+        unasked = errand_for config Settled slirp past holds.relayed;
         clock = holds.clock.moment;
         sockets = holds.sockets;
       }) holds.lawful
@@ -293,12 +289,12 @@ module _ (config : Config) (count : ℕ) (wants : List Want) (item : Want) (item
   read_on new_slirp goes_on is =
       let r = read past holds.keeps in
       subst (λ (s : SlirpState). HoldsAt config (standing count wants items) (step_for slirp.associations (errand_by config (hands answer new))) s new (made ++ past)) (sym is) (record {
-        settings = holds.settings;
         lawful = all.lawful;
         keeps = r.0;
         answers = record { sent = all.sent_is; pending = all.left_is ∙ ap (λ o. frames_of config slirp.sent (owed_by config o)) r.1.frame };
-        guests = all.known_is ∙ ap (λ o. with_frame config o slirp.known) r.1.frame;
-        relayed = all.relayed ∙ ap (λ o. set_out (errand_by config o) (record { associations = slirp.associations; step = Settled })) r.1.frame;
+        guests = guests_learn config slirp (record slirp { pending = frames_of config slirp.sent (owed_by config (hands answer new)); known = with_frame config (hands answer new) slirp.known }) (hands answer new) (made ++ past) holds.guests.settings
+            (all.known_is ∙ ap (λ o. with_frame config o slirp.known) r.1.frame) refl;
+        relayed = record { list = all.list; asks = ap (step_for slirp.associations) (all.asks ∙ ap (errand_by config) r.1.frame) };
         sockets = record { number = all.sockets.number; rising = all.sockets.rising; those = all.sockets.those; kinds = all.sockets.kinds };
         clock = record { moment = all.clock; counted = all.counted };
         stands = Turns (record { working = all.phase_is ∙ ap over_by (r.1.last ∙ goes_on); waited = all.waited });
@@ -312,7 +308,7 @@ module _ (config : Config) (count : ℕ) (wants : List Want) (item : Want) (item
       record {
         lawful = all.lawful;
         over = all.phase_is ∙ ap over_by (r.1.last ∙ is);
-        asks = ap (λ q. q.step) all.relayed ∙ ap (λ o. step_for slirp.associations (errand_by config o)) (r.1.frame ∙ none);
+        asks = all.asks ∙ ap (errand_by config) (r.1.frame ∙ none);
         rising = all.sockets.rising;
         those = all.sockets.those;
       }
@@ -322,7 +318,7 @@ module _ (config : Config) (count : ℕ) (wants : List Want) (item : Want) (item
       → new_slirp ≡ record slirp { pending = frames_of slirp.config slirp.sent (owed_for_frame slirp.config frame); known = with_ether slirp.config (read_ether frame) slirp.known }
       → HoldsAt config (standing count wants items) (step_for slirp.associations (errand_in slirp.config frame)) new_slirp new (made ++ past)
   taken_in new_slirp frame came goes_on is =
-      let c = holds.settings in
+      let c = holds.guests.settings in
       let h = read_on new_slirp goes_on (is
       ∙ ap (λ k. record slirp { pending = frames_of k slirp.sent (owed_for_frame k frame); known = with_ether k (read_ether frame) slirp.known }) c
       ∙ sym (ap (λ o. record slirp { pending = frames_of config slirp.sent (owed_by config o); known = with_frame config o slirp.known }) came)) in
@@ -339,7 +335,6 @@ module _ (config : Config) (count : ℕ) (wants : List Want) (item : Want) (item
 with_agenda : (config : Config) (count : ℕ) (wants items other left : List Want) (slirp : SlirpState) (link : LinkState) (past : List Entry)
     → Holds config (standing count wants items) slirp link past → IsLast (all_wanted other left) (agenda past) → Holds config (standing count other left) slirp link past
 with_agenda config count wants items other left slirp link past holds last = record {
-  settings = holds.settings;
   lawful = holds.lawful;
   keeps = holds.keeps;
   answers = holds.answers;

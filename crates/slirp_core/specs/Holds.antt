@@ -1,5 +1,5 @@
 -- What the core keeps of the calls made on the World.
-use Rattle.std.specs.Prelude.{◌≡◌, ℕ, ◌<◌, ◌&&◌, not, Bool, true, false, List, [], ◌++◌, Some}
+use Rattle.std.specs.Prelude.{◌≡◌, ℕ, ◌<◌, ◌&&◌, not, Bool, true, false, List, [], ◌++◌, Some, None}
 use Rattle.poll_list.specs.Listing.{same_who}
 use Rattle.poll_list.specs.declared.Want.{Want}
 use Rattle.poll_list.specs.declared.Who.TheVariants.{Link}
@@ -13,7 +13,9 @@ use Rattle.run_laws.specs.Shape.{By, Started, Working, Over, phase, is_ended}
 use Rattle.run_laws.specs.Sockets.{Association as OfAssociation, is_among, kind_of, next_number, open_sockets}
 use Rattle.slirp_laws.specs.Agenda.{agenda, all_wanted}
 use Rattle.slirp_laws.specs.Answers.{left, identification}
-use Rattle.slirp_laws.specs.Datagrams.{Step, Settled, relay}
+use Rattle.slirp_laws.specs.Asking.{errand_left}
+use Rattle.slirp_laws.specs.Datagrams.{Step, Settled}
+use Rattle.slirp_laws.specs.Relayed.{associations, step_for}
 use Rattle.slirp_laws.specs.Laws.{Finished, Lawful, is_closing}
 use Rattle.stream_netdev.specs.Keeps.{Keeps, ReadsOn}
 use Rattle.stream_netdev.specs.State.{LinkState, under_way}
@@ -80,14 +82,23 @@ pub record OfClock (at : Standing) (slirp : SlirpState) (past : List Entry) : Ty
   pub moment : moment past ≡ slirp.moment
   pub counted : waits past ≡ at.count
 
+-- what only a frame of the guests changes, the settings aside, which nothing does: whose addresses are known
+pub record OfGuests (config : Config) (slirp : SlirpState) (past : List Entry) : Type 0 where
+  pub settings : slirp.config ≡ config
+  pub known : known config past ≡ slirp.known
+
+-- the associations in the order of use, and what the datagram that came last still asks for
+pub record OfRelay (config : Config) (step : Step) (slirp : SlirpState) (past : List Entry) : Type 0 where
+  pub list : associations config past ≡ slirp.associations
+  pub asks : step_for slirp.associations (errand_left config past) ≡ step
+
 -- Between entries that end a run: what the core has is what the calls made so far left, and the datagram that came last still asks for this.
 pub record HoldsAt (config : Config) (at : Standing) (step : Step) (slirp : SlirpState) (link : LinkState) (past : List Entry) : Type 0 where
-  pub settings : slirp.config ≡ config
   pub lawful : Lawful config past
   pub keeps : Keeps link past
   pub answers : OfAnswers config slirp past
-  pub guests : known config past ≡ slirp.known
-  pub relayed : relay config past ≡ record { associations = slirp.associations; step = step }
+  pub guests : OfGuests config slirp past
+  pub relayed : OfRelay config step slirp past
   pub sockets : OfSockets slirp past
   pub clock : OfClock at slirp past
   pub stands : Stands config step slirp link past
@@ -109,7 +120,7 @@ still to_read item = to_read && not (same_who Link item.of && item.read)
 pub record Ended (config : Config) (why : Ending) (associations : List AnAssociation) (past : List Entry) : Type 0 where
   pub lawful : Lawful config past
   pub over : phase config past ≡ Over (By why)
-  pub asks : (relay config past).step ≡ Settled
+  pub asks : errand_left config past ≡ None
   pub rising : IsRising (next_number past) (open_sockets past)
   pub those : AreThoseOf associations (open_sockets past)
 
@@ -164,7 +175,7 @@ pub record Closing (config : Config) (end : End) (associations : List AnAssociat
   pub ended : is_ended config past ≡ true
   pub is : end ≡ end_of config (phase config past)
   pub rests : Rests config associations past
-  pub asks : (relay config past).step ≡ Settled
+  pub asks : errand_left config past ≡ None
   pub rising : IsRising (next_number past) (open_sockets past)
   pub those : AreThoseOf associations (open_sockets past)
 

@@ -12,7 +12,7 @@ pub record ServiceState : Type 0 where
   pub wants : List Want
   pub ready : List Want
 
--- No part is asked for that isn't built: no port of the host or of the network is forwarded, names aren't served, nor files, datagrams go out from no address of their own, there is no control, and frames to guests are of the usual size.
+-- No part is asked for that isn't built: no port of the host or of the network is forwarded, names aren't served, nor files, datagrams go out from no address of their own, and there is no control.
 pub record IsBuilt (config : Config) : Type 0 where
   pub forwards : config.forwards ≡ []
   pub guest_forwards : config.guest_forwards ≡ []
@@ -20,8 +20,6 @@ pub record IsBuilt (config : Config) : Type 0 where
   pub files : config.tftp_path ≡ None
   pub outbound : config.outbound ≡ None
   pub control : config.control ≡ None
-  pub congestion : config.congestion ≡ false
-  pub mtu : config.mtu ≡ 1500
 
 -- nothing was read or written, no datagram was sent, no guest is known, no socket is open, no moment was told and nothing is owed; no port of the host is given to a guest yet
 pub record IsNew (service : ServiceState) : Type 0 where

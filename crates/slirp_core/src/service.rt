@@ -1,4 +1,9 @@
 // The loop of turns.
+//
+// A run begins with the moment (`start`), then goes by turns until one ends it (`serve`). A turn closes what has been idle too long, sends what is owed,
+// and waits for what it wants; then it asks for the moment and serves what was reported, in the order of the list: a frame is read and taken in, or a
+// peer's datagram is received, and after each what is owed for it is sent. Nothing is read while something is left to be sent. At the end every
+// socket is closed, by rising number.
 ghost use Rattle.std.specs.Prelude.{◌≡◌, ◌&&◌, true, false, if◌then◌else◌};
 ghost use Rattle.slirp_laws.specs.Agenda.{is_to_read};
 ghost use Rattle.slirp_core.specs.Holds.{Standing, still, is_read_now};

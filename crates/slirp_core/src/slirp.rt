@@ -3,7 +3,7 @@ ghost use Rattle.std.specs.Prelude.{[], ◌≡◌, ℕ, ◌+◌, ◌^◌, ◌<�
 ghost use Rattle.poll_list.specs.Listing.{AreWants};
 ghost use Rattle.arp_table.specs.Arp.{arp_of};
 ghost use Rattle.ipv4_head.specs.Ip.{ip_of, is_unbroken};
-ghost use Rattle.slirp_laws.specs.Answers.{our_mac, owed_for_arp};
+ghost use Rattle.slirp_laws.specs.Answers.{fits_frame, our_mac, owed_for_arp};
 ghost use Rattle.slirp_core.specs.Packets.{is_message_to_us};
 ghost use Rattle.slirp_core.specs.Pumps.{pumped_of, link_want, udp_want};
 ghost use Rattle.slirp_core.specs.Packets.{packets_of, reply_to};
@@ -22,11 +22,11 @@ use stream_netdev::{Link, Offered};
 use udp_assoc::{Association, Associations, IDLE_LIFE, UdpView};
 use world_face::{Got, Made, Sent, World};
 
-/// The most octets of a message whose answer fits a frame.
-const MOST_BODY: usize = 1480;
+/// The octets of the header of a datagram that goes out (RFC 791, 3.1).
+const IP_HEADER: u16 = 20;
 
-/// The most octets of a payload whose datagram fits a frame.
-const MOST_PAYLOAD: usize = 1472;
+/// The octets of the header of UDP (RFC 768).
+const UDP_HEADER: usize = 8;
 
 /// Why a destination can't be reached: the network can't (RFC 792), and communication is prohibited (RFC 1122, 3.2.2.1).
 const NO_NETWORK: u8 = 0;
@@ -91,9 +91,10 @@ impl Slirp {
     ghost use Rattle.udp_assoc.specs.declared.assocs.Association.{Association as AnAssociation};
     ghost use Rattle.run_laws.specs.Sockets.{is_among};
     ghost use Rattle.slirp_core.specs.Packets.{with_address, with_arp, with_ip, with_ether};
-    ghost use Rattle.slirp_laws.specs.Answers.{frames_of, owed_for_icmp, owed_for_datagram, told_about, reply};
+    ghost use Rattle.slirp_laws.specs.Answers.{frames_of, owed_for_icmp, owed_for_datagram, told_about, reply_at};
     ghost use Rattle.slirp_core.specs.Packets.{owed_for, owed_for_ip, owed_for_frame};
-    ghost use Rattle.slirp_laws.specs.Datagrams.{NeedsRoom, NeedsSocket, NeedsSending, step_for, errand_of as errand_by_law, without_socket};
+    ghost use Rattle.slirp_laws.specs.Datagrams.{NeedsRoom, NeedsSocket, NeedsSending, errand_of as errand_by_law};
+    ghost use Rattle.slirp_laws.specs.Relayed.{step_for, without_socket};
     ghost use Rattle.slirp_core.specs.Packets.{errand_of_ip, errand_in};
     ghost use Rattle.world_face.specs.Tells.{Brings, Makes};
     ghost use Rattle.slirp_core.specs.Hearing.{ClosesLeast, ClosesRising, Receives};
@@ -266,12 +267,12 @@ impl Slirp {
     // What a peer said on a socket is owed to its guest.
     fn answer_peer(&mut self, peer: Endpoint, octets: &[u8], association: &Association)
         requires { self.old.pending ≡ [] }
-        ensures { self.new ≡ record self.old { pending = frames_of self.old.config self.old.sent (reply self.old.config peer octets.now association.now) } }
+        ensures { self.new ≡ record self.old { pending = frames_of self.old.config self.old.sent (reply_at self.old.config peer octets.now association.now.guest association.now.mac.0) } }
     {
         let Some(from) = self.policy.shown(peer) else {
             return;
         };
-        if octets.len() > MOST_PAYLOAD {
+        if !fits_frame(&self.policy, UDP_HEADER + octets.len()) {
             return;
         }
         let guest = association.guest;
@@ -333,7 +334,7 @@ impl Slirp {
         add_link(read, link.blocked(), wants);
         let rising = self.associations.rising();
         if read {
-            add_sockets(rising.as_slice(), wants);
+            add_sockets(rising, wants);
         }
     }
 
@@ -622,7 +623,15 @@ fn is_message_to_us(policy: &Policy, datagram: &IpView<'_>) -> bool
         && datagram.proto == ICMP
         && !datagram.more
         && datagram.offset == 0
-        && datagram.body.len() <= MOST_BODY
+        && fits_frame(policy, datagram.body.len())
+}
+
+// Whether a datagram with so many octets behind its header fits a frame to a guest.
+fn fits_frame(policy: &Policy, octets: usize) -> bool
+    ensures fits { result ≡ fits_frame policy.now octets }
+    ensures size { result ≡ true → octets ≤ 1480 }
+{
+    octets <= (policy.mtu() - IP_HEADER) as usize
 }
 
 // Puts the link at the end, in the directions in which it is wanted.

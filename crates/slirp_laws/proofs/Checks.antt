@@ -10,6 +10,7 @@ use Rattle.host_policy.specs.Targets.{same_endpoint}
 use Rattle.slirp_laws.specs.Agenda.{agenda}
 use Rattle.slirp_laws.specs.Check.{may_offer, may_frame, is_now, is_close, is_listen, is_udp_open, is_udp_send, is_call, may_due, may, is_lawful}
 use Rattle.slirp_laws.specs.Laws.{due, deed_of, has_place, has_socket, is_served, is_answered, goes_on, May, Lawful}
+use Rattle.slirp_laws.proofs.Deeds.{gathered}
 
 both : (a b : Bool) → (a && b) ≡ true → (a ≡ true) × (b ≡ true)
 both true true is = (refl, refl)
@@ -109,15 +110,7 @@ pub passes : (config : Config) (past : List Entry) (call : Call) → may config 
 passes config past call is =
     let p = seven (may_frame past call) (may_due (due config past) call) (has_place config past (deed_of call)) (has_socket config past (deed_of call))
     (is_served (agenda past) (deed_of call)) (is_answered config past (deed_of call)) (goes_on config past (deed_of call)) is in
-    record {
-      framed = frames past call p.0;
-      due = dues (due config past) call p.1;
-      place = p.2;
-      socket = p.3;
-      served = p.4;
-      answered = p.5;
-      goes_on = p.6;
-    }
+    gathered config past call (frames past call p.0) (dues (due config past) call p.1) p.2 p.3 p.4 p.5 p.6
 
 -- a record that passes is lawful
 pub is_sound : (config : Config) (past : List Entry) → is_lawful config past ≡ true → Lawful config past

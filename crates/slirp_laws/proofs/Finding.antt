@@ -1,25 +1,32 @@
 -- What is found in the list of associations is what the record says.
-use Rattle.std.proofs.Common.{◌≡◌, ℕ, ◌+◌, ◌<◌, ◌≤◌, ◌==◌, ◌&&◌, ◌||◌, nat_lt, Bool, true, false, List, [], ◌∷◌, find, Option, Some, None, option_map, if◌then◌else◌, refl, sym, ◌∙◌, ap, subst, arith}
+use Rattle.std.proofs.Common.{◌≡◌, ℕ, ◌+◌, ◌<◌, ◌≤◌, ◌==◌, ◌&&◌, ◌||◌, nat_le, Bool, true, false, List, [], ◌∷◌, find, length, Option, Some, None, option_map, if◌then◌else◌, refl, sym, ◌∙◌, ap, subst, arith}
 use Rattle.std.proofs.lemmas.Bool.Decides.{nat_tests}
 use Rattle.world_face.specs.Journal.{Entry}
 use Rattle.net_octets.specs.declared.Endpoint.{Endpoint}
-use Rattle.host_policy.specs.Addresses.{Config, address}
+use Rattle.host_policy.specs.Addresses.{Config}
 use Rattle.host_policy.specs.Targets.{same_endpoint}
-use Rattle.udp_assoc.specs.Associations.{idle_life, is_idle, is_of, is_over, numbered, numbers, socket_of}
+use Rattle.udp_assoc.specs.Associations.{idle_life, is_idle, is_of, is_over, most_associations, numbered, numbers, socket_of}
 use Rattle.udp_assoc.specs.declared.assocs.Association.{Association}
 use Rattle.run_laws.specs.Sockets.{first, is_among, is_association, kind_of, open_sockets}
-use Rattle.slirp_laws.specs.Datagrams.{relay}
-use Rattle.slirp_laws.specs.Laws.{Lawful}
-use Rattle.slirp_laws.specs.Ports.{associations_open, earlier, is_port, last_use, longest_unused, longest_unused_of, opened_for, socket_for, used_at}
+use Rattle.slirp_laws.specs.Asking.{is_full, step_of, step_on, yields}
+use Rattle.slirp_laws.specs.Datagrams.{Errand, Step, NeedsRoom, NeedsSocket}
+use Rattle.slirp_laws.specs.Laws.{carries}
+use Rattle.slirp_laws.specs.Ports.{associations_open, is_port, last_use, longest_unused, opened_for, socket_for, used_at}
+use Rattle.slirp_laws.specs.Relayed.{step_for, with_socket, without_socket}
 use Rattle.slirp_laws.specs.Said.{AllUsedAfter, AreByLastUse, SaysOf}
-use Rattle.slirp_laws.proofs.Bools.{and_both, equal, or_second, same, turned}
-use Rattle.slirp_laws.proofs.Joining.{equal_endpoints, found_port, joined}
-use Rattle.slirp_laws.proofs.Parting.{all_after, among_if, idle_is}
+use Rattle.slirp_laws.proofs.Bools.{equal, or_second, same, turned}
+use Rattle.slirp_laws.proofs.Longest.{IsLeastOf, Once, among_if, equal_endpoints, find_none, find_some, least_of, no_longer, once_if, same_port}
 use Rattle.slirp_laws.proofs.Uses.{AreKept, BeforeAll, InOrder}
 
+-- the open sockets are those of the list, which is in the order of use and has of each what the record says
+pub record Joined (config : Config) (past : List Entry) (list : List Association) : Type 0 where
+  pub those : (n : ℕ) → carries past n ≡ is_among n (numbers list)
+  pub kept : AreKept config past list
+  pub order : InOrder past list
+
 -- the open ones are those of the list
-pub same_sockets : (config : Config) (past : List Entry) → Lawful config past → (n : ℕ) → is_among n (associations_open past) ≡ is_among n (numbers (relay config past).associations)
-same_sockets config past lawful n = among_if (λ s. is_association (kind_of s past)) n (open_sockets past) ∙ (joined config past lawful).those n
+pub same_sockets : (config : Config) (past : List Entry) (list : List Association) → Joined config past list → (n : ℕ) → is_among n (associations_open past) ≡ is_among n (numbers list)
+same_sockets config past list j n = among_if (λ s. is_association (kind_of s past)) n (open_sockets past) ∙ j.those n
 
 -- ---- of one of them
 
@@ -36,25 +43,13 @@ says_of config past n (x ∷ list) a kept is = by (x.number == n) refl is (λ mo
 
 -- ---- of a port
 
-same_port : (a : Endpoint) → same_endpoint a a ≡ true
-same_port a = and_both (address a == address a) (a.port == a.port) (same (address a)) (same a.port)
-
-find_some : (p : ℕ → Bool) (ns : List ℕ) (m : ℕ) → find p ns ≡ Some m → (p m ≡ true) × (is_among m ns ≡ true)
-find_some p [] m is = cc
-find_some p (x ∷ ns) m is = by (p x) refl is (λ more. find_some p ns m more)
+pub found_port : (config : Config) (past : List Entry) (guest : Endpoint) (list : List Association) (socket : ℕ) → AreKept config past list → socket_of guest list ≡ Some socket → opened_for config socket past ≡ Some guest
+found_port config past guest [] socket kept is = cc
+found_port config past guest (a ∷ list) socket kept is = by (is_of guest a) refl is (λ rest. found_port config past guest list socket kept.1 rest)
   where
-    by : (t : Bool) → p x ≡ t → (if t then Some x else find p ns) ≡ Some m → (find p ns ≡ Some m → (p m ≡ true) × (is_among m ns ≡ true)) → (p m ≡ true) × (((m == x) || is_among m ns) ≡ true)
-    by true passes is more = let this : x ≡ m = cc in (ap p (sym this) ∙ passes, ap (λ k. (m == k) || is_among m ns) this ∙ ap (λ b. b || is_among m ns) (same m))
-    by false passes is more = let rest = more is in (rest.0, or_second (m == x) (is_among m ns) rest.1)
-
-find_none : (p : ℕ → Bool) (ns : List ℕ) (m : ℕ) → find p ns ≡ None → is_among m ns ≡ true → p m ≡ false
-find_none p [] m is among = cc
-find_none p (x ∷ ns) m is among = by (p x) (m == x) refl refl is among (λ none more. find_none p ns m none more)
-  where
-    by : (t u : Bool) → p x ≡ t → (m == x) ≡ u → (if t then Some x else find p ns) ≡ None → (u || is_among m ns) ≡ true → (find p ns ≡ None → is_among m ns ≡ true → p m ≡ false) → p m ≡ false
-    by true u passes this is among more = cc
-    by false true passes this is among more = ap p (equal m x this) ∙ passes
-    by false false passes this is among more = more is among
+    by : (t : Bool) → is_of guest a ≡ t → option_map (λ (b : Association). b.number) (if t then Some a else find (is_of guest) list) ≡ Some socket → (socket_of guest list ≡ Some socket → opened_for config socket past ≡ Some guest) → opened_for config socket past ≡ Some guest
+    by true this is rest = let here : a.number ≡ socket = cc in subst (λ n. opened_for config n past ≡ Some guest) here (kept.0.guest ∙ ap Some (equal_endpoints a.guest guest this))
+    by false this is rest = rest is
 
 -- the one for a port is the only one
 apart : (past : List Entry) (config : Config) (a : Association) (list : List Association) (m : ℕ) (guest : Endpoint) → BeforeAll past a list → AreKept config past list → is_of guest a ≡ true → is_among m (numbers list) ≡ true
@@ -94,60 +89,40 @@ socket_among guest (x ∷ list) n is = by_test (is_of guest x) (λ more. socket_
     by_test true more is = let this : x.number ≡ n = cc in ap (λ b. b || is_among n (numbers list)) (subst (λ m. (n == m) ≡ true) (sym this) (same n))
     by_test false more is = or_second (n == x.number) (is_among n (numbers list)) (more is)
 
-pub same_port_socket : (config : Config) (past : List Entry) (guest : Endpoint) → Lawful config past → socket_of guest (relay config past).associations ≡ socket_for config guest past
-same_port_socket config past guest lawful = by (socket_for config guest past) refl
+pub same_port_socket : (config : Config) (past : List Entry) (guest : Endpoint) (list : List Association) → Joined config past list → socket_of guest list ≡ socket_for config guest past
+same_port_socket config past guest list j = by (socket_for config guest past) refl
   where
-    by : (o : Option ℕ) → socket_for config guest past ≡ o → socket_of guest (relay config past).associations ≡ o
+    by : (o : Option ℕ) → socket_for config guest past ≡ o → socket_of guest list ≡ o
     by (Some m) is =
-        let j = joined config past lawful in
         let found = find_some (λ s. is_port guest (opened_for config s past)) (associations_open past) m is in
-        only_one config past guest (relay config past).associations m j.kept j.order (sym (same_sockets config past lawful m) ∙ found.1) found.0
-    by None is = none (socket_of guest (relay config past).associations) refl
+        only_one config past guest list m j.kept j.order (sym (same_sockets config past list j m) ∙ found.1) found.0
+    by None is = none (socket_of guest list) refl
       where
-        none : (o : Option ℕ) → socket_of guest (relay config past).associations ≡ o → o ≡ None
+        none : (o : Option ℕ) → socket_of guest list ≡ o → o ≡ None
         none None that = refl
         none (Some n) that =
-            let port = found_port config past guest (relay config past).associations n (joined config past lawful).kept that in
-            let among : is_among n (associations_open past) ≡ true = same_sockets config past lawful n ∙ socket_among guest (relay config past).associations n that in
+            let port = found_port config past guest list n j.kept that in
+            let among : is_among n (associations_open past) ≡ true = same_sockets config past list j n ∙ socket_among guest list n that in
             let fails = find_none (λ s. is_port guest (opened_for config s past)) (associations_open past) n is among in
             let passes : is_port guest (opened_for config n past) ≡ true = ap (is_port guest) port ∙ same_port guest in
             cc
 
 -- ---- of the longest unused
 
-pub record LeastOf (past : List Entry) (ns : List ℕ) (m : ℕ) : Type 0 where
-  pub among : is_among m ns ≡ true
-  pub least : (n : ℕ) → is_among n ns ≡ true → last_use m past ≤ last_use n past
-
-abbrev pub IsLeastOf : List Entry → List ℕ → Option ℕ → Type 0
-IsLeastOf past ns None = ns ≡ []
-IsLeastOf past ns (Some m) = LeastOf past ns m
-
-least_more : (past : List Entry) (x : ℕ) (ns : List ℕ) (o : Option ℕ) → IsLeastOf past ns o → IsLeastOf past (x ∷ ns) (earlier past x o)
-least_more past x ns None none = record { among = ap (λ b. b || is_among x ns) (same x); least = λ n among. alone n (n == x) refl (subst (λ l. ((n == x) || is_among n l) ≡ true) none among) }
+pub all_after : (past : List Entry) (a : Association) (list : List Association) (n : ℕ) → BeforeAll past a list → is_among n (numbers list) ≡ true → last_use a.number past < last_use n past
+all_after past a [] n is among = cc
+all_after past a (b ∷ list) n is among = by (n == b.number) refl (λ more. all_after past a list n is.1 more) among
   where
-    alone : (n : ℕ) (t : Bool) → (n == x) ≡ t → (t || false) ≡ true → last_use x past ≤ last_use n past
-    alone n true this is = let here = ap (λ k. last_use k past) (equal n x this) in omega (arith, here)
-    alone n false this is = cc
-least_more past x ns (Some m) least = by (nat_lt (last_use m past) (last_use x past)) refl
+    by : (t : Bool) → (n == b.number) ≡ t → (is_among n (numbers list) ≡ true → last_use a.number past < last_use n past) → (t || is_among n (numbers list)) ≡ true → last_use a.number past < last_use n past
+    by true this more among = subst (λ m. last_use a.number past < last_use m past) (sym (equal n b.number this)) is.0.sooner
+    by false this more among = more among
+
+pub first_is_least : (past : List Entry) (a : Association) (list : List Association) (n : ℕ) → BeforeAll past a list → is_among n (numbers (a ∷ list)) ≡ true → last_use a.number past ≤ last_use n past
+first_is_least past a list n is among = by (n == a.number) refl among
   where
-    of_rest : (n : ℕ) (t : Bool) (bound : ℕ) → (n == x) ≡ t → bound ≤ last_use x past → bound ≤ last_use m past → (t || is_among n ns) ≡ true → bound ≤ last_use n past
-    of_rest n true bound this first rest among = let here = ap (λ k. last_use k past) (equal n x this) in omega (arith, here, first)
-    of_rest n false bound this first rest among = let more = least.least n among in omega (arith, more, rest)
-
-    by : (t : Bool) → nat_lt (last_use m past) (last_use x past) ≡ t → IsLeastOf past (x ∷ ns) (if t then Some m else Some x)
-    by true less = record {
-      among = or_second (m == x) (is_among m ns) least.among;
-      least = λ n among. of_rest n (n == x) (last_use m past) refl (let is : last_use m past < last_use x past = grind (arith, nat_tests, less) in omega (arith, is)) (omega arith) among;
-    }
-    by false less = record {
-      among = ap (λ b. b || is_among x ns) (same x);
-      least = λ n among. of_rest n (n == x) (last_use x past) refl (omega arith) (grind (arith, nat_tests, less)) among;
-    }
-
-least_of : (past : List Entry) (ns : List ℕ) → IsLeastOf past ns (longest_unused_of past ns)
-least_of past [] = refl
-least_of past (x ∷ ns) = least_more past x ns (longest_unused_of past ns) (least_of past ns)
+    by : (t : Bool) → (n == a.number) ≡ t → (t || is_among n (numbers list)) ≡ true → last_use a.number past ≤ last_use n past
+    by true this among = let here = ap (λ m. last_use m past) (equal n a.number this) in omega (arith, here)
+    by false this among = let after = all_after past a list n is among in omega (arith, after)
 
 oldest_is : (past : List Entry) (list : List Association) (ns : List ℕ) (o : Option ℕ) → InOrder past list → ((n : ℕ) → is_among n ns ≡ is_among n (numbers list)) → IsLeastOf past ns o → option_map (λ (a : Association). a.number) (first list) ≡ o
 oldest_is past [] ns None order those least = refl
@@ -163,10 +138,23 @@ oldest_is past (a ∷ list) ns (Some m) order those least = by (m == a.number) r
     by true this among = ap Some (sym (equal m a.number this))
     by false this among = absurd (let later = all_after past a list m order.0 among in let before = sooner in omega (arith, later, before))
 
-pub same_oldest : (config : Config) (past : List Entry) → Lawful config past → option_map (λ (a : Association). a.number) (first (relay config past).associations) ≡ longest_unused past
-same_oldest config past lawful = oldest_is past (relay config past).associations (associations_open past) (longest_unused past) (joined config past lawful).order (same_sockets config past lawful) (least_of past (associations_open past))
+pub same_oldest : (config : Config) (past : List Entry) (list : List Association) → Joined config past list → option_map (λ (a : Association). a.number) (first list) ≡ longest_unused past
+same_oldest config past list j = oldest_is past list (associations_open past) (longest_unused past) j.order (same_sockets config past list j) (least_of past (associations_open past))
 
 -- ---- of the idle life
+
+pub idle_is : (config : Config) (past : List Entry) (n now : ℕ) (list : List Association) → AreKept config past list → is_idle n now list ≡ true → used_at n past + idle_life ≤ now
+idle_is config past n now [] kept is = cc
+idle_is config past n now (a ∷ list) kept is = by (a.number == n) (is_over now a) refl refl (λ more. idle_is config past n now list kept.1 more) is
+  where
+    by : (t u : Bool) → (a.number == n) ≡ t → is_over now a ≡ u → (is_idle n now list ≡ true → used_at n past + idle_life ≤ now)
+        → ((t && u) || is_idle n now list) ≡ true → used_at n past + idle_life ≤ now
+    by true true this over more is =
+        let here : used_at n past ≡ a.used = ap (λ m. used_at m past) (sym (equal a.number n this)) ∙ kept.0.used in
+        let long : a.used + idle_life ≤ now = grind (arith, nat_tests, over) in
+        omega (arith, here, long)
+    by true false this over more is = more is
+    by false u this over more is = more is
 
 is_idle_of : (config : Config) (past : List Entry) (n now : ℕ) (list : List Association) → AreKept config past list → is_among n (numbers list) ≡ true → used_at n past + idle_life ≤ now → is_idle n now list ≡ true
 is_idle_of config past n now [] kept among long = cc
@@ -179,13 +167,12 @@ is_idle_of config past n now (a ∷ list) kept among long = by (a.number == n) r
         ap (λ b. b || is_idle n now list) over
     by false this more = more (sym (ap (λ b. b || is_among n (numbers list)) (turned a.number n false this)) ∙ among)
 
-pub idle_exactly : (config : Config) (past : List Entry) (n now : ℕ) → Lawful config past → is_among n (associations_open past) ≡ true
-    → (is_idle n now (relay config past).associations ≡ true → used_at n past + idle_life ≤ now) × (used_at n past + idle_life ≤ now → is_idle n now (relay config past).associations ≡ true)
-idle_exactly config past n now lawful among =
-    let j = joined config past lawful in (
-      λ is. idle_is config past n now (relay config past).associations j.kept is,
-      λ long. is_idle_of config past n now (relay config past).associations j.kept (sym (same_sockets config past lawful n) ∙ among) long,
-    )
+pub idle_exactly : (config : Config) (past : List Entry) (n now : ℕ) (list : List Association) → Joined config past list → is_among n (associations_open past) ≡ true
+    → (is_idle n now list ≡ true → used_at n past + idle_life ≤ now) × (used_at n past + idle_life ≤ now → is_idle n now list ≡ true)
+idle_exactly config past n now list j among = (
+  λ is. idle_is config past n now list j.kept is,
+  λ long. is_idle_of config past n now list j.kept (sym (same_sockets config past list j n) ∙ among) long,
+)
 
 -- ---- in the order of use
 
@@ -196,3 +183,43 @@ rising_after past a (b ∷ list) is = (is.0.sooner, rising_after past a list is.
 pub rising : (past : List Entry) (list : List Association) → InOrder past list → AreByLastUse past (numbers list)
 rising past [] is = tt
 rising past (a ∷ list) is = (rising_after past a list is.0, rising past list is.1)
+
+-- ---- how many they are
+
+once_numbers : (past : List Entry) (list : List Association) → InOrder past list → Once (numbers list)
+once_numbers past [] order = tt
+once_numbers past (a ∷ list) order = (by (is_among a.number (numbers list)) refl, once_numbers past list order.1)
+  where
+    by : (t : Bool) → is_among a.number (numbers list) ≡ t → t ≡ false
+    by true among = absurd (let after = all_after past a list a.number order.0 among in omega (arith, after))
+    by false among = refl
+
+count : (list : List Association) → length (numbers list) ≡ length list
+count [] = refl
+count (a ∷ list) = let rest = count list in omega (arith, rest)
+
+same_count : (config : Config) (past : List Entry) (list : List Association) → Once (open_sockets past) → Joined config past list → length (associations_open past) ≡ length list
+same_count config past list once j =
+    let fewer_listed = no_longer (numbers list) (associations_open past) (once_numbers past list j.order) (λ n among. same_sockets config past list j n ∙ among) in
+    let fewer_open = no_longer (associations_open past) (numbers list) (once_if (λ s. is_association (kind_of s past)) (open_sockets past) once) (λ n among. sym (same_sockets config past list j n) ∙ among) in
+    omega (arith, fewer_listed, fewer_open, count list)
+
+-- ---- what is asked for
+
+module _ (config : Config) (past : List Entry) (list : List Association) (once : Once (open_sockets past)) (j : Joined config past list) where
+  yields_same : (oldest : Option ℕ) (list : List Association) (errand : Errand) → option_map (λ (a : Association). a.number) (first list) ≡ oldest
+      → (if nat_le most_associations (length list) then yields oldest errand else NeedsSocket errand) ≡ without_socket list errand
+  yields_same oldest [] errand is = refl
+  yields_same None (a ∷ list) errand is = cc
+  yields_same (Some oldest) (a ∷ list) errand is = (let this : a.number ≡ oldest = cc in ap (λ n. if nat_le most_associations (length (a ∷ list)) then NeedsRoom n errand else NeedsSocket errand) (sym this))
+
+  on_same : (o : Option ℕ) (errand : Errand) → step_on o past errand ≡ with_socket o list errand
+  on_same (Some socket) errand = refl
+  on_same None errand =
+      ap (λ n. if nat_le most_associations n then yields (longest_unused past) errand else NeedsSocket errand) (same_count config past list once j)
+      ∙ yields_same (longest_unused past) list errand (same_oldest config past list j)
+
+  pub same_step : (o : Option Errand) → step_of config past o ≡ step_for list o
+  same_step None = refl
+  same_step (Some errand) =
+      on_same (socket_for config errand.datagram.from past) errand ∙ ap (λ o. with_socket o list errand) (sym (same_port_socket config past errand.datagram.from list j))

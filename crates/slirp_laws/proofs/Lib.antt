@@ -1,8 +1,10 @@
 pub mod Bools
 pub mod Checks
 pub mod Counting
+pub mod Deeds
 pub mod Finding
 pub mod Joining
+pub mod Longest
 pub mod OpenSockets
 pub mod Owing
 pub mod Parting

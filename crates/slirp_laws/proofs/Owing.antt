@@ -15,24 +15,23 @@ use Rattle.net_octets.specs.declared.Endpoint.{Endpoint}
 use Rattle.host_policy.specs.Addresses.{Config}
 use Rattle.ipv4_head.specs.Ip.{Ip}
 use Rattle.icmp_echo.specs.Icmp.{Icmp, echo, unreachable, other}
-use Rattle.udp_assoc.specs.Associations.{numbered, numbers}
-use Rattle.udp_assoc.specs.declared.assocs.Association.{Association}
 use Rattle.run_laws.specs.Happenings.{Arrival, happens, datagram_came}
 use Rattle.run_laws.specs.Moments.{moment, waits}
 use Rattle.run_laws.specs.Packets.{Datagram, Packet, Unheard, ArpPacket, Message, DatagramPacket, Segment}
 use Rattle.run_laws.specs.Shape.{phase}
 use Rattle.run_laws.specs.Sockets.{is_among, next_number}
-use Rattle.slirp_laws.specs.Answers.{Answer, datagrams_out, with_datagrams, frame_of, frames_of, identification, is_first, is_out, is_untold, left, left_after, no_network, owed_for_fate, owed_for_icmp, owed_for_packet, owed_for_peer, reply, taken, told_about, unsent}
-use Rattle.slirp_laws.specs.Datagrams.{Errand, Fate, Ignored, Refused, GoesTo, fate, Step, Settled, NeedsRoom, NeedsSocket, NeedsSending, Relay, relay, relay_after, after_call}
-use Rattle.slirp_laws.specs.Laws.{May, Lawful, carries, may_begin}
+use Rattle.slirp_laws.specs.Answers.{Answer, datagrams_out, with_datagrams, frame_of, frames_of, identification, is_first, is_out, is_untold, left, left_after, no_network, owed_for_fate, owed_for_icmp, owed_for_packet, reply_for, taken, told_about, unsent}
+use Rattle.slirp_laws.specs.Datagrams.{Errand, Fate, Ignored, Refused, GoesTo, fate, Step, Settled, NeedsRoom, NeedsSocket, NeedsSending}
+use Rattle.slirp_laws.specs.Asking.{errand_after, errand_by_call, errand_left, step, step_of}
+use Rattle.slirp_laws.specs.Laws.{May, Lawful, may_begin}
 use Rattle.slirp_laws.specs.Ports.{last_datagram, last_mac, last_port, mac_of, opened_for, or_before}
-use Rattle.slirp_laws.specs.Said.{AnswersLast, Occasion, NoOccasion, Came, Heard, Unsent, last_occasion, occasion_after, owed_for, reply_for, unsent_or}
-use Rattle.slirp_laws.proofs.Bools.{equal, equal_octets, first_of, turned}
-use Rattle.slirp_laws.proofs.Joining.{joined, settled_early}
+use Rattle.slirp_laws.specs.Said.{AnswersLast, Occasion, NoOccasion, Came, Heard, Unsent, last_occasion, occasion_after, owed_for, unsent_or}
+use Rattle.slirp_laws.proofs.Bools.{equal_octets}
+use Rattle.slirp_laws.proofs.Joining.{none_early}
 use Rattle.slirp_laws.proofs.OpenSockets.{open_below, hears_on_open}
 use Rattle.slirp_laws.proofs.Phases.{asks_after_waits, comes_working, has_waited, hears_settled, more_waits, opens as opened_where, sends, working_waited}
-use Rattle.slirp_laws.proofs.Steps.{Asks, OfStep, by_call, step_asks}
-use Rattle.slirp_laws.proofs.Uses.{AreKept, drawn_on}
+use Rattle.slirp_laws.proofs.Steps.{Asks, errand_asks, errand_is, none_by_call}
+use Rattle.slirp_laws.proofs.Uses.{drawn_on}
 
 -- ---- one answer at most
 
@@ -94,24 +93,15 @@ came_after_waits config (e ∷ past) lawful =
 
 -- ---- what was received stays what it was
 
-abbrev HeardWell : ℕ → Step → Occasion → Type 0
-HeardWell number step (Heard socket peer octets) = (socket < number) × (step ≡ Settled)
-HeardWell number step _ = Unit {0}
+abbrev HeardWell : ℕ → Option Errand → Occasion → Type 0
+HeardWell number errand (Heard socket peer octets) = (socket < number) × (errand ≡ None)
+HeardWell number errand _ = Unit {0}
 
-settled_by : (step : Step) → OfStep (λ (errand : Errand). ⊥) step → step ≡ Settled
-settled_by Settled is = refl
-settled_by (NeedsRoom oldest errand) is = absurd is
-settled_by (NeedsSocket errand) is = absurd is
-settled_by (NeedsSending socket errand) is = absurd is
-
-still_settled : (e : Entry) (now : ℕ) (r : Relay) → r.step ≡ Settled → (after_call e now r).step ≡ Settled
-still_settled e now r is = settled_by (after_call e now r).step (by_call (λ (errand : Errand). ⊥) e now r (subst (OfStep (λ (errand : Errand). ⊥)) (sym is) tt))
-
-heard_on : (e : Entry) (past : List Entry) (now : ℕ) (r : Relay) (o : Occasion) → HeardWell (next_number past) r.step o → HeardWell (next_number (e ∷ past)) (after_call e now r).step o
-heard_on e past now r NoOccasion is = tt
-heard_on e past now r (Came packet) is = tt
-heard_on e past now r (Heard socket peer octets) is = (drawn_on e past socket is.0, still_settled e now r is.1)
-heard_on e past now r (Unsent d) is = tt
+heard_on : (e : Entry) (past : List Entry) (errand : Option Errand) (o : Occasion) → HeardWell (next_number past) errand o → HeardWell (next_number (e ∷ past)) (errand_by_call e errand) o
+heard_on e past errand NoOccasion is = tt
+heard_on e past errand (Came packet) is = tt
+heard_on e past errand (Heard socket peer octets) is = (drawn_on e past socket is.0, ap (errand_by_call e) is.1 ∙ none_by_call e)
+heard_on e past errand (Unsent d) is = tt
 
 not_new : (s socket number : ℕ) → (s == number) ≡ true → socket < number → (s == socket) ≡ false
 not_new s socket number new drawn = grind (arith, nat_tests, new, drawn)
@@ -120,15 +110,15 @@ port_stays : (config : Config) (e : Entry) (past : List Entry) (socket : ℕ) �
 port_stays config (UdpOpen s at answer) past socket may drawn = ap (λ (b : Bool). if b then last_port config past else opened_for config socket past) (not_new s socket (next_number past) may.socket drawn)
 port_stays config _ past socket may drawn = refl
 
-mac_stays : (config : Config) (e : Entry) (past : List Entry) (socket : ℕ) → May config past (call_of e) → socket < next_number past → (relay config past).step ≡ Settled → mac_of config socket (e ∷ past) ≡ mac_of config socket past
+mac_stays : (config : Config) (e : Entry) (past : List Entry) (socket : ℕ) → May config past (call_of e) → socket < next_number past → errand_left config past ≡ None → mac_of config socket (e ∷ past) ≡ mac_of config socket past
 mac_stays config (UdpOpen s at answer) past socket may drawn settled = ap (λ (b : Bool). if b then last_mac config past else mac_of config socket past) (not_new s socket (next_number past) may.socket drawn)
 mac_stays config (UdpSend s to octets answer) past socket may drawn settled =
     let asked = sends config past s to octets may in
-    let never : NeedsSending s asked.errand ≡ Settled = sym asked.asked ∙ settled in
+    let never : Some asked.errand ≡ None = sym (errand_is config past (NeedsSending s asked.errand) asked.asked) ∙ settled in
     cc
 mac_stays config _ past socket may drawn settled = refl
 
-owed_stays : (config : Config) (e : Entry) (past : List Entry) (o : Occasion) → May config past (call_of e) → HeardWell (next_number past) (relay config past).step o → owed_for config (e ∷ past) o ≡ owed_for config past o
+owed_stays : (config : Config) (e : Entry) (past : List Entry) (o : Occasion) → May config past (call_of e) → HeardWell (next_number past) (errand_left config past) o → owed_for config (e ∷ past) o ≡ owed_for config past o
 owed_stays config e past NoOccasion may well = refl
 owed_stays config e past (Came packet) may well = refl
 owed_stays config e past (Unsent d) may well = refl
@@ -141,27 +131,27 @@ owed_stays config e past (Heard socket peer octets) may well =
 abbrev pub IsOwed : Config → List Entry → List (List ℕ) → ℕ → Occasion → Type 0
 IsOwed config past frames ident o = (frames ≡ []) ⊎ (frames ≡ frames_of config ident (owed_for config past o))
 
-pub record Owing (config : Config) (past : List Entry) (frames : List (List ℕ)) (ident : ℕ) (o : Occasion) (wants : Step) : Type 0 where
+pub record Owing (config : Config) (past : List Entry) (frames : List (List ℕ)) (ident : ℕ) (o : Occasion) (errand : Option Errand) : Type 0 where
   pub owed : IsOwed config past frames ident o
-  pub heard : HeardWell (next_number past) wants o
+  pub heard : HeardWell (next_number past) errand o
 
 abbrev pub OwingAt : Config → List Entry → Type 0
-OwingAt config past = Owing config past (left config past) (identification past) (last_occasion config past) (relay config past).step
+OwingAt config past = Owing config past (left config past) (identification past) (last_occasion config past) (errand_left config past)
 
 -- an entry that leaves it
 unchanged : (config : Config) (e : Entry) (past : List Entry) → May config past (call_of e) → OwingAt config past
-    → Owing config (e ∷ past) (left config past) (identification past) (last_occasion config past) (after_call e (moment past) (relay config past)).step
+    → Owing config (e ∷ past) (left config past) (identification past) (last_occasion config past) (errand_by_call e (errand_left config past))
 unchanged config e past may is = record {
   owed = (elim is.owed [
     | inl none ↦ inl none
     | inr some ↦ inr (some ∙ ap (frames_of config (identification past)) (sym (owed_stays config e past (last_occasion config past) may is.heard)))
   ]);
-  heard = heard_on e past (moment past) (relay config past) (last_occasion config past) is.heard;
+  heard = heard_on e past (errand_left config past) (last_occasion config past) is.heard;
 }
 
 by_read : (config : Config) (asked : ℕ) (answer : Io) (octets : List ℕ) (past : List Entry) (o : Option Arrival) → May config past (call_of (LinkRead asked answer octets)) → OwingAt config past
     → Owing config (LinkRead asked answer octets ∷ past) (left_after config past (happens config past (LinkRead asked answer octets)) o (left config past)) (identification past)
-    (occasion_after (LinkRead asked answer octets) o (last_datagram config past) (last_occasion config past)) (relay_after config (LinkRead asked answer octets) o (moment past) (relay config past)).step
+    (occasion_after (LinkRead asked answer octets) o (last_datagram config past) (last_occasion config past)) (errand_after config (LinkRead asked answer octets) o (errand_left config past))
 by_read config asked answer octets past None may is = unchanged config (LinkRead asked answer octets) past may is
 by_read config asked answer octets past (Some arrival) may is = record { owed = inr refl; heard = tt }
 
@@ -202,33 +192,33 @@ told : (config : Config) (e : Entry) (past : List Entry) (ident : ℕ) (step : S
 told config e past ident step frames last o d is came =
     inr (is ∙ sym (ap (λ l. frames_of config ident (owed_for config (e ∷ past) (unsent_or l o))) came))
 
-unsent_well : (number : ℕ) (step : Step) (last : Option Datagram) (o : Occasion) → HeardWell number step o → HeardWell number step (unsent_or last o)
-unsent_well number step None o is = is
-unsent_well number step (Some d) o is = tt
+unsent_well : (number : ℕ) (errand : Option Errand) (last : Option Datagram) (o : Occasion) → HeardWell number errand o → HeardWell number errand (unsent_or last o)
+unsent_well number errand None o is = is
+unsent_well number errand (Some d) o is = tt
 
 by_open : (config : Config) (past : List Entry) (socket : ℕ) (at : Endpoint) (answer : Made) → May config past (call_of (UdpOpen socket at answer)) → Lawful config past → OwingAt config past → OwingAt config (UdpOpen socket at answer ∷ past)
 by_open config past socket at MadeDone may lawful is = unchanged config (UdpOpen socket at MadeDone) past may is
 by_open config past socket at MadeFailed may lawful is = record {
   owed = (elim (opened_where config past socket at may) [
     | inl early ↦ before early.0
-    | inr o ↦ told config e past (identification past) (relay config past).step (left config past) (last_datagram config past) (last_occasion config past) o.errand.datagram
-        (ap (λ s. unsent config (identification past) s (left config past)) o.asked) (asks o.errand o.asked).datagram
+    | inr o ↦ told config e past (identification past) (step config past) (left config past) (last_datagram config past) (last_occasion config past) o.errand.datagram
+        (ap (λ s. unsent config (identification past) s (left config past)) o.asked) (asks o.errand (errand_is config past (NeedsSocket o.errand) o.asked)).datagram
   ]);
-  heard = unsent_well (next_number (e ∷ past)) Settled (last_datagram config past) (last_occasion config past) (unchanged config e past may is).heard;
+  heard = unsent_well (next_number (e ∷ past)) None (last_datagram config past) (last_occasion config past) (unchanged config e past may is).heard;
 }
   where
     e : Entry
     e = UdpOpen socket at MadeFailed
 
-    asks : (errand : Errand) → (relay config past).step ≡ NeedsSocket errand → Asks config (last_datagram config past) errand
-    asks errand is = subst (OfStep (Asks config (last_datagram config past))) is (step_asks config past)
+    asks : (errand : Errand) → errand_left config past ≡ Some errand → Asks config (last_datagram config past) errand
+    asks errand is = errand_asks config past errand is
 
     none_yet : waits past ≡ 0 → last_datagram config past ≡ None
     none_yet early = elim (came_after_waits config past lawful) [ inl none ↦ none | inr waited ↦ absurd (omega (arith, early, waited)) ]
 
-    before : waits past ≡ 0 → IsOwed config (UdpOpen socket at MadeFailed ∷ past) (unsent config (identification past) (relay config past).step (left config past)) (identification past) (unsent_or (last_datagram config past) (last_occasion config past))
+    before : waits past ≡ 0 → IsOwed config (UdpOpen socket at MadeFailed ∷ past) (unsent config (identification past) (step config past) (left config past)) (identification past) (unsent_or (last_datagram config past) (last_occasion config past))
     before early =
-        let settled = settled_early (waits past) (relay config past).step early (asks_after_waits config past lawful) in
+        let settled = ap (step_of config past) (none_early (waits past) (errand_left config past) early (asks_after_waits config past lawful)) in
         subst (λ s. IsOwed config (UdpOpen socket at MadeFailed ∷ past) (unsent config (identification past) s (left config past)) (identification past) (unsent_or (last_datagram config past) (last_occasion config past))) (sym settled)
         (subst (λ l. IsOwed config (UdpOpen socket at MadeFailed ∷ past) (left config past) (identification past) (unsent_or l (last_occasion config past))) (sym (none_yet early))
         (unchanged config (UdpOpen socket at MadeFailed) past may is).owed)
@@ -238,35 +228,19 @@ by_send config past socket to octets SentDone may is = unchanged config (UdpSend
 by_send config past socket to octets SentNotYet may is = unchanged config (UdpSend socket to octets SentNotYet) past may is
 by_send config past socket to octets SentFailed may is =
     let s = sends config past socket to octets may in
-    let asks : Asks config (last_datagram config past) s.errand = subst (OfStep (Asks config (last_datagram config past))) s.asked (step_asks config past) in
+    let asks : Asks config (last_datagram config past) s.errand = errand_asks config past s.errand (errand_is config past (NeedsSending socket s.errand) s.asked) in
     record {
-      owed = told config (UdpSend socket to octets SentFailed) past (identification past) (relay config past).step (left config past) (last_datagram config past) (last_occasion config past) s.errand.datagram
+      owed = told config (UdpSend socket to octets SentFailed) past (identification past) (step config past) (left config past) (last_datagram config past) (last_occasion config past) s.errand.datagram
           (ap (λ step. unsent config (identification past) step (left config past)) s.asked) asks.datagram;
-      heard = unsent_well (next_number past) (relay config (UdpSend socket to octets SentFailed ∷ past)).step (last_datagram config past) (last_occasion config past) (unchanged config (UdpSend socket to octets SentFailed) past may is).heard;
+      heard = unsent_well (next_number past) None (last_datagram config past) (last_occasion config past) (unchanged config (UdpSend socket to octets SentFailed) past may is).heard;
     }
 
 -- a peer's datagram was received
-reply_is : (config : Config) (past : List Entry) (peer : Endpoint) (octets : List ℕ) (socket : ℕ) (list : List Association) → AreKept config past list → is_among socket (numbers list) ≡ true
-    → owed_for_peer config peer octets (numbered socket list) ≡ reply_for config peer octets (opened_for config socket past) (mac_of config socket past)
-reply_is config past peer octets socket [] kept among = cc
-reply_is config past peer octets socket (a ∷ list) kept among = by (a.number == socket) refl (λ more. reply_is config past peer octets socket list kept.1 more)
-  where
-    here : a.number ≡ socket → reply config peer octets a ≡ reply_for config peer octets (opened_for config socket past) (mac_of config socket past)
-    here this =
-        sym (ap (λ n. reply_for config peer octets (opened_for config n past) (mac_of config n past)) (sym this)
-        ∙ ap (λ port. reply_for config peer octets port (mac_of config a.number past)) kept.0.guest ∙ ap (reply_for config peer octets (Some a.guest)) kept.0.mac)
-
-    by : (t : Bool) → (a.number == socket) ≡ t → (is_among socket (numbers list) ≡ true → owed_for_peer config peer octets (numbered socket list) ≡ reply_for config peer octets (opened_for config socket past) (mac_of config socket past))
-        → owed_for_peer config peer octets (if t then Some a else numbered socket list) ≡ reply_for config peer octets (opened_for config socket past) (mac_of config socket past)
-    by true this more = here (equal a.number socket this)
-    by false this more = more (sym (ap (λ b. b || is_among socket (numbers list)) (turned a.number socket false this)) ∙ among)
-
 by_hearing : (config : Config) (past : List Entry) (socket asked : ℕ) (answer : Got) (octets : List ℕ) → May config past (call_of (UdpRecv socket asked answer octets)) → Lawful config past → OwingAt config past → OwingAt config (UdpRecv socket asked answer octets ∷ past)
 by_hearing config past socket asked (From peer n) octets may lawful is =
-    let j = joined config past lawful in
     record {
-      owed = inr (ap (frames_of config (identification past)) (reply_is config past peer octets socket (relay config past).associations j.kept (sym (j.those socket) ∙ first_of (carries past socket) _ may.socket)));
-      heard = (open_below config past lawful socket (hears_on_open config past socket asked may.socket), hears_settled config past socket asked may);
+      owed = inr refl;
+      heard = (open_below config past lawful socket (hears_on_open config past socket asked may.socket), errand_is config past Settled (hears_settled config past socket asked may));
     }
 by_hearing config past socket asked GotNotYet octets may lawful is = unchanged config (UdpRecv socket asked GotNotYet octets) past may is
 by_hearing config past socket asked GotFailed octets may lawful is = unchanged config (UdpRecv socket asked GotFailed octets) past may is

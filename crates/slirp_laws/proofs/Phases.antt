@@ -14,9 +14,10 @@ use Rattle.run_laws.specs.Happenings.{Arrival, happens}
 use Rattle.run_laws.specs.Moments.{moment, waits}
 use Rattle.run_laws.specs.Shape.{Phase, Opening, Started, Woken, Working, Over, phase, phase_by, phase_after, opened, clocked, unless_over, due_in, opening_of, is_working}
 use Rattle.run_laws.specs.Sockets.{first, next_number, open_sockets}
-use Rattle.slirp_laws.specs.Datagrams.{Errand, Step, Settled, NeedsRoom, NeedsSocket, NeedsSending, Relay, relay, relay_after, errand_by_packet, due_for}
+use Rattle.slirp_laws.specs.Datagrams.{Errand, Step, Settled, NeedsRoom, NeedsSocket, NeedsSending, errand_by_packet, due_for}
+use Rattle.slirp_laws.specs.Asking.{errand_after, errand_left, step}
 use Rattle.slirp_laws.specs.Laws.{May, Lawful, due, unless_due}
-use Rattle.slirp_laws.proofs.Steps.{OfStep, of_step, by_call, of_errand}
+use Rattle.slirp_laws.proofs.Steps.{OfErrand, of_errand, all_errands, by_call}
 
 -- ---- waits
 
@@ -82,24 +83,24 @@ pub more_waits : (e : Entry) (past : List Entry) → 0 < waits past → 0 < wait
 more_waits (Wait wants timeout answer ready) past is = omega (arith, is)
 more_waits _ past is = is
 
-abbrev pub AsksAfterWaits : ℕ → Step → Type 0
-AsksAfterWaits n step = OfStep (λ (errand : Errand). 0 < n) step
+abbrev pub AsksAfterWaits : ℕ → Option Errand → Type 0
+AsksAfterWaits n o = OfErrand (λ (errand : Errand). 0 < n) o
 
-on_arrival : (config : Config) (e : Entry) (past : List Entry) (o : Option Arrival) (r : Relay) → ((arrival : Arrival) → o ≡ Some arrival → 0 < waits past) → AsksAfterWaits (waits past) r.step
-    → AsksAfterWaits (waits past) (relay_after config e o (moment past) r).step
-on_arrival config e past None r waited is = by_call (λ (errand : Errand). 0 < waits past) e (moment past) r is
-on_arrival config e past (Some arrival) r waited is = of_errand (λ (errand : Errand). 0 < waits past) r.associations (errand_by_packet config arrival.packet) (λ errand this. waited arrival refl)
+on_arrival : (config : Config) (e : Entry) (past : List Entry) (o : Option Arrival) (before : Option Errand) → ((arrival : Arrival) → o ≡ Some arrival → 0 < waits past) → AsksAfterWaits (waits past) before
+    → AsksAfterWaits (waits past) (errand_after config e o before)
+on_arrival config e past None before waited is = by_call (λ (errand : Errand). 0 < waits past) e before is
+on_arrival config e past (Some arrival) before waited is = all_errands (λ (errand : Errand). 0 < waits past) (errand_by_packet config arrival.packet) (λ errand this. waited arrival refl)
 
 -- a frame comes in a turn alone
 pub comes_working : (config : Config) (e : Entry) (past : List Entry) → May config past (call_of e) → (arrival : Arrival) → (happens config past e).came ≡ Some arrival → is_working (phase config past) ≡ true
 comes_working config (LinkRead asked answer octets) past may arrival is = may.place
 comes_working config _ past may arrival is = cc
 
-pub asks_after_waits : (config : Config) (past : List Entry) → Lawful config past → AsksAfterWaits (waits past) (relay config past).step
+pub asks_after_waits : (config : Config) (past : List Entry) → Lawful config past → AsksAfterWaits (waits past) (errand_left config past)
 asks_after_waits config [] lawful = tt
 asks_after_waits config (e ∷ past) lawful =
-    of_step (λ (errand : Errand). 0 < waits past) (λ (errand : Errand). 0 < waits (e ∷ past)) (λ errand is. more_waits e past is) (relay config (e ∷ past)).step
-    (on_arrival config e past (happens config past e).came (relay config past)
+    of_errand (λ (errand : Errand). 0 < waits past) (λ (errand : Errand). 0 < waits (e ∷ past)) (λ errand is. more_waits e past is) (errand_left config (e ∷ past))
+    (on_arrival config e past (happens config past e).came (errand_left config past)
     (λ arrival is. working_waited (phase config past) (waits past) (comes_working config e past lawful.0 arrival is) (has_waited config past))
     (asks_after_waits config past lawful.1))
 
@@ -186,10 +187,10 @@ sends_for (NeedsRoom oldest errand) number socket to octets is = cc
 sends_for (NeedsSocket errand) number socket to octets is = cc
 sends_for (NeedsSending s errand) number socket to octets is = record { errand = errand; asked = (let same : s ≡ socket = cc in ap (λ n. NeedsSending n errand) same); target = cc; whole = cc }
 
-pub sends : (config : Config) (past : List Entry) (socket : ℕ) (to : Endpoint) (octets : List ℕ) → May config past (CallUdpSend socket to octets) → Sends (relay config past).step socket to octets
+pub sends : (config : Config) (past : List Entry) (socket : ℕ) (to : Endpoint) (octets : List ℕ) → May config past (CallUdpSend socket to octets) → Sends (step config past) socket to octets
 sends config past socket to octets may =
-    sends_for (relay config past).step (next_number past) socket to octets
-    (sending_by (phase config past) past (due_for (relay config past).step (next_number past)) socket to octets
+    sends_for (step config past) (next_number past) socket to octets
+    (sending_by (phase config past) past (due_for (step config past) (next_number past)) socket to octets
     (due_call (due config past) (CallUdpSend socket to octets) may.place may.due))
 
 -- a socket for datagrams is opened where that was asked for, or for a forward
@@ -215,11 +216,11 @@ opens_for (NeedsSocket errand) number socket at is = record { errand = errand; a
 opens_for (NeedsSending s errand) number socket at is = cc
 
 pub opens : (config : Config) (past : List Entry) (socket : ℕ) (at : Endpoint) → May config past (CallUdpOpen socket at)
-    → ((waits past ≡ 0) × (OpensNone (phase config past) → ⊥)) ⊎ Opens (relay config past).step (next_number past) socket at
+    → ((waits past ≡ 0) × (OpensNone (phase config past) → ⊥)) ⊎ Opens (step config past) (next_number past) socket at
 opens config past socket at may =
-    elim (opening_by (phase config past) past (due_for (relay config past).step (next_number past)) socket at (has_waited config past) (due_call (due config past) (CallUdpOpen socket at) may.place may.due)) [
+    elim (opening_by (phase config past) past (due_for (step config past) (next_number past)) socket at (has_waited config past) (due_call (due config past) (CallUdpOpen socket at) may.place may.due)) [
       | inl early ↦ inl early
-      | inr asked ↦ inr (opens_for (relay config past).step (next_number past) socket at asked)
+      | inr asked ↦ inr (opens_for (step config past) (next_number past) socket at asked)
     ]
 
 -- a listener is opened for a forward alone
@@ -239,7 +240,7 @@ listening_by (Over cause) past step number socket at none is = closing {A = ⊥}
 
 pub listens_never : (config : Config) (past : List Entry) (socket : ℕ) (at : Endpoint) → config.forwards ≡ [] → May config past (CallListen socket at) → ⊥
 listens_never config past socket at none may =
-    listening_by (phase config past) past (relay config past).step (next_number past) socket at (opens_none config past none) (due_call (due config past) (CallListen socket at) may.place may.due)
+    listening_by (phase config past) past (step config past) (next_number past) socket at (opens_none config past none) (due_call (due config past) (CallListen socket at) may.place may.due)
 
 -- a datagram is received where nothing is asked for
 settled_for : (step : Step) (number : ℕ) (socket asked : ℕ) → MatchOption (due_for step number) (Unit {0}) (λ d. CallUdpRecv socket asked ≡ d) → step ≡ Settled
@@ -255,5 +256,5 @@ settled_in Started past step number socket asked working is = cc
 settled_in Woken past step number socket asked working is = cc
 settled_in (Over cause) past step number socket asked working is = cc
 
-pub hears_settled : (config : Config) (past : List Entry) (socket asked : ℕ) → May config past (CallUdpRecv socket asked) → (relay config past).step ≡ Settled
-hears_settled config past socket asked may = settled_in (phase config past) past (relay config past).step (next_number past) socket asked may.place may.due
+pub hears_settled : (config : Config) (past : List Entry) (socket asked : ℕ) → May config past (CallUdpRecv socket asked) → step config past ≡ Settled
+hears_settled config past socket asked may = settled_in (phase config past) past (step config past) (next_number past) socket asked may.place may.due

@@ -8,13 +8,13 @@ use Rattle.host_policy.specs.Addresses.{Config}
 use Rattle.host_policy.specs.Targets.{anywhere, target}
 use Rattle.run_laws.specs.Moments.{waits}
 use Rattle.run_laws.specs.Packets.{Datagram}
-use Rattle.slirp_laws.specs.Datagrams.{relay}
+use Rattle.slirp_laws.specs.Datagrams.{Errand, NeedsSending}
 use Rattle.slirp_laws.specs.Laws.{May, Lawful}
 use Rattle.slirp_laws.specs.Ports.{last_datagram}
 use Rattle.slirp_laws.specs.Said.{SendsWhatCame}
-use Rattle.slirp_laws.proofs.Joining.{StepJoins, joined}
+use Rattle.slirp_laws.proofs.Longest.{found_for}
 use Rattle.slirp_laws.proofs.Phases.{opens, opens_none, sends}
-use Rattle.slirp_laws.proofs.Steps.{Asks, OfStep, goes_to_target, step_asks}
+use Rattle.slirp_laws.proofs.Steps.{Asks, errand_asks, errand_is, goes_to_target, opened_for_it}
 
 pub opens_anywhere : (config : Config) (past : List Entry) (socket : ℕ) (at : Endpoint) → config.forwards ≡ [] → May config past (CallUdpOpen socket at) → at ≡ anywhere
 opens_anywhere config past socket at none may = elim (opens config past socket at may) [
@@ -28,14 +28,14 @@ opens_later config past socket at waited may = elim (opens config past socket at
   | inr o ↦ o.anywhere
 ]
 
-pub sends_what_came : (config : Config) (past : List Entry) (socket : ℕ) (to : Endpoint) (octets : List ℕ) → May config past (CallUdpSend socket to octets) → Lawful config past → SendsWhatCame config past socket to octets
-sends_what_came config past socket to octets may lawful =
+pub sends_what_came : (config : Config) (past : List Entry) (socket : ℕ) (to : Endpoint) (octets : List ℕ) → May config past (CallUdpSend socket to octets) → SendsWhatCame config past socket to octets
+sends_what_came config past socket to octets may =
     let s = sends config past socket to octets may in
-    let asks : Asks config (last_datagram config past) s.errand = subst (OfStep (Asks config (last_datagram config past))) s.asked (step_asks config past) in
+    let asks : Asks config (last_datagram config past) s.errand = errand_asks config past s.errand (errand_is config past (NeedsSending socket s.errand) s.asked) in
     record {
       datagram = s.errand.datagram;
       last = asks.datagram;
-      port = subst (StepJoins config past (relay config past).associations) s.asked (joined config past lawful).step;
+      port = found_for config past s.errand.datagram.from socket (opened_for_it config past socket s.errand s.asked);
       goes = goes_to_target config s.errand.datagram s.errand.to asks.goes ∙ ap Go (sym s.target);
       whole = s.whole;
     }
@@ -44,5 +44,5 @@ pub sends_to_target : (config : Config) (past : List Entry) (socket : ℕ) (to :
     → (d : Datagram) × (last_datagram config past ≡ Some d) × (target config ByUdp d.to ≡ Go to)
 sends_to_target config past socket to octets may =
     let s = sends config past socket to octets may in
-    let asks : Asks config (last_datagram config past) s.errand = subst (OfStep (Asks config (last_datagram config past))) s.asked (step_asks config past) in
+    let asks : Asks config (last_datagram config past) s.errand = errand_asks config past s.errand (errand_is config past (NeedsSending socket s.errand) s.asked) in
     (s.errand.datagram, asks.datagram, goes_to_target config s.errand.datagram s.errand.to asks.goes ∙ ap Go (sym s.target))

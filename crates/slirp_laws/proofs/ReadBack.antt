@@ -50,7 +50,7 @@ shown_range config peer ours is = by (is_loopback (address peer))
     by true = (ours, is.1)
     by false = is
 
-module _ (config : Config) (past : List Entry) (frame : List ℕ) (ip : Ip) (udp : Udp) (r : RepliesToItsPort config past frame) (peer_range : IsEndpoint (shown config r.peer)) (guest_range : IsEndpoint r.guest) where
+module _ (config : Config) (past : List Entry) (frame : List ℕ) (ip : Ip) (udp : Udp) (r : RepliesToItsPort config past frame) (peer_range : IsEndpoint (shown config r.peer)) (guest_range : IsEndpoint r.guest) (sized : config.mtu < 2 ^ 16) where
   from : ℕ
   from = address (shown config r.peer)
 
@@ -68,9 +68,9 @@ module _ (config : Config) (past : List Entry) (frame : List ℕ) (ip : Ip) (udp
       let long : length body ≡ 8 + length r.octets = length-udp (written_sum (summed from to (udp_with 0 reply))) reply in
       let held = carried_ip config (identification past) r.mac udp_proto from to body ip six (subst (λ f. Carries f ip) r.is c) in
       let whole = same_some (read_ip (ip_octets (identification past) 0 udp_proto from to body)) ip _ held
-      (ip_back (identification past) udp_proto from to body (ident_fits past) peer_range.0 guest_range.0 (omega (arith, long, fits))) in
+      (ip_back (identification past) udp_proto from to body (ident_fits past) peer_range.0 guest_range.0 (omega (arith, long, fits, sized))) in
       let that : read_udp from to body ≡ Some udp = ap (λ (i : Ip). read_udp i.from i.to i.body) (sym whole) ∙ is in
-      let same = same_some (read_udp from to body) udp reply that (udp_back from to reply peer_range.1 guest_range.1 (omega (arith, fits))) in
+      let same = same_some (read_udp from to body) udp reply that (udp_back from to reply peer_range.1 guest_range.1 (omega (arith, fits, sized))) in
       let sent_to : r.guest ≡ endpoint ip.to udp.to_port = λ i. record { addr = record { 0 = (sym whole i).to }; port = (sym same i).to_port } in
       let sent_from : shown config r.peer ≡ endpoint ip.from udp.from_port = λ i. record { addr = record { 0 = (sym whole i).from }; port = (sym same i).from_port } in
       record {
@@ -82,11 +82,11 @@ module _ (config : Config) (past : List Entry) (frame : List ℕ) (ip : Ip) (udp
         source = sent_from;
       }
 
-pub reply_as_read : (config : Config) (e : Entry) (past : List Entry) (frame : List ℕ) (ip : Ip) (udp : Udp) → Lawful config (e ∷ past) → AreAllowed past → config.vhost < 2 ^ 32 → goes_out e past ≡ Some frame
+pub reply_as_read : (config : Config) (e : Entry) (past : List Entry) (frame : List ℕ) (ip : Ip) (udp : Udp) → Lawful config (e ∷ past) → AreAllowed past → config.vhost < 2 ^ 32 → config.mtu < 2 ^ 16 → goes_out e past ≡ Some frame
     → Carries frame ip → ip.proto ≡ udp_proto → read_udp ip.from ip.to ip.body ≡ Some udp → IsReplyToItsPort config past ip udp
-reply_as_read config e past frame ip udp lawful allowed ours out c proto is =
+reply_as_read config e past frame ip udp lawful allowed ours sized out c proto is =
     let r = replies config e past frame ip lawful out c proto in
     let peer : IsEndpoint r.peer = subst RangePeer r.last (range_peer config past allowed) in
     let guest : IsEndpoint r.guest = subst RangePort r.port (range_port config r.socket past allowed) in
     let six : length r.mac ≡ 6 = subst SixMac r.at (six_mac config r.socket past) in
-    as_read config past frame ip udp r (shown_range config r.peer ours peer) guest six c is
+    as_read config past frame ip udp r (shown_range config r.peer ours peer) guest sized six c is

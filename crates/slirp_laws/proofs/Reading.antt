@@ -1,5 +1,5 @@
 -- Our frames, as they are read.
-use Rattle.std.proofs.Common.{◌≡◌, ℕ, ◌-◌, ◌/◌, ◌%◌, ◌^◌, ◌<◌, ◌≤◌, ◌==◌, ◌&&◌, ◌||◌, not, nat_le, Bool, true, false, List, [], ◌∷◌, length, take, drop, Option, Some, None, option_map, option_and_then, if◌then◌else◌, inl, inr, refl, sym, ◌∙◌, ap, subst, arith, lit<}
+use Rattle.std.proofs.Common.{◌≡◌, ℕ, ◌+◌, ◌-◌, ◌/◌, ◌%◌, ◌^◌, ◌<◌, ◌≤◌, ◌==◌, ◌&&◌, ◌||◌, not, nat_le, Bool, true, false, List, [], ◌∷◌, length, take, drop, Option, Some, None, option_map, option_and_then, if◌then◌else◌, inl, inr, refl, sym, ◌∙◌, ap, subst, arith, lit<}
 use Rattle.std.proofs.lemmas.Bool.Decides.{nat_tests}
 use Rattle.std.proofs.lemmas.Nat.{from_be_bytes-to_be_bytes_2}
 use Rattle.std.proofs.lemmas.Option.{cond_some}
@@ -26,11 +26,11 @@ use Rattle.udp_assoc.specs.Udp.{Udp, read_udp}
 use Rattle.tcp_segment.specs.Tcp.{Tcp, read_tcp}
 use Rattle.run_laws.specs.Happenings.{arrival_of, datagram_by, datagram_came}
 use Rattle.run_laws.specs.Packets.{Datagram, Packet, Unheard, ArpPacket, Message, DatagramPacket, Segment, datagram_in, datagram_of, may_come, packet_in, packet_of, packet_of_ip, unless_unheard, whole_packet}
-use Rattle.slirp_laws.specs.Answers.{Answer, ArpAnswer, IpAnswer, arp_reply, frame_of, frames_of, identification, is_untold, left, most_payload, no_network, our_mac, owed_for_fate, owed_for_icmp, owed_for_packet, told_about}
+use Rattle.slirp_laws.specs.Answers.{Answer, ArpAnswer, IpAnswer, arp_reply, frame_of, frames_of, identification, is_untold, left, fits_frame, no_network, our_mac, owed_for_fate, owed_for_icmp, owed_for_packet, told_about, reply_for}
 use Rattle.slirp_laws.specs.Datagrams.{Fate, Ignored, Refused, GoesTo, fate}
 use Rattle.slirp_laws.specs.Laws.{Lawful}
 use Rattle.slirp_laws.specs.Ports.{last_datagram, last_mac, mac_by, mac_of, opened_for, or_before}
-use Rattle.slirp_laws.specs.Said.{Carries, Occasion, NoOccasion, Came, Heard, Unsent, by_call, by_got, by_made, by_sent, last_occasion, occasion_after, owed_for, reply_for, unsent_or}
+use Rattle.slirp_laws.specs.Said.{Carries, Occasion, NoOccasion, Came, Heard, Unsent, by_call, by_got, by_made, by_sent, last_occasion, occasion_after, owed_for, unsent_or}
 use Rattle.slirp_laws.proofs.Bools.{first_of}
 use Rattle.slirp_laws.proofs.Owing.{answers_last, owing}
 
@@ -181,7 +181,7 @@ ours_packet config (DatagramPacket d) is = ours_fate config d (fate config d) is
 ours_packet config (Segment mac ip tcp) is = tt
 
 six_reply : (config : Config) (peer : Endpoint) (octets : List ℕ) (port : Option Endpoint) (mac : Option (List ℕ)) → SixMac mac → AllAnswers SixAnswer (reply_for config peer octets port mac)
-six_reply config peer octets (Some guest) (Some mac) is = all_if SixAnswer (is_hidden config peer || not (nat_le (length octets) most_payload)) [] _ tt (is, tt)
+six_reply config peer octets (Some guest) (Some mac) is = all_if SixAnswer (is_hidden config peer || not (fits_frame config (8 + length octets))) [] _ tt (is, tt)
 six_reply config peer octets (Some guest) None is = tt
 six_reply config peer octets None mac is = tt
 

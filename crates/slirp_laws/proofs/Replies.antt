@@ -1,5 +1,5 @@
 -- A frame that carries a datagram of UDP is a reply to what a peer sent.
-use Rattle.std.proofs.Common.{◌≡◌, ℕ, ◌≤◌, ◌||◌, not, nat_le, Bool, true, false, List, [], ◌∷◌, length, Option, Some, None, if◌then◌else◌, refl, sym, ◌∙◌, ap, subst, arith}
+use Rattle.std.proofs.Common.{◌≡◌, ℕ, ◌+◌, ◌≤◌, ◌||◌, not, nat_le, Bool, true, false, List, [], ◌∷◌, length, Option, Some, None, if◌then◌else◌, refl, sym, ◌∙◌, ap, subst, arith}
 use Rattle.std.proofs.lemmas.Bool.Decides.{nat_tests}
 use Rattle.world_face.specs.Journal.{Entry}
 use Rattle.world_face.specs.Frames.{goes_out}
@@ -9,10 +9,10 @@ use Rattle.host_policy.specs.Addresses.{Config, address}
 use Rattle.host_policy.specs.Targets.{is_hidden, shown}
 use Rattle.ipv4_head.specs.Ip.{Ip}
 use Rattle.udp_assoc.specs.Udp.{udp_octets}
-use Rattle.slirp_laws.specs.Answers.{Answer, ArpAnswer, IpAnswer, frame_of, identification, most_payload, no_network, owed_for_packet, told_about}
+use Rattle.slirp_laws.specs.Answers.{Answer, ArpAnswer, IpAnswer, frame_of, identification, fits_frame, no_network, owed_for_packet, reply_for, told_about}
 use Rattle.slirp_laws.specs.Laws.{Lawful}
 use Rattle.slirp_laws.specs.Ports.{mac_of, opened_for}
-use Rattle.slirp_laws.specs.Said.{Carries, Occasion, NoOccasion, Came, Heard, Unsent, RepliesToItsPort, last_occasion, owed_for, reply_for}
+use Rattle.slirp_laws.specs.Said.{Carries, Occasion, NoOccasion, Came, Heard, Unsent, RepliesToItsPort, last_occasion, owed_for}
 use Rattle.slirp_laws.proofs.Owing.{answers_last}
 use Rattle.slirp_laws.proofs.Reading.{AllAnswers, IsOurs, SixAnswer, SixOccasion, ident_fits, no_arp, ours_packet, ours_told, out_six, reads_answer, six_occasion}
 
@@ -31,16 +31,16 @@ or_first : (a b : Bool) → (a || b) ≡ false → a ≡ false
 or_first true b is = cc
 or_first false b is = refl
 
-fits_frame : (b : Bool) (n m : ℕ) → (b || not (nat_le n m)) ≡ false → n ≤ m
-fits_frame true n m is = cc
-fits_frame false n m is = by (nat_le n m) refl is
+within_frame : (config : Config) (b : Bool) (n : ℕ) → (b || not (fits_frame config (8 + n))) ≡ false → 28 + n ≤ config.mtu
+within_frame config true n is = cc
+within_frame config false n is = by (fits_frame config (8 + n)) refl is
   where
-    by : (t : Bool) → nat_le n m ≡ t → not t ≡ false → n ≤ m
+    by : (t : Bool) → fits_frame config (8 + n) ≡ t → not t ≡ false → 28 + n ≤ config.mtu
     by true less is = grind (arith, nat_tests, less)
     by false more is = cc
 
 module _ (config : Config) (past : List Entry) (frame : List ℕ) (a : Answer) (frame_is : frame ≡ frame_of config (identification past) a) where
-  replied : (socket : ℕ) (peer : Endpoint) (octets : List ℕ) (guest : Endpoint) (mac : List ℕ) (b : Bool) → (is_hidden config peer || not (nat_le (length octets) most_payload)) ≡ b
+  replied : (socket : ℕ) (peer : Endpoint) (octets : List ℕ) (guest : Endpoint) (mac : List ℕ) (b : Bool) → (is_hidden config peer || not (fits_frame config (8 + length octets))) ≡ b
       → last_occasion config past ≡ Heard socket peer octets → opened_for config socket past ≡ Some guest → mac_of config socket past ≡ Some mac
       → (if b then [] else IpAnswer mac udp_proto (address (shown config peer)) (address guest) (udp_octets (address (shown config peer)) (address guest) (record { from_port = (shown config peer).port; to_port = guest.port; body = octets })) ∷ []) ≡ a ∷ []
       → RepliesToItsPort config past frame
@@ -50,8 +50,8 @@ module _ (config : Config) (past : List Entry) (frame : List ℕ) (a : Answer) (
     peer = peer;
     octets = octets;
     last = last;
-    seen = or_first (is_hidden config peer) (not (nat_le (length octets) most_payload)) hides;
-    fits = fits_frame (is_hidden config peer) (length octets) most_payload hides;
+    seen = or_first (is_hidden config peer) (not (fits_frame config (8 + length octets))) hides;
+    fits = within_frame config (is_hidden config peer) (length octets) hides;
     guest = guest;
     port = port;
     mac = mac;
@@ -62,7 +62,7 @@ module _ (config : Config) (past : List Entry) (frame : List ℕ) (a : Answer) (
 
   heard : (socket : ℕ) (peer : Endpoint) (octets : List ℕ) (port : Option Endpoint) (mac : Option (List ℕ)) → last_occasion config past ≡ Heard socket peer octets → opened_for config socket past ≡ port → mac_of config socket past ≡ mac
       → reply_for config peer octets port mac ≡ a ∷ [] → RepliesToItsPort config past frame
-  heard socket peer octets (Some guest) (Some mac) last port at is = replied socket peer octets guest mac (is_hidden config peer || not (nat_le (length octets) most_payload)) refl last port at is
+  heard socket peer octets (Some guest) (Some mac) last port at is = replied socket peer octets guest mac (is_hidden config peer || not (fits_frame config (8 + length octets))) refl last port at is
   heard socket peer octets (Some guest) None last port at is = cc
   heard socket peer octets None mac last port at is = cc
 

@@ -18,11 +18,11 @@ use Rattle.arp_table.specs.Arp.{Arp, arp_octets}
 use Rattle.ipv4_head.specs.Ip.{Ip, ip_octets}
 use Rattle.icmp_echo.specs.Icmp.{Icmp, echo, unreachable, other, echo_octets, unreachable_octets}
 use Rattle.udp_assoc.specs.Udp.{udp_octets}
-use Rattle.udp_assoc.specs.Associations.{numbered}
-use Rattle.udp_assoc.specs.declared.assocs.Association.{Association}
 use Rattle.run_laws.specs.Happenings.{Arrival, Happening, happens}
 use Rattle.run_laws.specs.Packets.{Packet, Unheard, ArpPacket, Message, DatagramPacket, Segment, Datagram}
-use Rattle.slirp_laws.specs.Datagrams.{Fate, Ignored, Refused, GoesTo, fate, Step, Settled, NeedsRoom, NeedsSocket, NeedsSending, relay}
+use Rattle.slirp_laws.specs.Asking.{step}
+use Rattle.slirp_laws.specs.Datagrams.{Fate, Ignored, Refused, GoesTo, fate, Step, Settled, NeedsRoom, NeedsSocket, NeedsSending}
+use Rattle.slirp_laws.specs.Ports.{mac_of, opened_for}
 
 -- the hardware address of one of ours: 52:55 and the four octets of its address
 abbrev pub our_mac : ℕ → List ℕ
@@ -47,13 +47,13 @@ owed_for_icmp mac ip (echo false ident number body) = IpAnswer mac icmp_proto ip
 owed_for_icmp mac ip (unreachable code quoted) = []
 owed_for_icmp mac ip (other kind code) = []
 
--- what a datagram carries whose frame is as long as one may be
-abbrev pub most_body : ℕ
-most_body = 1480
+-- A datagram with so many octets behind its header of 20 fits a frame to a guest (RFC 894; the settings say how long one may be).
+abbrev pub fits_frame : Config → ℕ → Bool
+fits_frame config octets = nat_le (20 + octets) config.mtu
 
 -- a message to one of ours; one whose answer doesn't fit a frame owes nothing yet
 abbrev pub owed_for_message : Config → List ℕ → Ip → Icmp → List Answer
-owed_for_message config mac ip message = if is_ours config ip.to && nat_le (length ip.body) most_body then owed_for_icmp mac ip message else []
+owed_for_message config mac ip message = if is_ours config ip.to && fits_frame config (length ip.body) then owed_for_icmp mac ip message else []
 
 -- no unreachable is sent to nobody, nor about what went to many (RFC 1122, 3.2.2)
 abbrev pub is_untold : Config → Datagram → Bool
@@ -86,19 +86,17 @@ owed_for_packet config (Message mac ip message) = owed_for_message config mac ip
 owed_for_packet config (DatagramPacket d) = owed_for_datagram config d
 owed_for_packet config (Segment mac ip tcp) = []
 
--- What a peer's datagram owes: the same payload to the guest's port of the association, at the hardware address from which its last datagram came. Nothing where the peer isn't shown; and where the answer doesn't fit a frame nothing yet.
-abbrev pub most_payload : ℕ
-most_payload = 1472
-
-abbrev pub reply : Config → Endpoint → List ℕ → Association → List Answer
-reply config peer octets a =
+-- What a peer's datagram owes: its payload, whole, to the port of a guest for which the socket was opened, at the hardware address from which that port spoke last. Nothing where the peer isn't shown; and where the answer doesn't fit a frame nothing yet.
+abbrev pub reply_at : Config → Endpoint → List ℕ → Endpoint → List ℕ → List Answer
+reply_at config peer octets guest mac =
     let from = shown config peer in
-    if is_hidden config peer || not (nat_le (length octets) most_payload) then []
-    else IpAnswer a.mac.0 udp_proto (address from) (address a.guest) (udp_octets (address from) (address a.guest) (record { from_port = from.port; to_port = a.guest.port; body = octets })) ∷ []
+    if is_hidden config peer || not (fits_frame config (8 + length octets)) then []
+    else IpAnswer mac udp_proto (address from) (address guest) (udp_octets (address from) (address guest) (record { from_port = from.port; to_port = guest.port; body = octets })) ∷ []
 
-abbrev pub owed_for_peer : Config → Endpoint → List ℕ → Option Association → List Answer
-owed_for_peer config peer octets None = []
-owed_for_peer config peer octets (Some a) = reply config peer octets a
+abbrev pub reply_for : Config → Endpoint → List ℕ → Option Endpoint → Option (List ℕ) → List Answer
+reply_for config peer octets (Some guest) (Some mac) = reply_at config peer octets guest mac
+reply_for config peer octets (Some guest) None = []
+reply_for config peer octets None mac = []
 
 -- a packet as it goes out, a datagram with this identification
 abbrev pub frame_of : Config → ℕ → Answer → List ℕ
@@ -127,10 +125,10 @@ datagrams_out (e ∷ past) = with_datagrams (goes_out e past) (datagrams_out pas
 abbrev pub identification : List Entry → ℕ
 identification past = datagrams_out past % 2 ^ 16
 
-abbrev pub owed_for_got : Config → ℕ → Got → List ℕ → Option Association → List (List ℕ) → List (List ℕ)
-owed_for_got config ident (From peer n) octets association left = frames_of config ident (owed_for_peer config peer octets association)
-owed_for_got config ident GotNotYet octets association left = left
-owed_for_got config ident GotFailed octets association left = left
+abbrev pub left_by_got : Config → List Entry → ℕ → Got → List ℕ → List (List ℕ) → List (List ℕ)
+left_by_got config past socket (From peer n) octets left = frames_of config (identification past) (reply_for config peer octets (opened_for config socket past) (mac_of config socket past))
+left_by_got config past socket GotNotYet octets left = left
+left_by_got config past socket GotFailed octets left = left
 
 -- a datagram that could get no socket, or couldn't be sent on it
 abbrev pub unsent : Config → ℕ → Step → List (List ℕ) → List (List ℕ)
@@ -160,9 +158,9 @@ taken (Some frame) left = if is_first frame left then drop 1 left else left
 
 abbrev pub left_by_call : Config → List Entry → Happening → Entry → List (List ℕ) → List (List ℕ)
 left_by_call config past h (LinkWrite octets answer) left = taken h.went left
-left_by_call config past h (UdpOpen socket at answer) left = unless_made answer (unsent config (identification past) (relay config past).step left) left
-left_by_call config past h (UdpSend socket to octets answer) left = unless_sent answer (unsent config (identification past) (relay config past).step left) left
-left_by_call config past h (UdpRecv socket asked answer octets) left = owed_for_got config (identification past) answer octets (numbered socket (relay config past).associations) left
+left_by_call config past h (UdpOpen socket at answer) left = unless_made answer (unsent config (identification past) (step config past) left) left
+left_by_call config past h (UdpSend socket to octets answer) left = unless_sent answer (unsent config (identification past) (step config past) left) left
+left_by_call config past h (UdpRecv socket asked answer octets) left = left_by_got config past socket answer octets left
 left_by_call config past h _ left = left
 
 -- the frames that are owed for the frame or datagram that came last and aren't out; a datagram has the identification that was the next one when it came to be owed

@@ -1,5 +1,5 @@
 -- What call may follow what past.
-use Rattle.std.specs.Prelude.{◌≡◌, ℕ, ◌==◌, ◌&&◌, ◌||◌, not, nat_lt, Bool, true, false, is_some, List, [], ◌∷◌, drop, slice_index, MatchOption, Option, Some, None, if◌then◌else◌}
+use Rattle.std.specs.Prelude.{◌≡◌, ℕ, ◌+◌, ◌==◌, ◌&&◌, ◌||◌, not, nat_le, nat_lt, Bool, true, false, is_some, List, [], ◌∷◌, drop, slice_index, MatchOption, Option, Some, None, if◌then◌else◌}
 use Rattle.poll_list.specs.Listing.{reads}
 use Rattle.poll_list.specs.declared.Want.{Want}
 use Rattle.poll_list.specs.declared.Who.TheVariants.{Link, Udp}
@@ -8,13 +8,15 @@ use Rattle.world_face.specs.Journal.{Entry, Call, Follows, Close, CallNow, CallW
 use Rattle.world_face.specs.Frames.{MayFrame, tail}
 use Rattle.world_face.specs.Limits.{most_to_udp}
 use Rattle.host_policy.specs.Addresses.{Config}
-use Rattle.udp_assoc.specs.Associations.{is_idle}
+use Rattle.udp_assoc.specs.Associations.{idle_life}
 use Rattle.run_laws.specs.Moments.{moment, waits}
 use Rattle.run_laws.specs.Shape.{phase, may_turn, is_working, is_over, is_ended, due_in}
 use Rattle.run_laws.specs.Sockets.{Kind, Association, DnsSocket, Forward, Listener, Flow, is_among, is_association, kind_of, next_number, open_sockets}
 use Rattle.slirp_laws.specs.Agenda.{agenda}
 use Rattle.slirp_laws.specs.Answers.{is_explained, is_out, left}
-use Rattle.slirp_laws.specs.Datagrams.{Step, Settled, NeedsRoom, NeedsSocket, NeedsSending, relay, due_for}
+use Rattle.slirp_laws.specs.Asking.{step}
+use Rattle.slirp_laws.specs.Datagrams.{Step, Settled, NeedsRoom, NeedsSocket, NeedsSending, due_for}
+use Rattle.slirp_laws.specs.Ports.{used_at}
 
 -- What a call does: it asks the clock, waits, reads of the link or writes to it, opens a socket, sends a datagram on one, asks for one, or closes a socket. What isn't built yet doesn't come.
 pub data Deed : Type 0 where
@@ -54,7 +56,7 @@ unless_due None other = other
 unless_due (Some call) other = Some call
 
 abbrev pub due : Config → List Entry → Option Call
-due config past = unless_due (due_in (phase config past) past) (due_for (relay config past).step (next_number past))
+due config past = unless_due (due_in (phase config past) past) (due_for (step config past) (next_number past))
 
 -- Where a call is due, it is the one that comes.
 abbrev pub MayDue : Config → List Entry → Call → Type 0
@@ -79,10 +81,14 @@ gives_way socket (NeedsRoom oldest errand) = socket == oldest
 gives_way socket (NeedsSocket errand) = false
 gives_way socket (NeedsSending number errand) = false
 
+-- the idle life of a socket is over (RFC 4787, 4.3)
+abbrev pub is_unused : ℕ → List Entry → Bool
+is_unused socket past = nat_le (used_at socket past + idle_life) (moment past)
+
 -- Why a socket may be closed before the end, by its kind: an association gives way as the longest unused, or its idle life is over.
 abbrev pub may_part : Config → List Entry → ℕ → Option Kind → Bool
 may_part config past socket None = false
-may_part config past socket (Some Association) = gives_way socket (relay config past).step || is_idle socket (moment past) (relay config past).associations
+may_part config past socket (Some Association) = gives_way socket (step config past) || is_unused socket past
 may_part config past socket (Some DnsSocket) = false
 may_part config past socket (Some Forward) = false
 may_part config past socket (Some Listener) = false

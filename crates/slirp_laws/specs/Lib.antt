@@ -1,8 +1,10 @@
 pub mod Agenda
 pub mod Answers
+pub mod Asking
 pub mod Check
 pub mod Datagrams
 pub mod Laws
 pub mod Ports
+pub mod Relayed
 pub mod Said
 pub mod Served

@@ -22,7 +22,7 @@ use Rattle.run_laws.specs.Happenings.{Arrival, happens}
 use Rattle.run_laws.specs.Moments.{moment}
 use Rattle.run_laws.specs.Packets.{Datagram, Packet}
 use Rattle.run_laws.specs.Sockets.{is_among}
-use Rattle.slirp_laws.specs.Answers.{Answer, IpAnswer, frame_of, identification, most_payload, no_network, owed_for_packet, told_about}
+use Rattle.slirp_laws.specs.Answers.{Answer, IpAnswer, frame_of, identification, no_network, owed_for_packet, reply_for, told_about}
 use Rattle.slirp_laws.specs.Ports.{associations_open, last_datagram, last_use, mac_of, opened_for, used_at}
 
 -- A datagram that is sent is the payload, whole, of the one that came last; it goes where that one may go, on a socket that was opened for the port from which it came.
@@ -81,18 +81,6 @@ abbrev pub last_occasion : Config → List Entry → Occasion
 last_occasion config [] = NoOccasion
 last_occasion config (e ∷ past) = occasion_after e (happens config past e).came (last_datagram config past) (last_occasion config past)
 
--- A peer's datagram owes its payload to the port for which the socket was opened, at the hardware address from which that port spoke last. Nothing where the peer isn't shown, nor, yet, where the answer doesn't fit a frame.
-abbrev pub reply_at : Config → Endpoint → List ℕ → Endpoint → List ℕ → List Answer
-reply_at config peer octets guest mac =
-    let from = shown config peer in
-    if is_hidden config peer || not (nat_le (length octets) most_payload) then []
-    else IpAnswer mac udp_proto (address from) (address guest) (udp_octets (address from) (address guest) (record { from_port = from.port; to_port = guest.port; body = octets })) ∷ []
-
-abbrev pub reply_for : Config → Endpoint → List ℕ → Option Endpoint → Option (List ℕ) → List Answer
-reply_for config peer octets (Some guest) (Some mac) = reply_at config peer octets guest mac
-reply_for config peer octets (Some guest) None = []
-reply_for config peer octets None mac = []
-
 -- what is owed for it
 abbrev pub owed_for : Config → List Entry → Occasion → List Answer
 owed_for config past NoOccasion = []
@@ -120,7 +108,7 @@ pub record RepliesToItsPort (config : Config) (past : List Entry) (frame : List 
   pub octets : List ℕ
   pub last : last_occasion config past ≡ Heard socket peer octets
   pub seen : is_hidden config peer ≡ false
-  pub fits : length octets ≤ most_payload
+  pub fits : 28 + length octets ≤ config.mtu
   pub guest : Endpoint
   pub port : opened_for config socket past ≡ Some guest
   pub mac : List ℕ

@@ -1,8 +1,9 @@
-//! The program: its words, the files of the system, and the runtime's output.
+//! The program: its words, the sockets, files and clock of the system, and the runtime's output.
 #![tactic(auto)]
 
 use net_octets::NoMemory;
-use slirp_app::{FileWorld, StdSink, out_of_memory, slirp_main};
+use net_world::NetWorld;
+use slirp_app::{StdSink, out_of_memory, slirp_main};
 use std::alloc::Global;
 use std::env;
 use std::io::ErrorKind;
@@ -14,7 +15,9 @@ fn main(rt: HostRuntime) -> ExitCode {
     let Ok(words) = words_of(&rt) else {
         return ExitCode::from(out_of_memory(&mut err));
     };
-    let mut world = FileWorld::new(&rt);
+    let Ok(mut world) = NetWorld::open(&rt, rt.alloc()) else {
+        return ExitCode::from(out_of_memory(&mut err));
+    };
     let mut out = StdSink::new(rt.stdout());
     ExitCode::from(slirp_main(rt.alloc(), &words, &mut world, &mut out, &mut err))
 }

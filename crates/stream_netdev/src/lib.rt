@@ -1,4 +1,9 @@
 //! The link to the guest: frames after their lengths on a stream, in whatever pieces its octets come and go (QEMU's stream netdev).
+//!
+//! A frame stands behind its length, four octets with the most significant first. `read_frame` asks for what is missing of the length, then for what is
+//! missing of the frame, and keeps what came until it is whole; it is called only where a wait reported the link. `offer` writes a length and a frame by
+//! one call. What isn't taken of them is the tail, which `flush` offers first the next time; the link is blocked from a write that took less than it was
+//! offered until a wait reports it ready for writing, and nothing is offered meanwhile.
 #![tactic(auto)]
 
 ghost use Rattle.std.specs.Prelude.{◌≡◌, ℕ, ◌+◌, ◌-◌, ◌^◌, ◌<◌, ◌≤◌, List, [], ◌++◌, length, take, drop, nat_lt, true, false, IfOk, if◌then◌else◌};

@@ -1,6 +1,8 @@
 // Which sockets are open for which ports of guests.
-ghost use Rattle.std.specs.Prelude.{◌≡◌, ◌≤◌, ◌<◌, [], ◌∷◌, ◌++◌, length, true, All, IfSome};
-ghost use Rattle.udp_assoc.specs.Associations.{numbers, is_over, is_of, lesser, is_meant, put_back, IsPlaceOf, IsLeast};
+ghost use Rattle.std.specs.Prelude.{◌≡◌, ◌≤◌, ◌<◌, [], ◌∷◌, ◌++◌, length, true, All, IfSome, None, IsPermutation};
+ghost use Rattle.std.specs.List.Sorted.{IsNonDecreasing};
+ghost use Rattle.udp_assoc.specs.Associations.{most_associations, numbers, is_over, is_of, lesser, is_meant, moved_last, put_back, IsPlaceOf, IsLeast};
+ghost use Rattle.udp_assoc.specs.declared.assocs.Association.{Association};
 
 use arrayvec::ArrayVec;
 use net_octets::{Endpoint, Ip4, Mac};
@@ -36,26 +38,29 @@ impl Default for Association {
     }
 }
 
-/// At most 512 associations, the longest unused first.
+/// At most 512 associations, the longest unused first, and their numbers, the least first.
 #[derive(Drop)]
 pub struct Associations {
     list: ArrayVec<Association, 512>,
+    rising: ArrayVec<u64, 512>,
 }
 
 impl Model for Associations {
-    ghost use Rattle.std.specs.Prelude.{List, length, ◌≤◌};
+    ghost use Rattle.std.specs.Prelude.{List, IsPermutation};
+    ghost use Rattle.std.specs.List.Sorted.{IsNonDecreasing};
+    ghost use Rattle.udp_assoc.specs.Associations.{numbers};
     ghost use Rattle.udp_assoc.specs.declared.assocs.Association.{Association};
 
     ghost Value = { List Association };
 
     ghost view = { λ s. s.list.items };
+
+    ghost invariant = { λ s. IsPermutation (numbers s.list.items) s.rising.items × IsNonDecreasing s.rising.items };
 }
 
 impl Associations {
-    ghost use Rattle.std.specs.Prelude.{Some, None, nat_le, IsPermutation};
-    ghost use Rattle.std.specs.List.Sorted.{IsNonDecreasing};
-    ghost use Rattle.udp_assoc.specs.declared.assocs.Association.{Association};
-    ghost use Rattle.udp_assoc.specs.Associations.{most_associations, numbered, socket_of, without, moved_last, sent_from, heard_at};
+    ghost use Rattle.std.specs.Prelude.{Some, None, nat_le};
+    ghost use Rattle.udp_assoc.specs.Associations.{numbered, socket_of, without, sent_from, heard_at};
 
     /// No association.
     pub fn new() -> Associations
@@ -63,6 +68,7 @@ impl Associations {
     {
         Associations {
             list: ArrayVec::new(),
+            rising: ArrayVec::new(),
         }
     }
 
@@ -103,6 +109,7 @@ impl Associations {
         ensures { self.new ≡ self.old ++ (association ∷ []) }
     {
         self.list.push(association);
+        self.rising = rising_of(self.list.as_slice());
     }
 
     /// The socket with this number was closed.
@@ -110,13 +117,14 @@ impl Associations {
         ensures { self.new ≡ without number self.old }
     {
         self.list.retain(|a| a.number != number);
+        self.rising = rising_of(self.list.as_slice());
     }
 
     /// A datagram of the guest, which came from this hardware address, was sent on the socket.
     pub fn sent(&mut self, number: u64, mac: Mac, now: u64)
         ensures { self.new ≡ moved_last (sent_from mac now) number self.old }
     {
-        if let Some(mut association) = self.take(number) {
+        if let Some(mut association) = take(&mut self.list, number) {
             association.mac = mac;
             association.used = now;
             self.list.push(association);
@@ -127,7 +135,7 @@ impl Associations {
     pub fn heard(&mut self, number: u64, now: u64)
         ensures { self.new ≡ moved_last (heard_at now) number self.old }
     {
-        if let Some(mut association) = self.take(number) {
+        if let Some(mut association) = take(&mut self.list, number) {
             association.used = now;
             self.list.push(association);
         }
@@ -148,24 +156,34 @@ impl Associations {
     }
 
     /// The numbers of all sockets, the least first.
-    pub fn rising(&self) -> ArrayVec<u64, 512>
-        ensures all { IsPermutation (numbers self.now) result.items }
-        ensures rising { IsNonDecreasing result.items }
+    pub fn rising(&self) -> &[u64]
+        ensures all { IsPermutation (numbers self.now) result.now }
+        ensures rising { IsNonDecreasing result.now }
+        ensures most { length result.now ≤ most_associations }
     {
-        let mut rising = numbers_of(self.list.as_slice());
-        rising.as_mut_slice().sort_unstable();
-        rising
+        self.rising.as_slice()
     }
+}
 
-    // Takes the association with this number out.
-    fn take(&mut self, number: u64) -> Option<Association>
-        ensures moved { (change : Association → Association) → moved_last change number self.old ≡ put_back change result self.old self.new }
-        ensures room { IfSome result (λ _. length self.new < most_associations) }
-        ensures same { result ≡ None → self.new ≡ self.old }
-    {
-        let place = place_of(self.list.as_slice(), number)?;
-        Some(self.list.remove(place))
-    }
+// Takes the association with this number out.
+fn take(list: &mut ArrayVec<Association, 512>, number: u64) -> Option<Association>
+    ensures moved { (change : Association → Association) → moved_last change number list.old.items ≡ put_back change result list.old.items list.new.items }
+    ensures room { IfSome result (λ _. length list.new.items < most_associations) }
+    ensures same { result ≡ None → list.new.items ≡ list.old.items }
+{
+    let place = place_of(list.as_slice(), number)?;
+    Some(list.remove(place))
+}
+
+// The numbers of sockets, the least first.
+fn rising_of(list: &[Association]) -> ArrayVec<u64, 512>
+    requires { length list.now ≤ 512 }
+    ensures all { IsPermutation (numbers list.now) result.items }
+    ensures rising { IsNonDecreasing result.items }
+{
+    let mut rising = numbers_of(list);
+    rising.as_mut_slice().sort_unstable();
+    rising
 }
 
 // The numbers of sockets, in the order of the list.

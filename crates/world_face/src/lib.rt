@@ -94,15 +94,31 @@ pub enum LinkAt {
     Tcp(Endpoint),
 }
 
+/// The outside: all that the network does to it is one of these eighteen calls, and all that it learns is an answer.
+///
+/// No call waits but `wait`. A read, a receive or an accept answers NotYet where nothing is there yet, and a write or a send where nothing is taken now: the
+/// call may be made again, and `wait` tells when. End is said by a read alone: the other side writes no more, and every later read on it says so again. A
+/// write may take less than it was offered, but at least one octet; what is left is offered again. Failed is for good, for this call: it raises the
+/// count of its kind, and what the caller does with the socket or the link then is the caller's. Octets that were read stand at the front of the
+/// slice, as many as Done says.
+///
+/// Sockets have numbers that the caller draws upward and never uses twice. A socket is there from a `connect`, `listen` or `udp_open` that was answered
+/// Done, or from an `accept` that brought a peer, until its `close`; calls on it come only in between.
+///
+/// `wait` is given what is wanted: the link, then listeners, sockets for datagrams and connections, each kind by rising number, each with at least one
+/// direction. It answers Ready also where the time is over and nothing is ready. What it reports is a hint that a call in that direction is worth
+/// while; the call may still answer NotYet. Stop ends a run in good order. `now` is asked right after it.
+///
+/// What an implementation tells of its calls (`tells`) is for proofs: one that tells nothing is a World too.
 pub trait World {
     /// What it tells of the calls made on it.
     ghost tells: { Self → Telling };
 
-    /// The moment, in milliseconds.
+    /// The moment, in milliseconds since some start. It may stand still, and fall; the network takes the greatest so far.
     fn now(&mut self) -> u64
         ensures { Answers (tells self.old) (tells self.new) (Now result) };
 
-    /// Waits until one of the wants is ready, or the time is over.
+    /// Waits until one of the wants is ready, or so many milliseconds are over; without a timeout as long as it takes. At most 5,155 wants.
     fn wait(&mut self, wants: &Wants, timeout: Option<u64>, ready: &mut ReadyList) -> Waited
         requires some { AreWants wants.now.items }
         requires few { length wants.now.items ≤ most_wants }
@@ -110,14 +126,17 @@ pub trait World {
         ensures answers { Answers (tells self.old) (tells self.new) (Wait wants.now.items timeout result ready.new.items) }
         ensures capacity { ready.new.capacity ≡ ready.old.capacity };
 
+    /// Opens the link to the guest: listens at the place, and takes the first peer. Before one came, reads and writes of the link answer NotYet.
     fn link_open(&mut self, at: &LinkAt) -> Made
         requires { IsPlace (place_of at.now) }
         ensures { Answers (tells self.old) (tells self.new) (LinkOpen (place_of at.now) result) };
 
+    /// Reads octets of the stream from the guest, one at least.
     fn link_read(&mut self, into: &mut [u8]) -> Io
         requires { 0 < length into.old }
         ensures { Answers (tells self.old) (tells self.new) (LinkRead (length into.old) result (filled result into.new)) };
 
+    /// Offers octets to the guest, 1 to 1,518. It never says End.
     fn link_write(&mut self, from: &[u8]) -> Io
         requires some { 0 < length from.now }
         requires fits { length from.now ≤ most_to_link }
@@ -131,16 +150,20 @@ pub trait World {
     fn connected(&mut self, c: u64) -> Joined
         ensures { Answers (tells self.old) (tells self.new) (Connected c result) };
 
+    /// Opens a listener for connections, at this place of the host.
     fn listen(&mut self, l: u64, at: Endpoint) -> Made
         ensures { Answers (tells self.old) (tells self.new) (Listen l at result) };
 
+    /// Takes a peer from listener `l` as connection `c`, where one is waiting.
     fn accept(&mut self, l: u64, c: u64) -> Accepted
         ensures { Answers (tells self.old) (tells self.new) (Accept l c result) };
 
+    /// Reads octets of a connection, one at least.
     fn tcp_read(&mut self, c: u64, into: &mut [u8]) -> Io
         requires { 0 < length into.old }
         ensures { Answers (tells self.old) (tells self.new) (TcpRead c (length into.old) result (filled result into.new)) };
 
+    /// Offers octets to a connection, 1 to 16,384. It never says End.
     fn tcp_write(&mut self, c: u64, from: &[u8]) -> Io
         requires some { 0 < length from.now }
         requires fits { length from.now ≤ most_to_flow }
@@ -154,23 +177,27 @@ pub trait World {
     fn close(&mut self, s: u64)
         ensures { Answers (tells self.old) (tells self.new) (Close s) };
 
+    /// Opens a socket for datagrams at this place of the host; at 0.0.0.0:0 the host chooses one.
     fn udp_open(&mut self, s: u64, at: Endpoint) -> Made
         ensures { Answers (tells self.old) (tells self.new) (UdpOpen s at result) };
 
-    /// The payload may be empty.
+    /// Sends one datagram, whole, of at most 65,507 octets; its payload may be empty.
     fn udp_send(&mut self, s: u64, to: Endpoint, from: &[u8]) -> Sent
         requires { length from.now ≤ most_to_udp }
         ensures { Answers (tells self.old) (tells self.new) (UdpSend s to from.now result) };
 
+    /// Receives one datagram, and says from whom. What doesn't fit the slice is lost.
     fn udp_recv(&mut self, s: u64, into: &mut [u8]) -> Got
         requires { 0 < length into.old }
         ensures { Answers (tells self.old) (tells self.new) (UdpRecv s (length into.old) result (filled_got result into.new)) };
 
+    /// The length of a file, whose name has 1 to 1,280 octets.
     fn file_len(&mut self, name: &str) -> FileSize
         requires some { 0 < length name.now }
         requires fits { length name.now ≤ most_name }
         ensures { Answers (tells self.old) (tells self.new) (FileLen name.now result) };
 
+    /// Reads octets of a file from this place on, one at least; End where there are none. It never says NotYet.
     fn file_read(&mut self, name: &str, at: u64, into: &mut [u8]) -> Io
         requires some { 0 < length name.now }
         requires fits { length name.now ≤ most_name }

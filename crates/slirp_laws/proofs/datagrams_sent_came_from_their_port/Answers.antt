@@ -2,4 +2,4 @@ use Rattle.slirp_laws.proofs.Policy.{sends_what_came}
 use Rattle.slirp_laws.proofs.datagrams_sent_came_from_their_port.Goals as goal
 
 pub returns : goal.returns
-returns c = λ config past socket to octets answer lawful. sends_what_came config past socket to octets lawful.0 lawful.1
+returns c = λ config past socket to octets answer lawful. sends_what_came config past socket to octets lawful.0

@@ -1,6 +1,8 @@
-use Rattle.std.proofs.Common.{[], ◌∷◌, ◌++◌, sym, ◌∙◌, ap, append_assoc, codes, decimal}
+use Rattle.std.proofs.Common.{◌≡◌, ◌⊎◌, inl, inr, ℕ, List, [], ◌∷◌, ◌++◌, sym, ◌∙◌, ap, append_assoc, codes, decimal}
 use Rattle.replay.proofs.Putting.{puts_same}
 use Rattle.slirp_app.specs.Texts.{told_text}
+use Rattle.slirp_app.specs.declared.status.Outcome.{Outcome}
+use Rattle.slirp_app.specs.declared.status.Outcome.TheVariants.{ScheduleRead, ScheduleTooLarge}
 use Rattle.slirp_app.proofs.status.Outcome.tell.Goals as goal
 
 pub returns-in-FrameTooLong-clause-text : goal.returns-in-FrameTooLong-clause-text
@@ -23,3 +25,20 @@ returns-in-NoMemory-clause-text g c = puts_same _ _ _ _ _ _ _ c.put-in-NoMemory.
 pub returns-in-ListenRefused-clause-text : goal.returns-in-ListenRefused-clause-text
 returns-in-ListenRefused-clause-text g c =
     puts_same _ _ _ _ _ _ _ c.tell_number-in-ListenRefused.ensures (ap (λ t. codes "slirpd: forward " ++ t) (sym (append_assoc (decimal c.in-ListenRefused.forward) (codes " refused") (10 ∷ []))) ∙ ap told_text (sym c.in-ListenRefused.is))
+
+pub returns-in-BadConfig-clause-text : goal.returns-in-BadConfig-clause-text
+returns-in-BadConfig-clause-text g c =
+    puts_same _ _ _ _ _ _ _ c.tell_named.ensures (ap (λ (n : List ℕ). codes "slirpd: config: " ++ n ++ 10 ∷ []) c.name.ensures ∙ ap told_text (sym c.in-BadConfig.is))
+
+pub returns-in-ScheduleLine-clause-text : goal.returns-in-ScheduleLine-clause-text
+returns-in-ScheduleLine-clause-text g c = puts_same _ _ _ _ _ _ _ c.tell_number.ensures (ap told_text (sym c.in-ScheduleLine.is))
+
+pub returns-in-Diverged-clause-text : goal.returns-in-Diverged-clause-text
+returns-in-Diverged-clause-text g c = puts_same _ _ _ _ _ _ _ c.tell_divergence.ensures (ap told_text (sym c.in-Diverged.is))
+
+unread : (o : Outcome) → (o ≡ ScheduleRead) ⊎ (o ≡ ScheduleTooLarge) → told_text ScheduleRead ≡ told_text o
+unread o (inl is) = ap told_text (sym is)
+unread o (inr is) = ap told_text (sym is)
+
+pub returns-in-ScheduleRead-clause-text : goal.returns-in-ScheduleRead-clause-text
+returns-in-ScheduleRead-clause-text g c = puts_same _ _ _ _ _ _ _ c.put-in-ScheduleRead.ensures (unread c.args.self.now c.in-ScheduleRead.is)

@@ -3,7 +3,8 @@ use Rattle.world_face.specs.Frames.{LinkEnded, LinkCut, LongFrame, LinkFailed}
 use Rattle.world_face.specs.Tells.{Brings}
 use Rattle.world_face.proofs.Telling.{brings_none, brings_from, brings_then}
 use Rattle.stream_netdev.specs.declared.Arrived.TheVariants.{Frame, NotYet, End, Cut, TooLong, Failed}
-use Rattle.slirp_laws.specs.Datagrams.{Errand, step_for}
+use Rattle.slirp_laws.specs.Datagrams.{Errand}
+use Rattle.slirp_laws.specs.Relayed.{step_for}
 use Rattle.slirp_core.specs.Packets.{errand_in}
 use Rattle.slirp_core.specs.Datagrams.{errand_of}
 use Rattle.slirp_core.specs.Holds.{HoldsAt, Holds, standing, AfterTurn}

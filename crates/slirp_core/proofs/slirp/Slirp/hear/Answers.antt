@@ -6,7 +6,7 @@ use Rattle.world_face.specs.declared.Got.TheVariants.{From, NotYet, Failed}
 use Rattle.world_face.proofs.Telling.{brings_none, brings_one, makes_one}
 use Rattle.udp_assoc.specs.Associations.{numbered}
 use Rattle.udp_assoc.specs.declared.assocs.Association.{Association}
-use Rattle.slirp_laws.specs.Answers.{frames_of, reply}
+use Rattle.slirp_laws.specs.Answers.{frames_of, reply_at}
 use Rattle.slirp_core.specs.Holds.{Holds, standing}
 use Rattle.slirp_core.proofs.Relaying.{after_hearing, after_not_yet, after_no_hearing}
 use Rattle.slirp_core.proofs.Counted.{grown}
@@ -21,7 +21,7 @@ returns-in-From-clause-makes g c config count wants item items link reported out
     let found : numbered c.args.number slirp.associations ≡ Some a = sym c.in-Some.ensures in
     let none = ap (λ (s : SlirpState). s.pending) c.self.view_is ∙ c.requires.none in
     let octets = take c.in-From.count c.udp_recv.new.into in
-    let new = c.answer_peer.ensures ∙ ap (λ (l : List Association). record slirp { associations = l; pending = frames_of slirp.config slirp.sent (reply slirp.config c.in-From.peer octets a) }) c.heard.ensures in
+    let new = c.answer_peer.ensures ∙ ap (λ (l : List Association). record slirp { associations = l; pending = frames_of slirp.config slirp.sent (reply_at slirp.config c.in-From.peer octets a.guest a.mac.0) }) c.heard.ensures in
     subst (λ (s : SlirpState). Brings (g.W.World.tells c.args.world.now) (g.W.World.tells c.udp_recv.new.self) (Holds config (standing count wants (item ∷ items)) s link) (Holds config (standing count wants items) c.answer_peer.new.self link)) c.self.view_is
     (brings_one c.in-From.ensures (λ allowed past holds.
     subst (λ (s : SlirpState). Holds config (standing count wants items) s link (UdpRecv c.args.number (length c.args.into.now) (From c.in-From.peer c.in-From.count) octets ∷ past)) (sym new)

@@ -6,7 +6,8 @@ use Rattle.world_face.specs.Journal.{Close}
 use Rattle.world_face.proofs.Telling.{brings_one}
 use Rattle.udp_assoc.specs.Associations.{most_associations}
 use Rattle.udp_assoc.specs.declared.assocs.Association.{Association}
-use Rattle.slirp_laws.specs.Datagrams.{Step, NeedsSocket, without_socket}
+use Rattle.slirp_laws.specs.Datagrams.{Step, NeedsSocket}
+use Rattle.slirp_laws.specs.Relayed.{without_socket}
 use Rattle.slirp_core.specs.Holds.{HoldsAt}
 use Rattle.slirp_core.proofs.Relaying.{after_yielding, yields_first, fewer_left}
 use Rattle.slirp_core.proofs.slirp.Slirp.make_room.Goals as goal
@@ -19,10 +20,11 @@ returns-in-Some-clause-makes g c config at link =
     let oldest = c.in-Some.oldest.now in
     let full : nat_le most_associations (length i.associations) ≡ true = sym c.is_full.ensures ∙ c.if-is_full.true in
     let first = yields_first i.associations oldest errand (ap (λ (l : List Association). slice_get l 0) (sym c.as_slice.ensures.all) ∙ sym c.in-Some.ensures.value) full in
+    let most = subst (λ (l : List Association). length l ≤ most_associations) c.as_slice.ensures.all c.as_slice.ensures.most in
     subst (λ (s : SlirpState). Brings (g.W.World.tells c.args.world.now) (g.W.World.tells c.close.new.self) (HoldsAt config at (without_socket s.associations errand) s link) (HoldsAt config at (NeedsSocket errand) (record slirp { associations = c.close-in-Some.new.self }) link)) c.self.view_is
     (brings_one c.close.ensures (λ allowed past holds.
     subst (λ (l : List Association). HoldsAt config at (NeedsSocket errand) (record slirp { associations = l }) link (Close oldest.number ∷ past)) (sym c.close-in-Some.ensures)
-    (after_yielding config at slirp link past oldest first.0 errand first.1 (subst (λ (t : Step). HoldsAt config at t slirp link past) first.2 holds))))
+    (after_yielding config at slirp link past oldest first.0 errand first.1 (fewer_left i.associations first.0 oldest first.1 most) (subst (λ (t : Step). HoldsAt config at t slirp link past) first.2 holds))))
 
 pub returns-in-Some-clause-room : goal.returns-in-Some-clause-room
 returns-in-Some-clause-room g c =

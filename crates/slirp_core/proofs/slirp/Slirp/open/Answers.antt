@@ -9,7 +9,8 @@ use Rattle.host_policy.specs.Targets.{anywhere}
 use Rattle.udp_assoc.specs.Associations.{numbers}
 use Rattle.run_laws.specs.Sockets.{is_among}
 use Rattle.udp_assoc.specs.declared.assocs.Association.{Association}
-use Rattle.slirp_laws.specs.Datagrams.{NeedsSocket, NeedsSending, association}
+use Rattle.slirp_laws.specs.Datagrams.{NeedsSocket, NeedsSending}
+use Rattle.slirp_laws.specs.Relayed.{association}
 use Rattle.slirp_core.specs.Holds.{HoldsAt, Holds}
 use Rattle.slirp_core.proofs.Relaying.{after_open, after_refusal}
 use Rattle.slirp_core.proofs.Sockets.{last_among}

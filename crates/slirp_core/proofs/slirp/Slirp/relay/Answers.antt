@@ -4,7 +4,7 @@ use Rattle.slirp_core.specs.State.{SlirpState}
 use Rattle.slirp_core.specs.Datagrams.{errand_of}
 use Rattle.world_face.proofs.Telling.{brings_then}
 use Rattle.udp_assoc.specs.Associations.{socket_of}
-use Rattle.slirp_laws.specs.Datagrams.{with_socket}
+use Rattle.slirp_laws.specs.Relayed.{with_socket}
 use Rattle.slirp_core.specs.Holds.{HoldsAt, Holds}
 use Rattle.slirp_core.proofs.Sockets.{socket_among}
 use Rattle.slirp_core.proofs.slirp.Slirp.relay.Goals as goal

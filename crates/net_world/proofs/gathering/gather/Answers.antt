@@ -1,0 +1,13 @@
+use Rattle.std.proofs.Common.{rules}
+use Rattle.net_world.proofs.Picking.{goes_on_from, goes_on_last}
+use Rattle.net_world.proofs.gathering.gather.Goals as goal
+
+pub loop-listed-init : goal.loop-listed-init
+loop-listed-init c = record {
+  picks = goes_on_from _ _ _ _ _ c.items.ensures c.requires.none c.gather_one-left.ensures.goes_on;
+  few = search rules;
+  capacity = search rules;
+}
+
+pub returns-clause-picked : goal.returns-clause-picked
+returns-clause-picked c = goes_on_last _ _ _ c.loop-listed.invariant.picks

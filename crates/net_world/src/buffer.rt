@@ -1,0 +1,135 @@
+// Octets on their way.
+ghost use Rattle.std.specs.Prelude.{◌≡◌, ℕ, ◌+◌, ◌<◌, ◌≤◌, ◌==◌, ◌++◌, List, [], length, take, drop, IfOk, OnErr};
+ghost use Rattle.std.specs.Bool.{OnTrue, OnFalse};
+
+use crate::again;
+use net_octets::NoMemory;
+use std::alloc::Global;
+use std::io;
+use std::io::{Read, Write};
+use std::marker::Model;
+
+/// Octets in the order in which they came, with room for a fixed number, all of it taken at opening.
+#[derive(Drop)]
+pub(crate) struct Buffer {
+    octets: Vec<u8>,
+    from: usize,
+    to: usize,
+}
+
+impl Model for Buffer {
+    ghost use Rattle.std.specs.Prelude.{ℕ, List, ◌≡◌, ◌-◌, ◌≤◌, length, take, drop};
+
+    ghost Value = { List ℕ };
+
+    ghost view = { λ b. take (b.to - b.from) (drop b.from b.octets.items) };
+
+    ghost invariant = { λ b. (b.from ≤ b.to) × (b.to ≤ length b.octets.items) };
+}
+
+impl Buffer {
+    pub fn open(alloc: Global, room: usize) -> Result<Buffer, NoMemory>
+        ensures { IfOk result (λ buffer. buffer ≡ []) }
+    {
+        let Ok(octets) = vec![in alloc; 0; room] else {
+            return Err(NoMemory);
+        };
+        Ok(Buffer {
+            octets,
+            from: 0,
+            to: 0,
+        })
+    }
+
+    pub fn is_empty(&self) -> bool
+        ensures { result ≡ (length self.now == 0) }
+    {
+        self.from == self.to
+    }
+
+    /// How many octets can be put at the end.
+    pub fn room(&self) -> usize {
+        self.octets.len() - self.to
+    }
+
+    /// Moves octets out, the first first, as many as there are and fit.
+    pub fn take(&mut self, into: &mut [u8]) -> usize
+        ensures moved { self.old ≡ take result into.new ++ self.new }
+        ensures fits { result ≤ length into.old }
+        ensures some { 0 < length self.old → 0 < length into.old → 0 < result }
+    {
+        let count = into.len().min(self.to - self.from);
+        into[..count].copy_from_slice(&self.octets[self.from..self.from + count]);
+        self.from += count;
+        count
+    }
+
+    /// Puts octets at the end, where there is room.
+    pub fn put(&mut self, octets: &[u8]) -> bool
+        ensures put { OnTrue result (self.new ≡ self.old ++ octets.now) }
+        ensures unchanged { OnFalse result (self.new ≡ self.old) }
+    {
+        if self.octets.len() - self.to < octets.len() {
+            return false;
+        }
+        write_part(&mut self.octets, self.to, octets);
+        self.to += octets.len();
+        true
+    }
+
+    /// Moves what there is to the front.
+    pub fn settle(&mut self)
+        ensures { self.new ≡ self.old }
+    {
+        if self.from > 0 {
+            self.octets.copy_within(self.from..self.to, 0);
+            self.to -= self.from;
+            self.from = 0;
+        }
+    }
+
+    /// Reads octets to the end by one call, as many as there is room for.
+    pub fn fill<T: Read>(&mut self, source: &mut T) -> io::Result<usize>
+        ensures came { IfOk result (λ count. (came : List ℕ) × (length came ≡ count) × (self.new ≡ self.old ++ came)) }
+        ensures unchanged { OnErr result (self.new ≡ self.old) }
+    {
+        match read_part(source, &mut self.octets, self.to) {
+            Ok(count) => {
+                self.to += count;
+                Ok(count)
+            }
+            Err(fault) => Err(fault),
+        }
+    }
+
+    /// Writes octets by one call, and drops what was taken.
+    pub fn drain<T: Write>(&mut self, sink: &mut T) -> io::Result<usize>
+        ensures left { IfOk result (λ count. self.new ≡ drop count self.old) }
+        ensures unchanged { OnErr result (self.new ≡ self.old) }
+    {
+        let count = again::write(sink, &self.octets[self.from..self.to])?;
+        self.from += count;
+        Ok(count)
+    }
+}
+
+// Writes octets into a part.
+fn write_part(into: &mut [u8], from: usize, octets: &[u8])
+    requires { from + length octets.now ≤ length into.old }
+    ensures { take (from + length octets.now) into.new ≡ take from into.old ++ octets.now }
+{
+    into[from..from + octets.len()].copy_from_slice(octets);
+}
+
+// Reads octets into the part from a place on.
+fn read_part<T: Read>(source: &mut T, into: &mut [u8], from: usize) -> io::Result<usize>
+    requires { from ≤ length into.old }
+    ensures came { IfOk result (λ count. (came : List ℕ) × (length came ≡ count) × (take (from + count) into.new ≡ take from into.old ++ came)) }
+    ensures fits { IfOk result (λ count. from + count ≤ length into.old) }
+    ensures same { take from into.new ≡ take from into.old }
+{
+    match again::read(source, &mut into[from..]) {
+        Ok(count) => Ok(count),
+        Err(fault) => Err(fault),
+    }
+}

@@ -1,0 +1,275 @@
+// The sockets of a World, the clock, and what the system tells of them.
+ghost use Rattle.std.specs.Prelude.{◌≡◌, ◌≤◌, ◌<◌, [], length};
+ghost use Rattle.std.specs.Bool.{OnFalse};
+ghost use Rattle.poll_list.specs.Listing.{AreWants};
+ghost use Rattle.net_world.specs.Picks.{IsPickedFrom};
+ghost use Rattle.world_face.specs.Journal.{MayRead, MayWrite, MayWait};
+ghost use Rattle.world_face.specs.Limits.{most_ready, most_wants};
+
+use crate::gathering::{gather, gather_link};
+use crate::link::{LINK, Link};
+use crate::sockets::{Known, MOST, Sockets};
+use mio::{Events, Poll};
+use net_octets::NoMemory;
+use poll_list::{ReadyList, Wants};
+use std::alloc::Global;
+use std::fs::Files;
+use std::net::Net;
+use std::time::{Clock, Duration, Instant};
+use world_face::{Accepted, Endpoint, Io, LinkAt, Waited};
+
+/// A moment is at most this.
+const LAST_MOMENT: u64 = 1 << 62;
+
+/// How many waits in a row are answered from what is known, before the system is asked.
+const MOST_KNOWN: u32 = 64;
+
+/// How often the system is asked at most in one wait, where what it tells isn't wanted.
+const MOST_ASKED: u32 = 1024;
+
+#[derive(Drop)]
+pub(crate) struct Edge {
+    pub link: Link,
+    pub sockets: Sockets,
+    // None where the system gave none.
+    poll: Option<Poll>,
+    events: Events,
+    start: Option<Instant>,
+    moment: u64,
+    /// How many waits in a row were answered from what was known.
+    answered: u32,
+}
+
+impl Edge {
+    /// No socket, and room for all.
+    pub fn open<R: Net + Clock>(rt: &R, alloc: Global) -> Result<Edge, NoMemory> {
+        let link = Link::open(alloc)?;
+        let sockets = Sockets::open(alloc)?;
+        let Ok(events) = Events::with_capacity(alloc, MOST) else {
+            return Err(NoMemory);
+        };
+        Ok(Edge {
+            link,
+            sockets,
+            poll: Poll::new(rt).ok(),
+            events,
+            start: Instant::now(rt).ok(),
+            moment: 0,
+            answered: 0,
+        })
+    }
+
+    /// The moment of the last wait that asked the system, in milliseconds since it was opened.
+    pub fn moment(&self) -> u64 {
+        self.moment
+    }
+
+    /// Listens for the link at a place.
+    pub fn link_open<R: Net + Files>(&mut self, rt: &R, at: &LinkAt) -> bool {
+        match &self.poll {
+            Some(poll) => self.link.listen(rt, poll.registry(), at),
+            None => false,
+        }
+    }
+
+    pub fn link_read<R: Net + Files>(&mut self, rt: &R, into: &mut [u8]) -> Io
+        requires { 0 < length into.old }
+        ensures { MayRead (length into.old) result }
+    {
+        if let Some(poll) = &self.poll {
+            self.link.take_peer(rt, poll.registry());
+        }
+        self.link.read(into)
+    }
+
+    pub fn link_write<R: Net + Files>(&mut self, rt: &R, from: &[u8]) -> Io
+        requires { 0 < length from.now }
+        ensures { MayWrite (length from.now) result }
+    {
+        let Some(poll) = &self.poll else {
+            return Io::Failed;
+        };
+        self.link.take_peer(rt, poll.registry());
+        self.link.write(poll.registry(), from)
+    }
+
+    pub fn connect<R: Net>(&mut self, rt: &R, number: u64, to: Endpoint) -> bool {
+        match &self.poll {
+            Some(poll) => self.sockets.connect(rt, poll.registry(), number, to),
+            None => false,
+        }
+    }
+
+    pub fn listen<R: Net>(&mut self, rt: &R, number: u64, at: Endpoint) -> bool {
+        match &self.poll {
+            Some(poll) => self.sockets.listen(rt, poll.registry(), number, at),
+            None => false,
+        }
+    }
+
+    pub fn accept(&mut self, listener: u64, number: u64) -> Accepted {
+        match &self.poll {
+            Some(poll) => self.sockets.accept(poll.registry(), listener, number),
+            None => Accepted::Failed,
+        }
+    }
+
+    pub fn udp_open<R: Net>(&mut self, rt: &R, number: u64, at: Endpoint) -> bool {
+        match &self.poll {
+            Some(poll) => self.sockets.udp_open(rt, poll.registry(), number, at),
+            None => false,
+        }
+    }
+
+    /// Answers a wait: from what is known to be ready where that is some, else from what the system tells.
+    pub fn wait<R: Net + Files + Clock>(
+        &mut self,
+        rt: &R,
+        wants: &Wants,
+        timeout: Option<u64>,
+        ready: &mut ReadyList,
+    ) -> Waited
+        requires some { AreWants wants.now.items }
+        requires few { length wants.now.items ≤ most_wants }
+        requires room { most_ready ≤ ready.old.capacity }
+        ensures answer { MayWait wants.now.items result ready.new.items }
+        ensures picked { IsPickedFrom wants.now.items ready.new.items }
+        ensures capacity { ready.new.capacity ≡ ready.old.capacity }
+    {
+        ready.clear();
+        self.offer_known(wants, ready);
+        let known = !ready.items().is_empty();
+        if known && self.answered < MOST_KNOWN {
+            self.answered += 1;
+            return Waited::Ready;
+        }
+        self.answered = 0;
+        if self.ask_until_ready(rt, wants, timeout, ready) {
+            Waited::Ready
+        } else {
+            Waited::Failed
+        }
+    }
+
+    // What is known to be ready. Where octets of the link were read ahead it is the link alone; where none were, a link that may have some waits until the system is asked.
+    fn offer_known(&self, wants: &Wants, ready: &mut ReadyList)
+        requires none { ready.old.items ≡ [] }
+        requires room { length wants.now.items ≤ ready.old.capacity }
+        ensures picked { IsPickedFrom wants.now.items ready.new.items }
+        ensures few { length ready.new.items ≤ length wants.now.items }
+        ensures capacity { ready.new.capacity ≡ ready.old.capacity }
+    {
+        if self.link.is_ahead() {
+            gather_link(wants, ready);
+            if !ready.items().is_empty() {
+                return;
+            }
+        }
+        let link = Known {
+            read: false,
+            write: self.link.is_writable(),
+        };
+        gather(wants, link, &self.sockets, ready);
+    }
+
+    // Asks the system until something that is wanted is ready, or the time is over.
+    fn ask_until_ready<R: Net + Files + Clock>(
+        &mut self,
+        rt: &R,
+        wants: &Wants,
+        timeout: Option<u64>,
+        ready: &mut ReadyList,
+    ) -> bool
+        requires room { length wants.now.items ≤ ready.old.capacity }
+        ensures picked { IsPickedFrom wants.now.items ready.new.items }
+        ensures none { OnFalse result (ready.new.items ≡ []) }
+        ensures few { length ready.new.items ≤ length wants.now.items }
+        ensures capacity { ready.new.capacity ≡ ready.old.capacity }
+    {
+        let until = timeout.map(|limit| self.moment.saturating_add(limit));
+        for _ in 0..MOST_ASKED {
+            ready.clear();
+            self.offer_all(wants, ready);
+            let limit = if ready.items().is_empty() {
+                until.map(|until| until.saturating_sub(self.moment))
+            } else {
+                Some(0)
+            };
+            if !self.ask(rt, limit) {
+                ready.clear();
+                return false;
+            }
+            ready.clear();
+            self.offer_all(wants, ready);
+            let over = matches!(until, Some(until) if until <= self.moment);
+            if over || !ready.items().is_empty() {
+                return true;
+            }
+        }
+        ready.clear();
+        true
+    }
+
+    // All that is ready, the link too.
+    fn offer_all(&self, wants: &Wants, ready: &mut ReadyList)
+        requires none { ready.old.items ≡ [] }
+        requires room { length wants.now.items ≤ ready.old.capacity }
+        ensures picked { IsPickedFrom wants.now.items ready.new.items }
+        ensures few { length ready.new.items ≤ length wants.now.items }
+        ensures capacity { ready.new.capacity ≡ ready.old.capacity }
+    {
+        let link = Known {
+            read: self.link.is_readable(),
+            write: self.link.is_writable(),
+        };
+        gather(wants, link, &self.sockets, ready);
+    }
+
+    // Writes what was gathered, and asks the system what is ready, for at most so many milliseconds.
+    fn ask<R: Net + Files + Clock>(&mut self, rt: &R, limit: Option<u64>) -> bool {
+        let Some(poll) = &mut self.poll else {
+            return false;
+        };
+        self.link.flush(poll.registry());
+        if poll
+            .poll(&mut self.events, limit.map(Duration::from_millis))
+            .is_err()
+        {
+            return false;
+        }
+        note_events(&self.events, &mut self.link, &mut self.sockets);
+        self.link.take_peer(rt, poll.registry());
+        self.link.flush(poll.registry());
+        self.look(rt);
+        true
+    }
+
+    // Asks for the moment. It never falls.
+    fn look<R: Clock>(&mut self, rt: &R) {
+        if let Some(moment) = moment_since(rt, self.start) {
+            self.moment = self.moment.max(moment.min(LAST_MOMENT));
+        }
+    }
+
+    /// Ends what stands: what was gathered goes out, as much as is taken at once, and no file of a listener stays.
+    pub fn shut<R: Net + Files>(&mut self, rt: &R) {
+        self.link.shut(rt);
+    }
+}
+
+// Notes what the system told.
+fn note_events(events: &Events, link: &mut Link, sockets: &mut Sockets) {
+    for event in events {
+        if event.token() == LINK {
+            link.note(event);
+        } else {
+            sockets.note(event);
+        }
+    }
+}
+
+// How long ago that was, in milliseconds.
+fn moment_since<R: Clock>(rt: &R, start: Option<Instant>) -> Option<u64> {
+    let passed = start?.elapsed(rt).ok()?;
+    Some(u64::try_from(passed.as_millis()).unwrap_or(u64::MAX))
+}

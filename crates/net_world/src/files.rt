@@ -1,0 +1,90 @@
+// Files.
+ghost use Rattle.std.specs.Prelude.{◌<◌, length};
+ghost use Rattle.world_face.specs.Journal.{MayReadFile};
+
+use crate::again;
+use arrayvec::ArrayString;
+use std::fs::{File, Files, OpenFile};
+use std::io::{ErrorKind, Seek, SeekFrom};
+use std::{fs, io};
+use world_face::{FileSize, Io};
+
+/// The greatest name of a file.
+const LONGEST: usize = 1280;
+
+/// The file that was measured or read last stays open, so that it is one file from its length to its end, whatever is put in its place meanwhile.
+#[derive(Drop)]
+pub(crate) struct OpenedFile<R: Files> {
+    name: ArrayString<LONGEST>,
+    file: Option<R::File>,
+}
+
+impl<R: Files> OpenedFile<R> {
+    pub fn none() -> OpenedFile<R> {
+        OpenedFile {
+            name: ArrayString::new(),
+            file: None,
+        }
+    }
+
+    /// The length of a regular file.
+    pub fn measure(&mut self, rt: &R, name: &str) -> FileSize {
+        match open_regular(rt, name) {
+            Ok((file, length)) => {
+                self.keep(name, file);
+                FileSize::Length(length)
+            }
+            Err(fault) if fault.kind() == ErrorKind::NotFound => FileSize::Missing,
+            Err(_) => FileSize::Failed,
+        }
+    }
+
+    /// Octets of a regular file from a place on.
+    pub fn read(&mut self, rt: &R, name: &str, at: u64, into: &mut [u8]) -> Io
+        requires { 0 < length into.old }
+        ensures { MayReadFile (length into.old) result }
+    {
+        if self.name.as_str() != name {
+            match open_regular(rt, name) {
+                Ok((file, _)) => self.keep(name, file),
+                Err(_) => return Io::Failed,
+            }
+        }
+        match &mut self.file {
+            Some(file) => read_at(file, at, into),
+            None => Io::Failed,
+        }
+    }
+
+    fn keep(&mut self, name: &str, file: R::File) {
+        self.name.clear();
+        self.file = self.name.try_push_str(name).is_ok().then_some(file);
+    }
+}
+
+// Opens a file that is regular. It is looked at before, since to open a pipe would wait for its other end, and again once it is open.
+fn open_regular<R: Files>(rt: &R, name: &str) -> io::Result<(R::File, u64)> {
+    if !fs::metadata(rt, name)?.is_file() {
+        return Err(io::Error::from(ErrorKind::InvalidInput));
+    }
+    let file = File::open(rt, name)?;
+    let about = file.metadata()?;
+    if !about.is_file() {
+        return Err(io::Error::from(ErrorKind::InvalidInput));
+    }
+    Ok((file, about.len()))
+}
+
+fn read_at<F: io::Read + Seek>(file: &mut F, at: u64, into: &mut [u8]) -> Io
+    requires { 0 < length into.old }
+    ensures { MayReadFile (length into.old) result }
+{
+    if file.seek(SeekFrom::Start(at)).is_err() {
+        return Io::Failed;
+    }
+    match again::read(file, into) {
+        Ok(0) => Io::End,
+        Ok(count) => Io::Done(count),
+        Err(_) => Io::Failed,
+    }
+}

@@ -1,0 +1,293 @@
+// The stream to the guest.
+ghost use Rattle.std.specs.Prelude.{◌<◌, length};
+ghost use Rattle.world_face.specs.Journal.{MayRead, MayWrite};
+
+use crate::buffer::Buffer;
+use crate::socket_file;
+use crate::sockets::{address, is_not_yet, send_at_once};
+use arrayvec::ArrayString;
+use mio::event::Event;
+use mio::net::{TcpListener, TcpStream, UnixListener, UnixStream};
+use mio::{Interest, Registry, Token};
+use net_octets::NoMemory;
+use std::alloc::Global;
+use std::fs::Files;
+use std::io;
+use std::net::Net;
+use world_face::{Io, LinkAt};
+
+/// The token of the link.
+pub(crate) const LINK: Token = Token(usize::MAX);
+
+/// How many octets are read ahead, and how many are gathered before they are written.
+const ROOM: usize = 65_536;
+
+/// The greatest frame out, with its length.
+const LONGEST: usize = 1518;
+
+/// Where the link stands: a listener becomes its first peer.
+#[derive(Drop)]
+enum Place {
+    Closed,
+    ListensUnix(UnixListener),
+    ListensTcp(TcpListener),
+    Unix(UnixStream),
+    Tcp(TcpStream),
+}
+
+/// The link. What came is kept in `inbox` until it is read, and what goes out in `outbox` until it is flushed.
+#[derive(Drop)]
+pub(crate) struct Link {
+    place: Place,
+    /// Where the file of a Unix listener stands; empty where there is none.
+    path: ArrayString<107>,
+    inbox: Buffer,
+    outbox: Buffer,
+    /// More may have come.
+    readable: bool,
+    /// The system may take octets.
+    takes: bool,
+    /// No more will come than what has.
+    ended: bool,
+    /// The system is to tell when it takes octets again.
+    watched: bool,
+    /// A write failed.
+    broken: bool,
+}
+
+impl Link {
+    /// A closed link.
+    pub fn open(alloc: Global) -> Result<Link, NoMemory> {
+        let inbox = Buffer::open(alloc, ROOM)?;
+        let outbox = Buffer::open(alloc, ROOM)?;
+        Ok(Link {
+            place: Place::Closed,
+            path: ArrayString::new(),
+            inbox,
+            outbox,
+            readable: false,
+            takes: false,
+            ended: false,
+            watched: false,
+            broken: false,
+        })
+    }
+
+    /// Listens at a place, where it is closed.
+    pub fn listen<R: Net + Files>(&mut self, rt: &R, registry: &Registry, at: &LinkAt) -> bool {
+        if !matches!(self.place, Place::Closed) {
+            return false;
+        }
+        let listening = match at {
+            LinkAt::Unix(path) => self.listen_at_path(rt, path.as_str()),
+            LinkAt::Tcp(at) => match TcpListener::bind(rt, address(*at)) {
+                Ok(listener) => {
+                    self.place = Place::ListensTcp(listener);
+                    true
+                }
+                Err(_) => false,
+            },
+        };
+        if listening && !register(&mut self.place, registry) {
+            self.shut(rt);
+            return false;
+        }
+        listening
+    }
+
+    // Listens at a path, and keeps it as the place of its file.
+    fn listen_at_path<R: Net + Files>(&mut self, rt: &R, path: &str) -> bool {
+        match socket_file::listen(rt, path) {
+            Ok(listener) => {
+                self.place = Place::ListensUnix(listener);
+                self.path.clear();
+                self.path.try_push_str(path).is_ok()
+            }
+            Err(_) => false,
+        }
+    }
+
+    /// Takes the first peer, where one came. The listener is closed by that, and its file is removed.
+    pub fn take_peer<R: Net + Files>(&mut self, rt: &R, registry: &Registry) {
+        let peer = match &self.place {
+            Place::ListensUnix(listener) => match listener.accept() {
+                Ok((stream, _)) => Place::Unix(stream),
+                Err(_) => return,
+            },
+            Place::ListensTcp(listener) => match listener.accept() {
+                Ok((stream, _)) => {
+                    send_at_once(&stream);
+                    Place::Tcp(stream)
+                }
+                Err(_) => return,
+            },
+            _ => return,
+        };
+        self.place = peer;
+        self.readable = true;
+        self.takes = true;
+        self.remove_file(rt);
+        if !register(&mut self.place, registry) {
+            self.shut(rt);
+        }
+    }
+
+    /// Closes it. What was gathered goes out before, as much as is taken at once.
+    pub fn shut<R: Net + Files>(&mut self, rt: &R) {
+        self.write_out();
+        self.place = Place::Closed;
+        self.remove_file(rt);
+    }
+
+    // Removes the file of a listener that was closed.
+    fn remove_file<R: Net + Files>(&mut self, rt: &R) {
+        if !self.path.is_empty() {
+            socket_file::remove(rt, self.path.as_str());
+            self.path.clear();
+        }
+    }
+
+    /// Notes what the system told of it.
+    pub fn note(&mut self, event: &Event) {
+        self.ended = self.ended || event.is_error() || event.is_read_closed();
+        self.readable = self.readable || self.ended || event.is_readable();
+        self.takes = self.takes
+            || event.is_error()
+            || event.is_writable()
+            || event.is_write_closed();
+    }
+
+    /// Whether a read may bring something.
+    pub fn is_readable(&self) -> bool {
+        self.readable || !self.inbox.is_empty()
+    }
+
+    /// Whether octets were read ahead.
+    pub fn is_ahead(&self) -> bool {
+        !self.inbox.is_empty()
+    }
+
+    /// Whether a write would be taken.
+    pub fn is_writable(&self) -> bool {
+        self.broken || self.outbox.room() >= LONGEST
+    }
+
+    /// Reads octets that came.
+    pub fn read(&mut self, into: &mut [u8]) -> Io
+        requires { 0 < length into.old }
+        ensures { MayRead (length into.old) result }
+    {
+        if self.inbox.is_empty() {
+            match self.read_ahead() {
+                Ok(0) => return Io::End,
+                Ok(_) => {}
+                Err(fault) if is_not_yet(&fault) => return Io::NotYet,
+                Err(_) => return Io::Failed,
+            }
+        }
+        match self.inbox.take(into) {
+            0 => Io::NotYet,
+            count => Io::Done(count),
+        }
+    }
+
+    // Reads as much as there is room for. Where less came there is no more for now.
+    fn read_ahead(&mut self) -> io::Result<usize> {
+        self.inbox.settle();
+        let room = self.inbox.room();
+        let read = match &mut self.place {
+            Place::Unix(stream) => self.inbox.fill(stream),
+            Place::Tcp(stream) => self.inbox.fill(stream),
+            Place::ListensUnix(_) | Place::ListensTcp(_) => {
+                Err(io::Error::from(io::ErrorKind::WouldBlock))
+            }
+            Place::Closed => Err(io::Error::from(io::ErrorKind::NotConnected)),
+        };
+        self.readable = match &read {
+            Ok(count) => self.ended || *count == 0 || *count == room,
+            Err(fault) => !is_not_yet(fault),
+        };
+        read
+    }
+
+    /// Gathers octets that go out. Where there is no room the link is flushed before, and none is taken where that makes no room.
+    pub fn write(&mut self, registry: &Registry, from: &[u8]) -> Io
+        requires { 0 < length from.now }
+        ensures { MayWrite (length from.now) result }
+    {
+        match &self.place {
+            Place::Unix(_) | Place::Tcp(_) => {}
+            Place::ListensUnix(_) | Place::ListensTcp(_) => return Io::NotYet,
+            Place::Closed => return Io::Failed,
+        }
+        if self.outbox.room() < from.len() {
+            self.flush(registry);
+        }
+        if self.broken {
+            Io::Failed
+        } else if self.outbox.put(from) {
+            Io::Done(from.len())
+        } else {
+            Io::NotYet
+        }
+    }
+
+    /// Writes what was gathered by one call, where the system may take it. Where it doesn't take all of it, it is to tell when it takes more.
+    pub fn flush(&mut self, registry: &Registry) {
+        if self.takes && !self.outbox.is_empty() && !self.broken {
+            self.write_out();
+            self.watch(registry);
+        }
+    }
+
+    // Writes what was gathered by one call, as much as is taken.
+    fn write_out(&mut self) {
+        if self.outbox.is_empty() || self.broken {
+            return;
+        }
+        let written = match &mut self.place {
+            Place::Unix(stream) => self.outbox.drain(stream),
+            Place::Tcp(stream) => self.outbox.drain(stream),
+            _ => return,
+        };
+        self.outbox.settle();
+        self.takes = self.outbox.is_empty();
+        match written {
+            Ok(0) => self.broken = true,
+            Ok(_) => {}
+            Err(fault) => self.broken = !is_not_yet(&fault),
+        }
+    }
+
+    // Has the system tell when it takes octets again, exactly while some are left.
+    fn watch(&mut self, registry: &Registry) {
+        let wanted = !self.outbox.is_empty() && !self.broken;
+        if wanted == self.watched {
+            return;
+        }
+        let interest = if wanted {
+            Interest::READABLE | Interest::WRITABLE
+        } else {
+            Interest::READABLE
+        };
+        let done = match &mut self.place {
+            Place::Unix(stream) => registry.reregister(stream, LINK, interest),
+            Place::Tcp(stream) => registry.reregister(stream, LINK, interest),
+            _ => return,
+        };
+        self.watched = wanted;
+        self.broken = self.broken || done.is_err();
+    }
+}
+
+// Has the system tell when something came, from a peer or to a listener.
+fn register(place: &mut Place, registry: &Registry) -> bool {
+    let registered = match place {
+        Place::Closed => return false,
+        Place::ListensUnix(listener) => registry.register(listener, LINK, Interest::READABLE),
+        Place::ListensTcp(listener) => registry.register(listener, LINK, Interest::READABLE),
+        Place::Unix(stream) => registry.register(stream, LINK, Interest::READABLE),
+        Place::Tcp(stream) => registry.register(stream, LINK, Interest::READABLE),
+    };
+    registered.is_ok()
+}

@@ -1,0 +1,571 @@
+// The sockets of the host, each under its number.
+ghost use Rattle.std.specs.Prelude.{◌<◌, ◌≤◌, length, vec_capacity};
+ghost use Rattle.std.specs.List.Sorted.{IsSearchInRange};
+ghost use Rattle.std.specs.Bool.{OnFalse};
+ghost use Rattle.slab.specs.Slab.{slab_len};
+ghost use Rattle.world_face.specs.Journal.{MayRead, MayWrite, MayGet};
+ghost use Rattle.net_world.specs.declared.sockets.TheConstants.{MOST};
+
+use crate::again;
+use mio::event::Event;
+use mio::net::{TcpListener, TcpStream, UdpSocket};
+use mio::{Interest, Registry, Token};
+use net_octets::NoMemory;
+use poll_list::Who;
+use slab::Slab;
+use std::alloc::Global;
+use std::io;
+use std::io::ErrorKind;
+use std::net::{Ipv4Addr, Net, Shutdown, SocketAddr};
+use world_face::{Accepted, Endpoint, Got, Io, Ip4, Joined, Sent};
+
+/// How many sockets are open at once at most, without the link.
+pub(crate) const MOST: usize = 5160;
+
+/// Whether a read may bring something, and whether a write may be taken.
+#[derive(Clone, Copy, Debug, PartialEq, Eq)]
+pub(crate) struct Known {
+    pub read: bool,
+    pub write: bool,
+}
+
+const NOTHING: Known = Known {
+    read: false,
+    write: false,
+};
+
+#[derive(Drop)]
+enum Socket {
+    Listener(TcpListener),
+    Stream(TcpStream),
+    Datagrams(UdpSocket),
+}
+
+/// A socket, and what it was found ready for since the last call that found otherwise.
+#[derive(Drop)]
+struct Slot {
+    of: Who,
+    socket: Socket,
+    readable: bool,
+    writable: bool,
+    /// No more will come than what has.
+    ended: bool,
+    /// The system refused to give a connection that has come, since it had no descriptor for it.
+    starved: bool,
+    /// It stands in the list of those that are ready.
+    listed: bool,
+}
+
+/// Where the slab keeps the socket of a number.
+#[derive(Clone, Copy)]
+struct Place {
+    number: u64,
+    key: usize,
+}
+
+/// A socket that is ready in a direction, and where the slab keeps it.
+#[derive(Clone, Copy)]
+pub(crate) struct Listed {
+    pub of: Who,
+    key: usize,
+}
+
+/// The open sockets, the places of their numbers, the least first, and those that are ready, in the order of wants.
+#[derive(Drop)]
+pub(crate) struct Sockets {
+    slots: Slab<Slot>,
+    places: Vec<Place>,
+    ready: Vec<Listed>,
+    /// A listener waits for a descriptor.
+    starved: bool,
+    ghost room: { (MOST ≤ slots.capacity) × (MOST ≤ vec_capacity places) × (MOST ≤ vec_capacity ready) },
+}
+
+impl Sockets {
+    /// No socket, and room for all.
+    pub fn open(alloc: Global) -> Result<Sockets, NoMemory> {
+        let (Ok(slots), Ok(places), Ok(ready)) = (
+            Slab::with_capacity(alloc, MOST),
+            Vec::with_capacity(alloc, MOST),
+            Vec::with_capacity(alloc, MOST),
+        ) else {
+            return Err(NoMemory);
+        };
+        Ok(Sockets {
+            slots,
+            places,
+            ready,
+            starved: false,
+        })
+    }
+
+    /// Those that are ready in a direction, in the order of wants.
+    pub fn ready(&self) -> &[Listed] {
+        self.ready.as_slice()
+    }
+
+    /// In which directions a socket is ready.
+    pub fn known(&self, listed: &Listed) -> Known {
+        match self.slots.get(listed.key) {
+            Some(slot) => Known {
+                read: slot.readable,
+                write: slot.writable,
+            },
+            None => NOTHING,
+        }
+    }
+
+    // Whether no more sockets can be open.
+    fn is_full(&self) -> bool
+        ensures { OnFalse result (slab_len self.now.slots < MOST) }
+    {
+        self.slots.len() >= MOST
+    }
+
+    // Puts a socket under its number, and has the system tell what it is ready for.
+    fn add(&mut self, registry: &Registry, number: u64, of: Who, mut socket: Socket) -> bool {
+        if self.slots.len() >= MOST || self.places.len() >= MOST {
+            return false;
+        }
+        let Err(at) = find(&self.places, number) else {
+            return false;
+        };
+        let token = Token(self.slots.vacant_key());
+        if !register(&mut socket, registry, token) {
+            return false;
+        }
+        let key = self.slots.insert_reserved(Slot {
+            of,
+            socket,
+            readable: false,
+            writable: false,
+            ended: false,
+            starved: false,
+            listed: false,
+        });
+        self.places.insert(at, Place { number, key }).is_ok()
+    }
+
+    // Where the slab keeps the socket of a number; nowhere where there is none.
+    fn key_of(&self, number: u64) -> usize {
+        match find(&self.places, number) {
+            Ok(at) => self.places[at].key,
+            Err(_) => usize::MAX,
+        }
+    }
+
+    // Puts a socket into the list of those that are ready, or takes it out, as what is known of it says.
+    fn list(&mut self, key: usize) {
+        let Some(slot) = self.slots.get_mut(key) else {
+            return;
+        };
+        let (of, ready) = (slot.of, slot.readable || slot.writable);
+        if slot.listed != ready {
+            slot.listed = ready;
+            self.put_into_list(Listed { of, key }, ready);
+        }
+    }
+
+    // Puts a socket at its place in the list, or takes it out.
+    fn put_into_list(&mut self, listed: Listed, ready: bool) {
+        match find_listed(&self.ready, listed.of) {
+            Ok(at) => {
+                if !ready {
+                    let _was = self.ready.remove(at);
+                }
+            }
+            Err(at) => {
+                if ready && self.ready.len() < MOST {
+                    let _put = self.ready.insert(at, listed);
+                }
+            }
+        }
+    }
+
+    /// Notes what the system told of a socket.
+    pub fn note(&mut self, event: &Event) {
+        let key = event.token().0;
+        if let Some(slot) = self.slots.get_mut(key) {
+            note(slot, event);
+            self.list(key);
+        }
+    }
+
+    pub fn connect<R: Net>(
+        &mut self,
+        rt: &R,
+        registry: &Registry,
+        number: u64,
+        to: Endpoint,
+    ) -> bool {
+        match TcpStream::connect(rt, address(to)) {
+            Ok(stream) => {
+                send_at_once(&stream);
+                self.add(registry, number, Who::Tcp(number), Socket::Stream(stream))
+            }
+            Err(_) => false,
+        }
+    }
+
+    pub fn listen<R: Net>(
+        &mut self,
+        rt: &R,
+        registry: &Registry,
+        number: u64,
+        at: Endpoint,
+    ) -> bool {
+        match TcpListener::bind(rt, address(at)) {
+            Ok(listener) => self.add(
+                registry,
+                number,
+                Who::Listener(number),
+                Socket::Listener(listener),
+            ),
+            Err(_) => false,
+        }
+    }
+
+    pub fn udp_open<R: Net>(
+        &mut self,
+        rt: &R,
+        registry: &Registry,
+        number: u64,
+        at: Endpoint,
+    ) -> bool {
+        match UdpSocket::bind(rt, address(at)) {
+            Ok(socket) => self.add(
+                registry,
+                number,
+                Who::Udp(number),
+                Socket::Datagrams(socket),
+            ),
+            Err(_) => false,
+        }
+    }
+
+    /// What became of a connection.
+    pub fn connected(&mut self, number: u64) -> Joined {
+        let key = self.key_of(number);
+        let Some(slot) = self.slots.get_mut(key) else {
+            return Joined::Failed;
+        };
+        let joined = joined(slot);
+        self.list(key);
+        joined
+    }
+
+    /// Takes a connection from a listener, and puts it under its number. Where the system or this list has no room for it, it waits until another socket was closed, and the listener isn't ready before.
+    pub fn accept(&mut self, registry: &Registry, listener: u64, number: u64) -> Accepted {
+        let key = self.key_of(listener);
+        let full = self.is_full();
+        let Some(slot) = self.slots.get_mut(key) else {
+            return Accepted::Failed;
+        };
+        let came = if full { starve(slot) } else { accept(slot) };
+        self.starved = self.starved || slot.starved;
+        self.list(key);
+        match came {
+            Came::From(stream, peer) => {
+                send_at_once(&stream);
+                if self.add(registry, number, Who::Tcp(number), Socket::Stream(stream)) {
+                    Accepted::From(peer)
+                } else {
+                    Accepted::Failed
+                }
+            }
+            Came::NotYet => Accepted::NotYet,
+            Came::Failed => Accepted::Failed,
+        }
+    }
+
+    pub fn tcp_read(&mut self, number: u64, into: &mut [u8]) -> Io
+        requires { 0 < length into.old }
+        ensures { MayRead (length into.old) result }
+    {
+        let key = self.key_of(number);
+        let Some(slot) = self.slots.get_mut(key) else {
+            return Io::Failed;
+        };
+        let read = read(slot, into);
+        self.list(key);
+        read
+    }
+
+    pub fn tcp_write(&mut self, number: u64, from: &[u8]) -> Io
+        requires { 0 < length from.now }
+        ensures { MayWrite (length from.now) result }
+    {
+        let key = self.key_of(number);
+        let Some(slot) = self.slots.get_mut(key) else {
+            return Io::Failed;
+        };
+        let written = write(slot, from);
+        self.list(key);
+        written
+    }
+
+    /// Ends the writing direction.
+    pub fn tcp_end(&mut self, number: u64) -> bool {
+        let key = self.key_of(number);
+        match self.slots.get(key) {
+            Some(slot) => end(slot),
+            None => false,
+        }
+    }
+
+    pub fn udp_send(&mut self, number: u64, to: Endpoint, octets: &[u8]) -> Sent {
+        let key = self.key_of(number);
+        match self.slots.get(key) {
+            Some(slot) => send(slot, to, octets),
+            None => Sent::Failed,
+        }
+    }
+
+    pub fn udp_recv(&mut self, number: u64, into: &mut [u8]) -> Got
+        ensures { MayGet (length into.old) result }
+    {
+        let key = self.key_of(number);
+        let Some(slot) = self.slots.get_mut(key) else {
+            return Got::Failed;
+        };
+        let got = receive(slot, into);
+        self.list(key);
+        got
+    }
+
+    /// Closes a socket. Listeners that waited for its descriptor are ready again.
+    pub fn close(&mut self, number: u64) {
+        let Ok(at) = find(&self.places, number) else {
+            return;
+        };
+        let place = self.places.remove(at);
+        if let Some(slot) = self.slots.try_remove(place.key) {
+            let listed = Listed {
+                of: slot.of,
+                key: place.key,
+            };
+            self.put_into_list(listed, false);
+        }
+        if self.starved {
+            self.feed();
+        }
+    }
+
+    // Listeners that waited for a descriptor are ready again.
+    fn feed(&mut self) {
+        self.starved = false;
+        for at in 0..self.places.len() {
+            let Some(place) = self.places.get(at) else {
+                return;
+            };
+            let key = place.key;
+            if let Some(slot) = self.slots.get_mut(key) {
+                slot.readable = slot.readable || slot.starved;
+                slot.starved = false;
+                self.list(key);
+            }
+        }
+    }
+}
+
+// The place of a number, or where it would stand.
+fn find(places: &[Place], number: u64) -> Result<usize, usize>
+    ensures { IsSearchInRange result (length places.now) }
+{
+    places.binary_search_by_key(&number, |place| place.number)
+}
+
+// The place of a socket among those that are ready, or where it would stand.
+fn find_listed(ready: &[Listed], of: Who) -> Result<usize, usize>
+    ensures { IsSearchInRange result (length ready.now) }
+{
+    ready.binary_search_by_key(&rank(of), |listed| rank(listed.of))
+}
+
+/// Where something stands in the order of wants: its kind, then its number.
+pub(crate) fn rank(of: Who) -> (u8, u64) {
+    match of {
+        Who::Link => (0, 0),
+        Who::Listener(number) => (1, number),
+        Who::Udp(number) => (2, number),
+        Who::Tcp(number) => (3, number),
+    }
+}
+
+// Has the system tell what a socket is ready for. Nobody waits until datagrams can be sent.
+fn register(socket: &mut Socket, registry: &Registry, token: Token) -> bool {
+    match socket {
+        Socket::Listener(listener) => registry
+            .register(listener, token, Interest::READABLE)
+            .is_ok(),
+        Socket::Stream(stream) => registry
+            .register(stream, token, Interest::READABLE | Interest::WRITABLE)
+            .is_ok(),
+        Socket::Datagrams(socket) => registry.register(socket, token, Interest::READABLE).is_ok(),
+    }
+}
+
+fn note(slot: &mut Slot, event: &Event) {
+    let fails = event.is_error();
+    slot.ended = slot.ended || fails || event.is_read_closed();
+    slot.readable = slot.readable || slot.ended || event.is_readable();
+    slot.writable = slot.writable || fails || event.is_writable() || event.is_write_closed();
+}
+
+fn joined(slot: &mut Slot) -> Joined {
+    let Socket::Stream(stream) = &slot.socket else {
+        return Joined::Failed;
+    };
+    match stream.take_error() {
+        Ok(None) => {}
+        _ => return Joined::Failed,
+    }
+    match stream.peer_addr() {
+        Ok(_) => Joined::Yes,
+        Err(fault) if fault.kind() == ErrorKind::NotConnected => {
+            slot.writable = false;
+            Joined::NotYet
+        }
+        Err(_) => Joined::Failed,
+    }
+}
+
+// What a listener gave.
+#[derive(Drop)]
+enum Came {
+    From(TcpStream, Endpoint),
+    NotYet,
+    Failed,
+}
+
+fn accept(slot: &mut Slot) -> Came {
+    let Socket::Listener(listener) = &slot.socket else {
+        return Came::Failed;
+    };
+    match listener.accept() {
+        Ok((stream, peer)) => match endpoint(peer) {
+            Some(peer) => Came::From(stream, peer),
+            None => Came::Failed,
+        },
+        Err(fault) if is_not_yet(&fault) => {
+            slot.readable = false;
+            Came::NotYet
+        }
+        Err(fault) if fault.kind() == ErrorKind::ConnectionAborted => Came::NotYet,
+        Err(_) => starve(slot),
+    }
+}
+
+// The connection that came stays where it is.
+fn starve(slot: &mut Slot) -> Came {
+    slot.readable = false;
+    slot.starved = true;
+    Came::Failed
+}
+
+// Where less came than was asked for there is no more for now.
+fn read(slot: &mut Slot, into: &mut [u8]) -> Io
+    requires { 0 < length into.old }
+    ensures { MayRead (length into.old) result }
+{
+    let Socket::Stream(stream) = &mut slot.socket else {
+        return Io::Failed;
+    };
+    let asked = into.len();
+    match again::read(stream, into) {
+        Ok(0) => Io::End,
+        Ok(count) => {
+            slot.readable = slot.ended || count == asked;
+            Io::Done(count)
+        }
+        Err(fault) if is_not_yet(&fault) => {
+            slot.readable = false;
+            Io::NotYet
+        }
+        Err(_) => Io::Failed,
+    }
+}
+
+// Where less was taken than was offered the system takes no more for now.
+fn write(slot: &mut Slot, from: &[u8]) -> Io
+    requires { 0 < length from.now }
+    ensures { MayWrite (length from.now) result }
+{
+    let Socket::Stream(stream) = &mut slot.socket else {
+        return Io::Failed;
+    };
+    match again::write(stream, from) {
+        Ok(0) => Io::Failed,
+        Ok(count) => {
+            slot.writable = count == from.len();
+            Io::Done(count)
+        }
+        Err(fault) if is_not_yet(&fault) => {
+            slot.writable = false;
+            Io::NotYet
+        }
+        Err(_) => Io::Failed,
+    }
+}
+
+fn end(slot: &Slot) -> bool {
+    match &slot.socket {
+        Socket::Stream(stream) => stream.shutdown(Shutdown::Write).is_ok(),
+        _ => false,
+    }
+}
+
+fn send(slot: &Slot, to: Endpoint, octets: &[u8]) -> Sent {
+    let Socket::Datagrams(socket) = &slot.socket else {
+        return Sent::Failed;
+    };
+    match again::send_to(socket, octets, address(to)) {
+        Ok(_) => Sent::Done,
+        Err(fault) if is_not_yet(&fault) => Sent::NotYet,
+        Err(_) => Sent::Failed,
+    }
+}
+
+fn receive(slot: &mut Slot, into: &mut [u8]) -> Got
+    ensures { MayGet (length into.old) result }
+{
+    let Socket::Datagrams(socket) = &slot.socket else {
+        return Got::Failed;
+    };
+    match again::recv_from(socket, into) {
+        Ok((count, peer)) => match endpoint(peer) {
+            Some(peer) => Got::From(peer, count),
+            None => Got::Failed,
+        },
+        Err(fault) if is_not_yet(&fault) => {
+            slot.readable = false;
+            Got::NotYet
+        }
+        Err(_) => Got::Failed,
+    }
+}
+
+/// Has the system send what is written at once, where it can, in place of waiting for more (RFC 1122, 4.2.3.4).
+pub(crate) fn send_at_once(stream: &TcpStream) {
+    let _set = stream.set_nodelay(true);
+}
+
+/// Whether a call would have waited.
+pub(crate) fn is_not_yet(fault: &io::Error) -> bool {
+    fault.kind() == ErrorKind::WouldBlock
+}
+
+/// An endpoint, as the system has it.
+pub(crate) fn address(of: Endpoint) -> SocketAddr {
+    SocketAddr::from((Ipv4Addr::from_bits(of.addr.0), of.port))
+}
+
+fn endpoint(of: SocketAddr) -> Option<Endpoint> {
+    match of {
+        SocketAddr::V4(of) => Some(Endpoint {
+            addr: Ip4(of.ip().to_bits()),
+            port: of.port(),
+        }),
+        SocketAddr::V6(_) => None,
+    }
+}

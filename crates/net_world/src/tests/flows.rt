@@ -1,0 +1,297 @@
+// Sockets of the host.
+use super::{Asker, here, is_answered};
+use crate::NetWorld;
+use poll_list::{ReadyList, Want, Wants, Who};
+use std::alloc::Global;
+use std::io::{Read, Write};
+use std::net::{SocketAddr, TcpListener, TcpStream, UdpSocket};
+use std::test::Fail;
+use world_face::{Accepted, Endpoint, Got, Io, Ip4, Joined, Made, Sent, Waited, World};
+
+const WRITING: Want = Want {
+    of: Who::Tcp(7),
+    read: false,
+    write: true,
+};
+
+const READING: Want = Want {
+    of: Who::Tcp(7),
+    read: true,
+    write: false,
+};
+
+const LISTENER: Want = Want {
+    of: Who::Listener(5),
+    read: true,
+    write: false,
+};
+
+const DATAGRAMS: Want = Want {
+    of: Who::Udp(3),
+    read: true,
+    write: false,
+};
+
+const FIRST: Want = Want {
+    of: Who::Udp(2),
+    read: true,
+    write: false,
+};
+
+const SENDING: Want = Want {
+    of: Who::Udp(6),
+    read: false,
+    write: true,
+};
+
+const LAST: Want = Want {
+    of: Who::Udp(9),
+    read: true,
+    write: false,
+};
+
+/// A datagram goes out and its answer comes, once.
+fn exchanges_datagrams<W: World>(
+    asker: &mut Asker,
+    world: &mut W,
+    peer: &UdpSocket,
+    port: u16,
+) -> bool {
+    let mut into = [0u8; 16];
+    let anywhere = Endpoint {
+        addr: Ip4(0),
+        port: 0,
+    };
+    if world.udp_open(3, anywhere) != Made::Done
+        || world.udp_open(3, anywhere) != Made::Failed
+        || world.udp_send(3, here(port), b"ask") != Sent::Done
+    {
+        return false;
+    }
+    let answered = match peer.recv_from(&mut into) {
+        Ok((3, sender)) => peer.send_to(b"answer", sender).is_ok()
+            && peer.send_to(b"", sender).is_ok(),
+        _ => false,
+    };
+    let came = answered
+        && asker.is_ready(world, DATAGRAMS, 1000)
+        && matches!(world.udp_recv(3, &mut into), Got::From(from, 6) if from == here(port))
+        && into[..6].starts_with(b"answer")
+        && asker.is_ready(world, DATAGRAMS, 1000)
+        && matches!(world.udp_recv(3, &mut into), Got::From(_, 0))
+        && world.udp_recv(3, &mut into) == Got::NotYet
+        && !asker.is_ready(world, DATAGRAMS, 0);
+    world.close(3);
+    came && world.udp_recv(3, &mut into) == Got::Failed
+        && world.udp_send(3, here(port), b"ask") == Sent::Failed
+}
+
+#[test]
+fn datagrams_are_exchanged(rt: HostRuntime) -> Result<(), Fail> {
+    let mut asker = Asker::open(rt.alloc())?;
+    let mut world = NetWorld::open(&rt, rt.alloc())?;
+    let peer = UdpSocket::bind(&rt, "127.0.0.1:0")?;
+    let port = peer.local_addr()?.port();
+    assert!(rt; exchanges_datagrams(&mut asker, &mut world, &peer, port));
+    Ok(())
+}
+
+/// A connection is made, and octets go both ways until each side has ended.
+fn connects<W: World>(asker: &mut Asker, world: &mut W, host: &TcpListener, port: u16) -> bool {
+    let mut into = [0u8; 8];
+    if world.connect(7, here(port)) != Made::Done
+        || !asker.is_ready(world, WRITING, 1000)
+        || world.connected(7) != Joined::Yes
+        || world.tcp_write(7, b"abc") != Io::Done(3)
+    {
+        return false;
+    }
+    let Ok((mut far, _)) = host.accept() else {
+        return false;
+    };
+    if !matches!(far.read(&mut into), Ok(3)) || far.write_all(b"defg").is_err() {
+        return false;
+    }
+    if !asker.is_ready(world, READING, 1000)
+        || world.tcp_read(7, &mut into) != Io::Done(4)
+        || world.tcp_read(7, &mut into) != Io::NotYet
+        || world.tcp_end(7) != Made::Done
+        || !matches!(far.read(&mut into), Ok(0))
+    {
+        return false;
+    }
+    drop(far);
+    let ended = asker.is_ready(world, READING, 1000) && world.tcp_read(7, &mut into) == Io::End;
+    world.close(7);
+    ended && world.tcp_write(7, b"x") == Io::Failed
+}
+
+/// Nobody listens there.
+fn is_refused<W: World>(asker: &mut Asker, world: &mut W, port: u16) -> bool {
+    world.connect(7, here(port)) == Made::Done
+        && asker.is_ready(world, WRITING, 1000)
+        && world.connected(7) == Joined::Failed
+}
+
+#[test]
+fn connections_are_made_and_refused(rt: HostRuntime) -> Result<(), Fail> {
+    let mut asker = Asker::open(rt.alloc())?;
+    let mut world = NetWorld::open(&rt, rt.alloc())?;
+    let host = TcpListener::bind(&rt, "127.0.0.1:0")?;
+    let port = host.local_addr()?.port();
+    assert!(rt; connects(&mut asker, &mut world, &host, port));
+    drop(host);
+    assert!(rt; is_refused(&mut asker, &mut world, port));
+    Ok(())
+}
+
+/// A peer that reads nothing makes writes short and then not yet; once it has read, octets are taken again. A peer that goes with octets unread resets the connection.
+fn backs_up_and_breaks<W: World>(
+    asker: &mut Asker,
+    world: &mut W,
+    host: &TcpListener,
+    port: u16,
+) -> bool {
+    if world.connect(7, here(port)) != Made::Done
+        || !asker.is_ready(world, WRITING, 1000)
+        || world.connected(7) != Joined::Yes
+    {
+        return false;
+    }
+    let Ok((mut far, _)) = host.accept() else {
+        return false;
+    };
+    let piece = [7u8; 16_384];
+    let mut sent = 0u64;
+    for _ in 0..10_000u32 {
+        match world.tcp_write(7, &piece) {
+            Io::Done(count) => sent = sent.saturating_add(count as u64),
+            Io::NotYet => break,
+            _ => return false,
+        }
+    }
+    if sent < 16_384 || asker.is_ready(world, WRITING, 0) {
+        return false;
+    }
+    let mut came = 0u64;
+    let mut into = [0u8; 16_384];
+    for _ in 0..100_000u32 {
+        match far.read(&mut into) {
+            Ok(count) if count > 0 => came = came.saturating_add(count as u64),
+            _ => return false,
+        }
+        if came == sent {
+            break;
+        }
+    }
+    let again = came == sent
+        && asker.is_ready(world, WRITING, 1000)
+        && world.tcp_write(7, b"unread") == Io::Done(6);
+    drop(far);
+    again && asker.is_ready(world, READING, 1000) && world.tcp_read(7, &mut into) == Io::Failed
+}
+
+#[test]
+fn a_connection_backs_up_and_breaks(rt: HostRuntime) -> Result<(), Fail> {
+    let mut asker = Asker::open(rt.alloc())?;
+    let mut world = NetWorld::open(&rt, rt.alloc())?;
+    let host = TcpListener::bind(&rt, "127.0.0.1:0")?;
+    let port = host.local_addr()?.port();
+    assert!(rt; backs_up_and_breaks(&mut asker, &mut world, &host, port));
+    Ok(())
+}
+
+/// A connection is taken from a listener, which then has none.
+fn accepts<W: World>(asker: &mut Asker, world: &mut W) -> bool {
+    asker.is_ready(world, LISTENER, 1000)
+        && matches!(world.accept(5, 7), Accepted::From(_))
+        && world.accept(5, 8) == Accepted::NotYet
+        && !asker.is_ready(world, LISTENER, 0)
+        && world.tcp_write(7, b"abc") == Io::Done(3)
+}
+
+#[test]
+fn a_connection_is_accepted(rt: HostRuntime) -> Result<(), Fail> {
+    let mut asker = Asker::open(rt.alloc())?;
+    let mut world = NetWorld::open(&rt, rt.alloc())?;
+    let free = TcpListener::bind(&rt, "127.0.0.1:0")?;
+    let port = free.local_addr()?.port();
+    drop(free);
+    assert!(rt; world.listen(5, here(port)) == Made::Done);
+    assert!(rt; world.listen(6, here(port)) == Made::Failed);
+    let mut far = TcpStream::connect(&rt, SocketAddr::from(([127, 0, 0, 1], port)))?;
+    assert!(rt; accepts(&mut asker, &mut world));
+    let mut into = [0u8; 4];
+    assert!(rt; far.read(&mut into)? == 3);
+    Ok(())
+}
+
+/// Where no descriptor or no place is left a socket isn't opened, and a connection isn't accepted; its listener isn't told again before something was closed.
+fn meets_the_limit<W: World>(asker: &mut Asker, world: &mut W) -> bool {
+    let mut last = 0u64;
+    for number in 100..6100u64 {
+        if world.udp_open(number, here(0)) != Made::Done {
+            break;
+        }
+        last = number;
+    }
+    if last == 0 || last == 6099 {
+        return false;
+    }
+    let refused = asker.is_ready(world, LISTENER, 1000)
+        && world.accept(5, 7) == Accepted::Failed
+        && !asker.is_ready(world, LISTENER, 0)
+        && world.connect(7, here(9)) == Made::Failed;
+    world.close(100);
+    refused
+        && asker.is_ready(world, LISTENER, 1000)
+        && matches!(world.accept(5, 7), Accepted::From(_))
+}
+
+#[test]
+fn a_limit_on_descriptors_is_a_fault_of_a_socket(rt: HostRuntime) -> Result<(), Fail> {
+    let mut asker = Asker::open(rt.alloc())?;
+    let mut world = NetWorld::open(&rt, rt.alloc())?;
+    let free = TcpListener::bind(&rt, "127.0.0.1:0")?;
+    let port = free.local_addr()?.port();
+    drop(free);
+    assert!(rt; world.listen(5, here(port)) == Made::Done);
+    let _far = TcpStream::connect(&rt, SocketAddr::from(([127, 0, 0, 1], port)))?;
+    assert!(rt; meets_the_limit(&mut asker, &mut world));
+    Ok(())
+}
+
+/// Of what is ready exactly what is wanted is told, in the order of the wants.
+fn picks<W: World>(
+    alloc: Global,
+    asker: &mut Asker,
+    world: &mut W,
+    far: &UdpSocket,
+    port: u16,
+) -> bool {
+    let (Ok(mut wants), Ok(mut ready)) = (Wants::open(alloc, 4), ReadyList::open(alloc, 5155))
+    else {
+        return false;
+    };
+    for number in [9u64, 4, 6, 2] {
+        if !is_answered(asker, world, far, port, number) {
+            return false;
+        }
+    }
+    wants.add(FIRST);
+    wants.add(DATAGRAMS);
+    wants.add(SENDING);
+    wants.add(LAST);
+    let told = [FIRST, LAST];
+    world.wait(&wants, Some(1000), &mut ready) == Waited::Ready && ready.items() == told.as_slice()
+}
+
+#[test]
+fn exactly_what_is_wanted_is_told(rt: HostRuntime) -> Result<(), Fail> {
+    let mut asker = Asker::open(rt.alloc())?;
+    let mut world = NetWorld::open(&rt, rt.alloc())?;
+    let far = UdpSocket::bind(&rt, "127.0.0.1:0")?;
+    let port = far.local_addr()?.port();
+    assert!(rt; picks(rt.alloc(), &mut asker, &mut world, &far, port));
+    Ok(())
+}

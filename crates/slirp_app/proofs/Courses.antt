@@ -1,0 +1,132 @@
+-- What is done by what the words mean, and the status of it.
+use Rattle.std.proofs.Common.{◌≡◌, ◌≢◌, ◌↔◌, ◌⊎◌, inl, inr, ℕ, ◌<◌, ◌≤◌, length, List, [], Option, Some, None, Result, Ok, Err, MatchOption, refl, sym, ◌∙◌, ap, subst, arith}
+use Rattle.world_face.specs.Journal.{Entry, Place}
+use Rattle.world_face.specs.Tells.{Telling, Makes}
+use Rattle.host_policy.specs.Addresses.{Config}
+use Rattle.host_policy.specs.Ranges.{first_broken}
+use Rattle.host_policy.specs.declared.config.Field.{Field}
+use Rattle.slirp_config.specs.Meaning.{AnswersBy, AreSettings, HasPlace, Meaning, Means, MeansReplay, MeansServe, Replays, Serves, config_of, said}
+use Rattle.slirp_config.specs.Options.{Word, value_of}
+use Rattle.slirp_config.specs.declared.Command.{Command}
+use Rattle.slirp_config.specs.declared.WordFault.{WordFault}
+use Rattle.slirp_config.specs.declared.WordFault.TheVariants.{Usage as Misread, BadConfig as BadField}
+use Rattle.run_laws.specs.Shape.{phase}
+use Rattle.slirp_core.specs.Ends.{end_of}
+use Rattle.slirp_core.specs.declared.service.End.{End}
+use Rattle.slirp_core.specs.declared.service.End.TheVariants.{Done as EndDone, TooLong, Cut, LinkFault as EndLink, WaitFault as EndWait, TurnsSpent as EndTurns, ListenRefused as EndRefused}
+use Rattle.slirp_app.specs.Doing.{CanBeDone, Course, Meant, Misset, Misused, Does, refusal_of}
+use Rattle.slirp_core.specs.Served.{IsBuilt}
+use Rattle.slirp_app.specs.Serving.{ServesAt, Runs, IsRefused, HasNoMemory}
+use Rattle.slirp_app.specs.Statuses.{code_of, outcome_of}
+use Rattle.slirp_app.specs.declared.status.Outcome.{Outcome}
+use Rattle.slirp_app.specs.declared.status.Outcome.TheVariants.{BadConfig, Usage, LinkFault, NoMemory}
+
+-- what no option gives is not asked for
+is_built : (given : Word → Option Word) (config : Config) → AreSettings given config → IsBuilt config
+is_built given config set = record {
+  forwards = ap (λ (k : Config). k.forwards) set.rest;
+  guest_forwards = ap (λ (k : Config). k.guest_forwards) set.rest;
+  resolver = ap (λ (k : Config). k.resolver) set.rest;
+  files = ap (λ (k : Config). k.tftp_path) set.rest;
+  outbound = ap (λ (k : Config). k.outbound) set.rest;
+  control = ap (λ (k : Config). k.control) set.rest;
+}
+
+built_replay : (behind : List Word) (file : Word) (config : Config) → MeansReplay behind file config → IsBuilt config
+built_replay behind file config (line, same, all, alone, some, few, set) = is_built (value_of line) config set
+
+built_serve : (behind : List Word) (config : Config) (at : Place) → MeansServe behind config at → IsBuilt config
+built_serve behind config at (line, same, all, alone, link, set) = is_built (value_of line) config set
+
+pub built : (words : List Word) (meaning : Meaning) → Means words meaning → IsBuilt (config_of meaning)
+built words (Replays file config) (behind, is, meant) = built_replay behind file config meant
+built words (Serves config at) (behind, is, meant) = built_serve behind config at meant
+
+named : (behind : List Word) (file : Word) (config : Config) → MeansReplay behind file config → (0 < length file) × (length file ≤ 1280)
+named behind file config (line, same, all, alone, some, few, set) = (some, few)
+
+pub can_be_done : (words : List Word) (meaning : Meaning) → Means words meaning → HasPlace meaning → CanBeDone meaning
+can_be_done words (Replays file config) (behind, is, meant) place = named behind file config meant
+can_be_done words (Serves config at) means place = place
+
+-- what is answered is the one meaning of the words
+other_by : (other : Meaning) (o : Option Field) (result : Result Command WordFault) (command : Command) → result ≡ Ok command
+    → MatchOption o ((c : Command) × (result ≡ Ok c) × (said c ≡ other)) (λ field. result ≡ Err (BadField field)) → other ≡ said command
+other_by other None result command is (c, that, says) = (let same : command ≡ c = cc in sym says ∙ ap said (sym same))
+other_by other (Some field) result command is that = cc
+
+pub one_meaning : (result : Result Command WordFault) (command : Command) (other : Meaning) → result ≡ Ok command → AnswersBy result other → other ≡ said command
+one_meaning result command other is answers = other_by other (first_broken (config_of other)) result command is answers
+
+-- a field that is named is the first that breaks its range, whatever the words mean
+field_by : (other : Meaning) (o : Option Field) (result : Result Command WordFault) (field : Field) → result ≡ Err (BadField field)
+    → MatchOption o ((c : Command) × (result ≡ Ok c) × (said c ≡ other)) (λ f. result ≡ Err (BadField f)) → o ≡ Some field
+field_by other None result field is (c, that, says) = cc
+field_by other (Some f) result field is that = (let same : field ≡ f = cc in ap Some (sym same))
+
+pub one_field : (result : Result Command WordFault) (field : Field) (other : Meaning) → result ≡ Err (BadField field) → AnswersBy result other → first_broken (config_of other) ≡ Some field
+one_field result field other is answers = field_by other (first_broken (config_of other)) result field is answers
+
+-- settings that are answered are in their ranges
+unbroken : (other : Meaning) (o : Option Field) (result : Result Command WordFault) (command : Command) → result ≡ Ok command
+    → MatchOption o ((c : Command) × (result ≡ Ok c) × (said c ≡ other)) (λ field. result ≡ Err (BadField field)) → o ≡ None
+unbroken other None result command is that = refl
+unbroken other (Some field) result command is that = cc
+
+pub none_broken : (result : Result Command WordFault) (command : Command) → result ≡ Ok command → AnswersBy result (said command) → first_broken (config_of (said command)) ≡ None
+none_broken result command is answers = unbroken (said command) (first_broken (config_of (said command))) result command is answers
+
+-- what serves comes to neither status of the words
+end_code : (end : End) → (code_of (outcome_of end) ≢ 1) × (code_of (outcome_of end) ≢ 2)
+end_code EndDone = (λ is. cc, λ is. cc)
+end_code (TooLong n) = (λ is. cc, λ is. cc)
+end_code (Cut n) = (λ is. cc, λ is. cc)
+end_code EndLink = (λ is. cc, λ is. cc)
+end_code EndWait = (λ is. cc, λ is. cc)
+end_code (EndTurns n) = (λ is. cc, λ is. cc)
+end_code (EndRefused n) = (λ is. cc, λ is. cc)
+
+pub served_code : (config : Config) (at : Place) (outcome : Outcome) (made : List Entry) → ServesAt config at outcome made → (code_of outcome ≢ 1) × (code_of outcome ≢ 2)
+served_code config at outcome made (Runs r) = subst (λ (o : Outcome). (code_of o ≢ 1) × (code_of o ≢ 2)) (sym r.ends) (end_code (end_of config (phase config r.run)))
+served_code config at outcome made (IsRefused only is) = subst (λ (o : Outcome). (code_of o ≢ 1) × (code_of o ≢ 2)) (sym is) (λ same. cc, λ same. cc)
+served_code config at outcome made (HasNoMemory none is) = subst (λ (o : Outcome). (code_of o ≢ 1) × (code_of o ≢ 2)) (sym is) (λ same. cc, λ same. cc)
+
+one_none : (o : Option Field) (field : Field) → o ≡ Some field → o ≡ None → ⊥
+one_none o field is none = cc
+
+module _ (words : List Word) (outcome : Outcome) (world world_new : Telling) (old new : Option (List ℕ)) where
+  pub usage : Course words outcome world world_new old new → (code_of outcome ≡ 1) ↔ ((meaning : Meaning) → ¬ Means words meaning)
+  usage (Meant m means one sound not_usage not_config does) = (λ code. absurd (not_usage code), λ none. absurd (none m means))
+  usage (Misset m field means all is makes) = (λ code. (let two : code_of outcome ≡ 2 = ap code_of is in absurd (omega (arith, two, code))), λ none. absurd (none m means))
+  usage (Misused none is makes) = (λ code. none, λ n. ap code_of is)
+
+  pub bad_config : Course words outcome world world_new old new → (meaning : Meaning) (field : Field) → Means words meaning → first_broken (config_of meaning) ≡ Some field → outcome ≡ BadConfig field
+  bad_config (Meant m means one sound not_usage not_config does) meaning field this broken =
+      absurd (one_none (first_broken (config_of meaning)) field broken (ap (λ k. first_broken (config_of k)) (one meaning this) ∙ sound))
+  bad_config (Misset m f means all is makes) meaning field this broken = (let same : Some f ≡ Some field = sym (all meaning this) ∙ broken in let that : f ≡ field = cc in is ∙ ap BadConfig that)
+  bad_config (Misused none is makes) meaning field this broken = absurd (none meaning this)
+
+  pub only_config : Course words outcome world world_new old new → code_of outcome ≡ 2 → (meaning : Meaning) × (field : Field) × Means words meaning × (first_broken (config_of meaning) ≡ Some field)
+  only_config (Meant m means one sound not_usage not_config does) code = absurd (not_config code)
+  only_config (Misset m field means all is makes) code = (m, field, means, all m means)
+  only_config (Misused none is makes) code = (let one : code_of outcome ≡ 1 = ap code_of is in absurd (omega (arith, code, one)))
+
+  pub untouched : Course words outcome world world_new old new → (code_of outcome ≡ 1) ⊎ (code_of outcome ≡ 2) → Makes world world_new (λ made. made ≡ [])
+  untouched (Meant m means one sound not_usage not_config does) (inl code) = absurd (not_usage code)
+  untouched (Meant m means one sound not_usage not_config does) (inr code) = absurd (not_config code)
+  untouched (Misset m field means all is makes) code = makes
+  untouched (Misused none is makes) code = makes
+
+  pub does : Course words outcome world world_new old new → (meaning : Meaning) → Means words meaning → first_broken (config_of meaning) ≡ None → Does meaning outcome world world_new old new
+  does (Meant m means one sound not_usage not_config done) meaning this sound_too = subst (λ k. Does k outcome world world_new old new) (sym (one meaning this)) done
+  does (Misset m field means all is makes) meaning this sound_too = absurd (one_none (first_broken (config_of meaning)) field (all meaning this) sound_too)
+  does (Misused none is makes) meaning this sound_too = absurd (none meaning this)
+
+-- words that aren't followed
+pub refused_course : (words : List Word) (result : Result Command WordFault) (fault : WordFault) (world : Telling) (old : Option (List ℕ)) → result ≡ Err fault
+    → ((field : Field) → result ≡ Err (BadField field) → (meaning : Meaning) × Means words meaning × (first_broken (config_of meaning) ≡ Some field))
+    → (result ≡ Err Misread → (meaning : Meaning) → ¬ Means words meaning) → ((meaning : Meaning) → Means words meaning → AnswersBy result meaning)
+    → Makes world world (λ made. made ≡ []) → Course words (refusal_of fault) world world old old
+refused_course words result Misread world old is bad none only makes = Misused (none is) refl makes
+refused_course words result (BadField field) world old is bad none only makes =
+    let found = bad field is in Misset found.0 field found.1 (λ other this. one_field result field other is (only other this)) refl makes

@@ -1,0 +1,38 @@
+use Rattle.std.proofs.Common.{List, map, refl, sym, subst, Result, IfOk}
+use Rattle.std.specs.String.{string_bytes}
+use Rattle.host_policy.specs.Ranges.{IsSound}
+use Rattle.world_face.proofs.Telling.{makes_none}
+use Rattle.slirp_config.specs.Meaning.{HasPlace, Means, config_of, said}
+use Rattle.slirp_config.specs.declared.Command.{Command}
+use Rattle.slirp_config.specs.declared.WordFault.{WordFault}
+use Rattle.slirp_app.specs.Doing.{Course, Meant}
+use Rattle.slirp_app.specs.declared.status.Outcome.{Outcome}
+use Rattle.slirp_app.proofs.Courses.{built, can_be_done, none_broken, one_meaning, refused_course}
+use Rattle.slirp_app.proofs.command.run_words.Goals as goal
+
+pub follow-requires-clause-built : goal.follow-requires-clause-built
+follow-requires-clause-built g c =
+    let words = map string_bytes c.args.words.now.items in
+    built words (said c.in-Ok.command) (subst (λ (r : Result Command WordFault). IfOk r (λ (k : Command). Means words (said k))) c.in-Ok.is c.read_words-read.ensures.meant)
+
+pub follow-requires-clause-meant : goal.follow-requires-clause-meant
+follow-requires-clause-meant g c =
+    let words = map string_bytes c.args.words.now.items in
+    can_be_done words (said c.in-Ok.command) (subst (λ (r : Result Command WordFault). IfOk r (λ (k : Command). Means words (said k))) c.in-Ok.is c.read_words-read.ensures.meant)
+    (subst (λ (r : Result Command WordFault). IfOk r (λ (k : Command). HasPlace (said k))) c.in-Ok.is c.read_words-read.ensures.place)
+
+pub returns-in-Ok-clause-course : goal.returns-in-Ok-clause-course
+returns-in-Ok-clause-course g c =
+    let words = map string_bytes c.args.words.now.items in
+    let read = c.read_words-read in
+    let command = c.in-Ok.command in
+    let means : Means words (said command) = subst (λ (r : Result Command WordFault). IfOk r (λ (k : Command). Means words (said k))) c.in-Ok.is read.ensures.meant in
+    Meant (said command) means (λ other this. one_meaning read.result command other c.in-Ok.is (read.ensures.only other this)) (none_broken read.result command c.in-Ok.is (read.ensures.only (said command) means))
+    c.follow.ensures.run.0 c.follow.ensures.run.1 c.follow.ensures.does
+
+pub returns-in-Err-clause-course : goal.returns-in-Err-clause-course
+returns-in-Err-clause-course g c =
+    let words = map string_bytes c.args.words.now.items in
+    let read = c.read_words-read in
+    subst (λ (o : Outcome). Course words o (g.W.World.tells c.args.world.now) (g.W.World.tells c.args.world.now) (g.K.Sink.holds c.args.out.now) (g.K.Sink.holds c.args.out.now)) (sym c.refusal.ensures)
+    (refused_course words read.result c.in-Err.fault (g.W.World.tells c.args.world.now) (g.K.Sink.holds c.args.out.now) c.in-Err.is read.ensures.bad_config read.ensures.usage read.ensures.only (makes_none _ _ refl))

@@ -1,0 +1,35 @@
+use Rattle.std.proofs.Common.{◌≡◌, ◌⊎◌, inl, inr, ℕ, IsTrue, sym, subst}
+use Rattle.host_policy.specs.Settings.{settings}
+use Rattle.replay.specs.Rows.{TakesTooMuch}
+use Rattle.replay.specs.Unread.{IsFirstUnread}
+use Rattle.slirp_app.specs.Fetching.{is_read}
+use Rattle.slirp_app.specs.declared.status.Outcome.{Outcome}
+use Rattle.slirp_app.specs.declared.status.Outcome.TheVariants.{ScheduleLine, NoMemory}
+use Rattle.world_face.proofs.Telling.{makes_as}
+use Rattle.slirp_app.specs.Causes.{Came}
+use Rattle.slirp_app.specs.Statuses.{code_of}
+use Rattle.slirp_app.proofs.replaying.replay_file.Goals as goal
+
+not_memory : (outcome : Outcome) (line : ℕ) → IsTrue (is_read (code_of outcome)) → (outcome ≡ ScheduleLine line) ⊎ (outcome ≡ NoMemory) → outcome ≡ ScheduleLine line
+not_memory outcome line read (inl is) = is
+not_memory outcome line read (inr is) = cc
+
+pub returns-in-Ok-clause-calls : goal.returns-in-Ok-clause-calls
+returns-in-Ok-clause-calls g c =
+    makes_as _ _ _ _ c.in-Ok.ensures.makes (λ made read. (
+      read.0,
+      record {
+        unreadable = λ is. absurd (c.replay.ensures.read.2 is);
+        large = λ is. (read.1.1, subst TakesTooMuch read.1.0 (c.replay.ensures.large is));
+        whole = λ is. read.1.1;
+        first = λ line is. subst (λ l. IsFirstUnread l line) read.1.0 (c.replay.ensures.first line is);
+        misspelt = λ is line unread. not_memory c.replay.result line is (c.replay.ensures.misspelt line (subst (λ l. IsFirstUnread l line) (sym read.1.0) unread));
+        came = λ is. subst (λ l. Came (settings c.args.config.now) c.replay.result l (g.K.Sink.holds c.args.out.now) (g.K.Sink.holds c.replay.new.out)) read.1.0 c.replay.ensures.came;
+      },
+    ))
+
+pub returns-in-Err-Unreadable-clause-calls : goal.returns-in-Err-Unreadable-clause-calls
+returns-in-Err-Unreadable-clause-calls g c = makes_as _ _ _ _ c.in-Err-Unreadable.ensures.makes (λ made read. (read.0, record { unreadable = λ is. read.2 c.in-Err-Unreadable.field-0-is; large = λ is. cc; whole = λ is. cc; came = λ is. cc; first = λ line is. cc; misspelt = λ is. cc }))
+
+pub returns-in-Err-NoMemory-clause-calls : goal.returns-in-Err-NoMemory-clause-calls
+returns-in-Err-NoMemory-clause-calls g c = makes_as _ _ _ _ c.in-Err-NoMemory.ensures.makes (λ made read. (read.0, record { unreadable = λ is. cc; large = λ is. cc; whole = λ is. cc; came = λ is. cc; first = λ line is. cc; misspelt = λ is. cc }))

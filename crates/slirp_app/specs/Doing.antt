@@ -1,0 +1,85 @@
+-- What is done by what the words mean.
+use Rattle.std.specs.Prelude.{◌≡◌, ◌≢◌, ◌⊎◌, ◌↔◌, ℕ, ◌<◌, ◌≤◌, List, [], length, Option, Some, None, IsTrue}
+use Rattle.world_face.specs.Frames.{LinkCut, LinkEnded, LinkFailed, LongFrame, Stopped, WaitFailed}
+use Rattle.world_face.specs.Journal.{Entry, Follows, IsPlace, Place}
+use Rattle.world_face.specs.Tells.{Telling, Makes}
+use Rattle.host_policy.specs.Addresses.{Config}
+use Rattle.host_policy.specs.Ranges.{first_broken}
+use Rattle.host_policy.specs.declared.config.Field.{Field}
+use Rattle.replay.specs.Unread.{IsFirstUnread}
+use Rattle.replay.specs.declared.Divergence.{Divergence}
+use Rattle.run_laws.specs.Moments.{waits}
+use Rattle.run_laws.specs.Shape.{Over, Refused, phase}
+use Rattle.slirp_config.specs.Meaning.{Meaning, Means, Replays, Serves, config_of}
+use Rattle.slirp_config.specs.Options.{Word}
+use Rattle.slirp_config.specs.declared.WordFault.{WordFault}
+use Rattle.slirp_config.specs.declared.WordFault.TheVariants.{Usage as Misread, BadConfig as BadField}
+use Rattle.slirp_core.specs.Ends.{end_of}
+use Rattle.slirp_laws.specs.Laws.{Finished}
+use Rattle.slirp_app.specs.Causes.{CannotRead, Caused, IsTooLarge, RanOn}
+use Rattle.slirp_app.specs.Fetching.{IsWhole, MayFetch, is_read, octets_read}
+use Rattle.slirp_app.specs.Ran.{Ceased, EndsBy}
+use Rattle.slirp_app.specs.Serving.{ServesAt}
+use Rattle.slirp_app.specs.Statuses.{code_of, outcome_of, is_run}
+use Rattle.slirp_app.specs.declared.status.Outcome.{Outcome}
+use Rattle.slirp_app.specs.declared.status.Outcome.TheVariants.{BadConfig, Diverged, FrameCut, FrameTooLong, ListenRefused, ScheduleLine, TurnsSpent, Usage}
+
+-- What `replay FILE` does: the calls on the outer World, and by each status what came of the schedule and of the run. Told says that `err` got the text of an outcome.
+pub record ReplaysFile (file : Word) (config : Config) (status : ℕ) (world world_new : Telling) (old new : Option (List ℕ)) (Told : Outcome → Type 0) : Type 0 where
+  -- only FILE is read, from its start on and without a gap
+  pub calls : Makes world world_new (Follows (MayFetch file))
+  -- 3 comes only where FILE is missing, has over 64 MiB or ended before its length, or the count of the files' faults rose; or else where each line has a reading and the stars take over 1 GiB of room
+  pub unreadable : status ≡ 3 → Makes world world_new (λ made. CannotRead world world_new made ⊎ IsTooLarge made)
+  -- else, 13 aside, as many octets were read as FILE's length says
+  pub whole : IsTrue (is_read status) → Makes world world_new IsWhole
+  -- 4 comes exactly where a line of FILE has no reading, and the text has the first such line
+  pub misspelt : IsTrue (is_read status) → Makes world world_new (λ made. (status ≡ 4) ↔ (line : ℕ) × IsFirstUnread (octets_read made) line)
+  pub named : status ≡ 4 → Makes world world_new (λ made. (line : ℕ) × IsFirstUnread (octets_read made) line × Told (ScheduleLine line))
+  -- a run's record was put and then the status; but for 5 nothing more is to be done, and the status is that of the end which the record tells
+  pub ran : IsTrue (is_run status) → RanOn config world world_new status old new (λ schedule journal. status ≢ 5 → Finished config journal × (status ≡ code_of (outcome_of (end_of config (phase config journal)))))
+  -- with 5 it ceased at a call that may come next and fits no line, and the text names the line, the call, and the call of the line
+  pub diverged : status ≡ 5 → RanOn config world world_new 5 old new (λ schedule journal. (divergence : Divergence) × Ceased config schedule divergence journal × Told (Diverged divergence))
+  -- with 0 a wait was told to stop, or the link ended between two frames
+  pub done : status ≡ 0 → RanOn config world world_new 0 old new (λ schedule journal. EndsBy Stopped journal ⊎ EndsBy LinkEnded journal)
+  -- with 6 a length over 69,632 was read, and the text has it
+  pub too_long : status ≡ 6 → RanOn config world world_new 6 old new (λ schedule journal. (size : ℕ) × EndsBy (LongFrame size) journal × (69632 < size) × Told (FrameTooLong size))
+  -- with 7 the link ended inside a length or frame, and the text has how many octets of it had come
+  pub cut : status ≡ 7 → RanOn config world world_new 7 old new (λ schedule journal. (octets : ℕ) × EndsBy (LinkCut octets) journal × Told (FrameCut octets))
+  -- with 8 a call on the link failed, with 9 a wait
+  pub link_fault : status ≡ 8 → RanOn config world world_new 8 old new (λ schedule journal. EndsBy LinkFailed journal)
+  pub wait_fault : status ≡ 9 → RanOn config world world_new 9 old new (λ schedule journal. EndsBy WaitFailed journal)
+  -- with 10 there were as many waits as the settings allow, and the text has their number
+  pub spent : status ≡ 10 → RanOn config world world_new 10 old new (λ schedule journal. (waits journal ≡ config.turns) × Told (TurnsSpent config.turns))
+  -- with 11 the host refused a forward, and the text has its number, counted from 0
+  pub forward_refused : status ≡ 11 → RanOn config world world_new 11 old new (λ schedule journal. (forward : ℕ) × (phase config journal ≡ Over (Refused forward)) × Told (ListenRefused forward))
+
+-- What `serve --link AT` does: the link is opened, and then the calls are those of one lawful, finished run with the settings of the words; the outcome is that of its end, and `err` got its text. Nothing is put.
+pub record ServesLink (config : Config) (at : Place) (status : ℕ) (world world_new : Telling) (old new : Option (List ℕ)) (Told : Outcome → Type 0) : Type 0 where
+  pub outcome : Outcome
+  pub is : status ≡ code_of outcome
+  pub told : Told outcome
+  pub makes : Makes world world_new (ServesAt config at outcome)
+  pub nothing : new ≡ old
+
+-- what comes of the outcome alone
+abbrev pub Does : Meaning → Outcome → (world world_new : Telling) → (old new : Option (List ℕ)) → Type 0
+Does (Replays file config) outcome world world_new old new = Makes world world_new (λ made. Follows (MayFetch file) made × Caused config outcome made old new)
+Does (Serves config at) outcome world world_new old new = Makes world world_new (ServesAt config at outcome) × (new ≡ old)
+
+-- a file has a name that can be asked for, a link a place at which it can be opened
+abbrev pub CanBeDone : Meaning → Type 0
+CanBeDone (Replays file config) = (0 < length file) × (length file ≤ 1280)
+CanBeDone (Serves config at) = IsPlace at
+
+-- what comes of words that aren't followed
+abbrev pub refusal_of : WordFault → Outcome
+refusal_of Misread = Usage
+refusal_of (BadField field) = BadConfig field
+
+-- The words mean one thing, and it is done; or they mean settings that aren't sound; or nothing.
+pub data Course (words : List Word) (outcome : Outcome) (world world_new : Telling) (old new : Option (List ℕ)) : Type 0 where
+  Meant : (meaning : Meaning) → Means words meaning → ((other : Meaning) → Means words other → other ≡ meaning) → first_broken (config_of meaning) ≡ None → code_of outcome ≢ 1 → code_of outcome ≢ 2
+      → Does meaning outcome world world_new old new → Course words outcome world world_new old new
+  Misset : (meaning : Meaning) (field : Field) → Means words meaning → ((other : Meaning) → Means words other → first_broken (config_of other) ≡ Some field) → outcome ≡ BadConfig field
+      → Makes world world_new (λ made. made ≡ []) → Course words outcome world world_new old new
+  Misused : ((meaning : Meaning) → ¬ Means words meaning) → outcome ≡ Usage → Makes world world_new (λ made. made ≡ []) → Course words outcome world world_new old new

@@ -1,0 +1,120 @@
+// The program's main call: what the words of the command line ask for is done.
+ghost use Rattle.std.specs.Prelude.{◌≡◌, ◌≢◌, ◌⊎◌, ℕ, ◌↔◌, List, [], None, Some, IsTrue, map};
+ghost use Rattle.std.specs.String.{string_bytes};
+ghost use Rattle.host_policy.specs.Addresses.{Config};
+ghost use Rattle.host_policy.specs.Ranges.{IsSound, first_broken};
+ghost use Rattle.host_policy.specs.declared.config.Field.{Field as AField};
+ghost use Rattle.slirp_config.specs.Meaning.{Meaning, Means, Replays, Serves, config_of, said};
+ghost use Rattle.slirp_app.specs.Doing.{CanBeDone, Course, Does, ReplaysFile, ServesLink, refusal_of};
+ghost use Rattle.slirp_app.specs.Statuses.{code_of, is_unrun};
+ghost use Rattle.slirp_app.specs.Texts.{Got};
+ghost use Rattle.slirp_app.specs.declared.status.Outcome.{Outcome as AnOutcome};
+ghost use Rattle.slirp_app.specs.declared.status.Outcome.TheVariants.{BadConfig, NoMemory as OfMemory};
+ghost use Rattle.slirp_core.specs.Served.{IsBuilt};
+ghost use Rattle.world_face.specs.Journal.{Place};
+ghost use Rattle.world_face.specs.Tells.{Makes, Rose};
+
+use crate::replaying::replay_file;
+use crate::serving::serve;
+use crate::status::Outcome;
+use slirp_config::{Command, WordFault, read_words};
+use std::alloc::Global;
+use world_face::{Sink, World};
+
+/// The program. The words of the command line, without the program's name, say what it does and with which settings.
+///
+/// `replay FILE`: the schedule in FILE is read through `world`, the network runs on it, and what it did goes to `out` as text, last the line
+/// `end S` with the status S. `serve --link AT`: `world` opens the link at AT, and the network runs on `world` itself. The text of a status other than
+/// 0 and 12 goes to `err`.
+pub fn slirp_main<W: World, K: Sink, E: Sink>(
+    alloc: Global,
+    words: &Vec<String>,
+    world: &mut W,
+    out: &mut K,
+    err: &mut E,
+) -> u8
+    // The status is 1 exactly where the words mean nothing.
+    ensures usage { (result ≡ 1) ↔ ((meaning : Meaning) → ¬ Means (map string_bytes words.now.items) meaning) }
+    // It is 2 exactly where they mean settings of which one isn't in its range, and the text names the first such field.
+    ensures bad_config { (meaning : Meaning) (field : AField) → Means (map string_bytes words.now.items) meaning → first_broken (config_of meaning) ≡ Some field
+        → (result ≡ 2) × Got (E.holds err.old) (E.holds err.new) (E.faults err.old) (E.faults err.new) (BadConfig field) }
+    ensures only_config { result ≡ 2 → (meaning : Meaning) × (field : AField) × Means (map string_bytes words.now.items) meaning × (first_broken (config_of meaning) ≡ Some field) }
+    // With either no call is made.
+    ensures untouched { (result ≡ 1) ⊎ (result ≡ 2) → Makes (W.tells world.old) (W.tells world.new) (λ made. made ≡ []) }
+    // With `replay FILE` a run is made on what FILE says, with the settings of the words.
+    ensures replays { (file : List ℕ) (config : Config) → Means (map string_bytes words.now.items) (Replays file config) → first_broken config ≡ None
+        → ReplaysFile file config result (W.tells world.old) (W.tells world.new) (K.holds out.old) (K.holds out.new) (Got (E.holds err.old) (E.holds err.new) (E.faults err.old) (E.faults err.new)) }
+    // With `serve --link AT` one is made on `world` itself.
+    ensures serves { (config : Config) (at : Place) → Means (map string_bytes words.now.items) (Serves config at) → first_broken config ≡ None
+        → ServesLink config at result (W.tells world.old) (W.tells world.new) (K.holds out.old) (K.holds out.new) (Got (E.holds err.old) (E.holds err.new) (E.faults err.old) (E.faults err.new)) }
+    // Where nothing was run nothing was put.
+    ensures nothing { IsTrue (is_unrun result) → K.holds out.new ≡ K.holds out.old }
+    // `err` got the text of the outcome and a line feed, unless its count of faults rose.
+    ensures told { (outcome : AnOutcome) × (result ≡ code_of outcome) × Got (E.holds err.old) (E.holds err.new) (E.faults err.old) (E.faults err.new) outcome }
+    // With 0 and 12 it got nothing.
+    ensures silent { (result ≡ 0) ⊎ (result ≡ 12) → (E.holds err.new ≡ E.holds err.old) × (E.faults err.new ≡ E.faults err.old) }
+    // It is 12 only where a put to `out` failed.
+    ensures refused { result ≡ 12 → Rose (K.faults out.old) (K.faults out.new) }
+{
+    let outcome = run_words(alloc, words, world, out);
+    let _told = outcome.tell(err);
+    outcome.code()
+}
+
+/// What the program comes to where there is no memory for its words: it tells so, and the status is 13.
+pub fn out_of_memory<E: Sink>(err: &mut E) -> u8
+    ensures status { result ≡ 13 }
+    ensures told { Got (E.holds err.old) (E.holds err.new) (E.faults err.old) (E.faults err.new) OfMemory }
+{
+    let _told = Outcome::NoMemory.tell(err);
+    Outcome::NoMemory.code()
+}
+
+// Does what the words say.
+fn run_words<W: World, K: Sink>(
+    alloc: Global,
+    words: &Vec<String>,
+    world: &mut W,
+    out: &mut K,
+) -> Outcome
+    ensures course { Course (map string_bytes words.now.items) result (W.tells world.old) (W.tells world.new) (K.holds out.old) (K.holds out.new) }
+    ensures nothing { IsTrue (is_unrun (code_of result)) → K.holds out.new ≡ K.holds out.old }
+    ensures refused { code_of result ≡ 12 → Rose (K.faults out.old) (K.faults out.new) }
+{
+    let read = read_words(words);
+    match &read {
+        Ok(command) => follow(alloc, command, world, out),
+        Err(fault) => refusal(*fault),
+    }
+}
+
+// Does what a command says.
+fn follow<W: World, K: Sink>(
+    alloc: Global,
+    command: &Command,
+    world: &mut W,
+    out: &mut K,
+) -> Outcome
+    requires sound { IsSound (config_of (said command.now)) }
+    requires built { IsBuilt (config_of (said command.now)) }
+    requires meant { CanBeDone (said command.now) }
+    ensures does { Does (said command.now) result (W.tells world.old) (W.tells world.new) (K.holds out.old) (K.holds out.new) }
+    ensures run { (code_of result ≢ 1) × (code_of result ≢ 2) }
+    ensures nothing { IsTrue (is_unrun (code_of result)) → K.holds out.new ≡ K.holds out.old }
+    ensures refused { code_of result ≡ 12 → Rose (K.faults out.old) (K.faults out.new) }
+{
+    match command {
+        Command::Replay(file, config) => replay_file(alloc, file.as_str(), config, world, out),
+        Command::Serve(config, at) => serve(alloc, config, at, world),
+    }
+}
+
+// What the program comes to where words aren't followed.
+fn refusal(fault: WordFault) -> Outcome
+    ensures { result ≡ refusal_of fault }
+{
+    match fault {
+        WordFault::Usage => Outcome::Usage,
+        WordFault::BadConfig(field) => Outcome::BadConfig(field),
+    }
+}

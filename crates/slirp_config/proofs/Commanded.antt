@@ -1,0 +1,58 @@
+-- The first word is the command; words mean one thing.
+use Rattle.std.proofs.Common.{◌≡◌, ℕ, List, ◌∷◌, codes, Result, Ok, Err, IfOk, OnErr, sym, ◌∙◌, ap, subst}
+use Rattle.host_policy.specs.Addresses.{Config}
+use Rattle.world_face.specs.Journal.{Place}
+use Rattle.slirp_config.specs.declared.Command.{Command}
+use Rattle.slirp_config.specs.Meaning.{Meaning, Replays, Serves, Means, MeansReplay, MeansServe, said}
+use Rattle.slirp_config.specs.Narrowing.{narrowed_settings, narrowed_meaning}
+use Rattle.slirp_config.specs.Options.{Word}
+use Rattle.slirp_config.proofs.Finding.{on_err}
+use Rattle.slirp_config.proofs.Only.{one_replay, one_serve}
+
+same_behind : (command : Word) (b d : List Word) → ◌≡◌ {A = List Word} (command ∷ b) (command ∷ d) → b ≡ d
+same_behind command b d is = cc
+
+other_command : (b d : List Word) → ◌≡◌ {A = List Word} (codes "replay" ∷ b) (codes "serve" ∷ d) → ⊥
+other_command b d is = let names : ◌≡◌ {A = Word} (codes "replay") (codes "serve") = cc in cc names
+
+module _ {E : Type 0} (words behind : List Word) (r : Result Command E) where
+  pub replay_command : words ≡ codes "replay" ∷ behind
+      → IfOk r (λ c. (file : List ℕ) × (config : Config) × MeansReplay behind file config × (said c ≡ Replays file (narrowed_settings config)))
+      → IfOk r (λ c. (meaning : Meaning) × Means words meaning × (said c ≡ narrowed_meaning meaning))
+  replay_command is h = elim r as (λ x. IfOk x (λ c. (file : List ℕ) × (config : Config) × MeansReplay behind file config × (said c ≡ Replays file (narrowed_settings config))) → IfOk x (λ c. (meaning : Meaning) × Means words meaning × (said c ≡ narrowed_meaning meaning))) [
+    | Ok c ↦ λ m. (Replays m.0 m.1, (behind, is, m.2), m.3)
+    | Err e ↦ λ m. tt
+  ] h
+
+  pub serve_command : words ≡ codes "serve" ∷ behind
+      → IfOk r (λ c. (config : Config) × (at : Place) × MeansServe behind config at × (said c ≡ Serves (narrowed_settings config) at))
+      → IfOk r (λ c. (meaning : Meaning) × Means words meaning × (said c ≡ narrowed_meaning meaning))
+  serve_command is h = elim r as (λ x. IfOk x (λ c. (config : Config) × (at : Place) × MeansServe behind config at × (said c ≡ Serves (narrowed_settings config) at)) → IfOk x (λ c. (meaning : Meaning) × Means words meaning × (said c ≡ narrowed_meaning meaning))) [
+    | Ok c ↦ λ m. (Serves m.0 m.1, (behind, is, m.2), m.3)
+    | Err e ↦ λ m. tt
+  ] h
+
+no_replay : (words behind : List Word) → words ≡ codes "replay" ∷ behind → ((file : List ℕ) (config : Config) → ¬ MeansReplay behind file config) → (meaning : Meaning) → ¬ Means words meaning
+no_replay words behind is none (Replays file config) m = none file config (subst (λ (b : List Word). MeansReplay b file config) (same_behind (codes "replay") m.0 behind (sym m.1 ∙ is)) m.2)
+no_replay words behind is none (Serves config at) m = other_command behind m.0 (sym is ∙ m.1)
+
+no_serve : (words behind : List Word) → words ≡ codes "serve" ∷ behind → ((config : Config) (at : Place) → ¬ MeansServe behind config at) → (meaning : Meaning) → ¬ Means words meaning
+no_serve words behind is none (Replays file config) m = other_command m.0 behind (sym m.1 ∙ is)
+no_serve words behind is none (Serves config at) m = none config at (subst (λ (b : List Word). MeansServe b config at) (same_behind (codes "serve") m.0 behind (sym m.1 ∙ is)) m.2)
+
+module _ {E : Type 0} (words behind : List Word) (r : Result Command E) where
+  pub replay_refused : words ≡ codes "replay" ∷ behind → OnErr r ((file : List ℕ) (config : Config) → ¬ MeansReplay behind file config) → OnErr r ((meaning : Meaning) → ¬ Means words meaning)
+  replay_refused is h = on_err r ((file : List ℕ) (config : Config) → ¬ MeansReplay behind file config) ((meaning : Meaning) → ¬ Means words meaning) (no_replay words behind is) h
+
+  pub serve_refused : words ≡ codes "serve" ∷ behind → OnErr r ((config : Config) (at : Place) → ¬ MeansServe behind config at) → OnErr r ((meaning : Meaning) → ¬ Means words meaning)
+  serve_refused is h = on_err r ((config : Config) (at : Place) → ¬ MeansServe behind config at) ((meaning : Meaning) → ¬ Means words meaning) (no_serve words behind is) h
+
+pub one_meaning : (words : List Word) (m n : Meaning) → Means words m → Means words n → m ≡ n
+one_meaning words (Replays f c) (Replays e d) h g =
+    let s = one_replay g.0 f e c d (subst (λ (b : List Word). MeansReplay b f c) (same_behind (codes "replay") h.0 g.0 (sym h.1 ∙ g.1)) h.2) g.2 in
+    ap (λ (x : Word). Replays x c) s.0 ∙ ap (Replays e) s.1
+one_meaning words (Serves c p) (Serves d q) h g =
+    let s = one_serve g.0 c d p q (subst (λ (b : List Word). MeansServe b c p) (same_behind (codes "serve") h.0 g.0 (sym h.1 ∙ g.1)) h.2) g.2 in
+    ap (λ (x : Config). Serves x p) s.0 ∙ ap (Serves d) s.1
+one_meaning words (Replays f c) (Serves d q) h g = absurd (other_command h.0 g.0 (sym h.1 ∙ g.1))
+one_meaning words (Serves c p) (Replays e d) h g = absurd (other_command g.0 h.0 (sym g.1 ∙ h.1))

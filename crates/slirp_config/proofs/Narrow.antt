@@ -1,0 +1,102 @@
+-- Numbers that 32 bits don't hold are out of range, and stay so when they are narrowed.
+use Rattle.std.proofs.Common.{◌≡◌, ℕ, ◌*◌, ◌<◌, ◌≤◌, Bool, true, false, cond, not, ◌&&◌, leb, List, [], ◌∷◌, Option, Some, find, inl, inr, refl, sym, ◌∙◌, ap, arith}
+use Rattle.std.proofs.lemmas.Bool.{cases_lt}
+use Rattle.std.proofs.lemmas.Bool.Decides.{nat_tests}
+use Rattle.std.proofs.lemmas.Nat.{mul-le}
+use Rattle.host_policy.specs.Addresses.{Config}
+use Rattle.host_policy.specs.Ranges.{is_between, in_range, fields, first_broken, IsSound}
+use Rattle.host_policy.specs.declared.config.Field.{Field}
+use Rattle.host_policy.specs.declared.config.Field.TheVariants.{Version, InEnabled, Vnetmask, Vnetwork, Vhost, Vnameserver, VdhcpStart, Vhostname, Vdomainname, TftpServerName, Bootfile, TftpPath, IfMtu, IfMru, Flows, Ring, Resolver, Turns, Forwards, Outbound, DisableDns, DisableDhcp, Guestfwds, Control, Octets}
+use Rattle.slirp_config.specs.Narrowing.{narrowed, narrowed_settings}
+
+over : (x y : Bool) → y ≡ false → x && y ≡ false
+over true y h = h
+over false y h = refl
+
+too_many : (least n most : ℕ) → most < n → is_between least n most ≡ false
+too_many least n most h = over (leb least n) (leb n most) (grind (arith, nat_tests, h))
+
+same_between : (least most n : ℕ) → most < 4294967295 → is_between least (narrowed n) most ≡ is_between least n most
+same_between least most n small = elim (cases_lt 4294967295 n) [
+  | inl lt ↦ too_many least (narrowed n) most (omega (arith, small, lt)) ∙ sym (too_many least n most (omega (arith, small, lt)))
+  | inr ge ↦ let same : narrowed n ≡ n = omega (arith, ge) in ap (λ (m : ℕ). is_between least m most) same
+]
+
+-- a ring of the least size in each of so many flows is too much
+product : (f r : ℕ) → 4294967295 < f → 65535 ≤ r → leb (f * r) 268435456 ≡ false
+product f r hf hr = let p = mul-le 4294967295 65535 f r (omega (arith, hf)) hr in let big : 268435456 < f * r = omega (arith, p) in grind (arith, nat_tests, big)
+
+abbrev ring_fits : ℕ → ℕ → Bool
+ring_fits f r = is_between 65535 r 1048576 && leb (f * r) 268435456
+
+least_or : (f r : ℕ) → 4294967295 ≤ f → ring_fits f r ≡ false
+least_or f r hf = elim (cases_lt r 65535) [
+  | inl lt ↦ let low : leb 65535 r ≡ false = grind (arith, nat_tests, lt) in rw low refl
+  | inr ge ↦ over (is_between 65535 r 1048576) (leb (f * r) 268435456) (let p = mul-le 4294967295 65535 f r hf ge in let big : 268435456 < f * r = omega (arith, p) in grind (arith, nat_tests, big))
+]
+
+same_ring : (f r : ℕ) → ring_fits (narrowed f) (narrowed r) ≡ ring_fits f r
+same_ring f r = elim (cases_lt 4294967295 r) [
+  | inl lt ↦
+      let a : is_between 65535 (narrowed r) 1048576 ≡ false = too_many 65535 (narrowed r) 1048576 (omega (arith, lt)) in
+      let b : is_between 65535 r 1048576 ≡ false = too_many 65535 r 1048576 (omega (arith, lt)) in
+      rw (a, b) refl
+  | inr ge ↦
+      let size : narrowed r ≡ r = omega (arith, ge) in
+      rw size (elim (cases_lt 4294967295 f) as (λ _. ring_fits (narrowed f) r ≡ ring_fits f r) [
+        | inl lt ↦ least_or (narrowed f) r (omega (arith, lt)) ∙ sym (least_or f r (omega (arith, lt)))
+        | inr few ↦ let count : narrowed f ≡ f = omega (arith, few) in ap (λ (n : ℕ). ring_fits n r) count
+      ])
+]
+
+same_range : (config : Config) (field : Field) → in_range (narrowed_settings config) field ≡ in_range config field
+same_range config Version = refl
+same_range config InEnabled = refl
+same_range config Vnetmask = refl
+same_range config Vnetwork = refl
+same_range config Vhost = refl
+same_range config Vnameserver = refl
+same_range config VdhcpStart = refl
+same_range config Vhostname = refl
+same_range config Vdomainname = refl
+same_range config TftpServerName = refl
+same_range config Bootfile = refl
+same_range config TftpPath = refl
+same_range config IfMtu = refl
+same_range config IfMru = refl
+same_range config Flows = same_between 1 4096 config.flows (omega arith)
+same_range config Ring = same_ring config.flows config.ring
+same_range config Resolver = refl
+same_range config Turns = refl
+same_range config Forwards = refl
+same_range config Outbound = refl
+same_range config DisableDns = refl
+same_range config DisableDhcp = refl
+same_range config Guestfwds = refl
+same_range config Control = refl
+same_range config Octets = refl
+
+same_find : (p q : Field → Bool) → ((field : Field) → p field ≡ q field) → (list : List Field) → find (λ field. not (p field)) list ≡ find (λ field. not (q field)) list
+same_find p q each [] = refl
+same_find p q each (x ∷ xs) = ap (λ (b : Bool). cond (not b) (Some x) (find (λ field. not (p field)) xs)) (each x) ∙ ap (λ (o : Option Field). cond (not (q x)) (Some x) o) (same_find p q each xs)
+
+-- the same field is the first that breaks its range
+pub same_broken : (config : Config) → first_broken (narrowed_settings config) ≡ first_broken config
+same_broken config = same_find (in_range (narrowed_settings config)) (in_range config) (same_range config) fields
+
+held : (least most n : ℕ) → most < 4294967295 → is_between least (narrowed n) most ≡ true → narrowed n ≡ n
+held least most n small h = elim (cases_lt 4294967295 n) [
+  | inl lt ↦ let no = too_many least (narrowed n) most (omega (arith, small, lt)) in absurd (cc (sym h ∙ no))
+  | inr ge ↦ omega (arith, ge)
+]
+
+front : (x y : Bool) → x && y ≡ true → x ≡ true
+front true y h = refl
+front false y h = absurd (cc h)
+
+-- in their ranges nothing was narrowed
+pub same_settings : (config : Config) → IsSound (narrowed_settings config) → narrowed_settings config ≡ config
+same_settings config sound =
+    let flows : narrowed config.flows ≡ config.flows = held 1 4096 config.flows (omega arith) (sound.each Flows) in
+    let ring : narrowed config.ring ≡ config.ring = held 65535 1048576 config.ring (omega arith) (front (is_between 65535 (narrowed config.ring) 1048576) (leb (narrowed config.flows * narrowed config.ring) 268435456) (sound.each Ring)) in
+    ap (λ (n : ℕ). record config { flows = n; ring = narrowed config.ring }) flows ∙ ap (λ (n : ℕ). record config { ring = n }) ring

@@ -1,0 +1,110 @@
+-- Options give one settings, and words one meaning.
+use Rattle.std.proofs.Common.{◌≡◌, ℕ, ◌+◌, ◌%◌, ◌^◌, Bool, List, [], ◌∷◌, ◌++◌, codes, decimal, Option, Some, None, MatchOption, refl, sym, ◌∙◌, ap, subst, arith}
+use Rattle.std.proofs.lemmas.Fmt.{decimal_injective}
+use Rattle.host_policy.specs.Addresses.{Config}
+use Rattle.host_policy.specs.Settings.{usual}
+use Rattle.host_policy.specs.Ranges.{mask_of}
+use Rattle.world_face.specs.Journal.{Place, AtPath, AtEndpoint}
+use Rattle.slirp_config.specs.declared.options.Verb.TheVariants.{Replay, Serve}
+use Rattle.slirp_config.specs.Meaning.{AreSettings, MeansReplay, MeansServe}
+use Rattle.slirp_config.specs.Options.{Word, value_in}
+use Rattle.slirp_config.specs.Texts.{IsNumber, IsAddress, IsNetwork, IsLink, endpoint_text, is_other}
+use Rattle.slirp_config.specs.Walking.{Walk}
+use Rattle.slirp_config.proofs.Addresses.{address, address_form, address_fits, network_form, same_address, same_endpoint}
+use Rattle.slirp_config.proofs.Meant.{IsLinkAt, one_walk, replay_meant, serve_meant}
+use Rattle.slirp_config.proofs.Parting.{parts_once, digit_is_no_slash}
+use Rattle.slirp_config.proofs.Settled.{made}
+
+-- one value, or one default
+one_of : (o : Option Word) (u v : ℕ) (P : Word → ℕ → Type 0) → u ≡ v → ((text : Word) (n m : ℕ) → P text n → P text m → n ≡ m) → (n m : ℕ) → MatchOption o (n ≡ u) (λ text. P text n) → MatchOption o (m ≡ v) (λ text. P text m) → n ≡ m
+one_of None u v P e same n m hn hm = hn ∙ e ∙ sym hm
+one_of (Some text) u v P e same n m hn hm = same text n m hn hm
+
+same_short : (text : Word) (n m : ℕ) → IsNumber 16 text n → IsNumber 16 text m → n ≡ m
+same_short text n m hn hm = decimal_injective n m (omega (arith, hn.1)) (omega (arith, hm.1)) (sym hn.0 ∙ hm.0)
+
+same_long : (text : Word) (n m : ℕ) → IsNumber 64 text n → IsNumber 64 text m → n ≡ m
+same_long text n m hn hm = decimal_injective n m hn.1 hm.1 (sym hn.0 ∙ hm.0)
+
+same_at : (text : Word) (n m : ℕ) → IsAddress text n → IsAddress text m → n ≡ m
+same_at text n m hn hm = same_address n m hn.1 hm.1 (sym hn.0 ∙ hm.0)
+
+same_network : (text : Word) (n m k l : ℕ) → IsNetwork text n m → IsNetwork text k l → (n ≡ k) × (m ≡ l)
+same_network text n m k l h g =
+    let p = parts_once 47 (is_other 47) refl (address n) (address k) (decimal h.0) (decimal g.0) (address_fits (is_other 47) digit_is_no_slash refl n h.2) (address_fits (is_other 47) digit_is_no_slash refl k g.2) (sym (network_form n h.0) ∙ sym h.1 ∙ g.1 ∙ network_form k g.0) in
+    let ones : h.0 ≡ g.0 = decimal_injective h.0 g.0 (omega (arith, h.3)) (omega (arith, g.3)) p.1 in
+    (same_address n k h.2 g.2 (address_form n ∙ p.0 ∙ sym (address_form k)), h.4 ∙ ap mask_of ones ∙ sym g.4)
+
+one_network : (o : Option Word) (u v n m k l : ℕ) → MatchOption o ((n ≡ u) × (m ≡ v)) (λ text. IsNetwork text n m) → MatchOption o ((k ≡ u) × (l ≡ v)) (λ text. IsNetwork text k l) → (n ≡ k) × (m ≡ l)
+one_network None u v n m k l h g = (h.0 ∙ sym g.0, h.1 ∙ sym g.1)
+one_network (Some text) u v n m k l h g = same_network text n m k l h g
+
+pub one_settings : (given : Word → Option Word) (c d : Config) → AreSettings given c → AreSettings given d → c ≡ d
+one_settings given c d h g =
+    let net = one_network (given (codes "--net")) usual.network usual.mask c.network c.mask d.network d.mask h.net g.net in
+    let network : c.network ≡ d.network = net.0 in
+    let mask : c.mask ≡ d.mask = net.1 in
+    let vhost : c.vhost ≡ d.vhost = one_of (given (codes "--host")) ((c.network + 2) % 2 ^ 32) ((d.network + 2) % 2 ^ 32) IsAddress (ap (λ (n : ℕ). (n + 2) % 2 ^ 32) net.0) same_at c.vhost d.vhost h.host g.host in
+    let vnameserver : c.vnameserver ≡ d.vnameserver = one_of (given (codes "--dns")) ((c.network + 3) % 2 ^ 32) ((d.network + 3) % 2 ^ 32) IsAddress (ap (λ (n : ℕ). (n + 3) % 2 ^ 32) net.0) same_at c.vnameserver d.vnameserver h.dns g.dns in
+    let dhcp_start : c.dhcp_start ≡ d.dhcp_start = one_of (given (codes "--dhcpstart")) ((c.network + 15) % 2 ^ 32) ((d.network + 15) % 2 ^ 32) IsAddress (ap (λ (n : ℕ). (n + 15) % 2 ^ 32) net.0) same_at c.dhcp_start d.dhcp_start h.dhcp_start g.dhcp_start in
+    let restricted : c.restricted ≡ d.restricted = h.restricted ∙ sym g.restricted in
+    let no_loopback : c.no_loopback ≡ d.no_loopback = h.no_loopback ∙ sym g.no_loopback in
+    let mtu : c.mtu ≡ d.mtu = one_of (given (codes "--mtu")) usual.mtu usual.mtu (IsNumber 16) refl same_short c.mtu d.mtu h.mtu g.mtu in
+    let mru : c.mru ≡ d.mru = one_of (given (codes "--mru")) usual.mru usual.mru (IsNumber 16) refl same_short c.mru d.mru h.mru g.mru in
+    let flows : c.flows ≡ d.flows = one_of (given (codes "--flows")) usual.flows usual.flows (IsNumber 64) refl same_long c.flows d.flows h.flows g.flows in
+    let ring : c.ring ≡ d.ring = one_of (given (codes "--ring")) usual.ring usual.ring (IsNumber 64) refl same_long c.ring d.ring h.ring g.ring in
+    let turns : c.turns ≡ d.turns = one_of (given (codes "--turns")) usual.turns usual.turns (IsNumber 64) refl same_long c.turns d.turns h.turns g.turns in
+    let congestion : c.congestion ≡ d.congestion = h.congestion ∙ sym g.congestion in
+    h.rest
+    ∙ ap (λ (x : ℕ). made usual x c.mask c.vhost c.vnameserver c.dhcp_start c.restricted c.no_loopback c.mtu c.mru c.flows c.ring c.turns c.congestion) network
+    ∙ ap (λ (x : ℕ). made usual d.network x c.vhost c.vnameserver c.dhcp_start c.restricted c.no_loopback c.mtu c.mru c.flows c.ring c.turns c.congestion) mask
+    ∙ ap (λ (x : ℕ). made usual d.network d.mask x c.vnameserver c.dhcp_start c.restricted c.no_loopback c.mtu c.mru c.flows c.ring c.turns c.congestion) vhost
+    ∙ ap (λ (x : ℕ). made usual d.network d.mask d.vhost x c.dhcp_start c.restricted c.no_loopback c.mtu c.mru c.flows c.ring c.turns c.congestion) vnameserver
+    ∙ ap (λ (x : ℕ). made usual d.network d.mask d.vhost d.vnameserver x c.restricted c.no_loopback c.mtu c.mru c.flows c.ring c.turns c.congestion) dhcp_start
+    ∙ ap (λ (x : Bool). made usual d.network d.mask d.vhost d.vnameserver d.dhcp_start x c.no_loopback c.mtu c.mru c.flows c.ring c.turns c.congestion) restricted
+    ∙ ap (λ (x : Bool). made usual d.network d.mask d.vhost d.vnameserver d.dhcp_start d.restricted x c.mtu c.mru c.flows c.ring c.turns c.congestion) no_loopback
+    ∙ ap (λ (x : ℕ). made usual d.network d.mask d.vhost d.vnameserver d.dhcp_start d.restricted d.no_loopback x c.mru c.flows c.ring c.turns c.congestion) mtu
+    ∙ ap (λ (x : ℕ). made usual d.network d.mask d.vhost d.vnameserver d.dhcp_start d.restricted d.no_loopback d.mtu x c.flows c.ring c.turns c.congestion) mru
+    ∙ ap (λ (x : ℕ). made usual d.network d.mask d.vhost d.vnameserver d.dhcp_start d.restricted d.no_loopback d.mtu d.mru x c.ring c.turns c.congestion) flows
+    ∙ ap (λ (x : ℕ). made usual d.network d.mask d.vhost d.vnameserver d.dhcp_start d.restricted d.no_loopback d.mtu d.mru d.flows x c.turns c.congestion) ring
+    ∙ ap (λ (x : ℕ). made usual d.network d.mask d.vhost d.vnameserver d.dhcp_start d.restricted d.no_loopback d.mtu d.mru d.flows d.ring x c.congestion) turns
+    ∙ ap (λ (x : Bool). made usual d.network d.mask d.vhost d.vnameserver d.dhcp_start d.restricted d.no_loopback d.mtu d.mru d.flows d.ring d.turns x) congestion
+    ∙ sym g.rest
+
+-- the link is at one place
+first : List ℕ → ℕ
+first [] = 0
+first (x ∷ xs) = x
+
+one_place : (text : Word) (p q : Place) → IsLink text p → IsLink text q → p ≡ q
+unfolding first
+one_place text (AtPath path) (AtPath name) h g = let same : path ≡ name = (let spelt : codes "unix:" ++ path ≡ codes "unix:" ++ name = sym h.0 ∙ g.0 in cc) in ap AtPath same
+one_place text (AtEndpoint at) (AtEndpoint to) h g =
+    let spelt : codes "tcp:" ++ endpoint_text at ≡ codes "tcp:" ++ endpoint_text to = sym h.0 ∙ g.0 in
+    let tail : endpoint_text at ≡ endpoint_text to = cc in
+    ap AtEndpoint (same_endpoint at to h.1 g.1 tail)
+one_place text (AtPath path) (AtEndpoint at) h g = absurd (omega (arith, ap first (sym h.0 ∙ g.0)))
+one_place text (AtEndpoint at) (AtPath path) h g = absurd (omega (arith, ap first (sym h.0 ∙ g.0)))
+
+one_link : (o : Option Word) (p q : Place) → IsLinkAt o p → IsLinkAt o q → p ≡ q
+one_link None p q h g = absurd h
+one_link (Some text) p q h g = one_place text p q h g
+
+-- words behind a command mean one thing
+pub one_replay : (words : List Word) (f e : Word) (c d : Config) → MeansReplay words f c → MeansReplay words e d → (f ≡ e) × (c ≡ d)
+one_replay words f e c d h g =
+    let a = replay_meant words f c h in
+    let b = replay_meant words e d g in
+    let walk : a.walk ≡ b.walk = one_walk Replay words a.walk b.walk a.read b.read in
+    let files : ◌≡◌ {A = Option Word} (Some f) (Some e) = sym a.alone ∙ ap (λ (w : Walk). w.alone) walk ∙ b.alone in
+    let same : f ≡ e = cc in
+    (same, one_settings (value_in b.walk.options) c d (subst (λ (w : Walk). AreSettings (value_in w.options) c) walk a.settings) b.settings)
+
+pub one_serve : (words : List Word) (c d : Config) (p q : Place) → MeansServe words c p → MeansServe words d q → (c ≡ d) × (p ≡ q)
+one_serve words c d p q h g =
+    let a = serve_meant words c p h in
+    let b = serve_meant words d q g in
+    let walk : a.walk ≡ b.walk = one_walk Serve words a.walk b.walk a.read b.read in (
+      one_settings (value_in b.walk.options) c d (subst (λ (w : Walk). AreSettings (value_in w.options) c) walk a.settings) b.settings,
+      one_link (value_in b.walk.options (codes "--link")) p q (subst (λ (w : Walk). IsLinkAt (value_in w.options (codes "--link")) p) walk a.link) b.link,
+    )

@@ -1,0 +1,30 @@
+use Rattle.std.proofs.Common.{List, map, string_bytes, sym, ap, subst}
+use Rattle.slirp_config.specs.Meaning.{Means}
+use Rattle.slirp_config.specs.Options.{Word}
+use Rattle.slirp_config.proofs.Answered.{answered}
+use Rattle.slirp_config.proofs.Commanded.{one_meaning}
+use Rattle.slirp_config.proofs.read_words.Goals as goal
+
+pub returns-in-Ok-clause-meant : goal.returns-in-Ok-clause-meant
+returns-in-Ok-clause-meant c =
+    let words = map string_bytes c.args.words.now.items in
+    let m = c.in-Ok.ensures.meant in
+    let means = subst (λ (w : List Word). Means w m.0) (ap (map string_bytes) c.as_slice.ensures.value) m.1 in
+    (answered (Means words) (one_meaning words) c.in-Ok.command m.0 means m.2 c.checked.result c.checked.ensures.same c.checked.ensures.sound c.checked.ensures.whole c.checked.ensures.broken).meant
+
+pub returns-in-Ok-clause-bad_config : goal.returns-in-Ok-clause-bad_config
+returns-in-Ok-clause-bad_config c =
+    let words = map string_bytes c.args.words.now.items in
+    let m = c.in-Ok.ensures.meant in
+    let means = subst (λ (w : List Word). Means w m.0) (ap (map string_bytes) c.as_slice.ensures.value) m.1 in
+    (answered (Means words) (one_meaning words) c.in-Ok.command m.0 means m.2 c.checked.result c.checked.ensures.same c.checked.ensures.sound c.checked.ensures.whole c.checked.ensures.broken).bad_config
+
+pub returns-in-Ok-clause-only : goal.returns-in-Ok-clause-only
+returns-in-Ok-clause-only c =
+    let words = map string_bytes c.args.words.now.items in
+    let m = c.in-Ok.ensures.meant in
+    let means = subst (λ (w : List Word). Means w m.0) (ap (map string_bytes) c.as_slice.ensures.value) m.1 in
+    (answered (Means words) (one_meaning words) c.in-Ok.command m.0 means m.2 c.checked.result c.checked.ensures.same c.checked.ensures.sound c.checked.ensures.whole c.checked.ensures.broken).only
+
+pub returns-in-Err-clause-only : goal.returns-in-Err-clause-only
+returns-in-Err-clause-only c = λ meaning m. absurd (c.in-Err.ensures.refused meaning (subst (λ (w : List Word). Means w meaning) (ap (map string_bytes) (sym c.as_slice.ensures.value)) m))

@@ -1,0 +1,5 @@
+pub mod Texts
+pub mod Options
+pub mod Meaning
+pub mod Walking
+pub mod Narrowing

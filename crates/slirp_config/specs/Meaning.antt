@@ -1,0 +1,83 @@
+-- What the words of a command line mean.
+use Rattle.std.specs.Prelude.{◌≡◌, ◌+◌, ◌%◌, ◌^◌, ◌<◌, ◌≤◌, List, [], ◌∷◌, length, codes, Option, is_some, Result, Ok, Err, MatchOption}
+use Rattle.host_policy.specs.Addresses.{Config}
+use Rattle.host_policy.specs.Settings.{settings, usual}
+use Rattle.host_policy.specs.Ranges.{first_broken}
+use Rattle.world_face.specs.Journal.{IsPlace, Place, place_of}
+use Rattle.slirp_config.specs.declared.Command.{Command}
+use Rattle.slirp_config.specs.declared.Command.TheVariants.{Replay as ReplayOf, Serve as ServeOf}
+use Rattle.slirp_config.specs.declared.WordFault.{WordFault}
+use Rattle.slirp_config.specs.declared.WordFault.TheVariants.{BadConfig}
+use Rattle.slirp_config.specs.declared.options.Verb.TheVariants.{Replay, Serve}
+use Rattle.slirp_config.specs.Options.{Word, Line, IsLine, line_words, words_alone, value_of}
+use Rattle.slirp_config.specs.Texts.{IsNumber, IsAddress, IsNetwork, IsLink}
+
+-- A schedule in a file is replayed, or the link at a place is served, with these settings.
+pub data Meaning : Type 0 where
+  Replays : (file : Word) (config : Config) → Meaning
+  Serves : (config : Config) (at : Place) → Meaning
+
+abbrev pub config_of : Meaning → Config
+config_of (Replays file config) = config
+config_of (Serves config at) = config
+
+-- the settings that options give, by the value that each name has; what no option gives is usual
+pub record AreSettings (given : Word → Option Word) (config : Config) : Type 0 where
+  pub net : MatchOption (given (codes "--net")) ((config.network ≡ usual.network) × (config.mask ≡ usual.mask)) (λ text. IsNetwork text config.network config.mask)
+  pub host : MatchOption (given (codes "--host")) (config.vhost ≡ (config.network + 2) % 2 ^ 32) (λ text. IsAddress text config.vhost)
+  pub dns : MatchOption (given (codes "--dns")) (config.vnameserver ≡ (config.network + 3) % 2 ^ 32) (λ text. IsAddress text config.vnameserver)
+  pub dhcp_start : MatchOption (given (codes "--dhcpstart")) (config.dhcp_start ≡ (config.network + 15) % 2 ^ 32) (λ text. IsAddress text config.dhcp_start)
+  pub restricted : config.restricted ≡ is_some (given (codes "--restrict"))
+  pub no_loopback : config.no_loopback ≡ is_some (given (codes "--no-loopback"))
+  pub mtu : MatchOption (given (codes "--mtu")) (config.mtu ≡ usual.mtu) (λ text. IsNumber 16 text config.mtu)
+  pub mru : MatchOption (given (codes "--mru")) (config.mru ≡ usual.mru) (λ text. IsNumber 16 text config.mru)
+  pub flows : MatchOption (given (codes "--flows")) (config.flows ≡ usual.flows) (λ text. IsNumber 64 text config.flows)
+  pub ring : MatchOption (given (codes "--ring")) (config.ring ≡ usual.ring) (λ text. IsNumber 64 text config.ring)
+  pub turns : MatchOption (given (codes "--turns")) (config.turns ≡ usual.turns) (λ text. IsNumber 64 text config.turns)
+  pub congestion : config.congestion ≡ is_some (given (codes "--congestion"))
+  pub rest : config ≡ record usual {
+    network = config.network;
+    mask = config.mask;
+    vhost = config.vhost;
+    vnameserver = config.vnameserver;
+    dhcp_start = config.dhcp_start;
+    restricted = config.restricted;
+    no_loopback = config.no_loopback;
+    mtu = config.mtu;
+    mru = config.mru;
+    flows = config.flows;
+    ring = config.ring;
+    turns = config.turns;
+    congestion = config.congestion;
+  }
+
+-- the words behind `replay`: one of them stands by itself and names the file
+abbrev pub MeansReplay : List Word → (file : Word) (config : Config) → Type 0
+MeansReplay words file config =
+    (line : Line) × (words ≡ line_words line) × IsLine Replay line × (words_alone line ≡ file ∷ []) × (0 < length file) × (length file ≤ 1280) × AreSettings (value_of line) config
+
+-- the words behind `serve`: none stands by itself, and the link is told
+abbrev pub MeansServe : List Word → (config : Config) (at : Place) → Type 0
+MeansServe words config at =
+    (line : Line) × (words ≡ line_words line) × IsLine Serve line × (words_alone line ≡ []) × MatchOption (value_of line (codes "--link")) ⊥ (λ text. IsLink text at) × AreSettings (value_of line) config
+
+-- The first word is the command. Words of another command mean nothing.
+abbrev pub Means : List Word → Meaning → Type 0
+Means words (Replays file config) = (behind : List Word) × (words ≡ codes "replay" ∷ behind) × MeansReplay behind file config
+Means words (Serves config at) = (behind : List Word) × (words ≡ codes "serve" ∷ behind) × MeansServe behind config at
+
+-- what a command says
+abbrev pub said : Command → Meaning
+said (ReplayOf file config) = Replays file.bytes (settings config)
+said (ServeOf config at) = Serves (settings config) (place_of at)
+
+-- the link can be opened there
+abbrev pub HasPlace : Meaning → Type 0
+HasPlace (Replays file config) = Unit {0}
+HasPlace (Serves config at) = IsPlace at
+
+-- Words of this meaning are answered by it where each setting is in its range, else by the first field that isn't.
+abbrev pub AnswersBy : Result Command WordFault → Meaning → Type 0
+AnswersBy result meaning = MatchOption (first_broken (config_of meaning))
+    ((command : Command) × (result ≡ Ok command) × (said command ≡ meaning))
+    (λ field. result ≡ Err (BadConfig field))

@@ -1,0 +1,142 @@
+-- The options, and what a command line is made of.
+use Rattle.std.specs.Prelude.{◌≡◌, ℕ, ◌==◌, ◌&&◌, ◌<◌, not, Bool, true, false, List, [], ◌∷◌, ◌++◌, length, bytes_eq, codes, Option, Some, None, find}
+use Rattle.std.specs.Option.{option_map}
+use Rattle.host_policy.specs.Ranges.{none_twice}
+use Rattle.slirp_config.specs.declared.options.Verb.{Verb}
+use Rattle.slirp_config.specs.declared.options.Verb.TheVariants.{Replay, Serve}
+
+abbrev pub Word : Type 0
+Word = List ℕ
+
+-- an option, its name with the dashes: whether it has a value, else it is a flag; and whether `serve` alone has it
+pub record Row : Type 0 where
+  pub name : Word
+  pub has_value : Bool
+  pub serve_alone : Bool
+
+abbrev pub valued : Word → Row
+valued name = record { name = name; has_value = true; serve_alone = false }
+
+abbrev pub flag : Word → Row
+flag name = record { name = name; has_value = false; serve_alone = false }
+
+abbrev pub valued_of_serve : Word → Row
+valued_of_serve name = record { name = name; has_value = true; serve_alone = true }
+
+abbrev pub rows : List Row
+rows =
+    valued_of_serve (codes "--link")
+    ∷ valued (codes "--net")
+    ∷ valued (codes "--host")
+    ∷ valued (codes "--dns")
+    ∷ valued (codes "--dhcpstart")
+    ∷ flag (codes "--restrict")
+    ∷ flag (codes "--no-loopback")
+    ∷ valued (codes "--mtu")
+    ∷ valued (codes "--mru")
+    ∷ valued (codes "--flows")
+    ∷ valued (codes "--ring")
+    ∷ valued (codes "--turns")
+    ∷ flag (codes "--congestion")
+    ∷ []
+
+abbrev pub has_row : Verb → Row → Bool
+has_row Serve row = true
+has_row Replay row = not row.serve_alone
+
+abbrev pub is_row : Verb → Word → Row → Bool
+is_row verb name row = bytes_eq row.name name && has_row verb row
+
+-- whether the command's option of this name has a value; None where it has no such option
+abbrev pub takes_value : Verb → Word → Option Bool
+takes_value verb name = option_map (λ row. row.has_value) (find (is_row verb name) rows)
+
+-- an option that was given, with its value; that of a flag is empty
+pub record Given : Type 0 where
+  pub name : Word
+  pub value : Word
+
+-- a piece of a command line
+pub data Piece : Type 0 where
+  -- `--name value`
+  Apart : (name value : Word) → Piece
+  -- `--name=value`
+  Joined : (name value : Word) → Piece
+  -- `--name`
+  Flag : (name : Word) → Piece
+  -- a word that stands by itself
+  Plain : (word : Word) → Piece
+
+abbrev pub is_dashed : Word → Bool
+is_dashed [] = false
+is_dashed (octet ∷ octets) = octet == 45
+
+-- No value is empty. One that stands apart doesn't begin with a dash, and neither does a word that stands by itself.
+abbrev pub IsPiece : Verb → Piece → Type 0
+IsPiece verb (Apart name value) = (takes_value verb name ≡ Some true) × (0 < length value) × (is_dashed value ≡ false)
+IsPiece verb (Joined name value) = (takes_value verb name ≡ Some true) × (0 < length value)
+IsPiece verb (Flag name) = takes_value verb name ≡ Some false
+IsPiece verb (Plain word) = is_dashed word ≡ false
+
+abbrev pub piece_words : Piece → List Word
+piece_words (Apart name value) = name ∷ value ∷ []
+piece_words (Joined name value) = (name ++ codes "=" ++ value) ∷ []
+piece_words (Flag name) = name ∷ []
+piece_words (Plain word) = word ∷ []
+
+-- What stands behind a command: pieces in any order, and perhaps `--` and further words, each of which stands by itself.
+pub record Line : Type 0 where
+  pub pieces : List Piece
+  pub behind : Option (List Word)
+
+abbrev pub ArePieces : Verb → List Piece → Type 0
+ArePieces verb [] = Unit {0}
+ArePieces verb (piece ∷ pieces) = IsPiece verb piece × ArePieces verb pieces
+
+abbrev pub pieces_words : List Piece → List Word
+pieces_words [] = []
+pieces_words (piece ∷ pieces) = piece_words piece ++ pieces_words pieces
+
+abbrev pub words_behind : Option (List Word) → List Word
+words_behind None = []
+words_behind (Some words) = codes "--" ∷ words
+
+abbrev pub line_words : Line → List Word
+line_words line = pieces_words line.pieces ++ words_behind line.behind
+
+-- the options that are given, in their order
+abbrev pub options_of : List Piece → List Given
+options_of [] = []
+options_of (Apart name value ∷ pieces) = record { name = name; value = value } ∷ options_of pieces
+options_of (Joined name value ∷ pieces) = record { name = name; value = value } ∷ options_of pieces
+options_of (Flag name ∷ pieces) = record { name = name; value = [] } ∷ options_of pieces
+options_of (Plain word ∷ pieces) = options_of pieces
+
+-- the words that stand by themselves, in their order
+abbrev pub plain_words : List Piece → List Word
+plain_words [] = []
+plain_words (Apart name value ∷ pieces) = plain_words pieces
+plain_words (Joined name value ∷ pieces) = plain_words pieces
+plain_words (Flag name ∷ pieces) = plain_words pieces
+plain_words (Plain word ∷ pieces) = word ∷ plain_words pieces
+
+abbrev pub alone_behind : Option (List Word) → List Word
+alone_behind None = []
+alone_behind (Some words) = words
+
+abbrev pub words_alone : Line → List Word
+words_alone line = plain_words line.pieces ++ alone_behind line.behind
+
+abbrev pub same_name : Given → Given → Bool
+same_name a b = bytes_eq a.name b.name
+
+-- each option stands at most once
+abbrev pub IsLine : Verb → Line → Type 0
+IsLine verb line = ArePieces verb line.pieces × (none_twice same_name (options_of line.pieces) ≡ true)
+
+-- the value with which the option of this name is given; None where it isn't
+abbrev pub value_in : List Given → Word → Option Word
+value_in options name = option_map (λ given. given.value) (find (λ given. bytes_eq given.name name) options)
+
+abbrev pub value_of : Line → Word → Option Word
+value_of line name = value_in (options_of line.pieces) name

@@ -1,0 +1,90 @@
+//! The settings that options give.
+ghost use Rattle.std.specs.Prelude.{◌≡◌, ℕ, ◌+◌, ◌%◌, ◌^◌, IfOk, MatchOption, OnErr, codes, is_some, min, option_copied};
+ghost use Rattle.host_policy.specs.Addresses.{Config};
+ghost use Rattle.host_policy.specs.Settings.{settings};
+ghost use Rattle.slirp_config.specs.Meaning.{AreSettings};
+ghost use Rattle.slirp_config.specs.Options.{value_in};
+ghost use Rattle.slirp_config.specs.Texts.{IsAddress, IsNetwork, IsNumber};
+ghost use Rattle.slirp_config.specs.Narrowing.{narrowed, narrowed_settings};
+ghost use Rattle.slirp_config.specs.Walking.{walk_of};
+
+use crate::line::{Line, NoReading};
+use crate::values::{read_address, read_network, read_number, read_short};
+use host_policy::SlirpConfig;
+use net_octets::Ip4;
+
+impl<'a> Line<'a> {
+    /// The settings that the options give; what none gives is usual.
+    pub(crate) fn settings(&self) -> Result<SlirpConfig, NoReading>
+        ensures set { IfOk result (λ c. (config : Config) × AreSettings (value_in (walk_of self.now).options) config × (settings c ≡ narrowed_settings config)) }
+        ensures refused { OnErr result ((config : Config) → ¬ AreSettings (value_in (walk_of self.now).options) config) }
+    {
+        let mut config = SlirpConfig::usual();
+        let (network, mask) = self.network(config.vnetwork, config.vnetmask)?;
+        config.vnetwork = network;
+        config.vnetmask = mask;
+        config.vhost = self.address("--host", network, 2)?;
+        config.vnameserver = self.address("--dns", network, 3)?;
+        config.vdhcp_start = self.address("--dhcpstart", network, 15)?;
+        config.restricted = self.has("--restrict");
+        config.disable_host_loopback = self.has("--no-loopback");
+        config.if_mtu = self.short("--mtu", config.if_mtu)?;
+        config.if_mru = self.short("--mru", config.if_mru)?;
+        config.flows = narrow(self.number("--flows", config.flows as u64)?);
+        config.ring = narrow(self.number("--ring", config.ring as u64)?);
+        config.turns = self.number("--turns", config.turns)?;
+        config.congestion = self.has("--congestion");
+        Ok(config)
+    }
+
+    // The network and its mask.
+    fn network(&self, network: Ip4, mask: Ip4) -> Result<(Ip4, Ip4), NoReading>
+        ensures read { IfOk result (λ read. MatchOption (value_in (walk_of self.now).options (codes "--net")) ((read.0.0 ≡ network.0) × (read.1.0 ≡ mask.0)) (λ text. IsNetwork text read.0.0 read.1.0)) }
+        ensures refused { OnErr result ((a m b n : ℕ) → ¬ MatchOption (value_in (walk_of self.now).options (codes "--net")) ((a ≡ b) × (m ≡ n)) (λ text. IsNetwork text a m)) }
+    {
+        match self.value("--net") {
+            Some(text) => read_network(text.as_bytes()),
+            None => Ok((network, mask)),
+        }
+    }
+
+    // The address that the option of this name gives, else one so far behind the network's first.
+    fn address(&self, name: &str, network: Ip4, offset: u32) -> Result<Ip4, NoReading>
+        ensures read { IfOk result (λ read. MatchOption (value_in (walk_of self.now).options name.now) (read.0 ≡ (network.0 + offset) % 2 ^ 32) (λ text. IsAddress text read.0)) }
+        ensures refused { OnErr result ((usual a : ℕ) → ¬ MatchOption (value_in (walk_of self.now).options name.now) (a ≡ usual) (λ text. IsAddress text a)) }
+    {
+        match self.value(name) {
+            Some(text) => read_address(text.as_bytes()),
+            None => Ok(Ip4(network.0.wrapping_add(offset))),
+        }
+    }
+
+    // The number of 16 bits that the option of this name gives, else the usual one.
+    fn short(&self, name: &str, usual: u16) -> Result<u16, NoReading>
+        ensures read { IfOk result (λ n. MatchOption (value_in (walk_of self.now).options name.now) (n ≡ usual) (λ text. IsNumber 16 text n)) }
+        ensures refused { OnErr result ((n m : ℕ) → ¬ MatchOption (value_in (walk_of self.now).options name.now) (n ≡ m) (λ text. IsNumber 16 text n)) }
+    {
+        match self.value(name) {
+            Some(text) => read_short(text.as_bytes()),
+            None => Ok(usual),
+        }
+    }
+
+    // The number of 64 bits that the option of this name gives, else the usual one.
+    fn number(&self, name: &str, usual: u64) -> Result<u64, NoReading>
+        ensures read { IfOk result (λ n. MatchOption (value_in (walk_of self.now).options name.now) (n ≡ usual) (λ text. IsNumber 64 text n)) }
+        ensures refused { OnErr result ((n m : ℕ) → ¬ MatchOption (value_in (walk_of self.now).options name.now) (n ≡ m) (λ text. IsNumber 64 text n)) }
+    {
+        match self.value(name) {
+            Some(text) => read_number(text.as_bytes()),
+            None => Ok(usual),
+        }
+    }
+}
+
+// The number, or the greatest of 32 bits, which is out of every range too.
+fn narrow(n: u64) -> u32
+    ensures { result ≡ narrowed n }
+{
+    n.min(u32::MAX as u64) as u32
+}

@@ -1,0 +1,83 @@
+-- A call may come: one lemma for each kind of call, which has what is to be shown of that kind. Only `gathered` builds the record of the sentences, so that one more sentence is one more line there, and a premise of the kinds of which it speaks.
+use Rattle.std.proofs.Common.{◌≡◌, ℕ, ◌==◌, ◌&&◌, ◌||◌, not, nat_lt, Bool, true, false, List, is_some, MatchOption, Option, Some, None, if◌then◌else◌, refl, sym, ◌∙◌, ap, subst}
+use Rattle.poll_list.specs.Listing.{reads}
+use Rattle.poll_list.specs.declared.Want.{Want}
+use Rattle.poll_list.specs.declared.Who.TheVariants.{Link, Udp}
+use Rattle.world_face.specs.Journal.{Entry, Call, CallNow, CallWait, CallLinkRead, CallLinkWrite, CallClose, CallUdpOpen, CallUdpSend, CallUdpRecv}
+use Rattle.world_face.specs.Frames.{MayFrame, tail}
+use Rattle.world_face.specs.Limits.{most_to_udp}
+use Rattle.net_octets.specs.declared.Endpoint.{Endpoint}
+use Rattle.host_policy.specs.Addresses.{Config}
+use Rattle.run_laws.specs.Moments.{waits}
+use Rattle.run_laws.specs.Shape.{is_over, is_working, may_turn, phase}
+use Rattle.run_laws.specs.Sockets.{is_among, next_number, open_sockets}
+use Rattle.slirp_laws.specs.Agenda.{agenda}
+use Rattle.slirp_laws.specs.Laws.{Deed, May, MayDue, begins_closing, carries, deed_of, due, goes_on, has_place, has_socket, is_all_out, is_answered, is_closing, is_least, is_served, is_shut, may_begin, may_close, parts}
+use Rattle.slirp_laws.proofs.Bools.{and_both, same}
+
+pub gathered : (config : Config) (past : List Entry) (call : Call) → MayFrame past call → MayDue config past call → has_place config past (deed_of call) ≡ true → has_socket config past (deed_of call) ≡ true
+    → is_served (agenda past) (deed_of call) ≡ true → is_answered config past (deed_of call) ≡ true → goes_on config past (deed_of call) ≡ true → May config past call
+gathered config past call framed is_due has_place has_socket served answered on = record { framed = framed; due = is_due; place = has_place; socket = has_socket; served = served; answered = answered; goes_on = on }
+
+-- where a call is due, and where none is
+pub this_one : (config : Config) (past : List Entry) (call : Call) → due config past ≡ Some call → MayDue config past call
+this_one config past call is = subst (λ o. MatchOption o (Unit {0}) (λ d. call ≡ d)) (sym is) refl
+
+pub any_one : (config : Config) (past : List Entry) (call : Call) → due config past ≡ None → MayDue config past call
+any_one config past call is = subst (λ o. MatchOption o (Unit {0}) (λ d. call ≡ d)) (sym is) tt
+
+some_due : (config : Config) (past : List Entry) (call : Call) → due config past ≡ Some call → is_some (due config past) ≡ true
+some_due config past call is = ap is_some is
+
+shuts : (config : Config) (past : List Entry) → (not (is_closing config past) || true) ≡ true
+shuts config past = either (not (is_closing config past))
+  where
+    either : (b : Bool) → (b || true) ≡ true
+    either true = refl
+    either false = refl
+
+module _ (config : Config) (past : List Entry) where
+  -- the clock is asked where that is due
+  pub asks : due config past ≡ Some CallNow → is_closing config past ≡ false → May config past CallNow
+  asks is open_yet = gathered config past CallNow tt (this_one config past CallNow is) (some_due config past CallNow is) refl refl refl (ap (λ (b : Bool). not b || false) open_yet)
+
+  -- a turn begins
+  pub waits_now : (wants : List Want) (timeout : Option ℕ) → due config past ≡ None → may_turn (phase config past) ≡ true → nat_lt (waits past) config.turns ≡ true → is_closing config past ≡ false → May config past (CallWait wants timeout)
+  waits_now wants timeout none turn few open_yet =
+      gathered config past (CallWait wants timeout) tt (any_one config past (CallWait wants timeout) none) (and_both (may_turn (phase config past)) (nat_lt (waits past) config.turns) turn few) refl refl refl
+      (ap (λ (b : Bool). not b || false) open_yet)
+
+  -- the link is read where the last wait reported it and nothing is left to be sent
+  pub reads_on : (asked : ℕ) → MayFrame past (CallLinkRead asked) → due config past ≡ None → is_working (phase config past) ≡ true → reads Link (agenda past) ≡ true → is_all_out config past ≡ true
+      → is_closing config past ≡ false → May config past (CallLinkRead asked)
+  reads_on asked framed none working reported out open_yet =
+      gathered config past (CallLinkRead asked) framed (any_one config past (CallLinkRead asked) none) working refl reported out (ap (λ (b : Bool). not b || false) open_yet)
+
+  -- a frame is written, or goes on
+  pub writes : (octets : List ℕ) → MayFrame past (CallLinkWrite octets) → due config past ≡ None → is_working (phase config past) ≡ true → may_begin config past (tail past) octets ≡ true
+      → is_closing config past ≡ false → May config past (CallLinkWrite octets)
+  writes octets framed none working begins open_yet =
+      gathered config past (CallLinkWrite octets) framed (any_one config past (CallLinkWrite octets) none) working refl refl begins (ap (λ (b : Bool). not b || false) open_yet)
+
+  -- a socket is opened with the next number where that is due
+  pub opens : (socket : ℕ) (at : Endpoint) → due config past ≡ Some (CallUdpOpen socket at) → (socket == next_number past) ≡ true → is_closing config past ≡ false → May config past (CallUdpOpen socket at)
+  opens socket at is next open_yet =
+      gathered config past (CallUdpOpen socket at) tt (this_one config past (CallUdpOpen socket at) is) (some_due config past (CallUdpOpen socket at) is) next refl refl (ap (λ (b : Bool). not b || false) open_yet)
+
+  -- a datagram is sent where that is due
+  pub sends : (socket : ℕ) (to : Endpoint) (octets : List ℕ) → due config past ≡ Some (CallUdpSend socket to octets) → carries past socket ≡ true → is_closing config past ≡ false
+      → May config past (CallUdpSend socket to octets)
+  sends socket to octets is on open_yet =
+      gathered config past (CallUdpSend socket to octets) tt (this_one config past (CallUdpSend socket to octets) is) (some_due config past (CallUdpSend socket to octets) is) on refl refl
+      (ap (λ (b : Bool). not b || false) open_yet)
+
+  -- one is asked for where the last wait reported the socket and nothing is left to be sent
+  pub hears : (socket asked : ℕ) → due config past ≡ None → is_working (phase config past) ≡ true → carries past socket ≡ true → asked ≡ most_to_udp → reads (Udp socket) (agenda past) ≡ true → is_all_out config past ≡ true
+      → is_closing config past ≡ false → May config past (CallUdpRecv socket asked)
+  hears socket asked none working on whole reported out open_yet =
+      gathered config past (CallUdpRecv socket asked) tt (any_one config past (CallUdpRecv socket asked) none) working
+      (and_both (carries past socket) (asked == most_to_udp) on (ap (λ n. n == most_to_udp) whole ∙ same most_to_udp)) reported out (ap (λ (b : Bool). not b || false) open_yet)
+
+  -- a socket is closed
+  pub closes : (socket : ℕ) → MayDue config past (CallClose socket) → (is_working (phase config past) || is_over (phase config past)) ≡ true → may_close config past socket ≡ true → May config past (CallClose socket)
+  closes socket is_due place may = gathered config past (CallClose socket) tt is_due place may refl refl (shuts config past)
