@@ -5,6 +5,7 @@ pub mod Pieces
 pub mod Range
 pub mod Room
 pub mod Rows
+pub mod Reporting
 pub mod Script
 pub mod Spelling
 pub mod Text

@@ -21,7 +21,7 @@ place_at seat = place_of_two seat.at seat.path.items
 
 abbrev pub entry_of : Line → Entry
 entry_of (LineNow moment) = Now moment
-entry_of (LineWait wants timeout answer ready) = Wait wants.items timeout answer ready.items
+entry_of (LineWait wants timeout answer ready) = Wait wants.items timeout answer ready
 entry_of (LineLinkOpen seat answer) = LinkOpen (place_at seat) answer
 entry_of (LineLinkRead asked answer octets) = LinkRead asked answer octets.items
 entry_of (LineLinkWrite octets answer) = LinkWrite octets.items answer

@@ -9,6 +9,7 @@ ghost use Rattle.world_face.specs.Journal.{MayRead, MayReadFile, MayWrite, AreOc
 ghost use Rattle.replay.specs.Lines.{place_at};
 
 use crate::line::Seat;
+use crate::reported::Reported;
 use world_face::{Accepted, FileSize, Got, Io, LinkAt, Waited, Want, Who};
 
 // Items of what a wait answers as ready.
@@ -125,7 +126,7 @@ fn has_direction(want: Want) -> bool
 }
 
 // The number of a socket.
-fn number_of(who: &Who) -> Option<u64>
+pub fn number_of(who: &Who) -> Option<u64>
     ensures { result ≡ number_of who.now }
 {
     match *who {
@@ -168,14 +169,15 @@ fn differ(wants: &[Want]) -> bool
     true
 }
 
-pub fn may_wait(wants: &[Want], answer: Waited, ready: &[Want]) -> bool
+pub fn may_wait(wants: &[Want], answer: Waited, ready: &Reported) -> bool
     ensures { IsTrue result ↔ MayWait wants.now answer ready.now }
 {
+    let items = ready.items();
     match answer {
         Waited::Ready => {
-            ready.len() <= MOST_READY && are_wants(ready) && (differ(ready) || !differ(wants))
+            items.len() <= MOST_READY && are_wants(items) && (ready.are_apart() || !differ(wants))
         }
-        _ => ready.is_empty(),
+        _ => items.is_empty(),
     }
 }
 

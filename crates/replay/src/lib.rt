@@ -6,6 +6,7 @@ mod giving;
 mod line;
 mod printing;
 mod reading;
+mod reported;
 mod row;
 #[cfg(test)]
 mod tests;

@@ -6,6 +6,7 @@ ghost use Rattle.replay.specs.Names.{name_of};
 ghost use Rattle.replay.specs.Fitting.{has_failed, moment_after};
 
 use crate::CallName;
+use crate::reported::Reported;
 use world_face::{Accepted, Endpoint, FileSize, Got, Io, Joined, Made, Sent, Waited, Want};
 
 /// Where the link is: an endpoint, or where there is none the octets of a path.
@@ -19,7 +20,7 @@ pub struct Seat {
 #[derive(Drop)]
 pub enum Line {
     Now(u64),
-    Wait(Vec<Want>, Option<u64>, Waited, Vec<Want>),
+    Wait(Vec<Want>, Option<u64>, Waited, Reported),
     LinkOpen(Seat, Made),
     LinkRead(usize, Io, Vec<u8>),
     LinkWrite(Vec<u8>, Io),

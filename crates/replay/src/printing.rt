@@ -78,7 +78,7 @@ fn put_answer<K: Sink>(line: &Line, out: &mut K) -> Result<(), Failed>
 {
     match line {
         Line::Now(moment) => put_number(*moment, out),
-        Line::Wait(_, _, answer, ready) => put_waited(*answer, ready, out),
+        Line::Wait(_, _, answer, ready) => put_waited(*answer, ready.items(), out),
         Line::LinkOpen(_, answer) => put_made(*answer, out),
         Line::LinkRead(_, answer, octets) => put_read(*answer, octets, out),
         Line::LinkWrite(_, answer) => put_written(*answer, out),

@@ -1,13 +1,14 @@
 // Lines, read whole.
 #![tactic(auto, unfolding(crate::specs::Text::call_text, crate::specs::Text::answer_text))]
 
-ghost use Rattle.std.specs.Prelude.{◌≡◌, ◌≢◌, ◌++◌, ◌∷◌, [], ℕ, List, Err, IfOk, OnErr, IsTrue, ◌↔◌, codes, decimal, length};
+ghost use Rattle.std.specs.Prelude.{◌≡◌, ◌≢◌, ◌++◌, ◌∷◌, [], ℕ, List, Err, IfOk, OnErr, IsTrue, ◌↔◌, codes, decimal, length, ◌<◌, true};
 ghost use Rattle.replay.specs.Names.{name_of, name_text};
 ghost use Rattle.replay.specs.Fitting.{with_answer};
 ghost use Rattle.replay.specs.Lines.{entry_of, place_at, row_of};
 ghost use Rattle.replay.specs.Rows.{Row as ARow, IsReadable, row_text};
-ghost use Rattle.replay.specs.Text.{hexadecimal, endpoint_text, place_text, made_text, read_text, written_text, joined_answer, accepted_text, sent_text, got_text, size_text, waited_text};
+ghost use Rattle.replay.specs.Text.{hexadecimal, endpoint_text, place_text, made_text, read_text, written_text, joined_answer, accepted_text, sent_text, got_text, size_text, waited_text, joined_text};
 ghost use Rattle.net_octets.specs.declared.Endpoint.{Endpoint as AnEndpoint};
+ghost use Rattle.poll_list.specs.Listing.{are_wants};
 ghost use Rattle.poll_list.specs.declared.Want.{Want as AWant};
 ghost use Rattle.world_face.specs.declared.Io.{Io as AnIo};
 ghost use Rattle.world_face.specs.declared.Made.{Made as AMade};
@@ -25,6 +26,7 @@ ghost use Rattle.replay.specs.Spelling.{IsSpelt, IsWritten, Says, SaysRow, blank
 
 use crate::CallName;
 use crate::line::{Line, Seat};
+use crate::reported::Reported;
 use crate::row::Row;
 use crate::tokens::{
     Unread, read_endpoint, read_items, read_name, read_number, read_octets, read_timeout,
@@ -503,19 +505,32 @@ fn copy_path(alloc: Global, path: &[u8]) -> Result<Seat, Unread>
     }
 }
 
-fn read_waited(alloc: Global, text: &[u8]) -> Result<(Waited, Vec<Want>), Unread>
-    ensures answer { IfOk result (λ pair. text.now ≡ waited_text pair.0 pair.1.items) }
-    ensures range { IfOk result (λ pair. LeavesReady pair.0 pair.1.items) }
+fn read_waited(alloc: Global, text: &[u8]) -> Result<(Waited, Reported), Unread>
+    ensures answer { IfOk result (λ pair. text.now ≡ waited_text pair.0 pair.1) }
+    ensures range { IfOk result (λ pair. LeavesReady pair.0 pair.1) }
     ensures refused { result ≡ Err NoReading → (answer : AWaited) (ready : List AWant) → LeavesReady answer ready → text.now ≢ waited_text answer ready }
 {
     match text {
-        b"ready" => Ok((Waited::Ready, Vec::new(alloc))),
-        b"stop" => Ok((Waited::Stop, Vec::new(alloc))),
-        b"fail" => Ok((Waited::Failed, Vec::new(alloc))),
+        b"ready" => Ok((Waited::Ready, Reported::none(alloc))),
+        b"stop" => Ok((Waited::Stop, Reported::none(alloc))),
+        b"fail" => Ok((Waited::Failed, Reported::none(alloc))),
         [b'r', b'e', b'a', b'd', b'y', b' ', items @ ..] => {
-            Ok((Waited::Ready, read_items(alloc, items)?))
+            Ok((Waited::Ready, read_reported(alloc, items)?))
         }
         _ => Err(Unread::NoReading),
+    }
+}
+
+fn read_reported(alloc: Global, text: &[u8]) -> Result<Reported, Unread>
+    ensures items { IfOk result (λ items. text.now ≡ joined_text items) }
+    ensures some { IfOk result (λ items. 0 < length items) }
+    ensures range { IfOk result (λ items. are_wants items ≡ true) }
+    ensures refused { result ≡ Err NoReading → (want : AWant) (more : List AWant) → are_wants (want ∷ more) ≡ true → text.now ≢ joined_text (want ∷ more) }
+{
+    let items = read_items(alloc, text)?;
+    match Reported::of(alloc, items) {
+        Ok(reported) => Ok(reported),
+        Err(_) => Err(Unread::NoMemory),
     }
 }
 

@@ -52,7 +52,7 @@ impl Row {
         match &self.line {
             Line::Wait(w, t, answer, ready) => ((self.starred
                 || (same_wants(w, wants) && *t == timeout))
-                && may_wait(wants, *answer, ready)).then_some((*answer, ready.as_slice())),
+                && may_wait(wants, *answer, ready)).then_some((*answer, ready.items())),
             _ => None,
         }
     }

@@ -1,0 +1,158 @@
+// What a wait reports as ready.
+#![tactic(auto)]
+
+ghost use Rattle.std.specs.Prelude.{◌≡◌, ◌↔◌, [], IfOk, IsTrue, map, length};
+ghost use Rattle.std.specs.List.Sorted.{IsStrictlyIncreasing};
+ghost use Rattle.poll_list.specs.Listing.{differ};
+ghost use Rattle.replay.specs.Reporting.{keys_of, key_of};
+
+use crate::allowing::number_of;
+use std::alloc::{AllocError, Global};
+use std::marker::Model;
+use world_face::{Want, Who};
+
+/// The items that a wait reports as ready. Whether no socket stands twice among them, nor the
+/// link, is found once, where the line is read.
+#[derive(Drop)]
+pub struct Reported {
+    items: Vec<Want>,
+    apart: bool,
+}
+
+impl Model for Reported {
+    ghost use Rattle.std.specs.Prelude.{◌≡◌, List};
+    ghost use Rattle.poll_list.specs.declared.Want.{Want};
+    ghost use Rattle.poll_list.specs.Listing.{differ};
+
+    ghost Value = { List Want };
+
+    ghost view = { λ r. r.items.items };
+
+    ghost invariant = { λ r. r.apart ≡ differ r.items.items };
+}
+
+impl Reported {
+    // No items.
+    pub fn none(alloc: Global) -> Reported
+        ensures { result ≡ [] }
+    {
+        Reported {
+            items: Vec::new(alloc),
+            apart: true,
+        }
+    }
+
+    // These items.
+    pub fn of(alloc: Global, items: Vec<Want>) -> Result<Reported, AllocError>
+        ensures { IfOk result (λ reported. reported ≡ items.items) }
+    {
+        let apart = are_apart(alloc, &items)?;
+        Ok(Reported { items, apart })
+    }
+
+    pub fn items(&self) -> &[Want]
+        ensures { result.now ≡ self.now }
+    {
+        self.items.as_slice()
+    }
+
+    // No socket stands twice, nor the link.
+    pub fn are_apart(&self) -> bool
+        ensures { result ≡ differ self.now }
+    {
+        self.apart
+    }
+}
+
+// The same of items that are read, by their numbers in rising order.
+fn are_apart(alloc: Global, items: &[Want]) -> Result<bool, AllocError>
+    ensures { IfOk result (λ apart. apart ≡ differ items.now) }
+{
+    let mut keys = keys_of(alloc, items)?;
+    keys.sort_unstable();
+    Ok(rises(&keys))
+}
+
+fn keys_of(alloc: Global, items: &[Want]) -> Result<Vec<u128>, AllocError>
+    ensures { IfOk result (λ keys. keys.items ≡ keys_of items.now) }
+{
+    items.iter().map(|item| key_of(&item.of)).collect(alloc)
+}
+
+// One more than the number of a socket, and 0 for the link.
+fn key_of(who: &Who) -> u128
+    ensures { result ≡ key_of who.now }
+{
+    match number_of(who) {
+        None => 0,
+        Some(number) => u128::from(number) + 1,
+    }
+}
+
+// Each number is greater than the one before it.
+fn rises(keys: &[u128]) -> bool
+    ensures { IsTrue result ↔ IsStrictlyIncreasing keys.now }
+{
+    for later in 1..keys.len() {
+        if keys[later] <= keys[later - 1] {
+            return false;
+        }
+    }
+    true
+}
+
+#[cfg(test)]
+mod tests {
+    use super::*;
+    use std::test::Fail;
+
+    // A number that follows from the last.
+    fn random(seed: u64) -> u64 {
+        seed.wrapping_mul(6_364_136_223_846_793_005)
+            .wrapping_add(1_442_695_040_888_963_407)
+    }
+
+    // The link, or a socket with one of 23 numbers.
+    fn item(seed: u64) -> Want {
+        let number = (seed >> 33) % 24;
+        let of = match (seed >> 60) % 3 {
+            _ if number == 0 => Who::Link,
+            0 => Who::Listener(number),
+            1 => Who::Udp(number),
+            _ => Who::Tcp(u64::MAX - number),
+        };
+        Want {
+            of,
+            read: true,
+            write: false,
+        }
+    }
+
+    // Whether no socket stands twice, nor the link, by all pairs.
+    fn differ_by_pairs(items: &[Want]) -> bool {
+        for (k, item) in items.iter().enumerate() {
+            for later in k + 1..items.len() {
+                if number_of(&items[later].of) == number_of(&item.of) {
+                    return false;
+                }
+            }
+        }
+        true
+    }
+
+    #[test]
+    fn random_lists_are_judged_as_by_all_pairs(rt: HostRuntime) -> Result<(), Fail> {
+        let mut seed = 1;
+        for round in 0..4_000u64 {
+            let mut items = Vec::new(rt.alloc());
+            for _ in 0..round % 13 {
+                seed = random(seed);
+                items.push(item(seed))?;
+            }
+            let expected = differ_by_pairs(&items);
+            let reported = Reported::of(rt.alloc(), items)?;
+            assert_eq!(rt; reported.are_apart(), expected);
+        }
+        Ok(())
+    }
+}
