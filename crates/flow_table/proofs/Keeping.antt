@@ -26,33 +26,33 @@ has_after (z ∷ xs) zero (suc k) s t h = inr h
 has_after (z ∷ xs) (suc i) zero s t h = inr h
 has_after (z ∷ xs) (suc i) (suc k) s t h = elim (has_after xs i k s t h) [ inl p ↦ inl (ap suc p.0, p.1) | inr q ↦ inr q ]
 
-further : (z : ℕ) (xs : List ℕ) (x : ℕ) → Stands xs x → Stands (z ∷ xs) x
+pub further : (z : ℕ) (xs : List ℕ) (x : ℕ) → Stands xs x → Stands (z ∷ xs) x
 further z xs x s = (suc s.0, s.1)
 
-at_end : (xs : List ℕ) (x : ℕ) → Stands (xs ++ x ∷ []) x
+pub at_end : (xs : List ℕ) (x : ℕ) → Stands (xs ++ x ∷ []) x
 at_end [] x = (zero, refl)
 at_end (z ∷ xs) x = further z (xs ++ x ∷ []) x (at_end xs x)
 
-before_end : (xs : List ℕ) (y i x : ℕ) → slice_get xs i ≡ Some x → Stands (xs ++ y ∷ []) x
+pub before_end : (xs : List ℕ) (y i x : ℕ) → slice_get xs i ≡ Some x → Stands (xs ++ y ∷ []) x
 before_end [] y i x h = cc
 before_end (z ∷ xs) y zero x h = (zero, h)
 before_end (z ∷ xs) y (suc i) x h = further z (xs ++ y ∷ []) x (before_end xs y i x h)
 
-of_end : (xs : List ℕ) (y i x : ℕ) → slice_get (xs ++ y ∷ []) i ≡ Some x → Stands xs x ⊎ (x ≡ y)
+pub of_end : (xs : List ℕ) (y i x : ℕ) → slice_get (xs ++ y ∷ []) i ≡ Some x → Stands xs x ⊎ (x ≡ y)
 of_end [] y zero x h = inr cc
 of_end [] y (suc i) x h = cc
 of_end (z ∷ xs) y zero x h = inl (zero, h)
 of_end (z ∷ xs) y (suc i) x h = elim (of_end xs y i x h) [ inl s ↦ inl (further z xs x s) | inr e ↦ inr e ]
 
 -- what stands in a list after one was taken out of it
-of_removed : (xs : List ℕ) (n i x : ℕ) → slice_get (remove xs n) i ≡ Some x → Stands xs x
+pub of_removed : (xs : List ℕ) (n i x : ℕ) → slice_get (remove xs n) i ≡ Some x → Stands xs x
 of_removed [] zero i x h = cc
 of_removed [] (suc n) i x h = cc
 of_removed (z ∷ xs) zero i x h = (suc i, h)
 of_removed (z ∷ xs) (suc n) zero x h = (zero, h)
 of_removed (z ∷ xs) (suc n) (suc i) x h = further z xs x (of_removed xs n i x h)
 
-in_removed : (xs : List ℕ) (n i x : ℕ) → slice_get xs i ≡ Some x → (i ≡ n) ⊎ Stands (remove xs n) x
+pub in_removed : (xs : List ℕ) (n i x : ℕ) → slice_get xs i ≡ Some x → (i ≡ n) ⊎ Stands (remove xs n) x
 in_removed [] n i x h = cc
 in_removed (z ∷ xs) zero zero x h = inl refl
 in_removed (z ∷ xs) zero (suc i) x h = inr (i, h)
@@ -60,19 +60,19 @@ in_removed (z ∷ xs) (suc n) zero x h = inr (zero, h)
 in_removed (z ∷ xs) (suc n) (suc i) x h = elim (in_removed xs n i x h) [ inl e ↦ inl (ap suc e) | inr s ↦ inr (further z (remove xs n) x s) ]
 
 -- a number that stood once stands once after another was taken out, and nowhere after it was itself
-once_removed : (xs : List ℕ) (n : ℕ) → Once xs → Once (remove xs n)
+pub once_removed : (xs : List ℕ) (n : ℕ) → Once xs → Once (remove xs n)
 once_removed [] zero once = once
 once_removed [] (suc n) once = once
 once_removed (z ∷ xs) zero once = once.1
 once_removed (z ∷ xs) (suc n) once = (λ s. once.0 (of_removed xs n s.0 z s.1), once_removed xs n once.1)
 
-gone : (xs : List ℕ) (n k : ℕ) → Once xs → slice_get xs n ≡ Some k → Stands (remove xs n) k → ⊥
+pub gone : (xs : List ℕ) (n k : ℕ) → Once xs → slice_get xs n ≡ Some k → Stands (remove xs n) k → ⊥
 gone [] n k once is s = cc
 gone (z ∷ xs) zero k once is s = once.0 (subst (Stands xs) (sym (same_Some z k is)) s)
 gone (z ∷ xs) (suc n) k once is (zero, here) = once.0 (subst (Stands xs) (sym (same_Some z k here)) (n, is))
 gone (z ∷ xs) (suc n) k once is (suc i, there) = gone xs n k once.1 is (i, there)
 
-once_at_end : (xs : List ℕ) (k : ℕ) → Once xs → (Stands xs k → ⊥) → Once (xs ++ k ∷ [])
+pub once_at_end : (xs : List ℕ) (k : ℕ) → Once xs → (Stands xs k → ⊥) → Once (xs ++ k ∷ [])
 once_at_end [] k once none = (λ s. cc (s.1), tt)
 once_at_end (z ∷ xs) k once none = (
   λ s. elim (of_end xs k s.0 z s.1) [ inl t ↦ once.0 t | inr e ↦ none (zero, ap Some e) ],
@@ -121,12 +121,12 @@ set_kept slots turns k s alone kept =
     }
 
 -- numbers in turn
-in_range : (from n i x : ℕ) → slice_get (range_with_len from n) i ≡ Some x → x ≡ from + i
+pub in_range : (from n i x : ℕ) → slice_get (range_with_len from n) i ≡ Some x → x ≡ from + i
 in_range from n i x h = let w = slice_get_within (range_with_len from n) i x h in
     let long = length-range_with_len from n in
     sym (get_or_from_slice_get (range_with_len from n) i x 0 h) ∙ get_or-range_with_len from n i 0 (omega arith)
 
-once_in_range : (from n : ℕ) → Once (range_with_len from n)
+pub once_in_range : (from n : ℕ) → Once (range_with_len from n)
 once_in_range from zero = tt
 once_in_range from (suc n) = (λ s. let is = in_range (from + 1) n s.0 from s.1 in omega (arith, is), once_in_range (from + 1) n)
 

@@ -1,2 +1,9 @@
-pub mod Longest
+pub mod Finding
+pub mod Freeing
 pub mod Keeping
+pub mod Lists
+pub mod Resting
+pub mod Searching
+pub mod Tables
+pub mod Tuples
+pub mod Vacating

@@ -1,20 +1,105 @@
 //! A table of the flows of a network: which slot has which two ends, and which slot is taken next.
 #![tactic(auto)]
 
-ghost use Rattle.std.specs.Prelude.{◌≡◌, ◌==◌, ℕ, ◌<◌, ◌≤◌, List, ◌∷◌, length, slice_get, slice_set, IfOk, IfSome, IfNone, Some};
+ghost use Rattle.std.specs.Prelude.{◌≡◌, ◌==◌, ℕ, ◌+◌, ◌^◌, ◌<◌, ◌≤◌, List, [], ◌∷◌, ◌++◌, length, slice_get, slice_set, vec_len, IfOk, IfSome, IfNone, Some};
+ghost use Rattle.flow_table.specs.declared.Tuple.{Tuple};
 ghost use Rattle.flow_table.specs.declared.Slot.TheVariants.{Free, InUse, Resting};
-ghost use Rattle.flow_table.specs.Slots.{AreKept, HasTuple, HasSome, NoneHas, NoneIsFree, NoneRests, MayBeTaken, IsFree, HasRestedLongest, all_free, Stands, flows, moved_last, tuple_of, with_slot};
-ghost use Rattle.std.specs.List.{position, range_with_len};
+ghost use Rattle.flow_table.specs.Slots.{AreKept, HasTuple, HasSome, NoneHas, NoneIsFree, NoneRests, MayBeTaken, Stands, all_free, flows, moved_last, tuple_of, with_slot};
+ghost use Rattle.flow_table.specs.Rows.{AreEntries, AreFree, AreRests, BelongsAt, DoNotFall, IsFirstAfter, IsFirstSince, IsPlaceOf, IsSlotIn, IsVacated, Rise, StandsAt, entry_of, tuple_cmp};
+ghost use Rattle.std.specs.List.{position, range_with_len, insert, remove};
+ghost use Rattle.std.specs.Ordering.{nat_cmp, ordering_then};
+ghost use Rattle.std.specs.Vec.{vec_capacity};
 
 use net_octets::{Endpoint, NoMemory};
 use std::alloc::{AllocError, Global};
-use std::marker::Model;
+use std::cmp::Ordering;
+use std::marker::{Brand, Model};
+use std::sync::ledger::{Blank, Book, Ledger, Share};
 
 /// The two ends of a flow: the guest's, and the other that the guest sees.
 #[derive(Clone, Copy, Debug, PartialEq, Eq)]
 pub struct Tuple {
     pub guest: Endpoint,
     pub other: Endpoint,
+}
+
+/// How many comparisons of tuples were made. It takes no octets, and only `tick` changes it.
+#[derive(Drop)]
+pub struct Steps<L: Ledger> {
+    book: Book<L>,
+    share: Share<L>,
+}
+
+impl<L: Ledger> Model for Steps<L> {
+    ghost use Rattle.std.specs.Prelude.{ℕ, ◌<◌};
+
+    ghost Value = { ℕ };
+
+    ghost view = { λ steps. steps.book.total };
+
+    ghost invariant = { λ steps. 0 < steps.share.parts };
+}
+
+impl<L: Ledger> Steps<L> {
+    /// None was made.
+    pub fn open(blank: Blank) -> Steps<L>
+        requires name { blank.name ≡ L.name }
+        requires parts { blank.parts ≡ L.parts }
+        requires some { 0 < blank.parts }
+        ensures { result ≡ 0 }
+    {
+        let (book, share) = blank.open::<L>();
+        Steps { book, share }
+    }
+
+    /// One more was made.
+    pub fn tick(&mut self)
+        ensures { self.new ≡ self.old + 1 }
+    {
+        self.book.add(&mut self.share, 1);
+    }
+}
+
+impl Tuple {
+    /// Which of two tuples stands first: by guest address, guest port, other address and other
+    /// port. It is one step.
+    pub fn order<L: Ledger>(&self, other: &Tuple, steps: &mut Steps<L>) -> Ordering
+        ensures order { result ≡ tuple_cmp self.now other.now }
+        ensures step { steps.new ≡ steps.old + 1 }
+    {
+        steps.tick();
+        compare(self, other)
+    }
+}
+
+/// The order of two tuples.
+fn compare(one: &Tuple, other: &Tuple) -> Ordering
+    ensures { result ≡ tuple_cmp one.now other.now }
+{
+    let guests = compare_ends(&one.guest, &other.guest);
+    guests.then(compare_ends(&one.other, &other.other))
+}
+
+/// The order of two ends: by address, then by port.
+fn compare_ends(one: &Endpoint, other: &Endpoint) -> Ordering
+    ensures { result ≡ ordering_then (nat_cmp one.now.addr.0 other.now.addr.0) (nat_cmp one.now.port other.now.port) }
+{
+    let addresses = one.addr.0.cmp(&other.addr.0);
+    addresses.then(one.port.cmp(&other.port))
+}
+
+/// A tuple with its slot, as it stands in the row by tuple.
+#[derive(Clone, Copy)]
+struct Entry {
+    tuple: Tuple,
+    slot: usize,
+}
+
+/// A slot at rest, and the moment since when it is, as it stands in the row of rests.
+#[derive(Clone, Copy)]
+struct Rest {
+    slot: usize,
+    since: u64,
 }
 
 /// A slot has no flow, one that is in use, or one in TIME-WAIT whose host socket is closed
@@ -32,16 +117,22 @@ pub enum Slot {
 pub struct FlowTable {
     slots: Vec<Slot>,
     turns: Vec<usize>,
+    entries: Vec<Entry>,
+    rests: Vec<Rest>,
+    free: Vec<usize>,
 }
 
 impl Model for FlowTable {
-    ghost use Rattle.flow_table.specs.Slots.{Flows, AreKept, flows};
+    ghost use Rattle.flow_table.specs.Slots.{Flows, flows};
+    ghost use Rattle.flow_table.specs.Rows.{IsTable};
+    ghost use Rattle.std.specs.Vec.{vec_capacity};
 
     ghost Value = { Flows };
 
     ghost view = { λ table. flows table.slots.items table.turns.items };
 
-    ghost invariant = { λ table. AreKept table.slots.items table.turns.items };
+    ghost invariant = { λ table. IsTable table.slots.items table.turns.items table.entries.items table.rests.items table.free.items
+        (vec_capacity table.entries) (vec_capacity table.rests) (vec_capacity table.free) };
 }
 
 impl FlowTable {
@@ -56,10 +147,25 @@ impl FlowTable {
         let Ok(turns) = in_turn(alloc, slots) else {
             return Err(NoMemory);
         };
+        let Ok(free) = in_turn(alloc, slots) else {
+            return Err(NoMemory);
+        };
+        let Ok(entries) = Vec::with_capacity(alloc, slots) else {
+            return Err(NoMemory);
+        };
+        let Ok(rests) = Vec::with_capacity(alloc, slots) else {
+            return Err(NoMemory);
+        };
         let Ok(slots) = vec![in alloc; Slot::Free; slots] else {
             return Err(NoMemory);
         };
-        Ok(FlowTable { slots, turns })
+        Ok(FlowTable {
+            slots,
+            turns,
+            entries,
+            rests,
+            free,
+        })
     }
 
     /// The slot that has the tuple, in use or at rest. None exactly where no slot has it.
@@ -71,7 +177,22 @@ impl FlowTable {
         // No two slots have one tuple, and each slot's number stands once in the order of rests.
         ensures kept { AreKept self.now.slots self.now.turns }
     {
-        slot_with(&self.slots, t)
+        let found = place_of(&self.entries, t);
+        slot_found(&self.entries, found)
+    }
+
+    /// The same by the same walk, whose comparisons are counted: at most one more than the slots'
+    /// number has binary digits.
+    pub fn find_counted<L: Ledger>(&self, t: &Tuple, steps: &mut Steps<L>) -> Option<usize>
+        ensures found { IfSome result (λ slot. HasTuple self.now.slots slot t.now) }
+        ensures alone { IfSome result (λ slot. (other : ℕ) → HasTuple self.now.slots other t.now
+            → other ≡ slot) }
+        ensures none { IfNone result (NoneHas self.now.slots t.now) }
+        // Where 2 ^ k is at least the number of slots, at most k + 1.
+        ensures few { (k : ℕ) → length self.now.slots ≤ 2 ^ k → steps.new ≤ steps.old + k + 1 }
+    {
+        let found = search(&self.entries, t, steps);
+        slot_found(&self.entries, found)
     }
 
     /// Gives a slot to the tuple, which no slot has: a free one, else the one that has rested
@@ -85,7 +206,13 @@ impl FlowTable {
         ensures resting { IfNone result (NoneRests self.old.slots) }
         ensures unchanged { IfNone result (self.new ≡ self.old) }
     {
-        let slot = next_slot(&self.slots, &self.turns)?;
+        let slot = vacate(
+            &self.slots,
+            &mut self.entries,
+            &mut self.rests,
+            &mut self.free,
+        )?;
+        insert_entry(&mut self.entries, Entry { tuple: *t, slot });
         self.slots[slot] = Slot::InUse(*t);
         Some(slot)
     }
@@ -99,6 +226,8 @@ impl FlowTable {
             (moved_last slot self.old.turns) }
     {
         if let Some(tuple) = self.slots[slot].tuple() {
+            end_rest(&self.slots, &mut self.rests, slot);
+            insert_rest(&mut self.rests, Rest { slot, since });
             self.slots[slot] = Slot::Resting(tuple, since);
             move_last(&mut self.turns, slot);
         }
@@ -109,6 +238,8 @@ impl FlowTable {
         requires { HasSome self.old.slots slot }
         ensures { self.new ≡ with_slot self.old slot Free }
     {
+        release(&self.slots, &mut self.entries, &mut self.rests, slot);
+        give_back(&mut self.free, slot);
         self.slots[slot] = Slot::Free;
     }
 }
@@ -128,7 +259,8 @@ impl Slot {
 
 /// The numbers of so many slots, by number.
 fn in_turn(alloc: Global, slots: usize) -> Result<Vec<usize>, AllocError>
-    ensures { IfOk result (λ turns. turns.items ≡ range_with_len 0 slots) }
+    ensures items { IfOk result (λ turns. turns.items ≡ range_with_len 0 slots) }
+    ensures room { IfOk result (λ turns. slots ≤ vec_capacity turns) }
 {
     let mut turns = vec![in alloc; 0; slots]?;
     for (k, turn) in turns.iter_mut().enumerate() {
@@ -137,70 +269,211 @@ fn in_turn(alloc: Global, slots: usize) -> Result<Vec<usize>, AllocError>
     Ok(turns)
 }
 
-/// The first slot that has the tuple.
-fn slot_with(slots: &[Slot], t: &Tuple) -> Option<usize>
-    ensures found { IfSome result (λ slot. HasTuple slots.now slot t.now) }
-    ensures none { IfNone result (NoneHas slots.now t.now) }
+/// Where a tuple stands in the row, or where it would.
+fn search<L: Ledger>(entries: &[Entry], t: &Tuple, steps: &mut Steps<L>) -> Result<usize, usize>
+    requires { Rise entries.now }
+    ensures place { IsPlaceOf entries.now t.now result }
+    ensures few { (k : ℕ) → length entries.now < 2 ^ k → steps.new ≤ steps.old + k }
 {
-    for (k, slot) in slots.iter().enumerate() {
-        if slot.tuple() == Some(*t) {
-            return Some(k);
-        }
-    }
-    None
-}
-
-/// The slot that is taken next.
-fn next_slot(slots: &[Slot], turns: &[usize]) -> Option<usize>
-    requires { AreKept slots.now turns.now }
-    ensures which { IfSome result (λ slot. MayBeTaken (flows slots.now turns.now) slot) }
-    ensures free { IfNone result (NoneIsFree slots.now) }
-    ensures resting { IfNone result (NoneRests slots.now) }
-{
-    if let Some(slot) = free_slot(slots) {
-        return Some(slot);
-    }
-    let rest = longest_rest(slots, turns)?;
-    Some(rest.slot)
-}
-
-/// The first free slot.
-fn free_slot(slots: &[Slot]) -> Option<usize>
-    ensures found { IfSome result (λ slot. IsFree slots.now slot) }
-    ensures none { IfNone result (NoneIsFree slots.now) }
-{
-    for (k, slot) in slots.iter().enumerate() {
-        if let Slot::Free = slot {
-            return Some(k);
-        }
-    }
-    None
-}
-
-/// A slot at rest, and the moment since when it is.
-#[derive(Clone, Copy)]
-struct Rest {
-    slot: usize,
-    since: u64,
-}
-
-/// The slot that has rested longest.
-fn longest_rest(slots: &[Slot], turns: &[usize]) -> Option<Rest>
-    requires { AreKept slots.now turns.now }
-    ensures longest { IfSome result (λ rest. HasRestedLongest (flows slots.now turns.now) rest.slot) }
-    ensures none { IfNone result (NoneRests slots.now) }
-{
-    let mut found: Option<Rest> = None;
-    for turn in turns.iter() {
-        let slot = *turn;
-        if let Slot::Resting(_, since) = slots[slot] {
-            match found {
-                Some(first) if first.since <= since => {}
-                _ => found = Some(Rest { slot, since }),
+    let mut low = 0;
+    let mut size = entries.len();
+    while size > 0 {
+        let half = size / 2;
+        let middle = low + half;
+        match entries[middle].tuple.order(t, steps) {
+            Ordering::Equal => return Ok(middle),
+            Ordering::Less => {
+                low = middle + 1;
+                size -= half + 1;
             }
+            Ordering::Greater => size = half,
         }
     }
-    found
+    Err(low)
+}
+
+/// The slot of what was found.
+fn slot_found(entries: &[Entry], found: Result<usize, usize>) -> Option<usize>
+    requires { (t : Tuple) × IsPlaceOf entries.now t found }
+    ensures { (t : Tuple) → IsPlaceOf entries.now t found → IsSlotIn entries.now t result }
+{
+    match found {
+        Ok(place) => Some(entries[place].slot),
+        Err(_) => None,
+    }
+}
+
+/// The same as `search`, and nothing is counted.
+fn place_of(entries: &[Entry], t: &Tuple) -> Result<usize, usize>
+    requires { Rise entries.now }
+    ensures { IsPlaceOf entries.now t.now result }
+{
+    place_from::<Brand>(entries, t, Blank::new(1))
+}
+
+fn place_from<L: Ledger>(entries: &[Entry], t: &Tuple, blank: Blank) -> Result<usize, usize>
+    requires rise { Rise entries.now }
+    requires name { blank.name ≡ L.name }
+    requires parts { blank.parts ≡ L.parts }
+    requires some { 0 < blank.parts }
+    ensures { IsPlaceOf entries.now t.now result }
+{
+    let mut steps = Steps::<L>::open(blank);
+    search(entries, t, &mut steps)
+}
+
+/// Takes a slot that may be taken: a free one, or else the one that has rested longest, which
+/// gives its tuple up.
+fn vacate(
+    slots: &[Slot],
+    entries: &mut Vec<Entry>,
+    rests: &mut Vec<Rest>,
+    free: &mut Vec<usize>,
+) -> Option<usize>
+    requires entries { AreEntries slots.now entries.old.items }
+    requires rests { (turns : List ℕ) × AreRests slots.now turns rests.old.items }
+    requires free { AreFree slots.now free.old.items }
+    ensures none { IfNone result (NoneIsFree slots.now) }
+    ensures resting { IfNone result (NoneRests slots.now) }
+    ensures unchanged { IfNone result ((entries.new.items ≡ entries.old.items) × (rests.new.items ≡ rests.old.items) × (free.new.items ≡ free.old.items)) }
+    ensures vacated { IfSome result (λ slot. IsVacated slots.now slot rests.old.items entries.new.items rests.new.items free.new.items) }
+    ensures count { IfSome result (λ slot. length entries.new.items + length free.new.items + 1 ≡ length entries.old.items + length free.old.items) }
+    ensures room { vec_capacity entries.new ≡ vec_capacity entries.old }
+    ensures bed { vec_capacity rests.new ≡ vec_capacity rests.old }
+    ensures stack { vec_capacity free.new ≡ vec_capacity free.old }
+{
+    match free.pop() {
+        Some(slot) => Some(slot),
+        None => {
+            let slot = rests.first()?.slot;
+            release(slots, entries, rests, slot);
+            Some(slot)
+        }
+    }
+}
+
+/// Takes a slot out of both rows.
+fn release(slots: &[Slot], entries: &mut Vec<Entry>, rests: &mut Vec<Rest>, slot: usize)
+    requires entries { AreEntries slots.now entries.old.items }
+    requires rests { (turns : List ℕ) × AreRests slots.now turns rests.old.items }
+    requires some { HasSome slots.now slot }
+    ensures entries { AreEntries (slice_set slots.now slot Free) entries.new.items }
+    ensures one { length entries.new.items + 1 ≡ length entries.old.items }
+    ensures rests { (turns : List ℕ) → AreRests slots.now turns rests.old.items
+        → AreRests (slice_set slots.now slot Free) turns rests.new.items }
+    ensures room { vec_capacity entries.new ≡ vec_capacity entries.old }
+    ensures bed { vec_capacity rests.new ≡ vec_capacity rests.old }
+{
+    end_rest(slots, rests, slot);
+    if let Some(tuple) = slots[slot].tuple() {
+        remove_entry(entries, &tuple);
+    }
+}
+
+/// Puts a tuple into its place in the row.
+fn insert_entry(entries: &mut Vec<Entry>, entry: Entry)
+    requires rise { Rise entries.old.items }
+    requires room { vec_len entries.old < vec_capacity entries.old }
+    requires new { (i k : ℕ) → slice_get entries.old.items i ≡ Some (entry_of entry.tuple k) → ⊥ }
+    ensures place { (place : ℕ) × (BelongsAt entries.old.items place entry.tuple
+        × (entries.new.items ≡ insert entries.old.items place entry)) }
+    ensures room { vec_capacity entries.old ≤ vec_capacity entries.new }
+{
+    if let Err(place) = place_of(entries, &entry.tuple) {
+        let _ = entries.insert(place, entry);
+    }
+}
+
+/// Takes a tuple out of the row.
+fn remove_entry(entries: &mut Vec<Entry>, t: &Tuple)
+    requires rise { Rise entries.old.items }
+    requires there { (i : ℕ) × StandsAt entries.old.items i t.now }
+    ensures place { (place : ℕ) × (StandsAt entries.old.items place t.now
+        × (entries.new.items ≡ remove entries.old.items place)) }
+    ensures room { vec_capacity entries.new ≡ vec_capacity entries.old }
+{
+    if let Ok(place) = place_of(entries, t) {
+        let _ = entries.remove(place);
+    }
+}
+
+/// Takes a slot out of the row of rests, where it rests.
+fn end_rest(slots: &[Slot], rests: &mut Vec<Rest>, slot: usize)
+    requires within { slot < length slots.now }
+    requires rests { (turns : List ℕ) × AreRests slots.now turns rests.old.items }
+    ensures rests { (turns : List ℕ) → AreRests slots.now turns rests.old.items
+        → AreRests (slice_set slots.now slot Free) turns rests.new.items }
+    ensures room { vec_capacity rests.new ≡ vec_capacity rests.old }
+{
+    if let Slot::Resting(_, since) = slots[slot] {
+        remove_rest(rests, Rest { slot, since });
+    }
+}
+
+/// Takes a rest out of the row.
+fn remove_rest(rests: &mut Vec<Rest>, rest: Rest)
+    requires order { DoNotFall rests.old.items }
+    requires there { (i : ℕ) × (slice_get rests.old.items i ≡ Some rest) }
+    ensures place { (place : ℕ) × ((slice_get rests.old.items place ≡ Some rest)
+        × (rests.new.items ≡ remove rests.old.items place)) }
+    ensures room { vec_capacity rests.new ≡ vec_capacity rests.old }
+{
+    if let Some(place) = rest_among(rests, rest) {
+        let _ = rests.remove(place);
+    }
+}
+
+/// Where a rest stands.
+fn rest_among(rests: &[Rest], rest: Rest) -> Option<usize>
+    requires { DoNotFall rests.now }
+    ensures found { IfSome result (λ place. slice_get rests.now place ≡ Some rest) }
+    ensures none { IfNone result ((i : ℕ) → slice_get rests.now i ≡ Some rest → ⊥) }
+{
+    let mut place = first_since(rests, rest.since);
+    while place < rests.len() && rests[place].since == rest.since {
+        if rests[place].slot == rest.slot {
+            return Some(place);
+        }
+        place += 1;
+    }
+    None
+}
+
+/// The first place of those that don't rest longer than since this moment.
+fn first_since(rests: &[Rest], since: u64) -> usize
+    requires { DoNotFall rests.now }
+    ensures { IsFirstSince rests.now since result }
+{
+    rests.partition_point(|rest| rest.since < since)
+}
+
+/// The first place of those that rest since a later moment.
+fn first_after(rests: &[Rest], since: u64) -> usize
+    requires { DoNotFall rests.now }
+    ensures { IsFirstAfter rests.now since result }
+{
+    rests.partition_point(|rest| rest.since <= since)
+}
+
+/// Puts a rest into the row, behind those that rest as long.
+fn insert_rest(rests: &mut Vec<Rest>, rest: Rest)
+    requires order { DoNotFall rests.old.items }
+    requires room { vec_len rests.old < vec_capacity rests.old }
+    ensures place { (place : ℕ) × (IsFirstAfter rests.old.items rest.since place
+        × (rests.new.items ≡ insert rests.old.items place rest)) }
+    ensures room { vec_capacity rests.old ≤ vec_capacity rests.new }
+{
+    let place = first_after(rests, rest.since);
+    let _ = rests.insert(place, rest);
+}
+
+/// Puts a slot to the free ones.
+fn give_back(free: &mut Vec<usize>, slot: usize)
+    requires { vec_len free.old < vec_capacity free.old }
+    ensures items { free.new.items ≡ free.old.items ++ slot ∷ [] }
+    ensures room { vec_capacity free.old ≤ vec_capacity free.new }
+{
+    let _ = free.push(slot);
 }
 
 /// Puts a number behind all others.
@@ -292,6 +565,143 @@ mod tests {
         assert_eq!(rt; take(&mut table, 5), first);
         assert_eq!(rt; take(&mut table, 6), second);
         assert_eq!(rt; take(&mut table, 7), None);
+        Ok(())
+    }
+
+    /// A search among 4,096 slots, which takes at most 13 comparisons.
+    fn find_among_4096<L: Ledger>(
+        table: &FlowTable,
+        t: &Tuple,
+        steps: &mut Steps<L>,
+    ) -> Option<usize>
+        requires { length table.now.slots ≤ 4096 }
+        ensures { steps.new ≤ steps.old + 13 }
+    {
+        table.find_counted(t, steps)
+    }
+
+    fn find_from<L: Ledger>(table: &FlowTable, t: &Tuple, blank: Blank) -> Option<usize>
+        requires slots { length table.now.slots ≤ 4096 }
+        requires name { blank.name ≡ L.name }
+        requires parts { blank.parts ≡ L.parts }
+        requires some { 0 < blank.parts }
+    {
+        let mut steps = Steps::<L>::open(blank);
+        find_among_4096(table, t, &mut steps)
+    }
+
+    #[test]
+    fn none_is_found_among_4096_free_slots(rt: HostRuntime) -> Result<(), Fail> {
+        let table = FlowTable::open(rt.alloc(), 4096)?;
+        assert_eq!(rt; find_from::<Brand>(&table, &tuple(80), Blank::new(1)), None);
+        Ok(())
+    }
+
+    #[test]
+    fn each_of_4096_tuples_is_found(rt: HostRuntime) -> Result<(), Fail> {
+        let mut table = FlowTable::open(rt.alloc(), 4096)?;
+        let mut slots = Vec::new(rt.alloc());
+        for k in 0..4096u16 {
+            slots.push(take(&mut table, k.wrapping_mul(40_503)))?;
+        }
+        assert_eq!(rt; take(&mut table, 1), None);
+        for k in 0..4096u16 {
+            let found = table.find(&tuple(k.wrapping_mul(40_503)));
+            assert_eq!(rt; slots.get(k as usize), Some(&found));
+        }
+        Ok(())
+    }
+
+    /// A number that follows from the last.
+    fn random(seed: u64) -> u64 {
+        seed.wrapping_mul(6_364_136_223_846_793_005)
+            .wrapping_add(1_442_695_040_888_963_407)
+    }
+
+    /// A table that looks at every slot.
+    #[derive(Drop)]
+    struct Plain {
+        slots: Vec<Slot>,
+        turns: Vec<usize>,
+    }
+
+    impl Plain {
+        fn find(&self, t: &Tuple) -> Option<usize> {
+            self.slots.iter().position(|slot| slot.tuple() == Some(*t))
+        }
+
+        /// The slot that has rested longest.
+        fn longest(&self) -> Option<usize> {
+            let mut found: Option<(usize, u64)> = None;
+            for turn in self.turns.iter() {
+                if let Some(Slot::Resting(_, since)) = self.slots.get(*turn) {
+                    match found {
+                        Some((_, first)) if first <= *since => {}
+                        _ => found = Some((*turn, *since)),
+                    }
+                }
+            }
+            found.map(|(slot, _)| slot)
+        }
+
+        /// Whether this slot may be taken.
+        fn may_take(&self, taken: Option<usize>) -> bool {
+            if self.slots.iter().any(|slot| *slot == Slot::Free) {
+                return match taken {
+                    Some(slot) => self.slots.get(slot) == Some(&Slot::Free),
+                    None => false,
+                };
+            }
+            taken == self.longest()
+        }
+
+        fn set(&mut self, slot: usize, content: Slot) {
+            if slot < self.slots.len() {
+                self.slots[slot] = content;
+            }
+        }
+
+        fn rest(&mut self, slot: usize, content: Slot) {
+            self.set(slot, content);
+            if let Some(at) = self.turns.iter().position(|turn| *turn == slot) {
+                self.turns[at..].rotate_left(1);
+            }
+        }
+    }
+
+    #[test]
+    fn random_calls_are_answered_as_by_a_plain_table(rt: HostRuntime) -> Result<(), Fail> {
+        let mut table = FlowTable::open(rt.alloc(), 8)?;
+        let mut plain = Plain {
+            slots: vec![in rt.alloc(); Slot::Free; 8]?,
+            turns: in_turn(rt.alloc(), 8)?,
+        };
+        let mut seed = 7;
+        for _ in 0..5_000u32 {
+            seed = random(seed);
+            let t = tuple(((seed >> 40) % 14) as u16);
+            let since = (seed >> 20) % 5;
+            let had = plain.find(&t);
+            assert_eq!(rt; table.find(&t), had);
+            match had {
+                None => {
+                    let taken = take(&mut table, t.guest.port);
+                    assert!(rt; plain.may_take(taken));
+                    if let Some(slot) = taken {
+                        plain.set(slot, Slot::InUse(t));
+                    }
+                }
+                Some(slot) if seed >> 61 < 5 => {
+                    rest(&mut table, t.guest.port, since);
+                    plain.rest(slot, Slot::Resting(t, since));
+                }
+                Some(slot) if seed >> 61 < 7 => {
+                    free(&mut table, t.guest.port);
+                    plain.set(slot, Slot::Free);
+                }
+                Some(_) => {}
+            }
+        }
         Ok(())
     }
 }

@@ -1,5 +1,5 @@
 -- Items of which no two have one number: in another order, and in rising order.
-use Rattle.std.proofs.Common.{◌≡◌, ◌≢◌, ◌↔◌, ℕ, ◌+◌, ◌<◌, ◌⊎◌, ◌==◌, ◌&&◌, ◌||◌, not, List, [], ◌∷◌, map, length, get_or, Bool, true, false, IsTrue, Option, Some, None, IsPermutation, swap, inl, inr, refl, sym, ap, ◌∙◌, subst, arith, eqb, Decides}
+use Rattle.std.proofs.Common.{◌≡◌, ◌≢◌, ◌↔◌, ℕ, ◌<◌, ◌⊎◌, ◌==◌, ◌&&◌, ◌||◌, not, List, [], ◌∷◌, length, get_or, Bool, true, false, IsTrue, Option, Some, None, IsPermutation, swap, inl, inr, refl, sym, ap, ◌∙◌, arith, eqb}
 use Rattle.std.specs.List.{AllPairs, AllByRecursion, IsDistinct, list_any}
 use Rattle.std.specs.List.Sorted.{IsNonDecreasing, IsStrictlyIncreasing}
 use Rattle.std.proofs.lemmas.Bool.{cases_eq}

@@ -4,8 +4,8 @@ use Rattle.std.proofs.lemmas.List.{same_lists, take_at}
 use Rattle.std.proofs.lemmas.List.FromFn.{length-range_with_len, get_or-range_with_len}
 use Rattle.flow_table.proofs.in_turn.Goals as goal
 
-pub returns : goal.returns
-returns c =
+pub returns-clause-items : goal.returns-clause-items
+returns-clause-items c =
     let turns = c.loop-k.turn-items in
     let n = c.args.slots in
     let ranged = length-range_with_len 0 n in

@@ -1,9 +1,12 @@
-use Rattle.std.proofs.Common.{◌≡◌, replicate, rules}
+use Rattle.std.proofs.Common.{◌≡◌, replicate, rules, arith}
 use Rattle.flow_table.specs.declared.Slot.TheVariants.{Free}
-use Rattle.flow_table.proofs.Keeping.{start_kept}
+use Rattle.flow_table.proofs.Tables.{start_table}
 use Rattle.flow_table.proofs.FlowTable.open.Goals as goal
 
 pub invariant_of-result : goal.invariant_of-result
 invariant_of-result c =
     let slots : c.in-Ok-vec.slots.items ≡ replicate c.args.slots Free = search rules in
-    rw (c.in-Ok.ensures, slots) (start_kept c.args.slots)
+    let entries = c.in-Ok-with_capacity.ensures in
+    let rests = c.in-Ok-with_capacity-2.ensures in
+    let free = c.in-Ok-in_turn.ensures in
+    start_table c.args.slots _ _ _ _ _ _ _ _ slots c.in-Ok.ensures.items free.items entries.items rests.items (omega (arith, entries.exact)) (omega (arith, rests.exact)) free.room
