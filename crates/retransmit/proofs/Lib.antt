@@ -1,3 +1,4 @@
-mod FirstTimer
+mod Lists
+mod Rowing
 pub mod Steady
 mod Waiting

@@ -1,3 +1,4 @@
 pub mod Estimate
 pub mod Moments
 pub mod Resending
+pub mod Rows

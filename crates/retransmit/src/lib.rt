@@ -5,6 +5,10 @@
 ghost use Rattle.std.specs.Prelude.{◌≡◌, ℕ, ◌+◌, ◌^◌, ◌<◌, ◌≤◌, List, [], ◌∷◌, length, replicate, slice_set, IfOk, IsSome, IfSome, IfNone, IsTrue, ◌↔◌};
 ghost use Rattle.retransmit.specs.Estimate.{AreBounded, Event, Expired, Sampled, after_expiry, after_sample, estimate_after, round_trips_after, wait_of as wait_by};
 ghost use Rattle.retransmit.specs.Moments.{IsDue, IsEarliest, NoneRuns, AllRunPast};
+ghost use Rattle.retransmit.specs.Rows.{AreTimers, BelongsAt, IsBefore, Rise};
+ghost use Rattle.std.specs.List.{insert, remove};
+ghost use Rattle.std.specs.Prelude.{Option, None, Some, slice_get, vec_len};
+ghost use Rattle.std.specs.Vec.{vec_capacity};
 ghost use Rattle.retransmit.specs.Resending.{HasWaitedSince, counted as counted_by, doublings, IsNotBefore, after_answered, after_expired, after_moved, after_sent, after_start, after_stop, at_rest, due_of, is_expired as is_expired_by, expired_by, IsInRange, set_unless_running};
 
 use std::alloc::{AllocError, Global};
@@ -326,6 +330,7 @@ fn expired_after(timer: Timer, wait: u64) -> Timer
 #[derive(Drop)]
 pub struct Timers {
     moments: Vec<Option<u64>>,
+    row: Vec<SlotTimer>,
 }
 
 impl Model for Timers {
@@ -333,7 +338,12 @@ impl Model for Timers {
 
     ghost Value = { List (Option ℕ) };
 
+    ghost use Rattle.std.specs.Vec.{vec_capacity};
+    ghost use Rattle.retransmit.specs.Rows.{IsRow};
+
     ghost view = { λ t. t.moments.items };
+
+    ghost invariant = { λ t. IsRow t.moments.items t.row.items (vec_capacity t.row) };
 }
 
 impl Timers {
@@ -344,8 +354,9 @@ impl Timers {
     pub fn open(alloc: Global, slots: usize) -> Result<Timers, AllocError>
         ensures { IfOk result (λ timers. timers ≡ replicate slots None) }
     {
+        let row = Vec::with_capacity(alloc, slots)?;
         let moments = vec![in alloc; None; slots]?;
-        Ok(Timers { moments })
+        Ok(Timers { moments, row })
     }
 
     /// Lets the timer of a slot run until a moment, whether it ran before or not.
@@ -353,6 +364,8 @@ impl Timers {
         requires { slot < length self.old }
         ensures { self.new ≡ slice_set self.old slot (Some at) }
     {
+        stop(&self.moments, &mut self.row, slot);
+        insert_timer(&mut self.row, SlotTimer { slot, at });
         self.moments[slot] = Some(at);
     }
 
@@ -361,6 +374,7 @@ impl Timers {
         requires { slot < length self.old }
         ensures { self.new ≡ slice_set self.old slot None }
     {
+        stop(&self.moments, &mut self.row, slot);
         self.moments[slot] = None;
     }
 
@@ -370,7 +384,7 @@ impl Timers {
         ensures due { IfSome result (λ slot. IsDue self.now now slot) }
         ensures none { IfNone result (AllRunPast self.now now) }
     {
-        let first = earliest(&self.moments)?;
+        let first = earliest(&self.row)?;
         if first.at <= now {
             Some(first.slot)
         } else {
@@ -383,7 +397,7 @@ impl Timers {
         ensures earliest { IfSome result (λ at. (slot : ℕ) × IsEarliest self.now slot at) }
         ensures none { IfNone result (NoneRuns self.now) }
     {
-        let first = earliest(&self.moments)?;
+        let first = earliest(&self.row)?;
         Some(first.at)
     }
 }
@@ -396,20 +410,81 @@ struct SlotTimer {
 }
 
 /// The timer with the earliest moment, that of the lowest slot where slots share it.
-fn earliest(moments: &[Option<u64>]) -> Option<SlotTimer>
-    ensures earliest { IfSome result (λ first. IsEarliest moments.now first.slot first.at) }
-    ensures none { IfNone result (NoneRuns moments.now) }
+fn earliest(row: &[SlotTimer]) -> Option<SlotTimer>
+    ensures earliest { (moments : List (Option ℕ)) → AreTimers moments row.now
+        → IfSome result (λ first. IsEarliest moments first.slot first.at) }
+    ensures none { (moments : List (Option ℕ)) → AreTimers moments row.now → IfNone result (NoneRuns moments) }
 {
-    let mut found: Option<SlotTimer> = None;
-    for (slot, moment) in moments.iter().enumerate() {
-        if let Some(at) = *moment {
-            match found {
-                Some(first) if first.at <= at => {}
-                _ => found = Some(SlotTimer { slot, at }),
-            }
+    row.first().copied()
+}
+
+/// Takes the timer of a slot out of the row, if it runs.
+fn stop(moments: &[Option<u64>], row: &mut Vec<SlotTimer>, slot: usize)
+    requires within { slot < length moments.now }
+    requires timers { AreTimers moments.now row.old.items }
+    ensures timers { AreTimers (slice_set moments.now slot None) row.new.items }
+    ensures room { vec_capacity row.new ≡ vec_capacity row.old }
+{
+    if let Some(at) = moments[slot] {
+        remove_timer(row, SlotTimer { slot, at });
+    }
+}
+
+/// Takes a timer out of the row.
+fn remove_timer(row: &mut Vec<SlotTimer>, timer: SlotTimer)
+    requires rise { Rise row.old.items }
+    requires there { (i : ℕ) × (slice_get row.old.items i ≡ Some timer) }
+    ensures place { (place : ℕ) × ((slice_get row.old.items place ≡ Some timer)
+        × (row.new.items ≡ remove row.old.items place)) }
+    ensures room { vec_capacity row.new ≡ vec_capacity row.old }
+{
+    let place = place_of(row, timer);
+    if place < row.len() {
+        let _ = row.remove(place);
+    }
+}
+
+/// Puts a timer into its place in the row.
+fn insert_timer(row: &mut Vec<SlotTimer>, timer: SlotTimer)
+    requires rise { Rise row.old.items }
+    requires room { vec_len row.old < vec_capacity row.old }
+    ensures place { (place : ℕ) × (BelongsAt row.old.items place timer
+        × (row.new.items ≡ insert row.old.items place timer)) }
+    ensures room { vec_capacity row.old ≤ vec_capacity row.new }
+{
+    let place = place_of(row, timer);
+    let _ = row.insert(place, timer);
+}
+
+/// The place of a timer, whether it stands there or not.
+fn place_of(row: &[SlotTimer], timer: SlotTimer) -> usize
+    requires { Rise row.now }
+    ensures { BelongsAt row.now result timer }
+{
+    let mut low = 0;
+    let mut size = row.len();
+    while size > 0 {
+        let half = size / 2;
+        let middle = low + half;
+        if is_before(row[middle], timer) {
+            low = middle + 1;
+            size -= half + 1;
+        } else {
+            size = half;
         }
     }
-    found
+    low
+}
+
+/// Whether a timer stands before another.
+fn is_before(one: SlotTimer, other: SlotTimer) -> bool
+    ensures { IsTrue result ↔ IsBefore one other }
+{
+    if one.at == other.at {
+        one.slot < other.slot
+    } else {
+        one.at < other.at
+    }
 }
 
 #[cfg(test)]
@@ -534,6 +609,54 @@ mod tests {
         assert_eq!(rt; (timers.due(49), timers.due(50)), (None, Some(1)));
         timers.set(1, 60);
         assert_eq!(rt; (timers.next(), timers.due(60)), (Some(50), Some(2)));
+        Ok(())
+    }
+
+    /// A number that follows from the last.
+    fn random(seed: u64) -> u64 {
+        seed.wrapping_mul(6_364_136_223_846_793_005)
+            .wrapping_add(1_442_695_040_888_963_407)
+    }
+
+    /// The slot and the moment of the earliest timer, by a look at each.
+    fn plain_earliest(moments: &[Option<u64>]) -> Option<(usize, u64)> {
+        let mut found: Option<(usize, u64)> = None;
+        for (slot, moment) in moments.iter().enumerate() {
+            if let Some(at) = *moment {
+                match found {
+                    Some((_, first)) if first <= at => {}
+                    _ => found = Some((slot, at)),
+                }
+            }
+        }
+        found
+    }
+
+    #[test]
+    fn random_timers_are_those_of_a_plain_list(rt: HostRuntime) -> Result<(), Fail> {
+        let mut timers = Timers::open(rt.alloc(), 9)?;
+        let mut moments = [None; 9];
+        let mut seed = 3;
+        for _ in 0..5_000u32 {
+            seed = random(seed);
+            let slot = ((seed >> 40) % 9) as usize;
+            let at = (seed >> 20) % 12;
+            if seed >> 62 == 0 {
+                timers.clear(slot);
+                moments[slot] = None;
+            } else {
+                timers.set(slot, at);
+                moments[slot] = Some(at);
+            }
+            let first = plain_earliest(&moments);
+            assert_eq!(rt; timers.next(), first.map(|(_, at)| at));
+            let now = (seed >> 50) % 12;
+            let due = match first {
+                Some((slot, at)) if at <= now => Some(slot),
+                _ => None,
+            };
+            assert_eq!(rt; timers.due(now), due);
+        }
         Ok(())
     }
 }
