@@ -1,6 +1,6 @@
 -- The free slots, each once.
-use Rattle.std.proofs.Common.{◌≡◌, ◌≢◌, ℕ, ◌<◌, ◌+◌, ◌⊎◌, inl, inr, List, [], ◌∷◌, ◌++◌, length, Some, zero, suc, refl, sym, ap, ◌∙◌, subst, arith, replicate}
-use Rattle.std.specs.Prelude.{slice_get, slice_set}
+use Rattle.std.proofs.Common.{◌≡◌, ℕ, ◌<◌, inl, inr, List, [], ◌∷◌, ◌++◌, Some, zero, suc, refl, sym, ap, ◌∙◌, subst, arith, replicate}
+use Rattle.std.specs.Prelude.{slice_set}
 use Rattle.std.specs.List.{range_with_len}
 use Rattle.std.proofs.lemmas.List.{length-replicate}
 use Rattle.std.proofs.lemmas.List.FromFn.{length-range_with_len, get_or-range_with_len}
@@ -9,11 +9,11 @@ use Rattle.std.proofs.Common.{zero-add}
 use Rattle.flow_table.specs.declared.Slot.{Slot}
 use Rattle.flow_table.specs.declared.Slot.TheVariants.{Free}
 use Rattle.flow_table.specs.declared.Tuple.{Tuple}
-use Rattle.flow_table.specs.Slots.{HasTuple, IsFree, NoneIsFree, Once, Stands, tuple_of}
+use Rattle.flow_table.specs.Slots.{HasTuple, IsFree, NoneIsFree, Once, Stands}
 use Rattle.flow_table.specs.Rows.{AreFree}
-use Rattle.flow_table.proofs.Keeping.{at_end, before_end, of_end, once_at_end, once_in_range, in_range, has_within, further}
+use Rattle.flow_table.proofs.Keeping.{at_end, before_end, of_end, once_at_end, once_in_range, in_range, has_within}
 use Rattle.flow_table.proofs.Lists.{set_from, set_to, set_at}
-use Rattle.flow_table.proofs.Tuples.{free_has_not, has_slot}
+use Rattle.flow_table.proofs.Tuples.{free_has_not}
 
 free_at : (n k : ℕ) → k < n → IsFree (replicate n Free) k
 free_at zero k h = absurd (omega (arith, h))

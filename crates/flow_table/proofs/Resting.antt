@@ -1,16 +1,16 @@
 -- The row of rests, the longest first.
-use Rattle.std.proofs.Common.{◌≡◌, ◌≢◌, ◌==◌, ℕ, ◌<◌, ◌≤◌, ◌+◌, ◌⊎◌, inl, inr, List, [], ◌∷◌, ◌++◌, length, get_or, Some, None, zero, suc, refl, sym, ap, ◌∙◌, subst, arith, replicate}
-use Rattle.std.specs.Prelude.{slice_get, slice_set, map, IfSome, IfNone}
+use Rattle.std.proofs.Common.{◌≡◌, ◌≢◌, ◌==◌, ℕ, ◌<◌, ◌⊎◌, inl, inr, List, [], ◌∷◌, ◌++◌, length, get_or, Some, zero, suc, refl, sym, ap, ◌∙◌, subst, arith, replicate}
+use Rattle.std.specs.Prelude.{slice_get, slice_set}
 use Rattle.std.specs.List.{insert, remove, position_or_len}
-use Rattle.std.proofs.lemmas.Bool.{cases_eq, cases_lt}
+use Rattle.std.proofs.lemmas.Bool.{cases_eq}
 use Rattle.std.proofs.lemmas.Option.{same_Some, slice_get_within, slice_get-get_or, get_or_from_slice_get}
 use Rattle.flow_table.specs.declared.Rest.{Rest}
 use Rattle.flow_table.specs.declared.Slot.{Slot}
-use Rattle.flow_table.specs.declared.Slot.TheVariants.{Free, InUse, Resting}
+use Rattle.flow_table.specs.declared.Slot.TheVariants.{Free, Resting}
 use Rattle.flow_table.specs.declared.Tuple.{Tuple}
-use Rattle.flow_table.specs.Slots.{AreKept, HasRestedLongest, NoneRests, Once, RestsSince, Stands, StandsBefore, flows, moved_last}
+use Rattle.flow_table.specs.Slots.{AreKept, HasRestedLongest, NoneRests, RestsSince, Stands, StandsBefore, flows, moved_last}
 use Rattle.flow_table.specs.Rows.{AreRests, DoNotFall, IsFirstAfter, IsLonger, rest_of}
-use Rattle.flow_table.proofs.Keeping.{first_place, of_end, gone}
+use Rattle.flow_table.proofs.Keeping.{first_place, gone}
 use Rattle.flow_table.proofs.Lists.{set_from, set_to, set_at, removed_from, removed_to, inserted_from, inserted_at, inserted_to}
 
 no_rest : (n k : ℕ) (t : Tuple) (since : ℕ) → RestsSince (replicate n Free) k t since → ⊥

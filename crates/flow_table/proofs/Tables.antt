@@ -1,5 +1,5 @@
 -- A table and its rows after each call.
-use Rattle.std.proofs.Common.{◌≡◌, ◌≢◌, ◌==◌, ℕ, ◌+◌, ◌<◌, ◌≤◌, ◌^◌, ◌*◌, List, [], ◌∷◌, ◌++◌, length, get_or, Option, Some, None, inl, inr, zero, suc, refl, sym, ap, ◌∙◌, subst, arith, replicate, true, false, eqb, length-set, length-append}
+use Rattle.std.proofs.Common.{◌≡◌, ◌≢◌, ℕ, ◌+◌, ◌<◌, ◌≤◌, ◌^◌, List, [], ◌∷◌, ◌++◌, length, get_or, Option, Some, None, inl, inr, zero, suc, refl, sym, ap, ◌∙◌, subst, arith, replicate, true, false, eqb, length-set, length-append}
 use Rattle.std.specs.Prelude.{slice_get, slice_set, map, IfSome, IfNone}
 use Rattle.std.specs.List.{insert, range_with_len, list_any}
 use Rattle.std.proofs.Math.Nat.{pow-succ'}
@@ -15,13 +15,13 @@ use Rattle.flow_table.specs.declared.Rest.{Rest}
 use Rattle.flow_table.specs.declared.Slot.{Slot}
 use Rattle.flow_table.specs.declared.Slot.TheVariants.{Free, InUse, Resting}
 use Rattle.flow_table.specs.declared.Tuple.{Tuple}
-use Rattle.flow_table.specs.Slots.{AreKept, HasTuple, NoneHas, RestsSince, moved_last, tuple_of}
+use Rattle.flow_table.specs.Slots.{AreKept, HasTuple, NoneHas, RestsSince, moved_last}
 use Rattle.flow_table.specs.Rows.{AreEntries, AreFree, AreRests, BelongsAt, IsFirstAfter, IsLonger, IsSlotIn, IsTable, IsVacated, entry_of, rest_of}
 use Rattle.flow_table.proofs.Freeing.{all_are_free, freed, last_taken, still_free}
 use Rattle.flow_table.proofs.Keeping.{has_within, moved_kept, set_kept, start_kept}
-use Rattle.flow_table.proofs.Lists.{set_at, set_from, set_twice}
-use Rattle.flow_table.proofs.Resting.{no_rests, rests_inserted, rests_once, rests_quiet}
-use Rattle.flow_table.proofs.Tuples.{entries_inserted, entries_same, has_kept, has_now, has_set, no_entries, no_tuple, none_stands}
+use Rattle.flow_table.proofs.Lists.{set_at, set_twice}
+use Rattle.flow_table.proofs.Resting.{no_rests, rests_inserted, rests_quiet}
+use Rattle.flow_table.proofs.Tuples.{entries_inserted, entries_same, has_set, no_entries, no_tuple}
 
 pub start_table : (n : ℕ) (slots : List Slot) (turns free : List ℕ) (entries : List Entry) (rests : List Rest) (ce cr cf : ℕ) → slots ≡ replicate n Free → turns ≡ range_with_len 0 n → free ≡ range_with_len 0 n → entries ≡ [] → rests ≡ [] → n ≤ ce → n ≤ cr → n ≤ cf → IsTable slots turns entries rests free ce cr cf
 start_table n slots turns free entries rests ce cr cf is in_turn all_free none no_one e r f =

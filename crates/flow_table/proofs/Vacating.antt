@@ -1,12 +1,12 @@
 -- A slot that may be taken: a free one, or else the one that has rested longest.
-use Rattle.std.proofs.Common.{◌≡◌, ℕ, ◌+◌, ◌<◌, List, [], ◌∷◌, ◌++◌, length, Some, inl, inr, refl, sym, ap, ◌∙◌, subst, arith}
+use Rattle.std.proofs.Common.{◌≡◌, ℕ, List, [], ◌∷◌, ◌++◌, length, Some, inl, inr, refl, sym, ap, ◌∙◌, subst, arith}
 use Rattle.std.specs.Prelude.{slice_get, slice_set}
 use Rattle.std.proofs.lemmas.Option.{slice_get_within}
 use Rattle.flow_table.specs.declared.Entry.{Entry}
 use Rattle.flow_table.specs.declared.Rest.{Rest}
 use Rattle.flow_table.specs.declared.Slot.{Slot}
 use Rattle.flow_table.specs.declared.Slot.TheVariants.{Free, Resting}
-use Rattle.flow_table.specs.Slots.{HasTuple, IsFree}
+use Rattle.flow_table.specs.Slots.{IsFree}
 use Rattle.flow_table.specs.Rows.{AreEntries, AreFree, AreRests, IsVacated}
 use Rattle.flow_table.proofs.Freeing.{freed, none_is_free}
 use Rattle.flow_table.proofs.Keeping.{at_end}

@@ -113,6 +113,9 @@ pub enum Slot {
 
 /// A fixed number of slots for flows. A contract sees a list of slots, and their numbers in the
 /// order in which each last came to rest, the latest last. No two slots have the same tuple.
+///
+/// Beside these the tuples stand in their order with their slots, the slots at rest with the longest
+/// rest first, and the free ones on a stack.
 #[derive(Drop)]
 pub struct FlowTable {
     slots: Vec<Slot>,
@@ -181,8 +184,8 @@ impl FlowTable {
         slot_found(&self.entries, found)
     }
 
-    /// The same by the same walk, whose comparisons are counted: at most one more than the slots'
-    /// number has binary digits.
+    /// The same by the same walk, whose comparisons are counted: at most one more than the logarithm
+    /// of the number of slots to base 2, rounded up.
     pub fn find_counted<L: Ledger>(&self, t: &Tuple, steps: &mut Steps<L>) -> Option<usize>
         ensures found { IfSome result (λ slot. HasTuple self.now.slots slot t.now) }
         ensures alone { IfSome result (λ slot. (other : ℕ) → HasTuple self.now.slots other t.now

@@ -1,5 +1,5 @@
 -- The row of timers: their order, and what a step makes of it.
-use Rattle.std.proofs.Common.{◌≡◌, ◌≢◌, ℕ, ◌+◌, ◌<◌, ◌≤◌, ◌⊎◌, List, [], ◌∷◌, length, get_or, Option, Some, None, inl, inr, zero, suc, refl, sym, ap, ◌∙◌, subst, arith, replicate, true, false, eqb, length-set}
+use Rattle.std.proofs.Common.{◌≡◌, ◌≢◌, ℕ, ◌+◌, ◌<◌, ◌≤◌, List, [], ◌∷◌, length, get_or, Option, Some, None, inl, inr, zero, suc, refl, sym, ap, ◌∙◌, subst, arith, replicate, true, false, eqb, length-set}
 use Rattle.std.specs.Prelude.{slice_get, slice_set, map, IfSome, IfNone}
 use Rattle.std.specs.List.{insert, remove, list_any}
 use Rattle.std.proofs.lemmas.Bool.{cases_eq, cases_lt}
@@ -7,11 +7,11 @@ use Rattle.std.proofs.lemmas.Bool.Decides.{eqb_tells, Decides-eqb}
 use Rattle.std.proofs.lemmas.List.{length-map}
 use Rattle.std.proofs.lemmas.Map.Made.{IsDistinct-from_AllPairs}
 use Rattle.std.proofs.lemmas.Map.Steps.{length-le_from_distinct_below}
-use Rattle.std.proofs.lemmas.Option.{same_Some, slice_get_within, slice_get-get_or, get_or_from_slice_get}
+use Rattle.std.proofs.lemmas.Option.{same_Some, slice_get_within, slice_get-get_or}
 use Rattle.retransmit.specs.declared.SlotTimer.{SlotTimer}
-use Rattle.retransmit.specs.Moments.{AllRunPast, IsDue, IsEarliest, NoneRuns, RunsUntil}
+use Rattle.retransmit.specs.Moments.{IsEarliest, NoneRuns, RunsUntil}
 use Rattle.retransmit.specs.Rows.{AreTimers, BelongsAt, IsBefore, IsRow, Rise, timer_of}
-use Rattle.retransmit.proofs.Lists.{set_from, set_to, set_at, set_same, set_twice, removed_from, removed_to, inserted_from, inserted_at, inserted_to}
+use Rattle.retransmit.proofs.Lists.{set_from, set_to, set_at, set_same, removed_from, removed_to, inserted_from, inserted_at, inserted_to}
 
 pub before_more : (a b c : SlotTimer) → IsBefore a b → IsBefore b c → IsBefore a c
 before_more a b c (inl p) (inl q) = inl (omega (arith, p, q))

@@ -1,4 +1,4 @@
-use Rattle.flow_table.proofs.Resting.{rest_ended, read_rest, no_rest_ended, do_not_fall}
+use Rattle.flow_table.proofs.Resting.{rest_ended, no_rest_ended}
 use Rattle.flow_table.proofs.end_rest.Goals as goal
 
 pub returns-in-Resting-clause-rests : goal.returns-in-Resting-clause-rests

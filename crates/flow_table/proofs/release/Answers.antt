@@ -1,4 +1,4 @@
-use Rattle.std.proofs.Common.{refl, sym, ◌∙◌, subst, ap, Some}
+use Rattle.std.proofs.Common.{sym, ◌∙◌, subst, ap, Some}
 use Rattle.std.proofs.lemmas.Option.{same_Some}
 use Rattle.flow_table.specs.declared.Tuple.{Tuple}
 use Rattle.flow_table.specs.Slots.{HasTuple}

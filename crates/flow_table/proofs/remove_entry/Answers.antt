@@ -1,10 +1,8 @@
-use Rattle.std.proofs.Common.{subst, sym}
+use Rattle.std.proofs.Common.{subst}
 use Rattle.flow_table.specs.declared.Entry.{Entry}
 use Rattle.std.specs.Prelude.{List}
 use Rattle.flow_table.specs.Rows.{IsPlaceOf}
 use Rattle.flow_table.proofs.Searching.{is_found}
-use Rattle.flow_table.proofs.Freeing.{all_are_free, freed, last_taken, still_free, none_is_free}
-use Rattle.flow_table.proofs.Resting.{no_rests, do_not_fall, rests_removed, rests_quiet, rests_inserted, longest_is_first, none_rests}
 use Rattle.flow_table.proofs.remove_entry.Goals as goal
 
 pub returns-in_default-clause-place : goal.returns-in_default-clause-place

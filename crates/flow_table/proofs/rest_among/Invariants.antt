@@ -1,5 +1,4 @@
 use Rattle.std.proofs.Common.{◌≡◌, ◌<◌, ◌≤◌, ◌-◌, ℕ, length, slice_get, Some}
-use Rattle.flow_table.specs.Rows.{IsFirstSince}
 use Rattle.flow_table.proofs.rest_among.Given as goal
 
 -- it doesn't stand at a place before this one

@@ -1,5 +1,5 @@
 use Rattle.retransmit.specs.Rows.{timer_of}
-use Rattle.retransmit.proofs.Rowing.{timers_removed, none_removed}
+use Rattle.retransmit.proofs.Rowing.{timers_removed}
 use Rattle.retransmit.proofs.stop.Goals as goal
 
 pub returns-in-Some-clause-timers : goal.returns-in-Some-clause-timers

@@ -1,4 +1,4 @@
-use Rattle.std.proofs.Common.{subst, sym, ◌∙◌, arith, ◌≡◌, ◌+◌, ◌≤◌, ◌^◌, ℕ, List, length, IfSome, IfNone}
+use Rattle.std.proofs.Common.{subst, sym, ◌∙◌, ◌≡◌, ℕ, List, IfSome, IfNone}
 use Rattle.flow_table.specs.declared.Entry.{Entry}
 use Rattle.flow_table.specs.Slots.{Flows, HasTuple, NoneHas}
 use Rattle.flow_table.specs.Rows.{IsPlaceOf, IsSlotIn}

@@ -1,6 +1,5 @@
-use Rattle.std.proofs.Common.{subst, sym, ◌∙◌, arith, List}
+use Rattle.std.proofs.Common.{subst, sym, arith, List}
 use Rattle.flow_table.specs.declared.Slot.{Slot}
-use Rattle.flow_table.specs.declared.Slot.TheVariants.{Free}
 use Rattle.flow_table.specs.Slots.{Flows, NoneHas, MayBeTaken}
 use Rattle.flow_table.specs.Rows.{IsVacated}
 use Rattle.flow_table.proofs.Tables.{taken_table, same_table, none_has_then}

@@ -1,4 +1,4 @@
-use Rattle.std.proofs.Common.{◌∙◌, sym, subst, arith, List, Option, ℕ, None, Some, length-set}
+use Rattle.std.proofs.Common.{subst, arith, List, Option, ℕ, None}
 use Rattle.std.specs.Prelude.{slice_set}
 use Rattle.retransmit.specs.Rows.{AreTimers}
 use Rattle.retransmit.proofs.Rowing.{set_row, row_room}
