@@ -1,10 +1,8 @@
-//! The core of the network, and the loop that serves a guest.
+//! The core of the network: what a guest's frames and its peers' datagrams ask for, and what isn't out yet.
 #![tactic(auto)]
 
 mod datagrams;
 mod outgoing;
-mod service;
 mod slirp;
 
-pub use service::{End, Service, Turn};
 pub use slirp::{Pumped, Slirp};

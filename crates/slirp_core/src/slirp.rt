@@ -103,8 +103,8 @@ impl Slirp {
     ghost use Rattle.slirp_core.specs.Outgoing.{sent_after};
     ghost use Rattle.slirp_core.specs.Pumps.{keep, is_settled, time_left, WantsOf};
     ghost use Rattle.slirp_core.specs.Holds.{Standing, standing, Holds, HoldsAt, AfterPump, Leaves, LeavesRest, Closing, AfterClosing, Ran};
-    ghost use Rattle.slirp_core.specs.Ends.{AreGrown};
-    ghost use Rattle.slirp_core.specs.declared.service.End.{End};
+    ghost use Rattle.slirp_core.specs.Counts.{AreGrown};
+    ghost use Rattle.run_laws.specs.Shape.{Phase};
 
     /// A network in which no guest is known, no socket is open and nothing is owed. It takes all the memory that it will ever need.
     pub fn new(alloc: Global, c: &SlirpConfig) -> Result<Slirp, NoMemory>
@@ -548,7 +548,7 @@ impl Slirp {
 
     /// Closes all sockets, by rising number.
     pub fn close_all<W: World>(&mut self, world: &mut W)
-        ensures makes { (config : Config) (end : End) → Brings (W.tells world.old) (W.tells world.new) (Closing config end self.old.associations) (Ran config end) }
+        ensures makes { (config : Config) (over : Phase) → Brings (W.tells world.old) (W.tells world.new) (Closing config over self.old.associations) (Ran config over) }
         ensures config { self.new.config ≡ self.old.config }
     {
         while self.close_first(world) {}
@@ -556,7 +556,7 @@ impl Slirp {
 
     // Closes the first socket, and answers whether there was one.
     fn close_first<W: World>(&mut self, world: &mut W) -> bool
-        ensures makes { (config : Config) (end : End) → Brings (W.tells world.old) (W.tells world.new) (Closing config end self.old.associations) (AfterClosing result config end self.new.associations) }
+        ensures makes { (config : Config) (over : Phase) → Brings (W.tells world.old) (W.tells world.new) (Closing config over self.old.associations) (AfterClosing result config over self.new.associations) }
         ensures fewer { result ≡ true → length self.new.associations < length self.old.associations }
         ensures config { self.new.config ≡ self.old.config }
     {

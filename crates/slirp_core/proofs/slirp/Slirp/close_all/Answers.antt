@@ -5,7 +5,7 @@ use Rattle.slirp_core.specs.Holds.{Closing, AfterClosing}
 use Rattle.slirp_core.proofs.slirp.Slirp.close_all.Goals as goal
 
 pub loop-init : goal.loop-init
-loop-init g c = record { makes = λ config end. brings_none (λ past holds. holds); config = refl }
+loop-init g c = record { makes = λ config over. brings_none (λ past holds. holds); config = refl }
 
 pub loop-smaller : goal.loop-smaller
 loop-smaller g c = c.close_first.ensures.fewer c.loop-test.true
@@ -14,16 +14,16 @@ pub loop-preserved : goal.loop-preserved
 loop-preserved g c =
     let new = c.close_first.new in
     record {
-      makes = λ config end. brings_then (c.loop.invariant.makes config end)
-          (subst (λ (b : Bool). Brings (g.W.World.tells c.loop.world) (g.W.World.tells new.world) (Closing config end c.loop.self.associations) (AfterClosing b config end new.self.associations)) c.loop-test.true (c.close_first.ensures.makes config end));
+      makes = λ config over. brings_then (c.loop.invariant.makes config over)
+          (subst (λ (b : Bool). Brings (g.W.World.tells c.loop.world) (g.W.World.tells new.world) (Closing config over c.loop.self.associations) (AfterClosing b config over new.self.associations)) c.loop-test.true (c.close_first.ensures.makes config over));
       config = c.close_first.ensures.config ∙ c.loop.invariant.config;
     }
 
 pub returns-clause-makes : goal.returns-clause-makes
-returns-clause-makes g c config end =
+returns-clause-makes g c config over =
     let new = c.close_first.new in
-    brings_then (c.loop.invariant.makes config end)
-    (subst (λ (b : Bool). Brings (g.W.World.tells c.loop.world) (g.W.World.tells new.world) (Closing config end c.loop.self.associations) (AfterClosing b config end new.self.associations)) c.loop-test.false (c.close_first.ensures.makes config end))
+    brings_then (c.loop.invariant.makes config over)
+    (subst (λ (b : Bool). Brings (g.W.World.tells c.loop.world) (g.W.World.tells new.world) (Closing config over c.loop.self.associations) (AfterClosing b config over new.self.associations)) c.loop-test.false (c.close_first.ensures.makes config over))
 
 pub returns-clause-config : goal.returns-clause-config
 returns-clause-config g c = c.close_first.ensures.config ∙ c.loop.invariant.config

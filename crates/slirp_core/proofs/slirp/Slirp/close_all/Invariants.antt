@@ -2,12 +2,12 @@ use Rattle.std.proofs.Common.{◌≡◌, length}
 use Rattle.world_face.specs.Tells.{Brings}
 use Rattle.host_policy.specs.Addresses.{Config}
 use Rattle.slirp_core.specs.Holds.{Closing}
-use Rattle.slirp_core.specs.declared.service.End.{End}
+use Rattle.run_laws.specs.Shape.{Phase}
 use Rattle.slirp_core.proofs.slirp.Slirp.close_all.Given as goal
 
 abbrev pub invariant-loop : goal.invariant-loop
 invariant-loop g l = record {
-  makes : (config : Config) (end : End) → Brings (g.W.World.tells l.fn.world) (g.W.World.tells l.world) (Closing config end l.fn.self.associations) (Closing config end l.self.associations);
+  makes : (config : Config) (over : Phase) → Brings (g.W.World.tells l.fn.world) (g.W.World.tells l.world) (Closing config over l.fn.self.associations) (Closing config over l.self.associations);
   config : l.self.config ≡ l.fn.self.config;
 }
 

@@ -10,17 +10,17 @@ use Rattle.slirp_core.proofs.Sockets.{fewer}
 use Rattle.slirp_core.proofs.slirp.Slirp.close_first.Goals as goal
 
 pub returns-in_default-clause-makes : goal.returns-in_default-clause-makes
-returns-in_default-clause-makes g c config end =
-    subst (λ (s : SlirpState). Brings (g.W.World.tells c.args.world.now) (g.W.World.tells c.args.world.now) (Closing config end s.associations) (Ran config end)) c.self.view_is
-    (brings_none (λ past closing. all_closed config end c.self.inside.associations past c.in_default.ensures closing))
+returns-in_default-clause-makes g c config over =
+    subst (λ (s : SlirpState). Brings (g.W.World.tells c.args.world.now) (g.W.World.tells c.args.world.now) (Closing config over s.associations) (Ran config over)) c.self.view_is
+    (brings_none (λ past closing. all_closed config over c.self.inside.associations past c.in_default.ensures closing))
 
 pub returns-clause-makes : goal.returns-clause-makes
-returns-clause-makes g c config end =
+returns-clause-makes g c config over =
     let i = c.self.inside in
     let list = i.associations in
-    subst (λ (s : SlirpState). Brings (g.W.World.tells c.args.world.now) (g.W.World.tells c.close.new.self) (Closing config end s.associations) (Closing config end c.close-2.new.self)) c.self.view_is
+    subst (λ (s : SlirpState). Brings (g.W.World.tells c.args.world.now) (g.W.World.tells c.close.new.self) (Closing config over s.associations) (Closing config over c.close-2.new.self)) c.self.view_is
     (brings_one c.close.ensures (λ allowed past closing.
-    subst (λ (l : List Association). Closing config end l (Close c.in-Some.number ∷ past)) (sym c.close-2.ensures) (after_closing config end list past c.in-Some.number c.in-Some.ensures closing)))
+    subst (λ (l : List Association). Closing config over l (Close c.in-Some.number ∷ past)) (sym c.close-2.ensures) (after_closing config over list past c.in-Some.number c.in-Some.ensures closing)))
 
 pub returns-clause-fewer : goal.returns-clause-fewer
 returns-clause-fewer g c is =

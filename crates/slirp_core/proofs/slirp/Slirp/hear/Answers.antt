@@ -10,7 +10,7 @@ use Rattle.slirp_laws.specs.Answers.{frames_of, reply_at}
 use Rattle.slirp_core.specs.Holds.{Holds, standing}
 use Rattle.slirp_core.proofs.Relaying.{after_hearing, after_not_yet, after_no_hearing}
 use Rattle.slirp_core.proofs.Counted.{grown}
-use Rattle.slirp_core.proofs.Turning.{passes_over}
+use Rattle.slirp_core.proofs.Reports.{passes_over}
 use Rattle.slirp_core.proofs.slirp.Slirp.hear.Goals as goal
 
 pub returns-in-From-clause-makes : goal.returns-in-From-clause-makes
