@@ -41,8 +41,8 @@ use Rattle.slirp_core.specs.State.{SlirpState}
 use Rattle.serve_loop.specs.Ends.{end_by, turn_of}
 use Rattle.serve_loop.specs.declared.service.End.{End}
 use Rattle.serve_loop.specs.declared.service.Turn.TheVariants.{Ended as TurnEnded}
-use Rattle.slirp_core.specs.declared.slirp.Pumped.{Pumped}
-use Rattle.slirp_core.specs.declared.slirp.Pumped.TheVariants.{Clear, Blocked, Failed as PumpFailed}
+use Rattle.slirp_core.specs.declared.sending.Pumped.{Pumped}
+use Rattle.slirp_core.specs.declared.sending.Pumped.TheVariants.{Clear, Blocked, Failed as PumpFailed}
 use Rattle.slirp_core.proofs.Bridging.{owes_same, sends_same, teaches_same}
 use Rattle.slirp_core.proofs.Guests.{guests_learn, guests_stay}
 use Rattle.slirp_core.proofs.Parts.{asked_for, behind_of, due_is, errand_for, from_of, in_turn, or_second, reads_of, skipped}

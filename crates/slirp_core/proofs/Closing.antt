@@ -1,11 +1,11 @@
 -- The sockets of a run that is over are closed.
-use Rattle.std.proofs.Common.{◌≡◌, ℕ, ◌==◌, ◌&&◌, ◌||◌, not, Bool, true, false, List, [], ◌∷◌, Option, Some, None, if◌then◌else◌, refl, sym, ◌∙◌, ap, subst}
+use Rattle.std.proofs.Common.{◌≡◌, ℕ, ◌==◌, ◌&&◌, ◌||◌, Bool, true, false, List, [], ◌∷◌, Option, Some, None, if◌then◌else◌, sym, ◌∙◌, ap}
 use Rattle.std.specs.Option.{option_map}
 use Rattle.world_face.specs.Journal.{Entry, Call, Close, CallClose}
 use Rattle.host_policy.specs.Addresses.{Config}
 use Rattle.udp_assoc.specs.Associations.{IsLeast, numbers, without}
 use Rattle.udp_assoc.specs.declared.assocs.Association.{Association}
-use Rattle.run_laws.specs.Shape.{Phase, Started, Working, Over, due_in, is_ended, is_over, is_working, phase}
+use Rattle.run_laws.specs.Shape.{Phase, due_in, is_ended, is_over, is_working, phase}
 use Rattle.run_laws.specs.Sockets.{first, is_among, next_number, open_sockets}
 use Rattle.slirp_laws.specs.Datagrams.{Settled, due_for}
 use Rattle.slirp_laws.specs.Asking.{errand_left, step, step_of}

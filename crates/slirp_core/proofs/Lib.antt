@@ -1,3 +1,4 @@
+pub mod Below
 pub mod Bridging
 pub mod Closing
 pub mod Counted

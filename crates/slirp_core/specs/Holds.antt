@@ -19,8 +19,8 @@ use Rattle.stream_netdev.specs.Keeps.{Keeps}
 use Rattle.stream_netdev.specs.State.{LinkState}
 use Rattle.slirp_core.specs.Sockets.{IsRising, AreThoseOf}
 use Rattle.slirp_core.specs.State.{SlirpState}
-use Rattle.slirp_core.specs.declared.slirp.Pumped.{Pumped}
-use Rattle.slirp_core.specs.declared.slirp.Pumped.TheVariants.{Clear, Blocked, Failed}
+use Rattle.slirp_core.specs.declared.sending.Pumped.{Pumped}
+use Rattle.slirp_core.specs.declared.sending.Pumped.TheVariants.{Clear, Blocked, Failed}
 
 -- where a run stands: so many waits were made, the last one with these wants, and this is left of what it reported
 pub record Standing : Type 0 where

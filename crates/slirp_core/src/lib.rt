@@ -1,8 +1,14 @@
 //! The core of the network: what a guest's frames and its peers' datagrams ask for, and what isn't out yet.
 #![tactic(auto)]
 
+mod arp;
 mod datagrams;
+mod icmp;
+mod network;
 mod outgoing;
-mod slirp;
+mod sending;
+mod udp;
+mod wants;
 
-pub use slirp::{Pumped, Slirp};
+pub use network::Slirp;
+pub use sending::Pumped;
