@@ -102,6 +102,10 @@ impl Service {
     ghost use Rattle.serve_loop.specs.Turns.{AfterSleep, AfterTurn, Closes, GoesOnAfter};
     ghost use Rattle.slirp_core.specs.Pumps.{is_settled};
     ghost use Rattle.serve_loop.specs.Served.{IsBuilt, IsNew};
+    ghost use Rattle.slirp_core.specs.Hearing.{Receives};
+    ghost use Rattle.std.specs.Prelude.{Some};
+    ghost use Rattle.udp_assoc.specs.Associations.{numbered};
+    ghost use Rattle.udp_assoc.specs.declared.assocs.Association.{Association as AnAssociation};
 
     /// A network with these settings that has served nothing. It takes all the memory that it will ever need.
     pub fn open(alloc: Global, c: &SlirpConfig) -> Result<Service, NoMemory>
@@ -368,6 +372,8 @@ impl Service {
 
     // Receives a datagram on a socket where nothing is left to be sent.
     fn hear<W: World>(&mut self, world: &mut W, number: u64)
+        // Where nothing is left to be sent and the socket is open a datagram is asked for on it, once.
+        ensures hears { is_settled self.old.slirp self.old.link ≡ true → (a : AnAssociation) → numbered number self.old.slirp.associations ≡ Some a → Makes (W.tells world.old) (W.tells world.new) (Receives number) }
         ensures makes { (config : Config) (count : ℕ) (wants : List AnItem) (item : AnItem) (items : List AnItem) → is_to_read (Udp number) (wanted_of wants item) ≡ true → Brings (W.tells world.old) (W.tells world.new)
             (Holds config (standing count wants (item ∷ items)) self.old.slirp self.old.link) (Holds config (standing count wants items) self.new.slirp self.new.link) }
         ensures counts { AreGrown (W.tells world.old).faults (W.tells world.new).faults }
@@ -455,7 +461,7 @@ fn reads_at(wants: &[Want], place: usize, number: u64) -> bool
 
 // Whether it is the socket with this number, for reading.
 fn is_read(want: &Want, number: u64) -> bool
-    ensures { result ≡ true → is_to_read (Udp number) want.now ≡ true }
+    ensures { result ≡ is_to_read (Udp number) want.now }
 {
     want.of == Who::Udp(number) && want.read
 }

@@ -178,6 +178,7 @@ impl Slirp {
     pub fn close_all<W: World>(&mut self, world: &mut W)
         ensures makes { (config : Config) (over : Phase) → Brings (W.tells world.old) (W.tells world.new) (Closing config over self.old.associations) (Ran config over) }
         ensures config { self.new.config ≡ self.old.config }
+        ensures none { self.new ≡ record self.old { associations = [] } }
     {
         while self.close_first(world) {}
     }
@@ -187,6 +188,8 @@ impl Slirp {
         ensures makes { (config : Config) (over : Phase) → Brings (W.tells world.old) (W.tells world.new) (Closing config over self.old.associations) (AfterClosing result config over self.new.associations) }
         ensures fewer { result ≡ true → length self.new.associations < length self.old.associations }
         ensures config { self.new.config ≡ self.old.config }
+        ensures none { result ≡ false → self.new.associations ≡ [] }
+        ensures same { self.new ≡ record self.old { associations = self.new.associations } }
     {
         let Some(number) = self.associations.least() else {
             return false;

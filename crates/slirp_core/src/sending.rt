@@ -58,6 +58,7 @@ impl Slirp {
         ensures same { under_way link.new ≡ under_way link.old }
         ensures config { self.new.config ≡ self.old.config }
         ensures number { self.new.number ≡ self.old.number }
+        ensures others { self.new ≡ record self.old { pending = self.new.pending; sent = self.new.sent } }
     {
         match self.pump_rest(world, link) {
             Pumped::Clear => self.pump_pending(world, link),
@@ -95,6 +96,7 @@ impl Slirp {
         ensures same { under_way link.new ≡ under_way link.old }
         ensures config { self.new.config ≡ self.old.config }
         ensures number { self.new.number ≡ self.old.number }
+        ensures others { self.new ≡ record self.old { pending = self.new.pending; sent = self.new.sent } }
     {
         if !self.pending() {
             return Pumped::Clear;

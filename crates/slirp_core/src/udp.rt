@@ -72,6 +72,7 @@ impl Slirp {
             (HoldsAt config at (step_for self.old.associations (Some (errand_of errand.now))) self.old link) (Holds config at self.new link) }
         ensures number { self.new.number ≤ self.old.number + 1 }
         ensures config { self.new.config ≡ self.old.config }
+        ensures others { self.new ≡ record self.old { associations = self.new.associations; pending = self.new.pending; number = self.new.number } }
     {
         match self.associations.socket_of(errand.datagram.from) {
             Some(number) => self.send(world, number, errand),
@@ -109,6 +110,7 @@ impl Slirp {
             (HoldsAt config at (NeedsSocket (errand_of errand.now)) self.old link) (Holds config at self.new link) }
         ensures number { self.new.number ≡ self.old.number + 1 }
         ensures config { self.new.config ≡ self.old.config }
+        ensures others { self.new ≡ record self.old { associations = self.new.associations; pending = self.new.pending; number = self.new.number } }
     {
         let number = self.number;
         self.number += 1;
@@ -134,6 +136,7 @@ impl Slirp {
             (HoldsAt config at (NeedsSending number (errand_of errand.now)) self.old link) (Holds config at self.new link) }
         ensures number { self.new.number ≡ self.old.number }
         ensures config { self.new.config ≡ self.old.config }
+        ensures others { self.new ≡ record self.old { associations = self.new.associations; pending = self.new.pending } }
     {
         let sent = world.udp_send(number, errand.to, errand.datagram.body);
         self.associations
@@ -156,6 +159,7 @@ impl Slirp {
         ensures counts { AreGrown (W.tells world.old).faults (W.tells world.new).faults }
         ensures number { self.new.number ≡ self.old.number }
         ensures config { self.new.config ≡ self.old.config }
+        ensures others { self.new ≡ record self.old { associations = self.new.associations; pending = self.new.pending } }
         ensures room { length into.new ≡ 65507 }
     {
         let Some(association) = self.associations.numbered(number) else {

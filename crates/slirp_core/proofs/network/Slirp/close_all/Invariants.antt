@@ -9,6 +9,7 @@ abbrev pub invariant-loop : goal.invariant-loop
 invariant-loop g l = record {
   makes : (config : Config) (over : Phase) → Brings (g.W.World.tells l.fn.world) (g.W.World.tells l.world) (Closing config over l.fn.self.associations) (Closing config over l.self.associations);
   config : l.self.config ≡ l.fn.self.config;
+  same : l.self ≡ record l.fn.self { associations = l.self.associations };
 }
 
 abbrev pub decreases-loop : goal.decreases-loop

@@ -1,4 +1,4 @@
-use Rattle.std.proofs.Common.{List, ◌∷◌, length, true, ◌<◌, sym, subst}
+use Rattle.std.proofs.Common.{◌≡◌, List, [], ◌∷◌, length, true, ◌<◌, sym, subst}
 use Rattle.world_face.specs.Tells.{Brings}
 use Rattle.world_face.specs.Journal.{Close}
 use Rattle.world_face.proofs.Telling.{brings_one, brings_none}
@@ -7,7 +7,7 @@ use Rattle.slirp_core.specs.Holds.{Closing, Ran}
 use Rattle.slirp_core.specs.State.{SlirpState}
 use Rattle.slirp_core.proofs.Below.{AreBelow, below_without}
 use Rattle.slirp_core.proofs.Closing.{after_closing, all_closed}
-use Rattle.slirp_core.proofs.Sockets.{fewer}
+use Rattle.slirp_core.proofs.Sockets.{fewer, no_association}
 use Rattle.slirp_core.proofs.network.Slirp.close_first.Goals as goal
 
 pub returns-in_default-clause-makes : goal.returns-in_default-clause-makes
@@ -33,3 +33,6 @@ pub invariant_of-self : goal.invariant_of-self
 invariant_of-self g c =
     let i = c.self.inside in
     subst (AreBelow i.number) (sym c.close-2.ensures) (below_without i.number c.in-Some.number i.associations c.self.invariant)
+
+pub returns-in_default-clause-none : goal.returns-in_default-clause-none
+returns-in_default-clause-none g c is = subst (λ (s : SlirpState). s.associations ≡ []) c.self.view_is (no_association c.self.inside.associations c.in_default.ensures)

@@ -40,6 +40,7 @@ returns-in-NotYet g c =
       counts = grown _ _ _ c.in-NotYet.ensures.counted;
       number = refl;
       config = refl;
+      others = refl;
       room = search rules;
     }
 

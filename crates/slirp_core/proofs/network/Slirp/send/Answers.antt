@@ -30,6 +30,7 @@ returns-in-Done g c =
           (after_sent config at slirp link past number errand here holds Done refl)));
       number = ap (λ (s : SlirpState). s.number) c.self.view_is;
       config = ap (λ (s : SlirpState). s.config) c.self.view_is;
+      others = ap (λ (s : SlirpState). record s { associations = c.sent.new.self; pending = i.outgoing }) c.self.view_is;
     }
 
 pub returns-in-NotYet : goal.returns-in-NotYet
@@ -47,6 +48,7 @@ returns-in-NotYet g c =
           (after_sent config at slirp link past number errand here holds NotYet refl)));
       number = ap (λ (s : SlirpState). s.number) c.self.view_is;
       config = ap (λ (s : SlirpState). s.config) c.self.view_is;
+      others = ap (λ (s : SlirpState). record s { associations = c.sent.new.self; pending = i.outgoing }) c.self.view_is;
     }
 
 pub returns-in-Failed-clause-makes : goal.returns-in-Failed-clause-makes
