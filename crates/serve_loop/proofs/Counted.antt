@@ -1,7 +1,6 @@
 -- Counts of faults over the parts of a turn.
-use Rattle.std.proofs.Common.{◌≡◌, ℕ, ◌+◌, ◌≤◌, min, max, List, refl, subst, sym, arith}
-use Rattle.world_face.specs.Journal.{Entry}
-use Rattle.world_face.specs.Tells.{Telling, Answers, Brings, Counts, Counted, Makes, Rose}
+use Rattle.std.proofs.Common.{◌≡◌, refl, arith}
+use Rattle.world_face.specs.Tells.{Counts, Rose}
 use Rattle.world_face.proofs.Counting.{rose_after, rose_before}
 use Rattle.serve_loop.specs.Ends.{IsCounted, IsCountedEnd, turn_of}
 use Rattle.slirp_core.specs.Counts.{AreGrown}

@@ -1,7 +1,7 @@
 -- A run from its first call to its last.
-use Rattle.std.proofs.Common.{◌≡◌, ℕ, ◌^◌, ◌≤◌, ◌||◌, min, max, nat_le, true, is_some, List, [], ◌∷◌, None, refl, sym, ◌∙◌, ap, subst, arith}
+use Rattle.std.proofs.Common.{◌≡◌, ℕ, ◌^◌, ◌≤◌, ◌||◌, min, max, nat_le, true, List, [], ◌∷◌, None, refl, sym, ◌∙◌, ap, subst, arith}
 use Rattle.std.proofs.lemmas.Bool.Decides.{nat_tests}
-use Rattle.world_face.specs.Journal.{Entry, Now, CallNow}
+use Rattle.world_face.specs.Journal.{Entry, Now}
 use Rattle.world_face.specs.Tells.{Telling, Brings, Makes}
 use Rattle.world_face.proofs.Telling.{makes_as, makes_from}
 use Rattle.host_policy.specs.Addresses.{Config}

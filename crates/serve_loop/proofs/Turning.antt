@@ -8,7 +8,7 @@ use Rattle.poll_list.specs.declared.Who.{Who}
 use Rattle.poll_list.specs.declared.Who.TheVariants.{Link as TheLink, Udp}
 use Rattle.net_octets.specs.declared.Ip4.{Ip4}
 use Rattle.net_octets.specs.declared.Mac.{Mac}
-use Rattle.world_face.specs.Journal.{Entry, Follows, Now, Wait, LinkRead, CallWait, CallLinkRead}
+use Rattle.world_face.specs.Journal.{Entry, Follows, Now, Wait, LinkRead, CallLinkRead}
 use Rattle.world_face.specs.declared.Io.TheVariants.{Done, End as IoEnd, NotYet as IoNotYet, Failed as IoFailed}
 use Rattle.world_face.specs.declared.Waited.{Waited}
 use Rattle.world_face.specs.declared.Waited.TheVariants.{Ready}
@@ -19,12 +19,11 @@ use Rattle.udp_assoc.specs.declared.assocs.Association.{Association}
 use Rattle.run_laws.specs.Guests.{known, with_arrival}
 use Rattle.run_laws.specs.Happenings.{arrival_of, happens}
 use Rattle.run_laws.specs.Moments.{moment, waits}
-use Rattle.run_laws.specs.Packets.{packet_in}
-use Rattle.run_laws.specs.Shape.{Phase, Started, Working, Over, By, due_in, phase, phase_after, unless_over, is_working, may_turn}
+use Rattle.run_laws.specs.Shape.{Phase, Working, Over, By, due_in, phase, phase_after, unless_over, is_working, may_turn}
 use Rattle.run_laws.specs.Sockets.{next_number}
 use Rattle.slirp_laws.specs.Agenda.{agenda, all_wanted, behind, from, is_to_read, reads_on as goes_on_reading, wanted_of}
 use Rattle.slirp_laws.specs.Answers.{Answer, frames_of, identification, is_out, left, left_after}
-use Rattle.slirp_laws.specs.Datagrams.{Errand, Step, Settled, due_for, errand_by_packet}
+use Rattle.slirp_laws.specs.Datagrams.{Errand, Step, Settled, due_for}
 use Rattle.slirp_laws.specs.Asking.{errand_after, errand_left, step, step_of}
 use Rattle.slirp_laws.specs.Relayed.{associations, step_for}
 use Rattle.slirp_laws.proofs.Deeds.{asks, reads_on, waits_now}

@@ -1,4 +1,3 @@
-use Rattle.std.proofs.Common.{◌≡◌, true, not, Bool, refl}
 use Rattle.world_face.proofs.Telling.{brings_none}
 use Rattle.slirp_core.proofs.Reports.{passes_over}
 use Rattle.serve_loop.proofs.Turning.{of_link, of_socket}

@@ -1,4 +1,4 @@
-use Rattle.std.proofs.Common.{◌+◌, refl}
+use Rattle.std.proofs.Common.{◌+◌}
 use Rattle.world_face.specs.Frames.{Stopped, WaitFailed}
 use Rattle.world_face.proofs.Telling.{brings_then, brings_as}
 use Rattle.serve_loop.proofs.Turning.{ended_as}

@@ -1,14 +1,12 @@
-use Rattle.std.proofs.Common.{◌≡◌, Bool, ◌+◌, ◌≤◌, ◌∷◌, ◌&&◌, true, drop, List, if◌then◌else◌, refl, sym, ◌∙◌, ap, subst, arith}
+use Rattle.std.proofs.Common.{◌≡◌, Bool, ◌+◌, ◌≤◌, ◌∷◌, true, drop, List, if◌then◌else◌, refl, sym, ◌∙◌, subst, arith}
 use Rattle.poll_list.specs.Listing.{reads}
 use Rattle.poll_list.specs.declared.Want.{Want}
 use Rattle.poll_list.specs.declared.Who.TheVariants.{Link as TheLink}
 use Rattle.world_face.specs.Tells.{Brings}
 use Rattle.world_face.proofs.Telling.{brings_none, brings_then, brings_as}
-use Rattle.host_policy.specs.Addresses.{Config}
-use Rattle.serve_loop.specs.Ends.{IsCountedEnd}
 use Rattle.slirp_core.specs.Holds.{Holds, standing, after}
 use Rattle.serve_loop.specs.Turns.{AfterTurn}
-use Rattle.serve_loop.specs.declared.service.Turn.TheVariants.{Again, Ended}
+use Rattle.serve_loop.specs.declared.service.Turn.TheVariants.{Ended}
 use Rattle.serve_loop.proofs.Counted.{end_after, grown_then}
 use Rattle.slirp_core.proofs.Reports.{weaker}
 use Rattle.serve_loop.proofs.Turning.{any_left, both_of, counts_on, enough, ended_left, still_reads}
