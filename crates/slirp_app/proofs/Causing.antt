@@ -12,7 +12,7 @@ use Rattle.slirp_app.specs.Texts.{text_of}
 use Rattle.slirp_app.specs.declared.status.Outcome.{Outcome}
 use Rattle.slirp_app.specs.declared.status.Outcome.TheVariants.{Done, Usage, BadConfig, ScheduleRead, ScheduleTooLarge, ScheduleLine, Diverged, FrameTooLong, FrameCut, LinkFault, WaitFault, TurnsSpent, ListenRefused, SinkFault, NoMemory}
 use Rattle.slirp_app.proofs.Ending.{ends_by, long_frame, waits_spent, meant_by}
-use Rattle.slirp_core.specs.Ends.{end_of}
+use Rattle.serve_loop.specs.Ends.{end_of}
 use Rattle.slirp_laws.specs.Laws.{Lawful}
 use Rattle.run_laws.specs.Shape.{By, Over, Refused, phase}
 use Rattle.slirp_laws.specs.Laws.{Finished}

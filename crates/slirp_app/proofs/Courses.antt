@@ -11,11 +11,11 @@ use Rattle.slirp_config.specs.declared.Command.{Command}
 use Rattle.slirp_config.specs.declared.WordFault.{WordFault}
 use Rattle.slirp_config.specs.declared.WordFault.TheVariants.{Usage as Misread, BadConfig as BadField}
 use Rattle.run_laws.specs.Shape.{phase}
-use Rattle.slirp_core.specs.Ends.{end_of}
-use Rattle.slirp_core.specs.declared.service.End.{End}
-use Rattle.slirp_core.specs.declared.service.End.TheVariants.{Done as EndDone, TooLong, Cut, LinkFault as EndLink, WaitFault as EndWait, TurnsSpent as EndTurns, ListenRefused as EndRefused}
+use Rattle.serve_loop.specs.Ends.{end_of}
+use Rattle.serve_loop.specs.declared.service.End.{End}
+use Rattle.serve_loop.specs.declared.service.End.TheVariants.{Done as EndDone, TooLong, Cut, LinkFault as EndLink, WaitFault as EndWait, TurnsSpent as EndTurns, ListenRefused as EndRefused}
 use Rattle.slirp_app.specs.Doing.{CanBeDone, Course, Meant, Misset, Misused, Does, refusal_of}
-use Rattle.slirp_core.specs.Served.{IsBuilt}
+use Rattle.serve_loop.specs.Served.{IsBuilt}
 use Rattle.slirp_app.specs.Serving.{ServesAt, Runs, IsRefused, HasNoMemory}
 use Rattle.slirp_app.specs.Statuses.{code_of, outcome_of}
 use Rattle.slirp_app.specs.declared.status.Outcome.{Outcome}

@@ -11,9 +11,9 @@ use Rattle.host_policy.specs.Addresses.{Config}
 use Rattle.slirp_laws.specs.Laws.{May, Lawful}
 use Rattle.slirp_laws.specs.Laws.{Finished}
 use Rattle.run_laws.specs.Shape.{phase}
-use Rattle.slirp_core.specs.Ends.{end_of}
-use Rattle.slirp_core.specs.declared.service.End.{End}
-use Rattle.slirp_core.specs.declared.service.End.TheVariants.{Done, TooLong, Cut, LinkFault, WaitFault, TurnsSpent, ListenRefused}
+use Rattle.serve_loop.specs.Ends.{end_of}
+use Rattle.serve_loop.specs.declared.service.End.{End}
+use Rattle.serve_loop.specs.declared.service.End.TheVariants.{Done, TooLong, Cut, LinkFault, WaitFault, TurnsSpent, ListenRefused}
 use Rattle.replay.specs.Fitting.{FitsNone, StopsRightly, divergence_of}
 use Rattle.replay.specs.Names.{name_of}
 use Rattle.replay.specs.Rows.{Row, AreReadable, Fits, FitsBefore, entries_of, row_text, schedule_text, turned_text}

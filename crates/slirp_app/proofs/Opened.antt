@@ -7,8 +7,8 @@ use Rattle.world_face.proofs.Telling.{makes_one, makes_then}
 use Rattle.host_policy.specs.Addresses.{Config}
 use Rattle.run_laws.specs.Shape.{phase}
 use Rattle.slirp_laws.specs.Laws.{Finished, Lawful}
-use Rattle.slirp_core.specs.Ends.{end_of}
-use Rattle.slirp_core.specs.declared.service.End.{End}
+use Rattle.serve_loop.specs.Ends.{end_of}
+use Rattle.serve_loop.specs.declared.service.End.{End}
 use Rattle.slirp_app.specs.Serving.{ServesAt, Runs, IsRefused}
 use Rattle.slirp_app.specs.Statuses.{outcome_of}
 use Rattle.slirp_app.specs.declared.status.Outcome.{Outcome}

@@ -14,7 +14,7 @@ use Rattle.slirp_config.specs.Meaning.{Meaning, Means, Replays, Serves, config_o
 use Rattle.slirp_config.specs.Options.{Word}
 use Rattle.slirp_config.specs.declared.WordFault.{WordFault}
 use Rattle.slirp_config.specs.declared.WordFault.TheVariants.{Usage as Misread, BadConfig as BadField}
-use Rattle.slirp_core.specs.Ends.{end_of}
+use Rattle.serve_loop.specs.Ends.{end_of}
 use Rattle.slirp_laws.specs.Laws.{Finished}
 use Rattle.slirp_app.specs.Causes.{CannotRead, Caused, IsTooLarge, RanOn}
 use Rattle.slirp_app.specs.Fetching.{IsWhole, MayFetch, is_read, octets_read}

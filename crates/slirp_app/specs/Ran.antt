@@ -7,7 +7,7 @@ use Rattle.host_policy.specs.Addresses.{Config}
 use Rattle.slirp_laws.specs.Laws.{May, Lawful}
 use Rattle.slirp_laws.specs.Laws.{Finished}
 use Rattle.run_laws.specs.Shape.{phase}
-use Rattle.slirp_core.specs.Ends.{end_of}
+use Rattle.serve_loop.specs.Ends.{end_of}
 use Rattle.replay.specs.Fitting.{FitsNone}
 use Rattle.replay.specs.Names.{name_of}
 use Rattle.replay.specs.Rows.{Row, AreReadable, Fits, FitsBefore, schedule_text}

@@ -5,7 +5,7 @@ use Rattle.world_face.specs.declared.Made.TheVariants.{Done, Failed}
 use Rattle.host_policy.specs.Addresses.{Config}
 use Rattle.run_laws.specs.Shape.{phase}
 use Rattle.slirp_laws.specs.Laws.{Finished, Lawful}
-use Rattle.slirp_core.specs.Ends.{end_of}
+use Rattle.serve_loop.specs.Ends.{end_of}
 use Rattle.slirp_app.specs.Statuses.{outcome_of}
 use Rattle.slirp_app.specs.declared.status.Outcome.{Outcome}
 use Rattle.slirp_app.specs.declared.status.Outcome.TheVariants.{LinkFault, NoMemory}

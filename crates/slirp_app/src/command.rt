@@ -10,7 +10,7 @@ ghost use Rattle.slirp_app.specs.Statuses.{code_of, is_unrun};
 ghost use Rattle.slirp_app.specs.Texts.{Got};
 ghost use Rattle.slirp_app.specs.declared.status.Outcome.{Outcome as AnOutcome};
 ghost use Rattle.slirp_app.specs.declared.status.Outcome.TheVariants.{BadConfig, NoMemory as OfMemory};
-ghost use Rattle.slirp_core.specs.Served.{IsBuilt};
+ghost use Rattle.serve_loop.specs.Served.{IsBuilt};
 ghost use Rattle.world_face.specs.Journal.{Place};
 ghost use Rattle.world_face.specs.Tells.{Makes, Rose};
 

@@ -11,7 +11,7 @@ ghost use Rattle.slirp_app.specs.Causes.{Came, Caused};
 ghost use Rattle.slirp_app.specs.Fetching.{MayFetch};
 ghost use Rattle.slirp_app.specs.Statuses.{code_of, outcome_of, is_run, is_unrun};
 ghost use Rattle.slirp_app.specs.declared.status.Outcome.TheVariants.{Diverged, NoMemory as OfMemory, ScheduleLine, ScheduleRead, ScheduleTooLarge};
-ghost use Rattle.slirp_core.specs.Served.{IsBuilt};
+ghost use Rattle.serve_loop.specs.Served.{IsBuilt};
 ghost use Rattle.world_face.specs.Journal.{Follows};
 ghost use Rattle.world_face.specs.Tells.{Makes, Rose};
 
@@ -20,7 +20,7 @@ use crate::record::put_record;
 use crate::status::{Outcome, outcome_of};
 use host_policy::SlirpConfig;
 use replay::{ScriptFault, ScriptWorld};
-use slirp_core::{End, Service};
+use serve_loop::{End, Service};
 use std::alloc::Global;
 use world_face::{Sink, World};
 

@@ -3,13 +3,13 @@ ghost use Rattle.std.specs.Prelude.{◌≡◌};
 ghost use Rattle.host_policy.specs.Ranges.{IsSound};
 ghost use Rattle.host_policy.specs.Settings.{settings};
 ghost use Rattle.slirp_app.specs.Serving.{ServesAt};
-ghost use Rattle.slirp_core.specs.Served.{IsBuilt};
+ghost use Rattle.serve_loop.specs.Served.{IsBuilt};
 ghost use Rattle.world_face.specs.Journal.{IsPlace, place_of};
 ghost use Rattle.world_face.specs.Tells.{Makes};
 
 use crate::status::{Outcome, outcome_of};
 use host_policy::SlirpConfig;
-use slirp_core::Service;
+use serve_loop::Service;
 use std::alloc::Global;
 use world_face::{LinkAt, Made, World};
 

@@ -11,7 +11,7 @@ ghost use Rattle.slirp_app.specs.declared.status.Outcome.TheVariants.{Diverged a
 use host_policy::Field;
 use itoa::Buffer;
 use replay::{CallName, Divergence};
-use slirp_core::End;
+use serve_loop::End;
 use world_face::{Failed, Sink};
 
 /// What the program came to.

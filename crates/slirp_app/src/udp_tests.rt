@@ -1,7 +1,7 @@
 use crate::tests::{BEGINS, gives};
 use host_policy::SlirpConfig;
 use replay::ScriptWorld;
-use slirp_core::{End, Service};
+use serve_loop::{End, Service};
 use std::alloc::Global;
 use std::test::Fail;
 

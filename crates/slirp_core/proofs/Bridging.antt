@@ -1,5 +1,5 @@
 -- What the core makes of a frame, step by step, is what the packet in it asks for.
-use Rattle.std.proofs.Common.{◌≡◌, ℕ, ◌==◌, ◌&&◌, ◌||◌, nat_le, Bool, true, false, List, [], length, Option, Some, None, if◌then◌else◌, refl, sym, ◌∙◌, ap, arith}
+use Rattle.std.proofs.Common.{◌≡◌, ℕ, ◌==◌, ◌&&◌, Bool, true, false, List, [], length, Option, Some, None, if◌then◌else◌, refl, ◌∙◌, ap, arith}
 use Rattle.std.proofs.lemmas.Bool.Decides.{nat_tests}
 use Rattle.std.specs.Option.{option_and_then, option_map}
 use Rattle.net_octets.specs.declared.Ip4.{Ip4}
@@ -14,10 +14,10 @@ use Rattle.icmp_echo.specs.Icmp.{Icmp, read_icmp}
 use Rattle.udp_assoc.specs.Udp.{Udp, read_udp}
 use Rattle.tcp_segment.specs.Tcp.{Tcp, read_tcp}
 use Rattle.run_laws.specs.Guests.{with_pair}
-use Rattle.run_laws.specs.Packets.{Packet, Unheard, ArpPacket, Message, DatagramPacket, Segment, Datagram, datagram_in, datagram_of, may_come, packet_of, packet_of_ip, pair_by, pair_by_arp, pair_by_ip, pair_in, pair_of, packet_in, unless_unheard, whole_packet}
-use Rattle.slirp_laws.specs.Answers.{Answer, fits_frame, owed_for_arp, owed_for_icmp, owed_for_message, owed_for_datagram, owed_for_packet}
+use Rattle.run_laws.specs.Packets.{Packet, ArpPacket, Message, DatagramPacket, Segment, Datagram, datagram_in, datagram_of, may_come, packet_of, pair_by, pair_by_arp, pair_by_ip, pair_in, pair_of, packet_in, unless_unheard, whole_packet}
+use Rattle.slirp_laws.specs.Answers.{Answer, fits_frame, owed_for_arp, owed_for_icmp, owed_for_datagram, owed_for_packet}
 use Rattle.slirp_laws.specs.Datagrams.{Errand, errand_of, errand_by_packet}
-use Rattle.slirp_core.specs.Packets.{errand_in, errand_of_ether, errand_of_ip, is_message_to_us, owed_for, owed_for_ether, owed_for_frame, owed_for_ip, udp_of, with_address, with_arp, with_ether, with_frame, with_ip}
+use Rattle.slirp_core.specs.Packets.{errand_in, errand_of_ether, errand_of_ip, owed_for, owed_for_ether, owed_for_frame, owed_for_ip, with_address, with_arp, with_ether, with_frame, with_ip}
 
 -- what a packet that may be none owes and asks for
 abbrev owes : Config → Option Packet → List Answer

@@ -1,18 +1,17 @@
 -- The sockets of a run that is over are closed.
-use Rattle.std.proofs.Common.{◌≡◌, ℕ, ◌==◌, ◌&&◌, ◌||◌, not, Bool, true, false, List, [], ◌∷◌, Option, Some, None, if◌then◌else◌, refl, sym, ◌∙◌, ap, subst}
+use Rattle.std.proofs.Common.{◌≡◌, ℕ, ◌==◌, ◌&&◌, ◌||◌, Bool, true, false, List, [], ◌∷◌, Option, Some, None, if◌then◌else◌, sym, ◌∙◌, ap}
 use Rattle.std.specs.Option.{option_map}
 use Rattle.world_face.specs.Journal.{Entry, Call, Close, CallClose}
 use Rattle.host_policy.specs.Addresses.{Config}
 use Rattle.udp_assoc.specs.Associations.{IsLeast, numbers, without}
 use Rattle.udp_assoc.specs.declared.assocs.Association.{Association}
-use Rattle.run_laws.specs.Shape.{Phase, Started, Working, Over, due_in, is_ended, is_over, is_working, phase}
+use Rattle.run_laws.specs.Shape.{Phase, due_in, is_ended, is_over, is_working, phase}
 use Rattle.run_laws.specs.Sockets.{first, is_among, next_number, open_sockets}
 use Rattle.slirp_laws.specs.Datagrams.{Settled, due_for}
 use Rattle.slirp_laws.specs.Asking.{errand_left, step, step_of}
 use Rattle.slirp_laws.specs.Laws.{MayDue, due, is_closing, is_least, parts, unless_due}
 use Rattle.slirp_laws.proofs.Deeds.{any_one, closes, this_one}
 use Rattle.slirp_core.specs.Holds.{Closing, Ran, Rests, OverBy, AllWaited, NoneWaited}
-use Rattle.slirp_core.specs.declared.service.End.{End}
 use Rattle.slirp_core.proofs.Parts.{due_is, or_second}
 use Rattle.slirp_core.proofs.Relaying.{and_both}
 use Rattle.slirp_core.proofs.Sockets.{least_among, least_is_first, none_open, rising_without, same, those_without}
@@ -25,27 +24,27 @@ at_the_end : (closing part ended least : Bool) → ended ≡ true → least ≡ 
 at_the_end true part ended least e l = l
 at_the_end false part ended least e l = or_second part (ended && least) (and_both ended least e l)
 
-module _ (config : Config) (end : End) (list : List Association) (past : List Entry) where
+module _ (config : Config) (over : Phase) (list : List Association) (past : List Entry) where
   -- a socket that is open may be closed where the run rests
   rests_open : (socket : ℕ) → IsLeast (λ a. true) list (Some socket) → Rests config list past → (is_working (phase config past) || is_over (phase config past)) ≡ true
-  rests_open socket least (OverBy why over) = ap (λ p. is_working p || is_over p) over
+  rests_open socket least (OverBy why is) = ap (λ p. is_working p || is_over p) is
   rests_open socket least (AllWaited working) = ap (λ p. is_working p || is_over p) working
   rests_open socket least (NoneWaited started none) = let among = least_among socket list least in absurd (cc (sym (ap (λ l. is_among socket (numbers l)) none) ∙ among))
 
   closes_next : (socket : ℕ) → IsLeast (λ a. true) list (Some socket) → first (open_sockets past) ≡ Some socket → errand_left config past ≡ None → Rests config list past → MayDue config past (CallClose socket)
-  closes_next socket least is asks (OverBy why over) =
-      this_one config past (CallClose socket) (ap (λ p. unless_due (due_in p past) (due_for (step config past) (next_number past))) over
+  closes_next socket least is asks (OverBy why ended) =
+      this_one config past (CallClose socket) (ap (λ p. unless_due (due_in p past) (due_for (step config past) (next_number past))) ended
       ∙ ap (λ (o : Option Call). unless_due o (due_for (step config past) (next_number past))) (ap (option_map CallClose) is))
   closes_next socket least is asks (AllWaited working) = any_one config past (CallClose socket) (due_is config past Settled working (ap (step_of config past) asks))
   closes_next socket least is asks (NoneWaited started none) = let among = least_among socket list least in absurd (cc (sym (ap (λ l. is_among socket (numbers l)) none) ∙ among))
 
   still_rests : (socket : ℕ) → Rests config list past → Rests config (without socket list) (Close socket ∷ past)
-  still_rests socket (OverBy why over) = OverBy why over
+  still_rests socket (OverBy why is) = OverBy why is
   still_rests socket (AllWaited working) = AllWaited working
   still_rests socket (NoneWaited started none) = NoneWaited started (ap (without socket) none)
 
   -- the first one was closed
-  pub after_closing : (socket : ℕ) → IsLeast (λ a. true) list (Some socket) → Closing config end list past → Closing config end (without socket list) (Close socket ∷ past)
+  pub after_closing : (socket : ℕ) → IsLeast (λ a. true) list (Some socket) → Closing config over list past → Closing config over (without socket list) (Close socket ∷ past)
   after_closing socket least closing =
       let is = least_is_first (next_number past) socket list (open_sockets past) least closing.rising closing.those in
       let open_still : is_among socket (open_sockets past) ≡ true = closing.those socket ∙ least_among socket list least in
@@ -66,13 +65,13 @@ module _ (config : Config) (end : End) (list : List Association) (past : List En
 
   -- nothing is due where none is left
   none_due : open_sockets past ≡ [] → errand_left config past ≡ None → Rests config list past → due config past ≡ None
-  none_due none asks (OverBy why over) =
-      ap (λ p. unless_due (due_in p past) (due_for (step config past) (next_number past))) over
+  none_due none asks (OverBy why is) =
+      ap (λ p. unless_due (due_in p past) (due_for (step config past) (next_number past))) is
       ∙ ap (λ (s : List ℕ). unless_due (option_map CallClose (first s)) (due_for (step config past) (next_number past))) none ∙ ap (λ s. due_for s (next_number past)) (ap (step_of config past) asks)
   none_due none asks (AllWaited working) = ap (λ p. unless_due (due_in p past) (due_for (step config past) (next_number past))) working ∙ ap (λ s. due_for s (next_number past)) (ap (step_of config past) asks)
   none_due none asks (NoneWaited started alone) = ap (λ p. unless_due (due_in p past) (due_for (step config past) (next_number past))) started ∙ ap (λ s. due_for s (next_number past)) (ap (step_of config past) asks)
 
-  pub all_closed : IsLeast (λ a. true) list None → Closing config end list past → Ran config end past
+  pub all_closed : IsLeast (λ a. true) list None → Closing config over list past → Ran config over past
   all_closed none closing =
       let empty = none_open list (open_sockets past) none closing.those in
       (closing.lawful, record { ended = closing.ended; none_due = none_due empty closing.asks closing.rests; closed = empty }, closing.is)

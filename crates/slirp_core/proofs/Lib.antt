@@ -1,14 +1,14 @@
-mod Bridging
-mod Counted
-mod Datagramming
-mod Filling
-mod Guests
-mod Parts
-mod Taking
-mod Ticking
+pub mod Below
+pub mod Bridging
 pub mod Closing
+pub mod Counted
+pub mod Datagramming
+pub mod Filling
+pub mod Guests
+pub mod Parts
 pub mod Pumping
 pub mod Relaying
-pub mod Serving
+pub mod Reports
 pub mod Sockets
-pub mod Turning
+pub mod Taking
+pub mod Ticking

@@ -1,18 +1,16 @@
 -- What the core has, part by part, after an entry that isn't the part's.
-use Rattle.std.proofs.Common.{◌≡◌, ℕ, ◌<◌, ◌&&◌, ◌||◌, not, nat_le, Bool, true, false, List, [], ◌∷◌, ◌++◌, length, Option, Some, None, if◌then◌else◌, refl, sym, ◌∙◌, ap, subst}
+use Rattle.std.proofs.Common.{◌≡◌, ℕ, ◌&&◌, ◌||◌, nat_le, Bool, true, false, List, [], ◌∷◌, ◌++◌, length, Option, Some, None, if◌then◌else◌, refl, sym, ◌∙◌, ap, subst}
 use Rattle.poll_list.specs.Listing.{reads, same_who}
 use Rattle.poll_list.specs.declared.Want.{Want}
 use Rattle.poll_list.specs.declared.Who.{Who}
-use Rattle.world_face.specs.Journal.{Entry, Call, call_of, Close, UdpOpen, UdpSend, UdpRecv, CallClose, CallUdpOpen, CallUdpSend, CallUdpRecv}
-use Rattle.world_face.specs.declared.Made.{Made}
+use Rattle.world_face.specs.Journal.{Entry, call_of, Close, UdpOpen, UdpSend, UdpRecv}
 use Rattle.world_face.specs.declared.Made.TheVariants.{Done, Failed}
 use Rattle.world_face.specs.Frames.{MayFrame, partial, tail, is_blocked}
 use Rattle.host_policy.specs.Addresses.{Config}
 use Rattle.udp_assoc.specs.Associations.{most_associations, socket_of}
 use Rattle.udp_assoc.specs.declared.assocs.Association.{Association}
 use Rattle.run_laws.specs.Happenings.{happens}
-use Rattle.run_laws.specs.Moments.{moment, waits}
-use Rattle.run_laws.specs.Shape.{Started, Working, phase, due_in, opened}
+use Rattle.run_laws.specs.Shape.{Working, phase, due_in, opened}
 use Rattle.run_laws.specs.Sockets.{next_number}
 use Rattle.slirp_laws.specs.Agenda.{agenda, all_wanted, behind, from, is_to_read}
 use Rattle.slirp_laws.specs.Datagrams.{Errand, Step, Settled, NeedsRoom, NeedsSocket, due_for}

@@ -21,7 +21,7 @@ use Rattle.slirp_core.specs.Outgoing.{sent_after}
 use Rattle.slirp_core.specs.Pumps.{pumped_of, keep}
 use Rattle.slirp_core.specs.Sockets.{AreThoseOf}
 use Rattle.slirp_core.specs.State.{SlirpState}
-use Rattle.slirp_core.specs.declared.slirp.Pumped.{Pumped}
+use Rattle.slirp_core.specs.declared.sending.Pumped.{Pumped}
 use Rattle.slirp_laws.specs.Asking.{errand_left}
 use Rattle.slirp_laws.proofs.Deeds.{writes}
 use Rattle.slirp_core.proofs.Guests.{guests_stay, of_guests}

@@ -4,10 +4,7 @@ use Rattle.std.proofs.lemmas.Bool.Decides.{nat_tests}
 use Rattle.std.specs.List.{list_any}
 use Rattle.poll_list.specs.declared.Want.{Want}
 use Rattle.poll_list.specs.declared.Who.TheVariants.{Udp}
-use Rattle.poll_list.specs.Listing.{reads, same_who}
-use Rattle.world_face.specs.Journal.{Entry, Call, Close, UdpOpen, UdpSend, UdpRecv, CallClose, CallUdpOpen, CallUdpSend, CallUdpRecv}
-use Rattle.world_face.specs.Frames.{tail}
-use Rattle.world_face.specs.Limits.{most_to_udp}
+use Rattle.world_face.specs.Journal.{Entry, Close, UdpOpen, UdpSend, UdpRecv, CallClose, CallUdpOpen, CallUdpSend, CallUdpRecv}
 use Rattle.world_face.specs.declared.Made.{Made}
 use Rattle.world_face.specs.declared.Made.TheVariants.{Done as MadeDone, Failed as MadeFailed}
 use Rattle.world_face.specs.declared.Sent.{Sent}
@@ -20,26 +17,26 @@ use Rattle.host_policy.specs.Targets.{anywhere, same_endpoint}
 use Rattle.udp_assoc.specs.Associations.{most_associations, numbers, numbered, is_numbered, is_idle, is_of, socket_of, without, moved_last, sent_from, heard_at}
 use Rattle.udp_assoc.specs.declared.assocs.Association.{Association}
 use Rattle.run_laws.specs.Moments.{moment, waits}
-use Rattle.run_laws.specs.Shape.{Working, phase, is_ended, is_over, is_working}
-use Rattle.run_laws.specs.Sockets.{Association as OfAssociation, Kind, datagram_kind, is_among, is_association, kind_of, next_number, open_sockets}
+use Rattle.run_laws.specs.Shape.{phase, is_ended, is_over, is_working}
+use Rattle.run_laws.specs.Sockets.{Association as OfAssociation, datagram_kind, is_among, is_association, kind_of, next_number, open_sockets}
 use Rattle.slirp_laws.specs.Agenda.{agenda, all_wanted, is_to_read, wanted_of}
 use Rattle.slirp_laws.specs.Answers.{frames_of, identification, is_out, left, told_about, no_network, unsent, unless_sent, reply_at, reply_for}
 use Rattle.slirp_laws.specs.Asking.{errand_left, step as asked}
 use Rattle.slirp_laws.specs.Ports.{mac_of}
 use Rattle.slirp_laws.specs.Said.{SaysOf}
-use Rattle.slirp_laws.specs.Datagrams.{Errand, Step, Settled, NeedsRoom, NeedsSocket, NeedsSending, due_for}
+use Rattle.slirp_laws.specs.Datagrams.{Errand, Step, Settled, NeedsRoom, NeedsSocket, NeedsSending}
 use Rattle.slirp_laws.specs.Relayed.{association, associations, step_for, with_opened, with_sent, with_socket, without_socket}
-use Rattle.slirp_laws.specs.Laws.{May, MayDue, begins_closing, carries, due, gives_way, is_all_out, is_closing, is_least, is_nothing, is_unused, may_part, parts}
+use Rattle.slirp_laws.specs.Laws.{May, MayDue, carries, due, gives_way, is_all_out, is_least, is_nothing, is_unused, may_part, parts}
 use Rattle.slirp_laws.proofs.Deeds.{any_one, closes, hears, opens, sends, this_one}
 use Rattle.slirp_laws.proofs.Finding.{idle_is, says_of}
 use Rattle.slirp_laws.proofs.Joining.{joined}
 use Rattle.slirp_laws.proofs.Steps.{errand_in}
 use Rattle.stream_netdev.specs.State.{LinkState}
-use Rattle.slirp_core.specs.Holds.{Standing, standing, HoldsAt, Holds, InTurn, IsLast, OfAnswers, OfSockets, Turns, Unbegun}
-use Rattle.slirp_core.specs.Sockets.{AreThoseOf, IsRising}
+use Rattle.slirp_core.specs.Holds.{Standing, standing, HoldsAt, Holds, InTurn, IsLast}
+use Rattle.slirp_core.specs.Sockets.{IsRising}
 use Rattle.slirp_core.specs.State.{SlirpState}
 use Rattle.slirp_core.proofs.Parts.{after_socket, asked_for, asks_nothing, behind_of, due_is, errand_for, in_turn, or_first, or_second, reads_of, still_open}
-use Rattle.slirp_core.proofs.Sockets.{same, fewer, among_last, among_numbered, among_without, numbered_among, those_last, those_moved, those_without, idle_among, rising_last, rising_up, rising_without}
+use Rattle.slirp_core.proofs.Sockets.{same, fewer, among_last, among_without, numbered_among, those_last, those_moved, those_without, idle_among, rising_last, rising_up, rising_without}
 
 pub and_both : (a b : Bool) → a ≡ true → b ≡ true → (a && b) ≡ true
 and_both true true one two = refl
@@ -106,7 +103,7 @@ none_of_room : (o : Option ℕ) (list : List Association) (socket : ℕ) (errand
 none_of_room None list socket errand is = refl
 none_of_room (Some s) list socket errand is = cc
 
-still_none : (guest : Endpoint) (socket : ℕ) (list : List Association) → socket_of guest list ≡ None → socket_of guest (without socket list) ≡ None
+pub still_none : (guest : Endpoint) (socket : ℕ) (list : List Association) → socket_of guest list ≡ None → socket_of guest (without socket list) ≡ None
 still_none guest socket [] none = refl
 still_none guest socket (a ∷ list) none = by (is_of guest a) refl (is_numbered socket a) none (λ rest. still_none guest socket list rest)
   where

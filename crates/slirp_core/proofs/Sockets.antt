@@ -227,3 +227,8 @@ pub none_open : (list : List Association) (sockets : List ℕ) → IsLeast (λ a
 none_open list [] none those = refl
 none_open [] (x ∷ sockets) none those = let here = sym (ap (λ b. b || is_among x sockets) (same x)) ∙ those x in cc
 none_open (y ∷ list) (x ∷ sockets) none those = let never = All-head (λ (a : Association). true ≡ false) y list none in cc
+
+-- where none is the least there is none
+pub no_association : (list : List Association) → IsLeast (λ a. true) list None → list ≡ []
+no_association [] none = refl
+no_association (x ∷ list) none = let never = All-head (λ (a : Association). true ≡ false) x list none in cc

@@ -1,15 +1,13 @@
 -- What the core keeps of the calls made on the World.
-use Rattle.std.specs.Prelude.{◌≡◌, ℕ, ◌<◌, ◌&&◌, not, Bool, true, false, List, [], ◌++◌, Some, None}
-use Rattle.poll_list.specs.Listing.{same_who}
+use Rattle.std.specs.Prelude.{◌≡◌, ℕ, ◌<◌, Bool, true, false, List, [], ◌++◌, Some, None}
 use Rattle.poll_list.specs.declared.Want.{Want}
-use Rattle.poll_list.specs.declared.Who.TheVariants.{Link}
 use Rattle.world_face.specs.Journal.{Entry}
-use Rattle.world_face.specs.Frames.{Ending, LinkFailed, Stopped, WaitFailed}
+use Rattle.world_face.specs.Frames.{Ending, LinkFailed}
 use Rattle.host_policy.specs.Addresses.{Config}
 use Rattle.udp_assoc.specs.declared.assocs.Association.{Association as AnAssociation}
 use Rattle.run_laws.specs.Guests.{known}
 use Rattle.run_laws.specs.Moments.{moment, waits}
-use Rattle.run_laws.specs.Shape.{By, Started, Working, Over, phase, is_ended}
+use Rattle.run_laws.specs.Shape.{Phase, By, Started, Working, Over, phase, is_ended}
 use Rattle.run_laws.specs.Sockets.{Association as OfAssociation, is_among, kind_of, next_number, open_sockets}
 use Rattle.slirp_laws.specs.Agenda.{agenda, all_wanted}
 use Rattle.slirp_laws.specs.Answers.{left, identification}
@@ -17,18 +15,12 @@ use Rattle.slirp_laws.specs.Asking.{errand_left}
 use Rattle.slirp_laws.specs.Datagrams.{Step, Settled}
 use Rattle.slirp_laws.specs.Relayed.{associations, step_for}
 use Rattle.slirp_laws.specs.Laws.{Finished, Lawful, is_closing}
-use Rattle.stream_netdev.specs.Keeps.{Keeps, ReadsOn}
-use Rattle.stream_netdev.specs.State.{LinkState, under_way}
-use Rattle.slirp_core.specs.Ends.{end_by, end_of}
+use Rattle.stream_netdev.specs.Keeps.{Keeps}
+use Rattle.stream_netdev.specs.State.{LinkState}
 use Rattle.slirp_core.specs.Sockets.{IsRising, AreThoseOf}
 use Rattle.slirp_core.specs.State.{SlirpState}
-use Rattle.slirp_core.specs.declared.slirp.Pumped.{Pumped}
-use Rattle.slirp_core.specs.declared.slirp.Pumped.TheVariants.{Clear, Blocked, Failed}
-use Rattle.slirp_core.specs.declared.service.End.{End}
-use Rattle.slirp_core.specs.declared.service.Turn.{Turn}
-use Rattle.slirp_core.specs.declared.service.Turn.TheVariants.{Again, Ended as TurnEnded}
-use Rattle.slirp_core.specs.declared.service.Slept.{Slept}
-use Rattle.slirp_core.specs.declared.service.Slept.TheVariants.{Ready, Stopped as SleptStopped, Failed as SleepFailed}
+use Rattle.slirp_core.specs.declared.sending.Pumped.{Pumped}
+use Rattle.slirp_core.specs.declared.sending.Pumped.TheVariants.{Clear, Blocked, Failed}
 
 -- where a run stands: so many waits were made, the last one with these wants, and this is left of what it reported
 pub record Standing : Type 0 where
@@ -109,13 +101,6 @@ pub record HoldsAt (config : Config) (at : Standing) (step : Step) (slirp : Slir
 abbrev pub Holds : Config → Standing → SlirpState → LinkState → List Entry → Type 0
 Holds config at slirp link past = HoldsAt config at Settled slirp link past
 
--- whether an item is the frame that is to be read, and whether one is still to be read after it
-abbrev pub is_read_now : Bool → Want → Bool
-is_read_now to_read item = to_read && same_who Link item.of && item.read
-
-abbrev pub still : Bool → Want → Bool
-still to_read item = to_read && not (same_who Link item.of && item.read)
-
 -- after an entry that ended the run in this way
 pub record Ended (config : Config) (why : Ending) (associations : List AnAssociation) (past : List Entry) : Type 0 where
   pub lawful : Lawful config past
@@ -142,48 +127,27 @@ LeavesRest Clear link = (link.blocked ≡ false) × (link.tail ≡ [])
 LeavesRest Blocked link = link.blocked ≡ true
 LeavesRest Failed link = Unit {0}
 
--- after a wait with these wants, and the call of the clock that follows it
-abbrev pub AfterSleep : Slept → Config → ℕ → List Want → List Want → SlirpState → LinkState → List Entry → Type 0
-AfterSleep Ready config count wants ready slirp link past = Holds config (standing count wants ready) slirp link past
-AfterSleep SleptStopped config count wants ready slirp link past = Ended config Stopped slirp.associations past
-AfterSleep SleepFailed config count wants ready slirp link past = Ended config WaitFailed slirp.associations past
-
--- after a turn, or a part of one
-pub record EndedAs (config : Config) (end : End) (associations : List AnAssociation) (past : List Entry) : Type 0 where
-  pub why : Ending
-  pub ended : Ended config why associations past
-  pub is : end ≡ end_by why
-
-abbrev pub AfterTurn : Turn → Config → Standing → SlirpState → LinkState → List Entry → Type 0
-AfterTurn Again config at slirp link past = Holds config at slirp link past
-AfterTurn (TurnEnded end) config at slirp link past = EndedAs config end slirp.associations past
-
--- and then the link can be read
-abbrev pub GoesOnAfter : Turn → LinkState → Type 0
-GoesOnAfter Again link = ReadsOn (under_way link)
-GoesOnAfter (TurnEnded end) link = Unit {0}
-
 -- an entry ended the run; or it has made its last wait; or it may make none
 pub data Rests (config : Config) (associations : List AnAssociation) (past : List Entry) : Type 0 where
   OverBy : (why : Ending) → phase config past ≡ Over (By why) → Rests config associations past
   AllWaited : phase config past ≡ Working → Rests config associations past
   NoneWaited : phase config past ≡ Started → associations ≡ [] → Rests config associations past
 
--- a run that has this end; only its sockets are to be closed
-pub record Closing (config : Config) (end : End) (associations : List AnAssociation) (past : List Entry) : Type 0 where
+-- a run that has ended in this phase; only its sockets are to be closed
+pub record Closing (config : Config) (over : Phase) (associations : List AnAssociation) (past : List Entry) : Type 0 where
   pub lawful : Lawful config past
   pub ended : is_ended config past ≡ true
-  pub is : end ≡ end_of config (phase config past)
+  pub is : over ≡ phase config past
   pub rests : Rests config associations past
   pub asks : errand_left config past ≡ None
   pub rising : IsRising (next_number past) (open_sockets past)
   pub those : AreThoseOf associations (open_sockets past)
 
--- a run that is over: it is lawful and finished, and this is how it ended
-abbrev pub Ran : Config → End → List Entry → Type 0
-Ran config end made = Lawful config made × Finished config made × (end ≡ end_of config (phase config made))
+-- a run that is over: it is lawful and finished, and this is the phase in which it ended
+abbrev pub Ran : Config → Phase → List Entry → Type 0
+Ran config over made = Lawful config made × Finished config made × (over ≡ phase config made)
 
 -- after a socket was closed, or none was left
-abbrev pub AfterClosing : Bool → Config → End → List AnAssociation → List Entry → Type 0
-AfterClosing true config end associations past = Closing config end associations past
-AfterClosing false config end associations past = Ran config end past
+abbrev pub AfterClosing : Bool → Config → Phase → List AnAssociation → List Entry → Type 0
+AfterClosing true config over associations past = Closing config over associations past
+AfterClosing false config over associations past = Ran config over past

@@ -1,10 +1,9 @@
+pub mod Counts
 pub mod Datagrams
-pub mod Ends
 pub mod Hearing
 pub mod Holds
 pub mod Outgoing
 pub mod Packets
 pub mod Pumps
-pub mod Served
 pub mod Sockets
 pub mod State

@@ -9,8 +9,8 @@ use Rattle.udp_assoc.specs.declared.assocs.Association.{Association}
 use Rattle.stream_netdev.specs.declared.Offered.{Offered}
 use Rattle.stream_netdev.specs.declared.Offered.TheVariants.{Taken, Blocked as OfferBlocked, Failed as OfferFailed}
 use Rattle.slirp_core.specs.State.{SlirpState}
-use Rattle.slirp_core.specs.declared.slirp.Pumped.{Pumped}
-use Rattle.slirp_core.specs.declared.slirp.Pumped.TheVariants.{Clear, Blocked, Failed}
+use Rattle.slirp_core.specs.declared.sending.Pumped.{Pumped}
+use Rattle.slirp_core.specs.declared.sending.Pumped.TheVariants.{Clear, Blocked, Failed}
 
 -- what an offer comes to, where the link is then blocked or not
 abbrev pub pumped_of : Offered → Bool → Pumped

@@ -1,10 +1,14 @@
-//! The core of the network, and the loop that serves a guest.
+//! The core of the network: what a guest's frames and its peers' datagrams ask for, and what isn't out yet.
 #![tactic(auto)]
 
+mod arp;
 mod datagrams;
+mod icmp;
+mod network;
 mod outgoing;
-mod service;
-mod slirp;
+mod sending;
+mod udp;
+mod wants;
 
-pub use service::{End, Service, Turn};
-pub use slirp::{Pumped, Slirp};
+pub use network::Slirp;
+pub use sending::Pumped;

@@ -1,5 +1,8 @@
-pub mod Listing
+pub mod Changing
+pub mod Keeping
+pub mod Numbering
+pub mod Ordering
 pub mod Passing
+pub mod Porting
 pub mod Spelling
 pub mod Writing
-pub mod Numbering

@@ -1,6 +1,6 @@
 -- The associations: open sockets, each for the datagrams of one port of a guest, the longest unused first.
-use Rattle.std.specs.Prelude.{◌≡◌, ◌<◌, ◌≤◌, All, false, slice_index_or, length, ℕ, ◌+◌, ◌==◌, ◌&&◌, not, nat_le, nat_lt, true, Bool, List, [], ◌∷◌, ◌++◌, map, filter, find, Option, Some, None, option_map, if◌then◌else◌}
-use Rattle.std.specs.List.{list_any, remove}
+use Rattle.std.specs.Prelude.{◌≡◌, ◌≤◌, All, false, ℕ, ◌+◌, ◌==◌, ◌&&◌, not, nat_le, nat_lt, true, Bool, List, [], ◌∷◌, ◌++◌, map, filter, find, Option, Some, None, option_map, if◌then◌else◌}
+use Rattle.std.specs.List.{list_any}
 use Rattle.net_octets.specs.declared.Endpoint.{Endpoint}
 use Rattle.net_octets.specs.declared.Mac.{Mac}
 use Rattle.host_policy.specs.Targets.{same_endpoint}
@@ -55,21 +55,10 @@ is_over now a = nat_le (a.used + idle_life) now
 abbrev pub is_idle : ℕ → ℕ → List Association → Bool
 is_idle number now associations = list_any (λ a. is_numbered number a && is_over now a) associations
 
--- what a list comes to that a change of one taken out of it is put back to, at the end
-abbrev pub put_back : (Association → Association) → Option Association → List Association → List Association → List Association
-put_back change None before rest = before
-put_back change (Some a) before rest = rest ++ (change a ∷ [])
-
 -- less than the least so far, where there is one
 abbrev pub is_less : ℕ → Option ℕ → Bool
 is_less number None = true
 is_less number (Some least) = nat_lt number least
-
--- the place of the first with this number, where there is one
-abbrev pub IsPlaceOf : ℕ → List Association → Option ℕ → Type 0
-IsPlaceOf number associations None = (numbered number associations ≡ None) × ((change : Association → Association) → moved_last change number associations ≡ associations)
-IsPlaceOf number associations (Some place) = (place < length associations) × (a : Association) × ((other : Association) → slice_index_or associations place other ≡ a)
-    × (numbered number associations ≡ Some a) × ((change : Association → Association) → moved_last change number associations ≡ remove associations place ++ (change a ∷ []))
 
 -- the least number of those that pass a test, where one does
 abbrev pub IsLeast : (Association → Bool) → List Association → Option ℕ → Type 0

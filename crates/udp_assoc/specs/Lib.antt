@@ -1,2 +1,3 @@
 pub mod Udp
 pub mod Associations
+pub mod Rows

@@ -1,7 +1,8 @@
 // Which sockets are open for which ports of guests.
-ghost use Rattle.std.specs.Prelude.{◌≡◌, ◌≤◌, ◌<◌, [], ◌∷◌, ◌++◌, length, true, All, IfSome, None, IsPermutation};
+ghost use Rattle.std.specs.Prelude.{◌≡◌, ◌≤◌, ◌<◌, [], ◌∷◌, ◌++◌, length, true, All, IsPermutation, slice_get, slice_set};
 ghost use Rattle.std.specs.List.Sorted.{IsNonDecreasing};
-ghost use Rattle.udp_assoc.specs.Associations.{most_associations, numbers, is_over, is_of, lesser, is_meant, moved_last, put_back, IsPlaceOf, IsLeast};
+ghost use Rattle.udp_assoc.specs.Associations.{most_associations, numbers, is_over, lesser, is_meant, IsLeast};
+ghost use Rattle.udp_assoc.specs.Rows.{gone, key, times, AreSince, IsPlace, IsRoomFor, IsTakenOut, Rise};
 ghost use Rattle.udp_assoc.specs.declared.assocs.Association.{Association};
 
 use arrayvec::ArrayVec;
@@ -38,96 +39,123 @@ impl Default for Association {
     }
 }
 
-/// At most 512 associations, the longest unused first, and their numbers, the least first.
+/// At most 512 associations, the longest unused first.
+///
+/// Their rows stand by rising number, and their numbers beside them; the endpoints of their guests, as numbers, by rising endpoint, and beside each the
+/// number of its association. So one is found by its number or by its guest without a walk. The order of use is a list of numbers: no row moves where
+/// one is used. None was used before `since`.
 #[derive(Drop)]
 pub struct Associations {
-    list: ArrayVec<Association, 512>,
+    rows: ArrayVec<Association, 512>,
     rising: ArrayVec<u64, 512>,
+    order: ArrayVec<u64, 512>,
+    keys: ArrayVec<u64, 512>,
+    owners: ArrayVec<u64, 512>,
+    since: u64,
 }
 
 impl Model for Associations {
-    ghost use Rattle.std.specs.Prelude.{List, IsPermutation};
-    ghost use Rattle.std.specs.List.Sorted.{IsNonDecreasing};
-    ghost use Rattle.udp_assoc.specs.Associations.{numbers};
+    ghost use Rattle.std.specs.Prelude.{List};
     ghost use Rattle.udp_assoc.specs.declared.assocs.Association.{Association};
+    ghost use Rattle.udp_assoc.specs.Rows.{in_order, ArePorts, AreRows};
 
     ghost Value = { List Association };
 
-    ghost view = { λ s. s.list.items };
+    ghost view = { λ s. in_order s.rows.items s.order.items };
 
-    ghost invariant = { λ s. IsPermutation (numbers s.list.items) s.rising.items × IsNonDecreasing s.rising.items };
+    ghost invariant = { λ s. AreRows s.rows.items s.rising.items s.order.items s.since × ArePorts s.rows.items s.keys.items s.owners.items };
 }
 
 impl Associations {
     ghost use Rattle.std.specs.Prelude.{Some, None, nat_le};
-    ghost use Rattle.udp_assoc.specs.Associations.{numbered, socket_of, without, sent_from, heard_at};
+    ghost use Rattle.udp_assoc.specs.Associations.{numbered, socket_of, without, moved_last, sent_from, heard_at};
 
     /// No association.
     pub fn new() -> Associations
         ensures { result ≡ [] }
     {
         Associations {
-            list: ArrayVec::new(),
+            rows: ArrayVec::new(),
             rising: ArrayVec::new(),
+            order: ArrayVec::new(),
+            keys: ArrayVec::new(),
+            owners: ArrayVec::new(),
+            since: u64::MAX,
         }
-    }
-
-    /// All of them, the longest unused first.
-    pub fn as_slice(&self) -> &[Association]
-        ensures all { result.now ≡ self.now }
-        ensures most { length result.now ≤ most_associations }
-    {
-        self.list.as_slice()
     }
 
     /// Whether as many are open as may be.
     pub fn is_full(&self) -> bool
-        ensures { result ≡ nat_le most_associations (length self.now) }
+        ensures full { result ≡ nat_le most_associations (length self.now) }
+        ensures most { length self.now ≤ most_associations }
     {
-        self.list.len() >= MOST_ASSOCIATIONS
+        self.order.len() >= MOST_ASSOCIATIONS
+    }
+
+    /// The longest unused one. None exactly where there is none.
+    pub fn oldest(&self) -> Option<Association>
+        ensures { result ≡ slice_get self.now 0 }
+    {
+        let number = *self.order.as_slice().first()?;
+        self.numbered(number)
     }
 
     /// The association with this number. None exactly where none has it.
     pub fn numbered(&self, number: u64) -> Option<Association>
         ensures { result ≡ numbered number self.now }
     {
-        let place = place_of(self.list.as_slice(), number)?;
-        Some(self.list.as_slice()[place])
+        let place = place_of(self.rising.as_slice(), number)?;
+        Some(self.rows.as_slice()[place])
     }
 
     /// The socket of the association for this port of a guest. None exactly where there is none.
     pub fn socket_of(&self, guest: Endpoint) -> Option<u64>
         ensures { result ≡ socket_of guest self.now }
     {
-        let found = self.list.as_slice().iter().find(|a| is_for(a, &guest));
-        found.map(|a| a.number)
+        let place = place_of(self.keys.as_slice(), key(guest))?;
+        Some(self.owners.as_slice()[place])
     }
 
-    /// A socket was opened at this moment for a port of a guest, whose datagram came from this hardware address.
+    /// A socket was opened at this moment for a port of a guest that has none, whose datagram came from this hardware address. Its number is greater than that of all.
     pub fn open(&mut self, association: Association)
-        requires { length self.old < most_associations }
+        requires room { length self.old < most_associations }
+        requires above { All (λ n. n < association.number) (numbers self.old) }
+        requires fresh { socket_of association.guest self.old ≡ None }
         ensures { self.new ≡ self.old ++ (association ∷ []) }
     {
-        self.list.push(association);
-        self.rising = rising_of(self.list.as_slice());
+        let key = key(association.guest);
+        let place = room_for(self.keys.as_slice(), key);
+        self.keys.insert(place, key);
+        self.owners.insert(place, association.number);
+        self.order.push(association.number);
+        self.rising.push(association.number);
+        self.since = self.since.min(association.used);
+        self.rows.push(association);
     }
 
     /// The socket with this number was closed.
     pub fn close(&mut self, number: u64)
         ensures { self.new ≡ without number self.old }
     {
-        self.list.retain(|a| a.number != number);
-        self.rising = rising_of(self.list.as_slice());
+        if let Some(place) = place_of(self.rising.as_slice(), number) {
+            let row = self.rows.remove(place);
+            self.rising.remove(place);
+            forget(&mut self.order, number);
+            forget_port(&mut self.keys, &mut self.owners, key(row.guest));
+        }
     }
 
     /// A datagram of the guest, which came from this hardware address, was sent on the socket.
     pub fn sent(&mut self, number: u64, mac: Mac, now: u64)
         ensures { self.new ≡ moved_last (sent_from mac now) number self.old }
     {
-        if let Some(mut association) = take(&mut self.list, number) {
-            association.mac = mac;
-            association.used = now;
-            self.list.push(association);
+        if let Some(place) = place_of(self.rising.as_slice(), number) {
+            let mut row = self.rows.as_slice()[place];
+            row.mac = mac;
+            row.used = now;
+            put(&mut self.rows, place, row);
+            make_last(&mut self.order, number);
+            self.since = self.since.min(now);
         }
     }
 
@@ -135,24 +163,32 @@ impl Associations {
     pub fn heard(&mut self, number: u64, now: u64)
         ensures { self.new ≡ moved_last (heard_at now) number self.old }
     {
-        if let Some(mut association) = take(&mut self.list, number) {
-            association.used = now;
-            self.list.push(association);
+        if let Some(place) = place_of(self.rising.as_slice(), number) {
+            let mut row = self.rows.as_slice()[place];
+            row.used = now;
+            put(&mut self.rows, place, row);
+            make_last(&mut self.order, number);
+            self.since = self.since.min(now);
         }
     }
 
     /// The least number of a socket whose idle life is over at this moment. None exactly where there is none.
-    pub fn idle(&self, now: u64) -> Option<u64>
-        ensures { IsLeast (is_over now) self.now result }
+    pub fn idle(&mut self, now: u64) -> Option<u64>
+        ensures least { IsLeast (is_over now) self.old result }
+        ensures same { self.new ≡ self.old }
     {
-        least_of(self.list.as_slice(), Some(now))
+        if now.saturating_sub(self.since) < IDLE_LIFE {
+            return None;
+        }
+        self.since = first_use(self.rows.as_slice());
+        least_of(self.rows.as_slice(), Some(now))
     }
 
     /// The least number of a socket. None exactly where no socket is open.
     pub fn least(&self) -> Option<u64>
         ensures { IsLeast (λ a. true) self.now result }
     {
-        least_of(self.list.as_slice(), None)
+        least_of(self.rows.as_slice(), None)
     }
 
     /// The numbers of all sockets, the least first.
@@ -165,56 +201,103 @@ impl Associations {
     }
 }
 
-// Takes the association with this number out.
-fn take(list: &mut ArrayVec<Association, 512>, number: u64) -> Option<Association>
-    ensures moved { (change : Association → Association) → moved_last change number list.old.items ≡ put_back change result list.old.items list.new.items }
-    ensures room { IfSome result (λ _. length list.new.items < most_associations) }
-    ensures same { result ≡ None → list.new.items ≡ list.old.items }
+// The place of a number among numbers that rise.
+fn place_of(rising: &[u64], number: u64) -> Option<usize>
+    requires { Rise rising.now }
+    ensures { IsPlace number rising.now result }
 {
-    let place = place_of(list.as_slice(), number)?;
-    Some(list.remove(place))
-}
-
-// The numbers of sockets, the least first.
-fn rising_of(list: &[Association]) -> ArrayVec<u64, 512>
-    requires { length list.now ≤ 512 }
-    ensures all { IsPermutation (numbers list.now) result.items }
-    ensures rising { IsNonDecreasing result.items }
-{
-    let mut rising = numbers_of(list);
-    rising.as_mut_slice().sort_unstable();
-    rising
-}
-
-// The numbers of sockets, in the order of the list.
-fn numbers_of(list: &[Association]) -> ArrayVec<u64, 512>
-    requires { length list.now ≤ 512 }
-    ensures { result.items ≡ numbers list.now }
-{
-    let mut numbers = ArrayVec::new();
-    for place in 0..list.len() {
-        numbers.push(list[place].number);
+    match rising.binary_search(&number) {
+        Ok(place) => Some(place),
+        Err(_) => None,
     }
-    numbers
 }
 
-// The place of the association with this number.
-fn place_of(list: &[Association], number: u64) -> Option<usize>
-    ensures { IsPlaceOf number list.now result }
+// The place at which a number that isn't among numbers that rise goes in.
+fn room_for(rising: &[u64], number: u64) -> usize
+    requires rise { Rise rising.now }
+    requires new { times number rising.now ≡ 0 }
+    ensures { IsRoomFor number rising.now result }
 {
-    for place in 0..list.len() {
-        if list[place].number == number {
+    match rising.binary_search(&number) {
+        Ok(place) => place,
+        Err(place) => place,
+    }
+}
+
+// An endpoint as a number, by which endpoints are ordered.
+fn key(endpoint: Endpoint) -> u64
+    ensures number { result ≡ key endpoint }
+    ensures port { endpoint.port < 65536 }
+{
+    let port = endpoint.port;
+    (endpoint.addr.0 as u64) * 65536 + port as u64
+}
+
+// Takes an endpoint out, and the number beside it.
+fn forget_port(keys: &mut ArrayVec<u64, 512>, owners: &mut ArrayVec<u64, 512>, key: u64)
+    requires rise { Rise keys.old.items }
+    requires there { 0 < times key keys.old.items }
+    requires beside { length owners.old.items ≡ length keys.old.items }
+    ensures { IsTakenOut key keys.old.items owners.old.items keys.new.items owners.new.items }
+{
+    if let Some(place) = place_of(keys.as_slice(), key) {
+        keys.remove(place);
+        owners.remove(place);
+    }
+}
+
+// Puts a row in its place.
+fn put(rows: &mut ArrayVec<Association, 512>, place: usize, row: Association)
+    requires { place < length rows.old.items }
+    ensures { rows.new.items ≡ slice_set rows.old.items place row }
+{
+    rows.as_mut_slice()[place] = row;
+}
+
+// Takes a number out of the order of use.
+fn forget(order: &mut ArrayVec<u64, 512>, number: u64)
+    requires { times number order.old.items ≤ 1 }
+    ensures { order.new.items ≡ gone number order.old.items }
+{
+    if let Some(place) = last_place(order.as_slice(), number) {
+        order.remove(place);
+    }
+}
+
+// Makes a number the last in the order of use.
+fn make_last(order: &mut ArrayVec<u64, 512>, number: u64)
+    requires { times number order.old.items ≡ 1 }
+    ensures { order.new.items ≡ gone number order.old.items ++ (number ∷ []) }
+{
+    if let Some(place) = last_place(order.as_slice(), number) {
+        order.remove(place);
+        order.push(number);
+    }
+}
+
+// The place of a number in the order of use, looked for from the last on: what is used often stands there.
+fn last_place(order: &[u64], number: u64) -> Option<usize>
+    ensures { IsPlace number order.now result }
+{
+    let mut place = order.len();
+    while place > 0 {
+        place -= 1;
+        if order[place] == number {
             return Some(place);
         }
     }
     None
 }
 
-// Whether the association is for this port of a guest.
-fn is_for(association: &Association, guest: &Endpoint) -> bool
-    ensures { result ≡ is_of guest.now association.now }
+// The first moment at which one of these was used.
+fn first_use(rows: &[Association]) -> u64
+    ensures { AreSince result rows.now }
 {
-    association.guest.addr.0 == guest.addr.0 && association.guest.port == guest.port
+    let mut first = u64::MAX;
+    for place in 0..rows.len() {
+        first = first.min(rows[place].used);
+    }
+    first
 }
 
 // The least number of those whose idle life is over at this moment, or of all where none is given.

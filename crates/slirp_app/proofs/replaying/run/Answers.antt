@@ -7,7 +7,7 @@ use Rattle.host_policy.specs.Settings.{settings}
 use Rattle.slirp_laws.specs.Laws.{Lawful}
 use Rattle.slirp_laws.specs.Laws.{Finished}
 use Rattle.run_laws.specs.Shape.{phase}
-use Rattle.slirp_core.specs.Ends.{end_of}
+use Rattle.serve_loop.specs.Ends.{end_of}
 use Rattle.replay.specs.Script.{script_tells}
 use Rattle.replay.specs.Text.{text}
 use Rattle.slirp_app.specs.Ran.{end_line}

@@ -1,0 +1,3 @@
+mod Counted
+pub mod Serving
+pub mod Turning

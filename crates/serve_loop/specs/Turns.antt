@@ -1,0 +1,53 @@
+-- What a turn, and each part of it, comes to.
+use Rattle.std.specs.Prelude.{◌≡◌, ℕ, ◌&&◌, not, Bool, List}
+use Rattle.poll_list.specs.Listing.{same_who}
+use Rattle.poll_list.specs.declared.Want.{Want}
+use Rattle.poll_list.specs.declared.Who.TheVariants.{Link}
+use Rattle.world_face.specs.Journal.{Entry}
+use Rattle.world_face.specs.Frames.{Ending, Stopped, WaitFailed}
+use Rattle.host_policy.specs.Addresses.{Config}
+use Rattle.udp_assoc.specs.declared.assocs.Association.{Association as AnAssociation}
+use Rattle.run_laws.specs.Shape.{phase}
+use Rattle.stream_netdev.specs.Keeps.{ReadsOn}
+use Rattle.stream_netdev.specs.State.{LinkState, under_way}
+use Rattle.slirp_core.specs.Holds.{Standing, standing, Holds, Ended, Closing}
+use Rattle.slirp_core.specs.State.{SlirpState}
+use Rattle.serve_loop.specs.Ends.{end_by, end_of}
+use Rattle.serve_loop.specs.declared.service.End.{End}
+use Rattle.serve_loop.specs.declared.service.Turn.{Turn}
+use Rattle.serve_loop.specs.declared.service.Turn.TheVariants.{Again, Ended as TurnEnded}
+use Rattle.serve_loop.specs.declared.service.Slept.{Slept}
+use Rattle.serve_loop.specs.declared.service.Slept.TheVariants.{Ready, Stopped as SleptStopped, Failed as SleepFailed}
+
+-- whether an item is the frame that is to be read, and whether one is still to be read after it
+abbrev pub is_read_now : Bool → Want → Bool
+is_read_now to_read item = to_read && same_who Link item.of && item.read
+
+abbrev pub still : Bool → Want → Bool
+still to_read item = to_read && not (same_who Link item.of && item.read)
+
+-- after a wait with these wants, and the call of the clock that follows it
+abbrev pub AfterSleep : Slept → Config → ℕ → List Want → List Want → SlirpState → LinkState → List Entry → Type 0
+AfterSleep Ready config count wants ready slirp link past = Holds config (standing count wants ready) slirp link past
+AfterSleep SleptStopped config count wants ready slirp link past = Ended config Stopped slirp.associations past
+AfterSleep SleepFailed config count wants ready slirp link past = Ended config WaitFailed slirp.associations past
+
+-- after a turn, or a part of one
+pub record EndedAs (config : Config) (end : End) (associations : List AnAssociation) (past : List Entry) : Type 0 where
+  pub why : Ending
+  pub ended : Ended config why associations past
+  pub is : end ≡ end_by why
+
+abbrev pub AfterTurn : Turn → Config → Standing → SlirpState → LinkState → List Entry → Type 0
+AfterTurn Again config at slirp link past = Holds config at slirp link past
+AfterTurn (TurnEnded end) config at slirp link past = EndedAs config end slirp.associations past
+
+-- and then the link can be read
+abbrev pub GoesOnAfter : Turn → LinkState → Type 0
+GoesOnAfter Again link = ReadsOn (under_way link)
+GoesOnAfter (TurnEnded end) link = Unit {0}
+
+-- a run that has this end; only its sockets are to be closed
+pub record Closes (config : Config) (end : End) (associations : List AnAssociation) (past : List Entry) : Type 0 where
+  pub closing : Closing config (phase config past) associations past
+  pub is : end ≡ end_of config (phase config past)

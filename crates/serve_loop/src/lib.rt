@@ -1,0 +1,6 @@
+//! The loop that serves a guest.
+#![tactic(auto)]
+
+mod service;
+
+pub use service::{End, Service, Turn};

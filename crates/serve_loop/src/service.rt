@@ -1,0 +1,477 @@
+// The loop of turns.
+//
+// A run begins with the moment (`start`), then goes by turns until one ends it (`serve`). A turn closes what has been idle too long, sends what is owed,
+// and waits for what it wants; then it asks for the moment and serves what was reported, in the order of the list: a frame is read and taken in, or a
+// peer's datagram is received, and after each what is owed for it is sent. Nothing is read while something is left to be sent. At the end every
+// socket is closed, by rising number.
+ghost use Rattle.std.specs.Prelude.{◌≡◌, ◌&&◌, true, false, if◌then◌else◌};
+ghost use Rattle.slirp_laws.specs.Agenda.{is_to_read};
+ghost use Rattle.slirp_core.specs.Holds.{Standing};
+ghost use Rattle.serve_loop.specs.Turns.{still, is_read_now};
+ghost use Rattle.poll_list.specs.Listing.{reads, writes};
+ghost use Rattle.serve_loop.specs.Ends.{turn_of};
+ghost use Rattle.poll_list.specs.declared.Who.TheVariants.{Link as TheLink, Udp};
+ghost use Rattle.poll_list.specs.declared.Want.{Want as AnItem};
+
+use host_policy::SlirpConfig;
+use net_octets::NoMemory;
+use poll_list::{ReadyList, Want, Wants, Who};
+use slirp_core::{Pumped, Slirp};
+use std::alloc::Global;
+use std::marker::Model;
+use stream_netdev::{Arrived, Link};
+use world_face::{Waited, World};
+
+/// The most octets of a datagram's payload.
+const MOST_PAYLOAD: usize = 65507;
+
+/// The most items that a wait can report.
+const MOST_READY: usize = 5155;
+
+/// How a run ended.
+#[derive(Clone, Copy, Debug, PartialEq, Eq)]
+pub enum End {
+    /// The link ended between two frames, or a wait was told to stop.
+    Done,
+    /// A frame of so many octets was announced, over 69,632.
+    TooLong(u32),
+    /// The link ended inside a length or frame, after so many octets of it, its length included.
+    Cut(usize),
+    /// A read or a write of the link failed.
+    LinkFault,
+    /// A wait failed.
+    WaitFault,
+    /// There were as many waits as the settings allow.
+    TurnsSpent(u64),
+    /// The host refused the forward with this number, counted from 0.
+    ListenRefused(usize),
+}
+
+/// What came of a turn.
+#[derive(Clone, Copy, Debug, PartialEq, Eq)]
+pub enum Turn {
+    Again,
+    Ended(End),
+}
+
+// What came of a wait.
+#[derive(Clone, Copy, Debug, PartialEq, Eq)]
+pub enum Slept {
+    Ready,
+    Stopped,
+    Failed,
+}
+
+/// A network that serves one link.
+#[derive(Drop)]
+pub struct Service {
+    slirp: Slirp,
+    link: Link,
+    wants: Wants,
+    ready: ReadyList,
+    payload: Vec<u8>,
+    turns: u64,
+}
+
+impl Model for Service {
+    ghost use Rattle.std.specs.Prelude.{◌≡◌, length};
+    ghost use Rattle.serve_loop.specs.Served.{ServiceState};
+
+    ghost Value = { ServiceState };
+
+    ghost view = { λ s. record { slirp = s.slirp; link = s.link; wants = s.wants.items; ready = s.ready.items } };
+
+    ghost invariant = { λ s. (s.turns ≡ s.slirp.config.turns) × (s.wants.capacity ≡ 5155) × (s.ready.capacity ≡ 5155) × (length s.payload.items ≡ 65507) };
+}
+
+impl Service {
+    ghost use Rattle.std.specs.Prelude.{ℕ, ◌+◌, ◌<◌, ◌≤◌, ◌^◌, List, [], ◌∷◌, drop, length, if◌then◌else◌, IfOk};
+    ghost use Rattle.world_face.specs.Tells.{Makes, Brings, Rose};
+    ghost use Rattle.host_policy.specs.Addresses.{Config};
+    ghost use Rattle.host_policy.specs.Ranges.{IsSound};
+    ghost use Rattle.host_policy.specs.Settings.{settings};
+    ghost use Rattle.slirp_laws.specs.Agenda.{wanted_of};
+    ghost use Rattle.slirp_laws.specs.Laws.{Finished, Lawful};
+    ghost use Rattle.run_laws.specs.Shape.{phase};
+    ghost use Rattle.slirp_laws.specs.Served.{Served};
+    ghost use Rattle.stream_netdev.specs.Keeps.{ReadsOn};
+    ghost use Rattle.stream_netdev.specs.State.{under_way};
+    ghost use Rattle.serve_loop.specs.Ends.{end_of, IsCounted};
+    ghost use Rattle.slirp_core.specs.Counts.{AreGrown};
+    ghost use Rattle.slirp_core.specs.Holds.{Holds, after, standing};
+    ghost use Rattle.serve_loop.specs.Turns.{AfterSleep, AfterTurn, Closes, GoesOnAfter};
+    ghost use Rattle.slirp_core.specs.Pumps.{is_settled};
+    ghost use Rattle.serve_loop.specs.Served.{IsBuilt, IsNew};
+    ghost use Rattle.slirp_core.specs.Hearing.{Receives};
+    ghost use Rattle.std.specs.Prelude.{Some};
+    ghost use Rattle.udp_assoc.specs.Associations.{numbered};
+    ghost use Rattle.udp_assoc.specs.declared.assocs.Association.{Association as AnAssociation};
+
+    /// A network with these settings that has served nothing. It takes all the memory that it will ever need.
+    pub fn open(alloc: Global, c: &SlirpConfig) -> Result<Service, NoMemory>
+        requires sound { IsSound (settings c.now) }
+        requires built { IsBuilt (settings c.now) }
+        ensures new { IfOk result (λ service. IsNew service) }
+        ensures config { IfOk result (λ service. service.slirp.config ≡ settings c.now) }
+    {
+        let link = Link::open(alloc)?;
+        let (Ok(wants), Ok(ready), Ok(payload)) = (
+            Wants::open(alloc, MOST_READY),
+            ReadyList::open(alloc, MOST_READY),
+            vec![in alloc; 0; MOST_PAYLOAD],
+        ) else {
+            return Err(NoMemory);
+        };
+        let slirp = Slirp::new(alloc, c)?;
+        Ok(Service {
+            slirp,
+            link,
+            wants,
+            ready,
+            payload,
+            turns: c.turns,
+        })
+    }
+
+    /// Runs until the link ends, a wait is told to stop, or the turns are spent; then all sockets are closed.
+    pub fn serve<W: World>(&mut self, world: &mut W) -> End
+        requires { IsNew self.old }
+        // The calls that it makes are lawful, nothing more is to be done, and the end is the one that they tell.
+        ensures makes { let config = self.old.slirp.config in
+            Makes (W.tells world.old) (W.tells world.new) (λ made. Lawful config made × Finished config made × (result ≡ end_of config (phase config made))) }
+        // Where it ended by a fault the count of the link's, or of the waits', rose.
+        ensures faults { IsCounted (Turn.Ended result) (W.tells world.old).faults (W.tells world.new).faults }
+        // What a World that was live tells of them.
+        ensures served { Served self.old.slirp.config (W.tells world.old) (W.tells world.new) }
+    {
+        let end = self.run(world);
+        self.slirp.close_all(world);
+        end
+    }
+
+    // Takes turns until the run ends.
+    fn run<W: World>(&mut self, world: &mut W) -> End
+        requires { IsNew self.old }
+        ensures makes { Makes (W.tells world.old) (W.tells world.new) (Closes self.old.slirp.config result self.new.slirp.associations) }
+        ensures faults { IsCounted (Turn.Ended result) (W.tells world.old).faults (W.tells world.new).faults }
+        ensures config { self.new.slirp.config ≡ self.old.slirp.config }
+    {
+        let _begun = self.start(world);
+        let turns = self.turns;
+        for _count in 0..turns {
+            match self.turn(world) {
+                Turn::Again => {}
+                Turn::Ended(end) => return end,
+            }
+        }
+        End::TurnsSpent(self.turns)
+    }
+
+    /// Begins a run of a network that has served nothing: the moment is asked for.
+    pub fn start<W: World>(&mut self, world: &mut W) -> Turn
+        requires { IsNew self.old }
+        ensures makes { Makes (W.tells world.old) (W.tells world.new) (Holds self.old.slirp.config (after 0) self.new.slirp self.new.link) }
+        ensures on { ReadsOn (under_way self.new.link) }
+        ensures config { self.new.slirp.config ≡ self.old.slirp.config }
+        ensures number { self.new.slirp.number ≡ 0 }
+        ensures again { result ≡ Turn.Again }
+    {
+        let told = world.now();
+        self.slirp.tell_moment(told);
+        Turn::Again
+    }
+
+    /// One turn: sockets that were idle for long are closed and what is owed is sent, then it waits, then what the wait reported is served, with what is then owed. A turn opens at most one socket, and needs a number for it under 2^64.
+    pub fn turn<W: World>(&mut self, world: &mut W) -> Turn
+        requires on { ReadsOn (under_way self.old.link) }
+        requires number { self.old.slirp.number + 1 < 2 ^ 64 }
+        ensures makes { (config : Config) (count : ℕ) → count < config.turns → Brings (W.tells world.old) (W.tells world.new)
+            (Holds config (after count) self.old.slirp self.old.link) (AfterTurn result config (after (count + 1)) self.new.slirp self.new.link) }
+        // Where it ended by a fault the count of the link's, or of the waits', rose.
+        ensures faults { IsCounted result (W.tells world.old).faults (W.tells world.new).faults }
+        ensures on { GoesOnAfter result self.new.link }
+        ensures config { self.new.slirp.config ≡ self.old.slirp.config }
+        ensures number { self.new.slirp.number ≤ self.old.slirp.number + 1 }
+    {
+        self.slirp.tick(world);
+        match self.pump(world) {
+            Turn::Again => self.wake(world),
+            Turn::Ended(end) => Turn::Ended(end),
+        }
+    }
+
+    // A wait and what follows it.
+    fn wake<W: World>(&mut self, world: &mut W) -> Turn
+        requires on { ReadsOn (under_way self.old.link) }
+        requires number { self.old.slirp.number + 1 < 2 ^ 64 }
+        ensures makes { (config : Config) (count : ℕ) → count < config.turns → Brings (W.tells world.old) (W.tells world.new)
+            (Holds config (after count) self.old.slirp self.old.link) (AfterTurn result config (after (count + 1)) self.new.slirp self.new.link) }
+        ensures faults { IsCounted result (W.tells world.old).faults (W.tells world.new).faults }
+        ensures on { GoesOnAfter result self.new.link }
+        ensures config { self.new.slirp.config ≡ self.old.slirp.config }
+        ensures number { self.new.slirp.number ≤ self.old.slirp.number + 1 }
+    {
+        match self.sleep(world) {
+            Slept::Ready => self.work(world),
+            Slept::Stopped => Turn::Ended(End::Done),
+            Slept::Failed => Turn::Ended(End::WaitFault),
+        }
+    }
+
+    // Waits, and asks for the moment where it was woken.
+    fn sleep<W: World>(&mut self, world: &mut W) -> Slept
+        ensures makes { (config : Config) (count : ℕ) → count < config.turns → Brings (W.tells world.old) (W.tells world.new)
+            (Holds config (after count) self.old.slirp self.old.link) (AfterSleep result config (count + 1) self.new.wants self.new.ready self.new.slirp self.new.link) }
+        ensures counts { AreGrown (W.tells world.old).faults (W.tells world.new).faults }
+        ensures failed { result ≡ Slept.Failed → Rose (W.tells world.old).faults.wait (W.tells world.new).faults.wait }
+        ensures on { under_way self.new.link ≡ under_way self.old.link }
+        ensures config { self.new.slirp.config ≡ self.old.slirp.config }
+        ensures number { self.new.slirp.number ≡ self.old.slirp.number }
+    {
+        let timeout = self.slirp.pollfds_fill(&self.link, &mut self.wants);
+        match world.wait(&self.wants, timeout, &mut self.ready) {
+            Waited::Ready => {
+                let told = world.now();
+                self.slirp.tell_moment(told);
+                report(&mut self.link, self.ready.items());
+                Slept::Ready
+            }
+            Waited::Stop => Slept::Stopped,
+            Waited::Failed => Slept::Failed,
+        }
+    }
+
+    // What follows a wait that was woken: each item that it reported is served, in their order.
+    fn work<W: World>(&mut self, world: &mut W) -> Turn
+        requires on { ReadsOn (under_way self.old.link) }
+        requires number { self.old.slirp.number + 1 < 2 ^ 64 }
+        ensures makes { (config : Config) (count : ℕ) → Brings (W.tells world.old) (W.tells world.new)
+            (Holds config (standing count self.old.wants self.old.ready) self.old.slirp self.old.link) (AfterTurn result config (after count) self.new.slirp self.new.link) }
+        ensures faults { IsCounted result (W.tells world.old).faults (W.tells world.new).faults }
+        ensures on { GoesOnAfter result self.new.link }
+        ensures config { self.new.slirp.config ≡ self.old.slirp.config }
+        ensures number { self.new.slirp.number ≤ self.old.slirp.number + 1 }
+    {
+        let mut to_read = self.may_read();
+        for place in 0..self.ready.items().len() {
+            let item = self.item(place);
+            match self.attend(world, &item, to_read) {
+                Turn::Again => to_read = still(to_read, &item),
+                Turn::Ended(end) => return Turn::Ended(end),
+            }
+        }
+        Turn::Again
+    }
+
+    // Whether a frame is to be read: the link was waited for, and reported.
+    fn may_read(&self) -> bool
+        ensures { result ≡ (reads TheLink self.now.wants && reads TheLink self.now.ready) }
+    {
+        reads_link(self.wants.items()) && reads_link(self.ready.items())
+    }
+
+    // The item at a place of what the last wait reported.
+    fn item(&self, place: usize) -> Want
+        requires { place < length self.now.ready }
+        ensures { drop place self.now.ready ≡ result ∷ drop (place + 1) self.now.ready }
+    {
+        self.ready.items()[place]
+    }
+
+    // The same, and sends what is then owed.
+    fn attend<W: World>(&mut self, world: &mut W, item: &Want, to_read: bool) -> Turn
+        requires on { ReadsOn (under_way self.old.link) }
+        requires number { to_read ≡ true → self.old.slirp.number + 1 < 2 ^ 64 }
+        ensures makes { (config : Config) (count : ℕ) (items : List AnItem) → (to_read ≡ true → reads TheLink self.old.wants ≡ true) → Brings (W.tells world.old) (W.tells world.new)
+            (Holds config (standing count self.old.wants (item.now ∷ items)) self.old.slirp self.old.link) (AfterTurn result config (standing count self.old.wants items) self.new.slirp self.new.link) }
+        ensures faults { IsCounted result (W.tells world.old).faults (W.tells world.new).faults }
+        ensures on { GoesOnAfter result self.new.link }
+        ensures config { self.new.slirp.config ≡ self.old.slirp.config }
+        ensures number { self.new.slirp.number ≤ self.old.slirp.number + (if is_read_now to_read item.now then 1 else 0) }
+        ensures reports { (self.new.wants ≡ self.old.wants) × (self.new.ready ≡ self.old.ready) }
+    {
+        match self.serve_item(world, item, to_read) {
+            Turn::Again => self.pump(world),
+            Turn::Ended(end) => Turn::Ended(end),
+        }
+    }
+
+    // Serves an item of what a wait reported: the link where a frame is still to be read, or a socket that was waited for.
+    fn serve_item<W: World>(&mut self, world: &mut W, item: &Want, to_read: bool) -> Turn
+        requires on { ReadsOn (under_way self.old.link) }
+        requires number { to_read ≡ true → self.old.slirp.number + 1 < 2 ^ 64 }
+        ensures makes { (config : Config) (count : ℕ) (items : List AnItem) → (to_read ≡ true → reads TheLink self.old.wants ≡ true) → Brings (W.tells world.old) (W.tells world.new)
+            (Holds config (standing count self.old.wants (item.now ∷ items)) self.old.slirp self.old.link) (AfterTurn result config (standing count self.old.wants items) self.new.slirp self.new.link) }
+        ensures faults { IsCounted result (W.tells world.old).faults (W.tells world.new).faults }
+        ensures on { GoesOnAfter result self.new.link }
+        ensures config { self.new.slirp.config ≡ self.old.slirp.config }
+        ensures number { self.new.slirp.number ≤ self.old.slirp.number + (if is_read_now to_read item.now then 1 else 0) }
+        ensures reports { (self.new.wants ≡ self.old.wants) × (self.new.ready ≡ self.old.ready) }
+    {
+        if !item.read {
+            return Turn::Again;
+        }
+        match item.of {
+            Who::Link => {
+                if to_read {
+                    self.receive(world)
+                } else {
+                    Turn::Again
+                }
+            }
+            Who::Udp(number) => {
+                if self.waits_for(number) {
+                    self.hear(world, number);
+                }
+                Turn::Again
+            }
+            Who::Listener(_) | Who::Tcp(_) => Turn::Again,
+        }
+    }
+
+    // Whether datagrams on this socket were waited for. What is waited for stands by rising numbers, the link before all sockets.
+    fn waits_for(&self, number: u64) -> bool
+        ensures { result ≡ true → reads (Udp number) self.now.wants ≡ true }
+    {
+        let wants = self.wants.items();
+        match wants.binary_search_by_key(&Some(number), |want| socket_of(want.of)) {
+            Ok(place) => reads_at(wants, place, number),
+            Err(_) => false,
+        }
+    }
+
+    // Reads a frame where nothing is left to be sent, takes it in, and sends its datagram on.
+    fn receive<W: World>(&mut self, world: &mut W) -> Turn
+        requires on { ReadsOn (under_way self.old.link) }
+        requires number { self.old.slirp.number + 1 < 2 ^ 64 }
+        ensures makes { (config : Config) (count : ℕ) (wants : List AnItem) (item : AnItem) (items : List AnItem) → is_to_read TheLink (wanted_of wants item) ≡ true → Brings (W.tells world.old) (W.tells world.new)
+            (Holds config (standing count wants (item ∷ items)) self.old.slirp self.old.link) (AfterTurn result config (standing count wants items) self.new.slirp self.new.link) }
+        ensures faults { IsCounted result (W.tells world.old).faults (W.tells world.new).faults }
+        ensures on { GoesOnAfter result self.new.link }
+        ensures config { self.new.slirp.config ≡ self.old.slirp.config }
+        ensures number { self.new.slirp.number ≤ self.old.slirp.number + 1 }
+        ensures reports { (self.new.wants ≡ self.old.wants) × (self.new.ready ≡ self.old.ready) }
+    {
+        if !self.is_settled() {
+            return Turn::Again;
+        }
+        match self.link.read_frame(world) {
+            Arrived::Frame => {
+                if let Some(errand) = self.slirp.input(self.link.frame()) {
+                    self.slirp.relay(world, &errand);
+                }
+                Turn::Again
+            }
+            Arrived::NotYet => Turn::Again,
+            Arrived::End => Turn::Ended(End::Done),
+            Arrived::Cut(n) => Turn::Ended(End::Cut(n)),
+            Arrived::TooLong(n) => Turn::Ended(End::TooLong(n)),
+            Arrived::Failed => Turn::Ended(End::LinkFault),
+        }
+    }
+
+    // Receives a datagram on a socket where nothing is left to be sent.
+    fn hear<W: World>(&mut self, world: &mut W, number: u64)
+        // Where nothing is left to be sent and the socket is open a datagram is asked for on it, once.
+        ensures hears { is_settled self.old.slirp self.old.link ≡ true → (a : AnAssociation) → numbered number self.old.slirp.associations ≡ Some a → Makes (W.tells world.old) (W.tells world.new) (Receives number) }
+        ensures makes { (config : Config) (count : ℕ) (wants : List AnItem) (item : AnItem) (items : List AnItem) → is_to_read (Udp number) (wanted_of wants item) ≡ true → Brings (W.tells world.old) (W.tells world.new)
+            (Holds config (standing count wants (item ∷ items)) self.old.slirp self.old.link) (Holds config (standing count wants items) self.new.slirp self.new.link) }
+        ensures counts { AreGrown (W.tells world.old).faults (W.tells world.new).faults }
+        ensures link { self.new.link ≡ self.old.link }
+        ensures config { self.new.slirp.config ≡ self.old.slirp.config }
+        ensures number { self.new.slirp.number ≡ self.old.slirp.number }
+        ensures reports { (self.new.wants ≡ self.old.wants) × (self.new.ready ≡ self.old.ready) }
+    {
+        if self.is_settled() {
+            self.slirp.hear(world, number, &mut self.payload);
+        }
+    }
+
+    // Whether nothing is left to be sent.
+    fn is_settled(&self) -> bool
+        ensures { result ≡ is_settled self.now.slirp self.now.link }
+    {
+        self.slirp.is_settled(&self.link)
+    }
+
+    // Sends what is owed.
+    fn pump<W: World>(&mut self, world: &mut W) -> Turn
+        requires { ReadsOn (under_way self.old.link) }
+        ensures makes { (config : Config) (at : Standing) → Brings (W.tells world.old) (W.tells world.new)
+            (Holds config at self.old.slirp self.old.link) (AfterTurn result config at self.new.slirp self.new.link) }
+        ensures faults { IsCounted result (W.tells world.old).faults (W.tells world.new).faults }
+        ensures on { GoesOnAfter result self.new.link }
+        ensures config { self.new.slirp.config ≡ self.old.slirp.config }
+        ensures number { self.new.slirp.number ≡ self.old.slirp.number }
+        ensures reports { (self.new.wants ≡ self.old.wants) × (self.new.ready ≡ self.old.ready) }
+    {
+        let pumped = self.slirp.pump(world, &mut self.link);
+        turn_of(pumped)
+    }
+}
+
+// Tells the link what a wait reported.
+fn report(link: &mut Link, ready: &[Want])
+    ensures free { link.new.blocked ≡ (if writes TheLink ready.now then false else link.old.blocked) }
+    ensures same { (link.new.octets ≡ link.old.octets) × (link.new.whole ≡ link.old.whole) × (link.new.tail ≡ link.old.tail) }
+{
+    if writes_link(ready) {
+        link.unblock();
+    }
+}
+
+// Whether the link is among these for writing.
+fn writes_link(items: &[Want]) -> bool
+    ensures { result ≡ writes TheLink items.now }
+{
+    items.iter().any(|item| item.of == Who::Link && item.write)
+}
+
+// Whether the link is among these for reading.
+fn reads_link(items: &[Want]) -> bool
+    ensures { result ≡ reads TheLink items.now }
+{
+    items.iter().any(|item| item.of == Who::Link && item.read)
+}
+
+// Whether a frame is still to be read after this item.
+fn still(to_read: bool, item: &Want) -> bool
+    ensures { result ≡ still to_read item.now }
+{
+    to_read && !(item.of == Who::Link && item.read)
+}
+
+// The number of the socket that an item is of.
+fn socket_of(who: Who) -> Option<u64> {
+    match who {
+        Who::Link => None,
+        Who::Listener(number) | Who::Udp(number) | Who::Tcp(number) => Some(number),
+    }
+}
+
+// Whether the socket with this number stands at the place, for reading.
+fn reads_at(wants: &[Want], place: usize, number: u64) -> bool
+    ensures { result ≡ true → reads (Udp number) wants.now ≡ true }
+{
+    let Some(want) = wants.get(place) else {
+        return false;
+    };
+    is_read(want, number)
+}
+
+// Whether it is the socket with this number, for reading.
+fn is_read(want: &Want, number: u64) -> bool
+    ensures { result ≡ is_to_read (Udp number) want.now }
+{
+    want.of == Who::Udp(number) && want.read
+}
+
+// What a pump comes to in a turn.
+fn turn_of(pumped: Pumped) -> Turn
+    ensures { result ≡ turn_of pumped }
+{
+    match pumped {
+        Pumped::Clear | Pumped::Blocked => Turn::Again,
+        Pumped::Failed => Turn::Ended(End::LinkFault),
+    }
+}

@@ -1,0 +1,38 @@
+use Rattle.std.proofs.Common.{◌≡◌, true, false, Some, sym, ◌∙◌, ap}
+use Rattle.ipv4_head.specs.Ip.{ip_of}
+use Rattle.icmp_echo.specs.Icmp.{read_icmp}
+use Rattle.host_policy.specs.Addresses.{Config}
+use Rattle.slirp_core.specs.Packets.{is_message_to_us, owed_for}
+use Rattle.slirp_laws.specs.Answers.{frames_of, owed_for_icmp, owed_for_datagram}
+use Rattle.slirp_core.specs.Packets.{udp_of}
+use Rattle.slirp_core.specs.Datagrams.{datagram_of}
+use Rattle.slirp_core.specs.State.{SlirpState}
+use Rattle.slirp_core.proofs.Taking.{message_to_us, no_message, no_errand}
+use Rattle.slirp_core.proofs.network.Slirp.take_ip.Goals as goal
+
+pub returns-then-is_message_to_us-clause-errand : goal.returns-then-is_message_to_us-clause-errand
+returns-then-is_message_to_us-clause-errand c =
+    let ip = ip_of c.in-Ok.packet in
+    let policy = ap (λ (s : SlirpState). s.config) c.self.view_is ∙ ap (λ (s : SlirpState). s.config) c.learn.ensures in
+    let asked : is_message_to_us c.args.self.now.config ip ≡ true = ap (λ (k : Config). is_message_to_us k ip) (sym policy) ∙ sym c.is_message_to_us.ensures.asked ∙ c.if-is_message_to_us.true in
+    no_errand c.args.self.now c.args.mac.0 c.args.body.now ip c.in-Ok.ensures.fields asked
+
+pub returns-then-is_message_to_us-clause-changes : goal.returns-then-is_message_to_us-clause-changes
+returns-then-is_message_to_us-clause-changes c =
+    let ip = ip_of c.in-Ok.packet in
+    let policy = ap (λ (s : SlirpState). s.config) c.self.view_is ∙ ap (λ (s : SlirpState). s.config) c.learn.ensures in
+    let asked : is_message_to_us c.args.self.now.config ip ≡ true = ap (λ (k : Config). is_message_to_us k ip) (sym policy) ∙ sym c.is_message_to_us.ensures.asked ∙ c.if-is_message_to_us.true in
+    c.take_icmp.ensures
+    ∙ ap (λ (s : SlirpState). record s { pending = frames_of s.config s.sent (owed_for (owed_for_icmp c.args.mac.0 ip) (read_icmp ip.body)) }) c.learn.ensures
+    ∙ message_to_us c.args.self.now c.args.mac.0 c.args.body.now ip c.in-Ok.ensures.fields asked
+
+pub returns-clause-changes : goal.returns-clause-changes
+returns-clause-changes c =
+    let ip = ip_of c.in-Ok.packet in
+    let d = datagram_of c.in_ok-datagram.datagram in
+    let policy = ap (λ (s : SlirpState). s.config) c.self.view_is ∙ ap (λ (s : SlirpState). s.config) c.learn.ensures in
+    let asked : is_message_to_us c.args.self.now.config ip ≡ false = ap (λ (k : Config). is_message_to_us k ip) (sym policy) ∙ sym c.is_message_to_us.ensures.asked ∙ c.if-is_message_to_us.false in
+    let udp : Some d ≡ udp_of c.args.self.now.config c.args.mac.0 ip = c.in_ok-datagram.ensures.datagram ∙ ap (λ (k : Config). udp_of k c.args.mac.0 ip) policy in
+    c.take_udp.ensures.changes
+    ∙ ap (λ (s : SlirpState). record s { pending = frames_of s.config s.sent (owed_for_datagram s.config d) }) c.learn.ensures
+    ∙ no_message c.args.self.now c.args.mac.0 c.args.body.now ip c.in-Ok.ensures.fields asked (Some d) udp

@@ -1,0 +1,33 @@
+use Rattle.std.proofs.Common.{◌≡◌, ℕ, ◌==◌, ◌||◌, false, List, [], ◌∷◌, sym, ◌∙◌, ap}
+use Rattle.net_octets.specs.Kinds.{ipv4_kind, icmp_proto}
+use Rattle.host_policy.specs.Addresses.{Config, last_address}
+use Rattle.host_policy.specs.Targets.{is_group_or_reserved}
+use Rattle.ether_frame.specs.Ether.{ether_octets}
+use Rattle.ipv4_head.specs.Ip.{ip_octets}
+use Rattle.icmp_echo.specs.Icmp.{unreachable_octets}
+use Rattle.slirp_laws.specs.Answers.{our_mac, is_untold, frames_of, told_about}
+use Rattle.slirp_core.specs.Datagrams.{datagram_of}
+use Rattle.slirp_core.specs.State.{SlirpState}
+use Rattle.slirp_core.specs.declared.outgoing.Course.{Course}
+use Rattle.slirp_core.proofs.Taking.{told, both_false}
+use Rattle.slirp_core.proofs.network.Slirp.tell_about.Goals as goal
+
+pub returns : goal.returns
+returns c =
+    let old = c.args.self.now in
+    let inside = c.self.inside in
+    let d = datagram_of c.args.datagram.now in
+    let code = c.args.code in
+    let policy : inside.policy ≡ old.config = ap (λ (s : SlirpState). s.config) c.self.view_is in
+    let nobody : (d.from.addr.0 == 0) ≡ false = sym c.eq.ensures ∙ c.if-eq.false in
+    let many : (is_group_or_reserved d.to.addr.0 || (d.to.addr.0 == last_address old.config)) ≡ false =
+    ap (λ (k : Config). is_group_or_reserved d.to.addr.0 || (d.to.addr.0 == last_address k)) (sym policy) ∙ sym c.is_of_many.ensures ∙ c.if-is_of_many.false in
+    let untold : is_untold old.config d ≡ false = both_false (d.from.addr.0 == 0) (is_group_or_reserved d.to.addr.0) (d.to.addr.0 == last_address old.config) nobody many in
+    let host : c.vhost.result.0 ≡ old.config.vhost = c.vhost.ensures ∙ ap (λ (k : Config). k.vhost) policy in
+    let pending : c.put_message.new.self ≡ frames_of old.config old.sent (told_about old.config code d) =
+    c.put_message.ensures
+    ∙ ap (λ (k : Course). ether_octets k.to_mac.0 k.from_mac.0 ipv4_kind (ip_octets k.ident 0 icmp_proto k.from.0 k.to.0 (unreachable_octets code d.quote)) ∷ []) c.course-course.ensures
+    ∙ ap (λ (host : ℕ). ether_octets d.mac (our_mac old.config.vhost) ipv4_kind (ip_octets old.sent 0 icmp_proto host d.from.addr.0 (unreachable_octets code d.quote)) ∷ []) host
+    ∙ told old.config old.sent code d untold in
+    ap (λ (p : List (List ℕ)). record { config = inside.policy; known = inside.guests; sent = inside.sent; pending = p; moment = inside.moment; number = inside.number; associations = inside.associations }) pending
+    ∙ ap (λ (s : SlirpState). record s { pending = frames_of old.config old.sent (told_about old.config code d) }) c.self.view_is

@@ -1,0 +1,58 @@
+// What asks for a hardware address, and its reply (RFC 826).
+ghost use Rattle.std.specs.Prelude.{[], ◌≡◌};
+ghost use Rattle.arp_table.specs.Arp.{arp_of};
+ghost use Rattle.slirp_laws.specs.Answers.{our_mac, owed_for_arp};
+ghost use Rattle.slirp_core.specs.Packets.{packets_of};
+
+use crate::network::Slirp;
+use arp_table::ArpView;
+use host_policy::Policy;
+use net_octets::{Ip4, Mac};
+
+impl Slirp {
+    ghost use Rattle.arp_table.specs.Arp.{read_arp};
+    ghost use Rattle.slirp_core.specs.Packets.{with_arp};
+    ghost use Rattle.slirp_laws.specs.Answers.{frames_of};
+    ghost use Rattle.slirp_core.specs.Packets.{owed_for};
+
+    // Takes in an ARP packet.
+    pub(crate) fn take_arp(&mut self, body: &[u8])
+        requires { self.old.pending ≡ [] }
+        ensures { self.new ≡ record self.old {
+          pending = frames_of self.old.config self.old.sent (owed_for (owed_for_arp self.old.config) (read_arp body.now));
+          known = with_arp self.old.config (read_arp body.now) self.old.known;
+        } }
+    {
+        let Ok(packet) = arp_table::decode(body) else {
+            return;
+        };
+        self.learn(packet.sender_ip, packet.sender_mac);
+        if let Some(reply) = arp_reply(&self.policy, &packet) {
+            self.outgoing.put_arp(&reply);
+        }
+    }
+}
+
+// The answer that an ARP packet asks for.
+fn arp_reply(policy: &Policy, packet: &ArpView) -> Option<ArpView>
+    ensures { packets_of result ≡ owed_for_arp policy.now (arp_of packet.now) }
+{
+    if packet.reply || !policy.is_ours(packet.target_ip) {
+        return None;
+    }
+    Some(ArpView {
+        reply: true,
+        sender_mac: our_mac(packet.target_ip),
+        sender_ip: packet.target_ip,
+        target_mac: packet.sender_mac,
+        target_ip: packet.sender_ip,
+    })
+}
+
+// The hardware address of one of ours.
+pub(crate) fn our_mac(address: Ip4) -> Mac
+    ensures { result.0 ≡ our_mac address.0 }
+{
+    let [a, b, c, d] = address.0.to_be_bytes();
+    Mac([0x52, 0x55, a, b, c, d])
+}

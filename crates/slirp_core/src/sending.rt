@@ -1,0 +1,151 @@
+// What is owed and isn't out yet, and the pump that sends it.
+ghost use Rattle.std.specs.Prelude.{[], ◌≡◌, ◌<◌, ◌≤◌, length, true};
+ghost use Rattle.slirp_laws.specs.Answers.{fits_frame, our_mac};
+ghost use Rattle.slirp_core.specs.Pumps.{pumped_of};
+
+use crate::arp::our_mac;
+use crate::network::Slirp;
+use crate::outgoing::{Course, datagrams_in};
+use host_policy::Policy;
+use net_octets::{Ip4, Mac};
+use stream_netdev::{Link, Offered};
+use world_face::World;
+
+/// The octets of the header of a datagram that goes out (RFC 791, 3.1).
+const IP_HEADER: u16 = 20;
+
+/// What a pump came to.
+#[derive(Clone, Copy, Debug, PartialEq, Eq)]
+pub enum Pumped {
+    /// All that is owed is out.
+    Clear,
+    /// The link takes no more for now.
+    Blocked,
+    /// The link failed.
+    Failed,
+}
+
+impl Slirp {
+    ghost use Rattle.world_face.specs.Tells.{Rose};
+    ghost use Rattle.std.specs.Prelude.{nat_lt, false};
+    ghost use Rattle.host_policy.specs.Addresses.{Config};
+    ghost use Rattle.world_face.specs.Tells.{Brings};
+    ghost use Rattle.stream_netdev.specs.State.{under_way};
+    ghost use Rattle.slirp_core.specs.Outgoing.{sent_after};
+    ghost use Rattle.slirp_core.specs.Pumps.{keep, is_settled};
+    ghost use Rattle.slirp_core.specs.Holds.{Standing, Holds, AfterPump, Leaves, LeavesRest};
+
+    /// Whether nothing is left to be sent.
+    pub fn is_settled(&self, link: &Link) -> bool
+        ensures { result ≡ is_settled self.now link.now }
+    {
+        link.tail() == 0 && !self.pending()
+    }
+
+    /// Whether a frame is owed that isn't out yet.
+    pub fn pending(&self) -> bool
+        ensures { result ≡ nat_lt 0 (length self.now.pending) }
+    {
+        self.outgoing.is_some()
+    }
+
+    /// Sends what is owed, until the link is blocked: the rest of the frame before, then the pending one.
+    pub fn pump<W: World>(&mut self, world: &mut W, link: &mut Link) -> Pumped
+        ensures makes { (config : Config) (at : Standing) → Brings (W.tells world.old) (W.tells world.new)
+            (Holds config at self.old link.old) (AfterPump result config at self.new link.new) }
+        ensures failed { result ≡ Pumped.Failed → Rose (W.tells world.old).faults.link (W.tells world.new).faults.link }
+        ensures leaves { Leaves result self.new link.new }
+        ensures same { under_way link.new ≡ under_way link.old }
+        ensures config { self.new.config ≡ self.old.config }
+        ensures number { self.new.number ≡ self.old.number }
+        ensures others { self.new ≡ record self.old { pending = self.new.pending; sent = self.new.sent } }
+    {
+        match self.pump_rest(world, link) {
+            Pumped::Clear => self.pump_pending(world, link),
+            Pumped::Blocked => Pumped::Blocked,
+            Pumped::Failed => Pumped::Failed,
+        }
+    }
+
+    // Sends the rest of the frame before.
+    fn pump_rest<W: World>(&self, world: &mut W, link: &mut Link) -> Pumped
+        ensures makes { (config : Config) (at : Standing) → Brings (W.tells world.old) (W.tells world.new)
+            (Holds config at self.now link.old) (AfterPump result config at self.now link.new) }
+        ensures failed { result ≡ Pumped.Failed → Rose (W.tells world.old).faults.link (W.tells world.new).faults.link }
+        ensures leaves { LeavesRest result link.new }
+        ensures same { under_way link.new ≡ under_way link.old }
+    {
+        if link.blocked() {
+            return Pumped::Blocked;
+        }
+        if link.tail() == 0 {
+            return Pumped::Clear;
+        }
+        let offered = link.flush(world);
+        outcome(offered, link.blocked())
+    }
+
+    // Sends the pending frame.
+    fn pump_pending<W: World>(&mut self, world: &mut W, link: &mut Link) -> Pumped
+        requires free { link.old.blocked ≡ false }
+        requires none { link.old.tail ≡ [] }
+        ensures makes { (config : Config) (at : Standing) → Brings (W.tells world.old) (W.tells world.new)
+            (Holds config at self.old link.old) (AfterPump result config at self.new link.new) }
+        ensures failed { result ≡ Pumped.Failed → Rose (W.tells world.old).faults.link (W.tells world.new).faults.link }
+        ensures leaves { Leaves result self.new link.new }
+        ensures same { under_way link.new ≡ under_way link.old }
+        ensures config { self.new.config ≡ self.old.config }
+        ensures number { self.new.number ≡ self.old.number }
+        ensures others { self.new ≡ record self.old { pending = self.new.pending; sent = self.new.sent } }
+    {
+        if !self.pending() {
+            return Pumped::Clear;
+        }
+        let offered = link.offer(world, self.outgoing.frame());
+        self.mark_out(offered);
+        outcome(offered, link.blocked())
+    }
+
+    // The frame is out where something of it was taken.
+    fn mark_out(&mut self, offer: Offered)
+        requires { 0 < length self.old.pending }
+        ensures { self.new ≡ record self.old { pending = keep offer self.old.pending; sent = sent_after offer self.old.pending self.old.sent } }
+    {
+        if offer == Offered::Taken {
+            self.sent = self.sent.wrapping_add(datagrams_in(self.outgoing.frame()));
+            self.outgoing.clear();
+        }
+    }
+
+    // The course of the next datagram.
+    pub(crate) fn course(&self, to_mac: Mac, from: Ip4, to: Ip4) -> Course
+        ensures { result ≡ record { to_mac = to_mac; from_mac = record { 0 = our_mac self.now.config.vhost }; ident = self.now.sent; from = from; to = to } }
+    {
+        Course {
+            to_mac,
+            from_mac: our_mac(self.policy.vhost()),
+            ident: self.sent,
+            from,
+            to,
+        }
+    }
+}
+
+// What an offer comes to.
+fn outcome(offered: Offered, blocked: bool) -> Pumped
+    ensures { result ≡ pumped_of offered blocked }
+{
+    match offered {
+        Offered::Taken | Offered::Blocked if blocked => Pumped::Blocked,
+        Offered::Taken | Offered::Blocked => Pumped::Clear,
+        Offered::Failed => Pumped::Failed,
+    }
+}
+
+// Whether a datagram with so many octets behind its header fits a frame to a guest.
+pub(crate) fn fits_frame(policy: &Policy, octets: usize) -> bool
+    ensures fits { result ≡ fits_frame policy.now octets }
+    ensures size { result ≡ true → octets ≤ 1480 }
+{
+    octets <= (policy.mtu() - IP_HEADER) as usize
+}

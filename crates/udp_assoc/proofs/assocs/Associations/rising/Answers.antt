@@ -1,0 +1,16 @@
+use Rattle.std.proofs.Common.{List, ℕ, sym, ◌∙◌, ap, subst}
+use Rattle.std.specs.List.Sorted.{IsPermutation, IsNonDecreasing}
+use Rattle.udp_assoc.specs.Associations.{numbers}
+use Rattle.udp_assoc.proofs.Keeping.{numbers_in_order}
+use Rattle.udp_assoc.proofs.Ordering.{as_often, never_falls}
+use Rattle.udp_assoc.proofs.assocs.Associations.rising.Goals as goal
+
+pub returns-clause-all : goal.returns-clause-all
+returns-clause-all c =
+    let i = c.self.inside in
+    let are = c.self.invariant.0 in
+    subst (λ (l : List ℕ). IsPermutation l c.as_slice.result.now) (sym (numbers_in_order i.rows.items i.order.items) ∙ ap numbers c.self.view_is)
+    (subst (λ (l : List ℕ). IsPermutation i.order.items l) (sym c.as_slice.ensures.value) (as_often i.order.items i.rising.items are.same))
+
+pub returns-clause-rising : goal.returns-clause-rising
+returns-clause-rising c = subst IsNonDecreasing (sym c.as_slice.ensures.value) (never_falls c.self.inside.rising.items c.self.invariant.0.rise)
