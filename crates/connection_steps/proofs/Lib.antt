@@ -1,0 +1,4 @@
+pub mod Going
+pub mod Asking
+pub mod Opening
+pub mod Quiet
