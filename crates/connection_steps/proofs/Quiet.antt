@@ -152,3 +152,50 @@ gives_as s c d down past now open_is t_is syn_is gone_is fin_is reason g = recor
   syn_again = λ opening owed gone. reason owed (ap (λ (n : Sendings). has_gone n) (sym gone_is) ∙ gone) (sym open_is ∙ opening);
   again = λ owed under. g.again (ap (λ (t : Transmission). is_owed_again t) (sym t_is) ∙ owed) (subst (λ (t : Transmission). t.acked < t.sent) t_is under);
 }
+
+-- ---- another sending half
+
+pub receives_sending : (s : Settings) (c : Connection) (t : Transmission) (up : Upward) (past : Story) → Receives s c up past → Receives s (record c { transmission = t }) up past
+receives_sending s c t up past r = record {
+  follows = r.follows;
+  due = r.due;
+  once = r.once;
+  ends = r.ends;
+  current = r.current;
+  sure = r.sure;
+  host_ended = r.host_ended;
+  told = r.told;
+  prompted = r.prompted;
+  updated = r.updated;
+}
+
+pub awaits_sending : (s : Settings) (c : Connection) (t : Transmission) (up : Upward) (past : Story) → Awaits s c up past → Awaits s (record c { transmission = t }) up past
+awaits_sending s c t up past a = record {
+  theirs = a.theirs;
+  guest = a.guest;
+  received = a.received;
+  held = a.held;
+  kept = a.kept;
+  ack_owed = a.ack_owed;
+  told = a.told;
+  edge = a.edge;
+  host_ended = a.host_ended;
+  end_acknowledged = a.end_acknowledged;
+  ours_first = a.ours_first;
+}
+
+pub opened_sending : (s : Settings) (c : Connection) (t : Transmission) (past : Story) → t.mss ≡ c.transmission.mss → IsOpened s c past → IsOpened s (record c { transmission = t }) past
+opened_sending s c t past most o = record {
+  live = o.live;
+  ours = o.ours;
+  connects = o.connects;
+  out = o.out;
+  unsent = o.unsent;
+  sent = o.sent;
+  answered = o.answered;
+  owes = o.owes;
+  calls = o.calls;
+  theirs = o.theirs;
+  scale = o.scale;
+  mss = λ is. most ∙ o.mss is;
+}
