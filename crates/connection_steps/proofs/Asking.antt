@@ -25,6 +25,7 @@ module _ (s : Settings) (c : Connection) (up : Upward) (down : Downward) (past :
   quietly e silent start same_guest same_host goes h = record {
     suits = h.suits;
     buffers = h.buffers;
+    within = h.within;
     goes = goes;
     opened = opened_on s c past (At m e ∷ past) start (ap (λ (d : List Down). answered d) same_host.host) h.opened;
     awaits = λ is. awaits_on s c up past (At m e ∷ past) start same_guest (h.awaits is);
@@ -37,7 +38,7 @@ module _ (s : Settings) (c : Connection) (up : Upward) (down : Downward) (past :
   connects_yet h = quietly ConnectsYet tt
       (record { ours = refl; connecting = refl; out = refl; accepted = refl; theirs = refl })
       (record { guest = refl; ended = refl; edge = refl; prompted = refl })
-      (record { host = refl; window = refl })
+      (record { host = refl; window = refl; fin_out = refl })
       (does s past now m ConnectsYet AskConnected h.goes on (λ o. o) refl (may_ask s past m h.goes.well h.goes.open_yet) (must_ask s past m h.goes.free) h.goes.open_yet refl refl)
       h
 
@@ -46,7 +47,7 @@ module _ (s : Settings) (c : Connection) (up : Upward) (down : Downward) (past :
   asks_address h = quietly AsksAddress tt
       (record { ours = refl; connecting = refl; out = refl; accepted = refl; theirs = refl })
       (record { guest = refl; ended = refl; edge = refl; prompted = refl })
-      (record { host = refl; window = refl })
+      (record { host = refl; window = refl; fin_out = refl })
       (comes s past now m AsksAddress h.goes on (λ o. o) refl h.goes.open_yet refl (nothing_to_close (At m AsksAddress ∷ past) refl))
       h
 
@@ -65,11 +66,12 @@ module _ (s : Settings) (c : Connection) (up : Upward) (down : Downward) (past :
       let known : is_calls c.stage ≡ false = ap (λ (st : Stage). is_calls st) is in
       let unsent : has_gone c.sendings ≡ false = o.unsent (ap (λ (st : Stage). is_connects st) is) in
       let opening : is_opening c.stage ≡ true = ap (λ (st : Stage). is_opening st) is in
-      let g = gives_on s c down past now m Connected tt on refl (record { host = refl; window = refl }) h.gives in
+      let g = gives_on s c down past now m Connected tt on refl (record { host = refl; window = refl; fin_out = refl }) h.gives in
       let r = receives_on s c up past m Connected tt refl (record { guest = refl; ended = refl; edge = refl; prompted = refl }) (h.receives known) in
       record {
-        suits = record { ring = h.suits.ring; congestion = h.suits.congestion; scales = h.suits.scales };
+        suits = record { ring = h.suits.ring; congestion = h.suits.congestion; scales = h.suits.scales; few = h.suits.few };
         buffers = buffers;
+        within = h.within;
         goes = connected_goes h.goes;
         opened = record {
           live = refl;
@@ -81,6 +83,7 @@ module _ (s : Settings) (c : Connection) (up : Upward) (down : Downward) (past :
           answered = o.answered ∙ ap (λ (st : Stage). is_synchronized st) is;
           owes = λ no opening_now none. refl;
           calls = λ no. absurd cc;
+          called = λ accepted no. let not_it = sym (ap (λ (b : Bool). not (b || has_connected past || is_closed past)) accepted) ∙ o.connects ∙ ap (λ (st : Stage). is_connects st) is in absurd cc;
           theirs = o.theirs ∙ ap (λ (b : Bool). if b then None else Some c.received.first) known;
           scale = o.scale;
           mss = λ no. o.mss known;

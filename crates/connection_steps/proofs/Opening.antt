@@ -1,5 +1,5 @@
 -- A flow is opened.
-use Rattle.std.proofs.Common.{refl, ◌≡◌, ℕ, ◌+◌, ◌-◌, ◌≤◌, List, [], ◌∷◌, Bool, true, false, Option, None, Some, min, max, unwrap_or, arith, sym, ◌∙◌, inr}
+use Rattle.std.proofs.Common.{refl, ◌≡◌, ℕ, ◌+◌, ◌-◌, ◌≤◌, ◌^◌, List, [], ◌∷◌, Bool, true, false, Option, None, Some, min, max, unwrap_or, arith, sym, ◌∙◌, inr}
 use Rattle.retransmit.specs.Resending.{IsSteady, at_rest}
 use Rattle.sock_buffers.specs.Downward.{downward}
 use Rattle.sock_buffers.specs.Upward.{empty}
@@ -24,7 +24,7 @@ steady_at_rest = record {
   range = tt;
 }
 
-module _ (s : Settings) (m ours most size : ℕ) (scales : s.scales ≡ true) where
+module _ (s : Settings) (m ours most size : ℕ) (scales : s.scales ≡ true) (few : s.ring ≤ 2 ^ 20) where
   -- the guest's SYN came, and the host is asked to connect
   module _ (syn : Tcp) (fits : most ≡ mss s (At m (Connects ours (segment_of syn)) ∷ [])) where
     connects_goes : Goes s (At m (Connects ours (segment_of syn)) ∷ []) m
@@ -41,8 +41,9 @@ module _ (s : Settings) (m ours most size : ℕ) (scales : s.scales ≡ true) wh
     pub connects_holds : HasBuffers (from_guest syn.seq ours most syn.scale s.ring s.congestion) (empty s.ring) (downward [] 0 size)
         → Holds s (from_guest syn.seq ours most syn.scale s.ring s.congestion) (empty s.ring) (downward [] 0 size) (At m (Connects ours (segment_of syn)) ∷ []) m
     connects_holds buffers = record {
-      suits = record { ring = refl; congestion = refl; scales = scales };
+      suits = record { ring = refl; congestion = refl; scales = scales; few = few };
       buffers = buffers;
+      within = omega arith;
       goes = connects_goes;
       opened = record {
         live = refl;
@@ -54,6 +55,7 @@ module _ (s : Settings) (m ours most size : ℕ) (scales : s.scales ≡ true) wh
         answered = refl;
         owes = λ is. absurd cc;
         calls = λ is. absurd cc;
+        called = λ is. absurd cc;
         theirs = refl;
         scale = refl;
         mss = λ is. fits;
@@ -74,6 +76,7 @@ module _ (s : Settings) (m ours most size : ℕ) (scales : s.scales ≡ true) wh
       gives = record {
         keeps = record { first = refl; before = refl; held = refl; ended = refl; sent = refl; acked = refl };
         fin_acked = refl;
+        fin_out = refl;
         window = refl;
         resends = opens m ours (segment_of syn);
         steady = steady_at_rest;

@@ -3,7 +3,7 @@ use Rattle.std.proofs.Common.{refl, ◌≡◌, ℕ, ◌<◌, ◌≤◌, List, []
 use Rattle.retransmit.specs.Resending.{IsSteady, Resending, is_off}
 use Rattle.sock_buffers.specs.Downward.{Downward}
 use Rattle.sock_buffers.specs.Upward.{Upward}
-use Rattle.tcp_transmit.specs.Transmission.{Transmission, is_owed_again, octets_read}
+use Rattle.tcp_transmit.specs.Transmission.{Transmission, is_owed_again, is_sent, octets_read}
 use Rattle.tcp_guest.specs.Connection.{Connection, has_gone, is_opening, shift_of}
 use Rattle.tcp_guest.specs.declared.Sendings.{Sendings}
 use Rattle.flow_laws.specs.Settings.{Settings}
@@ -50,6 +50,7 @@ opened_on s c past next same answered_is o = record {
   answered = answered_is ∙ o.answered;
   owes = o.owes;
   calls = λ is. same.accepted ∙ o.calls is;
+  called = λ is. o.called (sym same.accepted ∙ is);
   theirs = same_number past next same.theirs ∙ o.theirs;
   scale = o.scale ∙ ap shift_of (sym (same_scale past next same.theirs));
   mss = λ is. o.mss is ∙ sym (same_mss s past next same.theirs);
@@ -94,6 +95,7 @@ pub gives_on : (s : Settings) (c : Connection) (down : Downward) (past : Story) 
 gives_on s c down past now m e silent on out same g = record {
   keeps = subst (λ (h : List Down). Keeps (outward_of c.transmission down) h) (sym same.host) g.keeps;
   fin_acked = g.fin_acked;
+  fin_out = same.fin_out ∙ g.fin_out;
   window = same.window ∙ g.window;
   resends = subst (λ (b : Bool). Resends (At m e ∷ past) m (timer_of (resending_of c)) (count_of b (resending_of c)) (resending_of c).estimate.wait) (sym (same_under_way past (At m e ∷ past) same.host out))
       (quiet past m e now (timer_of (resending_of c)) (count_of (is_under_way past) (resending_of c)) (resending_of c).estimate.wait silent on g.resends);
@@ -110,6 +112,7 @@ pub gives_later : (s : Settings) (c : Connection) (down : Downward) (past : Stor
 gives_later s c down past now m on g = record {
   keeps = g.keeps;
   fin_acked = g.fin_acked;
+  fin_out = g.fin_out;
   window = g.window;
   resends = later past now m (timer_of (resending_of c)) (count_of (is_under_way past) (resending_of c)) (resending_of c).estimate.wait on g.resends;
   steady = g.steady;
@@ -123,6 +126,7 @@ pub holds_later : (s : Settings) (c : Connection) (up : Upward) (down : Downward
 holds_later s c up down past now m on h = record {
   suits = h.suits;
   buffers = h.buffers;
+  within = h.within;
   goes = goes_later s past now m on h.goes;
   opened = h.opened;
   awaits = h.awaits;
@@ -144,6 +148,7 @@ pub gives_as : (s : Settings) (c d : Connection) (down : Downward) (past : Story
 gives_as s c d down past now open_is t_is syn_is gone_is fin_is reason g = record {
   keeps = subst (λ (t : Transmission). Keeps (outward_of t down) (host past)) (sym t_is) g.keeps;
   fin_acked = fin_is ∙ g.fin_acked ∙ ap (λ (t : Transmission). nat_eq t.acked (octets_read down + 1)) (sym t_is);
+  fin_out = g.fin_out ∙ ap (λ (t : Transmission). is_sent t.end) (sym t_is);
   window = g.window ∙ ap (λ (t : Transmission). window_by t.window) (sym t_is);
   resends = subst (λ (r : Resending). Resends past now (timer_of r) (count_of (is_under_way past) r) r.estimate.wait) (sym (resending_as c d open_is t_is syn_is)) g.resends;
   steady = subst (λ (r : Resending). IsSteady r) (sym syn_is) g.steady;
@@ -195,6 +200,7 @@ opened_sending s c t past most o = record {
   answered = o.answered;
   owes = o.owes;
   calls = o.calls;
+  called = o.called;
   theirs = o.theirs;
   scale = o.scale;
   mss = λ is. most ∙ o.mss is;

@@ -4,7 +4,7 @@ use Rattle.std.proofs.lemmas.Bool.Decides.{nat_tests}
 use Rattle.sock_buffers.specs.Downward.{Downward}
 use Rattle.sock_buffers.specs.Upward.{Upward}
 use Rattle.tcp_transmit.specs.Timing.{watched_over, watched}
-use Rattle.tcp_transmit.specs.Transmission.{IsSentOf, Transmission, octets_read, places}
+use Rattle.tcp_transmit.specs.Transmission.{IsSentOf, Transmission, is_sent, octets_read, places}
 use Rattle.tcp_transmit.specs.declared.End.{End}
 use Rattle.tcp_transmit.specs.declared.End.TheVariants as our_end
 use Rattle.tcp_guest.specs.Connection.{Connection, HasBuffers, is_opening}
@@ -59,6 +59,7 @@ module _ (s : Settings) (c : Connection) (up : Upward) (down : Downward) (past :
       record {
         keeps = reads_step (outward_of c.transmission down) (host past) xs order none_ended g.keeps;
         fin_acked = g.fin_acked ∙ sym (not_all c.transmission.acked (octets_read down) (octets_read (with_octets xs)) (omega (arith, low, feeds.sound.order)) (omega (arith, length-append down.octets xs)));
+        fin_out = g.fin_out;
         window = g.window;
         resends = quiet past m (Reads xs) now (timer_of (resending_of c)) (count_of (is_under_way past) (resending_of c)) (resending_of c).estimate.wait tt on g.resends;
         steady = g.steady;
@@ -69,14 +70,15 @@ module _ (s : Settings) (c : Connection) (up : Upward) (down : Downward) (past :
       }
 
   -- octets that fit were read
-  pub reads : (xs : List ℕ) → HasBuffers (record c { transmission = watched_over c.transmission (with_octets xs) m }) up (with_octets xs)
+  pub reads : (xs : List ℕ) → length (down.octets ++ xs) ≤ s.ring → HasBuffers (record c { transmission = watched_over c.transmission (with_octets xs) m }) up (with_octets xs)
       → Holds s (record c { transmission = watched_over c.transmission (with_octets xs) m }) up (with_octets xs) (At m (Reads xs) ∷ past) m
-  reads xs buffers =
+  reads xs fits buffers =
       let o = opened_on s c past (At m (Reads xs) ∷ past) (record { ours = refl; connecting = refl; out = refl; accepted = refl; theirs = refl }) refl h.opened in
       let g = read_gives xs in
       record {
-        suits = record { ring = h.suits.ring; congestion = h.suits.congestion; scales = h.suits.scales };
+        suits = record { ring = h.suits.ring; congestion = h.suits.congestion; scales = h.suits.scales; few = h.suits.few };
         buffers = buffers;
+        within = fits;
         goes = does s past now m (Reads xs) Read h.goes on (λ none. none) refl (may_read s past m none_ended h.goes.well h.goes.open_yet) (must_read s past m h.goes.free) h.goes.open_yet refl refl;
         opened = opened_sending s c (watched_over c.transmission (with_octets xs) m) (At m (Reads xs) ∷ past) (watched_mss c.transmission down (nat_lt c.transmission.sent (places c.transmission (with_octets xs))) m) o;
         awaits = λ is. awaits_sending s c (watched_over c.transmission (with_octets xs) m) up (At m (Reads xs) ∷ past)
@@ -94,6 +96,7 @@ module _ (s : Settings) (c : Connection) (up : Upward) (down : Downward) (past :
       record {
         keeps = end_step (outward_of c.transmission down) (host past) g.keeps;
         fin_acked = g.fin_acked;
+        fin_out = g.fin_out ∙ ap is_sent (still_open c.transmission.end yet);
         window = g.window;
         resends = quiet past m ReadsEnd now (timer_of (resending_of c)) (count_of (is_under_way past) (resending_of c)) (resending_of c).estimate.wait tt on g.resends;
         steady = g.steady;
@@ -113,8 +116,9 @@ module _ (s : Settings) (c : Connection) (up : Upward) (down : Downward) (past :
       let g = ended_gives in
       let ended_c : Connection = record c { transmission = unsent_end } in
       record {
-        suits = record { ring = h.suits.ring; congestion = h.suits.congestion; scales = h.suits.scales };
+        suits = record { ring = h.suits.ring; congestion = h.suits.congestion; scales = h.suits.scales; few = h.suits.few };
         buffers = buffers;
+        within = h.within;
         goes = does s past now m ReadsEnd Read h.goes on (λ none. none) refl (may_read s past m none_ended h.goes.well h.goes.open_yet) (must_read s past m h.goes.free) h.goes.open_yet refl refl;
         opened = opened_sending s c (watched unsent_end true m) (At m ReadsEnd ∷ past) (watched_mss unsent_end down true m) o;
         awaits = λ is. awaits_sending s c (watched unsent_end true m) up (At m ReadsEnd ∷ past)

@@ -5,7 +5,7 @@ use Rattle.retransmit.specs.Resending.{IsSteady, Resending, after_start, after_s
 use Rattle.retransmit.proofs.Steady.{steady_second}
 use Rattle.sock_buffers.specs.Downward.{Downward}
 use Rattle.tcp_transmit.specs.Timing.{watched}
-use Rattle.tcp_transmit.specs.Transmission.{Transmission, is_closed, is_owed_again, octets_read}
+use Rattle.tcp_transmit.specs.Transmission.{Transmission, is_closed, is_owed_again, is_sent, octets_read}
 use Rattle.tcp_guest.specs.Connection.{Connection, has_gone, is_opening, is_synchronized}
 use Rattle.tcp_guest.specs.declared.Stage.{Stage}
 use Rattle.tcp_guest.specs.declared.Stage.TheVariants as stage
@@ -68,6 +68,13 @@ module _ (t : Transmission) (down : Downward) (unsent : Bool) (now : ℕ) where
       by true = refl
       by false = refl
 
+  pub watched_end : (watched t unsent now).end ≡ t.end
+  watched_end = by (nat_lt t.acked t.sent)
+    where
+      by : (b : Bool) → (if b then t else record t { resend = if is_closed t && unsent then after_start t.resend now else after_stop t.resend }).end ≡ t.end
+      by true = refl
+      by false = refl
+
   pub watched_acked : (watched t unsent now).acked ≡ t.acked
   watched_acked = by (nat_lt t.acked t.sent)
     where
@@ -93,6 +100,7 @@ pub gives_watched : (s : Settings) (c : Connection) (down : Downward) (past : St
 gives_watched s c down past now unsent steady under g = record {
   keeps = subst (λ o. Keeps o (host past)) (sym (watched_outward c.transmission down unsent now)) g.keeps;
   fin_acked = g.fin_acked ∙ ap (λ (a : ℕ). nat_eq a (octets_read down + 1)) (sym (watched_acked c.transmission down unsent now));
+  fin_out = g.fin_out ∙ ap is_sent (sym (watched_end c.transmission down unsent now));
   window = g.window ∙ ap window_by (sym (watched_window c.transmission down unsent now));
   resends = by_stage (is_opening c.stage) refl;
   steady = g.steady;

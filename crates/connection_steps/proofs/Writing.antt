@@ -74,12 +74,13 @@ module _ (s : Settings) (c : Connection) (up : Upward) (down : Downward) (past :
         record {
           suits = h.suits;
           buffers = buffers;
+          within = h.within;
           goes = does s past now m (Writes (take k up.held) n) (Write (take k up.held)) h.goes on (λ o. o) refl
               (may_write s past m (take k up.held) w.1 w.2 h.goes.well h.goes.open_yet) (must_write s past m (take k up.held) enough h.goes.free) h.goes.open_yet refl refl;
           opened = opened_on s c past (At m (Writes (take k up.held) n) ∷ past) (record { ours = refl; connecting = refl; out = refl; accepted = refl; theirs = refl }) refl h.opened;
           awaits = λ is. let not_it = sym is ∙ known in absurd cc;
           receives = λ is. written_receives r;
-          gives = gives_on s c down past now m (Writes (take k up.held) n) tt on refl (record { host = refl; window = refl }) h.gives;
+          gives = gives_on s c down past now m (Writes (take k up.held) n) tt on refl (record { host = refl; window = refl; fin_out = refl }) h.gives;
         }
 
   -- all was written, and the host was told the end
@@ -102,11 +103,12 @@ module _ (s : Settings) (c : Connection) (up : Upward) (down : Downward) (past :
   ends_host none ended untold buffers h =
       let r = h.receives known in
       let t = told_the_end s.ring (part_of c up) (guest past) none ended untold r.follows in
-      let g = gives_on s c down past now m EndsHost tt on refl (record { host = refl; window = refl }) h.gives in
+      let g = gives_on s c down past now m EndsHost tt on refl (record { host = refl; window = refl; fin_out = refl }) h.gives in
       let o = opened_on s c past (At m EndsHost ∷ past) (record { ours = refl; connecting = refl; out = refl; accepted = refl; theirs = refl }) refl h.opened in
       record {
-        suits = record { ring = h.suits.ring; congestion = h.suits.congestion; scales = h.suits.scales };
+        suits = record { ring = h.suits.ring; congestion = h.suits.congestion; scales = h.suits.scales; few = h.suits.few };
         buffers = buffers;
+        within = h.within;
         goes = does s past now m EndsHost EndHost h.goes on (λ o. o) refl (may_end s past m (t.1, t.2) h.goes.well h.goes.open_yet) (must_end s past m h.goes.free) h.goes.open_yet refl refl;
         opened = record {
           live = o.live;
@@ -118,6 +120,7 @@ module _ (s : Settings) (c : Connection) (up : Upward) (down : Downward) (past :
           answered = o.answered;
           owes = o.owes;
           calls = o.calls;
+          called = o.called;
           theirs = o.theirs;
           scale = o.scale;
           mss = o.mss;

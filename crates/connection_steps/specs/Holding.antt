@@ -1,10 +1,10 @@
 -- A connection and its buffers, against the story of its flow.
-use Rattle.std.specs.Prelude.{◌≡◌, ℕ, ◌+◌, ◌<◌, ◌≤◌, [], Bool, true, false, Option, None, Some, if◌then◌else◌, IsTrue, nat_eq}
+use Rattle.std.specs.Prelude.{◌≡◌, ℕ, ◌+◌, ◌<◌, ◌≤◌, ◌^◌, [], length, Bool, true, false, Option, None, Some, if◌then◌else◌, IsTrue, nat_eq}
 use Rattle.retransmit.specs.Resending.{IsSteady, is_off}
 use Rattle.sock_buffers.specs.Downward.{Downward}
 use Rattle.sock_buffers.specs.Upward.{Upward}
-use Rattle.tcp_receive.specs.Received.{received}
-use Rattle.tcp_transmit.specs.Transmission.{is_owed_again, octets_read}
+use Rattle.tcp_receive.specs.Received.{next_number, received}
+use Rattle.tcp_transmit.specs.Transmission.{is_owed_again, is_sent, octets_read}
 use Rattle.tcp_guest.specs.Connection.{Connection, HasBuffers, has_gone, is_opening, is_synchronized, shift_of}
 use Rattle.tcp_guest.specs.Windows.{our_shift, told_edge}
 use Rattle.tcp_guest.specs.declared.Stage.{Stage}
@@ -15,7 +15,7 @@ use Rattle.flow_laws.specs.Guest.{AckIsDue, Honest, was_acked}
 use Rattle.flow_laws.specs.Host.{answered}
 use Rattle.flow_laws.specs.Flow.{guest, host, is_accepted, is_closed, is_connecting, is_under_way, our_number, syn_is_out, their_number, their_syn}
 use Rattle.flow_laws.specs.Windows.{mss, right_edge, their_scale, window}
-use Rattle.flow_laws.specs.Close.{host_failed, host_was_ended}
+use Rattle.flow_laws.specs.Close.{fin_is_out, host_failed, host_was_ended}
 use Rattle.flow_laws.specs.Lawful.{IsLawful, is_prompted}
 use Rattle.flow_laws.specs.Dutiful.{IsDutiful, MustClose}
 use Rattle.flow_steps.specs.Ends.{Ends, IsCurrent}
@@ -60,6 +60,7 @@ pub record Suits (s : Settings) (c : Connection) : Type 0 where
   pub ring : c.ring ≡ s.ring
   pub congestion : c.congestion ≡ s.congestion
   pub scales : s.scales ≡ true
+  pub few : s.ring ≤ 2 ^ 20
 
 -- what was done for the flow was lawful, and as it must be; it is open, and nothing asks that the close comes next
 pub record Goes (s : Settings) (past : Story) (now : ℕ) : Type 0 where
@@ -82,6 +83,7 @@ pub record IsOpened (s : Settings) (c : Connection) (past : Story) : Type 0 wher
   pub answered : answered (host past) ≡ is_synchronized c.stage
   pub owes : is_connects c.stage ≡ false → is_opening c.stage ≡ true → has_gone c.sendings ≡ false → c.syn_owed ≡ true
   pub calls : is_calls c.stage ≡ true → is_accepted past ≡ true
+  pub called : is_accepted past ≡ true → is_calls c.stage ≡ false → has_gone c.sendings ≡ true
   pub theirs : their_number past ≡ (if is_calls c.stage then None else Some c.received.first)
   pub scale : c.scale ≡ shift_of (their_scale past)
   pub mss : is_calls c.stage ≡ false → c.transmission.mss ≡ mss s past
@@ -107,7 +109,7 @@ pub record Receives (s : Settings) (c : Connection) (up : Upward) (past : Story)
   pub once : is_accepted past ≡ true → c.ack_owed ≡ false → IsTrue (was_acked (guest past))
   pub ends : Ends past (part_of c up) c.end_acknowledged c.ours_first c.acknowledged
   pub current : IsCurrent (guest past) (taken_of c.received.first c.received.taken c.received.ended) c.acknowledged
-  pub sure : c.end_acknowledged ≡ true → c.received.ended ≡ true
+  pub sure : c.end_acknowledged ≡ true → (c.received.ended ≡ true) × (c.acknowledged ≡ next_number c.received)
   pub host_ended : host_was_ended past ≡ c.host_ended
   pub told : Honest (guest past) → right_edge s past ≡ c.told
   pub prompted : c.ack_owed ≡ true → is_prompted past ≡ true
@@ -117,6 +119,7 @@ pub record Receives (s : Settings) (c : Connection) (up : Upward) (past : Story)
 pub record Gives (s : Settings) (c : Connection) (down : Downward) (past : Story) (now : ℕ) : Type 0 where
   pub keeps : Keeps (outward_of c.transmission down) (host past)
   pub fin_acked : c.fin_acked ≡ nat_eq c.transmission.acked (octets_read down + 1)
+  pub fin_out : fin_is_out past ≡ is_sent c.transmission.end
   pub window : window s past ≡ window_by c.transmission.window
   pub resends : Resends past now (timer_of (resending_of c)) (count_of (is_under_way past) (resending_of c)) (resending_of c).estimate.wait
   pub steady : IsSteady c.syn
@@ -129,6 +132,7 @@ pub record Gives (s : Settings) (c : Connection) (down : Downward) (past : Story
 pub record Holds (s : Settings) (c : Connection) (up : Upward) (down : Downward) (past : Story) (now : ℕ) : Type 0 where
   pub suits : Suits s c
   pub buffers : HasBuffers c up down
+  pub within : length down.octets ≤ s.ring
   pub goes : Goes s past now
   pub opened : IsOpened s c past
   pub awaits : is_calls c.stage ≡ true → Awaits s c up past

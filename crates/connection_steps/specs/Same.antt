@@ -4,7 +4,7 @@ use Rattle.flow_laws.specs.Settings.{Settings}
 use Rattle.flow_laws.specs.Event.{Story}
 use Rattle.flow_laws.specs.Flow.{guest, host, is_accepted, is_connecting, our_number, syn_is_out, their_syn}
 use Rattle.flow_laws.specs.Windows.{right_edge, window}
-use Rattle.flow_laws.specs.Close.{host_was_ended}
+use Rattle.flow_laws.specs.Close.{fin_is_out, host_was_ended}
 use Rattle.flow_laws.specs.Lawful.{is_prompted}
 
 -- the beginning
@@ -26,3 +26,4 @@ pub record SameGuest (s : Settings) (past next : Story) : Type 0 where
 pub record SameHost (s : Settings) (past next : Story) : Type 0 where
   pub host : host next ≡ host past
   pub window : window s next ≡ window s past
+  pub fin_out : fin_is_out next ≡ fin_is_out past
