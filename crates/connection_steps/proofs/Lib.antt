@@ -1,7 +1,9 @@
 pub mod Going
 pub mod Asking
+pub mod Leaving
 pub mod Opening
 pub mod Quiet
 pub mod Reading
+pub mod Telling
 pub mod Watching
 pub mod Writing

@@ -1,3 +1,4 @@
 pub mod Seen
 pub mod Holding
 pub mod Same
+pub mod Sending
