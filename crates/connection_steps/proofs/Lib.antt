@@ -1,4 +1,5 @@
 pub mod Going
+pub mod Acking
 pub mod Asking
 pub mod Leaving
 pub mod Opening
