@@ -3,6 +3,7 @@ pub mod Acking
 pub mod Asking
 pub mod Leaving
 pub mod Opening
+pub mod Pieces
 pub mod Quiet
 pub mod Reading
 pub mod Telling
