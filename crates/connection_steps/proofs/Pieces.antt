@@ -2,7 +2,7 @@
 use Rattle.std.proofs.Common.{refl, ◌≡◌, ℕ, ◌+◌, ◌-◌, ◌^◌, ◌<◌, ◌≤◌, List, [], ◌∷◌, length, Bool, true, false, not, ◌&&◌, ◌||◌, Option, None, Some, if◌then◌else◌, IsTrue, nat_eq, nat_le, nat_lt, max, min, ℤ, pos, ◌+ℤ◌, int_le, arith, ap, subst, sym, ◌∙◌, drop, take, length-take, length-drop, is_some, inl, inr, ◌⊎◌}
 use Rattle.std.proofs.lemmas.Bool.Decides.{nat_tests}
 use Rattle.std.proofs.lemmas.Int.{ints}
-use Rattle.retransmit.specs.Resending.{Resending, after_sent as resend_sent, doublings, is_expired, is_off, set_unless_running}
+use Rattle.retransmit.specs.Resending.{Resending, after_sent as resend_sent, counted, doublings, is_expired, is_off, set_unless_running}
 use Rattle.retransmit.specs.declared.Timer.{Timer}
 use Rattle.retransmit.specs.declared.Timer.TheVariants as timer
 use Rattle.seq_space.specs.Places.{number_of}
@@ -24,16 +24,16 @@ use Rattle.flow_laws.specs.Settings.{Settings}
 use Rattle.flow_laws.specs.Event.{At, Departs, Segment, Story, newest_moment}
 use Rattle.flow_laws.specs.Guest.{is_empty}
 use Rattle.flow_laws.specs.Host.{acked, answered, got, got_end, our_place, sent}
-use Rattle.flow_laws.specs.Flow.{host, is_under_way, sendings}
+use Rattle.flow_laws.specs.Flow.{host, is_under_way, sendings, syn_is_out}
 use Rattle.flow_laws.specs.Close.{fin_is_out}
 use Rattle.flow_laws.specs.Lawful.{Send, SendsAgainWithReason, SendsEndAfterAll, is_overdue, is_prompted, repeats}
-use Rattle.flow_steps.specs.Resends.{HasReason, Resends}
+use Rattle.flow_steps.specs.Resends.{HasReason, Resends, Timer as FlowTimer, Until}
 use Rattle.flow_steps.specs.Sends.{Keeps, Outward}
 use Rattle.flow_steps.proofs.Gone.{first_goes, next_goes, oldest_goes, oldest_goes_anyway}
 use Rattle.flow_steps.proofs.Reasons.{oldest_may_go, reason_later}
 use Rattle.flow_steps.proofs.Sendings.{rises, sent_once}
 use Rattle.connection_steps.specs.Holding.{Gives, Holds, IsOpened, is_calls}
-use Rattle.connection_steps.specs.Seen.{count_of, outward_of, resending_of, timer_of}
+use Rattle.connection_steps.specs.Seen.{count_of, outward_of, resending_of, timer_by, timer_of}
 use Rattle.connection_steps.specs.Sending.{octets_of, segment_out}
 use Rattle.connection_steps.proofs.Acking.{opened_told}
 use Rattle.connection_steps.proofs.Leaving.{leaves_goes, leaves_kept, leaves_received, near_sent, read_is, stands}
@@ -220,3 +220,135 @@ module _ (s : Settings) (c : Connection) (up : Upward) (down : Downward) (past :
       by true is fin = (sym h.gives.keeps.ended ∙ ap not (fin_places t.end (lies.last is).1),
           rw at_place (let last = (lies.last is).0 in let all = read_is t down (host past) h.gives.keeps in omega (arith, ints, last, all, long)))
       by false is fin = absurd cc
+
+  -- ---- the timer
+
+  order : t.acked ≤ t.sent
+  order = h.buffers.feeds.sound.order
+
+  past_way : is_under_way past ≡ nat_lt t.acked t.sent
+  past_way = under_way_is s c down past h.opened h.gives.keeps opening
+
+  after_way : is_under_way after ≡ true
+  after_way =
+      let more : t.acked < max t.sent (end_of p) = lies.under_way in
+      let tested : nat_lt t.acked (max t.sent (end_of p)) ≡ true = grind (arith, nat_tests) in
+      ap (λ (b : Bool). if b then nat_lt (acked (host after)) (sent (host after)) else syn_is_out after) answered_now
+      ∙ ap (λ (a : ℕ). nat_lt a (sent (host after))) (sym kept.acked)
+      ∙ ap (λ (n : ℕ). nat_lt t.acked n) (sym kept.sent)
+      ∙ tested
+
+  tested_again : p.place < t.sent → goes_again t p ≡ true
+  tested_again less = grind (arith, nat_tests)
+
+  tested_new : t.sent ≤ p.place → goes_again t p ≡ false
+  tested_new high = grind (arith, nat_tests)
+
+  -- the timer after a sending
+  abbrev Running : Resending → Type 0
+  Running r = Resends after m (timer_of r) (count_of (is_under_way after) r) r.estimate.wait
+
+  abbrev Ran : Resending → Type 0
+  Ran r = Resends past now (timer_of r) (count_of (is_under_way past) r) r.estimate.wait
+
+  ran : Ran t.resend
+  ran = subst (λ (b : Bool). Ran (if b then c.syn else t.resend)) opening h.gives.resends
+
+  ran_under : t.acked < t.sent → Resends past now (timer_of t.resend) (doublings t.resend.timer t.resend.resent) t.resend.estimate.wait
+  ran_under under =
+      let tested : nat_lt t.acked t.sent ≡ true = grind (arith, nat_tests) in
+      subst (λ (b : Bool). Resends past now (timer_of t.resend) (count_of b t.resend) t.resend.estimate.wait) (past_way ∙ tested) ran
+
+  counts : (r : Resending) (k : ℕ) → doublings r.timer r.resent ≡ k → Resends after m (timer_of r) k r.estimate.wait → Running r
+  counts r k is running = subst (λ (b : Bool). Resends after m (timer_of r) (count_of b r) r.estimate.wait) (sym after_way) (subst (λ (j : ℕ). Resends after m (timer_of r) j r.estimate.wait) (sym is) running)
+
+  went_again : (tm : Timer) (k w : ℕ) → is_off tm ≡ false → t.acked < t.sent → p.place ≡ t.acked → Resends past now (timer_by tm w) (doublings tm k) w → Resends after m (Until (m + w)) (counted tm k) w
+  went_again timer.Off k w off under place r = absurd cc
+  went_again (timer.Since base) k w off under place r =
+      oldest_goes_anyway past seg m refl refl p.place (numbers p) at_place whole answered_now (omega (arith, place, h.gives.keeps.acked)) (omega (arith, place, some, h.gives.keeps.acked)) now (base + w) k w
+      (omega (arith, under, h.gives.keeps.acked, h.gives.keeps.sent)) (rises past h.goes.story) (omega (arith, h.goes.moment, on)) r
+  went_again (timer.Expired at) k w off under place r =
+      oldest_goes past seg m refl refl p.place (numbers p) at_place whole answered_now (omega (arith, place, h.gives.keeps.acked)) (omega (arith, place, some, h.gives.keeps.acked)) now (k + 1) w
+      (omega (arith, under, h.gives.keeps.acked, h.gives.keeps.sent)) (rises past h.goes.story) (omega (arith, h.goes.moment, on)) on r
+
+  starts_now : (tm : Timer) (w : ℕ) → (is_off tm ≡ true) ⊎ (is_expired tm ≡ true) → timer_by (set_unless_running tm m) w ≡ Until (m + w)
+  starts_now timer.Off w is = refl
+  starts_now (timer.Since base) w (inl is) = absurd cc
+  starts_now (timer.Since base) w (inr is) = absurd cc
+  starts_now (timer.Expired at) w is = refl
+
+  starts_even : (tm : Timer) (resent : ℕ) → doublings (set_unless_running tm m) resent ≡ resent
+  starts_even timer.Off resent = refl
+  starts_even (timer.Since base) resent = refl
+  starts_even (timer.Expired at) resent = refl
+
+  stays : (tm : Timer) → is_off tm ≡ false → is_expired tm ≡ false → set_unless_running tm m ≡ tm
+  stays timer.Off off run = absurd cc
+  stays (timer.Since base) off run = refl
+  stays (timer.Expired at) off run = absurd cc
+
+  not_either : (a b : Bool) → (a || b) ≡ false → a ≡ false
+  not_either true b is = absurd cc
+  not_either false b is = refl
+
+  runs_on : Kind → Running (resend_sent t.resend (goes_again t p) m)
+  runs_on (again under place within owed) =
+      subst (λ (b : Bool). Running (resend_sent t.resend b m)) (sym (tested_again (omega (arith, place, under))))
+      (counts (resend_sent t.resend true m) (counted t.resend.timer t.resend.resent) refl
+      (went_again t.resend.timer t.resend.resent t.resend.estimate.wait (h.buffers.feeds.sound.set under) under place (ran_under under)))
+  runs_on (first at place off) =
+      subst (λ (b : Bool). Running (resend_sent t.resend b m)) (sym (tested_new (omega (arith, place))))
+      (counts (resend_sent t.resend false m) 0 (starts_even t.resend.timer t.resend.resent ∙ h.buffers.feeds.sound.begins at)
+      (subst (λ (q : FlowTimer). Resends after m q 0 t.resend.estimate.wait) (sym (starts_now t.resend.timer t.resend.estimate.wait off))
+      (first_goes past seg m refl refl p.place (numbers p) at_place whole answered_now (omega (arith, place, at, h.gives.keeps.acked)) (omega (arith, place, at, some, h.gives.keeps.acked)) now (timer_of t.resend) (count_of (is_under_way past) t.resend) t.resend.estimate.wait
+      (omega (arith, at, h.gives.keeps.acked, h.gives.keeps.sent)) (rises past h.goes.story) (omega (arith, h.goes.moment, on)) ran)))
+  runs_on (further under place none) =
+      subst (λ (b : Bool). Running (resend_sent t.resend b m)) (sym (tested_new (omega (arith, place))))
+      (counts (resend_sent t.resend false m) (doublings t.resend.timer t.resend.resent) (ap (λ (tm : Timer). doublings tm t.resend.resent) still)
+      (subst (λ (tm : Timer). Resends after m (timer_by tm t.resend.estimate.wait) (doublings t.resend.timer t.resend.resent) t.resend.estimate.wait) (sym still)
+      (next_goes past seg m refl refl p.place (numbers p) at_place whole answered_now now (timer_of t.resend) (doublings t.resend.timer t.resend.resent) t.resend.estimate.wait
+      (omega (arith, place, under, h.gives.keeps.acked)) (omega (arith, place, h.gives.keeps.sent)) on (ran_under under))))
+    where
+      still : set_unless_running t.resend.timer m ≡ t.resend.timer
+      still = stays t.resend.timer (h.buffers.feeds.sound.set under) (not_either (is_expired t.resend.timer) t.early none)
+
+  -- ---- all of it
+
+  none_left : is_owed_again (after_sent t p m) ≡ true → ⊥
+  none_left owed = let not_it = sym owed ∙ by (is_expired (resend_sent t.resend (goes_again t p) m).timer) (sent_running t.resend (goes_again t p) m) in absurd cc
+    where
+      by : (b : Bool) → b ≡ false → (b || false) ≡ false
+      by b is = rw is refl
+
+  fin_now : (b : Bool) → p.fin ≡ b → ((b && not false && not false) || fin_is_out past) ≡ is_sent (if b then our_end.Sent else t.end)
+  fin_now true is = refl
+  fin_now false is = h.gives.fin_out
+
+  piece_gives : Gives s (data_gone (told c up (our_shift c)) p m) down after m
+  piece_gives =
+      let g = h.gives in
+      record {
+        keeps = kept;
+        fin_acked = g.fin_acked;
+        fin_out = fin_now p.fin refl;
+        window = g.window;
+        resends = subst (λ (b : Bool). Running (if b then c.syn else resend_sent t.resend (goes_again t p) m)) (sym opening) (runs_on kind);
+        steady = g.steady;
+        unset = g.unset;
+        set = g.set;
+        syn_again = λ yet owed gone. let not_it = sym yet ∙ opening in absurd cc;
+        again = λ owed under. absurd (none_left owed);
+      }
+
+  pub piece_goes : HasBuffers (data_gone (told c up (our_shift c)) p m) up down → Holds s (data_gone (told c up (our_shift c)) p m) up down after m
+  piece_goes buffers = record {
+    suits = record { ring = h.suits.ring; congestion = h.suits.congestion; scales = h.suits.scales; few = h.suits.few };
+    buffers = buffers;
+    within = h.within;
+    goes = leaves_goes s c up down past now m seg on h known (h.opened.sent synchronized) refl refl refl refl refl refl refl p.place refl low joins (near kind) cut (reason kind) end_after;
+    opened = opened_sending s (told c up (our_shift c)) (after_sent t p m) after refl (opened_told s c up (our_shift c) after (opened_on s c past after (record { ours = refl; connecting = refl; out = refl; accepted = refl; theirs = refl }) refl h.opened));
+    awaits = λ is. let not_it = sym is ∙ known in absurd cc;
+    receives = λ is. receives_sending s (told c up (our_shift c)) (after_sent t p m) up after
+        (leaves_received s c up down past now m seg on h known (h.opened.sent synchronized) refl refl refl refl refl refl refl p.place refl low joins (near kind) cut);
+    gives = piece_gives;
+  }
