@@ -6,6 +6,7 @@ pub mod Opening
 pub mod Pieces
 pub mod Quiet
 pub mod Reading
+pub mod Syns
 pub mod Telling
 pub mod Watching
 pub mod Writing
