@@ -1,3 +1,4 @@
+pub mod Calling
 pub mod Going
 pub mod Acking
 pub mod Asking

@@ -39,7 +39,7 @@ use Rattle.connection_steps.proofs.Quiet.{gives_as}
 use Rattle.connection_steps.proofs.Telling.{acknowledges, least_same, scaled_is, tells, tells_room, theirs}
 use Rattle.connection_steps.proofs.Watching.{opening_is, syn_under_way}
 
-gone_once : (n : Sendings) → has_gone (once_more n) ≡ true
+pub gone_once : (n : Sendings) → has_gone (once_more n) ≡ true
 gone_once Never = refl
 gone_once Once = refl
 gone_once Again = refl
