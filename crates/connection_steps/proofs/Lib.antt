@@ -9,5 +9,6 @@ pub mod Quiet
 pub mod Reading
 pub mod Syns
 pub mod Telling
+pub mod Ticking
 pub mod Watching
 pub mod Writing
