@@ -10,5 +10,6 @@ pub mod Reading
 pub mod Syns
 pub mod Telling
 pub mod Ticking
+pub mod Unheeded
 pub mod Watching
 pub mod Writing
