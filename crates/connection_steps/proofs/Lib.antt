@@ -1,4 +1,5 @@
 pub mod Calling
+pub mod Coming
 pub mod Going
 pub mod Acking
 pub mod Asking
