@@ -3,6 +3,7 @@ pub mod Coming
 pub mod Going
 pub mod Acking
 pub mod Asking
+pub mod Hearing
 pub mod Leaving
 pub mod Opening
 pub mod Pieces
