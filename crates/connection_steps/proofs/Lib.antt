@@ -1,5 +1,6 @@
 pub mod Calling
 pub mod Coming
+pub mod Confirming
 pub mod Going
 pub mod Acking
 pub mod Asking

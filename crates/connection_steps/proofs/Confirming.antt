@@ -1,0 +1,183 @@
+-- An acknowledgement that counts, against the flow's story.
+use Rattle.std.proofs.Common.{refl, ◌≡◌, ℕ, zero, suc, ◌+◌, ◌-◌, ◌*◌, ◌^◌, ◌<◌, ◌≤◌, List, [], ◌∷◌, length, drop, Bool, true, false, not, ◌&&◌, ◌||◌, Option, None, Some, is_some, if◌then◌else◌, IsTrue, min, max, nat_eq, nat_le, nat_lt, int_le, ℤ, pos, negsuc, ◌+ℤ◌, ◌-ℤ◌, ◌<ℤ◌, ◌≤ℤ◌, arith, ap, subst, sym, ◌∙◌, length-drop}
+use Rattle.std.proofs.lemmas.Bool.Decides.{nat_tests}
+use Rattle.std.proofs.lemmas.Int.{ints}
+use Rattle.retransmit.specs.Resending.{IsSteady, Resending, after_answered, after_moved, doublings, is_off}
+use Rattle.retransmit.specs.declared.Timer.{Timer}
+use Rattle.retransmit.specs.declared.Timer.TheVariants as timer
+use Rattle.retransmit.proofs.Steady.{steady_moved, steady_second}
+use Rattle.seq_space.specs.Places.{place}
+use Rattle.seq_space.specs.declared.Seq.{Seq}
+use Rattle.sock_buffers.specs.Downward.{Downward}
+use Rattle.tcp_transmit.specs.Acks.{IsSeenAs, acknowledged, congested, is_acceptable as is_accepted_ack, is_newer, octets_acked, place_acked, without}
+use Rattle.tcp_transmit.specs.Timing.{round_trip}
+use Rattle.tcp_transmit.specs.Transmission.{Feeds, Transmission, is_sent, octets_read}
+use Rattle.tcp_transmit.specs.declared.AckSeen.{AckSeen}
+use Rattle.tcp_transmit.specs.declared.AckSeen.TheVariants.{Old, Same, Forward, FinToo, TooFar}
+use Rattle.tcp_transmit.specs.declared.End.{End}
+use Rattle.tcp_transmit.specs.declared.Window.{Window}
+use Rattle.tcp_guest.specs.Hosts.{is_open}
+use Rattle.tcp_guest.specs.Segments.{is_fin_too, is_too_far, seen_of}
+use Rattle.flow_laws.specs.Settings.{Settings}
+use Rattle.flow_laws.specs.Event.{Arrives, At, Segment, Story, newest_moment}
+use Rattle.flow_laws.specs.Host.{Confirmed, Down, acked, answered, is_acceptable, not_past_sent, our_first, our_place, sent}
+use Rattle.flow_laws.specs.Flow.{confirms, host, is_under_way, syn_is_out}
+use Rattle.flow_laws.specs.Lawful.{IsLawful}
+use Rattle.flow_laws.specs.Windows.{Window as ToldWindow, is_no_older, their_window, window, window_of}
+use Rattle.flow_laws.proofs.Sides.{host_confirmed}
+use Rattle.flow_steps.specs.Resends.{Expired, Resends, Timer as FlowTimer, Until}
+use Rattle.flow_steps.specs.Sends.{Keeps, Outward}
+use Rattle.flow_steps.proofs.Edges.{next_window}
+use Rattle.flow_steps.proofs.Heard.{all_acked, answers_syn, comes_again, comes_overdue, moves_on}
+use Rattle.flow_steps.proofs.SendSteps.{confirms as confirms_step}
+use Rattle.flow_steps.proofs.Sendings.{Rises}
+use Rattle.connection_steps.specs.Seen.{count_of, outward_of, timer_by, timer_of, window_by}
+use Rattle.connection_steps.proofs.Hearing.{Stays, acked_by, heard_acked, heard_by, heard_resend, heard_stays, heard_window}
+
+-- the place of an acknowledgement, by the counts of the sending half
+place_same : (t : Transmission) (down : Downward) (past : List Down) (n : ℕ) → Keeps (outward_of t down) past → our_place past n ≡ place_acked t n
+place_same t down past n k = ap (λ (f : ℕ). place n f (sent past)) (sym k.first) ∙ ap (λ (e : ℕ). place n t.first e) (sym k.sent)
+
+-- where it is
+pub record IsAt (t : Transmission) (down : Downward) (at : ℤ) (a n : ℕ) : Type 0 where
+  pub stands : at ≡ pos a
+  pub low : t.acked ≤ a
+  pub high : a ≤ t.sent
+  pub first : min a (octets_read down) ≡ down.first + n
+
+pub is_at : (t : Transmission) (down : Downward) (at : ℤ) (seen : AckSeen) → Feeds t down → IsSeenAs t down at seen → is_accepted_ack seen ≡ true → IsAt t down at (acked_by t seen) (octets_acked seen)
+is_at t down at Old feeds is ok = absurd cc
+is_at t down at Same feeds is ok = let first = feeds.first in record { stands = is; low = omega arith; high = feeds.sound.order; first = omega (arith, first) }
+is_at t down at (Forward n) feeds is ok = let first = feeds.first in record { stands = is.1; low = omega arith; high = is.3; first = omega (arith, first, is.2) }
+is_at t down at (FinToo n) feeds is ok =
+    let first = feeds.first in
+    record { stands = is.0 ∙ ap pos (sym is.1); low = omega arith; high = omega (arith, is.1); first = omega (arith, first, is.2) }
+is_at t down at TooFar feeds is ok = absurd cc
+
+int_yes : (a b : ℕ) → a ≤ b → int_le (pos a) (pos b) ≡ true
+int_yes a b is = grind (arith, nat_tests)
+
+int_under : (z : ℤ) (a : ℕ) → z <ℤ pos a → int_le (pos a) z ≡ false
+int_under (pos n) a is = let low : n < a = omega (arith, ints, is) in grind (arith, nat_tests)
+int_under (negsuc n) a is = refl
+
+int_over : (z : ℤ) (a : ℕ) → pos a <ℤ z → int_le z (pos a) ≡ false
+int_over (pos n) a is = let high : a < n = omega (arith, ints, is) in grind (arith, nat_tests)
+int_over (negsuc n) a is = absurd (omega (arith, ints, is))
+
+int_within : (z : ℤ) (a b : ℕ) → z <ℤ pos a → a ≤ b → int_le z (pos b) ≡ true
+int_within (pos n) a b is low = let less : n < a = omega (arith, ints, is) in grind (arith, nat_tests)
+int_within (negsuc n) a b is low = refl
+
+-- an old one doesn't count, and one of what was never sent isn't heeded
+pub old_is : (t : Transmission) (down : Downward) (past : List Down) (n : ℕ) → Keeps (outward_of t down) past → t.acked ≤ t.sent → place_acked t n <ℤ pos t.acked
+    → (is_acceptable past n ≡ false) × (not_past_sent past n ≡ true)
+old_is t down past n k order is =
+    let same = place_same t down past n k in
+    (rw (same, ← k.acked, int_under (place_acked t n) t.acked is) refl,
+     ap (λ (z : ℤ). int_le z (pos (sent past))) same ∙ int_within (place_acked t n) t.acked (sent past) is (omega (arith, order, k.sent)))
+
+pub far_is : (t : Transmission) (down : Downward) (past : List Down) (n : ℕ) → Keeps (outward_of t down) past → pos t.sent <ℤ place_acked t n → not_past_sent past n ≡ false
+far_is t down past n k is =
+    let same = place_same t down past n k in
+    ap (λ (z : ℤ). int_le z (pos (sent past))) same ∙ ap (λ (e : ℕ). int_le (place_acked t n) (pos e)) (sym k.sent) ∙ int_over (place_acked t n) t.sent is
+
+-- what is read stays
+pub read_stays : (down : Downward) (n : ℕ) → n ≤ length down.octets → octets_read (without n down) ≡ octets_read down
+read_stays down n few = let long = length-drop n down.octets in omega (arith, long)
+
+fin_same : (t : Transmission) (down : Downward) (seen : AckSeen) (at : ℤ) (b : Bool) → IsSeenAs t down at seen → is_accepted_ack seen ≡ true → b ≡ nat_eq t.acked (octets_read down + 1)
+    → (b || is_fin_too seen) ≡ nat_eq (acked_by t seen) (octets_read down + 1)
+fin_same t down Old at b is ok same = absurd cc
+fin_same t down Same at b is ok same = or_false b ∙ same
+  where
+    or_false : (b : Bool) → (b || false) ≡ b
+    or_false true = refl
+    or_false false = refl
+fin_same t down (Forward n) at b is ok same =
+    let one : nat_eq t.acked (octets_read down + 1) ≡ false = grind (arith, nat_tests, is.0, is.2) in
+    let two : nat_eq (t.acked + n) (octets_read down + 1) ≡ false = grind (arith, nat_tests, is.2) in
+    ap (λ (d : Bool). d || false) (same ∙ one) ∙ sym two
+fin_same t down (FinToo n) at b is ok same =
+    let two : nat_eq (t.acked + n + 1) (octets_read down + 1) ≡ true = grind (arith, nat_tests, is.2) in
+    or_true b ∙ sym two
+  where
+    or_true : (b : Bool) → (b || true) ≡ true
+    or_true true = refl
+    or_true false = refl
+fin_same t down TooFar at b is ok same = absurd cc
+
+module _ (s : Settings) (past : Story) (now m : ℕ) (seg : Segment) (t : Transmission) (down : Downward) (seq : Seq) (w : ℕ) (bare : Bool) (seen : AckSeen) (feeds : Feeds t down)
+    (k : Keeps (outward_of t down) (host past)) (it : confirms past seg ≡ true) (seen_is : IsSeenAs t down (place_acked t seg.acknowledgement) seen) (ok : is_accepted_ack seen ≡ true) where
+  abbrev after : Story
+  after = At m (Arrives seg) ∷ past
+
+  abbrev a : ℕ
+  a = acked_by t seen
+
+  abbrev n : ℕ
+  n = octets_acked seen
+
+  abbrev u : Transmission
+  u = heard_by t seq w bare m seen
+
+  at_a : IsAt t down (place_acked t seg.acknowledgement) a n
+  at_a = is_at t down (place_acked t seg.acknowledgement) seen feeds seen_is ok
+
+  pub at_place : our_place (host past) seg.acknowledgement ≡ pos a
+  at_place = place_same t down (host past) seg.acknowledgement k ∙ at_a.stands
+
+  pub not_past : not_past_sent (host past) seg.acknowledgement ≡ true
+  not_past = rw at_place (int_yes a (sent (host past)) (omega (arith, at_a.high, k.sent)))
+
+  pub acceptable : is_acceptable (host past) seg.acknowledgement ≡ true
+  acceptable = rw (at_place, int_yes (acked (host past)) a (omega (arith, at_a.low, k.acked)), int_yes a (sent (host past)) (omega (arith, at_a.high, k.sent))) refl
+
+  pub few : n ≤ length down.octets
+  few = let first = at_a.first in omega (arith, first)
+
+  pub heard_keeps : Keeps (outward_of u (without n down)) (host after)
+  heard_keeps =
+      subst (λ (h : List Down). Keeps (outward_of u (without n down)) h) (sym (host_confirmed m past seg it))
+      (subst (λ (o : Outward). Keeps o (Confirmed seg.acknowledgement ∷ host past)) same
+      (confirms_step (outward_of t down) (host past) seg.acknowledgement a at_place not_past at_a.low k))
+    where
+      stays : Stays t u
+      stays = heard_stays t seq w bare m seen
+
+      same : record (outward_of t down) { before = min a (octets_read down); held = drop (min a (octets_read down) - down.first) down.octets; acked = a } ≡ outward_of u (without n down)
+      same = ap (λ (b : ℕ). record (outward_of t down) { before = b; held = drop (b - down.first) down.octets; acked = a }) at_a.first
+          ∙ ap (λ (j : ℕ). record (outward_of t down) { before = down.first + n; held = drop j down.octets; acked = a }) (let less : down.first + n - down.first ≡ n = omega arith in less)
+          ∙ ap (λ (f : ℕ). record (outward_of t down) { first = f; before = down.first + n; held = drop n down.octets; acked = a }) (sym stays.first)
+          ∙ ap (λ (e : End). record (outward_of t down) { first = u.first; before = down.first + n; held = drop n down.octets; ended = not (is_open e); acked = a }) (sym stays.end)
+          ∙ ap (λ (e : ℕ). record (outward_of t down) { first = u.first; before = down.first + n; held = drop n down.octets; ended = not (is_open u.end); sent = e; acked = a }) (sym stays.sent)
+          ∙ ap (λ (e : ℕ). record (outward_of t down) { first = u.first; before = down.first + n; held = drop n down.octets; ended = not (is_open u.end); sent = u.sent; acked = e }) (sym (heard_acked t seq w bare m seen))
+
+  pub heard_fin : (b : Bool) → b ≡ nat_eq t.acked (octets_read down + 1) → (b || is_fin_too seen) ≡ nat_eq u.acked (octets_read (without n down) + 1)
+  heard_fin b is =
+      fin_same t down seen (place_acked t seg.acknowledgement) b seen_is ok is
+      ∙ ap (λ (x : ℕ). nat_eq x (octets_read down + 1)) (sym (heard_acked t seq w bare m seen))
+      ∙ ap (λ (x : ℕ). nat_eq u.acked (x + 1)) (sym (read_stays down n few))
+
+  -- the window
+  newer_same : (o : Option Window) (number_ : ℕ) → seq.0 ≡ seg.number → is_newer o seq.0 a ≡ is_no_older seg a (window_by o)
+  newer_same None number_ is = refl
+  newer_same (Some v) number_ is = rw is refl
+
+  pub heard_told : window s past ≡ window_by t.window → seq.0 ≡ seg.number → w ≡ their_window s past seg → window s after ≡ window_by u.window
+  heard_told before number_is w_is =
+      next_window s past m a seg (window_by t.window) it acceptable acked_now before
+      ∙ by (is_newer t.window seq.0 a) (is_no_older seg a (window_by t.window)) (newer_same t.window 0 number_is)
+      ∙ ap window_by (sym (heard_window t seq w bare m seen))
+    where
+      acked_now : acked (host after) ≡ a
+      acked_now = sym heard_keeps.acked ∙ heard_acked t seq w bare m seen
+
+      told_same : window_of s past seg a ≡ record { edge = a + w; number = seq.0; place = a }
+      told_same = ap (λ (x : ℕ). record { edge = a + x; number = seg.number; place = a }) (sym w_is) ∙ ap (λ (x : ℕ). record { edge = a + w; number = x; place = a }) (sym number_is)
+
+      by : (b d : Bool) → b ≡ d → (if d then Some (window_of s past seg a) else window_by t.window) ≡ window_by (if b then Some (record { edge = a + w; seq = seq; ack = a }) else t.window)
+      by true true is = ap (λ (v : ToldWindow). Some v) told_same
+      by false false is = refl
+      by true false is = absurd cc
+      by false true is = absurd cc
