@@ -32,7 +32,7 @@ use Rattle.flow_steps.proofs.Heard.{all_acked, answers_syn, comes_again, comes_o
 use Rattle.flow_steps.proofs.SendSteps.{confirms as confirms_step}
 use Rattle.flow_steps.proofs.Sendings.{Rises}
 use Rattle.connection_steps.specs.Seen.{count_of, outward_of, timer_by, timer_of, window_by}
-use Rattle.connection_steps.proofs.Hearing.{Stays, acked_by, heard_acked, heard_by, heard_resend, heard_stays, heard_window}
+use Rattle.connection_steps.proofs.Hearing.{Stays, congested_stays, acked_by, heard_acked, heard_by, heard_resend, heard_stays, heard_window}
 
 -- the place of an acknowledgement, by the counts of the sending half
 place_same : (t : Transmission) (down : Downward) (past : List Down) (n : ℕ) → Keeps (outward_of t down) past → our_place past n ≡ place_acked t n
@@ -181,3 +181,159 @@ module _ (s : Settings) (past : Story) (now m : ℕ) (seg : Segment) (t : Transm
       by false false is = refl
       by true false is = absurd cc
       by false true is = absurd cc
+
+-- ---- the timer
+
+-- the timer after an acknowledgement that moved
+record Moved (t : Transmission) (a m : ℕ) (r : Resending) : Type 0 where
+  measured : Option ℕ
+  is : r ≡ after_moved t.resend measured (nat_lt a t.sent) m
+
+moved_to : (t : Transmission) (w : ℕ) (bare : Bool) (seen : AckSeen) (place_ m : ℕ) → Moved t place_ m (after_moved (congested t w bare seen).resend (round_trip (congested t w bare seen).timed place_ m) (nat_lt place_ (congested t w bare seen).sent) m)
+moved_to t w bare seen place_ m =
+    let c = congested_stays t w bare seen in
+    record {
+      measured = round_trip (congested t w bare seen).timed place_ m;
+      is = ap (λ (r : Resending). after_moved r (round_trip (congested t w bare seen).timed place_ m) (nat_lt place_ (congested t w bare seen).sent) m) c.3
+          ∙ ap (λ (e : ℕ). after_moved t.resend (round_trip (congested t w bare seen).timed place_ m) (nat_lt place_ e) m) c.0.sent;
+    }
+
+moved_by : (t : Transmission) (w : ℕ) (bare : Bool) (k place_ m : ℕ) (seen : AckSeen) → (congested t w bare seen).acked + k ≡ place_
+    → Moved t place_ m (after_moved (congested t w bare seen).resend (round_trip (congested t w bare seen).timed ((congested t w bare seen).acked + k) m) (nat_lt ((congested t w bare seen).acked + k) (congested t w bare seen).sent) m)
+moved_by t w bare k place_ m seen is =
+    subst (λ (p : ℕ). Moved t place_ m (after_moved (congested t w bare seen).resend (round_trip (congested t w bare seen).timed p m) (nat_lt p (congested t w bare seen).sent) m)) (sym is) (moved_to t w bare seen place_ m)
+
+module _ (s : Settings) (past : Story) (now m : ℕ) (seg : Segment) (t : Transmission) (down : Downward) (seq : Seq) (w : ℕ) (bare : Bool) (seen : AckSeen) (feeds : Feeds t down)
+    (k : Keeps (outward_of t down) (host past)) (it : confirms past seg ≡ true) (seen_is : IsSeenAs t down (place_acked t seg.acknowledgement) seen) (ok : is_accepted_ack seen ≡ true)
+    (on : now ≤ m) (late : m ≤ 2 ^ 62) where
+  abbrev later_on : Story
+  later_on = At m (Arrives seg) ∷ past
+
+  fits : is_acceptable (host past) seg.acknowledgement ≡ true
+  fits = acceptable s past now m seg t down seq w bare seen feeds k it seen_is ok
+
+  stands_at : our_place (host past) seg.acknowledgement ≡ pos (acked_by t seen)
+  stands_at = at_place s past now m seg t down seq w bare seen feeds k it seen_is ok
+
+  at_it : IsAt t down (place_acked t seg.acknowledgement) (acked_by t seen) (octets_acked seen)
+  at_it = is_at t down (place_acked t seg.acknowledgement) seen feeds seen_is ok
+
+  pub answered_now : answered (host later_on) ≡ true
+  answered_now = ap (λ (h : List Down). answered h) (host_confirmed m past seg it) ∙ by (is_acceptable (host past) seg.acknowledgement) fits
+    where
+      by : (b : Bool) → b ≡ true → (b || answered (host past)) ≡ true
+      by b is = rw is refl
+
+  way_now : is_under_way later_on ≡ nat_lt (acked_by t seen) t.sent
+  way_now =
+      let kept = heard_keeps s past now m seg t down seq w bare seen feeds k it seen_is ok in
+      ap (λ (b : Bool). if b then nat_lt (acked (host later_on)) (sent (host later_on)) else syn_is_out later_on) answered_now
+      ∙ ap (λ (x : ℕ). nat_lt x (sent (host later_on))) (sym kept.acked ∙ heard_acked t seq w bare m seen)
+      ∙ ap (λ (x : ℕ). nat_lt (acked_by t seen) x) (sym kept.sent ∙ (heard_stays t seq w bare m seen).sent)
+
+  abbrev Running : Resending → Type 0
+  Running r = Resends later_on m (timer_of r) (count_of (is_under_way later_on) r) r.estimate.wait
+
+  by_way : (r : Resending) (b : Bool) → nat_lt (acked_by t seen) t.sent ≡ b → Resends later_on m (timer_of r) (count_of b r) r.estimate.wait → Running r
+  by_way r b is run = subst (λ (d : Bool). Resends later_on m (timer_of r) (count_of d r) r.estimate.wait) (sym (way_now ∙ is)) run
+
+  module _ (ans : answered (host past) ≡ true) (lawful : IsLawful s past) (rising : Rises past) (newest : newest_moment past ≤ m)
+      (ran : Resends past now (timer_of t.resend) (count_of (nat_lt t.acked t.sent) t.resend) t.resend.estimate.wait) where
+    moved_runs : (r : Resending) → Moved t (acked_by t seen) m r → t.acked < acked_by t seen → Running r
+    moved_runs r moved more = by (nat_lt (acked_by t seen) t.sent) refl
+      where
+        steady_r : IsSteady r
+        steady_r = subst (λ (q : Resending). IsSteady q) (sym moved.is) (steady_moved t.resend moved.measured (nat_lt (acked_by t seen) t.sent) m late feeds.sound.steady)
+
+        timer_is : (b : Bool) → nat_lt (acked_by t seen) t.sent ≡ b → r ≡ after_moved t.resend moved.measured b m
+        timer_is b is = moved.is ∙ ap (λ (d : Bool). after_moved t.resend moved.measured d m) is
+
+        by : (b : Bool) → nat_lt (acked_by t seen) t.sent ≡ b → Running r
+        by true less =
+            let low : acked_by t seen < t.sent = grind (arith, nat_tests) in
+            let run : Resends later_on m (Until (m + r.estimate.wait)) 0 r.estimate.wait =
+            moves_on past seg m it fits (acked_by t seen) stands_at s r.estimate.wait lawful rising newest (omega (arith, more, k.acked)) (omega (arith, low, k.sent)) (steady_second r steady_r) steady_r.longest in
+            by_way r true less
+            (subst (λ (q : FlowTimer). Resends later_on m q (doublings r.timer r.resent) r.estimate.wait) (sym (ap (λ (q : Resending). timer_by q.timer r.estimate.wait) (timer_is true less)))
+            (subst (λ (j : ℕ). Resends later_on m (Until (m + r.estimate.wait)) j r.estimate.wait) (sym (ap (λ (q : Resending). doublings q.timer q.resent) (timer_is true less))) run))
+        by false all =
+            let end : acked_by t seen ≡ sent (host past) = let high = at_it.high in let tested : t.sent ≤ acked_by t seen = grind (arith, nat_tests) in omega (arith, high, tested, k.sent) in
+            by_way r false all (all_acked past seg m it fits (acked_by t seen) stands_at r.estimate.wait (timer_of r) end (steady_second r steady_r) steady_r.longest)
+
+    answered_timer : (tm : Timer) (resent wait : ℕ) → is_off tm ≡ false → t.acked < t.sent → acked_by t seen ≡ t.acked → Resends past now (timer_by tm wait) (doublings tm resent) wait
+        → Resends later_on m (timer_by tm wait) (doublings tm 0) wait
+    answered_timer timer.Off resent wait off under same r = absurd cc
+    answered_timer (timer.Since base) resent wait off under same r =
+        comes_again past seg m it fits (acked_by t seen) stands_at ans (omega (arith, same, k.acked)) now (Until (base + wait)) resent wait on r
+    answered_timer (timer.Expired at) resent wait off under same r =
+        let way : is_under_way past ≡ true = ap (λ (b : Bool). if b then nat_lt (acked (host past)) (sent (host past)) else syn_is_out past) ans ∙ less in
+        let one : Resends past now Expired (suc resent) wait = subst (λ (j : ℕ). Resends past now Expired j wait) (omega arith) r in
+        subst (λ (j : ℕ). Resends later_on m Expired j wait) (omega arith)
+        (comes_overdue past seg m it fits (acked_by t seen) stands_at ans (omega (arith, same, k.acked)) now resent wait on way one)
+      where
+        less : nat_lt (acked (host past)) (sent (host past)) ≡ true
+        less = let low : acked (host past) < sent (host past) = omega (arith, under, k.acked, k.sent) in grind (arith, nat_tests)
+
+    same_runs : acked_by t seen ≡ t.acked → Running (after_answered t.resend)
+    same_runs same = by (nat_lt (acked_by t seen) t.sent) refl
+      where
+        low : 1000 ≤ t.resend.estimate.wait
+        low = steady_second t.resend feeds.sound.steady
+
+        by : (b : Bool) → nat_lt (acked_by t seen) t.sent ≡ b → Running (after_answered t.resend)
+        by true less =
+            let under : t.acked < t.sent = let tested : acked_by t seen < t.sent = grind (arith, nat_tests) in omega (arith, same, tested) in
+            let tested : nat_lt t.acked t.sent ≡ true = grind (arith, nat_tests) in
+            by_way (after_answered t.resend) true less
+            (answered_timer t.resend.timer t.resend.resent t.resend.estimate.wait (feeds.sound.set under) under same
+            (subst (λ (b : Bool). Resends past now (timer_of t.resend) (count_of b t.resend) t.resend.estimate.wait) tested ran))
+        by false all =
+            let end : acked_by t seen ≡ sent (host past) = let high = at_it.high in let tested : t.sent ≤ acked_by t seen = grind (arith, nat_tests) in omega (arith, high, tested, k.sent) in
+            by_way (after_answered t.resend) false all (all_acked past seg m it fits (acked_by t seen) stands_at t.resend.estimate.wait (timer_of (after_answered t.resend)) end low feeds.sound.steady.longest)
+
+    pub heard_runs : Running (heard_by t seq w bare m seen).resend
+    heard_runs = subst (λ (r : Resending). Running r) (sym (heard_resend t seq w bare m seen)) (by seen seen_is ok refl)
+      where
+        fin_moved : (j : ℕ) → seen ≡ FinToo j → Moved t (acked_by t seen) m (acknowledged (congested t w bare (FinToo j)) (FinToo j) m).resend
+        fin_moved j same =
+            let at_end : (congested t w bare (FinToo j)).acked + j + 1 ≡ acked_by t seen = ap (λ (x : ℕ). x + j + 1) (congested_stays t w bare (FinToo j)).1 ∙ ap (λ (q : AckSeen). acked_by t q) (sym same) in
+            subst (λ (p : ℕ). Moved t (acked_by t seen) m (after_moved (congested t w bare (FinToo j)).resend (round_trip (congested t w bare (FinToo j)).timed p m) (nat_lt p (congested t w bare (FinToo j)).sent) m)) (sym at_end)
+            (moved_to t w bare (FinToo j) (acked_by t seen) m)
+
+        by : (q : AckSeen) → IsSeenAs t down (place_acked t seg.acknowledgement) q → is_accepted_ack q ≡ true → seen ≡ q → Running (acknowledged (congested t w bare seen) seen m).resend
+        by Old is yes_ same = absurd cc
+        by Same is yes_ same =
+            subst (λ (q : AckSeen). Running (acknowledged (congested t w bare q) q m).resend) (sym same)
+            (subst (λ (r : Resending). Running (after_answered r)) (sym (congested_stays t w bare Same).3) (same_runs (ap (λ (q : AckSeen). acked_by t q) same)))
+        by (Forward j) is yes_ same =
+            let moved : Moved t (acked_by t seen) m (acknowledged (congested t w bare (Forward j)) (Forward j) m).resend =
+            moved_by t w bare j (acked_by t seen) m (Forward j) (ap (λ (x : ℕ). x + j) (congested_stays t w bare (Forward j)).1 ∙ ap (λ (q : AckSeen). acked_by t q) (sym same)) in
+            let more : t.acked < acked_by t seen = let is_a = ap (λ (q : AckSeen). acked_by t q) same in omega (arith, is_a, is.0) in
+            subst (λ (q : AckSeen). Running (acknowledged (congested t w bare q) q m).resend) (sym same) (moved_runs (acknowledged (congested t w bare (Forward j)) (Forward j) m).resend moved more)
+        by (FinToo j) is yes_ same =
+            let moved : Moved t (acked_by t seen) m (acknowledged (congested t w bare (FinToo j)) (FinToo j) m).resend =
+            fin_moved j same in
+            let more : t.acked < acked_by t seen = let is_a = ap (λ (q : AckSeen). acked_by t q) same in omega (arith, is_a) in
+            subst (λ (q : AckSeen). Running (acknowledged (congested t w bare q) q m).resend) (sym same) (moved_runs (acknowledged (congested t w bare (FinToo j)) (FinToo j) m).resend moved more)
+        by TooFar is yes_ same = absurd cc
+
+  -- our SYN is acknowledged
+  pub syn_heard_runs : t.sent ≡ 0 → Running (heard_by t seq w bare m seen).resend
+  syn_heard_runs none = by_way (heard_by t seq w bare m seen).resend false (let nothing : nat_lt (acked_by t seen) t.sent ≡ false = grind (arith, nat_tests, none) in nothing)
+      (answers_syn past seg m it fits (heard_by t seq w bare m seen).resend.estimate.wait (timer_of (heard_by t seq w bare m seen).resend) (omega (arith, none, k.sent)) wait_low wait_high)
+    where
+      by : (q : AckSeen) → IsSeenAs t down (place_acked t seg.acknowledgement) q → is_accepted_ack q ≡ true → (acknowledged (congested t w bare q) q m).resend ≡ after_answered t.resend
+      by Old is yes_ = absurd cc
+      by Same is yes_ = ap after_answered (congested_stays t w bare Same).3
+      by (Forward j) is yes_ = absurd (omega (arith, is.0, is.3, none))
+      by (FinToo j) is yes_ = absurd (omega (arith, is.1, none))
+      by TooFar is yes_ = absurd cc
+
+      still : (heard_by t seq w bare m seen).resend ≡ after_answered t.resend
+      still = heard_resend t seq w bare m seen ∙ by seen seen_is ok
+
+      wait_low : 1000 ≤ (heard_by t seq w bare m seen).resend.estimate.wait
+      wait_low = subst (λ (r : Resending). 1000 ≤ r.estimate.wait) (sym still) (steady_second t.resend feeds.sound.steady)
+
+      wait_high : (heard_by t seq w bare m seen).resend.estimate.wait ≤ 60000
+      wait_high = subst (λ (r : Resending). r.estimate.wait ≤ 60000) (sym still) feeds.sound.steady.longest

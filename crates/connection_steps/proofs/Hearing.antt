@@ -104,7 +104,7 @@ windowed_stays t seq w = by (is_newer t.window seq.0 t.acked)
     by true = (record { first = refl; mss = refl; sent = refl; end = refl }, refl, refl, refl)
     by false = (record { first = refl; mss = refl; sent = refl; end = refl }, refl, refl, refl)
 
-congested_stays : (t : Transmission) (w : ℕ) (bare : Bool) (seen : AckSeen)
+pub congested_stays : (t : Transmission) (w : ℕ) (bare : Bool) (seen : AckSeen)
     → Stays t (congested t w bare seen) × ((congested t w bare seen).acked ≡ t.acked) × ((congested t w bare seen).window ≡ t.window) × ((congested t w bare seen).resend ≡ t.resend)
     × ((congested t w bare seen).timed ≡ t.timed)
 congested_stays t w bare seen = by t.cwnd
