@@ -11,6 +11,7 @@ pub mod Pieces
 pub mod Quiet
 pub mod Reading
 pub mod Syns
+pub mod Taking
 pub mod Telling
 pub mod Ticking
 pub mod Unheeded
