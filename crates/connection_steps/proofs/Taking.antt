@@ -2,7 +2,7 @@
 use Rattle.std.proofs.Common.{refl, ◌≡◌, ℕ, zero, suc, ◌+◌, ◌-◌, ◌^◌, ◌<◌, ◌≤◌, List, [], ◌∷◌, ◌++◌, length, Bool, true, false, not, ◌&&◌, ◌||◌, Option, None, Some, is_some, if◌then◌else◌, IsTrue, ◌↔◌, min, nat_eq, nat_le, nat_lt, ℤ, pos, negsuc, ◌+ℤ◌, ◌<ℤ◌, arith, ap, subst, sym, ◌∙◌, inl, inr, ◌⊎◌, slice_get}
 use Rattle.std.proofs.lemmas.Bool.Decides.{nat_tests}
 use Rattle.retransmit.specs.Resending.{Resending}
-use Rattle.seq_space.specs.Places.{number_of, place}
+use Rattle.seq_space.specs.Places.{number_of, place, shifted_place}
 use Rattle.sock_buffers.specs.Kept.{Octets, octet_at}
 use Rattle.sock_buffers.specs.Upward.{Upward, room_of}
 use Rattle.tcp_receive.specs.Coming.{Comes}
@@ -139,3 +139,75 @@ module _ (s : Settings) (c : Connection) (up : Upward) (past : Story) (m : ℕ) 
     due_now none due =
         came_due (guest past) (taken_of c.received.first c.received.taken c.received.ended) tcp.seq tcp.body (is_fin tcp) true c.ack_owed owed fits r.follows.first r.ends.low r.follows.acknowledged
         (λ so. ((quiet so).0, λ yet. ((quiet so).1, (quiet so).2, (quiet so).3))) r.due none (subst (λ (g : List Up). AckIsDue g) same due)
+
+    ends_now : Ends after q c.end_acknowledged c.ours_first c.acknowledged
+    ends_now =
+        heeds past (part_of c up) q c.end_acknowledged c.ours_first c.acknowledged m seg ys took
+        (guest_came m past seg open_yet (ap (λ (o : Option ℕ). is_some o) known) plain) r.follows.first refl taken_is refl fits few r.ends
+        counts_all
+        (brings c.received tcp.seq tcp.body up comes)
+        (keeps_now c.received tcp.seq tcp.body up comes now_received taken_is fills_now)
+        (λ over. ap length (none_after over))
+        (λ yet. let low : ackd (guest past) ≤ (if c.received.ended then c.received.taken + 1 else c.received.taken) = r.follows.acknowledged in
+            subst (λ (b : Bool). ackd (guest past) ≤ (if b then c.received.taken + 1 else c.received.taken)) yet low)
+        took_is.0
+      where
+        all_four : (a b d e : Bool) → (a && b) ≡ true → d ≡ true → e ≡ false → (a && b && d && not e) ≡ true
+        all_four true true true false one two three = refl
+        all_four true true true true one two three = absurd cc
+        all_four true true false e one two three = absurd cc
+        all_four true false d e one two three = absurd cc
+        all_four false b d e one two three = absurd cc
+
+        counts_all : (not seg.syn && not seg.rst && is_some (their_number past) && not (is_closed past)) ≡ true
+        counts_all = all_four (not seg.syn) (not seg.rst) (is_some (their_number past)) (is_closed past) counts (ap (λ (o : Option ℕ). is_some o) known) open_yet
+
+  current_now : IsCurrent (guest after) (taken_of c.received.first now_received.taken now_received.ended) c.acknowledged
+  current_now = subst (λ (g : List Up). IsCurrent g (taken_of c.received.first now_received.taken now_received.ended) c.acknowledged) (sym same)
+      (came_current (guest past) (taken_of c.received.first c.received.taken c.received.ended) (taken_of c.received.first now_received.taken now_received.ended) c.acknowledged tcp.seq tcp.body (is_fin tcp) true refl
+      (something (is_fin tcp) (is_empty tcp.body) refl refl) r.current)
+    where
+      empty_long : (xs : List ℕ) → is_empty xs ≡ true → length xs ≡ 0
+      empty_long [] is = refl
+      empty_long (x ∷ xs) is = absurd cc
+
+      unended : is_fin tcp ≡ false → (c.received.ended || took) ≡ c.received.ended
+      unended none = or_off c.received.ended took (by (is_fin tcp) (not c.received.ended) (nat_eq (shifted_place tcp.seq c.received.first c.received.taken + length tcp.body) (c.received.taken + count_taken c.received tcp.seq tcp.body up + 2 ^ 31)) none)
+        where
+          by : (a b d : Bool) → a ≡ false → (a && b && d) ≡ false
+          by a b d is = rw is refl
+
+      something : (a b : Bool) → is_fin tcp ≡ a → is_empty tcp.body ≡ b → (places_of (taken_of c.received.first now_received.taken now_received.ended) ≡ places_of (taken_of c.received.first c.received.taken c.received.ended)) ⊎ IsTrue (true && (a || not b))
+      something true b fin_is empty_is = inr refl
+      something false false fin_is empty_is = inr refl
+      something false true fin_is empty_is =
+          let count : now_received.taken ≡ c.received.taken = taken_is ∙ ap (λ (k : ℕ). c.received.taken + k) (no_more (empty_long tcp.body empty_is)) ∙ omega arith in
+          inl (ap (λ (k : ℕ). if now_received.ended then k + 1 else k) count ∙ ap (λ (b : Bool). if b then c.received.taken + 1 else c.received.taken) (unended fin_is))
+
+  sure_now : c.end_acknowledged ≡ true → (now_received.ended ≡ true) × (c.acknowledged ≡ next_number now_received)
+  sure_now is =
+      let two = r.sure is in
+      let count : now_received.taken ≡ c.received.taken = taken_is ∙ ap (λ (zs : List ℕ). c.received.taken + length zs) (none_after two.0) ∙ omega arith in
+      let over : now_received.ended ≡ c.received.ended = by c.received.ended two.0 in
+      (over ∙ two.0, two.1 ∙ ap (λ (b : Bool). number_of c.received.first (if b then c.received.taken + 1 else c.received.taken)) (sym over)
+      ∙ ap (λ (k : ℕ). number_of c.received.first (if now_received.ended then k + 1 else k)) (sym count))
+    where
+      by : (b : Bool) → b ≡ true → (b || took) ≡ b
+      by true so = refl
+      by false so = absurd cc
+
+  -- the guest's stream after it
+  pub taken_receives : (st : Stage) (tr : Transmission) (sy : Resending) (so owed fa : Bool) → (owed ≡ false → (c.ack_owed || is_to_acknowledge c.received tcp.seq tcp.body (is_fin tcp)) ≡ false)
+      → Receives s (record c { stage = st; received = now_received; transmission = tr; syn = sy; syn_owed = so; ack_owed = owed; fin_acked = fa }) later after
+  taken_receives st tr sy so owed fa only = record {
+    follows = follows_now owed only;
+    due = due_now owed only;
+    once = λ is none. subst (λ (g : List Up). IsTrue (was_acked g)) (sym same) (r.once is (quiet owed only none).0);
+    ends = ends_now owed only;
+    current = current_now;
+    sure = sure_now;
+    host_ended = r.host_ended;
+    told = λ honest. r.told (earlier (Came seg.number seg.octets seg.fin true) (guest past) (subst (λ (g : List Up). Honest g) same honest));
+    prompted = λ is. refl;
+    updated = λ none yes_. absurd cc;
+  }
