@@ -5,7 +5,7 @@ use Rattle.std.proofs.lemmas.Int.{ints}
 use Rattle.retransmit.specs.Resending.{IsSteady, Resending, after_answered, after_moved, doublings, is_off}
 use Rattle.retransmit.specs.declared.Timer.{Timer}
 use Rattle.retransmit.specs.declared.Timer.TheVariants as timer
-use Rattle.retransmit.proofs.Steady.{steady_moved, steady_second}
+use Rattle.retransmit.proofs.Steady.{steady_answered, steady_moved, steady_second}
 use Rattle.seq_space.specs.Places.{place}
 use Rattle.seq_space.specs.declared.Seq.{Seq}
 use Rattle.sock_buffers.specs.Downward.{Downward}
@@ -35,7 +35,7 @@ use Rattle.connection_steps.specs.Seen.{count_of, outward_of, timer_by, timer_of
 use Rattle.connection_steps.proofs.Hearing.{Stays, congested_stays, acked_by, heard_acked, heard_by, heard_resend, heard_stays, heard_window}
 
 -- the place of an acknowledgement, by the counts of the sending half
-place_same : (t : Transmission) (down : Downward) (past : List Down) (n : ℕ) → Keeps (outward_of t down) past → our_place past n ≡ place_acked t n
+pub place_same : (t : Transmission) (down : Downward) (past : List Down) (n : ℕ) → Keeps (outward_of t down) past → our_place past n ≡ place_acked t n
 place_same t down past n k = ap (λ (f : ℕ). place n f (sent past)) (sym k.first) ∙ ap (λ (e : ℕ). place n t.first e) (sym k.sent)
 
 -- where it is
@@ -337,3 +337,19 @@ module _ (s : Settings) (past : Story) (now m : ℕ) (seg : Segment) (t : Transm
 
       wait_high : (heard_by t seq w bare m seen).resend.estimate.wait ≤ 60000
       wait_high = subst (λ (r : Resending). r.estimate.wait ≤ 60000) (sym still) feeds.sound.steady.longest
+
+-- the estimate stays within its bounds
+pub heard_steady : (t : Transmission) (seq : Seq) (w : ℕ) (bare : Bool) (m : ℕ) (seen : AckSeen) → m ≤ 2 ^ 62 → IsSteady t.resend → IsSteady (heard_by t seq w bare m seen).resend
+heard_steady t seq w bare m seen late steady = subst (λ (r : Resending). IsSteady r) (sym (heard_resend t seq w bare m seen)) (by seen)
+  where
+    base : (q : AckSeen) → IsSteady (congested t w bare q).resend
+    base q = subst (λ (r : Resending). IsSteady r) (sym (congested_stays t w bare q).3) steady
+
+    by : (q : AckSeen) → IsSteady (acknowledged (congested t w bare q) q m).resend
+    by Old = base Old
+    by Same = steady_answered (congested t w bare Same).resend (base Same)
+    by (Forward j) = steady_moved (congested t w bare (Forward j)).resend (round_trip (congested t w bare (Forward j)).timed ((congested t w bare (Forward j)).acked + j) m)
+        (nat_lt ((congested t w bare (Forward j)).acked + j) (congested t w bare (Forward j)).sent) m late (base (Forward j))
+    by (FinToo j) = steady_moved (congested t w bare (FinToo j)).resend (round_trip (congested t w bare (FinToo j)).timed ((congested t w bare (FinToo j)).acked + j + 1) m)
+        (nat_lt ((congested t w bare (FinToo j)).acked + j + 1) (congested t w bare (FinToo j)).sent) m late (base (FinToo j))
+    by TooFar = base TooFar

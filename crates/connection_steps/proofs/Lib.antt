@@ -5,6 +5,7 @@ pub mod Going
 pub mod Acking
 pub mod Asking
 pub mod Hearing
+pub mod Heeding
 pub mod Leaving
 pub mod Opening
 pub mod Pieces

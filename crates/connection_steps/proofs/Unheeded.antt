@@ -52,7 +52,7 @@ follows_owed ring p owed past only f = record {
   settled = λ none. f.settled (only none);
 }
 
-syn_stays : (o q : Option Segment) → is_some (option_map (λ (seg : Segment). seg.number) o) ≡ true → option_or o q ≡ o
+pub syn_stays : (o q : Option Segment) → is_some (option_map (λ (seg : Segment). seg.number) o) ≡ true → option_or o q ≡ o
 syn_stays None q is = absurd cc
 syn_stays (Some syn) q is = refl
 
