@@ -1,5 +1,5 @@
 -- A segment is heeded: its acknowledgement, its window, its octets and its FIN.
-use Rattle.std.proofs.Common.{refl, ◌≡◌, ℕ, zero, suc, ◌+◌, ◌-◌, ◌*◌, ◌^◌, ◌<◌, ◌≤◌, List, [], ◌∷◌, length, drop, Bool, true, false, not, ◌&&◌, ◌||◌, Option, None, Some, is_some, if◌then◌else◌, IsTrue, min, nat_eq, nat_le, nat_lt, ℤ, pos, ◌<ℤ◌, arith, ap, subst, sym, ◌∙◌, inl, inr, ◌⊎◌, unwrap_or}
+use Rattle.std.proofs.Common.{refl, ◌≡◌, ℕ, zero, suc, ◌+◌, ◌-◌, ◌*◌, ◌^◌, ◌<◌, ◌≤◌, List, [], ◌∷◌, length, drop, Bool, true, false, not, ◌&&◌, ◌||◌, Option, None, Some, is_some, if◌then◌else◌, IsTrue, min, nat_eq, nat_le, nat_lt, ℤ, pos, ◌<ℤ◌, arith, ap, subst, sym, ◌∙◌, inl, inr, ◌⊎◌, unwrap_or, length-drop}
 use Rattle.std.proofs.lemmas.Bool.Decides.{nat_tests}
 use Rattle.std.proofs.lemmas.Int.{ints}
 use Rattle.cwnd.specs.Congestion.{Congestion, at_first, initial_window}
@@ -39,7 +39,7 @@ use Rattle.connection_steps.specs.Seen.{count_of, outward_of, resending_of, segm
 use Rattle.connection_steps.proofs.Confirming.{answered_now, far_is, heard_fin, heard_keeps, heard_runs, heard_steady, heard_told, not_past, old_is, place_same, read_stays, syn_heard_runs}
 use Rattle.connection_steps.proofs.Going.{comes as comes_on, nothing_to_close}
 use Rattle.connection_steps.proofs.Hearing.{heard_by, heard_stays, seen_as}
-use Rattle.connection_steps.proofs.Quiet.{opened_on}
+use Rattle.connection_steps.proofs.Quiet.{gives_as, opened_on}
 use Rattle.connection_steps.proofs.Taking.{taken_receives}
 use Rattle.connection_steps.proofs.Telling.{scaled_is}
 use Rattle.connection_steps.proofs.Unheeded.{gives_after, stays, syn_stays}
@@ -254,3 +254,87 @@ module _ (s : Settings) (c : Connection) (up : Upward) (down : Downward) (past :
         let g = heard_gives owed in
         gives_watched s (with_all u owed (c.fin_acked || is_fin_too seen)) later_down after m (nat_lt u.sent (places u later_down)) (heard_steady t seq w (is_bare tcp) m seen late h.buffers.feeds.sound.steady)
         (λ is. under_way_is s (with_all u owed (c.fin_acked || is_fin_too seen)) later_down after (opened_all u owed (c.fin_acked || is_fin_too seen) (heard_stays t seq w (is_bare tcp) m seen).mss u_answered) g.keeps is) g
+
+    ack_is : after_ack t later_down seq w (is_bare tcp) m seen ≡ watched_u
+    ack_is = ap (λ (b : Bool). if b then watched_over (heard_by t seq w (is_bare tcp) m seen) later_down m else t) ok
+
+  -- its octets, once it is known that it acknowledges nothing that was never sent
+  module _ (fits : tcp.seq < 2 ^ 32) (few : length tcp.body ≤ 2 ^ 31) (comes : Comes c.received tcp.seq tcp.body up (up_after c.received tcp.seq tcp.body up))
+      (within : length (up_after c.received tcp.seq tcp.body up).held ≤ (up_after c.received tcp.seq tcp.body up).size)
+      (fills_now : Fills (received_after c.received tcp.seq tcp.body (is_fin tcp) up) (up_after c.received tcp.seq tcp.body up)) (not_far : is_too_far seen ≡ false) where
+    abbrev later : Upward
+    later = up_after c.received tcp.seq tcp.body up
+
+    not_past_now : not_past_sent (host past) tcp.ack ≡ true
+    not_past_now = by (accepted_or seen not_far)
+      where
+        by : (is_accepted_ack seen ≡ true) ⊎ (seen ≡ Old) → not_past_sent (host past) tcp.ack ≡ true
+        by (inl ok) = not_past s past now m seg t down seq w (is_bare tcp) seen h.buffers.feeds h.gives.keeps it seen_is ok
+        by (inr is) = (old_is t down (host past) tcp.ack h.gives.keeps h.buffers.feeds.sound.order (subst (λ (q : AckSeen). IsSeenAs t down (place_acked t tcp.ack) q) is seen_is)).1
+
+    heeded : is_heeded past seg ≡ true
+    heeded = all_heeded (is_closed past) (is_some (their_number past)) (syn_is_out past) seg.ack seg.syn seg.rst (not_past_sent (host past) tcp.ack) (answered (host past) || nat_eq tcp.ack (number_after (our_number past)))
+        h.goes.open_yet is_known out_now ack syn rst not_past_now (ap (λ (b : Bool). b || nat_eq tcp.ack (number_after (our_number past))) ans)
+
+    taken : (tr : Transmission) (owed fa : Bool) → (owed ≡ false → (c.ack_owed || is_to_acknowledge c.received tcp.seq tcp.body (is_fin tcp)) ≡ false) → Receives s (with_all tr owed fa) later after
+    taken tr owed fa only = taken_receives s c up past m tcp fits few h.goes.open_yet theirs_now (all_plain seg.syn seg.rst seg.ack seg.fin (is_empty seg.octets) syn rst ack) heeded (both_not seg.syn seg.rst syn rst)
+        (h.receives known) comes within h.buffers.fills fills_now c.stage tr c.syn c.syn_owed owed fa only
+
+    holds_with : (tr : Transmission) (d : Downward) (owed fa : Bool) → tr.mss ≡ t.mss → answered (host after) ≡ true → length d.octets ≤ s.ring → (owed ≡ false → (c.ack_owed || is_to_acknowledge c.received tcp.seq tcp.body (is_fin tcp)) ≡ false)
+        → Gives s (with_all tr owed fa) d after m → HasBuffers (with_all tr owed fa) later d → Holds s (with_all tr owed fa) later d after m
+    holds_with tr d owed fa most answered_is size only g buffers = record {
+      suits = record { ring = h.suits.ring; congestion = h.suits.congestion; scales = h.suits.scales; few = h.suits.few };
+      buffers = buffers;
+      within = size;
+      goes = goes_on;
+      opened = opened_all tr owed fa most answered_is;
+      awaits = λ is. let not_it = sym is ∙ known in absurd cc;
+      receives = λ is. taken tr owed fa only;
+      gives = g;
+    }
+
+    drop_less : length later_down.octets ≤ s.ring
+    drop_less = let long = length-drop (octets_acked seen) down.octets in let size = h.within in omega (arith, long, size)
+
+    abbrev owed_now : Bool
+    owed_now = (c.ack_owed || is_too_far seen) || is_to_acknowledge c.received tcp.seq tcp.body (is_fin tcp)
+
+    only_now : owed_now ≡ false → (c.ack_owed || is_to_acknowledge c.received tcp.seq tcp.body (is_fin tcp)) ≡ false
+    only_now none = owed_parts c.ack_owed (is_too_far seen) (is_to_acknowledge c.received tcp.seq tcp.body (is_fin tcp)) none
+
+    -- the old acknowledgement
+    old_gives : seen ≡ Old → Gives s (with_all t owed_now (c.fin_acked || is_fin_too seen)) later_down after m
+    old_gives is =
+        let two = old_is t down (host past) tcp.ack h.gives.keeps h.buffers.feeds.sound.order (subst (λ (q : AckSeen). IsSeenAs t down (place_acked t tcp.ack) q) is seen_is) in
+        let none : (confirms past seg && is_acceptable (host past) tcp.ack) ≡ false = and_none (confirms past seg) (is_acceptable (host past) tcp.ack) two.0 in
+        let g = gives_after s c up down past now m seg on h none c.syn_owed owed_now in
+        let d_is : later_down ≡ down = ap (λ (q : AckSeen). without (octets_acked q) down) is ∙ ap (λ (k : ℕ). record down { first = k }) (omega arith) in
+        let fa_is : (c.fin_acked || is_fin_too seen) ≡ c.fin_acked = ap (λ (q : AckSeen). c.fin_acked || is_fin_too q) is ∙ or_off c.fin_acked in
+        subst (λ (d : Downward). Gives s (with_all t owed_now (c.fin_acked || is_fin_too seen)) d after m) (sym d_is)
+        (gives_as s (record c { syn_owed = c.syn_owed; ack_owed = owed_now }) (with_all t owed_now (c.fin_acked || is_fin_too seen)) down after m refl refl refl refl fa_is (λ owes gone yet. by_arrival past m m seg) g)
+      where
+        and_none : (a b : Bool) → b ≡ false → (a && b) ≡ false
+        and_none true b so = so
+        and_none false b so = refl
+
+        or_off : (b : Bool) → (b || false) ≡ b
+        or_off true = refl
+        or_off false = refl
+
+    -- all of it
+    pub heeds_now : HasBuffers (arrived (acknowledged c down tcp w (is_bare tcp) m) up tcp) later later_down
+        → Holds s (arrived (acknowledged c down tcp w (is_bare tcp) m) up tcp) later later_down after m
+    heeds_now buffers = by (accepted_or seen not_far)
+      where
+        by : (is_accepted_ack seen ≡ true) ⊎ (seen ≡ Old) → Holds s (with_all (after_ack t later_down seq w (is_bare tcp) m seen) owed_now (c.fin_acked || is_fin_too seen)) later later_down after m
+        by (inl ok) =
+            subst (λ (tr : Transmission). Holds s (with_all tr owed_now (c.fin_acked || is_fin_too seen)) later later_down after m) (sym (ack_is ok))
+            (holds_with (watched_u ok) later_down owed_now (c.fin_acked || is_fin_too seen) (watched_mss (u ok) later_down (nat_lt (u ok).sent (places (u ok) later_down)) m ∙ (heard_stays t seq w (is_bare tcp) m seen).mss) (u_answered ok) drop_less only_now
+            (gives_now ok owed_now) (subst (λ (tr : Transmission). HasBuffers (with_all tr owed_now (c.fin_acked || is_fin_too seen)) later later_down) (ack_is ok) buffers))
+        by (inr is) =
+            let old : after_ack t later_down seq w (is_bare tcp) m seen ≡ t = ap (λ (q : AckSeen). if is_accepted_ack q then watched_over (heard_by t seq w (is_bare tcp) m q) later_down m else t) is in
+            let two = old_is t down (host past) tcp.ack h.gives.keeps h.buffers.feeds.sound.order (subst (λ (q : AckSeen). IsSeenAs t down (place_acked t tcp.ack) q) is seen_is) in
+            let answered_is : answered (host after) ≡ true = ap (λ (g : List Down). answered g) (host_confirmed m past seg it) ∙ ap (λ (b : Bool). b || answered (host past)) two.0 ∙ ans in
+            subst (λ (tr : Transmission). Holds s (with_all tr owed_now (c.fin_acked || is_fin_too seen)) later later_down after m) (sym old)
+            (holds_with t later_down owed_now (c.fin_acked || is_fin_too seen) refl answered_is drop_less only_now (old_gives is)
+            (subst (λ (tr : Transmission). HasBuffers (with_all tr owed_now (c.fin_acked || is_fin_too seen)) later later_down) old buffers))
