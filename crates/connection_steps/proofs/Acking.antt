@@ -45,6 +45,7 @@ opened_told s c up shift past o = record {
   theirs = o.theirs;
   scale = o.scale;
   mss = o.mss;
+  calling = o.calling;
 }
 
 -- numbers are under way as before, where no more was sent

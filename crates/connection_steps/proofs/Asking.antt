@@ -87,6 +87,7 @@ module _ (s : Settings) (c : Connection) (up : Upward) (down : Downward) (past :
           theirs = o.theirs ∙ ap (λ (b : Bool). if b then None else Some c.received.first) known;
           scale = o.scale;
           mss = λ no. o.mss known;
+          calling = λ no. absurd cc;
         };
         awaits = λ no. absurd cc;
         receives = λ no. record {

@@ -90,6 +90,7 @@ module _ (s : Settings) (c : Connection) (up : Upward) (down : Downward) (past :
           theirs = o.theirs;
           scale = o.scale;
           mss = o.mss;
+          calling = o.calling;
         };
         awaits = λ is. record {
           theirs = a.theirs;
@@ -101,6 +102,7 @@ module _ (s : Settings) (c : Connection) (up : Upward) (down : Downward) (past :
           told = a.told;
           edge = a.edge;
           host_ended = a.host_ended;
+          untold = a.untold;
           end_acknowledged = a.end_acknowledged;
           ours_first = a.ours_first;
         };

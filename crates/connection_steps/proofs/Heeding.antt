@@ -217,6 +217,7 @@ module _ (s : Settings) (c : Connection) (up : Upward) (down : Downward) (past :
         theirs = o.theirs;
         scale = o.scale;
         mss = λ is. most ∙ o.mss is;
+        calling = λ is. most ∙ o.calling is;
       }
 
   -- an acknowledgement that counts
@@ -512,6 +513,7 @@ module _ (s : Settings) (c : Connection) (up : Upward) (down : Downward) (past :
         theirs = ap (λ (q : Option Segment). option_map (λ (g : Segment). g.number) q) same_syn0 ∙ theirs0;
         scale = o.scale ∙ ap (λ (q : Option Segment). shift_of (elim q [ None ↦ None | Some syn ↦ syn.scale ])) (sym same_syn0);
         mss = λ is. most ∙ o.mss known ∙ sym (same_mss s past next same_syn0);
+        calling = λ is. absurd cc;
       }
 
   gives0 : (owed : Bool) → Gives s (opened_with u0 owed (c.fin_acked || is_fin_too seen0)) down0 next m

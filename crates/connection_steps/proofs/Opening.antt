@@ -59,6 +59,7 @@ module _ (s : Settings) (m ours most size : ℕ) (scales : s.scales ≡ true) (f
         theirs = refl;
         scale = refl;
         mss = λ is. fits;
+        calling = λ is. absurd cc;
       };
       awaits = λ is. absurd cc;
       receives = λ is. record {

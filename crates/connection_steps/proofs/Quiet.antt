@@ -54,6 +54,7 @@ opened_on s c past next same answered_is o = record {
   theirs = same_number past next same.theirs ∙ o.theirs;
   scale = o.scale ∙ ap shift_of (sym (same_scale past next same.theirs));
   mss = λ is. o.mss is ∙ sym (same_mss s past next same.theirs);
+  calling = o.calling;
 }
 
 -- ---- the guest's stream stays
@@ -69,6 +70,7 @@ awaits_on s c up past next start same a = record {
   told = a.told;
   edge = same.edge ∙ a.edge;
   host_ended = a.host_ended;
+  untold = same.ended ∙ a.untold;
   end_acknowledged = a.end_acknowledged;
   ours_first = a.ours_first;
 }
@@ -185,6 +187,7 @@ awaits_sending s c t up past a = record {
   told = a.told;
   edge = a.edge;
   host_ended = a.host_ended;
+  untold = a.untold;
   end_acknowledged = a.end_acknowledged;
   ours_first = a.ours_first;
 }
@@ -204,4 +207,5 @@ opened_sending s c t past most o = record {
   theirs = o.theirs;
   scale = o.scale;
   mss = λ is. most ∙ o.mss is;
+  calling = λ is. most ∙ o.calling is;
 }

@@ -116,6 +116,7 @@ module _ (s : Settings) (c : Connection) (up : Upward) (down : Downward) (past :
             theirs = o.theirs;
             scale = o.scale;
             mss = o.mss;
+            calling = o.calling;
           };
           awaits = λ is. let a = h.awaits is in record {
             theirs = a.theirs;
@@ -127,6 +128,7 @@ module _ (s : Settings) (c : Connection) (up : Upward) (down : Downward) (past :
             told = a.told;
             edge = a.edge;
             host_ended = a.host_ended;
+            untold = a.untold;
             end_acknowledged = a.end_acknowledged;
             ours_first = a.ours_first;
           };

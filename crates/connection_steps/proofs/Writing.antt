@@ -124,6 +124,7 @@ module _ (s : Settings) (c : Connection) (up : Upward) (down : Downward) (past :
           theirs = o.theirs;
           scale = o.scale;
           mss = o.mss;
+          calling = o.calling;
         };
         awaits = λ is. let not_it = sym is ∙ known in absurd cc;
         receives = λ is. ended_receives none ended untold r;

@@ -1,5 +1,5 @@
 -- A connection and its buffers, against the story of its flow.
-use Rattle.std.specs.Prelude.{◌≡◌, ℕ, ◌+◌, ◌<◌, ◌≤◌, ◌^◌, [], length, Bool, true, false, Option, None, Some, if◌then◌else◌, IsTrue, nat_eq}
+use Rattle.std.specs.Prelude.{◌≡◌, ℕ, ◌+◌, ◌-◌, ◌<◌, ◌≤◌, ◌^◌, [], length, Bool, true, false, Option, None, Some, if◌then◌else◌, IsTrue, nat_eq}
 use Rattle.retransmit.specs.Resending.{IsSteady, is_off}
 use Rattle.sock_buffers.specs.Downward.{Downward}
 use Rattle.sock_buffers.specs.Upward.{Upward}
@@ -87,6 +87,7 @@ pub record IsOpened (s : Settings) (c : Connection) (past : Story) : Type 0 wher
   pub theirs : their_number past ≡ (if is_calls c.stage then None else Some c.received.first)
   pub scale : c.scale ≡ shift_of (their_scale past)
   pub mss : is_calls c.stage ≡ false → c.transmission.mss ≡ mss s past
+  pub calling : is_calls c.stage ≡ true → c.transmission.mss ≡ s.mtu - 40
 
 -- nothing of the guest's stream is known yet
 pub record Awaits (s : Settings) (c : Connection) (up : Upward) (past : Story) : Type 0 where
@@ -99,6 +100,7 @@ pub record Awaits (s : Settings) (c : Connection) (up : Upward) (past : Story) :
   pub told : c.told ≡ None
   pub edge : right_edge s past ≡ None
   pub host_ended : c.host_ended ≡ false
+  pub untold : host_was_ended past ≡ false
   pub end_acknowledged : c.end_acknowledged ≡ false
   pub ours_first : c.ours_first ≡ false
 
