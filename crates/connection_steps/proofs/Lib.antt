@@ -4,6 +4,7 @@ pub mod Confirming
 pub mod Going
 pub mod Acking
 pub mod Asking
+pub mod Greeting
 pub mod Hearing
 pub mod Heeding
 pub mod Leaving

@@ -87,3 +87,68 @@ module _ (s : Settings) (m ours most size : ℕ) (scales : s.scales ≡ true) (f
         again = λ is. absurd cc;
       };
     }
+
+  -- a peer's connection was accepted, and our SYN is owed
+  module _ (fits : most ≡ s.mtu - 40) where
+    accepts_goes : Goes s (At m (Accepts ours) ∷ []) m
+    accepts_goes = record {
+      story = tt;
+      moment = omega arith;
+      lawful = (refl, tt);
+      dutiful = (nothing_to_close [] refl, tt);
+      open_yet = refl;
+      well = refl;
+      free = nothing_to_close (At m (Accepts ours) ∷ []) refl;
+    }
+
+    pub accepts_holds : HasBuffers (to_guest ours most s.ring s.congestion) (empty s.ring) (downward [] 0 size)
+        → Holds s (to_guest ours most s.ring s.congestion) (empty s.ring) (downward [] 0 size) (At m (Accepts ours) ∷ []) m
+    accepts_holds buffers = record {
+      suits = record { ring = refl; congestion = refl; scales = scales; few = few };
+      buffers = buffers;
+      within = omega arith;
+      goes = accepts_goes;
+      opened = record {
+        live = refl;
+        ours = refl;
+        connects = refl;
+        out = refl;
+        unsent = λ is. absurd cc;
+        sent = λ is. absurd cc;
+        answered = refl;
+        owes = λ is yet none. refl;
+        calls = λ is. refl;
+        called = λ is no_call. absurd cc;
+        theirs = refl;
+        scale = refl;
+        mss = λ is. absurd cc;
+        calling = λ is. fits;
+      };
+      awaits = λ is. record {
+        theirs = refl;
+        guest = refl;
+        received = refl;
+        held = refl;
+        kept = refl;
+        ack_owed = refl;
+        told = refl;
+        edge = refl;
+        host_ended = refl;
+        untold = refl;
+        end_acknowledged = refl;
+        ours_first = refl;
+      };
+      receives = λ is. absurd cc;
+      gives = record {
+        keeps = record { first = refl; before = refl; held = refl; ended = refl; sent = refl; acked = refl };
+        fin_acked = refl;
+        fin_out = refl;
+        window = refl;
+        resends = accepts m ours;
+        steady = steady_at_rest;
+        unset = λ is. refl;
+        set = λ is gone. absurd cc;
+        syn_again = λ is owed gone. absurd cc;
+        again = λ is. absurd cc;
+      };
+    }

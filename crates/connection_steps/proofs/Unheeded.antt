@@ -34,7 +34,7 @@ use Rattle.connection_steps.proofs.Going.{comes}
 use Rattle.connection_steps.proofs.Quiet.{opened_on}
 
 -- more is owed
-follows_owed : (ring : ℕ) (p : Part) (owed : Bool) (past : List Up) → (owed ≡ false → p.ack_owed ≡ false) → Follows ring p past → Follows ring (record p { ack_owed = owed }) past
+pub follows_owed : (ring : ℕ) (p : Part) (owed : Bool) (past : List Up) → (owed ≡ false → p.ack_owed ≡ false) → Follows ring p past → Follows ring (record p { ack_owed = owed }) past
 follows_owed ring p owed past only f = record {
   first = f.first;
   count = f.count;
