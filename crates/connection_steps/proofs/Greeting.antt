@@ -38,7 +38,7 @@ use Rattle.connection_steps.proofs.Going.{comes as comes_on, nothing_to_close}
 use Rattle.connection_steps.proofs.Quiet.{opened_on}
 use Rattle.connection_steps.proofs.Unheeded.{answered_same, follows_owed, gives_after}
 
-unknown_is : (o : Option Segment) → o ≡ None → is_some (option_map (λ (seg : Segment). seg.number) o) ≡ false
+pub unknown_is : (o : Option Segment) → o ≡ None → is_some (option_map (λ (seg : Segment). seg.number) o) ≡ false
 unknown_is o is = rw is refl
 
 module _ (s : Settings) (c : Connection) (up : Upward) (down : Downward) (past : Story) (now m : ℕ) (tcp : Tcp) (on : now ≤ m) (h : Holds s c up down past now) (at : c.stage ≡ stage.Calls) where

@@ -49,7 +49,7 @@ use Rattle.connection_steps.proofs.Watching.{gives_watched, under_way_is, watche
 
 -- ---- the congestion window of a connection that is opened
 
-congested_feeds : (c : Connection) (down : Downward) → Feeds c.transmission down → Feeds (congested c) down
+pub congested_feeds : (c : Connection) (down : Downward) → Feeds c.transmission down → Feeds (congested c) down
 congested_feeds c down f = by c.congestion
   where
     many : (b : Bool) (mss : ℕ) → mss ≤ initial_window mss b
@@ -82,7 +82,7 @@ congested_feeds c down f = by c.congestion
     }
     by false = f
 
-congested_same : (c : Connection) → ((congested c).first ≡ c.transmission.first) × ((congested c).mss ≡ c.transmission.mss) × ((congested c).sent ≡ c.transmission.sent) × ((congested c).acked ≡ c.transmission.acked)
+pub congested_same : (c : Connection) → ((congested c).first ≡ c.transmission.first) × ((congested c).mss ≡ c.transmission.mss) × ((congested c).sent ≡ c.transmission.sent) × ((congested c).acked ≡ c.transmission.acked)
     × ((congested c).window ≡ c.transmission.window) × ((down : Downward) → outward_of (congested c) down ≡ outward_of c.transmission down) × ((congested c).end ≡ c.transmission.end)
 congested_same c = by c.congestion
   where

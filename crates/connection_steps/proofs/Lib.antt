@@ -18,4 +18,5 @@ pub mod Telling
 pub mod Ticking
 pub mod Unheeded
 pub mod Watching
+pub mod Welcoming
 pub mod Writing

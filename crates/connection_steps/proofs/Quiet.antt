@@ -209,3 +209,18 @@ opened_sending s c t past most o = record {
   mss = λ is. most ∙ o.mss is;
   calling = λ is. most ∙ o.calling is;
 }
+
+-- another size of pieces
+pub gives_most : (s : Settings) (c : Connection) (k : ℕ) (down : Downward) (past : Story) (now : ℕ) → Gives s c down past now → Gives s (record c { transmission = record c.transmission { mss = k } }) down past now
+gives_most s c k down past now g = record {
+  keeps = g.keeps;
+  fin_acked = g.fin_acked;
+  fin_out = g.fin_out;
+  window = g.window;
+  resends = g.resends;
+  steady = g.steady;
+  unset = g.unset;
+  set = g.set;
+  syn_again = g.syn_again;
+  again = g.again;
+}
