@@ -164,7 +164,7 @@ module _ (s : Settings) (c : Connection) (up : Upward) (down : Downward) (past :
   dead_at stage.Gone live = absurd cc
 
   -- closed for a cause by which a reset is owed to a guest that knows of the flow
-  resets_over : Runs s shut m → (((is_accepted last && not (syn_is_out last)) ≡ false) → owes_reset shut ≡ true) → IsOver s (reset c) shut m
+  pub resets_over : Runs s shut m → (((is_accepted last && not (syn_is_out last)) ≡ false) → owes_reset shut ≡ true) → IsOver s (reset c) shut m
   resets_over runs owed = record {
     runs = runs;
     closed = refl;

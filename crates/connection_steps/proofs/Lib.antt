@@ -1,4 +1,5 @@
 pub mod Calling
+pub mod Causes
 pub mod Closing
 pub mod Coming
 pub mod Confirming
