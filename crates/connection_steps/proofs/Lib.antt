@@ -3,6 +3,7 @@ pub mod Causes
 pub mod Closing
 pub mod Coming
 pub mod Confirming
+pub mod Departing
 pub mod Going
 pub mod Acking
 pub mod Asking

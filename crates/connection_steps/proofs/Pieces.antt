@@ -42,7 +42,7 @@ use Rattle.connection_steps.proofs.Watching.{under_way_is}
 
 -- ---- what is owed
 
-some_numbers : (t : Transmission) (down : Downward) (p : Piece) → piece_owed t down ≡ Some p → (p ≡ next t down) × (0 < numbers (next t down))
+pub some_numbers : (t : Transmission) (down : Downward) (p : Piece) → piece_owed t down ≡ Some p → (p ≡ next t down) × (0 < numbers (next t down))
 some_numbers t down p is = by (nat_lt 0 (numbers (next t down))) refl is
   where
     same_piece : Some (next t down) ≡ Some p → p ≡ next t down
