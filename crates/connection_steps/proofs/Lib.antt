@@ -6,6 +6,7 @@ pub mod Confirming
 pub mod Departing
 pub mod Going
 pub mod Acking
+pub mod Arriving
 pub mod Asking
 pub mod Greeting
 pub mod Hearing
