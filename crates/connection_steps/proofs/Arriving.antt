@@ -221,3 +221,141 @@ module _ (s : Settings) (c : Connection) (up : Upward) (down : Downward) (past :
       by false b d true f a_is b_is d_is e_is f_is = as_challenged (abbrev_is false b d true f a_is b_is d_is e_is f_is) known (flag_quiet known (inr (inl e_is)) (λ is number. let not_it = sym is ∙ a_is in absurd cc))
       by false b d false true a_is b_is d_is e_is f_is = heeds (abbrev_is false b d false true a_is b_is d_is e_is f_is) f_is a_is e_is
       by false b d false false a_is b_is d_is e_is f_is = as_ignored (abbrev_is false b d false false a_is b_is d_is e_is f_is) known (flag_quiet known (inl f_is) (λ is number. let not_it = sym is ∙ a_is in absurd cc))
+
+  -- ---- by how far it is opened
+
+  module _ (ack_fits : tcp.ack < 2 ^ 32) where
+    connects_means : c.stage ≡ stage.Connects → Means
+    connects_means at = early_means (ap (λ (st : Stage). verdict_by st c up tcp) at) (ap (λ (st : Stage). is_calls st) at) (h.opened.unsent (ap (λ (st : Stage). is_connects st) at))
+
+    greets_by : (a b d e f : Bool) → seg.syn ≡ a → seg.rst ≡ b → syn_is_out past ≡ d → (not seg.ack || nat_eq tcp.ack (number_after (our_number past))) ≡ e
+        → greets past seg ≡ (a && not b && d && true && e)
+    greets_by a b d e f a_is b_is d_is e_is =
+        ap (λ (x : Bool). x && not seg.rst && syn_is_out past && not (is_closed past) && (not seg.ack || nat_eq tcp.ack (number_after (our_number past)))) a_is
+        ∙ ap (λ (x : Bool). a && not x && syn_is_out past && not (is_closed past) && (not seg.ack || nat_eq tcp.ack (number_after (our_number past)))) b_is
+        ∙ ap (λ (x : Bool). a && not b && x && not (is_closed past) && (not seg.ack || nat_eq tcp.ack (number_after (our_number past)))) d_is
+        ∙ ap (λ (x : Bool). a && not b && d && not x && (not seg.ack || nat_eq tcp.ack (number_after (our_number past)))) h.goes.open_yet
+        ∙ ap (λ (x : Bool). a && not b && d && true && x) e_is
+
+    after_ours : number_after (our_number past) ≡ number_of c.ours 0
+    after_ours = ap (λ (n : ℕ). number_after n) h.opened.ours ∙ ap (λ (n : ℕ). n % 2 ^ 32) (let more : c.ours + 1 ≡ c.ours + 1 + 0 = omega arith in more)
+
+    ours_by : (a b : Bool) → seg.ack ≡ a → acknowledges_syn c tcp ≡ b → (not seg.ack || nat_eq tcp.ack (number_after (our_number past))) ≡ (not a || b)
+    ours_by true b a_is b_is =
+        ap (λ (x : Bool). not x || nat_eq tcp.ack (number_after (our_number past))) a_is ∙ ap (λ (n : ℕ). nat_eq tcp.ack n) after_ours
+        ∙ sym (ap (λ (x : Bool). x && nat_eq tcp.ack (number_of c.ours 0)) a_is) ∙ b_is
+    ours_by false b a_is b_is = ap (λ (x : Bool). not x || nat_eq tcp.ack (number_after (our_number past))) a_is
+
+    both_of : (a b : Bool) → (a && b) ≡ true → (a ≡ true) × (b ≡ true)
+    both_of true true is = (refl, refl)
+    both_of true false is = absurd cc
+    both_of false b is = absurd cc
+
+    five : (a b d : Bool) → (a && not b && d && true && false) ≡ false
+    five true true d = refl
+    five true false true = refl
+    five true false false = refl
+    five false b d = refl
+
+    calls_means : c.stage ≡ stage.Calls → Means
+    calls_means at = by (is_rst tcp) (acknowledges_syn c tcp) (has_gone c.sendings) (is_ack tcp) (is_syn tcp) refl refl refl refl refl
+      where
+        calls : is_calls c.stage ≡ true
+        calls = ap (λ (st : Stage). is_calls st) at
+
+        verdict_is : (a b d e f : Bool) → is_rst tcp ≡ a → acknowledges_syn c tcp ≡ b → has_gone c.sendings ≡ d → is_ack tcp ≡ e → is_syn tcp ≡ f
+            → verdict_of c up tcp ≡ (if a then (if b then Resets else Ignored) else (if not d then Ignored else (if e && not b then Unacceptable else (if f then Greets else Ignored))))
+        verdict_is a b d e f a_is b_is d_is e_is f_is = ap (λ (st : Stage). verdict_by st c up tcp) at ∙ rw (a_is, b_is, d_is, e_is, f_is) refl
+
+        waiting : (v : Verdict) → verdict_of c up tcp ≡ v → (v ≡ Ignored) ⊎ (v ≡ Unacceptable) → greets past seg ≡ false → Means
+        waiting v is (inl so) none = waits (ap (λ (v : Verdict). conn_by v c up down tcp m) (is ∙ so)) (ap (λ (v : Verdict). up_by v c up down tcp) (is ∙ so)) (ap (λ (v : Verdict). down_by v c down tcp) (is ∙ so)) at none
+        waiting v is (inr so) none = waits (ap (λ (v : Verdict). conn_by v c up down tcp m) (is ∙ so)) (ap (λ (v : Verdict). up_by v c up down tcp) (is ∙ so)) (ap (λ (v : Verdict). down_by v c down tcp) (is ∙ so)) at none
+
+        greets_is : (a b d e f : Bool) → is_rst tcp ≡ a → acknowledges_syn c tcp ≡ b → has_gone c.sendings ≡ d → is_ack tcp ≡ e → is_syn tcp ≡ f → greets past seg ≡ (f && not a && d && true && (not e || b))
+        greets_is a b d e f a_is b_is d_is e_is f_is = greets_by f a d (not e || b) true f_is a_is (h.opened.out ∙ d_is) (ours_by e b e_is b_is)
+
+        fin_five : (f a : Bool) → (f && not a && false && true && true) ≡ false
+        fin_five true true = refl
+        fin_five true false = refl
+        fin_five false a = refl
+
+        no_syn : (f a d g : Bool) → a ≡ true → (f && not a && d && true && g) ≡ false
+        no_syn true a d g is = rw is refl
+        no_syn false a d g is = refl
+
+        not_gone : (f g : Bool) → (f && true && false && true && g) ≡ false
+        not_gone true g = refl
+        not_gone false g = refl
+
+        by : (a b d e f : Bool) → is_rst tcp ≡ a → acknowledges_syn c tcp ≡ b → has_gone c.sendings ≡ d → is_ack tcp ≡ e → is_syn tcp ≡ f → Means
+        by true true d e f a_is b_is d_is e_is f_is =
+            let two = both_of (is_ack tcp) (nat_eq tcp.ack (number_of c.ours 0)) b_is in
+            turns_away (verdict_is true true d e f a_is b_is d_is e_is f_is) calls a_is two.0 (equals tcp.ack (number_of c.ours 0) two.1)
+        by true false d e f a_is b_is d_is e_is f_is = waiting Ignored (verdict_is true false d e f a_is b_is d_is e_is f_is) (inl refl) (greets_is true false d e f a_is b_is d_is e_is f_is ∙ no_syn f true d (not e || false) refl)
+        by false b false e f a_is b_is d_is e_is f_is = waiting Ignored (verdict_is false b false e f a_is b_is d_is e_is f_is) (inl refl) (greets_is false b false e f a_is b_is d_is e_is f_is ∙ not_gone f (not e || b))
+        by false false true true f a_is b_is d_is e_is f_is = waiting Unacceptable (verdict_is false false true true f a_is b_is d_is e_is f_is) (inr refl) (greets_is false false true true f a_is b_is d_is e_is f_is ∙ five f false true)
+        by false true true true false a_is b_is d_is e_is f_is = waiting Ignored (verdict_is false true true true false a_is b_is d_is e_is f_is) (inl refl) (greets_is false true true true false a_is b_is d_is e_is f_is)
+        by false b true false false a_is b_is d_is e_is f_is = waiting Ignored (verdict_is false b true false false a_is b_is d_is e_is f_is) (inl refl) (greets_is false b true false false a_is b_is d_is e_is f_is)
+        by false true true true true a_is b_is d_is e_is f_is =
+            is_greeted (verdict_is false true true true true a_is b_is d_is e_is f_is) at d_is (greets_is false true true true true a_is b_is d_is e_is f_is) a_is f_is
+            (λ so. equals tcp.ack (number_of c.ours 0) (both_of (is_ack tcp) (nat_eq tcp.ack (number_of c.ours 0)) b_is).1)
+        by false b true false true a_is b_is d_is e_is f_is =
+            is_greeted (verdict_is false b true false true a_is b_is d_is e_is f_is) at d_is (greets_is false b true false true a_is b_is d_is e_is f_is) a_is f_is (λ so. let not_it = sym so ∙ e_is in absurd cc)
+
+    answers_means : c.stage ≡ stage.Answers → Means
+    answers_means at = by_gone (has_gone c.sendings) refl
+      where
+        known : is_calls c.stage ≡ false
+        known = ap (λ (st : Stage). is_calls st) at
+
+        at_verdict : verdict_of c up tcp ≡ verdict_answering c up tcp
+        at_verdict = ap (λ (st : Stage). verdict_by st c up tcp) at
+
+        opening : verdict_of c up tcp ≡ Heeded → acknowledges_syn c tcp ≡ true → has_gone c.sendings ≡ true → seg.ack ≡ true → seg.rst ≡ false → seg.syn ≡ false → Means
+        opening is ours gone ack rst syn = is_opened is at gone (equals tcp.ack (number_of c.ours 0) (both_of (is_ack tcp) (nat_eq tcp.ack (number_of c.ours 0)) ours).1) ack rst syn
+
+        same_syn_flags : (a b d e : Bool) → (a && not b && not d && e) ≡ true → (b ≡ false) × (d ≡ false)
+        same_syn_flags true false false e is = (refl, refl)
+        same_syn_flags true true d e is = absurd cc
+        same_syn_flags true false true e is = absurd cc
+        same_syn_flags false b d e is = absurd cc
+
+        by_ack : (a b d : Bool) → is_ack tcp ≡ a → is_rst tcp ≡ b → acknowledges_syn c tcp ≡ d → has_gone c.sendings ≡ true
+            → verdict_of c up tcp ≡ (if a && not b && not d then Unacceptable else verdict_synchronized c up tcp) → Means
+        by_ack true false false a_is b_is d_is gone is = as_unacceptable is known (stranger_quiet at ack_fits a_is b_is d_is)
+        by_ack true false true a_is b_is d_is gone is = synchronized_means is known (λ so ack rst syn. opening so d_is gone ack rst syn)
+        by_ack true true d a_is b_is d_is gone is = synchronized_means is known (λ so ack rst syn. let not_it = sym rst ∙ b_is in absurd cc)
+        by_ack false b d a_is b_is d_is gone is = synchronized_means is known (λ so ack rst syn. let not_it = sym ack ∙ a_is in absurd cc)
+
+        by_same : (b : Bool) → is_same_syn c tcp ≡ b → has_gone c.sendings ≡ true
+            → verdict_of c up tcp ≡ (if b then Repeats else (if is_ack tcp && not (is_rst tcp) && not (acknowledges_syn c tcp) then Unacceptable else verdict_synchronized c up tcp)) → Means
+        by_same true same gone is =
+            let flags = same_syn_flags (is_syn tcp) (is_ack tcp) (is_rst tcp) (nat_eq (number_of tcp.seq 0) (next_number c.received)) same in
+            as_repeats is known (flag_quiet known (inl flags.0) (λ rst number. let not_it = sym rst ∙ flags.1 in absurd cc))
+        by_same false same gone is = by_ack (is_ack tcp) (is_rst tcp) (acknowledges_syn c tcp) refl refl refl gone is
+
+        by_gone : (b : Bool) → has_gone c.sendings ≡ b → Means
+        by_gone true gone =
+            by_same (is_same_syn c tcp) refl gone
+            (at_verdict ∙ ap (λ (b : Bool). if not b then verdict_early c tcp else (if is_same_syn c tcp then Repeats else (if is_ack tcp && not (is_rst tcp) && not (acknowledges_syn c tcp) then Unacceptable else verdict_synchronized c up tcp))) gone)
+        by_gone false gone =
+            early_means (at_verdict ∙ ap (λ (b : Bool). if not b then verdict_early c tcp else (if is_same_syn c tcp then Repeats else (if is_ack tcp && not (is_rst tcp) && not (acknowledges_syn c tcp) then Unacceptable else verdict_synchronized c up tcp))) gone) known gone
+
+    -- what a segment is to a live connection
+    pub means : Means
+    means = by c.stage refl h.opened.live
+      where
+        by : (st : Stage) → c.stage ≡ st → is_live st ≡ true → Means
+        by stage.Connects at live = connects_means at
+        by stage.Calls at live = calls_means at
+        by stage.Answers at live = answers_means at
+        by stage.Synchronized at live =
+            synchronized_means (ap (λ (st : Stage). verdict_by st c up tcp) at) (ap (λ (st : Stage). is_calls st) at) (λ so ack rst syn. is_heard so at ack rst syn)
+        by stage.Rests at live = absurd cc
+        by (stage.Resets seq ack) at live = absurd cc
+        by stage.Gone at live = absurd cc
+
+    -- one after which the connection stays as it is
+    pub rests_holds : (syn_owed ack_owed : Bool) → (c.syn_owed ≡ true → syn_owed ≡ true) → (ack_owed ≡ false → c.ack_owed ≡ false) → is_calls c.stage ≡ false → Quiet c past seg
+        → HasBuffers (record c { syn_owed = syn_owed; ack_owed = ack_owed }) up down → Holds s (record c { syn_owed = syn_owed; ack_owed = ack_owed }) up down after m
+    rests_holds syn_owed ack_owed keeps only known q buffers = stays s c up down past now m seg on h q.none known q.unheeded q.apart syn_owed ack_owed keeps only buffers
