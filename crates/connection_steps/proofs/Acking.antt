@@ -1,32 +1,30 @@
 -- An acknowledgement alone goes out.
-use Rattle.std.proofs.Common.{refl, ◌≡◌, ℕ, ◌+◌, ◌-◌, ◌^◌, ◌<◌, ◌≤◌, List, [], ◌∷◌, length, Bool, true, false, not, ◌&&◌, ◌||◌, Option, None, Some, if◌then◌else◌, IsTrue, nat_eq, nat_le, nat_lt, max, pos, arith, ap, subst, sym, ◌∙◌, drop, take}
+use Rattle.std.proofs.Common.{refl, ◌≡◌, ℕ, ◌+◌, ◌^◌, ◌<◌, ◌≤◌, ◌∷◌, Bool, true, false, not, ◌&&◌, ◌||◌, Option, None, Some, if◌then◌else◌, IsTrue, nat_lt, max, arith, ap, subst, sym, ◌∙◌}
 use Rattle.std.proofs.lemmas.Bool.Decides.{nat_tests}
-use Rattle.seq_space.specs.Places.{number_of}
 use Rattle.sock_buffers.specs.Downward.{Downward}
 use Rattle.sock_buffers.specs.Upward.{Upward}
 use Rattle.tcp_transmit.specs.Pieces.{OwesNothing, next, numbers, piece_owed}
-use Rattle.tcp_transmit.specs.Transmission.{Feeds, Transmission, is_owed_again, octets_read}
+use Rattle.tcp_transmit.specs.Transmission.{Transmission, is_owed_again}
 use Rattle.tcp_transmit.specs.declared.Piece.{Piece}
 use Rattle.tcp_transmit.proofs.Owed.{next_none}
 use Rattle.tcp_guest.specs.Connection.{Connection, HasBuffers, has_gone, is_opening, is_synchronized}
 use Rattle.tcp_guest.specs.Owing.{ack_if, owed_by, owed_of, piece_or_ack, told}
 use Rattle.tcp_guest.specs.Windows.{is_update_owed, moves_far, our_shift, told_edge}
-use Rattle.tcp_guest.specs.declared.Owed.{Owed}
-use Rattle.tcp_guest.specs.declared.Owed.TheVariants.{Syn, SynAck, Data, Ack, Reset}
+use Rattle.tcp_guest.specs.declared.Owed.TheVariants.{Syn, SynAck, Ack}
 use Rattle.tcp_guest.specs.declared.Stage.{Stage}
 use Rattle.tcp_guest.specs.declared.Stage.TheVariants as stage
 use Rattle.flow_laws.specs.Settings.{Settings}
 use Rattle.flow_laws.specs.Event.{At, Departs, Segment, Story}
 use Rattle.flow_laws.specs.Host.{acked, answered, sent}
 use Rattle.flow_laws.specs.Flow.{host, is_under_way, syn_is_out}
-use Rattle.flow_laws.specs.Lawful.{Send, SendsAgainWithReason, is_overdue, is_prompted, repeats}
-use Rattle.flow_steps.specs.Resends.{HasReason, Resends}
+use Rattle.flow_laws.specs.Lawful.{is_overdue, is_prompted, repeats}
+use Rattle.flow_steps.specs.Resends.{Resends}
 use Rattle.flow_steps.specs.Sends.{Keeps, Outward}
 use Rattle.flow_steps.proofs.Gone.{bare_goes}
 use Rattle.connection_steps.specs.Holding.{Gives, Holds, IsOpened, is_calls, is_connects, is_live}
 use Rattle.connection_steps.specs.Seen.{count_of, outward_of, resending_of, timer_of}
 use Rattle.connection_steps.specs.Sending.{segment_out}
-use Rattle.connection_steps.proofs.Leaving.{leaves_goes, leaves_kept, leaves_received, stands, still_answered, still_out}
+use Rattle.connection_steps.proofs.Leaving.{leaves_goes, leaves_kept, leaves_received, stands}
 use Rattle.connection_steps.proofs.Quiet.{opened_on}
 
 -- what was told changes nothing of how far it is opened

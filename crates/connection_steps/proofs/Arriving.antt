@@ -1,15 +1,13 @@
 -- A segment of the guest arrives, and is what the order of checks says.
-use Rattle.std.proofs.Common.{refl, ◌≡◌, ℕ, ◌+◌, ◌-◌, ◌^◌, ◌%◌, ◌<◌, ◌≤◌, List, [], ◌∷◌, length, Bool, true, false, not, ◌&&◌, ◌||◌, Option, None, Some, is_some, if◌then◌else◌, IsTrue, nat_eq, nat_le, nat_lt, int_le, ℤ, pos, negsuc, ◌+ℤ◌, ◌≤ℤ◌, arith, ap, subst, sym, ◌∙◌, inl, inr, ◌⊎◌}
+use Rattle.std.proofs.Common.{refl, ◌≡◌, ℕ, ◌+◌, ◌^◌, ◌%◌, ◌<◌, ◌≤◌, ◌∷◌, Bool, true, false, not, ◌&&◌, ◌||◌, Option, None, Some, is_some, if◌then◌else◌, nat_eq, nat_le, int_le, ℤ, pos, negsuc, ◌+ℤ◌, arith, ap, sym, ◌∙◌, inl, inr, ◌⊎◌}
 use Rattle.std.proofs.lemmas.Bool.Decides.{nat_tests}
-use Rattle.std.proofs.lemmas.Int.{ints}
-use Rattle.seq_space.specs.Places.{number_of, place}
+use Rattle.seq_space.specs.Places.{number_of}
 use Rattle.seq_space.proofs.Numbers.{place_is}
 use Rattle.sock_buffers.specs.Downward.{Downward}
 use Rattle.sock_buffers.specs.Upward.{Upward}
-use Rattle.tcp_receive.specs.Coming.{Comes}
-use Rattle.tcp_receive.specs.Received.{next_number, up_after}
+use Rattle.tcp_receive.specs.Received.{next_number}
 use Rattle.tcp_segment.specs.Tcp.{Tcp}
-use Rattle.tcp_guest.specs.Checks.{acknowledges_syn, is_ack, is_in_window, is_next, is_rst, is_same_syn, is_syn, verdict_answering, verdict_by, verdict_calling, verdict_early, verdict_of, verdict_synchronized}
+use Rattle.tcp_guest.specs.Checks.{acknowledges_syn, is_ack, is_in_window, is_next, is_rst, is_same_syn, is_syn, verdict_answering, verdict_by, verdict_early, verdict_of, verdict_synchronized}
 use Rattle.tcp_guest.specs.Connection.{Connection, HasBuffers, has_gone, is_opening, is_synchronized}
 use Rattle.tcp_guest.specs.Segments.{after_segment, conn_by, down_after_segment, down_by, up_after_segment, up_by}
 use Rattle.tcp_guest.specs.declared.Stage.{Stage}
@@ -24,7 +22,6 @@ use Rattle.flow_laws.proofs.Sides.{our_first_is}
 use Rattle.flow_steps.proofs.Segments.{number_from}
 use Rattle.connection_steps.specs.Holding.{Holds, is_calls, is_connects, is_live}
 use Rattle.connection_steps.specs.Seen.{segment_of}
-use Rattle.connection_steps.proofs.Greeting.{waits_on}
 use Rattle.connection_steps.proofs.Unheeded.{stays}
 
 -- ---- tests

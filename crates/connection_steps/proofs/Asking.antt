@@ -1,9 +1,8 @@
 -- The host is asked whether it connected, and the network for the guest's address.
-use Rattle.std.proofs.Common.{refl, ◌≡◌, ℕ, ◌≤◌, List, [], ◌∷◌, Bool, true, false, not, ◌||◌, Option, None, Some, if◌then◌else◌, IsTrue, arith, ap, subst, sym, ◌∙◌}
+use Rattle.std.proofs.Common.{refl, ◌≡◌, ℕ, ◌≤◌, List, ◌∷◌, Bool, true, false, not, ◌||◌, None, Some, if◌then◌else◌, ap, sym, ◌∙◌}
 use Rattle.sock_buffers.specs.Downward.{Downward}
 use Rattle.sock_buffers.specs.Upward.{Upward}
-use Rattle.tcp_guest.specs.Connection.{Connection, HasBuffers, IsSound, has_gone, is_opening, is_synchronized}
-use Rattle.tcp_guest.specs.Hosts.{connected_by}
+use Rattle.tcp_guest.specs.Connection.{Connection, HasBuffers, has_gone, is_opening, is_synchronized}
 use Rattle.tcp_guest.specs.declared.Stage.{Stage}
 use Rattle.tcp_guest.specs.declared.Stage.TheVariants as stage
 use Rattle.flow_laws.specs.Settings.{Settings}
@@ -13,7 +12,7 @@ use Rattle.flow_laws.specs.Flow.{is_accepted, is_closed, has_connected}
 use Rattle.flow_laws.specs.Lawful.{AskConnected}
 use Rattle.flow_steps.proofs.Acts.{may_ask, must_ask}
 use Rattle.flow_steps.proofs.Resent.{IsQuiet}
-use Rattle.connection_steps.specs.Holding.{Goes, Holds, IsOpened, Receives, Awaits, Gives, is_calls, is_connects}
+use Rattle.connection_steps.specs.Holding.{Goes, Holds, is_calls, is_connects}
 use Rattle.connection_steps.specs.Same.{SameGuest, SameHost, SameStart}
 use Rattle.connection_steps.proofs.Going.{comes, does, nothing_to_close}
 use Rattle.connection_steps.proofs.Quiet.{awaits_on, gives_as, gives_on, opened_on, receives_on}

@@ -1,10 +1,10 @@
 -- Our SYN goes out to a guest that we call.
-use Rattle.std.proofs.Common.{refl, ◌≡◌, ℕ, ◌+◌, ◌-◌, ◌^◌, ◌≤◌, List, [], ◌∷◌, length, Bool, true, false, not, ◌&&◌, ◌||◌, Option, None, Some, is_some, if◌then◌else◌, IsTrue, IfSome, arith, ap, subst, sym, ◌∙◌}
+use Rattle.std.proofs.Common.{refl, ◌≡◌, ℕ, ◌^◌, ◌≤◌, ◌∷◌, length, Bool, true, false, ◌&&◌, ◌||◌, Option, None, Some, is_some, if◌then◌else◌, IsTrue, IfSome, arith, ap, subst, sym, ◌∙◌}
 use Rattle.sock_buffers.specs.Downward.{Downward}
 use Rattle.sock_buffers.specs.Upward.{Upward, room_of}
-use Rattle.tcp_guest.specs.Connection.{Connection, HasBuffers, has_gone, is_opening, is_synchronized, once_more}
+use Rattle.tcp_guest.specs.Connection.{Connection, HasBuffers, is_opening}
 use Rattle.tcp_guest.specs.Owing.{syn_gone}
-use Rattle.tcp_guest.specs.Windows.{field, least_shift}
+use Rattle.tcp_guest.specs.Windows.{least_shift}
 use Rattle.tcp_guest.specs.declared.Owed.TheVariants.{Syn}
 use Rattle.tcp_guest.specs.declared.Stage.{Stage}
 use Rattle.tcp_guest.specs.declared.Stage.TheVariants as stage
@@ -16,7 +16,7 @@ use Rattle.flow_laws.specs.Lawful.{OpensWithSyn, Send}
 use Rattle.flow_laws.specs.Dutiful.{TellsRoom}
 use Rattle.flow_steps.proofs.Acts.{may_send, must_send}
 use Rattle.flow_steps.proofs.Windows.{syn_tells}
-use Rattle.connection_steps.specs.Holding.{Awaits, Goes, Holds, is_calls, is_connects}
+use Rattle.connection_steps.specs.Holding.{Goes, Holds, is_calls, is_connects}
 use Rattle.connection_steps.specs.Seen.{part_of}
 use Rattle.connection_steps.specs.Sending.{segment_out}
 use Rattle.connection_steps.proofs.Going.{does}

@@ -1,5 +1,5 @@
 -- The causes of a close, one by one.
-use Rattle.std.proofs.Common.{refl, ◌≡◌, ℕ, ◌+◌, ◌-◌, ◌^◌, ◌%◌, ◌<◌, ◌≤◌, List, [], ◌∷◌, length, Bool, true, false, not, ◌&&◌, ◌||◌, Option, None, Some, is_some, if◌then◌else◌, IsTrue, MatchOption, min, max, nat_eq, nat_le, nat_lt, take, arith, ap, subst, sym, ◌∙◌, inl, inr, ◌⊎◌}
+use Rattle.std.proofs.Common.{refl, ◌≡◌, ℕ, ◌+◌, ◌^◌, ◌%◌, ◌≤◌, [], ◌∷◌, length, Bool, true, false, not, ◌&&◌, ◌||◌, None, Some, if◌then◌else◌, IsTrue, min, nat_eq, take, arith, ap, subst, sym, ◌∙◌, inl, inr}
 use Rattle.std.proofs.lemmas.Bool.Decides.{nat_tests}
 use Rattle.seq_space.specs.Places.{number_of}
 use Rattle.seq_space.specs.declared.Seq.{Seq}
@@ -9,19 +9,18 @@ use Rattle.tcp_receive.specs.Received.{next_number}
 use Rattle.tcp_transmit.specs.Transmission.{IsSentOf, is_sent, octets_read}
 use Rattle.tcp_transmit.specs.declared.End.{End}
 use Rattle.tcp_transmit.specs.declared.End.TheVariants as our_end
-use Rattle.tcp_guest.specs.Connection.{Connection, closes_first, has_gone, is_opening, is_synchronized}
+use Rattle.tcp_guest.specs.Connection.{Connection, closes_first, is_opening, is_synchronized}
 use Rattle.tcp_guest.specs.Hosts.{is_open, reset}
 use Rattle.tcp_guest.specs.Segments.{is_done as takes_for_done, settled}
 use Rattle.tcp_guest.specs.declared.Stage.{Stage}
 use Rattle.tcp_guest.specs.declared.Stage.TheVariants as stage
 use Rattle.flow_laws.specs.Settings.{Settings}
 use Rattle.flow_laws.specs.Event.{Arrives, Closes, ConnectFails, WriteFails, ReadFails, EndFails, At, Event, Opens, Segment, Story}
-use Rattle.flow_laws.specs.Host.{answered, got, got_end}
-use Rattle.flow_laws.specs.Flow.{guest, host, is_accepted, is_closed, next_number as number_after, our_number, syn_is_out, their_number}
-use Rattle.flow_laws.specs.Close.{connects_too_long, finds_no_guest, follows_reset, gives_up, host_failed, host_was_ended, is_done, newest_rst, our_fin_is_acked, owes_reset, rests_since}
+use Rattle.flow_laws.specs.Host.{answered, got_end}
+use Rattle.flow_laws.specs.Flow.{guest, host, is_accepted, is_closed, next_number as number_after, our_number, syn_is_out}
+use Rattle.flow_laws.specs.Close.{connects_too_long, finds_no_guest, follows_reset, gives_up, host_failed, host_was_ended, is_done, newest_rst, our_fin_is_acked, owes_reset}
 use Rattle.flow_laws.specs.Lawful.{Act, AskConnected, EndHost, HasCause, May, Read, Write, act_of}
-use Rattle.flow_laws.specs.Dutiful.{Must, MustClose, OffersEnough}
-use Rattle.flow_steps.specs.Received.{received as taken_of}
+use Rattle.flow_laws.specs.Dutiful.{Must, OffersEnough}
 use Rattle.flow_steps.proofs.Acts.{may_ask, may_end, may_read, may_write, must_ask, must_end, must_read, must_write}
 use Rattle.flow_steps.proofs.Owed.{done_owes_none, failed_owes, late_owes, reset_owes_none, run_owes_none}
 use Rattle.flow_steps.proofs.Owing.{given_up_not_done, no_reset, unacked_not_done, unanswered_not_done, unended_not_done}
@@ -29,12 +28,11 @@ use Rattle.flow_steps.proofs.Resets.{reset_closes, reset_is_fatal, reset_turns_a
 use Rattle.flow_steps.proofs.Rests.{closes_to_rest, done_is, our_fin, quiet_ends}
 use Rattle.flow_steps.proofs.Steps.{told_the_end, wrote}
 use Rattle.flow_steps.proofs.Wanting.{offers}
-use Rattle.connection_steps.specs.Holding.{Goes, Holds, IsOpened, Receives, is_calls, is_connects, is_live}
+use Rattle.connection_steps.specs.Holding.{Holds, is_calls, is_connects, is_live}
 use Rattle.connection_steps.specs.Over.{IsOver, IsResting, Runs, is_resets}
 use Rattle.connection_steps.specs.Seen.{outward_of, part_of}
-use Rattle.connection_steps.proofs.Closing.{closes, gone_over, resets_over, runs_of, runs_on}
+use Rattle.connection_steps.proofs.Closing.{closes, resets_over, runs_of, runs_on}
 use Rattle.connection_steps.proofs.Going.{longer}
-use Rattle.connection_steps.proofs.Leaving.{read_is}
 use Rattle.connection_steps.proofs.Telling.{shift_is}
 use Rattle.connection_steps.proofs.Watching.{opening_is}
 
@@ -168,6 +166,7 @@ module _ (s : Settings) (c : Connection) (up : Upward) (down : Downward) (past :
     done_over st dead none never = record {
       runs = done_runs;
       closed = refl;
+      well = refl;
       over = dead;
       owes = done_owes_none past m directly ended known is_done_now ∙ sym none;
       pays = λ seq ack is. absurd (never seq ack is);
@@ -215,6 +214,7 @@ module _ (s : Settings) (c : Connection) (up : Upward) (down : Downward) (past :
   reset_over seg cause fatal = record {
     runs = closes s (At m (Arrives seg) ∷ past) m m true false known (came seg) (omega arith) h.goes.open_yet cause;
     closed = refl;
+    well = refl;
     over = refl;
     owes = reset_owes_none (At m (Arrives seg) ∷ past) m true false known fatal;
     pays = λ seq ack is. absurd cc;

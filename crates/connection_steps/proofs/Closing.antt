@@ -1,34 +1,26 @@
 -- The socket is closed: by which cause, and what is owed then.
-use Rattle.std.proofs.Common.{refl, ◌≡◌, ℕ, zero, suc, ◌+◌, ◌-◌, ◌^◌, ◌%◌, ◌<◌, ◌≤◌, List, [], ◌∷◌, length, Bool, true, false, not, ◌&&◌, ◌||◌, Option, None, Some, is_some, if◌then◌else◌, IsTrue, MatchOption, min, nat_eq, nat_le, nat_lt, arith, ap, subst, sym, ◌∙◌, inl, inr, ◌⊎◌}
-use Rattle.std.proofs.lemmas.Bool.Decides.{nat_tests}
-use Rattle.seq_space.specs.Places.{number_of}
+use Rattle.std.proofs.Common.{refl, ◌≡◌, ℕ, ◌+◌, ◌^◌, ◌%◌, ◌≤◌, ◌∷◌, Bool, true, false, not, ◌&&◌, ◌||◌, Option, None, Some, if◌then◌else◌, MatchOption, arith, ap, subst, sym, ◌∙◌}
 use Rattle.seq_space.specs.declared.Seq.{Seq}
 use Rattle.sock_buffers.specs.Downward.{Downward}
 use Rattle.sock_buffers.specs.Upward.{Upward}
 use Rattle.tcp_receive.specs.Received.{next_number, places_taken}
-use Rattle.tcp_transmit.specs.Transmission.{is_sent, octets_read}
-use Rattle.tcp_guest.specs.Connection.{Connection, HasBuffers, closes_first, has_gone, is_opening, is_synchronized}
-use Rattle.tcp_guest.specs.Hosts.{is_open, numbers_sent, over_by, reset, resets}
-use Rattle.tcp_guest.specs.Segments.{is_done as takes_for_done, settled}
+use Rattle.tcp_guest.specs.Connection.{Connection, has_gone, is_opening, is_synchronized}
+use Rattle.tcp_guest.specs.Hosts.{numbers_sent, over_by, reset, resets}
 use Rattle.tcp_guest.specs.declared.Stage.{Stage}
 use Rattle.tcp_guest.specs.declared.Stage.TheVariants as stage
 use Rattle.flow_laws.specs.Settings.{Settings}
-use Rattle.flow_laws.specs.Event.{Closes, ConnectFails, WriteFails, ReadFails, EndFails, At, Event, Segment, Story, newest_moment, IsStory, Opens}
-use Rattle.flow_laws.specs.Host.{acked, answered, got, got_end, owned, sent}
-use Rattle.flow_laws.specs.Flow.{guest, host, is_accepted, is_closed, is_connecting, next_number as number_after, our_number, syn_is_out, their_number}
-use Rattle.flow_laws.specs.Close.{connects_too_long, finds_no_guest, follows_reset, gives_up, host_failed, host_was_ended, is_done, is_owed_reset, newest_rst, our_fin_is_acked, owes_reset, rests_since}
-use Rattle.flow_laws.specs.Lawful.{Act, AskConnected, Close, EndHost, HasCause, IsLawful, May, MayHappen, Read, Write, act_of}
-use Rattle.flow_laws.specs.Dutiful.{IsDutiful, Must, MustClose, MustHappen}
+use Rattle.flow_laws.specs.Event.{Closes, At, Event, Story, Opens}
+use Rattle.flow_laws.specs.Flow.{host, is_accepted, is_closed, next_number as number_after, syn_is_out, their_number}
+use Rattle.flow_laws.specs.Close.{host_failed, owes_reset}
+use Rattle.flow_laws.specs.Lawful.{Act, Close, HasCause, May, act_of}
+use Rattle.flow_laws.specs.Dutiful.{Must, MustClose}
 use Rattle.flow_steps.specs.Sends.{Keeps}
 use Rattle.flow_steps.proofs.Acts.{may_close, must_close}
-use Rattle.flow_steps.proofs.Owed.{done_owes_none, failed_owes, first_is_owed, late_owes, next_is_owed, reset_owes_none, run_owes_none, unsent_owes_none}
-use Rattle.flow_steps.proofs.Owing.{given_up_not_done, no_reset, unacked_not_done, unanswered_not_done, unended_not_done}
-use Rattle.flow_steps.proofs.Rests.{closes_to_rest, done_is, our_fin}
-use Rattle.connection_steps.specs.Holding.{Goes, Holds, IsOpened, Receives, is_calls, is_connects, is_live}
-use Rattle.connection_steps.specs.Over.{IsOver, IsResting, Pays, Runs, is_resets}
-use Rattle.connection_steps.specs.Seen.{outward_of, part_of}
+use Rattle.flow_steps.proofs.Owed.{first_is_owed, next_is_owed, unsent_owes_none}
+use Rattle.connection_steps.specs.Holding.{Goes, Holds, is_calls, is_connects, is_live}
+use Rattle.connection_steps.specs.Over.{IsOver, Pays, Runs, is_resets}
+use Rattle.connection_steps.specs.Seen.{outward_of}
 use Rattle.connection_steps.proofs.Going.{longer}
-use Rattle.connection_steps.proofs.Watching.{opening_is, synchronized_is}
 
 -- ---- what was done stays lawful
 
@@ -168,6 +160,7 @@ module _ (s : Settings) (c : Connection) (up : Upward) (down : Downward) (past :
   resets_over runs owed = record {
     runs = runs;
     closed = refl;
+    well = refl;
     over = dead_at c.stage h.opened.live;
     owes = by (is_accepted last && not (syn_is_out last)) refl ∙ sym (speaks_at c.stage refl h.opened.live);
     pays = pays_at c.stage refl h.opened.live;
@@ -182,6 +175,7 @@ module _ (s : Settings) (c : Connection) (up : Upward) (down : Downward) (past :
   gone_over runs none = record {
     runs = runs;
     closed = refl;
+    well = refl;
     over = refl;
     owes = none;
     pays = λ seq ack is. absurd cc;

@@ -1,14 +1,13 @@
 -- What the receiver takes of a segment that is heeded.
-use Rattle.std.proofs.Common.{refl, ◌≡◌, ℕ, zero, suc, ◌+◌, ◌-◌, ◌^◌, ◌<◌, ◌≤◌, List, [], ◌∷◌, ◌++◌, length, take, drop, Bool, true, false, not, ◌&&◌, ◌||◌, Option, None, Some, if◌then◌else◌, IsTrue, ◌↔◌, min, nat_eq, nat_le, nat_lt, ℤ, pos, negsuc, ◌+ℤ◌, ◌<ℤ◌, arith, ap, subst, sym, ◌∙◌, inl, inr, ◌⊎◌, append_assoc, append-nil, length-append, length-take, slice_get}
+use Rattle.std.proofs.Common.{refl, ◌≡◌, ℕ, suc, ◌+◌, ◌-◌, ◌^◌, ◌<◌, ◌≤◌, List, [], ◌∷◌, ◌++◌, length, drop, Bool, true, false, not, ◌&&◌, ◌||◌, Option, Some, if◌then◌else◌, IsTrue, ◌↔◌, min, nat_eq, nat_le, nat_lt, ℤ, pos, negsuc, ◌+ℤ◌, ◌<ℤ◌, arith, ap, subst, sym, ◌∙◌, inl, inr, ◌⊎◌, append_assoc, append-nil, length-append, length-take, slice_get}
 use Rattle.std.proofs.lemmas.Bool.Decides.{nat_tests}
 use Rattle.std.proofs.lemmas.Int.{ints}
-use Rattle.seq_space.specs.Places.{place, shifted_place}
-use Rattle.sock_buffers.specs.Kept.{KeepsAt, first_covered, first_octets, octet_at, octets_with, with_range}
+use Rattle.seq_space.specs.Places.{shifted_place}
+use Rattle.sock_buffers.specs.Kept.{first_covered, first_octets, octet_at, octets_with, with_range}
 use Rattle.sock_buffers.specs.Upward.{Upward, after_join, after_keep, after_take, fitting, keeps_none, range_of, room_of, within}
 use Rattle.tcp_receive.specs.Coming.{Comes}
 use Rattle.tcp_receive.specs.Received.{Fills, Received, StandsAt, gap, octets_from, place_in, placed, places_taken, up_after}
-use Rattle.tcp_guest.specs.Segments.{count_taken, is_end_taken, is_to_acknowledge, received_after}
-use Rattle.flow_laws.specs.Guest.{octet_at as octet_of}
+use Rattle.tcp_guest.specs.Segments.{count_taken, is_end_taken, is_to_acknowledge}
 use Rattle.flow_steps.specs.Received.{Has, next_octets}
 use Rattle.flow_steps.proofs.Segments.{octet_from}
 use Rattle.connection_steps.specs.Seen.{kept_at}

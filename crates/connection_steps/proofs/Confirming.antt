@@ -1,5 +1,5 @@
 -- An acknowledgement that counts, against the flow's story.
-use Rattle.std.proofs.Common.{refl, ◌≡◌, ℕ, zero, suc, ◌+◌, ◌-◌, ◌*◌, ◌^◌, ◌<◌, ◌≤◌, List, [], ◌∷◌, length, drop, Bool, true, false, not, ◌&&◌, ◌||◌, Option, None, Some, is_some, if◌then◌else◌, IsTrue, min, max, nat_eq, nat_le, nat_lt, int_le, ℤ, pos, negsuc, ◌+ℤ◌, ◌-ℤ◌, ◌<ℤ◌, ◌≤ℤ◌, arith, ap, subst, sym, ◌∙◌, length-drop}
+use Rattle.std.proofs.Common.{refl, ◌≡◌, ℕ, suc, ◌+◌, ◌-◌, ◌^◌, ◌<◌, ◌≤◌, List, ◌∷◌, length, drop, Bool, true, false, not, ◌||◌, Option, None, Some, if◌then◌else◌, min, nat_eq, nat_lt, int_le, ℤ, pos, negsuc, ◌<ℤ◌, arith, ap, subst, sym, ◌∙◌, length-drop}
 use Rattle.std.proofs.lemmas.Bool.Decides.{nat_tests}
 use Rattle.std.proofs.lemmas.Int.{ints}
 use Rattle.retransmit.specs.Resending.{IsSteady, Resending, after_answered, after_moved, doublings, is_off}
@@ -11,16 +11,16 @@ use Rattle.seq_space.specs.declared.Seq.{Seq}
 use Rattle.sock_buffers.specs.Downward.{Downward}
 use Rattle.tcp_transmit.specs.Acks.{IsSeenAs, acknowledged, congested, is_acceptable as is_accepted_ack, is_newer, octets_acked, place_acked, without}
 use Rattle.tcp_transmit.specs.Timing.{round_trip}
-use Rattle.tcp_transmit.specs.Transmission.{Feeds, Transmission, is_sent, octets_read}
+use Rattle.tcp_transmit.specs.Transmission.{Feeds, Transmission, octets_read}
 use Rattle.tcp_transmit.specs.declared.AckSeen.{AckSeen}
 use Rattle.tcp_transmit.specs.declared.AckSeen.TheVariants.{Old, Same, Forward, FinToo, TooFar}
 use Rattle.tcp_transmit.specs.declared.End.{End}
 use Rattle.tcp_transmit.specs.declared.Window.{Window}
 use Rattle.tcp_guest.specs.Hosts.{is_open}
-use Rattle.tcp_guest.specs.Segments.{is_fin_too, is_too_far, seen_of}
+use Rattle.tcp_guest.specs.Segments.{is_fin_too}
 use Rattle.flow_laws.specs.Settings.{Settings}
 use Rattle.flow_laws.specs.Event.{Arrives, At, Segment, Story, newest_moment}
-use Rattle.flow_laws.specs.Host.{Confirmed, Down, acked, answered, is_acceptable, not_past_sent, our_first, our_place, sent}
+use Rattle.flow_laws.specs.Host.{Confirmed, Down, acked, answered, is_acceptable, not_past_sent, our_place, sent}
 use Rattle.flow_laws.specs.Flow.{confirms, host, is_under_way, syn_is_out}
 use Rattle.flow_laws.specs.Lawful.{IsLawful}
 use Rattle.flow_laws.specs.Windows.{Window as ToldWindow, is_no_older, their_window, window, window_of}

@@ -1,15 +1,15 @@
 -- What a connection owes goes out.
-use Rattle.std.proofs.Common.{refl, ◌≡◌, ℕ, ◌<◌, ◌≤◌, ◌^◌, List, [], ◌∷◌, Bool, true, false, not, ◌&&◌, ◌||◌, Option, None, Some, if◌then◌else◌, arith, ap, subst, sym, ◌∙◌, inl, inr, ◌⊎◌}
+use Rattle.std.proofs.Common.{refl, ◌≡◌, ℕ, ◌<◌, ◌≤◌, ◌^◌, ◌∷◌, Bool, true, false, ◌&&◌, ◌||◌, Option, None, Some, if◌then◌else◌, ap, subst, sym, ◌∙◌, inl, inr, ◌⊎◌}
 use Rattle.sock_buffers.specs.Downward.{Downward}
 use Rattle.sock_buffers.specs.Upward.{Upward}
-use Rattle.tcp_transmit.specs.Pieces.{next, numbers, piece_owed}
+use Rattle.tcp_transmit.specs.Pieces.{numbers, piece_owed}
 use Rattle.tcp_transmit.specs.declared.Piece.{Piece}
-use Rattle.tcp_guest.specs.Connection.{Connection, HasBuffers, IsSound, closes_first, is_opening, is_synchronized}
+use Rattle.tcp_guest.specs.Connection.{Connection, HasBuffers, closes_first, is_opening, is_synchronized}
 use Rattle.tcp_guest.specs.Owing.{ack_if, gone, owed_by, owed_of, piece_or_ack}
 use Rattle.tcp_guest.specs.Segments.{is_done, settled}
 use Rattle.tcp_guest.specs.Windows.{is_update_owed}
 use Rattle.tcp_guest.specs.declared.Owed.{Owed}
-use Rattle.tcp_guest.specs.declared.Owed.TheVariants.{Syn, SynAck, Data, Ack, Reset}
+use Rattle.tcp_guest.specs.declared.Owed.TheVariants.{Syn, SynAck, Data, Ack}
 use Rattle.tcp_guest.specs.declared.Stage.{Stage}
 use Rattle.tcp_guest.specs.declared.Stage.TheVariants as stage
 use Rattle.flow_laws.specs.Settings.{Settings}

@@ -1,11 +1,11 @@
 -- What was done was lawful, and as it must be, event by event.
-use Rattle.std.proofs.Common.{refl, ◌≡◌, ℕ, ◌≤◌, List, [], ◌∷◌, Bool, true, false, Option, None, Some, IsSome, is_some, MatchOption, arith, subst, sym, ◌∙◌}
+use Rattle.std.proofs.Common.{◌≡◌, ℕ, ◌≤◌, [], ◌∷◌, false, Option, None, Some, MatchOption, arith, subst, sym, ◌∙◌}
 use Rattle.flow_laws.specs.Settings.{Settings}
-use Rattle.flow_laws.specs.Event.{Segment, Event, Arrives, AsksAddress, At, IsStory, Opens, Story, newest_moment}
+use Rattle.flow_laws.specs.Event.{Event, At, IsStory, Opens, Story, newest_moment}
 use Rattle.flow_laws.specs.Flow.{is_closed}
 use Rattle.flow_laws.specs.Close.{host_failed, newest_rst}
-use Rattle.flow_laws.specs.Lawful.{Act, IsLawful, May, MayHappen, act_of}
-use Rattle.flow_laws.specs.Dutiful.{IsDutiful, Must, MustClose, MustHappen}
+use Rattle.flow_laws.specs.Lawful.{Act, May, MayHappen, act_of}
+use Rattle.flow_laws.specs.Dutiful.{Must, MustClose, MustHappen}
 use Rattle.connection_steps.specs.Holding.{Goes}
 
 -- a story goes on

@@ -1,39 +1,31 @@
 -- A segment arrives at a flow that calls its guest: the guest's SYN, or another.
-use Rattle.std.proofs.Common.{refl, ◌≡◌, ℕ, zero, suc, ◌+◌, ◌-◌, ◌*◌, ◌^◌, ◌%◌, ◌<◌, ◌≤◌, List, [], ◌∷◌, length, drop, Bool, true, false, not, ◌&&◌, ◌||◌, Option, None, Some, is_some, if◌then◌else◌, IsTrue, min, max, nat_eq, nat_le, nat_lt, ℤ, pos, ◌<ℤ◌, arith, ap, subst, sym, ◌∙◌, inl, inr, ◌⊎◌, unwrap_or, length-drop}
-use Rattle.std.proofs.lemmas.Bool.Decides.{nat_tests}
-use Rattle.std.proofs.lemmas.Int.{ints}
+use Rattle.std.proofs.Common.{refl, ◌≡◌, ℕ, ◌-◌, ◌≤◌, List, [], ◌∷◌, Bool, true, false, not, ◌&&◌, Option, None, Some, is_some, if◌then◌else◌, min, max, arith, ap, subst, sym, ◌∙◌, inr, unwrap_or}
 use Rattle.std.specs.Option.{option_map, option_or}
-use Rattle.retransmit.specs.Resending.{Resending, after_stop}
-use Rattle.retransmit.proofs.Steady.{steady_stop}
+use Rattle.retransmit.specs.Resending.{Resending}
 use Rattle.seq_space.specs.Places.{number_of}
-use Rattle.seq_space.specs.declared.Seq.{Seq}
 use Rattle.sock_buffers.specs.Downward.{Downward}
 use Rattle.sock_buffers.specs.Kept.{Octets}
 use Rattle.sock_buffers.specs.Upward.{Upward}
-use Rattle.tcp_receive.specs.Received.{received}
 use Rattle.tcp_segment.specs.Tcp.{Tcp}
-use Rattle.tcp_transmit.specs.Transmission.{Transmission, is_sent}
-use Rattle.tcp_guest.specs.Connection.{Connection, HasBuffers, has_gone, is_opening, is_synchronized, shift_of}
+use Rattle.tcp_transmit.specs.Transmission.{Transmission}
+use Rattle.tcp_guest.specs.Connection.{Connection, HasBuffers, is_synchronized}
 use Rattle.tcp_guest.specs.Segments.{greeted, mss_of}
 use Rattle.tcp_guest.specs.declared.Stage.{Stage}
 use Rattle.tcp_guest.specs.declared.Stage.TheVariants as stage
 use Rattle.flow_laws.specs.Settings.{Settings}
 use Rattle.flow_laws.specs.Event.{Arrives, At, Segment, Story}
-use Rattle.flow_laws.specs.Guest.{Honest, Known, Up}
-use Rattle.flow_laws.specs.Host.{Down, answered, is_acceptable}
-use Rattle.flow_laws.specs.Flow.{confirms, greets, guest, host, is_closed, next_number as number_after, our_number, syn_is_out, their_number, their_syn}
+use Rattle.flow_laws.specs.Guest.{Known, Up}
+use Rattle.flow_laws.specs.Host.{is_acceptable}
+use Rattle.flow_laws.specs.Flow.{confirms, greets, guest, host, syn_is_out, their_number, their_syn}
 use Rattle.flow_laws.specs.Windows.{mss}
-use Rattle.flow_laws.specs.Close.{newest_rst}
 use Rattle.flow_laws.specs.Dutiful.{MustClose}
 use Rattle.flow_laws.proofs.Sides.{guest_greeted, guest_unknown}
-use Rattle.flow_steps.specs.Ends.{Ends, IsCurrent}
+use Rattle.flow_steps.specs.Ends.{Ends}
 use Rattle.flow_steps.specs.Follows.{Follows}
 use Rattle.flow_steps.specs.Part.{Part, part}
-use Rattle.flow_steps.specs.Received.{received as taken_of}
 use Rattle.flow_steps.proofs.Greeted.{greets_ends, greets_follows}
-use Rattle.flow_steps.proofs.Reasons.{by_arrival}
-use Rattle.connection_steps.specs.Holding.{Awaits, Gives, Goes, Holds, IsOpened, Receives, is_calls, is_connects}
-use Rattle.connection_steps.specs.Seen.{kept_at, part_of, segment_of}
+use Rattle.connection_steps.specs.Holding.{Goes, Holds, Receives, is_calls}
+use Rattle.connection_steps.specs.Seen.{kept_at, segment_of}
 use Rattle.connection_steps.proofs.Going.{comes as comes_on, nothing_to_close}
 use Rattle.connection_steps.proofs.Quiet.{opened_on}
 use Rattle.connection_steps.proofs.Unheeded.{answered_same, follows_owed, gives_after}

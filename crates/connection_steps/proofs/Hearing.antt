@@ -1,31 +1,19 @@
 -- The acknowledgement and the window of a segment that is heeded.
-use Rattle.std.proofs.Common.{refl, ◌≡◌, ℕ, zero, suc, ◌+◌, ◌-◌, ◌*◌, ◌^◌, ◌<◌, ◌≤◌, List, [], ◌∷◌, length, drop, Bool, true, false, not, ◌&&◌, ◌||◌, Option, None, Some, is_some, if◌then◌else◌, IsTrue, min, max, nat_eq, nat_le, nat_lt, int_le, ℤ, pos, ◌+ℤ◌, ◌-ℤ◌, ◌<ℤ◌, ◌≤ℤ◌, arith, ap, subst, sym, ◌∙◌, unwrap_or}
+use Rattle.std.proofs.Common.{refl, ◌≡◌, ℕ, ◌+◌, ◌-◌, ◌^◌, ◌<◌, ◌≤◌, Bool, true, false, ◌&&◌, Option, None, Some, if◌then◌else◌, nat_eq, nat_lt, pos, ◌-ℤ◌, arith, ap, ◌∙◌}
 use Rattle.std.proofs.lemmas.Bool.Decides.{nat_tests}
 use Rattle.std.proofs.lemmas.Int.{ints}
 use Rattle.cwnd.specs.Congestion.{Congestion}
-use Rattle.retransmit.specs.Resending.{Resending}
-use Rattle.seq_space.specs.Places.{place, shifted_place}
+use Rattle.seq_space.specs.Places.{shifted_place}
 use Rattle.seq_space.specs.declared.Seq.{Seq}
 use Rattle.sock_buffers.specs.Downward.{Downward}
-use Rattle.tcp_transmit.specs.Acks.{IsSeenAs, acknowledged, after_ack, congested, congested_by, is_acceptable as is_accepted_ack, is_duplicate, is_newer, is_third, moved, octets_acked, opened, place_acked, windowed, without, cwnd_after}
-use Rattle.tcp_transmit.specs.Timing.{watched_over}
-use Rattle.tcp_transmit.specs.Transmission.{Feeds, IsSentOf, Transmission, edge_of, flight, is_sent, octets_read}
+use Rattle.tcp_transmit.specs.Acks.{IsSeenAs, acknowledged, congested, congested_by, is_duplicate, is_newer, octets_acked, opened, place_acked, windowed}
+use Rattle.tcp_transmit.specs.Transmission.{Feeds, IsSentOf, Transmission, edge_of, octets_read}
 use Rattle.tcp_transmit.specs.declared.AckSeen.{AckSeen}
 use Rattle.tcp_transmit.specs.declared.AckSeen.TheVariants.{Old, Same, Forward, FinToo, TooFar}
 use Rattle.tcp_transmit.specs.declared.End.{End}
 use Rattle.tcp_transmit.specs.declared.End.TheVariants as our_end
 use Rattle.tcp_transmit.specs.declared.Window.{Window}
-use Rattle.tcp_guest.specs.Segments.{is_fin_too, is_too_far, seen_at, seen_of}
-use Rattle.flow_laws.specs.Settings.{Settings}
-use Rattle.flow_laws.specs.Event.{Arrives, At, Segment, Story}
-use Rattle.flow_laws.specs.Host.{Confirmed, Down, acked, answered, is_acceptable, not_past_sent, our_first, our_place, sent}
-use Rattle.flow_laws.specs.Flow.{confirms, host}
-use Rattle.flow_laws.specs.Windows.{Window as ToldWindow, is_no_older, their_window, window, window_of}
-use Rattle.flow_laws.proofs.Sides.{host_confirmed}
-use Rattle.flow_steps.specs.Sends.{Keeps, Outward}
-use Rattle.flow_steps.proofs.Edges.{next_window}
-use Rattle.flow_steps.proofs.SendSteps.{confirms as confirms_step}
-use Rattle.connection_steps.specs.Seen.{outward_of, window_by}
+use Rattle.tcp_guest.specs.Segments.{seen_of}
 
 -- ---- what an acknowledgement is
 

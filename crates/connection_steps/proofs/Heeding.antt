@@ -1,21 +1,21 @@
 -- A segment is heeded: its acknowledgement, its window, its octets and its FIN.
-use Rattle.std.proofs.Common.{refl, ◌≡◌, ℕ, zero, suc, ◌+◌, ◌-◌, ◌*◌, ◌^◌, ◌<◌, ◌≤◌, List, [], ◌∷◌, length, drop, Bool, true, false, not, ◌&&◌, ◌||◌, Option, None, Some, is_some, if◌then◌else◌, IsTrue, min, nat_eq, nat_le, nat_lt, int_le, ◌%◌, ℤ, pos, ◌<ℤ◌, arith, ap, subst, sym, ◌∙◌, inl, inr, ◌⊎◌, unwrap_or, length-drop}
+use Rattle.std.proofs.Common.{refl, ◌≡◌, ℕ, ◌+◌, ◌*◌, ◌^◌, ◌<◌, ◌≤◌, List, ◌∷◌, length, Bool, true, false, not, ◌&&◌, ◌||◌, Option, None, Some, is_some, if◌then◌else◌, min, nat_eq, nat_le, nat_lt, int_le, ◌%◌, pos, arith, ap, subst, sym, ◌∙◌, inl, inr, ◌⊎◌, unwrap_or, length-drop}
 use Rattle.std.proofs.lemmas.Bool.Decides.{nat_tests}
 use Rattle.std.proofs.lemmas.Int.{ints}
-use Rattle.cwnd.specs.Congestion.{Congestion, at_first, initial_window}
+use Rattle.cwnd.specs.Congestion.{at_first, initial_window}
 use Rattle.std.specs.Option.{option_map}
-use Rattle.retransmit.specs.Resending.{Resending, after_stop}
+use Rattle.retransmit.specs.Resending.{after_stop}
 use Rattle.retransmit.proofs.Steady.{steady_stop}
 use Rattle.seq_space.specs.Places.{number_of}
 use Rattle.seq_space.specs.declared.Seq.{Seq}
 use Rattle.sock_buffers.specs.Downward.{Downward}
 use Rattle.sock_buffers.specs.Upward.{Upward}
 use Rattle.tcp_receive.specs.Coming.{Comes}
-use Rattle.tcp_receive.specs.Received.{Fills, next_number, up_after}
+use Rattle.tcp_receive.specs.Received.{Fills, up_after}
 use Rattle.tcp_segment.specs.Tcp.{Tcp}
 use Rattle.tcp_transmit.specs.Acks.{IsSeenAs, after_ack, is_acceptable as is_accepted_ack, octets_acked, place_acked, without}
-use Rattle.tcp_transmit.specs.Timing.{watched, watched_over}
-use Rattle.tcp_transmit.specs.Transmission.{Feeds, IsSound, Transmission, is_sent, octets_read, places}
+use Rattle.tcp_transmit.specs.Timing.{watched_over}
+use Rattle.tcp_transmit.specs.Transmission.{Feeds, Transmission, is_sent, octets_read, places}
 use Rattle.tcp_transmit.specs.declared.AckSeen.{AckSeen}
 use Rattle.tcp_transmit.specs.declared.AckSeen.TheVariants.{Old, Same, Forward, FinToo, TooFar}
 use Rattle.tcp_guest.specs.Checks.{is_fin}
@@ -27,9 +27,9 @@ use Rattle.tcp_guest.specs.declared.Stage.TheVariants as stage
 use Rattle.flow_laws.specs.Settings.{Settings}
 use Rattle.flow_laws.specs.Event.{Arrives, At, Segment, Story}
 use Rattle.flow_laws.specs.Guest.{is_empty}
-use Rattle.flow_laws.specs.Host.{Confirmed, Down, acked, answered, is_acceptable, not_past_sent, our_place}
-use Rattle.flow_laws.specs.Flow.{confirms, greets, host, is_closed, is_heeded, is_plain, is_under_way, next_number as number_after, our_number, syn_is_out, their_number, their_syn}
-use Rattle.flow_laws.specs.Windows.{is_scaled, their_scale, their_shift, their_window, window}
+use Rattle.flow_laws.specs.Host.{Down, acked, answered, is_acceptable, not_past_sent, our_place}
+use Rattle.flow_laws.specs.Flow.{confirms, greets, host, is_closed, is_heeded, is_under_way, next_number as number_after, our_number, syn_is_out, their_number, their_syn}
+use Rattle.flow_laws.specs.Windows.{is_scaled, their_scale, their_shift, their_window}
 use Rattle.flow_laws.proofs.Sides.{host_confirmed}
 use Rattle.flow_steps.specs.Resends.{Resends}
 use Rattle.flow_steps.specs.Sends.{Keeps}
@@ -37,13 +37,12 @@ use Rattle.flow_steps.proofs.Reasons.{by_arrival}
 use Rattle.flow_steps.proofs.SendSteps.{place_of_number}
 use Rattle.flow_steps.proofs.Sendings.{rises}
 use Rattle.connection_steps.specs.Holding.{Gives, Goes, Holds, IsOpened, Receives, Suits, is_calls, is_connects}
-use Rattle.connection_steps.specs.Seen.{count_of, outward_of, resending_of, segment_of, timer_of, window_by}
-use Rattle.connection_steps.proofs.Confirming.{answered_now, far_is, heard_fin, heard_keeps, heard_runs, heard_steady, heard_told, not_past, old_is, place_same, read_stays, syn_heard_runs}
+use Rattle.connection_steps.specs.Seen.{count_of, outward_of, segment_of, timer_of, window_by}
+use Rattle.connection_steps.proofs.Confirming.{answered_now, far_is, heard_fin, heard_keeps, heard_runs, heard_steady, heard_told, not_past, old_is, place_same, syn_heard_runs}
 use Rattle.connection_steps.proofs.Going.{comes as comes_on, nothing_to_close}
 use Rattle.connection_steps.proofs.Hearing.{heard_by, heard_stays, seen_as}
 use Rattle.connection_steps.proofs.Quiet.{gives_as, opened_on, same_mss}
 use Rattle.connection_steps.proofs.Taking.{taken_receives}
-use Rattle.connection_steps.proofs.Telling.{scaled_is}
 use Rattle.connection_steps.proofs.Unheeded.{gives_after, stays, syn_stays}
 use Rattle.connection_steps.proofs.Watching.{gives_watched, under_way_is, watched_mss}
 

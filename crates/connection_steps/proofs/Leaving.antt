@@ -1,31 +1,29 @@
 -- A segment without SYN goes out: what is common to an acknowledgement alone and a piece of the host's stream.
-use Rattle.std.proofs.Common.{refl, ◌≡◌, ℕ, ◌+◌, ◌-◌, ◌*◌, ◌^◌, ◌<◌, ◌≤◌, List, [], ◌∷◌, length, Bool, true, false, not, ◌&&◌, ◌||◌, Option, None, Some, is_some, if◌then◌else◌, IsTrue, IfSome, MatchBool, nat_eq, nat_le, max, min, pos, ◌+ℤ◌, arith, ap, subst, sym, ◌∙◌, inl, inr, ◌⊎◌, take, drop, length-drop, length-take, nat_lt}
-use Rattle.std.proofs.lemmas.Bool.Decides.{nat_tests}
+use Rattle.std.proofs.Common.{refl, ◌≡◌, ℕ, ◌+◌, ◌-◌, ◌^◌, ◌<◌, ◌≤◌, List, [], ◌∷◌, length, Bool, true, false, not, ◌&&◌, ◌||◌, None, Some, if◌then◌else◌, IsTrue, MatchBool, max, min, pos, arith, ap, subst, sym, ◌∙◌, take, drop, length-drop}
 use Rattle.seq_space.specs.Places.{number_of}
 use Rattle.sock_buffers.specs.Downward.{Downward}
 use Rattle.sock_buffers.specs.Upward.{Upward, room_of}
 use Rattle.tcp_receive.specs.Received.{next_number}
-use Rattle.tcp_transmit.specs.Transmission.{Feeds, IsSentOf, Transmission, is_sent, octets_read}
+use Rattle.tcp_transmit.specs.Transmission.{IsSentOf, Transmission, octets_read}
 use Rattle.tcp_transmit.specs.declared.End.{End}
 use Rattle.tcp_transmit.specs.declared.End.TheVariants as our_end
-use Rattle.tcp_guest.specs.Connection.{Connection, HasBuffers, has_gone, is_opening, is_synchronized}
+use Rattle.tcp_guest.specs.Connection.{Connection, has_gone}
 use Rattle.tcp_guest.specs.Owing.{told}
 use Rattle.tcp_guest.specs.Windows.{field, our_shift}
 use Rattle.flow_laws.specs.Settings.{Settings}
-use Rattle.flow_laws.specs.Event.{At, Departs, Segment, Story, Event}
-use Rattle.flow_laws.specs.Host.{Down, Sent, StandAt, acked, answered, got, our_first, our_place, sent}
-use Rattle.flow_laws.specs.Flow.{has_connected, host, is_accepted, is_closed, is_connecting, is_under_way, syn_is_out, their_number}
+use Rattle.flow_laws.specs.Event.{At, Departs, Segment, Story}
+use Rattle.flow_laws.specs.Host.{Down, Sent, StandAt, acked, answered, got, our_place, sent}
+use Rattle.flow_laws.specs.Flow.{has_connected, host, is_accepted, is_closed, syn_is_out}
 use Rattle.flow_laws.specs.Windows.{is_scaled, least_shift as least_told, our_shift as shift_told}
-use Rattle.flow_laws.specs.Close.{host_failed}
-use Rattle.flow_laws.specs.Lawful.{IsPiece, May, OpensAfterHost, OpensWithSyn, ResetsWhereOwed, Send, SendsAgainWithReason, SendsEndAfterAll, SendsItsOptions, SendsNothingAfterClose, SendsWhatTheHostSent}
-use Rattle.flow_laws.proofs.Sides.{host_sent, our_first_is}
-use Rattle.flow_steps.specs.Sends.{Keeps, Outward}
+use Rattle.flow_laws.specs.Lawful.{IsPiece, May, Send, SendsAgainWithReason, SendsEndAfterAll, SendsWhatTheHostSent}
+use Rattle.flow_laws.proofs.Sides.{host_sent}
+use Rattle.flow_steps.specs.Sends.{Keeps}
 use Rattle.flow_steps.proofs.Acts.{may_send, must_send}
 use Rattle.flow_steps.proofs.SendSteps.{sends, sent_piece}
-use Rattle.connection_steps.specs.Holding.{Goes, Holds, IsOpened, Receives, is_calls, is_connects, is_live}
-use Rattle.connection_steps.specs.Seen.{count_of, outward_of, part_of, resending_of, timer_of}
+use Rattle.connection_steps.specs.Holding.{Goes, Holds, IsOpened, Receives, is_calls, is_connects}
+use Rattle.connection_steps.specs.Seen.{outward_of}
 use Rattle.connection_steps.proofs.Going.{does}
-use Rattle.connection_steps.proofs.Telling.{acknowledges, shift_is, tells, tells_room, theirs}
+use Rattle.connection_steps.proofs.Telling.{acknowledges, shift_is, tells, tells_room}
 
 either_of : (a b d : Bool) → not (a || b || d) ≡ false → d ≡ false → (b || a) ≡ true
 either_of true b false is apart_from = by b

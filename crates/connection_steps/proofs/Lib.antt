@@ -13,6 +13,7 @@ pub mod Hearing
 pub mod Heeding
 pub mod Leaving
 pub mod Opening
+pub mod Owing
 pub mod Pieces
 pub mod Quiet
 pub mod Reading

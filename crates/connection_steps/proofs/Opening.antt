@@ -1,12 +1,12 @@
 -- A flow is opened.
-use Rattle.std.proofs.Common.{refl, ◌≡◌, ℕ, ◌+◌, ◌-◌, ◌≤◌, ◌^◌, List, [], ◌∷◌, Bool, true, false, Option, None, Some, min, max, unwrap_or, arith, sym, ◌∙◌, inr}
+use Rattle.std.proofs.Common.{refl, ◌≡◌, ℕ, ◌-◌, ◌≤◌, ◌^◌, [], ◌∷◌, true, arith, inr}
 use Rattle.retransmit.specs.Resending.{IsSteady, at_rest}
 use Rattle.sock_buffers.specs.Downward.{downward}
 use Rattle.sock_buffers.specs.Upward.{empty}
 use Rattle.tcp_segment.specs.Tcp.{Tcp}
 use Rattle.tcp_guest.specs.Connection.{HasBuffers, from_guest, to_guest}
 use Rattle.flow_laws.specs.Settings.{Settings}
-use Rattle.flow_laws.specs.Event.{Connects, Accepts, At, Story}
+use Rattle.flow_laws.specs.Event.{Connects, Accepts, At}
 use Rattle.flow_laws.specs.Windows.{mss}
 use Rattle.flow_steps.proofs.InTime.{opens, accepts}
 use Rattle.flow_steps.proofs.Rests.{opens_ends}

@@ -1,16 +1,15 @@
 -- A piece of the host's stream goes out.
-use Rattle.std.proofs.Common.{refl, ◌≡◌, ℕ, ◌+◌, ◌-◌, ◌^◌, ◌<◌, ◌≤◌, List, [], ◌∷◌, length, Bool, true, false, not, ◌&&◌, ◌||◌, Option, None, Some, if◌then◌else◌, IsTrue, nat_eq, nat_le, nat_lt, max, min, ℤ, pos, ◌+ℤ◌, int_le, arith, ap, subst, sym, ◌∙◌, drop, take, length-take, length-drop, is_some, inl, inr, ◌⊎◌}
+use Rattle.std.proofs.Common.{refl, ◌≡◌, ℕ, ◌+◌, ◌-◌, ◌^◌, ◌<◌, ◌≤◌, List, [], ◌∷◌, length, Bool, true, false, not, ◌&&◌, ◌||◌, None, Some, if◌then◌else◌, IsTrue, nat_le, nat_lt, max, min, ℤ, pos, ◌+ℤ◌, int_le, arith, ap, subst, sym, ◌∙◌, drop, take, length-take, length-drop, is_some, inl, inr, ◌⊎◌}
 use Rattle.std.proofs.lemmas.Bool.Decides.{nat_tests}
 use Rattle.std.proofs.lemmas.Int.{ints}
 use Rattle.retransmit.specs.Resending.{Resending, after_sent as resend_sent, counted, doublings, is_expired, is_off, set_unless_running}
 use Rattle.retransmit.specs.declared.Timer.{Timer}
 use Rattle.retransmit.specs.declared.Timer.TheVariants as timer
-use Rattle.seq_space.specs.Places.{number_of}
 use Rattle.sock_buffers.specs.Downward.{Downward}
 use Rattle.sock_buffers.specs.Upward.{Upward}
-use Rattle.tcp_transmit.specs.Pieces.{GoesAgain, Probes, end_of, fresh, next, numbers, oldest, piece_owed, probe}
+use Rattle.tcp_transmit.specs.Pieces.{end_of, fresh, next, numbers, oldest, piece_owed, probe}
 use Rattle.tcp_transmit.specs.Timing.{after_sent, goes_again}
-use Rattle.tcp_transmit.specs.Transmission.{Feeds, IsSound, Transmission, edge_of, end_places, is_closed, is_owed_again, is_sent, octets_read}
+use Rattle.tcp_transmit.specs.Transmission.{Transmission, edge_of, end_places, is_owed_again, is_sent, octets_read}
 use Rattle.tcp_transmit.specs.declared.End.{End}
 use Rattle.tcp_transmit.specs.declared.End.TheVariants as our_end
 use Rattle.tcp_transmit.specs.declared.Piece.{Piece}
@@ -21,19 +20,19 @@ use Rattle.tcp_guest.specs.Owing.{data_gone, told}
 use Rattle.tcp_guest.specs.Windows.{our_shift}
 use Rattle.tcp_guest.specs.declared.Owed.TheVariants.{Data}
 use Rattle.flow_laws.specs.Settings.{Settings}
-use Rattle.flow_laws.specs.Event.{At, Departs, Segment, Story, newest_moment}
+use Rattle.flow_laws.specs.Event.{At, Departs, Segment, Story}
 use Rattle.flow_laws.specs.Guest.{is_empty}
 use Rattle.flow_laws.specs.Host.{acked, answered, got, got_end, our_place, sent}
-use Rattle.flow_laws.specs.Flow.{host, is_under_way, sendings, syn_is_out}
+use Rattle.flow_laws.specs.Flow.{host, is_under_way, syn_is_out}
 use Rattle.flow_laws.specs.Close.{fin_is_out}
-use Rattle.flow_laws.specs.Lawful.{Send, SendsAgainWithReason, SendsEndAfterAll, is_overdue, is_prompted, repeats}
-use Rattle.flow_steps.specs.Resends.{HasReason, Resends, Timer as FlowTimer, Until}
+use Rattle.flow_laws.specs.Lawful.{Send, SendsAgainWithReason, SendsEndAfterAll, is_overdue, is_prompted}
+use Rattle.flow_steps.specs.Resends.{Resends, Timer as FlowTimer, Until}
 use Rattle.flow_steps.specs.Sends.{Keeps, Outward}
 use Rattle.flow_steps.proofs.Gone.{first_goes, next_goes, oldest_goes, oldest_goes_anyway}
 use Rattle.flow_steps.proofs.Reasons.{oldest_may_go, reason_later}
 use Rattle.flow_steps.proofs.Sendings.{rises, sent_once}
-use Rattle.connection_steps.specs.Holding.{Gives, Holds, IsOpened, is_calls}
-use Rattle.connection_steps.specs.Seen.{count_of, outward_of, resending_of, timer_by, timer_of}
+use Rattle.connection_steps.specs.Holding.{Gives, Holds, is_calls}
+use Rattle.connection_steps.specs.Seen.{count_of, outward_of, timer_by, timer_of}
 use Rattle.connection_steps.specs.Sending.{octets_of, segment_out}
 use Rattle.connection_steps.proofs.Acking.{opened_told}
 use Rattle.connection_steps.proofs.Leaving.{leaves_goes, leaves_kept, leaves_received, near_sent, read_is, stands}

@@ -1,5 +1,5 @@
 -- Events that leave a part of the story as it is.
-use Rattle.std.proofs.Common.{refl, ◌≡◌, ℕ, ◌<◌, ◌≤◌, List, [], ◌∷◌, Bool, true, false, Option, None, Some, if◌then◌else◌, IsTrue, nat_eq, ◌+◌, min, max, unwrap_or, ◌-◌, arith, ap, subst, sym, ◌∙◌}
+use Rattle.std.proofs.Common.{refl, ◌≡◌, ℕ, ◌<◌, ◌≤◌, List, ◌∷◌, Bool, true, Option, None, Some, if◌then◌else◌, IsTrue, nat_eq, ◌+◌, min, max, unwrap_or, ◌-◌, ap, subst, sym, ◌∙◌}
 use Rattle.retransmit.specs.Resending.{IsSteady, Resending, is_off}
 use Rattle.sock_buffers.specs.Downward.{Downward}
 use Rattle.sock_buffers.specs.Upward.{Upward}
@@ -10,8 +10,8 @@ use Rattle.flow_laws.specs.Settings.{Settings}
 use Rattle.flow_laws.specs.Event.{Segment, Event, At, Story}
 use Rattle.flow_laws.specs.Guest.{AckIsDue, Honest, Up, was_acked}
 use Rattle.flow_laws.specs.Host.{Down, answered}
-use Rattle.flow_laws.specs.Flow.{guest, host, is_accepted, is_under_way, their_number, their_syn, syn_is_out}
-use Rattle.flow_laws.specs.Windows.{mss, right_edge, their_scale}
+use Rattle.flow_laws.specs.Flow.{host, is_accepted, is_under_way, their_number, their_syn, syn_is_out}
+use Rattle.flow_laws.specs.Windows.{mss, their_scale}
 use Rattle.flow_steps.specs.Ends.{IsCurrent}
 use Rattle.flow_steps.specs.Follows.{Follows}
 use Rattle.flow_steps.specs.Received.{received as taken_of}
@@ -20,7 +20,7 @@ use Rattle.flow_steps.specs.Sends.{Keeps}
 use Rattle.flow_steps.proofs.Reasons.{reason_stays, reason_later}
 use Rattle.flow_steps.proofs.Resent.{IsQuiet, later, quiet}
 use Rattle.flow_steps.proofs.Rests.{quiet_ends}
-use Rattle.connection_steps.specs.Holding.{Awaits, Gives, Goes, Holds, IsOpened, Receives, is_calls}
+use Rattle.connection_steps.specs.Holding.{Awaits, Gives, Holds, IsOpened, Receives}
 use Rattle.connection_steps.specs.Same.{SameGuest, SameHost, SameStart}
 use Rattle.connection_steps.specs.Seen.{count_of, outward_of, part_of, resending_of, timer_of, window_by}
 use Rattle.connection_steps.proofs.Going.{later as goes_later}

@@ -1,5 +1,5 @@
 -- Octets of the host are read, and its end.
-use Rattle.std.proofs.Common.{refl, ◌≡◌, ℕ, ◌+◌, ◌-◌, ◌<◌, ◌≤◌, List, [], ◌∷◌, ◌++◌, length, Bool, true, false, not, nat_eq, nat_lt, arith, ap, subst, sym, ◌∙◌, length-append}
+use Rattle.std.proofs.Common.{refl, ◌≡◌, ℕ, ◌+◌, ◌≤◌, List, ◌∷◌, ◌++◌, length, true, false, not, nat_eq, nat_lt, arith, ap, sym, ◌∙◌, length-append}
 use Rattle.std.proofs.lemmas.Bool.Decides.{nat_tests}
 use Rattle.sock_buffers.specs.Downward.{Downward}
 use Rattle.sock_buffers.specs.Upward.{Upward}
@@ -7,20 +7,19 @@ use Rattle.tcp_transmit.specs.Timing.{watched_over, watched}
 use Rattle.tcp_transmit.specs.Transmission.{IsSentOf, Transmission, is_sent, octets_read, places}
 use Rattle.tcp_transmit.specs.declared.End.{End}
 use Rattle.tcp_transmit.specs.declared.End.TheVariants as our_end
-use Rattle.tcp_guest.specs.Connection.{Connection, HasBuffers, is_opening}
-use Rattle.tcp_guest.specs.Hosts.{host_ended, is_open}
+use Rattle.tcp_guest.specs.Connection.{Connection, HasBuffers}
+use Rattle.tcp_guest.specs.Hosts.{is_open}
 use Rattle.flow_laws.specs.Settings.{Settings}
-use Rattle.flow_laws.specs.Event.{At, Event, Reads, ReadsEnd, Story}
+use Rattle.flow_laws.specs.Event.{At, Reads, ReadsEnd, Story}
 use Rattle.flow_laws.specs.Host.{got_end}
 use Rattle.flow_laws.specs.Flow.{host, is_under_way}
 use Rattle.flow_laws.specs.Lawful.{Read}
 use Rattle.flow_laws.proofs.HostLaws.{InOrder, in_order}
-use Rattle.flow_steps.specs.Resends.{Resends}
 use Rattle.flow_steps.proofs.Acts.{may_read, must_read}
 use Rattle.flow_steps.proofs.Reasons.{reason_later, reason_stays}
-use Rattle.flow_steps.proofs.Resent.{IsQuiet, quiet}
+use Rattle.flow_steps.proofs.Resent.{quiet}
 use Rattle.flow_steps.proofs.SendSteps.{reads as reads_step, reads_end as end_step}
-use Rattle.connection_steps.specs.Holding.{Gives, Holds, IsOpened}
+use Rattle.connection_steps.specs.Holding.{Gives, Holds}
 use Rattle.connection_steps.specs.Seen.{count_of, outward_of, resending_of, timer_of}
 use Rattle.connection_steps.proofs.Going.{does}
 use Rattle.connection_steps.proofs.Quiet.{awaits_on, awaits_sending, opened_on, opened_sending, receives_on, receives_sending}

@@ -1,37 +1,36 @@
 -- Our SYN or SYN-ACK goes out.
-use Rattle.std.proofs.Common.{refl, ◌≡◌, ℕ, ◌+◌, ◌-◌, ◌^◌, ◌<◌, ◌≤◌, ◌%◌, List, [], ◌∷◌, length, Bool, true, false, not, ◌&&◌, ◌||◌, Option, None, Some, is_some, if◌then◌else◌, IsTrue, IfSome, nat_eq, nat_le, nat_lt, int_le, pos, ◌+ℤ◌, arith, ap, subst, sym, ◌∙◌}
-use Rattle.retransmit.specs.Resending.{IsSteady, Resending, after_sent as resend_sent, counted, doublings, is_expired, is_off, set_unless_running}
+use Rattle.std.proofs.Common.{refl, ◌≡◌, ℕ, ◌+◌, ◌^◌, ◌<◌, ◌≤◌, ◌%◌, List, [], ◌∷◌, length, Bool, true, false, not, ◌&&◌, ◌||◌, Option, None, Some, is_some, if◌then◌else◌, IsTrue, IfSome, nat_lt, int_le, pos, ◌+ℤ◌, arith, ap, subst, sym, ◌∙◌}
+use Rattle.retransmit.specs.Resending.{Resending, after_sent as resend_sent, counted, doublings, is_off, set_unless_running}
 use Rattle.retransmit.specs.declared.Timer.{Timer}
 use Rattle.retransmit.specs.declared.Timer.TheVariants as timer
 use Rattle.retransmit.proofs.Steady.{steady_second, steady_sent}
 use Rattle.sock_buffers.specs.Downward.{Downward}
-use Rattle.sock_buffers.specs.Upward.{Upward, room_of}
+use Rattle.sock_buffers.specs.Upward.{Upward}
 use Rattle.tcp_receive.specs.Received.{next_number, places_taken}
-use Rattle.tcp_guest.specs.Connection.{Connection, HasBuffers, IsSound, has_gone, is_opening, is_synchronized, once_more}
-use Rattle.tcp_guest.specs.Owing.{owed_by, owed_of, scale_if, syn_gone, told}
-use Rattle.tcp_guest.specs.Windows.{field, least_shift, our_shift}
-use Rattle.tcp_guest.specs.declared.Owed.{Owed}
-use Rattle.tcp_guest.specs.declared.Owed.TheVariants.{Syn, SynAck, Data, Ack, Reset}
+use Rattle.tcp_guest.specs.Connection.{Connection, HasBuffers, has_gone, is_opening, is_synchronized, once_more}
+use Rattle.tcp_guest.specs.Owing.{scale_if, syn_gone, told}
+use Rattle.tcp_guest.specs.Windows.{least_shift}
+use Rattle.tcp_guest.specs.declared.Owed.TheVariants.{SynAck}
 use Rattle.tcp_guest.specs.declared.Sendings.{Sendings}
 use Rattle.tcp_guest.specs.declared.Sendings.TheVariants.{Never, Once, Again}
 use Rattle.tcp_guest.specs.declared.Stage.{Stage}
 use Rattle.tcp_guest.specs.declared.Stage.TheVariants as stage
 use Rattle.flow_laws.specs.Settings.{Settings}
-use Rattle.flow_laws.specs.Event.{At, Departs, Segment, Story, newest_moment}
+use Rattle.flow_laws.specs.Event.{At, Departs, Segment, Story}
 use Rattle.flow_laws.specs.Host.{Down, acked, answered, our_place, sent}
-use Rattle.flow_laws.specs.Flow.{add_if, host, is_closed, is_under_way, next_number as number_after, syn_is_out, syn_sendings, their_number}
+use Rattle.flow_laws.specs.Flow.{add_if, host, is_closed, is_under_way, next_number as number_after, syn_is_out, syn_sendings}
 use Rattle.flow_laws.specs.Windows.{is_scaled, least_shift as least_told}
 use Rattle.flow_laws.specs.Close.{fin_is_out}
 use Rattle.flow_laws.specs.Lawful.{OpensWithSyn, Send, SendsAgainWithReason, SendsItsOptions, is_overdue, is_prompted, repeats}
 use Rattle.flow_laws.proofs.Sides.{host_opened}
-use Rattle.flow_steps.specs.Resends.{HasReason, Resends, Timer as FlowTimer, Until}
+use Rattle.flow_steps.specs.Resends.{Resends, Timer as FlowTimer, Until}
 use Rattle.flow_steps.specs.Sends.{Keeps}
 use Rattle.flow_steps.proofs.Acts.{may_send, must_send}
 use Rattle.flow_steps.proofs.Reasons.{reason_later, syn_may_go}
 use Rattle.flow_steps.proofs.Sendings.{rises}
 use Rattle.flow_steps.proofs.SynGone.{syn_again, syn_anyway, syn_goes}
-use Rattle.connection_steps.specs.Holding.{Awaits, Gives, Goes, Holds, IsOpened, Receives, Suits, is_calls, is_connects}
-use Rattle.connection_steps.specs.Seen.{count_of, outward_of, resending_of, timer_by, timer_of}
+use Rattle.connection_steps.specs.Holding.{Gives, Goes, Holds, is_calls, is_connects}
+use Rattle.connection_steps.specs.Seen.{count_of, outward_of, timer_by, timer_of}
 use Rattle.connection_steps.specs.Sending.{segment_out}
 use Rattle.connection_steps.proofs.Going.{does}
 use Rattle.connection_steps.proofs.Leaving.{granted}

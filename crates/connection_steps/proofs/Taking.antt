@@ -1,10 +1,9 @@
 -- The octets and the FIN of a segment that is heeded, against the flow's story.
-use Rattle.std.proofs.Common.{refl, ◌≡◌, ℕ, zero, suc, ◌+◌, ◌-◌, ◌^◌, ◌<◌, ◌≤◌, List, [], ◌∷◌, ◌++◌, length, Bool, true, false, not, ◌&&◌, ◌||◌, Option, None, Some, is_some, if◌then◌else◌, IsTrue, ◌↔◌, min, nat_eq, nat_le, nat_lt, ℤ, pos, negsuc, ◌+ℤ◌, ◌<ℤ◌, arith, ap, subst, sym, ◌∙◌, inl, inr, ◌⊎◌, slice_get}
-use Rattle.std.proofs.lemmas.Bool.Decides.{nat_tests}
+use Rattle.std.proofs.Common.{refl, ◌≡◌, ℕ, ◌+◌, ◌-◌, ◌^◌, ◌<◌, ◌≤◌, List, [], ◌∷◌, ◌++◌, length, Bool, true, false, not, ◌&&◌, ◌||◌, Option, None, Some, is_some, if◌then◌else◌, IsTrue, ◌↔◌, nat_eq, nat_le, ℤ, pos, negsuc, ◌+ℤ◌, ◌<ℤ◌, arith, ap, subst, sym, ◌∙◌, inl, inr, ◌⊎◌, slice_get}
 use Rattle.retransmit.specs.Resending.{Resending}
-use Rattle.seq_space.specs.Places.{number_of, place, shifted_place}
-use Rattle.sock_buffers.specs.Kept.{Octets, octet_at}
-use Rattle.sock_buffers.specs.Upward.{Upward, room_of}
+use Rattle.seq_space.specs.Places.{number_of, shifted_place}
+use Rattle.sock_buffers.specs.Kept.{octet_at}
+use Rattle.sock_buffers.specs.Upward.{Upward}
 use Rattle.tcp_receive.specs.Coming.{Comes}
 use Rattle.tcp_receive.specs.Received.{Fills, Received, next_number, place_in, places_taken, up_after}
 use Rattle.tcp_segment.specs.Tcp.{Tcp}
@@ -15,7 +14,7 @@ use Rattle.tcp_guest.specs.Segments.{count_taken, is_end_taken, is_to_acknowledg
 use Rattle.tcp_guest.specs.declared.Stage.{Stage}
 use Rattle.flow_laws.specs.Settings.{Settings}
 use Rattle.flow_laws.specs.Event.{Arrives, At, Segment, Story}
-use Rattle.flow_laws.specs.Guest.{AckIsDue, Came, Honest, Up, ackd, first_of, is_empty, octet_at as octet_in, top, was_acked}
+use Rattle.flow_laws.specs.Guest.{AckIsDue, Came, Honest, Up, ackd, is_empty, octet_at as octet_in, was_acked}
 use Rattle.flow_laws.specs.Flow.{guest, is_closed, is_heeded, is_plain, their_number}
 use Rattle.flow_laws.proofs.Sides.{guest_came}
 use Rattle.flow_laws.proofs.Streams.{earlier}
@@ -27,7 +26,7 @@ use Rattle.flow_steps.proofs.Due.{came_due}
 use Rattle.flow_steps.proofs.EndSteps.{heeds}
 use Rattle.flow_steps.proofs.Resets.{came_current}
 use Rattle.flow_steps.proofs.Taking.{came}
-use Rattle.connection_steps.specs.Holding.{Goes, IsOpened, Receives, is_calls}
+use Rattle.connection_steps.specs.Holding.{Receives}
 use Rattle.connection_steps.specs.Seen.{kept_at, part_of, segment_of}
 use Rattle.connection_steps.proofs.Coming.{brings, count_now, counted, end_is, held_now, keeps_now, none_owed, sized, taken_now, takes_all, takes_none}
 

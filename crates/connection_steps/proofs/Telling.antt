@@ -1,7 +1,5 @@
 -- A segment that acknowledges goes out, and tells the room that is left.
-use Rattle.std.proofs.Common.{refl, ◌≡◌, ℕ, zero, suc, ◌+◌, ◌-◌, ◌*◌, ◌/◌, ◌^◌, ◌<◌, ◌≤◌, List, [], ◌∷◌, length, Bool, true, false, not, ◌&&◌, ◌||◌, Option, None, Some, is_some, if◌then◌else◌, IsTrue, nat_eq, nat_le, min, arith, ap, subst, sym, ◌∙◌, inl, inr, ◌⊎◌}
-use Rattle.seq_space.specs.Places.{number_of}
-use Rattle.sock_buffers.specs.Downward.{Downward}
+use Rattle.std.proofs.Common.{refl, ◌≡◌, ℕ, zero, suc, ◌+◌, ◌*◌, ◌/◌, ◌^◌, ◌≤◌, List, ◌∷◌, length, Bool, true, false, not, ◌&&◌, ◌||◌, Option, None, Some, is_some, if◌then◌else◌, IsTrue, nat_eq, nat_le, arith, ap, subst, sym, ◌∙◌}
 use Rattle.sock_buffers.specs.Upward.{Upward, room_of}
 use Rattle.tcp_receive.specs.Received.{next_number}
 use Rattle.tcp_transmit.specs.Transmission.{is_sent}
@@ -12,7 +10,7 @@ use Rattle.flow_laws.specs.Settings.{Settings}
 use Rattle.flow_laws.specs.Event.{At, Departs, Segment, Story}
 use Rattle.flow_laws.specs.Guest.{AckIsDue, Acked, Honest, HasCome, IsAcknowledged, Up, ackd, was_acked, written}
 use Rattle.flow_laws.specs.Flow.{guest, their_number}
-use Rattle.flow_laws.specs.Windows.{is_scaled, least_shift as least_told, our_shift as shift_told, right_edge, shift_within as told_within, their_scale}
+use Rattle.flow_laws.specs.Windows.{is_scaled, least_shift as least_told, our_shift as shift_told, shift_within as told_within, their_scale}
 use Rattle.flow_laws.specs.Close.{fin_is_out}
 use Rattle.flow_laws.specs.Lawful.{AcknowledgesWhatCame, Send}
 use Rattle.flow_laws.specs.Dutiful.{TellsRoom}

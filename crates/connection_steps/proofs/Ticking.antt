@@ -1,7 +1,7 @@
 -- The timer expires: what it waits for is owed again, or the flow is given up.
-use Rattle.std.proofs.Common.{refl, ◌≡◌, ℕ, suc, ◌+◌, ◌*◌, ◌^◌, ◌<◌, ◌≤◌, Bool, true, false, Option, None, Some, if◌then◌else◌, IsTrue, nat_eq, nat_le, nat_lt, min, arith, ap, subst, sym, ◌∙◌}
+use Rattle.std.proofs.Common.{refl, ◌≡◌, ℕ, ◌+◌, ◌*◌, ◌<◌, ◌≤◌, Bool, true, false, Some, if◌then◌else◌, IsTrue, nat_eq, nat_lt, min, arith, ap, subst, sym, ◌∙◌}
 use Rattle.std.proofs.lemmas.Bool.Decides.{nat_tests}
-use Rattle.retransmit.specs.Resending.{IsSteady, Resending, after_expired as resend_expired, doublings, due_by, due_of, expired_by, is_given_up, is_off}
+use Rattle.retransmit.specs.Resending.{Resending, after_expired as resend_expired, doublings, due_by, due_of, expired_by, is_given_up, is_off}
 use Rattle.retransmit.specs.Estimate.{after_expiry}
 use Rattle.retransmit.specs.declared.Timer.{Timer}
 use Rattle.retransmit.specs.declared.Timer.TheVariants as timer
@@ -9,10 +9,8 @@ use Rattle.retransmit.proofs.Steady.{steady_expired}
 use Rattle.sock_buffers.specs.Downward.{Downward}
 use Rattle.sock_buffers.specs.Upward.{Upward}
 use Rattle.tcp_transmit.specs.Timing.{after_expired, cwnd_expired}
-use Rattle.tcp_transmit.specs.Transmission.{Transmission, flight, is_owed_again, is_sent, octets_read}
-use Rattle.tcp_guest.specs.Connection.{Connection, HasBuffers, has_gone, is_opening, is_synchronized}
-use Rattle.tcp_guest.specs.Timing.{again, is_spent}
-use Rattle.tcp_guest.specs.declared.Stage.{Stage}
+use Rattle.tcp_transmit.specs.Transmission.{Transmission, flight, is_sent, octets_read}
+use Rattle.tcp_guest.specs.Connection.{Connection, HasBuffers, has_gone, is_opening}
 use Rattle.flow_laws.specs.Settings.{Settings}
 use Rattle.flow_laws.specs.Event.{Story}
 use Rattle.flow_laws.specs.Flow.{host, is_under_way}
@@ -22,7 +20,7 @@ use Rattle.flow_steps.specs.Sends.{Keeps}
 use Rattle.flow_steps.proofs.InTime.{gives_up_now}
 use Rattle.flow_steps.proofs.Reasons.{by_expiry}
 use Rattle.flow_steps.proofs.Resent.{counted, expires_now}
-use Rattle.connection_steps.specs.Holding.{Gives, Holds, IsOpened}
+use Rattle.connection_steps.specs.Holding.{Holds}
 use Rattle.connection_steps.specs.Seen.{count_of, outward_of, resending_of, timer_by, timer_of, window_by}
 use Rattle.connection_steps.proofs.Quiet.{opened_sending, receives_sending, awaits_sending}
 use Rattle.connection_steps.proofs.Watching.{syn_under_way, under_way_is}

@@ -1,20 +1,19 @@
 -- A segment arrives that isn't heeded: nothing is taken of it, and it acknowledges nothing.
-use Rattle.std.proofs.Common.{refl, ◌≡◌, ℕ, ◌+◌, ◌-◌, ◌^◌, ◌<◌, ◌≤◌, List, [], ◌∷◌, length, Bool, true, false, not, ◌&&◌, ◌||◌, Option, None, Some, is_some, if◌then◌else◌, IsTrue, min, max, arith, ap, subst, sym, ◌∙◌, inl, inr, ◌⊎◌}
+use Rattle.std.proofs.Common.{refl, ◌≡◌, ℕ, ◌≤◌, List, ◌∷◌, Bool, true, false, ◌&&◌, ◌||◌, Option, None, Some, is_some, if◌then◌else◌, IsTrue, ap, subst, sym, ◌∙◌, inl, inr, ◌⊎◌}
 use Rattle.std.specs.Option.{option_or, option_map}
 use Rattle.sock_buffers.specs.Downward.{Downward}
 use Rattle.sock_buffers.specs.Upward.{Upward}
 use Rattle.tcp_receive.specs.Received.{next_number}
-use Rattle.tcp_guest.specs.Connection.{Connection, HasBuffers, has_gone, is_opening}
+use Rattle.tcp_guest.specs.Connection.{Connection, HasBuffers}
 use Rattle.flow_laws.specs.Settings.{Settings}
 use Rattle.flow_laws.specs.Event.{Arrives, At, Segment, Story}
 use Rattle.flow_laws.specs.Guest.{AckIsDue, Came, Honest, Up, was_acked}
-use Rattle.flow_laws.specs.Host.{Confirmed, Down, acked, answered, is_acceptable}
-use Rattle.flow_laws.specs.Flow.{confirms, greets, guest, host, is_closed, is_heeded, is_plain, is_under_way, their_number, their_syn}
-use Rattle.flow_laws.specs.Close.{newest_rst}
+use Rattle.flow_laws.specs.Host.{Confirmed, Down, answered, is_acceptable}
+use Rattle.flow_laws.specs.Flow.{confirms, greets, guest, host, is_heeded, is_plain, is_under_way, their_number, their_syn}
 use Rattle.flow_laws.specs.Dutiful.{MustClose}
 use Rattle.flow_laws.proofs.Sides.{guest_came, guest_passed, host_confirmed, host_passed}
 use Rattle.flow_laws.proofs.Streams.{earlier}
-use Rattle.flow_steps.specs.Ends.{Ends, IsCurrent}
+use Rattle.flow_steps.specs.Ends.{IsCurrent}
 use Rattle.flow_steps.specs.Follows.{Follows}
 use Rattle.flow_steps.specs.Part.{Part}
 use Rattle.flow_steps.specs.Received.{received as taken_of}
@@ -27,7 +26,7 @@ use Rattle.flow_steps.proofs.Reasons.{by_arrival}
 use Rattle.flow_steps.proofs.Resets.{came_current}
 use Rattle.flow_steps.proofs.Steps.{passed}
 use Rattle.flow_steps.proofs.Wanting.{reset_at_next}
-use Rattle.connection_steps.specs.Holding.{Gives, Goes, Holds, IsOpened, Receives, is_calls, is_connects}
+use Rattle.connection_steps.specs.Holding.{Gives, Holds, Receives, is_calls}
 use Rattle.connection_steps.specs.Seen.{count_of, outward_of, part_of, resending_of, timer_of}
 use Rattle.connection_steps.proofs.Acking.{way_same}
 use Rattle.connection_steps.proofs.Going.{comes}

@@ -1,7 +1,7 @@
 -- The timer of a window, and numbers under way.
-use Rattle.std.proofs.Common.{refl, ◌≡◌, ℕ, ◌+◌, ◌<◌, ◌≤◌, Bool, true, false, ◌&&◌, Option, Some, None, if◌then◌else◌, nat_lt, nat_eq, arith, ap, subst, sym, ◌∙◌}
+use Rattle.std.proofs.Common.{refl, ◌≡◌, ℕ, ◌+◌, ◌<◌, Bool, true, false, ◌&&◌, if◌then◌else◌, nat_lt, nat_eq, arith, ap, subst, sym, ◌∙◌}
 use Rattle.std.proofs.lemmas.Bool.Decides.{nat_tests}
-use Rattle.retransmit.specs.Resending.{IsSteady, Resending, after_start, after_stop, is_off}
+use Rattle.retransmit.specs.Resending.{IsSteady, Resending, after_start, after_stop}
 use Rattle.retransmit.proofs.Steady.{steady_second}
 use Rattle.sock_buffers.specs.Downward.{Downward}
 use Rattle.tcp_transmit.specs.Timing.{watched}
@@ -10,14 +10,14 @@ use Rattle.tcp_guest.specs.Connection.{Connection, has_gone, is_opening, is_sync
 use Rattle.tcp_guest.specs.declared.Stage.{Stage}
 use Rattle.tcp_guest.specs.declared.Stage.TheVariants as stage
 use Rattle.flow_laws.specs.Settings.{Settings}
-use Rattle.flow_laws.specs.Event.{Story, newest_moment}
-use Rattle.flow_laws.specs.Host.{acked, answered, sent}
+use Rattle.flow_laws.specs.Event.{Story}
+use Rattle.flow_laws.specs.Host.{acked, sent}
 use Rattle.flow_laws.specs.Flow.{host, is_under_way, syn_is_out}
 use Rattle.flow_steps.specs.Resends.{HasReason, Resends}
 use Rattle.flow_steps.specs.Sends.{Keeps}
-use Rattle.flow_steps.proofs.Resent.{not_both, rests_now}
+use Rattle.flow_steps.proofs.Resent.{rests_now}
 use Rattle.connection_steps.specs.Holding.{Gives, IsOpened, is_live}
-use Rattle.connection_steps.specs.Seen.{count_of, outward_of, resending_of, timer_of, window_by}
+use Rattle.connection_steps.specs.Seen.{count_of, outward_of, timer_of, window_by}
 
 -- a live connection that isn't opening is synchronized
 pub synchronized_is : (st : Stage) → is_live st ≡ true → is_opening st ≡ false → is_synchronized st ≡ true

@@ -1,6 +1,5 @@
 -- The guest's SYN arrives at a flow that calls it.
-use Rattle.std.proofs.Common.{refl, ◌≡◌, ℕ, zero, suc, ◌+◌, ◌-◌, ◌*◌, ◌^◌, ◌%◌, ◌<◌, ◌≤◌, List, [], ◌∷◌, length, drop, Bool, true, false, not, ◌&&◌, ◌||◌, Option, None, Some, is_some, if◌then◌else◌, IsTrue, min, max, nat_eq, nat_le, nat_lt, ℤ, pos, ◌<ℤ◌, arith, ap, subst, sym, ◌∙◌, inl, inr, ◌⊎◌, unwrap_or, length-drop}
-use Rattle.std.proofs.lemmas.Bool.Decides.{nat_tests}
+use Rattle.std.proofs.Common.{refl, ◌≡◌, ℕ, ◌+◌, ◌*◌, ◌^◌, ◌≤◌, ◌∷◌, Bool, true, false, not, ◌&&◌, ◌||◌, Option, None, Some, is_some, if◌then◌else◌, min, nat_eq, nat_lt, pos, arith, ap, subst, sym, ◌∙◌, unwrap_or, length-drop}
 use Rattle.std.proofs.lemmas.Int.{ints}
 use Rattle.std.specs.Option.{option_map}
 use Rattle.cwnd.specs.Congestion.{Congestion}
@@ -17,20 +16,20 @@ use Rattle.tcp_transmit.specs.Transmission.{Feeds, IsOfSegments, Transmission, i
 use Rattle.tcp_transmit.specs.declared.AckSeen.{AckSeen}
 use Rattle.tcp_transmit.specs.declared.AckSeen.TheVariants.{Old, Same, Forward, FinToo, TooFar}
 use Rattle.tcp_guest.specs.Connection.{Connection, HasBuffers, has_gone, is_opening, is_synchronized, shift_of}
-use Rattle.tcp_guest.specs.Segments.{acknowledged, congested, established, greeted, is_fin_too, is_too_far, mss_of, seen_of}
+use Rattle.tcp_guest.specs.Segments.{acknowledged, congested, established, greeted, is_fin_too, mss_of, seen_of}
 use Rattle.tcp_guest.specs.declared.Stage.{Stage}
 use Rattle.tcp_guest.specs.declared.Stage.TheVariants as stage
 use Rattle.tcp_guest.proofs.Keeping.{greeted_has}
 use Rattle.flow_laws.specs.Settings.{Settings}
 use Rattle.flow_laws.specs.Event.{Arrives, At, Segment, Story}
-use Rattle.flow_laws.specs.Host.{Down, answered, is_acceptable, our_place}
+use Rattle.flow_laws.specs.Host.{answered, is_acceptable, our_place}
 use Rattle.flow_laws.specs.Flow.{confirms, greets, host, syn_is_out, their_number, their_syn}
 use Rattle.flow_laws.specs.Windows.{is_scaled, their_scale, their_window}
 use Rattle.flow_steps.specs.Sends.{Keeps}
 use Rattle.flow_steps.proofs.Reasons.{by_arrival}
 use Rattle.flow_steps.proofs.SendSteps.{place_of_number}
 use Rattle.connection_steps.specs.Holding.{Gives, Holds, IsOpened, Receives, is_calls, is_connects, is_live}
-use Rattle.connection_steps.specs.Seen.{count_of, outward_of, resending_of, segment_of, timer_of, window_by}
+use Rattle.connection_steps.specs.Seen.{outward_of, segment_of, window_by}
 use Rattle.connection_steps.proofs.Confirming.{answered_now, heard_fin, heard_keeps, heard_steady, heard_told, place_same, syn_heard_runs}
 use Rattle.connection_steps.proofs.Greeting.{goes_greeted, greeted_receives, known_now, most_now, unknown, unknown_is}
 use Rattle.connection_steps.proofs.Hearing.{heard_by, heard_stays, seen_as}

@@ -1,5 +1,5 @@
 -- A connection and its buffers, against the story of its flow.
-use Rattle.std.specs.Prelude.{◌≡◌, ℕ, ◌+◌, ◌-◌, ◌<◌, ◌≤◌, ◌^◌, [], length, Bool, true, false, Option, None, Some, if◌then◌else◌, IsTrue, nat_eq}
+use Rattle.std.specs.Prelude.{◌≡◌, ℕ, ◌+◌, ◌-◌, ◌<◌, ◌≤◌, ◌^◌, [], length, Bool, true, false, None, Some, if◌then◌else◌, IsTrue, nat_eq}
 use Rattle.retransmit.specs.Resending.{IsSteady, is_off}
 use Rattle.sock_buffers.specs.Downward.{Downward}
 use Rattle.sock_buffers.specs.Upward.{Upward}

@@ -1,5 +1,5 @@
 -- A connection that is over, against the story of its flow.
-use Rattle.std.specs.Prelude.{◌≡◌, ℕ, ◌≤◌, Bool, true, false, Option, None, Some, IsTrue}
+use Rattle.std.specs.Prelude.{◌≡◌, ℕ, ◌≤◌, Bool, true, false, Some}
 use Rattle.seq_space.specs.declared.Seq.{Seq}
 use Rattle.sock_buffers.specs.Downward.{Downward}
 use Rattle.sock_buffers.specs.Upward.{Upward}
@@ -12,7 +12,7 @@ use Rattle.flow_laws.specs.Settings.{Settings}
 use Rattle.flow_laws.specs.Event.{IsStory, Segment, Story, newest_moment}
 use Rattle.flow_laws.specs.Flow.{guest, host, is_closed, syn_is_out, their_number}
 use Rattle.flow_laws.specs.Windows.{our_shift as shift_told}
-use Rattle.flow_laws.specs.Close.{is_owed_reset, owes_reset, rests_since}
+use Rattle.flow_laws.specs.Close.{host_failed, is_owed_reset, owes_reset, rests_since}
 use Rattle.flow_laws.specs.Lawful.{IsLawful}
 use Rattle.flow_laws.specs.Dutiful.{IsDutiful}
 use Rattle.flow_steps.specs.Ends.{Ends}
@@ -46,6 +46,7 @@ Pays past seq ack = (seg : Segment) → seg.rst ≡ true → seg.ack ≡ true �
 pub record IsOver (s : Settings) (c : Connection) (past : Story) (now : ℕ) : Type 0 where
   pub runs : Runs s past now
   pub closed : is_closed past ≡ true
+  pub well : host_failed past ≡ false
   pub over : is_live c.stage ≡ false
   pub owes : owes_reset past ≡ is_resets c.stage
   pub pays : (seq ack : Seq) → c.stage ≡ stage.Resets seq ack → Pays past seq.0 ack.0

@@ -1,5 +1,5 @@
 -- What the relations on one flow see of a connection and its buffers.
-use Rattle.std.specs.Prelude.{ℕ, ◌+◌, ◌-◌, Bool, true, false, not, List, Option, None, Some, if◌then◌else◌}
+use Rattle.std.specs.Prelude.{ℕ, ◌+◌, ◌-◌, Bool, not, Option, None, Some, if◌then◌else◌}
 use Rattle.retransmit.specs.Resending.{Resending, doublings}
 use Rattle.retransmit.specs.declared.Timer.{Timer}
 use Rattle.retransmit.specs.declared.Timer.TheVariants.{Off as StandsStill, Since, Expired as WentOff}

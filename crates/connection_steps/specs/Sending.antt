@@ -1,6 +1,5 @@
 -- The segment that goes out for what a connection owes.
-use Rattle.std.specs.Prelude.{ℕ, ◌+◌, ◌-◌, Bool, true, false, List, [], take, drop, Option, Some, None}
-use Rattle.seq_space.specs.declared.Seq.{Seq}
+use Rattle.std.specs.Prelude.{ℕ, ◌-◌, Bool, true, false, List, [], take, drop, Option, Some, None}
 use Rattle.sock_buffers.specs.Downward.{Downward}
 use Rattle.sock_buffers.specs.Upward.{Upward}
 use Rattle.tcp_transmit.specs.declared.Piece.{Piece}
