@@ -96,6 +96,7 @@ module _ (s : Settings) (c : Connection) (up : Upward) (down : Downward) (past :
         fin_acked = g.fin_acked;
         fin_out = g.fin_out;
         window = g.window;
+        alone = g.alone;
         resends = subst (λ (b : Bool). Resends after m (timer_of (resending_of c)) (count_of b (resending_of c)) (resending_of c).estimate.wait) (sym way)
             (bare_goes past seg m refl refl c.transmission.sent 0 place refl now (timer_of (resending_of c)) (count_of (is_under_way past) (resending_of c)) (resending_of c).estimate.wait refl (omega (arith, g.keeps.sent)) on g.resends);
         steady = g.steady;
@@ -123,12 +124,12 @@ module _ (s : Settings) (c : Connection) (up : Upward) (down : Downward) (past :
 far_none : (edge : ℕ) → moves_far (Some edge) edge ≡ false
 far_none edge = grind (arith, nat_tests)
 
-data_none : (p : Option Piece) (owed : Bool) → piece_or_ack p owed ≡ Some Ack → (p ≡ None) × (owed ≡ true)
+pub data_none : (p : Option Piece) (owed : Bool) → piece_or_ack p owed ≡ Some Ack → (p ≡ None) × (owed ≡ true)
 data_none None true is = (refl, refl)
 data_none None false is = absurd cc
 data_none (Some p) owed is = absurd cc
 
-piece_none : (t : Transmission) (down : Downward) → piece_owed t down ≡ None → numbers (next t down) ≡ 0
+pub piece_none : (t : Transmission) (down : Downward) → piece_owed t down ≡ None → numbers (next t down) ≡ 0
 piece_none t down is = by (nat_lt 0 (numbers (next t down))) refl is
   where
     by : (b : Bool) → nat_lt 0 (numbers (next t down)) ≡ b → (if b then Some (next t down) else None) ≡ None → numbers (next t down) ≡ 0

@@ -146,3 +146,31 @@ module _ (t : Transmission) (seq : Seq) (w : ℕ) (bare : Bool) (now : ℕ) (see
       ∙ ap (λ (a : ℕ). if is_newer (acknowledged (congested t w bare seen) seen now).window seq.0 a then Some (record { edge = a + w; seq = seq; ack = a }) else (acknowledged (congested t w bare seen) seen now).window) acked_two
       ∙ ap (λ (o : Option Window). if is_newer o seq.0 (acked_by t seen) then Some (record { edge = acked_by t seen + w; seq = seq; ack = acked_by t seen }) else o)
       ((acknowledged_stays (congested t w bare seen) seen now).2 ∙ (congested_stays t w bare seen).2)
+
+-- no congestion window comes from none
+pub heard_alone : (t : Transmission) (seq : Seq) (w : ℕ) (bare : Bool) (now : ℕ) (seen : AckSeen) → t.cwnd ≡ None → (heard_by t seq w bare now seen).cwnd ≡ None
+heard_alone t seq w bare now seen none = opened_cwnd (windowed (acknowledged (congested t w bare seen) seen now) seq w) ∙ windowed_cwnd (acknowledged (congested t w bare seen) seen now) ∙ acknowledged_cwnd (congested t w bare seen) seen ∙ first
+  where
+    opened_cwnd : (t : Transmission) → (opened t).cwnd ≡ t.cwnd
+    opened_cwnd t = by (t.probing && nat_lt t.acked (edge_of t.window))
+      where
+        by : (b : Bool) → (if b then record t { early = true; probing = false } else t).cwnd ≡ t.cwnd
+        by true = refl
+        by false = refl
+
+    windowed_cwnd : (t : Transmission) → (windowed t seq w).cwnd ≡ t.cwnd
+    windowed_cwnd t = by (is_newer t.window seq.0 t.acked)
+      where
+        by : (b : Bool) → (if b then record t { window = Some (record { edge = t.acked + w; seq = seq; ack = t.acked }) } else t).cwnd ≡ t.cwnd
+        by true = refl
+        by false = refl
+
+    acknowledged_cwnd : (t : Transmission) (seen : AckSeen) → (acknowledged t seen now).cwnd ≡ t.cwnd
+    acknowledged_cwnd t Old = refl
+    acknowledged_cwnd t Same = refl
+    acknowledged_cwnd t (Forward n) = refl
+    acknowledged_cwnd t (FinToo n) = refl
+    acknowledged_cwnd t TooFar = refl
+
+    first : (congested t w bare seen).cwnd ≡ None
+    first = ap (λ (o : Option Congestion). (congested_by o t (is_duplicate t w bare seen) (octets_acked seen)).cwnd) none ∙ none

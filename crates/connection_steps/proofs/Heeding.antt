@@ -40,7 +40,7 @@ use Rattle.connection_steps.specs.Holding.{Gives, Goes, Holds, IsOpened, Receive
 use Rattle.connection_steps.specs.Seen.{count_of, outward_of, segment_of, timer_of, window_by}
 use Rattle.connection_steps.proofs.Confirming.{answered_now, far_is, heard_fin, heard_keeps, heard_runs, heard_steady, heard_told, not_past, old_is, place_same, syn_heard_runs}
 use Rattle.connection_steps.proofs.Going.{comes as comes_on, nothing_to_close}
-use Rattle.connection_steps.proofs.Hearing.{heard_by, heard_stays, seen_as}
+use Rattle.connection_steps.proofs.Hearing.{heard_alone, heard_by, heard_stays, seen_as}
 use Rattle.connection_steps.proofs.Quiet.{gives_as, opened_on, same_mss}
 use Rattle.connection_steps.proofs.Taking.{taken_receives}
 use Rattle.connection_steps.proofs.Unheeded.{gives_after, stays, syn_stays}
@@ -94,6 +94,9 @@ congested_same c = by c.congestion
         × ((if b then record c.transmission { cwnd = Some (at_first c.transmission.mss (has_gone_again c.sendings)) } else c.transmission).end ≡ c.transmission.end)
     by true = (refl, refl, refl, refl, refl, (λ down. refl), refl)
     by false = (refl, refl, refl, refl, refl, (λ down. refl), refl)
+
+pub congested_alone : (c : Connection) → c.congestion ≡ false → c.transmission.cwnd ≡ None → (congested c).cwnd ≡ None
+congested_alone c is none = ap (λ (b : Bool). (if b then record c.transmission { cwnd = Some (at_first c.transmission.mss (has_gone_again c.sendings)) } else c.transmission).cwnd) is ∙ none
 
 -- ---- the guest's window, by its shift
 
@@ -236,6 +239,7 @@ module _ (s : Settings) (c : Connection) (up : Upward) (down : Downward) (past :
           fin_acked = heard_fin s past now m seg t down seq w (is_bare tcp) seen h.buffers.feeds g.keeps it seen_is ok c.fin_acked g.fin_acked;
           fin_out = g.fin_out ∙ ap (λ e. is_sent e) (sym (heard_stays t seq w (is_bare tcp) m seen).end);
           window = heard_told s past now m seg t down seq w (is_bare tcp) seen h.buffers.feeds g.keeps it seen_is ok g.window refl (window_same s c past tcp h.suits h.opened syn);
+          alone = λ is. heard_alone t seq w (is_bare tcp) m seen (g.alone is);
           resends = subst (λ (b : Bool). Resends after m (timer_of (if b then c.syn else u.resend)) (count_of (is_under_way after) (if b then c.syn else u.resend)) (if b then c.syn else u.resend).estimate.wait) (sym opening)
               (heard_runs s past now m seg t down seq w (is_bare tcp) seen h.buffers.feeds g.keeps it seen_is ok on late ans h.goes.lawful (rises past h.goes.story) (omega (arith, h.goes.moment, on)) ran);
           steady = g.steady;
@@ -523,6 +527,7 @@ module _ (s : Settings) (c : Connection) (up : Upward) (down : Downward) (past :
         fin_acked = heard_fin s past now m segment t0 down seq0 w0 (is_bare tcp) seen0 feeds0 keeps0 it0 seen_is0 ok0 c.fin_acked (g.fin_acked ∙ ap (λ (x : ℕ). nat_eq x (octets_read down + 1)) (sym (congested_same c).3));
         fin_out = g.fin_out ∙ ap (λ e. is_sent e) (sym ((heard_stays t0 seq0 w0 (is_bare tcp) m seen0).end ∙ (congested_same c).6));
         window = heard_told s past now m segment t0 down seq0 w0 (is_bare tcp) seen0 feeds0 keeps0 it0 seen_is0 ok0 (g.window ∙ ap (λ o. window_by o) (sym (congested_same c).4)) refl (window_same s c past tcp h.suits h.opened syn);
+        alone = λ is. heard_alone t0 seq0 w0 (is_bare tcp) m seen0 (congested_alone c (h.suits.congestion ∙ is) (g.alone is));
         resends = syn_heard_runs s past now m segment t0 down seq0 w0 (is_bare tcp) seen0 feeds0 keeps0 it0 seen_is0 ok0 on late sent0;
         steady = steady_stop c.syn g.steady;
         unset = λ none. let not_it = sym none ∙ gone in absurd cc;

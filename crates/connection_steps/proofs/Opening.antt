@@ -79,6 +79,7 @@ module _ (s : Settings) (m ours most size : ℕ) (scales : s.scales ≡ true) (f
         fin_acked = refl;
         fin_out = refl;
         window = refl;
+        alone = λ is. refl;
         resends = opens m ours (segment_of syn);
         steady = steady_at_rest;
         unset = λ is. refl;
@@ -144,6 +145,7 @@ module _ (s : Settings) (m ours most size : ℕ) (scales : s.scales ≡ true) (f
         fin_acked = refl;
         fin_out = refl;
         window = refl;
+        alone = λ is. refl;
         resends = accepts m ours;
         steady = steady_at_rest;
         unset = λ is. refl;

@@ -331,6 +331,7 @@ module _ (s : Settings) (c : Connection) (up : Upward) (down : Downward) (past :
         fin_acked = g.fin_acked;
         fin_out = fin_now p.fin refl;
         window = g.window;
+        alone = g.alone;
         resends = subst (λ (b : Bool). Running (if b then c.syn else resend_sent t.resend (goes_again t p) m)) (sym opening) (runs_on kind);
         steady = g.steady;
         unset = g.unset;

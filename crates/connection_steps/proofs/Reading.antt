@@ -60,6 +60,7 @@ module _ (s : Settings) (c : Connection) (up : Upward) (down : Downward) (past :
         fin_acked = g.fin_acked ∙ sym (not_all c.transmission.acked (octets_read down) (octets_read (with_octets xs)) (omega (arith, low, feeds.sound.order)) (omega (arith, length-append down.octets xs)));
         fin_out = g.fin_out;
         window = g.window;
+        alone = g.alone;
         resends = quiet past m (Reads xs) now (timer_of (resending_of c)) (count_of (is_under_way past) (resending_of c)) (resending_of c).estimate.wait tt on g.resends;
         steady = g.steady;
         unset = g.unset;
@@ -97,6 +98,7 @@ module _ (s : Settings) (c : Connection) (up : Upward) (down : Downward) (past :
         fin_acked = g.fin_acked;
         fin_out = g.fin_out ∙ ap is_sent (still_open c.transmission.end yet);
         window = g.window;
+        alone = g.alone;
         resends = quiet past m ReadsEnd now (timer_of (resending_of c)) (count_of (is_under_way past) (resending_of c)) (resending_of c).estimate.wait tt on g.resends;
         steady = g.steady;
         unset = g.unset;

@@ -130,6 +130,7 @@ module _ (s : Settings) (c : Connection) (down : Downward) (up : Upward) (past :
         fin_acked = g.fin_acked;
         fin_out = fin_same ∙ g.fin_out;
         window = g.window;
+        alone = g.alone;
         resends = subst (λ (b : Bool). Running (if b then resend_sent c.syn (has_gone c.sendings) m else c.transmission.resend)) (sym opening) (runs (has_gone c.sendings) refl);
         steady = steady_sent c.syn (has_gone c.sendings) m late g.steady;
         unset = λ none. let not_it = sym none ∙ gone_once c.sendings in absurd cc;

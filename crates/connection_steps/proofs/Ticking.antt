@@ -1,6 +1,7 @@
 -- The timer expires: what it waits for is owed again, or the flow is given up.
-use Rattle.std.proofs.Common.{refl, ◌≡◌, ℕ, ◌+◌, ◌*◌, ◌<◌, ◌≤◌, Bool, true, false, Some, if◌then◌else◌, IsTrue, nat_eq, nat_lt, min, arith, ap, subst, sym, ◌∙◌}
+use Rattle.std.proofs.Common.{Option, refl, ◌≡◌, ℕ, ◌+◌, ◌*◌, ◌<◌, ◌≤◌, Bool, true, false, Some, if◌then◌else◌, IsTrue, nat_eq, nat_lt, min, arith, ap, subst, sym, ◌∙◌}
 use Rattle.std.proofs.lemmas.Bool.Decides.{nat_tests}
+use Rattle.cwnd.specs.Congestion.{Congestion}
 use Rattle.retransmit.specs.Resending.{Resending, after_expired as resend_expired, doublings, due_by, due_of, expired_by, is_given_up, is_off}
 use Rattle.retransmit.specs.Estimate.{after_expiry}
 use Rattle.retransmit.specs.declared.Timer.{Timer}
@@ -147,6 +148,7 @@ module _ (s : Settings) (c : Connection) (up : Upward) (down : Downward) (past :
             fin_acked = g.fin_acked;
             fin_out = g.fin_out;
             window = g.window;
+            alone = g.alone;
             resends = subst (λ (b : Bool). Resends past now (timer_of (if b then resend_expired c.syn else c.transmission.resend)) (count_of (is_under_way past) (if b then resend_expired c.syn else c.transmission.resend))
                 (if b then resend_expired c.syn else c.transmission.resend).estimate.wait) (sym opening)
                 (subst (λ (q : Resending). Resends past now (timer_of q) (count_of (is_under_way past) q) q.estimate.wait) (sym (expired_is c.syn fresh))
@@ -199,6 +201,7 @@ module _ (s : Settings) (c : Connection) (up : Upward) (down : Downward) (past :
             fin_acked = g.fin_acked ∙ ap (λ (u : Transmission). nat_eq u.acked (octets_read down + 1)) (sym is);
             fin_out = g.fin_out ∙ ap (λ (u : Transmission). is_sent u.end) (sym is);
             window = g.window ∙ ap (λ (u : Transmission). window_by u.window) (sym is);
+            alone = λ so. ap (λ (u : Transmission). u.cwnd) is ∙ ap (λ (o : Option Congestion). cwnd_expired o (flight c.transmission) c.transmission.again) (g.alone so);
             resends = subst (λ (b : Bool). Resends past now (timer_of (if b then c.syn else (after_expired c.transmission).resend)) (count_of (is_under_way past) (if b then c.syn else (after_expired c.transmission).resend))
                 (if b then c.syn else (after_expired c.transmission).resend).estimate.wait) (sym opening)
                 (subst (λ (q : Resending). Resends past now (timer_of q) (count_of (is_under_way past) q) q.estimate.wait) (sym (ap (λ (u : Transmission). u.resend) is ∙ expired_is c.transmission.resend fresh))

@@ -94,8 +94,8 @@ module _ (s : Settings) (c : Connection) (up : Upward) (down : Downward) (past :
   way : is_under_way after ≡ is_under_way past
   way = way_same past after (outward_of c.transmission down) (outward_of c.transmission down) h.gives.keeps kept refl refl answered_same refl
 
-  runs : (now_timer : ℕ → Type 0) → Resends after m (timer_of (resending_of c)) (count_of (is_under_way past) (resending_of c)) (resending_of c).estimate.wait
-  runs q = by (confirms past seg) refl
+  runs : Resends after m (timer_of (resending_of c)) (count_of (is_under_way past) (resending_of c)) (resending_of c).estimate.wait
+  runs = by (confirms past seg) refl
     where
       by : (b : Bool) → confirms past seg ≡ b → Resends after m (timer_of (resending_of c)) (count_of (is_under_way past) (resending_of c)) (resending_of c).estimate.wait
       by true is = not_acceptable past seg m is (and_right (confirms past seg) (is_acceptable (host past) seg.acknowledgement) none is) now (timer_of (resending_of c)) (count_of (is_under_way past) (resending_of c)) (resending_of c).estimate.wait on h.gives.resends
@@ -109,7 +109,8 @@ module _ (s : Settings) (c : Connection) (up : Upward) (down : Downward) (past :
         fin_acked = g.fin_acked;
         fin_out = g.fin_out;
         window = no_window s past m seg none ∙ g.window;
-        resends = subst (λ (b : Bool). Resends after m (timer_of (resending_of c)) (count_of b (resending_of c)) (resending_of c).estimate.wait) (sym way) (runs (λ n. Unit {0}));
+        alone = g.alone;
+        resends = subst (λ (b : Bool). Resends after m (timer_of (resending_of c)) (count_of b (resending_of c)) (resending_of c).estimate.wait) (sym way) runs;
         steady = g.steady;
         unset = g.unset;
         set = g.set;

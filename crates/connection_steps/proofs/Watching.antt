@@ -75,6 +75,13 @@ module _ (t : Transmission) (down : Downward) (unsent : Bool) (now : ℕ) where
       by true = refl
       by false = refl
 
+  pub watched_cwnd : (watched t unsent now).cwnd ≡ t.cwnd
+  watched_cwnd = by (nat_lt t.acked t.sent)
+    where
+      by : (b : Bool) → (if b then t else record t { resend = if is_closed t && unsent then after_start t.resend now else after_stop t.resend }).cwnd ≡ t.cwnd
+      by true = refl
+      by false = refl
+
   pub watched_acked : (watched t unsent now).acked ≡ t.acked
   watched_acked = by (nat_lt t.acked t.sent)
     where
@@ -102,6 +109,7 @@ gives_watched s c down past now unsent steady under g = record {
   fin_acked = g.fin_acked ∙ ap (λ (a : ℕ). nat_eq a (octets_read down + 1)) (sym (watched_acked c.transmission down unsent now));
   fin_out = g.fin_out ∙ ap is_sent (sym (watched_end c.transmission down unsent now));
   window = g.window ∙ ap window_by (sym (watched_window c.transmission down unsent now));
+  alone = λ is. watched_cwnd c.transmission down unsent now ∙ g.alone is;
   resends = by_stage (is_opening c.stage) refl;
   steady = g.steady;
   unset = g.unset;

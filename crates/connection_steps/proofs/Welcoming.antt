@@ -32,8 +32,8 @@ use Rattle.connection_steps.specs.Holding.{Gives, Holds, IsOpened, Receives, is_
 use Rattle.connection_steps.specs.Seen.{outward_of, segment_of, window_by}
 use Rattle.connection_steps.proofs.Confirming.{answered_now, heard_fin, heard_keeps, heard_steady, heard_told, place_same, syn_heard_runs}
 use Rattle.connection_steps.proofs.Greeting.{goes_greeted, greeted_receives, known_now, most_now, unknown, unknown_is}
-use Rattle.connection_steps.proofs.Hearing.{heard_by, heard_stays, seen_as}
-use Rattle.connection_steps.proofs.Heeding.{congested_feeds, congested_same}
+use Rattle.connection_steps.proofs.Hearing.{heard_alone, heard_by, heard_stays, seen_as}
+use Rattle.connection_steps.proofs.Heeding.{congested_alone, congested_feeds, congested_same}
 use Rattle.connection_steps.proofs.Quiet.{gives_as, gives_most}
 use Rattle.connection_steps.proofs.Unheeded.{answered_same, gives_after}
 use Rattle.connection_steps.proofs.Watching.{gives_watched, under_way_is, watched_mss}
@@ -212,6 +212,7 @@ module _ (s : Settings) (c : Connection) (up : Upward) (down : Downward) (past :
           fin_acked = heard_fin s past now m seg t0 down seq0 tcp.window false seen0 feeds0 keeps0 it seen_is0 ok0 c.fin_acked (g.fin_acked ∙ ap (λ (x : ℕ). nat_eq x (octets_read down + 1)) (sym (congested_same (greeted c tcp)).3));
           fin_out = g.fin_out ∙ ap (λ e. is_sent e) (sym ((heard_stays t0 seq0 tcp.window false m seen0).end ∙ (congested_same (greeted c tcp)).6));
           window = heard_told s past now m seg t0 down seq0 tcp.window false seen0 feeds0 keeps0 it seen_is0 ok0 (g.window ∙ ap (λ o. window_by o) (sym (congested_same (greeted c tcp)).4)) refl window0;
+          alone = λ is. heard_alone t0 seq0 tcp.window false m seen0 (congested_alone (greeted c tcp) (h.suits.congestion ∙ is) (g.alone is));
           resends = syn_heard_runs s past now m seg t0 down seq0 tcp.window false seen0 feeds0 keeps0 it seen_is0 ok0 on late sent0;
           steady = steady_stop c.syn g.steady;
           unset = λ none. let not_it = sym none ∙ gone in absurd cc;

@@ -123,6 +123,7 @@ pub record Gives (s : Settings) (c : Connection) (down : Downward) (past : Story
   pub fin_acked : c.fin_acked ≡ nat_eq c.transmission.acked (octets_read down + 1)
   pub fin_out : fin_is_out past ≡ is_sent c.transmission.end
   pub window : window s past ≡ window_by c.transmission.window
+  pub alone : s.congestion ≡ false → c.transmission.cwnd ≡ None
   pub resends : Resends past now (timer_of (resending_of c)) (count_of (is_under_way past) (resending_of c)) (resending_of c).estimate.wait
   pub steady : IsSteady c.syn
   pub unset : has_gone c.sendings ≡ false → is_off c.syn.timer ≡ true
