@@ -73,9 +73,10 @@ int_within (negsuc n) a b is low = refl
 pub old_is : (t : Transmission) (down : Downward) (past : List Down) (n : ℕ) → Keeps (outward_of t down) past → t.acked ≤ t.sent → place_acked t n <ℤ pos t.acked
     → (is_acceptable past n ≡ false) × (not_past_sent past n ≡ true)
 old_is t down past n k order is =
-    let same = place_same t down past n k in
-    (rw (same, ← k.acked, int_under (place_acked t n) t.acked is) refl,
-     ap (λ (z : ℤ). int_le z (pos (sent past))) same ∙ int_within (place_acked t n) t.acked (sent past) is (omega (arith, order, k.sent)))
+    let same = place_same t down past n k in (
+      rw (same, ← k.acked, int_under (place_acked t n) t.acked is) refl,
+      ap (λ (z : ℤ). int_le z (pos (sent past))) same ∙ int_within (place_acked t n) t.acked (sent past) is (omega (arith, order, k.sent)),
+    )
 
 pub far_is : (t : Transmission) (down : Downward) (past : List Down) (n : ℕ) → Keeps (outward_of t down) past → pos t.sent <ℤ place_acked t n → not_past_sent past n ≡ false
 far_is t down past n k is =

@@ -127,9 +127,10 @@ module _ (s : Settings) (c : Connection) (up : Upward) (down : Downward) (past :
       (λ is. absurd (none_if seg.rst rst is))
       (λ is. absurd (none_if (is_closed past) h.goes.open_yet is))
       (λ is. granted s c past h.opened h.goes.open_yet unconnecting)
-      ((λ is. absurd (and_false (not seg.rst) (syn_is_out past) is (h.opened.out ∙ out))), (λ is. absurd (none_if seg.syn syn (and_left seg.syn (not seg.rst) is))))
-      (no_mss ∙ sym (ap (λ (b : Bool). if b && not seg.rst then Some (s.mru - 40) else None) syn),
-       no_scale_said ∙ sym (ap (λ (b : Bool). if s.scales && b && not seg.rst && (not seg.ack || is_scaled s past) then Some (least_told s.ring) else None) syn ∙ no_scale s.scales (not seg.rst) (not seg.ack || is_scaled s past) (least_told s.ring)))
+      ((λ is. absurd (and_false (not seg.rst) (syn_is_out past) is (h.opened.out ∙ out))), (λ is. absurd (none_if seg.syn syn (and_left seg.syn (not seg.rst) is)))) (
+        no_mss ∙ sym (ap (λ (b : Bool). if b && not seg.rst then Some (s.mru - 40) else None) syn),
+        no_scale_said ∙ sym (ap (λ (b : Bool). if s.scales && b && not seg.rst && (not seg.ack || is_scaled s past) then Some (least_told s.ring) else None) syn ∙ no_scale s.scales (not seg.rst) (not seg.ack || is_scaled s past) (least_told s.ring)),
+      )
 
   pub leaves_goes : SendsAgainWithReason past m (Send seg) → SendsEndAfterAll past (Send seg) → Goes s (At m (Departs seg) ∷ past) m
   leaves_goes reason end_after = does s past now m (Departs seg) (Send seg) h.goes on (λ none. none) refl (leaves_lawfully reason end_after)

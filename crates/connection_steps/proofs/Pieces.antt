@@ -216,8 +216,10 @@ module _ (s : Settings) (c : Connection) (up : Upward) (down : Downward) (past :
   end_after = by p.fin refl
     where
       by : (b : Bool) → p.fin ≡ b → IsTrue (b && not false) → IsTrue (got_end (host past)) × (our_place (host past) seg.number +ℤ pos (length (octets_of down p)) ≡ pos (length (got (host past))))
-      by true is fin = (sym h.gives.keeps.ended ∙ ap not (fin_places t.end (lies.last is).1),
-          rw at_place (let last = (lies.last is).0 in let all = read_is t down (host past) h.gives.keeps in omega (arith, ints, last, all, long)))
+      by true is fin = (
+        sym h.gives.keeps.ended ∙ ap not (fin_places t.end (lies.last is).1),
+        rw at_place (let last = (lies.last is).0 in let all = read_is t down (host past) h.gives.keeps in omega (arith, ints, last, all, long)),
+      )
       by false is fin = absurd cc
 
   -- ---- the timer

@@ -1,5 +1,5 @@
 -- Where nothing is owed, all holds that is to hold while the program waits.
-use Rattle.std.proofs.Common.{refl, ◌≡◌, ℕ, ◌+◌, ◌-◌, ◌*◌, ◌^◌, ◌<◌, ◌≤◌, List, [], ◌∷◌, length, Bool, true, false, not, ◌&&◌, ◌||◌, Option, None, Some, is_some, if◌then◌else◌, IsTrue, min, max, nat_le, nat_lt, arith, ap, subst, sym, ◌∙◌, inl, inr, ◌⊎◌}
+use Rattle.std.proofs.Common.{refl, ◌≡◌, ℕ, ◌+◌, ◌-◌, ◌<◌, ◌≤◌, [], ◌∷◌, length, Bool, true, false, not, ◌&&◌, ◌||◌, Option, None, Some, is_some, if◌then◌else◌, IsTrue, min, nat_le, nat_lt, arith, ap, subst, sym, ◌∙◌, inl, inr, ◌⊎◌}
 use Rattle.std.proofs.lemmas.Bool.Decides.{nat_tests}
 use Rattle.cwnd.specs.Congestion.{Congestion}
 use Rattle.retransmit.specs.Resending.{Resending, is_expired, due_by as due_by_timer, due_of as resend_due}
@@ -8,34 +8,30 @@ use Rattle.retransmit.specs.declared.Timer.TheVariants as timer
 use Rattle.sock_buffers.specs.Downward.{Downward}
 use Rattle.sock_buffers.specs.Upward.{Upward, room_of}
 use Rattle.tcp_transmit.specs.Pieces.{OwesNothing, piece_owed}
-use Rattle.tcp_transmit.specs.Transmission.{Feeds, IsOfSegments, Transmission, edge_of, end_places, is_owed_again, octets_read, places, reach, reach_by}
+use Rattle.tcp_transmit.specs.Transmission.{IsOfSegments, edge_of, end_places, reach, reach_by}
 use Rattle.tcp_transmit.specs.declared.End.{End}
 use Rattle.tcp_transmit.specs.declared.End.TheVariants as our_end
 use Rattle.tcp_transmit.specs.declared.Piece.{Piece}
 use Rattle.tcp_transmit.specs.declared.Window.{Window}
 use Rattle.tcp_transmit.proofs.Owed.{next_none}
-use Rattle.tcp_guest.specs.Connection.{Connection, has_gone, is_opening, is_synchronized}
+use Rattle.tcp_guest.specs.Connection.{Connection, is_opening, is_synchronized}
 use Rattle.tcp_guest.specs.Hosts.{is_open}
-use Rattle.tcp_guest.specs.Owing.{ack_if, owed_by, owed_of, piece_or_ack}
-use Rattle.tcp_guest.specs.Timing.{due_by, due_of}
+use Rattle.tcp_guest.specs.Owing.{owed_of, piece_or_ack}
+use Rattle.tcp_guest.specs.Timing.{due_of}
 use Rattle.tcp_guest.specs.Windows.{is_update_owed, moves_far, our_shift, told_edge}
-use Rattle.tcp_guest.specs.declared.Owed.{Owed}
-use Rattle.tcp_guest.specs.declared.Owed.TheVariants.{Syn, SynAck, Data, Ack}
-use Rattle.tcp_guest.specs.declared.Stage.{Stage}
-use Rattle.tcp_guest.specs.declared.Stage.TheVariants as stage
+use Rattle.tcp_guest.specs.declared.Owed.TheVariants.{Ack}
 use Rattle.flow_laws.specs.Settings.{Settings}
-use Rattle.flow_laws.specs.Event.{Arrives, Departs, Closes, At, Story}
-use Rattle.flow_laws.specs.Host.{answered}
-use Rattle.flow_laws.specs.Flow.{guest, has_connected, host, is_accepted, is_closed, is_under_way, syn_is_out, their_number}
-use Rattle.flow_laws.specs.Windows.{edge, edge_of as edge_told, mss, our_shift as shift_told, told, window}
+use Rattle.flow_laws.specs.Event.{Departs, Closes, At, Story}
+use Rattle.flow_laws.specs.Flow.{is_accepted, is_closed, is_under_way, syn_is_out, their_number}
+use Rattle.flow_laws.specs.Windows.{edge_of as edge_told, mss, our_shift as shift_told, told}
 use Rattle.flow_laws.specs.Close.{is_owed_reset, owes_reset, times_asked}
 use Rattle.flow_laws.specs.Dutiful.{IsSettled}
 use Rattle.flow_steps.specs.Resends.{Expired, Until}
 use Rattle.flow_steps.proofs.Edges.{edge_is}
 use Rattle.flow_steps.proofs.Waiting.{settled_is}
-use Rattle.connection_steps.specs.Holding.{Gives, Holds, IsOpened, Receives, is_calls, is_connects, is_live}
+use Rattle.connection_steps.specs.Holding.{Holds, is_calls}
 use Rattle.connection_steps.specs.Seen.{count_of, outward_of, part_of, resending_of, timer_by, timer_of, window_by}
-use Rattle.connection_steps.proofs.Acking.{data_none, piece_none}
+use Rattle.connection_steps.proofs.Acking.{piece_none}
 use Rattle.connection_steps.proofs.Telling.{shift_is}
 
 -- an open flow owes no reset

@@ -177,8 +177,13 @@ module _ (s : Settings) (c : Connection) (up : Upward) (down : Downward) (past :
       ap (λ (n : ℕ). (c.received.first + 1 + n) % 2 ^ 32) none ∙ ap (λ (n : ℕ). n % 2 ^ 32) (omega arith)
 
   opens : OpensWithSyn past (Send seg)
-  opens = ((λ is. refl), (λ is. (sym h.opened.ours,
-      subst (λ (o : Option ℕ). IfSome o (λ f. next_number c.received ≡ number_after f)) (sym (theirs s c up past now m seg h.suits h.goes h.opened known h.gives.fin_out (h.receives known) refl refl refl)) number_same)))
+  opens = (
+    (λ is. refl),
+    (λ is. (
+      sym h.opened.ours,
+      subst (λ (o : Option ℕ). IfSome o (λ f. next_number c.received ≡ number_after f)) (sym (theirs s c up past now m seg h.suits h.goes h.opened known h.gives.fin_out (h.receives known) refl refl refl)) number_same,
+    )),
+  )
 
   scale_same : (a b d : Bool) (x y : ℕ) → a ≡ true → b ≡ d → x ≡ y → scale_if b x ≡ (if a && d then Some y else None)
   scale_same a b d x y a_is b_is x_is = rw (a_is, b_is, x_is) refl
@@ -207,7 +212,7 @@ module _ (s : Settings) (c : Connection) (up : Upward) (down : Downward) (past :
   syn_ack_goes buffers =
       let o = h.opened in
       let r = tells s c up past now m seg h.suits h.goes h.opened known h.gives.fin_out (h.receives known) refl refl refl 0 refl refl
-          (λ is. let not_it = sym is ∙ ap (λ (st : Stage). is_synchronized st) at in absurd cc) in
+      (λ is. let not_it = sym is ∙ ap (λ (st : Stage). is_synchronized st) at in absurd cc) in
       let g = syn_gives s c down up past now m seg on late h opening refl refl in
       record {
         suits = record { ring = h.suits.ring; congestion = h.suits.congestion; scales = h.suits.scales; few = h.suits.few };

@@ -148,7 +148,7 @@ module _ (s : Settings) (c : Connection) (up : Upward) (past : Story) (m : ℕ) 
         (keeps_now c.received tcp.seq tcp.body up comes now_received taken_is fills_now)
         (λ over. ap length (none_after over))
         (λ yet. let low : ackd (guest past) ≤ (if c.received.ended then c.received.taken + 1 else c.received.taken) = r.follows.acknowledged in
-            subst (λ (b : Bool). ackd (guest past) ≤ (if b then c.received.taken + 1 else c.received.taken)) yet low)
+        subst (λ (b : Bool). ackd (guest past) ≤ (if b then c.received.taken + 1 else c.received.taken)) yet low)
         took_is.0
       where
         all_four : (a b d e : Bool) → (a && b) ≡ true → d ≡ true → e ≡ false → (a && b && d && not e) ≡ true
@@ -187,9 +187,11 @@ module _ (s : Settings) (c : Connection) (up : Upward) (past : Story) (m : ℕ) 
   sure_now is =
       let two = r.sure is in
       let count : now_received.taken ≡ c.received.taken = taken_is ∙ ap (λ (zs : List ℕ). c.received.taken + length zs) (none_after two.0) ∙ omega arith in
-      let over : now_received.ended ≡ c.received.ended = by c.received.ended two.0 in
-      (over ∙ two.0, two.1 ∙ ap (λ (b : Bool). number_of c.received.first (if b then c.received.taken + 1 else c.received.taken)) (sym over)
-      ∙ ap (λ (k : ℕ). number_of c.received.first (if now_received.ended then k + 1 else k)) (sym count))
+      let over : now_received.ended ≡ c.received.ended = by c.received.ended two.0 in (
+        over ∙ two.0,
+        two.1 ∙ ap (λ (b : Bool). number_of c.received.first (if b then c.received.taken + 1 else c.received.taken)) (sym over)
+            ∙ ap (λ (k : ℕ). number_of c.received.first (if now_received.ended then k + 1 else k)) (sym count),
+      )
     where
       by : (b : Bool) → b ≡ true → (b || took) ≡ b
       by true so = refl

@@ -90,11 +90,11 @@ module _ (s : Settings) (c : Connection) (up : Upward) (past : Story) (now m : �
   tells_ends : (shift : ℕ) → Ends (At m (Departs seg) ∷ past) (part_of (told c up shift) up) (c.end_acknowledged || c.received.ended) (closes_first c) (next_number c.received)
   tells_ends shift =
       let e : Ends (At m (Departs seg) ∷ past) (part_of c up) (c.end_acknowledged || c.received.ended) (if nat_eq seg.acknowledgement c.acknowledged then c.ours_first else fin_is_out past) seg.acknowledgement =
-          acknowledges_ends past (part_of c up) c.end_acknowledged c.ours_first c.acknowledged m seg s.ring (opens_once past goes.story) ack rst theirs number r.follows r.ends in
+      acknowledges_ends past (part_of c up) c.end_acknowledged c.ours_first c.acknowledged m seg s.ring (opens_once past goes.story) ack rst theirs number r.follows r.ends in
       let e2 : Ends (At m (Departs seg) ∷ past) (part_of c up) (c.end_acknowledged || c.received.ended) (if nat_eq seg.acknowledgement c.acknowledged then c.ours_first else is_sent c.transmission.end) seg.acknowledgement =
-          subst (λ (b : Bool). Ends (At m (Departs seg) ∷ past) (part_of c up) (c.end_acknowledged || c.received.ended) (if nat_eq seg.acknowledgement c.acknowledged then c.ours_first else b) seg.acknowledgement) out e in
+      subst (λ (b : Bool). Ends (At m (Departs seg) ∷ past) (part_of c up) (c.end_acknowledged || c.received.ended) (if nat_eq seg.acknowledgement c.acknowledged then c.ours_first else b) seg.acknowledgement) out e in
       let e3 : Ends (At m (Departs seg) ∷ past) (part_of c up) (c.end_acknowledged || c.received.ended) (closes_first c) (next_number c.received) =
-          subst (λ (n : ℕ). Ends (At m (Departs seg) ∷ past) (part_of c up) (c.end_acknowledged || c.received.ended) (if nat_eq n c.acknowledged then c.ours_first else is_sent c.transmission.end) n) number e2 in
+      subst (λ (n : ℕ). Ends (At m (Departs seg) ∷ past) (part_of c up) (c.end_acknowledged || c.received.ended) (if nat_eq n c.acknowledged then c.ours_first else is_sent c.transmission.end) n) number e2 in
       record { low = e3.low; kept_low = e3.kept_low; fin = e3.fin; was_sure = e3.was_sure; is_sure = e3.is_sure; at = e3.at; order = e3.order }
 
   either_ended : (a b : Bool) (A : Type 0) → (a ≡ true → (b ≡ true) × A) → (a || b) ≡ true → b ≡ true

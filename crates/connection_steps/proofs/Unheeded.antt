@@ -131,7 +131,7 @@ module _ (s : Settings) (c : Connection) (up : Upward) (down : Downward) (past :
     receives_by syn_owed ack_owed only true plain =
         let r = h.receives known in
         let same : guest after ≡ Came seg.number seg.octets seg.fin false ∷ guest past =
-            guest_came m past seg h.goes.open_yet is_known plain ∙ ap (λ (b : Bool). Came seg.number seg.octets seg.fin b ∷ guest past) unheeded in
+        guest_came m past seg h.goes.open_yet is_known plain ∙ ap (λ (b : Bool). Came seg.number seg.octets seg.fin b ∷ guest past) unheeded in
         let e = no_heed past (part_of c up) c.end_acknowledged c.ours_first c.acknowledged m seg (guest_came m past seg h.goes.open_yet is_known plain) r.ends in
         record {
           follows = subst (λ (g : List Up). Follows s.ring (record (part_of c up) { ack_owed = ack_owed }) g) (sym same)

@@ -1,5 +1,5 @@
 -- Octets of the guest are written to the host, and its end is passed on.
-use Rattle.std.proofs.Common.{refl, ◌≡◌, ℕ, zero, suc, ◌+◌, ◌≤◌, List, [], ◌∷◌, length, take, drop, Bool, true, false, not, ◌&&◌, ◌||◌, Some, min, nat_lt, arith, ap, subst, sym, ◌∙◌}
+use Rattle.std.proofs.Common.{refl, ◌≡◌, ℕ, zero, suc, ◌≤◌, List, [], ◌∷◌, length, take, Bool, true, false, not, ◌&&◌, ◌||◌, Some, min, nat_lt, arith, ap, subst, sym, ◌∙◌}
 use Rattle.std.proofs.lemmas.Bool.Decides.{nat_tests}
 use Rattle.sock_buffers.specs.Downward.{Downward}
 use Rattle.sock_buffers.specs.Upward.{Upward}
@@ -18,14 +18,10 @@ use Rattle.flow_steps.proofs.Resets.{ended_current, wrote_current}
 use Rattle.flow_steps.proofs.Rests.{quiet_ends}
 use Rattle.flow_steps.proofs.Steps.{told_the_end, wrote}
 use Rattle.flow_steps.proofs.Wanting.{offers}
-use Rattle.connection_steps.specs.Holding.{Holds, Receives, is_calls}
+use Rattle.connection_steps.specs.Holding.{Holds, Receives, is_calls, without}
 use Rattle.connection_steps.specs.Seen.{part_of}
 use Rattle.connection_steps.proofs.Going.{does}
 use Rattle.connection_steps.proofs.Quiet.{gives_as, gives_on, opened_on}
-
--- octets that the host took are no longer held
-abbrev pub without : Upward → ℕ → Upward
-without up n = record up { held = drop n up.held; written = up.written + n }
 
 -- an offer that prompted nothing wrote nothing
 unwritten : (n k : ℕ) (held : List ℕ) → n ≤ k → k ≤ length held → (nat_lt 0 n && not (is_empty (take k held))) ≡ false → n ≡ 0

@@ -1,5 +1,5 @@
 -- A connection and its buffers, against the story of its flow.
-use Rattle.std.specs.Prelude.{◌≡◌, ℕ, ◌+◌, ◌-◌, ◌<◌, ◌≤◌, ◌^◌, [], length, Bool, true, false, None, Some, if◌then◌else◌, IsTrue, nat_eq}
+use Rattle.std.specs.Prelude.{◌≡◌, ℕ, ◌+◌, ◌-◌, ◌<◌, ◌≤◌, ◌^◌, [], length, drop, Bool, true, false, None, Some, if◌then◌else◌, IsTrue, nat_eq}
 use Rattle.retransmit.specs.Resending.{IsSteady, is_off}
 use Rattle.sock_buffers.specs.Downward.{Downward}
 use Rattle.sock_buffers.specs.Upward.{Upward}
@@ -54,6 +54,10 @@ is_calls stage.Synchronized = false
 is_calls stage.Rests = false
 is_calls (stage.Resets seq ack) = false
 is_calls stage.Gone = false
+
+-- octets that the host took are no longer held
+abbrev pub without : Upward → ℕ → Upward
+without up n = record up { held = drop n up.held; written = up.written + n }
 
 -- the settings are those of the flow
 pub record Suits (s : Settings) (c : Connection) : Type 0 where
