@@ -1,3 +1,3 @@
-mod Keeping
-mod Seeing
+pub mod Keeping
+pub mod Seeing
 mod Taking

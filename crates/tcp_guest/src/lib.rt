@@ -131,7 +131,8 @@ pub enum Sendings {
 
 /// What a segment is to a connection, by the order of checks.
 #[derive(Clone, Copy, Debug, PartialEq, Eq)]
-enum Verdict {
+pub enum Verdict {
+    /// Nothing is done for it.
     Ignored,
     /// It resets the connection.
     Resets,

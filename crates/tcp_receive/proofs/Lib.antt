@@ -1,2 +1,2 @@
-mod Arriving
+pub mod Arriving
 mod Standing

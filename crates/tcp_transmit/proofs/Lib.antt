@@ -1,3 +1,3 @@
-mod Feeding
-mod Owed
+pub mod Feeding
+pub mod Owed
 mod Single

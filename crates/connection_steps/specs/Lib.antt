@@ -1,0 +1,5 @@
+pub mod Seen
+pub mod Holding
+pub mod Over
+pub mod Same
+pub mod Sending

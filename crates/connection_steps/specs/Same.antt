@@ -1,0 +1,29 @@
+-- What of a story stays the same by an event.
+use Rattle.std.specs.Prelude.{◌≡◌}
+use Rattle.flow_laws.specs.Settings.{Settings}
+use Rattle.flow_laws.specs.Event.{Story}
+use Rattle.flow_laws.specs.Flow.{guest, host, is_accepted, is_connecting, our_number, syn_is_out, their_syn}
+use Rattle.flow_laws.specs.Windows.{right_edge, window}
+use Rattle.flow_laws.specs.Close.{fin_is_out, host_was_ended}
+use Rattle.flow_laws.specs.Lawful.{is_prompted}
+
+-- the beginning
+pub record SameStart (past next : Story) : Type 0 where
+  pub ours : our_number next ≡ our_number past
+  pub connecting : is_connecting next ≡ is_connecting past
+  pub out : syn_is_out next ≡ syn_is_out past
+  pub accepted : is_accepted next ≡ is_accepted past
+  pub theirs : their_syn next ≡ their_syn past
+
+-- the guest's stream
+pub record SameGuest (s : Settings) (past next : Story) : Type 0 where
+  pub guest : guest next ≡ guest past
+  pub ended : host_was_ended next ≡ host_was_ended past
+  pub edge : right_edge s next ≡ right_edge s past
+  pub prompted : is_prompted next ≡ is_prompted past
+
+-- the host's stream
+pub record SameHost (s : Settings) (past next : Story) : Type 0 where
+  pub host : host next ≡ host past
+  pub window : window s next ≡ window s past
+  pub fin_out : fin_is_out next ≡ fin_is_out past
