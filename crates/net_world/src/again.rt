@@ -1,6 +1,7 @@
 // Calls that a signal interrupted are made again.
-ghost use Rattle.std.specs.Prelude.{◌≤◌, length, IfOk};
+ghost use Rattle.std.specs.Prelude.{◌≤◌, length, true, ◌≡◌, IfOk, IsErr};
 ghost use Rattle.std.specs.Io.{ReadsAtMost, WritesAtMost};
+ghost use Rattle.std.specs.Io.KnownBytes.{ReadConsumes, WriteAppends};
 
 use mio::net::UdpSocket;
 use std::io;
@@ -12,9 +13,11 @@ const TRIES: u32 = 64;
 
 /// Reads by one call that wasn't interrupted.
 pub(crate) fn read<T: Read>(source: &mut T, into: &mut [u8]) -> io::Result<usize>
-    ensures { ReadsAtMost result into.new }
+    ensures fits { ReadsAtMost result into.new }
+    // What came is what the source gave, and it gave no more.
+    ensures came { ReadConsumes (T.remaining source.old) (T.remaining source.new) result into.new }
 {
-    for _ in 0..TRIES {
+    'tries: for _ in 0..TRIES {
         let read = source.read(into);
         if !is_interrupted(&read) {
             return read;
@@ -25,9 +28,11 @@ pub(crate) fn read<T: Read>(source: &mut T, into: &mut [u8]) -> io::Result<usize
 
 /// Writes by one call that wasn't interrupted.
 pub(crate) fn write<T: Write>(sink: &mut T, octets: &[u8]) -> io::Result<usize>
-    ensures { WritesAtMost result octets.now }
+    ensures fits { WritesAtMost result octets.now }
+    // What the sink got are the first of these octets, as many as were taken.
+    ensures went { WriteAppends (T.contents sink.old) (T.contents sink.new) result octets.now }
 {
-    for _ in 0..TRIES {
+    'tries: for _ in 0..TRIES {
         let written = sink.write(octets);
         if !is_interrupted(&written) {
             return written;
@@ -60,6 +65,8 @@ pub(crate) fn recv_from(socket: &UdpSocket, into: &mut [u8]) -> io::Result<(usiz
     Err(io::Error::from(ErrorKind::Interrupted))
 }
 
-fn is_interrupted<T>(answer: &io::Result<T>) -> bool {
+fn is_interrupted<T>(answer: &io::Result<T>) -> bool
+    ensures { result ≡ true → IsErr answer.now }
+{
     matches!(answer, Err(fault) if fault.kind() == ErrorKind::Interrupted)
 }

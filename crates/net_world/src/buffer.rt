@@ -1,6 +1,7 @@
 // Octets on their way.
 ghost use Rattle.std.specs.Prelude.{◌≡◌, ℕ, ◌+◌, ◌<◌, ◌≤◌, ◌==◌, ◌++◌, List, [], length, take, drop, IfOk, OnErr};
 ghost use Rattle.std.specs.Bool.{OnTrue, OnFalse};
+ghost use Rattle.std.specs.Io.KnownBytes.{Consumes, Keeps, WriteAppends};
 
 use crate::again;
 use net_octets::NoMemory;
@@ -90,8 +91,10 @@ impl Buffer {
 
     /// Reads octets to the end by one call, as many as there is room for.
     pub fn fill<T: Read>(&mut self, source: &mut T) -> io::Result<usize>
-        ensures came { IfOk result (λ count. (came : List ℕ) × (length came ≡ count) × (self.new ≡ self.old ++ came)) }
+        // What came is what the source gave, and it gave no more.
+        ensures came { IfOk result (λ count. (came : List ℕ) × (length came ≡ count) × (self.new ≡ self.old ++ came) × Consumes (T.remaining source.old) (T.remaining source.new) came) }
         ensures unchanged { OnErr result (self.new ≡ self.old) }
+        ensures kept { OnErr result (Keeps (T.remaining source.old) (T.remaining source.new)) }
     {
         match read_part(source, &mut self.octets, self.to) {
             Ok(count) => {
@@ -106,6 +109,8 @@ impl Buffer {
     pub fn drain<T: Write>(&mut self, sink: &mut T) -> io::Result<usize>
         ensures left { IfOk result (λ count. self.new ≡ drop count self.old) }
         ensures unchanged { OnErr result (self.new ≡ self.old) }
+        // The sink got those that are dropped.
+        ensures went { WriteAppends (T.contents sink.old) (T.contents sink.new) result self.old }
     {
         let count = again::write(sink, &self.octets[self.from..self.to])?;
         self.from += count;
@@ -124,9 +129,10 @@ fn write_part(into: &mut [u8], from: usize, octets: &[u8])
 // Reads octets into the part from a place on.
 fn read_part<T: Read>(source: &mut T, into: &mut [u8], from: usize) -> io::Result<usize>
     requires { from ≤ length into.old }
-    ensures came { IfOk result (λ count. (came : List ℕ) × (length came ≡ count) × (take (from + count) into.new ≡ take from into.old ++ came)) }
+    ensures came { IfOk result (λ count. (came : List ℕ) × (length came ≡ count) × (take (from + count) into.new ≡ take from into.old ++ came) × Consumes (T.remaining source.old) (T.remaining source.new) came) }
     ensures fits { IfOk result (λ count. from + count ≤ length into.old) }
     ensures same { take from into.new ≡ take from into.old }
+    ensures kept { OnErr result (Keeps (T.remaining source.old) (T.remaining source.new)) }
 {
     match again::read(source, &mut into[from..]) {
         Ok(count) => Ok(count),

@@ -5,3 +5,4 @@ pub mod Ran
 pub mod Serving
 pub mod Statuses
 pub mod Texts
+pub mod Writers

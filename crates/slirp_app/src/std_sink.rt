@@ -1,5 +1,8 @@
 // A sink over a writer of std.
-ghost use Rattle.std.specs.Prelude.{◌≡◌, ◌+◌, ◌≤◌, min};
+ghost use Rattle.std.specs.Prelude.{◌≡◌, ◌+◌, ◌≤◌, min, OnOk};
+ghost use Rattle.std.specs.Io.KnownBytes.{Appends};
+ghost use Rattle.world_face.specs.Puts.{Puts};
+ghost use Rattle.slirp_app.specs.Writers.{faults_of, writer_of};
 
 use std::io::Write;
 use world_face::{Failed, Sink};
@@ -12,7 +15,11 @@ pub struct StdSink<T: Write> {
 }
 
 impl<T: Write> StdSink<T> {
-    pub fn new(w: T) -> StdSink<T> {
+    /// Over this writer. It has never failed.
+    pub fn new(w: T) -> StdSink<T>
+        ensures writer { writer_of result ≡ w }
+        ensures faults { faults_of result ≡ 0 }
+    {
         StdSink {
             writer: w,
             faults: 0,
@@ -27,7 +34,12 @@ impl<T: Write> Sink for StdSink<T> {
 
     ghost faults = { λ s. s.faults };
 
-    fn put(&mut self, octets: &[u8]) -> Result<(), Failed> {
+    /// The writer got all of the octets, and was flushed.
+    fn put(&mut self, octets: &[u8]) -> Result<(), Failed>
+        ensures puts { Puts None None (faults_of self.old) (faults_of self.new) octets.now result }
+        ensures calm { OnOk result (faults_of self.new ≡ faults_of self.old) }
+        ensures written { OnOk result (Appends (T.contents (writer_of self.old)) (T.contents (writer_of self.new)) octets.now) }
+    {
         if self.writer.write_all(octets).is_err() || self.writer.flush().is_err() {
             self.faults = self.faults.saturating_add(1);
             return Err(Failed);
