@@ -17,6 +17,7 @@ ghost use Rattle.retransmit.specs.Resending.{due_of as resend_due};
 ghost use Rattle.seq_space.specs.Places.{number_of, steps_up};
 ghost use Rattle.sock_buffers.specs.Downward.{Downward, downward};
 ghost use Rattle.sock_buffers.specs.Upward.{Upward, empty, room_of};
+ghost use Rattle.tcp_receive.specs.Coming.{Comes};
 ghost use Rattle.tcp_receive.specs.Received.{Fills, next_number, up_after};
 ghost use Rattle.tcp_segment.specs.Tcp.{tcp_of};
 ghost use Rattle.tcp_transmit.specs.Acks.{octets_acked, without};
@@ -338,6 +339,7 @@ impl Conn {
     /// A segment of the guest arrived (RFC 9293, 3.10.7). `GuestReset` where it resets the connection; `Unfit` where it is
     /// answered by a reset as one without a connection, since it acknowledges another number than our SYN's; `Finished`
     /// where both ends passed with it.
+    #[tactic(auto, using(tcp_receive::proofs::Coming::nothing_comes))]
     pub fn on_segment(
         &mut self,
         up: &mut Up,
@@ -354,6 +356,8 @@ impl Conn {
         ensures down { down.new ≡ down_after_segment self.old up.old down.old (tcp_of seg.now) }
         ensures read { octets_read down.new ≡ octets_read down.old }
         ensures buffers { HasBuffers self.new up.new down.new }
+        // Each octet that is held now or kept was kept before at its place, or is the segment's there.
+        ensures comes { Comes self.old.received seg.now.seq.0 seg.now.body.now up.old up.new }
     {
         match self.verdict(up, seg) {
             Verdict::Ignored => Change::Nothing,
@@ -803,6 +807,7 @@ impl Conn {
         ensures size { up.new.size ≡ up.old.size }
         ensures few { self.new.received.taken < 2 ^ 62 }
         ensures fills { Fills self.old.received up.old → Fills self.new.received up.new }
+        ensures comes { Comes self.old.received seg.now.seq.0 seg.now.body.now up.old up.new }
     {
         let took = self.receive.arrive(up, seg.seq, seg.body, seg.is_fin());
         self.ack_owed |= took.ack_owed;
@@ -820,6 +825,7 @@ impl Conn {
         ensures down { down.new ≡ down_heeding self.old down.old (tcp_of seg.now) }
         ensures read { octets_read down.new ≡ octets_read down.old }
         ensures buffers { HasBuffers self.new up.new down.new }
+        ensures comes { Comes self.old.received seg.now.seq.0 seg.now.body.now up.old up.new }
     {
         if !self.hear(down, now, seg) {
             return Change::Nothing;

@@ -6,6 +6,7 @@ ghost use Rattle.std.specs.Prelude.{◌≡◌, ℕ, List, slice_get, ◌+◌, �
 ghost use Rattle.seq_space.specs.Places.{place as place_of};
 ghost use Rattle.sock_buffers.specs.Kept.{KeepsAt, octet_at};
 ghost use Rattle.sock_buffers.specs.Upward.{Upward, after_join, empty};
+ghost use Rattle.tcp_receive.specs.Coming.{Comes};
 ghost use Rattle.tcp_receive.specs.Received.{Fills, Received, StandsAt, place_in, placed, received, next_number, next_octets, octets_from, places_taken, up_after, IsAckOwed, IsEndTaken};
 
 use seq_space::{Seq, nearest, number_at};
@@ -72,6 +73,7 @@ impl Receive {
             → KeepsAt up.old.kept k x ⊎ StandsAt (place_in self.old seq.0) octets.now (self.old.taken + k) x }
         ensures kept { (k x : ℕ) → KeepsAt up.new.kept k x → KeepsAt up.old.kept (result.octets + k) x
             ⊎ StandsAt (place_in self.old seq.0) octets.now (self.old.taken + (result.octets + k)) x }
+        ensures comes { Comes self.old seq.0 octets.now up.old up.new }
         ensures fills { Fills self.old up.old → Fills self.new up.new }
     {
         let carries = !octets.is_empty() || fin;

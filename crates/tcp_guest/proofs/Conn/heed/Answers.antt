@@ -2,6 +2,8 @@ use Rattle.std.proofs.Common.{◌≡◌, ◌<◌, ◌^◌, false, ap, sym, subst
 use Rattle.tcp_receive.specs.Received.{Fills, Received, up_after}
 use Rattle.tcp_segment.specs.Tcp.{tcp_of}
 use Rattle.tcp_transmit.specs.Transmission.{Feeds}
+use Rattle.tcp_receive.specs.Coming.{Comes}
+use Rattle.tcp_receive.proofs.Coming.{nothing_comes}
 use Rattle.tcp_guest.specs.Connection.{Connection, HasBuffers, is_opening}
 use Rattle.tcp_guest.specs.Segments.{arrived, is_past, opened, settled, settling}
 use Rattle.tcp_guest.proofs.Keeping.{arrived_has, heard_has, opened_received, settled_has}
@@ -53,3 +55,11 @@ returns-clause-buffers c =
     subst (λ (x : Connection). HasBuffers x c.take_octets.new.up c.hear.new.down) (sym c.settle.ensures.connection)
     (settled_has c.take_octets.new.self c.take_octets.new.up c.hear.new.down
     (subst (λ (x : Connection). HasBuffers x c.take_octets.new.up c.hear.new.down) (sym took) arrived_now))
+
+pub returns-then-not-hear-clause-comes : goal.returns-then-not-hear-clause-comes
+returns-then-not-hear-clause-comes c = nothing_comes c.args.self.now.received c.args.seg.now.seq.0 c.args.seg.now.body.now c.args.up.now
+
+pub returns-clause-comes : goal.returns-clause-comes
+returns-clause-comes c =
+    let same : c.hear.new.self.received ≡ c.args.self.now.received = ap (λ (x : Connection). x.received) c.hear.ensures.connection ∙ (opened_received c.args.self.now).0 in
+    subst (λ (r : Received). Comes r c.args.seg.now.seq.0 c.args.seg.now.body.now c.args.up.now c.take_octets.new.up) same c.take_octets.ensures.comes
