@@ -39,6 +39,7 @@ opened_told s c up shift past o = record {
   answered = o.answered;
   owes = o.owes;
   calls = o.calls;
+  quiet = λ is. refl;
   called = o.called;
   theirs = o.theirs;
   scale = o.scale;

@@ -163,7 +163,7 @@ module _ (s : Settings) (c : Connection) (up : Upward) (down : Downward) (past :
   pub data Means : Type 0 where
     -- the connection stays as it is, but for what it owes
     rests : (syn_owed ack_owed : Bool) → after_segment c up down tcp m ≡ record c { syn_owed = syn_owed; ack_owed = ack_owed } → up_after_segment c up down tcp ≡ up → down_after_segment c up down tcp ≡ down
-        → (c.syn_owed ≡ true → syn_owed ≡ true) → (ack_owed ≡ false → c.ack_owed ≡ false) → is_calls c.stage ≡ false → Quiet c past seg → Means
+        → (c.syn_owed ≡ true → syn_owed ≡ true) → (ack_owed ≡ false → c.ack_owed ≡ false) → (is_connects c.stage ≡ true → ack_owed ≡ false) → is_calls c.stage ≡ false → Quiet c past seg → Means
     -- the guest is called on
     waits : after_segment c up down tcp m ≡ c → up_after_segment c up down tcp ≡ up → down_after_segment c up down tcp ≡ down → c.stage ≡ stage.Calls → greets past seg ≡ false → Means
     -- the guest resets it: at the next number, or by the acknowledgement of our SYN
@@ -177,16 +177,16 @@ module _ (s : Settings) (c : Connection) (up : Upward) (down : Downward) (past :
     is_heard : verdict_of c up tcp ≡ Heeded → c.stage ≡ stage.Synchronized → seg.ack ≡ true → seg.rst ≡ false → seg.syn ≡ false → Means
 
   as_ignored : verdict_of c up tcp ≡ Ignored → is_calls c.stage ≡ false → Quiet c past seg → Means
-  as_ignored is known quiet = rests c.syn_owed c.ack_owed (ap (λ (v : Verdict). conn_by v c up down tcp m) is) (ap (λ (v : Verdict). up_by v c up down tcp) is) (ap (λ (v : Verdict). down_by v c down tcp) is) (λ so. so) (λ so. so) known quiet
+  as_ignored is known quiet = rests c.syn_owed c.ack_owed (ap (λ (v : Verdict). conn_by v c up down tcp m) is) (ap (λ (v : Verdict). up_by v c up down tcp) is) (ap (λ (v : Verdict). down_by v c down tcp) is) (λ so. so) (λ so. so) h.opened.quiet known quiet
 
   as_unacceptable : verdict_of c up tcp ≡ Unacceptable → is_calls c.stage ≡ false → Quiet c past seg → Means
-  as_unacceptable is known quiet = rests c.syn_owed c.ack_owed (ap (λ (v : Verdict). conn_by v c up down tcp m) is) (ap (λ (v : Verdict). up_by v c up down tcp) is) (ap (λ (v : Verdict). down_by v c down tcp) is) (λ so. so) (λ so. so) known quiet
+  as_unacceptable is known quiet = rests c.syn_owed c.ack_owed (ap (λ (v : Verdict). conn_by v c up down tcp m) is) (ap (λ (v : Verdict). up_by v c up down tcp) is) (ap (λ (v : Verdict). down_by v c down tcp) is) (λ so. so) (λ so. so) h.opened.quiet known quiet
 
   as_repeats : verdict_of c up tcp ≡ Repeats → is_calls c.stage ≡ false → Quiet c past seg → Means
-  as_repeats is known quiet = rests true c.ack_owed (ap (λ (v : Verdict). conn_by v c up down tcp m) is) (ap (λ (v : Verdict). up_by v c up down tcp) is) (ap (λ (v : Verdict). down_by v c down tcp) is) (λ so. refl) (λ so. so) known quiet
+  as_repeats is known quiet = rests true c.ack_owed (ap (λ (v : Verdict). conn_by v c up down tcp m) is) (ap (λ (v : Verdict). up_by v c up down tcp) is) (ap (λ (v : Verdict). down_by v c down tcp) is) (λ so. refl) (λ so. so) h.opened.quiet known quiet
 
-  as_challenged : verdict_of c up tcp ≡ Challenged → is_calls c.stage ≡ false → Quiet c past seg → Means
-  as_challenged is known quiet = rests c.syn_owed true (ap (λ (v : Verdict). conn_by v c up down tcp m) is) (ap (λ (v : Verdict). up_by v c up down tcp) is) (ap (λ (v : Verdict). down_by v c down tcp) is) (λ so. so) (λ so. absurd cc) known quiet
+  as_challenged : verdict_of c up tcp ≡ Challenged → is_connects c.stage ≡ false → is_calls c.stage ≡ false → Quiet c past seg → Means
+  as_challenged is granted known quiet = rests c.syn_owed true (ap (λ (v : Verdict). conn_by v c up down tcp m) is) (ap (λ (v : Verdict). up_by v c up down tcp) is) (ap (λ (v : Verdict). down_by v c down tcp) is) (λ so. so) (λ so. absurd cc) (λ so. let not_it = sym so ∙ granted in absurd cc) known quiet
 
   equals : (a b : ℕ) → nat_eq a b ≡ true → a ≡ b
   equals a b is = grind (arith, nat_tests)
@@ -203,9 +203,9 @@ module _ (s : Settings) (c : Connection) (up : Upward) (down : Downward) (past :
           (unsent_quiet known (h.opened.out ∙ unsent) (λ is number. let not_it = sym is ∙ rst in absurd cc))
 
   -- once both SYNs are known
-  synchronized_means : verdict_of c up tcp ≡ verdict_synchronized c up tcp → is_calls c.stage ≡ false
+  synchronized_means : verdict_of c up tcp ≡ verdict_synchronized c up tcp → is_connects c.stage ≡ false → is_calls c.stage ≡ false
       → (verdict_of c up tcp ≡ Heeded → seg.ack ≡ true → seg.rst ≡ false → seg.syn ≡ false → Means) → Means
-  synchronized_means at known heeds = by (is_rst tcp) (is_next c tcp) (is_in_window c up tcp) (is_syn tcp) (is_ack tcp) refl refl refl refl refl
+  synchronized_means at granted known heeds = by (is_rst tcp) (is_next c tcp) (is_in_window c up tcp) (is_syn tcp) (is_ack tcp) refl refl refl refl refl
     where
       abbrev_is : (a b d e f : Bool) → is_rst tcp ≡ a → is_next c tcp ≡ b → is_in_window c up tcp ≡ d → is_syn tcp ≡ e → is_ack tcp ≡ f
           → verdict_of c up tcp ≡ (if a then (if b then Resets else (if d then Challenged else Ignored)) else (if e then Challenged else (if f then Heeded else Ignored)))
@@ -213,9 +213,9 @@ module _ (s : Settings) (c : Connection) (up : Upward) (down : Downward) (past :
 
       by : (a b d e f : Bool) → is_rst tcp ≡ a → is_next c tcp ≡ b → is_in_window c up tcp ≡ d → is_syn tcp ≡ e → is_ack tcp ≡ f → Means
       by true true d e f a_is b_is d_is e_is f_is = resets (abbrev_is true true d e f a_is b_is d_is e_is f_is) known a_is (equals tcp.seq (next_number c.received) b_is)
-      by true false true e f a_is b_is d_is e_is f_is = as_challenged (abbrev_is true false true e f a_is b_is d_is e_is f_is) known (flag_quiet known (inr (inr a_is)) (λ is. not_next b_is))
+      by true false true e f a_is b_is d_is e_is f_is = as_challenged (abbrev_is true false true e f a_is b_is d_is e_is f_is) granted known (flag_quiet known (inr (inr a_is)) (λ is. not_next b_is))
       by true false false e f a_is b_is d_is e_is f_is = as_ignored (abbrev_is true false false e f a_is b_is d_is e_is f_is) known (flag_quiet known (inr (inr a_is)) (λ is. not_next b_is))
-      by false b d true f a_is b_is d_is e_is f_is = as_challenged (abbrev_is false b d true f a_is b_is d_is e_is f_is) known (flag_quiet known (inr (inl e_is)) (λ is number. let not_it = sym is ∙ a_is in absurd cc))
+      by false b d true f a_is b_is d_is e_is f_is = as_challenged (abbrev_is false b d true f a_is b_is d_is e_is f_is) granted known (flag_quiet known (inr (inl e_is)) (λ is number. let not_it = sym is ∙ a_is in absurd cc))
       by false b d false true a_is b_is d_is e_is f_is = heeds (abbrev_is false b d false true a_is b_is d_is e_is f_is) f_is a_is e_is
       by false b d false false a_is b_is d_is e_is f_is = as_ignored (abbrev_is false b d false false a_is b_is d_is e_is f_is) known (flag_quiet known (inl f_is) (λ is number. let not_it = sym is ∙ a_is in absurd cc))
 
@@ -305,6 +305,9 @@ module _ (s : Settings) (c : Connection) (up : Upward) (down : Downward) (past :
         known : is_calls c.stage ≡ false
         known = ap (λ (st : Stage). is_calls st) at
 
+        granted : is_connects c.stage ≡ false
+        granted = ap (λ (st : Stage). is_connects st) at
+
         at_verdict : verdict_of c up tcp ≡ verdict_answering c up tcp
         at_verdict = ap (λ (st : Stage). verdict_by st c up tcp) at
 
@@ -320,9 +323,9 @@ module _ (s : Settings) (c : Connection) (up : Upward) (down : Downward) (past :
         by_ack : (a b d : Bool) → is_ack tcp ≡ a → is_rst tcp ≡ b → acknowledges_syn c tcp ≡ d → has_gone c.sendings ≡ true
             → verdict_of c up tcp ≡ (if a && not b && not d then Unacceptable else verdict_synchronized c up tcp) → Means
         by_ack true false false a_is b_is d_is gone is = as_unacceptable is known (stranger_quiet at ack_fits a_is b_is d_is)
-        by_ack true false true a_is b_is d_is gone is = synchronized_means is known (λ so ack rst syn. opening so d_is gone ack rst syn)
-        by_ack true true d a_is b_is d_is gone is = synchronized_means is known (λ so ack rst syn. let not_it = sym rst ∙ b_is in absurd cc)
-        by_ack false b d a_is b_is d_is gone is = synchronized_means is known (λ so ack rst syn. let not_it = sym ack ∙ a_is in absurd cc)
+        by_ack true false true a_is b_is d_is gone is = synchronized_means is granted known (λ so ack rst syn. opening so d_is gone ack rst syn)
+        by_ack true true d a_is b_is d_is gone is = synchronized_means is granted known (λ so ack rst syn. let not_it = sym rst ∙ b_is in absurd cc)
+        by_ack false b d a_is b_is d_is gone is = synchronized_means is granted known (λ so ack rst syn. let not_it = sym ack ∙ a_is in absurd cc)
 
         by_same : (b : Bool) → is_same_syn c tcp ≡ b → has_gone c.sendings ≡ true
             → verdict_of c up tcp ≡ (if b then Repeats else (if is_ack tcp && not (is_rst tcp) && not (acknowledges_syn c tcp) then Unacceptable else verdict_synchronized c up tcp)) → Means
@@ -347,12 +350,12 @@ module _ (s : Settings) (c : Connection) (up : Upward) (down : Downward) (past :
         by stage.Calls at live = calls_means at
         by stage.Answers at live = answers_means at
         by stage.Synchronized at live =
-            synchronized_means (ap (λ (st : Stage). verdict_by st c up tcp) at) (ap (λ (st : Stage). is_calls st) at) (λ so ack rst syn. is_heard so at ack rst syn)
+            synchronized_means (ap (λ (st : Stage). verdict_by st c up tcp) at) (ap (λ (st : Stage). is_connects st) at) (ap (λ (st : Stage). is_calls st) at) (λ so ack rst syn. is_heard so at ack rst syn)
         by stage.Rests at live = absurd cc
         by (stage.Resets seq ack) at live = absurd cc
         by stage.Gone at live = absurd cc
 
     -- one after which the connection stays as it is
-    pub rests_holds : (syn_owed ack_owed : Bool) → (c.syn_owed ≡ true → syn_owed ≡ true) → (ack_owed ≡ false → c.ack_owed ≡ false) → is_calls c.stage ≡ false → Quiet c past seg
+    pub rests_holds : (syn_owed ack_owed : Bool) → (c.syn_owed ≡ true → syn_owed ≡ true) → (ack_owed ≡ false → c.ack_owed ≡ false) → (is_connects c.stage ≡ true → ack_owed ≡ false) → is_calls c.stage ≡ false → Quiet c past seg
         → HasBuffers (record c { syn_owed = syn_owed; ack_owed = ack_owed }) up down → Holds s (record c { syn_owed = syn_owed; ack_owed = ack_owed }) up down after m
-    rests_holds syn_owed ack_owed keeps only known q buffers = stays s c up down past now m seg on h q.none known q.unheeded q.apart syn_owed ack_owed keeps only buffers
+    rests_holds syn_owed ack_owed keeps only calm known q buffers = stays s c up down past now m seg on h q.none known q.unheeded q.apart syn_owed ack_owed keeps only calm buffers

@@ -82,6 +82,7 @@ module _ (s : Settings) (c : Connection) (up : Upward) (down : Downward) (past :
           answered = o.answered ∙ ap (λ (st : Stage). is_synchronized st) is;
           owes = λ no opening_now none. refl;
           calls = λ no. absurd cc;
+          quiet = λ no. absurd cc;
           called = λ accepted no. let not_it = sym (ap (λ (b : Bool). not (b || has_connected past || is_closed past)) accepted) ∙ o.connects ∙ ap (λ (st : Stage). is_connects st) is in absurd cc;
           theirs = o.theirs ∙ ap (λ (b : Bool). if b then None else Some c.received.first) known;
           scale = o.scale;

@@ -147,6 +147,15 @@ accepted_or (Forward n) is = inl refl
 accepted_or (FinToo n) is = inl refl
 accepted_or TooFar is = absurd cc
 
+synchronized_connects : (st : Stage) → is_synchronized st ≡ true → is_connects st ≡ false
+synchronized_connects stage.Connects is = absurd cc
+synchronized_connects stage.Calls is = refl
+synchronized_connects stage.Answers is = refl
+synchronized_connects stage.Synchronized is = refl
+synchronized_connects stage.Rests is = refl
+synchronized_connects (stage.Resets seq ack) is = refl
+synchronized_connects stage.Gone is = refl
+
 -- ---- while both SYNs are acknowledged
 
 module _ (s : Settings) (c : Connection) (up : Upward) (down : Downward) (past : Story) (now m : ℕ) (tcp : Tcp) (on : now ≤ m) (late : m ≤ 2 ^ 62) (h : Holds s c up down past now)
@@ -215,6 +224,7 @@ module _ (s : Settings) (c : Connection) (up : Upward) (down : Downward) (past :
         answered = o.answered;
         owes = o.owes;
         calls = o.calls;
+        quiet = λ is. let not_it = sym (synchronized_connects c.stage synchronized) ∙ is in absurd cc;
         called = o.called;
         theirs = o.theirs;
         scale = o.scale;
@@ -351,7 +361,7 @@ module _ (s : Settings) (c : Connection) (up : Upward) (down : Downward) (past :
   heeds_none far buffers =
       subst (λ (x : Connection). Holds s x up later_down after m) (sym same_c)
       (subst (λ (d : Downward). Holds s (record c { syn_owed = c.syn_owed; ack_owed = true }) up d after m) (sym same_d)
-      (stays s c up down past now m seg on h none known unheeded (λ is number. let not_it = sym is ∙ rst in absurd cc) c.syn_owed true (λ is. is) (λ is. absurd cc)
+      (stays s c up down past now m seg on h none known unheeded (λ is number. let not_it = sym is ∙ rst in absurd cc) c.syn_owed true (λ is. is) (λ is. absurd cc) (λ is. let not_it = sym (synchronized_connects c.stage synchronized) ∙ is in absurd cc)
       (subst (λ (d : Downward). HasBuffers (record c { syn_owed = c.syn_owed; ack_owed = true }) up d) same_d (subst (λ (x : Connection). HasBuffers x up later_down) same_c buffers))))
     where
       is_far : seen ≡ TooFar
@@ -512,6 +522,7 @@ module _ (s : Settings) (c : Connection) (up : Upward) (down : Downward) (past :
         answered = answered0;
         owes = λ apart yet none. absurd cc;
         calls = λ is. absurd cc;
+        quiet = λ is. absurd cc;
         called = λ is apart. gone;
         theirs = ap (λ (q : Option Segment). option_map (λ (g : Segment). g.number) q) same_syn0 ∙ theirs0;
         scale = o.scale ∙ ap (λ (q : Option Segment). shift_of (elim q [ None ↦ None | Some syn ↦ syn.scale ])) (sym same_syn0);

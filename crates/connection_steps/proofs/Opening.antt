@@ -55,6 +55,7 @@ module _ (s : Settings) (m ours most size : ℕ) (scales : s.scales ≡ true) (f
         answered = refl;
         owes = λ is. absurd cc;
         calls = λ is. absurd cc;
+        quiet = λ is. refl;
         called = λ is. absurd cc;
         theirs = refl;
         scale = refl;
@@ -119,6 +120,7 @@ module _ (s : Settings) (m ours most size : ℕ) (scales : s.scales ≡ true) (f
         answered = refl;
         owes = λ is yet none. refl;
         calls = λ is. refl;
+        quiet = λ is. refl;
         called = λ is no_call. absurd cc;
         theirs = refl;
         scale = refl;

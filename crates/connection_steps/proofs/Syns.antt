@@ -229,6 +229,7 @@ module _ (s : Settings) (c : Connection) (up : Upward) (down : Downward) (past :
           answered = o.answered;
           owes = λ apart yet none. let not_it = sym none ∙ gone_once c.sendings in absurd cc;
           calls = o.calls;
+          quiet = λ is. refl;
           called = λ is apart. gone_once c.sendings;
           theirs = o.theirs;
           scale = o.scale;

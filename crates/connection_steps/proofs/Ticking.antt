@@ -111,6 +111,7 @@ module _ (s : Settings) (c : Connection) (up : Upward) (down : Downward) (past :
             answered = o.answered;
             owes = λ apart yet none. refl;
             calls = o.calls;
+            quiet = o.quiet;
             called = o.called;
             theirs = o.theirs;
             scale = o.scale;

@@ -26,7 +26,7 @@ use Rattle.flow_steps.proofs.Reasons.{by_arrival}
 use Rattle.flow_steps.proofs.Resets.{came_current}
 use Rattle.flow_steps.proofs.Steps.{passed}
 use Rattle.flow_steps.proofs.Wanting.{reset_at_next}
-use Rattle.connection_steps.specs.Holding.{Gives, Holds, Receives, is_calls}
+use Rattle.connection_steps.specs.Holding.{Gives, Holds, Receives, is_calls, is_connects}
 use Rattle.connection_steps.specs.Seen.{count_of, outward_of, part_of, resending_of, timer_of}
 use Rattle.connection_steps.proofs.Acking.{way_same}
 use Rattle.connection_steps.proofs.Going.{comes}
@@ -181,9 +181,9 @@ module _ (s : Settings) (c : Connection) (up : Upward) (down : Downward) (past :
         let two = if_some seg.rst seg must.0 (either seg.rst) must.1 in
         apart two.0 (ap (λ (g : Segment). g.number) two.1 ∙ reset_at_next s after (part_of c up) (h.receives known).follows must)
 
-    pub stays : (syn_owed ack_owed : Bool) → (c.syn_owed ≡ true → syn_owed ≡ true) → (ack_owed ≡ false → c.ack_owed ≡ false)
+    pub stays : (syn_owed ack_owed : Bool) → (c.syn_owed ≡ true → syn_owed ≡ true) → (ack_owed ≡ false → c.ack_owed ≡ false) → (is_connects c.stage ≡ true → ack_owed ≡ false)
         → HasBuffers (record c { syn_owed = syn_owed; ack_owed = ack_owed }) up down → Holds s (record c { syn_owed = syn_owed; ack_owed = ack_owed }) up down after m
-    stays syn_owed ack_owed keeps_syn only buffers =
+    stays syn_owed ack_owed keeps_syn only calm buffers =
         let o = opened_on s c past after (record { ours = refl; connecting = refl; out = refl; accepted = refl; theirs = same_syn }) answered_same h.opened in
         record {
           suits = record { ring = h.suits.ring; congestion = h.suits.congestion; scales = h.suits.scales; few = h.suits.few };
@@ -200,6 +200,7 @@ module _ (s : Settings) (c : Connection) (up : Upward) (down : Downward) (past :
             answered = o.answered;
             owes = λ apart_now yet not_gone. keeps_syn (o.owes apart_now yet not_gone);
             calls = o.calls;
+            quiet = λ is. calm is;
             called = o.called;
             theirs = o.theirs;
             scale = o.scale;

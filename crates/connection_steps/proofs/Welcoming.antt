@@ -95,6 +95,7 @@ module _ (s : Settings) (c : Connection) (up : Upward) (down : Downward) (past :
         answered = answered_is;
         owes = λ apart yet none. owes yet;
         calls = λ is. let not_it = sym is ∙ no_call in absurd cc;
+        quiet = λ is. let not_it = sym is ∙ no_connect in absurd cc;
         called = λ is apart. gone;
         theirs = number_known ∙ ap (λ (b : Bool). if b then None else Some tcp.seq) (sym no_call);
         scale = scale_known;

@@ -116,6 +116,7 @@ module _ (s : Settings) (c : Connection) (up : Upward) (down : Downward) (past :
           answered = o.answered;
           owes = o.owes;
           calls = o.calls;
+          quiet = o.quiet;
           called = o.called;
           theirs = o.theirs;
           scale = o.scale;

@@ -87,6 +87,7 @@ pub record IsOpened (s : Settings) (c : Connection) (past : Story) : Type 0 wher
   pub answered : answered (host past) ≡ is_synchronized c.stage
   pub owes : is_connects c.stage ≡ false → is_opening c.stage ≡ true → has_gone c.sendings ≡ false → c.syn_owed ≡ true
   pub calls : is_calls c.stage ≡ true → is_accepted past ≡ true
+  pub quiet : is_connects c.stage ≡ true → c.ack_owed ≡ false
   pub called : is_accepted past ≡ true → is_calls c.stage ≡ false → has_gone c.sendings ≡ true
   pub theirs : their_number past ≡ (if is_calls c.stage then None else Some c.received.first)
   pub scale : c.scale ≡ shift_of (their_scale past)
