@@ -103,6 +103,7 @@ module _ (s : Settings) (c : Connection) (up : Upward) (down : Downward) (past :
         steady = g.steady;
         unset = g.unset;
         set = g.set;
+        owes_syn = g.owes_syn;
         syn_again = λ opening owed gone. let not_it = sym owed ∙ no_syn opening in absurd cc;
         again = λ owed under. absurd (none_again owed under);
       }

@@ -103,5 +103,5 @@ module _ (s : Settings) (c : Connection) (up : Upward) (down : Downward) (past :
           updated = λ none yes. absurd cc;
         };
         gives = gives_as s c (record c { stage = stage.Answers; syn_owed = true }) down (At m Connected ∷ past) m (sym opening) refl refl refl refl
-            (λ owed gone opening_now. let not_it = sym gone ∙ unsent in absurd cc) g;
+            (λ owed gone opening_now. let not_it = sym gone ∙ unsent in absurd cc) (λ owed. refl) g;
       }

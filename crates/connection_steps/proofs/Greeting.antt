@@ -79,7 +79,7 @@ module _ (s : Settings) (c : Connection) (up : Upward) (down : Downward) (past :
     pub waits_on : HasBuffers c up down → Holds s c up down after m
     waits_on buffers =
         let a = h.awaits calls in
-        let g = gives_after s c up down past now m seg on h none c.syn_owed c.ack_owed in
+        let g = gives_after s c up down past now m seg on h none c.syn_owed c.ack_owed (λ so. so) in
         record {
           suits = h.suits;
           buffers = buffers;

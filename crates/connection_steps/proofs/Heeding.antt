@@ -255,6 +255,7 @@ module _ (s : Settings) (c : Connection) (up : Upward) (down : Downward) (past :
           steady = g.steady;
           unset = g.unset;
           set = λ yet gone. let not_it = sym yet ∙ opening in absurd cc;
+          owes_syn = λ yet over. let not_it = sym yet ∙ opening in absurd cc;
           syn_again = λ yet owes gone. by_arrival past m m seg;
           again = λ owes under. by_arrival past m m seg;
         }
@@ -323,11 +324,11 @@ module _ (s : Settings) (c : Connection) (up : Upward) (down : Downward) (past :
     old_gives is =
         let two = old_is t down (host past) tcp.ack h.gives.keeps h.buffers.feeds.sound.order (subst (λ (q : AckSeen). IsSeenAs t down (place_acked t tcp.ack) q) is seen_is) in
         let none : (confirms past seg && is_acceptable (host past) tcp.ack) ≡ false = and_none (confirms past seg) (is_acceptable (host past) tcp.ack) two.0 in
-        let g = gives_after s c up down past now m seg on h none c.syn_owed owed_now in
+        let g = gives_after s c up down past now m seg on h none c.syn_owed owed_now (λ so. so) in
         let d_is : later_down ≡ down = ap (λ (q : AckSeen). without (octets_acked q) down) is ∙ ap (λ (k : ℕ). record down { first = k }) (omega arith) in
         let fa_is : (c.fin_acked || is_fin_too seen) ≡ c.fin_acked = ap (λ (q : AckSeen). c.fin_acked || is_fin_too q) is ∙ or_off c.fin_acked in
         subst (λ (d : Downward). Gives s (with_all t owed_now (c.fin_acked || is_fin_too seen)) d after m) (sym d_is)
-        (gives_as s (record c { syn_owed = c.syn_owed; ack_owed = owed_now }) (with_all t owed_now (c.fin_acked || is_fin_too seen)) down after m refl refl refl refl fa_is (λ owes gone yet. by_arrival past m m seg) g)
+        (gives_as s (record c { syn_owed = c.syn_owed; ack_owed = owed_now }) (with_all t owed_now (c.fin_acked || is_fin_too seen)) down after m refl refl refl refl fa_is (λ owes gone yet. by_arrival past m m seg) (λ so. so) g)
       where
         and_none : (a b : Bool) → b ≡ false → (a && b) ≡ false
         and_none true b so = so
@@ -543,6 +544,7 @@ module _ (s : Settings) (c : Connection) (up : Upward) (down : Downward) (past :
         steady = steady_stop c.syn g.steady;
         unset = λ none. let not_it = sym none ∙ gone in absurd cc;
         set = λ yet so. absurd cc;
+        owes_syn = λ yet over. absurd cc;
         syn_again = λ yet owes so. absurd cc;
         again = λ owes under. by_arrival past m m segment;
       }

@@ -85,6 +85,7 @@ module _ (s : Settings) (m ours most size : ℕ) (scales : s.scales ≡ true) (f
         steady = steady_at_rest;
         unset = λ is. refl;
         set = λ is gone. absurd cc;
+        owes_syn = λ is over. absurd cc;
         syn_again = λ is owed. absurd cc;
         again = λ is. absurd cc;
       };
@@ -152,6 +153,7 @@ module _ (s : Settings) (m ours most size : ℕ) (scales : s.scales ≡ true) (f
         steady = steady_at_rest;
         unset = λ is. refl;
         set = λ is gone. absurd cc;
+        owes_syn = λ is over. absurd cc;
         syn_again = λ is owed gone. absurd cc;
         again = λ is. absurd cc;
       };

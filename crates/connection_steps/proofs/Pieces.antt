@@ -338,6 +338,7 @@ module _ (s : Settings) (c : Connection) (up : Upward) (down : Downward) (past :
         steady = g.steady;
         unset = g.unset;
         set = g.set;
+        owes_syn = g.owes_syn;
         syn_again = λ yet owed gone. let not_it = sym yet ∙ opening in absurd cc;
         again = λ owed under. absurd (none_left owed);
       }

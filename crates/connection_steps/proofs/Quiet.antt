@@ -1,6 +1,6 @@
 -- Events that leave a part of the story as it is.
 use Rattle.std.proofs.Common.{refl, ◌≡◌, ℕ, ◌<◌, ◌≤◌, List, ◌∷◌, Bool, true, Option, None, Some, if◌then◌else◌, IsTrue, nat_eq, ◌+◌, min, max, unwrap_or, ◌-◌, ap, subst, sym, ◌∙◌}
-use Rattle.retransmit.specs.Resending.{IsSteady, Resending, is_off}
+use Rattle.retransmit.specs.Resending.{IsSteady, Resending, is_expired, is_off}
 use Rattle.sock_buffers.specs.Downward.{Downward}
 use Rattle.sock_buffers.specs.Upward.{Upward}
 use Rattle.tcp_transmit.specs.Transmission.{Transmission, is_owed_again, is_sent, octets_read}
@@ -106,6 +106,7 @@ gives_on s c down past now m e silent on out same g = record {
   steady = g.steady;
   unset = g.unset;
   set = g.set;
+  owes_syn = g.owes_syn;
   syn_again = λ is owed gone. reason_later (At m e ∷ past) now m on (reason_stays past m now e silent (g.syn_again is owed gone));
   again = λ is under. reason_later (At m e ∷ past) now m on (reason_stays past m now e silent (g.again is under));
 }
@@ -123,6 +124,7 @@ gives_later s c down past now m on g = record {
   steady = g.steady;
   unset = g.unset;
   set = g.set;
+  owes_syn = g.owes_syn;
   syn_again = λ is owed gone. reason_later past now m on (g.syn_again is owed gone);
   again = λ is under. reason_later past now m on (g.again is under);
 }
@@ -148,9 +150,9 @@ resending_as c d open_is t_is syn_is =
     ∙ ap (λ (t : Transmission). if is_opening c.stage then c.syn else t.resend) t_is
 
 pub gives_as : (s : Settings) (c d : Connection) (down : Downward) (past : Story) (now : ℕ) → is_opening d.stage ≡ is_opening c.stage → d.transmission ≡ c.transmission → d.syn ≡ c.syn
-    → d.sendings ≡ c.sendings → d.fin_acked ≡ c.fin_acked → (d.syn_owed ≡ true → has_gone c.sendings ≡ true → is_opening c.stage ≡ true → HasReason past now)
+    → d.sendings ≡ c.sendings → d.fin_acked ≡ c.fin_acked → (d.syn_owed ≡ true → has_gone c.sendings ≡ true → is_opening c.stage ≡ true → HasReason past now) → (c.syn_owed ≡ true → d.syn_owed ≡ true)
     → Gives s c down past now → Gives s d down past now
-gives_as s c d down past now open_is t_is syn_is gone_is fin_is reason g = record {
+gives_as s c d down past now open_is t_is syn_is gone_is fin_is reason still g = record {
   keeps = subst (λ (t : Transmission). Keeps (outward_of t down) (host past)) (sym t_is) g.keeps;
   fin_acked = fin_is ∙ g.fin_acked ∙ ap (λ (t : Transmission). nat_eq t.acked (octets_read down + 1)) (sym t_is);
   fin_out = g.fin_out ∙ ap (λ (t : Transmission). is_sent t.end) (sym t_is);
@@ -160,6 +162,7 @@ gives_as s c d down past now open_is t_is syn_is gone_is fin_is reason g = recor
   steady = subst (λ (r : Resending). IsSteady r) (sym syn_is) g.steady;
   unset = λ none. ap (λ (r : Resending). is_off r.timer) syn_is ∙ g.unset (ap (λ (n : Sendings). has_gone n) (sym gone_is) ∙ none);
   set = λ opening gone. ap (λ (r : Resending). is_off r.timer) syn_is ∙ g.set (sym open_is ∙ opening) (ap (λ (n : Sendings). has_gone n) (sym gone_is) ∙ gone);
+  owes_syn = λ opening over. still (g.owes_syn (sym open_is ∙ opening) (ap (λ (r : Resending). is_expired r.timer) (sym syn_is) ∙ over));
   syn_again = λ opening owed gone. reason owed (ap (λ (n : Sendings). has_gone n) (sym gone_is) ∙ gone) (sym open_is ∙ opening);
   again = λ owed under. g.again (ap (λ (t : Transmission). is_owed_again t) (sym t_is) ∙ owed) (subst (λ (t : Transmission). t.acked < t.sent) t_is under);
 }
@@ -227,6 +230,7 @@ gives_most s c k down past now g = record {
   steady = g.steady;
   unset = g.unset;
   set = g.set;
+  owes_syn = g.owes_syn;
   syn_again = g.syn_again;
   again = g.again;
 }

@@ -65,6 +65,7 @@ module _ (s : Settings) (c : Connection) (up : Upward) (down : Downward) (past :
         steady = g.steady;
         unset = g.unset;
         set = g.set;
+        owes_syn = g.owes_syn;
         syn_again = λ is owed gone. reason_later (At m (Reads xs) ∷ past) now m on (reason_stays past m now (Reads xs) tt (g.syn_again is owed gone));
         again = λ is under. reason_later (At m (Reads xs) ∷ past) now m on (reason_stays past m now (Reads xs) tt (g.again is under));
       }
@@ -103,6 +104,7 @@ module _ (s : Settings) (c : Connection) (up : Upward) (down : Downward) (past :
         steady = g.steady;
         unset = g.unset;
         set = g.set;
+        owes_syn = g.owes_syn;
         syn_again = λ is owed gone. reason_later (At m ReadsEnd ∷ past) now m on (reason_stays past m now ReadsEnd tt (g.syn_again is owed gone));
         again = λ is under. reason_later (At m ReadsEnd ∷ past) now m on (reason_stays past m now ReadsEnd tt (g.again is under));
       }

@@ -1,6 +1,6 @@
 -- Our SYN or SYN-ACK goes out.
 use Rattle.std.proofs.Common.{refl, ◌≡◌, ℕ, ◌+◌, ◌^◌, ◌<◌, ◌≤◌, ◌%◌, List, [], ◌∷◌, length, Bool, true, false, not, ◌&&◌, ◌||◌, Option, None, Some, is_some, if◌then◌else◌, IsTrue, IfSome, nat_lt, int_le, pos, ◌+ℤ◌, arith, ap, subst, sym, ◌∙◌}
-use Rattle.retransmit.specs.Resending.{Resending, after_sent as resend_sent, counted, doublings, is_off, set_unless_running}
+use Rattle.retransmit.specs.Resending.{Resending, after_sent as resend_sent, counted, doublings, is_expired, is_off, set_unless_running}
 use Rattle.retransmit.specs.declared.Timer.{Timer}
 use Rattle.retransmit.specs.declared.Timer.TheVariants as timer
 use Rattle.retransmit.proofs.Steady.{steady_second, steady_sent}
@@ -57,6 +57,15 @@ never_off : (tm : Timer) (now : ℕ) → is_off (set_unless_running tm now) ≡ 
 never_off timer.Off now = refl
 never_off (timer.Since base) now = refl
 never_off (timer.Expired at) now = refl
+
+runs_unset : (tm : Timer) (now : ℕ) → is_expired (set_unless_running tm now) ≡ false
+runs_unset timer.Off now = refl
+runs_unset (timer.Since base) now = refl
+runs_unset (timer.Expired at) now = refl
+
+sent_runs : (r : Resending) (again : Bool) (now : ℕ) → is_expired (resend_sent r again now).timer ≡ false
+sent_runs r true now = refl
+sent_runs r false now = runs_unset r.timer now
 
 sent_set : (r : Resending) (again : Bool) (now : ℕ) → is_off (resend_sent r again now).timer ≡ false
 sent_set r true now = refl
@@ -135,6 +144,7 @@ module _ (s : Settings) (c : Connection) (down : Downward) (up : Upward) (past :
         steady = steady_sent c.syn (has_gone c.sendings) m late g.steady;
         unset = λ none. let not_it = sym none ∙ gone_once c.sendings in absurd cc;
         set = λ yet gone. sent_set c.syn (has_gone c.sendings) m;
+        owes_syn = λ yet over. let not_it = sym over ∙ sent_runs c.syn (has_gone c.sendings) m in absurd cc;
         syn_again = λ yet owed gone. absurd cc;
         again = λ owed under. let unsent = h.buffers.sound.unsent opening in absurd (omega (arith, under, unsent));
       }
@@ -249,5 +259,5 @@ module _ (s : Settings) (c : Connection) (up : Upward) (down : Downward) (past :
           prompted = r.prompted;
           updated = λ none so. let not_it = sym so ∙ ap (λ (st : Stage). is_synchronized st) at in absurd cc;
         };
-        gives = gives_as s (syn_gone c m) (told (syn_gone c m) up 0) down (At m (Departs seg) ∷ past) m refl refl refl refl refl (λ so gone yet. absurd cc) g;
+        gives = gives_as s (syn_gone c m) (told (syn_gone c m) up 0) down (At m (Departs seg) ∷ past) m refl refl refl refl refl (λ so gone yet. absurd cc) (λ so. so) g;
       }

@@ -156,6 +156,7 @@ module _ (s : Settings) (c : Connection) (up : Upward) (down : Downward) (past :
                 (after_due past now at late c.syn.timer c.syn.resent c.syn.estimate.wait (is_under_way past) refl due (ran c.syn syn_runs)));
             steady = steady_expired c.syn g.steady;
             unset = λ none. let not_it = sym none ∙ gone in absurd cc;
+            owes_syn = λ yet over. refl;
             set = λ yet so. subst (λ (q : Resending). is_off q.timer ≡ false) (sym (expired_is c.syn fresh)) (runs_still past now at late c.syn.timer c.syn.estimate.wait due).1;
             syn_again = λ yet owed so. reason_due past now at late c.syn.timer (count_of (is_under_way past) c.syn) c.syn.estimate.wait way due (ran c.syn syn_runs);
             again = λ owed under. let unsent = h.buffers.sound.unsent opening in absurd (omega (arith, under, unsent));
@@ -210,6 +211,7 @@ module _ (s : Settings) (c : Connection) (up : Upward) (down : Downward) (past :
             steady = g.steady;
             unset = g.unset;
             set = λ yet gone. let not_it = sym yet ∙ opening in absurd cc;
+            owes_syn = λ yet over. let not_it = sym yet ∙ opening in absurd cc;
             syn_again = λ yet owed gone. let not_it = sym yet ∙ opening in absurd cc;
             again = λ owed low. by low;
           };

@@ -101,8 +101,8 @@ module _ (s : Settings) (c : Connection) (up : Upward) (down : Downward) (past :
       by true is = not_acceptable past seg m is (and_right (confirms past seg) (is_acceptable (host past) seg.acknowledgement) none is) now (timer_of (resending_of c)) (count_of (is_under_way past) (resending_of c)) (resending_of c).estimate.wait on h.gives.resends
       by false is = unheard past seg m now (timer_of (resending_of c)) (count_of (is_under_way past) (resending_of c)) (resending_of c).estimate.wait is on h.gives.resends
 
-  pub gives_after : (syn_owed ack_owed : Bool) → Gives s (record c { syn_owed = syn_owed; ack_owed = ack_owed }) down after m
-  gives_after syn_owed ack_owed =
+  pub gives_after : (syn_owed ack_owed : Bool) → (c.syn_owed ≡ true → syn_owed ≡ true) → Gives s (record c { syn_owed = syn_owed; ack_owed = ack_owed }) down after m
+  gives_after syn_owed ack_owed keeps_syn =
       let g = h.gives in
       record {
         keeps = kept;
@@ -114,6 +114,7 @@ module _ (s : Settings) (c : Connection) (up : Upward) (down : Downward) (past :
         steady = g.steady;
         unset = g.unset;
         set = g.set;
+        owes_syn = λ opening over. keeps_syn (g.owes_syn opening over);
         syn_again = λ is owed gone. by_arrival past m m seg;
         again = λ is under. by_arrival past m m seg;
       }
@@ -209,5 +210,5 @@ module _ (s : Settings) (c : Connection) (up : Upward) (down : Downward) (past :
           };
           awaits = λ is. let not_it = sym is ∙ known in absurd cc;
           receives = λ is. receives_by syn_owed ack_owed only (is_plain seg) refl;
-          gives = gives_after syn_owed ack_owed;
+          gives = gives_after syn_owed ack_owed keeps_syn;
         }

@@ -114,6 +114,7 @@ gives_watched s c down past now unsent steady under g = record {
   steady = g.steady;
   unset = g.unset;
   set = g.set;
+  owes_syn = g.owes_syn;
   syn_again = g.syn_again;
   again = by_again (nat_lt c.transmission.acked c.transmission.sent) refl;
 }

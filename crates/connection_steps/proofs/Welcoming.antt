@@ -110,7 +110,7 @@ module _ (s : Settings) (c : Connection) (up : Upward) (down : Downward) (past :
 
   pub greets_alone : seg.ack ≡ false → HasBuffers (greeted c tcp) up down → Holds s (greeted c tcp) up down after m
   greets_alone ack buffers =
-      let g = gives_after s c up down past now m seg on h none true true in
+      let g = gives_after s c up down past now m seg on h none true true (λ so. refl) in
       record {
         suits = record { ring = h.suits.ring; congestion = h.suits.congestion; scales = h.suits.scales; few = h.suits.few };
         buffers = buffers;
@@ -121,7 +121,7 @@ module _ (s : Settings) (c : Connection) (up : Upward) (down : Downward) (past :
         awaits = λ is. absurd cc;
         receives = λ is. received_after stage.Answers (greeted c tcp).transmission c.syn true c.fin_acked;
         gives = gives_most s (record (greeted c tcp) { transmission = c.transmission }) (greeted c tcp).transmission.mss down after m
-            (gives_as s (record c { syn_owed = true; ack_owed = true }) (record (greeted c tcp) { transmission = c.transmission }) down after m (sym opening) refl refl refl refl (λ owes so yet. by_arrival past m m seg) g);
+            (gives_as s (record c { syn_owed = true; ack_owed = true }) (record (greeted c tcp) { transmission = c.transmission }) down after m (sym opening) refl refl refl refl (λ owes so yet. by_arrival past m m seg) (λ so. refl) g);
       }
     where
       none : (confirms past seg && is_acceptable (host past) seg.acknowledgement) ≡ false
@@ -218,6 +218,7 @@ module _ (s : Settings) (c : Connection) (up : Upward) (down : Downward) (past :
           steady = steady_stop c.syn g.steady;
           unset = λ none. let not_it = sym none ∙ gone in absurd cc;
           set = λ yet so. absurd cc;
+          owes_syn = λ yet over. absurd cc;
           syn_again = λ yet owes so. absurd cc;
           again = λ owes under. by_arrival past m m seg;
         }

@@ -125,5 +125,5 @@ module _ (s : Settings) (c : Connection) (up : Upward) (down : Downward) (past :
         };
         awaits = λ is. let not_it = sym is ∙ known in absurd cc;
         receives = λ is. ended_receives none ended untold r;
-        gives = gives_as s c (record c { host_ended = true }) down (At m EndsHost ∷ past) m refl refl refl refl refl (λ owed gone opening. g.syn_again opening owed gone) g;
+        gives = gives_as s c (record c { host_ended = true }) down (At m EndsHost ∷ past) m refl refl refl refl refl (λ owed gone opening. g.syn_again opening owed gone) (λ so. so) g;
       }

@@ -1,6 +1,6 @@
 -- A connection and its buffers, against the story of its flow.
 use Rattle.std.specs.Prelude.{◌≡◌, ℕ, ◌+◌, ◌-◌, ◌<◌, ◌≤◌, ◌^◌, [], length, drop, Bool, true, false, None, Some, if◌then◌else◌, IsTrue, nat_eq}
-use Rattle.retransmit.specs.Resending.{IsSteady, is_off}
+use Rattle.retransmit.specs.Resending.{IsSteady, is_expired, is_off}
 use Rattle.sock_buffers.specs.Downward.{Downward}
 use Rattle.sock_buffers.specs.Upward.{Upward}
 use Rattle.tcp_receive.specs.Received.{next_number, received}
@@ -133,6 +133,7 @@ pub record Gives (s : Settings) (c : Connection) (down : Downward) (past : Story
   pub steady : IsSteady c.syn
   pub unset : has_gone c.sendings ≡ false → is_off c.syn.timer ≡ true
   pub set : is_opening c.stage ≡ true → has_gone c.sendings ≡ true → is_off c.syn.timer ≡ false
+  pub owes_syn : is_opening c.stage ≡ true → is_expired c.syn.timer ≡ true → c.syn_owed ≡ true
   pub syn_again : is_opening c.stage ≡ true → c.syn_owed ≡ true → has_gone c.sendings ≡ true → HasReason past now
   pub again : is_owed_again c.transmission ≡ true → c.transmission.acked < c.transmission.sent → HasReason past now
 
