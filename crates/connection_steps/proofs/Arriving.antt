@@ -18,11 +18,13 @@ use Rattle.flow_laws.specs.Settings.{Settings}
 use Rattle.flow_laws.specs.Event.{Arrives, At, Segment, Story}
 use Rattle.flow_laws.specs.Host.{acked, answered, is_acceptable, not_past_sent, our_first, our_place, sent}
 use Rattle.flow_laws.specs.Flow.{confirms, greets, host, is_closed, is_heeded, next_number as number_after, our_number, syn_is_out, their_number}
+use Rattle.flow_laws.specs.Close.{renews}
 use Rattle.flow_laws.proofs.Sides.{our_first_is}
 use Rattle.flow_steps.proofs.Segments.{number_from}
 use Rattle.connection_steps.specs.Holding.{Holds, is_calls, is_connects, is_live}
 use Rattle.connection_steps.specs.Seen.{segment_of}
 use Rattle.connection_steps.proofs.Unheeded.{stays}
+use Rattle.connection_steps.proofs.Watching.{synchronized_is}
 
 -- ---- tests
 
@@ -34,6 +36,7 @@ pub record Quiet (c : Connection) (past : Story) (seg : Segment) : Type 0 where
   pub none : (confirms past seg && is_acceptable (host past) seg.acknowledgement) ≡ false
   pub unheeded : is_heeded past seg ≡ false
   pub apart : seg.rst ≡ true → seg.number ≡ next_number c.received → ⊥
+  pub calm : c.end_acknowledged ≡ true → renews seg ≡ false
 
 and_four : (a b d e : Bool) → (a ≡ false) ⊎ ((b ≡ true) ⊎ ((d ≡ false) ⊎ (e ≡ false))) → (a && not b && d && e) ≡ false
 and_four false b d e is = refl
@@ -72,6 +75,10 @@ module _ (s : Settings) (c : Connection) (up : Upward) (down : Downward) (past :
   abbrev after : Story
   after = At m (Arrives seg) ∷ past
 
+  -- the guest's end isn't acknowledged before our SYN is
+  not_ended : is_calls c.stage ≡ false → is_opening c.stage ≡ true → c.end_acknowledged ≡ true → renews seg ≡ false
+  not_ended known opening is = let not_it = sym ((h.receives known).sure is).0 ∙ h.buffers.sound.unended opening in absurd cc
+
   -- nothing is looked at before our SYN went out
   unsent_quiet : is_calls c.stage ≡ false → syn_is_out past ≡ false → (seg.rst ≡ true → seg.number ≡ next_number c.received → ⊥) → Quiet c past seg
   unsent_quiet known unsent apart = record {
@@ -79,7 +86,12 @@ module _ (s : Settings) (c : Connection) (up : Upward) (down : Downward) (past :
         (and_four seg.ack seg.rst (syn_is_out past) (if is_some (their_number past) then not seg.syn else greets past seg) (inr (inr (inl unsent))));
     unheeded = heed_none (is_closed past) (is_some (their_number past)) (syn_is_out past) seg.ack seg.syn seg.rst (not_past_sent (host past) seg.acknowledgement) (answered (host past) || nat_eq seg.acknowledgement (number_after (our_number past))) (inl unsent);
     apart = apart;
+    calm = λ is. not_ended known (opening_by (is_opening c.stage) refl) is;
   }
+    where
+      opening_by : (b : Bool) → is_opening c.stage ≡ b → b ≡ true
+      opening_by true is = refl
+      opening_by false is = let not_it = sym (h.opened.out ∙ h.opened.sent (synchronized_is c.stage h.opened.live is)) ∙ unsent in absurd cc
 
   -- one with RST, SYN or without ACK
   flag_quiet : is_calls c.stage ≡ false → (seg.ack ≡ false) ⊎ ((seg.syn ≡ true) ⊎ (seg.rst ≡ true)) → (seg.rst ≡ true → seg.number ≡ next_number c.received → ⊥) → Quiet c past seg
@@ -87,8 +99,21 @@ module _ (s : Settings) (c : Connection) (up : Upward) (down : Downward) (past :
     none = first_none (confirms past seg) (is_acceptable (host past) seg.acknowledgement) (by flag);
     unheeded = by_heed flag;
     apart = apart;
+    calm = λ is. no_renewal flag;
   }
     where
+      renews_none : (a b d e : Bool) → (b ≡ false) ⊎ ((d ≡ true) ⊎ (e ≡ true)) → (a && b && not d && not e) ≡ false
+      renews_none false b d e is = refl
+      renews_none true false d e is = refl
+      renews_none true true true e is = refl
+      renews_none true true false e (inl is) = absurd cc
+      renews_none true true false e (inr (inl is)) = absurd cc
+      renews_none true true false true (inr (inr is)) = refl
+      renews_none true true false false (inr (inr is)) = absurd cc
+
+      no_renewal : (seg.ack ≡ false) ⊎ ((seg.syn ≡ true) ⊎ (seg.rst ≡ true)) → renews seg ≡ false
+      no_renewal is = renews_none seg.fin seg.ack seg.syn seg.rst is
+
       is_known : is_some (their_number past) ≡ true
       is_known = ap (λ (n : Option ℕ). is_some n) (h.opened.theirs ∙ ap (λ (b : Bool). if b then None else Some c.received.first) known)
 
@@ -118,6 +143,7 @@ module _ (s : Settings) (c : Connection) (up : Upward) (down : Downward) (past :
     unheeded = heed_none (is_closed past) (is_some (their_number past)) (syn_is_out past) seg.ack seg.syn seg.rst (not_past_sent (host past) tcp.ack) (answered (host past) || nat_eq tcp.ack (number_after (our_number past)))
         (inr (inr (inr (inr (either (answered (host past)) (nat_eq tcp.ack (number_after (our_number past))) (h.opened.answered ∙ ap (λ (st : Stage). is_synchronized st) at) different)))));
     apart = λ is. let not_it = sym is ∙ rst in absurd cc;
+    calm = λ is. not_ended (ap (λ (st : Stage). is_calls st) at) (ap (λ (st : Stage). is_opening st) at) is;
   }
     where
       either : (a b : Bool) → a ≡ false → b ≡ false → (a || b) ≡ false
@@ -358,4 +384,4 @@ module _ (s : Settings) (c : Connection) (up : Upward) (down : Downward) (past :
     -- one after which the connection stays as it is
     pub rests_holds : (syn_owed ack_owed : Bool) → (c.syn_owed ≡ true → syn_owed ≡ true) → (ack_owed ≡ false → c.ack_owed ≡ false) → (is_connects c.stage ≡ true → ack_owed ≡ false) → is_calls c.stage ≡ false → Quiet c past seg
         → HasBuffers (record c { syn_owed = syn_owed; ack_owed = ack_owed }) up down → Holds s (record c { syn_owed = syn_owed; ack_owed = ack_owed }) up down after m
-    rests_holds syn_owed ack_owed keeps only calm known q buffers = stays s c up down past now m seg on h q.none known q.unheeded q.apart syn_owed ack_owed keeps only calm buffers
+    rests_holds syn_owed ack_owed keeps only calm known q buffers = stays s c up down past now m seg on h q.none known q.unheeded q.apart syn_owed ack_owed keeps only calm (λ none. q.calm) buffers

@@ -36,7 +36,7 @@ module _ (s : Settings) (c : Connection) (up : Upward) (down : Downward) (past :
   pub connects_yet : Holds s c up down past now → Holds s c up down (At m ConnectsYet ∷ past) m
   connects_yet h = quietly ConnectsYet tt
       (record { ours = refl; connecting = refl; out = refl; accepted = refl; theirs = refl })
-      (record { guest = refl; ended = refl; edge = refl; prompted = refl })
+      (record { guest = refl; ended = refl; edge = refl; prompted = refl; answered = refl })
       (record { host = refl; window = refl; fin_out = refl })
       (does s past now m ConnectsYet AskConnected h.goes on (λ o. o) refl (may_ask s past m h.goes.well h.goes.open_yet) (must_ask s past m h.goes.free) h.goes.open_yet refl refl)
       h
@@ -45,7 +45,7 @@ module _ (s : Settings) (c : Connection) (up : Upward) (down : Downward) (past :
   pub asks_address : Holds s c up down past now → Holds s c up down (At m AsksAddress ∷ past) m
   asks_address h = quietly AsksAddress tt
       (record { ours = refl; connecting = refl; out = refl; accepted = refl; theirs = refl })
-      (record { guest = refl; ended = refl; edge = refl; prompted = refl })
+      (record { guest = refl; ended = refl; edge = refl; prompted = refl; answered = refl })
       (record { host = refl; window = refl; fin_out = refl })
       (comes s past now m AsksAddress h.goes on (λ o. o) refl h.goes.open_yet refl (nothing_to_close (At m AsksAddress ∷ past) refl))
       h
@@ -66,7 +66,7 @@ module _ (s : Settings) (c : Connection) (up : Upward) (down : Downward) (past :
       let unsent : has_gone c.sendings ≡ false = o.unsent (ap (λ (st : Stage). is_connects st) is) in
       let opening : is_opening c.stage ≡ true = ap (λ (st : Stage). is_opening st) is in
       let g = gives_on s c down past now m Connected tt on refl (record { host = refl; window = refl; fin_out = refl }) h.gives in
-      let r = receives_on s c up past m Connected tt refl (record { guest = refl; ended = refl; edge = refl; prompted = refl }) (h.receives known) in
+      let r = receives_on s c up past m Connected tt refl (record { guest = refl; ended = refl; edge = refl; prompted = refl; answered = refl }) (h.receives known) in
       record {
         suits = record { ring = h.suits.ring; congestion = h.suits.congestion; scales = h.suits.scales; few = h.suits.few };
         buffers = buffers;
@@ -99,6 +99,7 @@ module _ (s : Settings) (c : Connection) (up : Upward) (down : Downward) (past :
           sure = r.sure;
           host_ended = r.host_ended;
           told = r.told;
+          answered = r.answered;
           prompted = r.prompted;
           updated = λ none yes. absurd cc;
         };

@@ -33,6 +33,7 @@ use Rattle.connection_steps.specs.Over.{IsOver, IsResting, Runs, is_resets}
 use Rattle.connection_steps.specs.Seen.{outward_of, part_of}
 use Rattle.connection_steps.proofs.Closing.{closes, resets_over, runs_of, runs_on}
 use Rattle.connection_steps.proofs.Going.{longer}
+use Rattle.connection_steps.proofs.Leaving.{granted}
 use Rattle.connection_steps.proofs.Telling.{shift_is}
 use Rattle.connection_steps.proofs.Watching.{opening_is}
 
@@ -176,6 +177,15 @@ module _ (s : Settings) (c : Connection) (up : Upward) (down : Downward) (past :
     pub done_goes : IsOver s (record c { stage = stage.Gone }) (At m (Closes directly ended known) ∷ past) m
     done_goes = done_over stage.Gone refl refl (λ seq ack is. cc)
 
+    connects_none : (st : Stage) → is_synchronized st ≡ true → is_connects st ≡ false
+    connects_none stage.Connects is = absurd cc
+    connects_none stage.Calls is = refl
+    connects_none stage.Answers is = refl
+    connects_none stage.Synchronized is = refl
+    connects_none stage.Rests is = refl
+    connects_none (stage.Resets seq ack) is = refl
+    connects_none stage.Gone is = refl
+
     -- our end came first: it rests
     pub done_rests : closes_first c ≡ true → IsResting s (record c { stage = stage.Rests }) up down (At m (Closes directly ended known) ∷ past) m m
     done_rests first =
@@ -192,7 +202,13 @@ module _ (s : Settings) (c : Connection) (up : Upward) (down : Downward) (past :
           follows = r.follows;
           ends = e;
           next = (r.sure four.3).1;
-          keeps = h.gives.keeps;
+          ended = (r.sure four.3).0;
+          fin_out = h.gives.fin_out;
+          first = sym h.gives.keeps.first;
+          sent = sym h.gives.keeps.sent;
+          granted = granted s c past h.opened h.goes.open_yet (connects_none c.stage four.0);
+          prompted = r.prompted;
+          answered = r.answered four.3;
         }
 
     -- so it is what the connection makes of itself

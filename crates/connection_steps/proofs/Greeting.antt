@@ -156,6 +156,7 @@ module _ (s : Settings) (c : Connection) (up : Upward) (down : Downward) (past :
           sure = λ is. let not_it = sym is ∙ a.end_acknowledged in absurd cc;
           host_ended = a.untold ∙ sym a.host_ended;
           told = λ honest. a.edge ∙ sym a.told;
+          answered = λ is none. let not_it = sym is ∙ a.end_acknowledged in absurd cc;
           prompted = λ is. refl;
           updated = λ none yes_. absurd cc;
         }

@@ -362,7 +362,7 @@ module _ (s : Settings) (c : Connection) (up : Upward) (down : Downward) (past :
   heeds_none far buffers =
       subst (λ (x : Connection). Holds s x up later_down after m) (sym same_c)
       (subst (λ (d : Downward). Holds s (record c { syn_owed = c.syn_owed; ack_owed = true }) up d after m) (sym same_d)
-      (stays s c up down past now m seg on h none known unheeded (λ is number. let not_it = sym is ∙ rst in absurd cc) c.syn_owed true (λ is. is) (λ is. absurd cc) (λ is. let not_it = sym (synchronized_connects c.stage synchronized) ∙ is in absurd cc)
+      (stays s c up down past now m seg on h none known unheeded (λ is number. let not_it = sym is ∙ rst in absurd cc) c.syn_owed true (λ is. is) (λ is. absurd cc) (λ is. let not_it = sym (synchronized_connects c.stage synchronized) ∙ is in absurd cc) (λ none. absurd cc)
       (subst (λ (d : Downward). HasBuffers (record c { syn_owed = c.syn_owed; ack_owed = true }) up d) same_d (subst (λ (x : Connection). HasBuffers x up later_down) same_c buffers))))
     where
       is_far : seen ≡ TooFar

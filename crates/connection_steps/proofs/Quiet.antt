@@ -87,6 +87,7 @@ receives_on s c up past m e silent accepted same r = record {
   sure = r.sure;
   host_ended = same.ended ∙ r.host_ended;
   told = λ honest. same.edge ∙ r.told (subst (λ (g : List Up). Honest g) same.guest honest);
+  answered = λ is none. same.answered ∙ r.answered is none;
   prompted = λ is. same.prompted ∙ r.prompted is;
   updated = λ none is. r.updated (sym same.prompted ∙ none) is;
 }
@@ -179,6 +180,7 @@ receives_sending s c t up past r = record {
   sure = r.sure;
   host_ended = r.host_ended;
   told = r.told;
+  answered = r.answered;
   prompted = r.prompted;
   updated = r.updated;
 }

@@ -83,9 +83,9 @@ module _ (s : Settings) (c : Connection) (up : Upward) (down : Downward) (past :
         goes = does s past now m (Reads xs) Read h.goes on (λ none. none) refl (may_read s past m none_ended h.goes.well h.goes.open_yet) (must_read s past m h.goes.free) h.goes.open_yet refl refl;
         opened = opened_sending s c (watched_over c.transmission (with_octets xs) m) (At m (Reads xs) ∷ past) (watched_mss c.transmission down (nat_lt c.transmission.sent (places c.transmission (with_octets xs))) m) o;
         awaits = λ is. awaits_sending s c (watched_over c.transmission (with_octets xs) m) up (At m (Reads xs) ∷ past)
-            (awaits_on s c up past (At m (Reads xs) ∷ past) (record { ours = refl; connecting = refl; out = refl; accepted = refl; theirs = refl }) (record { guest = refl; ended = refl; edge = refl; prompted = refl }) (h.awaits is));
+            (awaits_on s c up past (At m (Reads xs) ∷ past) (record { ours = refl; connecting = refl; out = refl; accepted = refl; theirs = refl }) (record { guest = refl; ended = refl; edge = refl; prompted = refl; answered = refl }) (h.awaits is));
         receives = λ is. receives_sending s c (watched_over c.transmission (with_octets xs) m) up (At m (Reads xs) ∷ past)
-            (receives_on s c up past m (Reads xs) tt refl (record { guest = refl; ended = refl; edge = refl; prompted = refl }) (h.receives is));
+            (receives_on s c up past m (Reads xs) tt refl (record { guest = refl; ended = refl; edge = refl; prompted = refl; answered = refl }) (h.receives is));
         gives = gives_watched s c (with_octets xs) (At m (Reads xs) ∷ past) m (nat_lt c.transmission.sent (places c.transmission (with_octets xs))) h.buffers.feeds.sound.steady
             (λ is. under_way_is s c (with_octets xs) (At m (Reads xs) ∷ past) o g.keeps is) g;
       }
@@ -125,9 +125,9 @@ module _ (s : Settings) (c : Connection) (up : Upward) (down : Downward) (past :
         goes = does s past now m ReadsEnd Read h.goes on (λ none. none) refl (may_read s past m none_ended h.goes.well h.goes.open_yet) (must_read s past m h.goes.free) h.goes.open_yet refl refl;
         opened = opened_sending s c (watched unsent_end true m) (At m ReadsEnd ∷ past) (watched_mss unsent_end down true m) o;
         awaits = λ is. awaits_sending s c (watched unsent_end true m) up (At m ReadsEnd ∷ past)
-            (awaits_on s c up past (At m ReadsEnd ∷ past) (record { ours = refl; connecting = refl; out = refl; accepted = refl; theirs = refl }) (record { guest = refl; ended = refl; edge = refl; prompted = refl }) (h.awaits is));
+            (awaits_on s c up past (At m ReadsEnd ∷ past) (record { ours = refl; connecting = refl; out = refl; accepted = refl; theirs = refl }) (record { guest = refl; ended = refl; edge = refl; prompted = refl; answered = refl }) (h.awaits is));
         receives = λ is. receives_sending s c (watched unsent_end true m) up (At m ReadsEnd ∷ past)
-            (receives_on s c up past m ReadsEnd tt refl (record { guest = refl; ended = refl; edge = refl; prompted = refl }) (h.receives is));
+            (receives_on s c up past m ReadsEnd tt refl (record { guest = refl; ended = refl; edge = refl; prompted = refl; answered = refl }) (h.receives is));
         gives = gives_watched s ended_c down (At m ReadsEnd ∷ past) m true h.buffers.feeds.sound.steady
             (λ is. under_way_is s ended_c down (At m ReadsEnd ∷ past) (opened_sending s c unsent_end (At m ReadsEnd ∷ past) refl o) g.keeps is) g;
       }

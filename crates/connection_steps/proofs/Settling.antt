@@ -1,5 +1,5 @@
 -- Where nothing is owed, all holds that is to hold while the program waits.
-use Rattle.std.proofs.Common.{refl, ◌≡◌, ℕ, ◌+◌, ◌-◌, ◌<◌, ◌≤◌, [], ◌∷◌, length, Bool, true, false, not, ◌&&◌, ◌||◌, Option, None, Some, is_some, if◌then◌else◌, IsTrue, min, nat_le, nat_lt, arith, ap, subst, sym, ◌∙◌, inl, inr, ◌⊎◌}
+use Rattle.std.proofs.Common.{List, refl, ◌≡◌, ℕ, ◌+◌, ◌-◌, ◌<◌, ◌≤◌, [], ◌∷◌, length, Bool, true, false, not, ◌&&◌, ◌||◌, Option, None, Some, is_some, if◌then◌else◌, IsTrue, min, nat_le, nat_lt, arith, ap, subst, sym, ◌∙◌, inl, inr, ◌⊎◌}
 use Rattle.std.proofs.lemmas.Bool.Decides.{nat_tests}
 use Rattle.cwnd.specs.Congestion.{Congestion}
 use Rattle.retransmit.specs.Resending.{Resending, is_expired, due_by as due_by_timer, due_of as resend_due}
@@ -14,7 +14,7 @@ use Rattle.tcp_transmit.specs.declared.End.TheVariants as our_end
 use Rattle.tcp_transmit.specs.declared.Piece.{Piece}
 use Rattle.tcp_transmit.specs.declared.Window.{Window}
 use Rattle.tcp_transmit.proofs.Owed.{next_none}
-use Rattle.tcp_guest.specs.Connection.{Connection, is_opening, is_synchronized}
+use Rattle.tcp_guest.specs.Connection.{Connection, has_gone, is_opening, is_synchronized}
 use Rattle.tcp_guest.specs.Hosts.{is_open}
 use Rattle.tcp_guest.specs.Owing.{owed_of, piece_or_ack}
 use Rattle.tcp_guest.specs.Timing.{due_of}
@@ -22,17 +22,21 @@ use Rattle.tcp_guest.specs.Windows.{is_update_owed, moves_far, our_shift, told_e
 use Rattle.tcp_guest.specs.declared.Owed.TheVariants.{Ack}
 use Rattle.flow_laws.specs.Settings.{Settings}
 use Rattle.flow_laws.specs.Event.{Departs, Closes, At, Story}
-use Rattle.flow_laws.specs.Flow.{is_accepted, is_closed, is_under_way, syn_is_out, their_number}
+use Rattle.flow_laws.specs.Host.{answered}
+use Rattle.flow_laws.specs.Guest.{AckIsDue, Asks, Up}
+use Rattle.flow_laws.specs.Flow.{guest, has_connected, host, is_accepted, is_closed, is_under_way, syn_is_out, their_number}
 use Rattle.flow_laws.specs.Windows.{edge_of as edge_told, mss, our_shift as shift_told, told}
 use Rattle.flow_laws.specs.Close.{is_owed_reset, owes_reset, times_asked}
-use Rattle.flow_laws.specs.Dutiful.{IsSettled}
+use Rattle.flow_laws.specs.Dutiful.{HasAcknowledged, HasSent, IsSettled}
 use Rattle.flow_steps.specs.Resends.{Expired, Until}
 use Rattle.flow_steps.proofs.Edges.{edge_is}
-use Rattle.flow_steps.proofs.Waiting.{settled_is}
-use Rattle.connection_steps.specs.Holding.{Holds, is_calls}
+use Rattle.flow_steps.proofs.InTime.{all_in_time}
+use Rattle.flow_steps.proofs.Waiting.{acknowledged_is, settled_is}
+use Rattle.connection_steps.specs.Holding.{Holds, is_calls, is_connects}
 use Rattle.connection_steps.specs.Seen.{count_of, outward_of, part_of, resending_of, timer_by, timer_of, window_by}
 use Rattle.connection_steps.proofs.Acking.{piece_none}
 use Rattle.connection_steps.proofs.Telling.{shift_is}
+use Rattle.connection_steps.proofs.Watching.{opening_is, syn_under_way}
 
 -- an open flow owes no reset
 pub open_owes_none : (past : Story) → is_closed past ≡ false → owes_reset past ≡ false
@@ -158,3 +162,96 @@ module _ (s : Settings) (c : Connection) (up : Upward) (down : Downward) (past :
 
         or_first : (a b : Bool) → a ≡ true → IsTrue (a || b)
         or_first a b is = rw is refl
+
+  -- until our SYN is acknowledged
+  module _ (opening : is_opening c.stage ≡ true) where
+    runs_syn : resending_of c ≡ c.syn
+    runs_syn = ap (λ (b : Bool). if b then c.syn else c.transmission.resend) opening
+
+    unanswered : answered (host past) ≡ false
+    unanswered = h.opened.answered ∙ opening_is c.stage h.opened.live opening
+
+    no_both : (a b : Bool) → a ≡ false → IsTrue (a && b) → ⊥
+    no_both true b is so = absurd cc
+    no_both false b is so = absurd cc
+
+    none_connected : (a b d : Bool) → not (a || b || d) ≡ true → (a ≡ false) × (b ≡ false)
+    none_connected false false false is = (refl, refl)
+    none_connected true b d is = absurd (by b d is)
+      where
+        by : (b d : Bool) → not (true || b || d) ≡ true → ⊥
+        by true true is = absurd cc
+        by true false is = absurd cc
+        by false true is = absurd cc
+        by false false is = absurd cc
+    none_connected false true d is = absurd (by d is)
+      where
+        by : (d : Bool) → not (false || true || d) ≡ true → ⊥
+        by true is = absurd cc
+        by false is = absurd cc
+    none_connected false false true is = absurd cc
+
+    connecting_none : is_connects c.stage ≡ true → (is_accepted past ≡ false) × (has_connected past ≡ false)
+    connecting_none is = none_connected (is_accepted past) (has_connected past) (is_closed past) (h.opened.connects ∙ is)
+
+    -- where nothing is owed, our SYN went out and isn't owed again, and no acknowledgement is owed
+    module _ (unowed : c.ack_owed ≡ false) (gone : is_connects c.stage ≡ false → has_gone c.sendings ≡ true) (no_syn : has_gone c.sendings ≡ true → c.syn_owed ≡ false)
+        (soon : (d : ℕ) → resend_due c.syn ≡ Some d → now < d) where
+      sends_all : HasSent s past known
+      sends_all = record {
+        reset = open_owes_none past h.goes.open_yet;
+        syn_ack = λ is. by_connects (is_connects c.stage) refl is;
+        syn = λ is. by_accepted (is_connects c.stage) refl is;
+        octets = λ is. absurd (no_both (answered (host past)) (not (is_closed past)) unanswered is);
+      }
+        where
+          or_first : (a b : Bool) → a ≡ true → IsTrue (a || b)
+          or_first a b is = rw is refl
+
+          by_connects : (b : Bool) → is_connects c.stage ≡ b → IsTrue (has_connected past && not (is_closed past)) → IsTrue (syn_is_out past)
+          by_connects true at is = absurd (no_both (has_connected past) (not (is_closed past)) (connecting_none at).1 is)
+          by_connects false at is = h.opened.out ∙ gone at
+
+          by_accepted : (b : Bool) → is_connects c.stage ≡ b → IsTrue (is_accepted past && not (is_closed past)) → IsTrue (syn_is_out past || (not known && nat_lt 0 (times_asked past)))
+          by_accepted true at is = absurd (no_both (is_accepted past) (not (is_closed past)) (connecting_none at).0 is)
+          by_accepted false at is = or_first (syn_is_out past) (not known && nat_lt 0 (times_asked past)) (h.opened.out ∙ gone at)
+
+      acknowledges_all : HasAcknowledged s past false
+      acknowledges_all = by (is_calls c.stage) refl
+        where
+          first_of : (a b d : Bool) → IsTrue (a && b && d) → a ≡ true
+          first_of true b d is = refl
+          first_of false b d is = absurd cc
+
+          second_none : (a b d : Bool) → b ≡ false → IsTrue (a && b && d) → ⊥
+          second_none true true d so is = absurd cc
+          second_none true false d so is = absurd cc
+          second_none false b d so is = absurd cc
+
+          by : (b : Bool) → is_calls c.stage ≡ b → HasAcknowledged s past false
+          by true calls =
+              let a = h.awaits calls in
+              let unknown : is_some (their_number past) ≡ false = ap (λ (o : Option ℕ). is_some o) (h.opened.theirs ∙ ap (λ (b : Bool). if b then None else Some c.received.first) calls) in
+              record {
+                opening = λ is. absurd (second_none (is_accepted past) (is_some (their_number past)) (not (is_closed past)) unknown is);
+                each = λ open_yet due. subst (λ (g : List Up). AckIsDue g) a.guest due;
+                all = λ open_yet honest q asks. absurd (subst (λ (g : List Up). Asks s.ring g q) a.guest asks);
+                resting = λ is. absurd cc;
+              }
+          by false reached =
+              let r = h.receives reached in
+              acknowledged_is s past (part_of c up) false r.follows unowed (r.due unowed)
+              (λ is. r.once (first_of (is_accepted past) (is_some (their_number past)) (not (is_closed past)) is) unowed) (λ is. absurd cc)
+
+      pub opening_settled : IsSettled s past known false now
+      opening_settled = record {
+        sends = sends_all;
+        acknowledges = acknowledges_all;
+        window = λ honest is. absurd (no_both (answered (host past)) (not (is_closed past)) unanswered is);
+        resends = all_in_time past now (timer_of (resending_of c)) (count_of (is_under_way past) (resending_of c)) (resending_of c).estimate.wait h.gives.resends
+            (λ under over.
+            let expired = expires_by c.syn.timer c.syn.estimate.wait (sym (ap (λ (q : Resending). timer_of q) runs_syn) ∙ over) in
+            let out = sym (syn_under_way s c past h.opened opening) ∙ under in
+            let not_it = sym (h.gives.owes_syn opening expired) ∙ no_syn out in absurd cc)
+            (λ moment is. waits_for c.syn.timer c.syn.estimate.wait now moment (sym (ap (λ (q : Resending). timer_of q) runs_syn) ∙ is) soon);
+      }

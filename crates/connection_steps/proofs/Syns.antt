@@ -256,6 +256,7 @@ module _ (s : Settings) (c : Connection) (up : Upward) (down : Downward) (past :
           sure = r.sure;
           host_ended = r.host_ended;
           told = r.told;
+          answered = r.answered;
           prompted = r.prompted;
           updated = λ none so. let not_it = sym so ∙ ap (λ (st : Stage). is_synchronized st) at in absurd cc;
         };

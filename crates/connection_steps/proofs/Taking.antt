@@ -16,6 +16,7 @@ use Rattle.flow_laws.specs.Settings.{Settings}
 use Rattle.flow_laws.specs.Event.{Arrives, At, Segment, Story}
 use Rattle.flow_laws.specs.Guest.{AckIsDue, Came, Honest, Up, ackd, is_empty, octet_at as octet_in, was_acked}
 use Rattle.flow_laws.specs.Flow.{guest, is_closed, is_heeded, is_plain, their_number}
+use Rattle.flow_laws.specs.Dutiful.{fin_is_answered}
 use Rattle.flow_laws.proofs.Sides.{guest_came}
 use Rattle.flow_laws.proofs.Streams.{earlier}
 use Rattle.flow_steps.specs.Ends.{Ends, IsCurrent}
@@ -197,6 +198,9 @@ module _ (s : Settings) (c : Connection) (up : Upward) (past : Story) (m : ℕ) 
       by true so = refl
       by false so = absurd cc
 
+  answers : (b : Bool) → b ≡ false → fin_is_answered past ≡ true → (not (b && seg.ack && not seg.syn && not seg.rst) && fin_is_answered past) ≡ true
+  answers b is so = rw (is, so) refl
+
   -- the guest's stream after it
   pub taken_receives : (st : Stage) (tr : Transmission) (sy : Resending) (so owed fa : Bool) → (owed ≡ false → (c.ack_owed || is_to_acknowledge c.received tcp.seq tcp.body (is_fin tcp)) ≡ false)
       → Receives s (record c { stage = st; received = now_received; transmission = tr; syn = sy; syn_owed = so; ack_owed = owed; fin_acked = fa }) later after
@@ -209,6 +213,7 @@ module _ (s : Settings) (c : Connection) (up : Upward) (past : Story) (m : ℕ) 
     sure = sure_now;
     host_ended = r.host_ended;
     told = λ honest. r.told (earlier (Came seg.number seg.octets seg.fin true) (guest past) (subst (λ (g : List Up). Honest g) same honest));
+    answered = λ is none. answers (is_fin tcp) (quiet owed only none).2 (r.answered is (quiet owed only none).0);
     prompted = λ is. refl;
     updated = λ none yes_. absurd cc;
   }

@@ -118,6 +118,7 @@ module _ (s : Settings) (c : Connection) (up : Upward) (past : Story) (now m : �
         tells_edge s past (part_of c up) m seg ack rst is_known number r.follows (earlier (Acked seg.acknowledgement) (guest past) (subst (λ (g : List Up). Honest g) acked_now honest))
         ∙ ap (λ (k : ℕ). Some (places_taken (taken_of c.received.first c.received.taken c.received.ended) + seg.window * 2 ^ k)) (sym shift_same)
         ∙ ap (λ (k : ℕ). Some (places_taken (taken_of c.received.first c.received.taken c.received.ended) + k * 2 ^ shift)) window;
+    answered = λ is none. rw (ack, rst) refl;
     prompted = λ is. absurd cc;
     updated = λ none yes. ap (λ (k : ℕ). Some (told_edge c up k)) (same yes);
   }

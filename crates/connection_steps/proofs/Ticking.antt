@@ -141,6 +141,7 @@ module _ (s : Settings) (c : Connection) (up : Upward) (down : Downward) (past :
             sure = r.sure;
             host_ended = r.host_ended;
             told = r.told;
+            answered = r.answered;
             prompted = r.prompted;
             updated = r.updated;
           };

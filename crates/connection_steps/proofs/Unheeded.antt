@@ -1,5 +1,5 @@
 -- A segment arrives that isn't heeded: nothing is taken of it, and it acknowledges nothing.
-use Rattle.std.proofs.Common.{refl, ◌≡◌, ℕ, ◌≤◌, List, ◌∷◌, Bool, true, false, ◌&&◌, ◌||◌, Option, None, Some, is_some, if◌then◌else◌, IsTrue, ap, subst, sym, ◌∙◌, inl, inr, ◌⊎◌}
+use Rattle.std.proofs.Common.{not, refl, ◌≡◌, ℕ, ◌≤◌, List, ◌∷◌, Bool, true, false, ◌&&◌, ◌||◌, Option, None, Some, is_some, if◌then◌else◌, IsTrue, ap, subst, sym, ◌∙◌, inl, inr, ◌⊎◌}
 use Rattle.std.specs.Option.{option_or, option_map}
 use Rattle.sock_buffers.specs.Downward.{Downward}
 use Rattle.sock_buffers.specs.Upward.{Upward}
@@ -10,7 +10,8 @@ use Rattle.flow_laws.specs.Event.{Arrives, At, Segment, Story}
 use Rattle.flow_laws.specs.Guest.{AckIsDue, Came, Honest, Up, was_acked}
 use Rattle.flow_laws.specs.Host.{Confirmed, Down, answered, is_acceptable}
 use Rattle.flow_laws.specs.Flow.{confirms, greets, guest, host, is_heeded, is_plain, is_under_way, their_number, their_syn}
-use Rattle.flow_laws.specs.Dutiful.{MustClose}
+use Rattle.flow_laws.specs.Close.{renews}
+use Rattle.flow_laws.specs.Dutiful.{MustClose, fin_is_answered}
 use Rattle.flow_laws.proofs.Sides.{guest_came, guest_passed, host_confirmed, host_passed}
 use Rattle.flow_laws.proofs.Streams.{earlier}
 use Rattle.flow_steps.specs.Ends.{IsCurrent}
@@ -128,8 +129,11 @@ module _ (s : Settings) (c : Connection) (up : Upward) (down : Downward) (past :
     same_syn : their_syn after ≡ their_syn past
     same_syn = syn_stays (their_syn past) (if greets past seg then Some seg else None) is_known
 
-    receives_by : (syn_owed ack_owed : Bool) → (ack_owed ≡ false → c.ack_owed ≡ false) → (b : Bool) → is_plain seg ≡ b → Receives s (record c { syn_owed = syn_owed; ack_owed = ack_owed }) up after
-    receives_by syn_owed ack_owed only true plain =
+    answers : renews seg ≡ false → fin_is_answered past ≡ true → (not (renews seg) && fin_is_answered past) ≡ true
+    answers is so = rw (is, so) refl
+
+    receives_by : (syn_owed ack_owed : Bool) → (ack_owed ≡ false → c.ack_owed ≡ false) → (ack_owed ≡ false → c.end_acknowledged ≡ true → renews seg ≡ false) → (b : Bool) → is_plain seg ≡ b → Receives s (record c { syn_owed = syn_owed; ack_owed = ack_owed }) up after
+    receives_by syn_owed ack_owed only fresh true plain =
         let r = h.receives known in
         let same : guest after ≡ Came seg.number seg.octets seg.fin false ∷ guest past =
         guest_came m past seg h.goes.open_yet is_known plain ∙ ap (λ (b : Bool). Came seg.number seg.octets seg.fin b ∷ guest past) unheeded in
@@ -145,6 +149,7 @@ module _ (s : Settings) (c : Connection) (up : Upward) (down : Downward) (past :
           sure = r.sure;
           host_ended = r.host_ended;
           told = λ honest. r.told (earlier (Came seg.number seg.octets seg.fin false) (guest past) (subst (λ (g : List Up). Honest g) same honest));
+          answered = λ is not_owed. answers (fresh not_owed is) (r.answered is (only not_owed));
           prompted = λ is. refl;
           updated = λ quiet so. absurd cc;
         }
@@ -152,7 +157,7 @@ module _ (s : Settings) (c : Connection) (up : Upward) (down : Downward) (past :
         none_due : (AckIsDue (guest past) → ⊥) → AckIsDue (Came seg.number seg.octets seg.fin false ∷ guest past) → ⊥
         none_due before (inl (heard, so)) = absurd cc
         none_due before (inr more) = before more
-    receives_by syn_owed ack_owed only false plain =
+    receives_by syn_owed ack_owed only fresh false plain =
         let r = h.receives known in
         let same : guest after ≡ guest past = guest_passed m past seg h.goes.open_yet is_known plain in
         let e = no_part past (part_of c up) c.end_acknowledged c.ours_first c.acknowledged m seg same r.ends in
@@ -165,6 +170,7 @@ module _ (s : Settings) (c : Connection) (up : Upward) (down : Downward) (past :
           sure = r.sure;
           host_ended = r.host_ended;
           told = λ honest. r.told (subst (λ (g : List Up). Honest g) same honest);
+          answered = λ is not_owed. answers (fresh not_owed is) (r.answered is (only not_owed));
           prompted = λ is. refl;
           updated = λ quiet so. absurd cc;
         }
@@ -182,9 +188,9 @@ module _ (s : Settings) (c : Connection) (up : Upward) (down : Downward) (past :
         let two = if_some seg.rst seg must.0 (either seg.rst) must.1 in
         apart two.0 (ap (λ (g : Segment). g.number) two.1 ∙ reset_at_next s after (part_of c up) (h.receives known).follows must)
 
-    pub stays : (syn_owed ack_owed : Bool) → (c.syn_owed ≡ true → syn_owed ≡ true) → (ack_owed ≡ false → c.ack_owed ≡ false) → (is_connects c.stage ≡ true → ack_owed ≡ false)
+    pub stays : (syn_owed ack_owed : Bool) → (c.syn_owed ≡ true → syn_owed ≡ true) → (ack_owed ≡ false → c.ack_owed ≡ false) → (is_connects c.stage ≡ true → ack_owed ≡ false) → (ack_owed ≡ false → c.end_acknowledged ≡ true → renews seg ≡ false)
         → HasBuffers (record c { syn_owed = syn_owed; ack_owed = ack_owed }) up down → Holds s (record c { syn_owed = syn_owed; ack_owed = ack_owed }) up down after m
-    stays syn_owed ack_owed keeps_syn only calm buffers =
+    stays syn_owed ack_owed keeps_syn only calm fresh buffers =
         let o = opened_on s c past after (record { ours = refl; connecting = refl; out = refl; accepted = refl; theirs = same_syn }) answered_same h.opened in
         record {
           suits = record { ring = h.suits.ring; congestion = h.suits.congestion; scales = h.suits.scales; few = h.suits.few };
@@ -209,6 +215,6 @@ module _ (s : Settings) (c : Connection) (up : Upward) (down : Downward) (past :
             calling = o.calling;
           };
           awaits = λ is. let not_it = sym is ∙ known in absurd cc;
-          receives = λ is. receives_by syn_owed ack_owed only (is_plain seg) refl;
+          receives = λ is. receives_by syn_owed ack_owed only fresh (is_plain seg) refl;
           gives = gives_after syn_owed ack_owed keeps_syn;
         }

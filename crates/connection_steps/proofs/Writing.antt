@@ -56,6 +56,7 @@ module _ (s : Settings) (c : Connection) (up : Upward) (down : Downward) (past :
       sure = r.sure;
       host_ended = r.host_ended;
       told = λ honest. r.told (earlier (Wrote (take k up.held) n) (guest past) honest);
+      answered = r.answered;
       prompted = λ is. or_true (nat_lt 0 n && not (is_empty (take k up.held))) (is_prompted past) (r.prompted is);
       updated = λ none yes.
           let apart = either (nat_lt 0 n && not (is_empty (take k up.held))) (is_prompted past) none in
@@ -90,6 +91,7 @@ module _ (s : Settings) (c : Connection) (up : Upward) (down : Downward) (past :
     sure = r.sure;
     host_ended = refl;
     told = λ honest. r.told (earlier Ended (guest past) honest);
+    answered = r.answered;
     prompted = r.prompted;
     updated = r.updated;
   }

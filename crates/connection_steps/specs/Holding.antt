@@ -17,7 +17,7 @@ use Rattle.flow_laws.specs.Flow.{guest, host, is_accepted, is_closed, is_connect
 use Rattle.flow_laws.specs.Windows.{mss, right_edge, their_scale, window}
 use Rattle.flow_laws.specs.Close.{fin_is_out, host_failed, host_was_ended}
 use Rattle.flow_laws.specs.Lawful.{IsLawful, is_prompted}
-use Rattle.flow_laws.specs.Dutiful.{IsDutiful, MustClose}
+use Rattle.flow_laws.specs.Dutiful.{IsDutiful, MustClose, fin_is_answered}
 use Rattle.flow_steps.specs.Ends.{Ends, IsCurrent}
 use Rattle.flow_steps.specs.Follows.{Follows}
 use Rattle.flow_steps.specs.Received.{received as taken_of}
@@ -119,6 +119,7 @@ pub record Receives (s : Settings) (c : Connection) (up : Upward) (past : Story)
   pub sure : c.end_acknowledged ≡ true → (c.received.ended ≡ true) × (c.acknowledged ≡ next_number c.received)
   pub host_ended : host_was_ended past ≡ c.host_ended
   pub told : Honest (guest past) → right_edge s past ≡ c.told
+  pub answered : c.end_acknowledged ≡ true → c.ack_owed ≡ false → fin_is_answered past ≡ true
   pub prompted : c.ack_owed ≡ true → is_prompted past ≡ true
   pub updated : is_prompted past ≡ false → is_synchronized c.stage ≡ true → c.told ≡ Some (told_edge c up (our_shift c))
 

@@ -1,20 +1,22 @@
 -- A connection that is over, against the story of its flow.
-use Rattle.std.specs.Prelude.{◌≡◌, ℕ, ◌≤◌, Bool, true, false, Some}
+use Rattle.std.specs.Prelude.{◌||◌, ◌≡◌, ℕ, ◌≤◌, Bool, true, false, Some}
 use Rattle.seq_space.specs.declared.Seq.{Seq}
 use Rattle.sock_buffers.specs.Downward.{Downward}
 use Rattle.sock_buffers.specs.Upward.{Upward}
 use Rattle.tcp_receive.specs.Received.{next_number}
+use Rattle.tcp_transmit.specs.Transmission.{is_sent}
+use Rattle.flow_laws.specs.Host.{our_first, sent}
 use Rattle.tcp_guest.specs.Connection.{Connection}
 use Rattle.tcp_guest.specs.Windows.{our_shift}
 use Rattle.tcp_guest.specs.declared.Stage.{Stage}
 use Rattle.tcp_guest.specs.declared.Stage.TheVariants as stage
 use Rattle.flow_laws.specs.Settings.{Settings}
 use Rattle.flow_laws.specs.Event.{IsStory, Segment, Story, newest_moment}
-use Rattle.flow_laws.specs.Flow.{guest, host, is_closed, syn_is_out, their_number}
+use Rattle.flow_laws.specs.Flow.{guest, has_connected, host, is_accepted, is_closed, syn_is_out, their_number}
 use Rattle.flow_laws.specs.Windows.{our_shift as shift_told}
-use Rattle.flow_laws.specs.Close.{host_failed, is_owed_reset, owes_reset, rests_since}
-use Rattle.flow_laws.specs.Lawful.{IsLawful}
-use Rattle.flow_laws.specs.Dutiful.{IsDutiful}
+use Rattle.flow_laws.specs.Close.{fin_is_out, host_failed, is_owed_reset, owes_reset, rests_since}
+use Rattle.flow_laws.specs.Lawful.{IsLawful, is_prompted}
+use Rattle.flow_laws.specs.Dutiful.{IsDutiful, fin_is_answered}
 use Rattle.flow_steps.specs.Ends.{Ends}
 use Rattle.flow_steps.specs.Follows.{Follows}
 use Rattle.flow_steps.specs.Sends.{Keeps}
@@ -51,7 +53,7 @@ pub record IsOver (s : Settings) (c : Connection) (past : Story) (now : ℕ) : T
   pub owes : owes_reset past ≡ is_resets c.stage
   pub pays : (seq ack : Seq) → c.stage ≡ stage.Resets seq ack → Pays past seq.0 ack.0
 
--- It rests, since a moment, and all that came of the guest was acknowledged.
+-- It rests, since a moment: all that came of the guest was acknowledged, and the host's stream is out with its end.
 pub record IsResting (s : Settings) (c : Connection) (up : Upward) (down : Downward) (past : Story) (now since : ℕ) : Type 0 where
   pub over : IsOver s c past now
   pub at : c.stage ≡ stage.Rests
@@ -62,4 +64,10 @@ pub record IsResting (s : Settings) (c : Connection) (up : Upward) (down : Downw
   pub follows : Follows s.ring (part_of c up) (guest past)
   pub ends : Ends past (part_of c up) c.end_acknowledged c.ours_first c.acknowledged
   pub next : c.acknowledged ≡ next_number c.received
-  pub keeps : Keeps (outward_of c.transmission down) (host past)
+  pub ended : c.received.ended ≡ true
+  pub fin_out : fin_is_out past ≡ is_sent c.transmission.end
+  pub first : our_first (host past) ≡ c.transmission.first
+  pub sent : sent (host past) ≡ c.transmission.sent
+  pub granted : (has_connected past || is_accepted past) ≡ true
+  pub prompted : c.ack_owed ≡ true → is_prompted past ≡ true
+  pub answered : c.ack_owed ≡ false → fin_is_answered past ≡ true

@@ -6,6 +6,7 @@ use Rattle.flow_laws.specs.Flow.{guest, host, is_accepted, is_connecting, our_nu
 use Rattle.flow_laws.specs.Windows.{right_edge, window}
 use Rattle.flow_laws.specs.Close.{fin_is_out, host_was_ended}
 use Rattle.flow_laws.specs.Lawful.{is_prompted}
+use Rattle.flow_laws.specs.Dutiful.{fin_is_answered}
 
 -- the beginning
 pub record SameStart (past next : Story) : Type 0 where
@@ -21,6 +22,7 @@ pub record SameGuest (s : Settings) (past next : Story) : Type 0 where
   pub ended : host_was_ended next ≡ host_was_ended past
   pub edge : right_edge s next ≡ right_edge s past
   pub prompted : is_prompted next ≡ is_prompted past
+  pub answered : fin_is_answered next ≡ fin_is_answered past
 
 -- the host's stream
 pub record SameHost (s : Settings) (past next : Story) : Type 0 where
