@@ -17,6 +17,7 @@ pub mod Owing
 pub mod Pieces
 pub mod Quiet
 pub mod Reading
+pub mod Resting
 pub mod Settling
 pub mod Syns
 pub mod Taking
