@@ -3,37 +3,46 @@ use Rattle.std.proofs.Common.{refl, ◌≡◌, ℕ, ◌+◌, ◌-◌, ◌^◌, �
 use Rattle.std.proofs.lemmas.Bool.Decides.{nat_tests}
 use Rattle.seq_space.specs.Places.{number_of}
 use Rattle.sock_buffers.specs.Downward.{Downward}
-use Rattle.sock_buffers.specs.Upward.{Upward, room_of}
-use Rattle.tcp_receive.specs.Received.{next_number}
-use Rattle.tcp_transmit.specs.Transmission.{is_sent}
+use Rattle.sock_buffers.specs.Upward.{Upward, after_join, room_of}
+use Rattle.tcp_receive.specs.Received.{next_number, place_in, placed, up_after}
+use Rattle.tcp_segment.specs.Tcp.{Tcp}
+use Rattle.tcp_transmit.specs.Transmission.{Transmission, is_sent}
+use Rattle.tcp_transmit.specs.declared.End.{End}
 use Rattle.tcp_guest.specs.Connection.{Connection, closes_first}
+use Rattle.tcp_guest.specs.Checks.{is_fin}
 use Rattle.tcp_guest.specs.Hosts.{numbers_sent}
+use Rattle.tcp_guest.specs.Segments.{is_end_taken, received_after}
 use Rattle.tcp_guest.specs.Owing.{told}
 use Rattle.tcp_guest.specs.Windows.{field, our_shift}
 use Rattle.tcp_guest.specs.declared.Owed.TheVariants.{Ack}
 use Rattle.tcp_guest.specs.declared.Stage.TheVariants as stage
 use Rattle.flow_laws.specs.Settings.{Settings}
-use Rattle.flow_laws.specs.Event.{At, Departs, Segment, Story}
+use Rattle.flow_laws.specs.Event.{Arrives, At, Departs, Segment, Story}
 use Rattle.flow_laws.specs.Guest.{Acked, HasCome, Honest, IsAcknowledged, Up, ackd, from_zero, written}
-use Rattle.flow_laws.specs.Host.{Down, Sent, StandAt, got, our_first, our_place, sent}
-use Rattle.flow_laws.specs.Flow.{guest, has_connected, host, is_accepted, is_closed, syn_is_out, their_number}
+use Rattle.flow_laws.specs.Host.{Confirmed, Down, Sent, StandAt, got, our_first, our_place, sent}
+use Rattle.flow_laws.specs.Flow.{confirms, greets, guest, host, push, syn_is_out, their_number, their_syn}
 use Rattle.flow_laws.specs.Windows.{is_scaled, least_shift, our_shift as shift_told}
-use Rattle.flow_laws.specs.Close.{fin_is_out, owes_reset, rests_since}
+use Rattle.flow_laws.specs.Close.{ends_rest, fin_is_out, renews}
 use Rattle.flow_laws.specs.Lawful.{IsPiece, May, Send, is_overdue, is_prompted, repeats}
-use Rattle.flow_laws.specs.Dutiful.{Must, MustClose, TellsRoom}
+use Rattle.flow_laws.specs.Dutiful.{MustClose, TellsRoom, fin_is_answered}
 use Rattle.flow_laws.proofs.Scaled.{opens_once}
-use Rattle.flow_laws.proofs.Sides.{guest_acked}
+use Rattle.flow_laws.proofs.Sides.{guest_acked, guest_closed}
 use Rattle.flow_steps.specs.Ends.{Ends}
 use Rattle.flow_steps.specs.Follows.{Follows}
 use Rattle.flow_steps.proofs.Acts.{may_send, must_send}
 use Rattle.flow_steps.proofs.EndAcks.{acknowledges_ends}
+use Rattle.flow_steps.proofs.EndSteps.{no_part}
 use Rattle.flow_steps.proofs.Owed.{plain_owes}
+use Rattle.flow_steps.proofs.Rests.{rest_goes_on}
 use Rattle.flow_steps.proofs.SendSteps.{place_of_number}
 use Rattle.flow_steps.proofs.Steps.{acked}
 use Rattle.connection_steps.specs.Over.{IsOver, IsResting}
-use Rattle.connection_steps.specs.Seen.{part_of}
+use Rattle.connection_steps.specs.Seen.{part_of, segment_of}
 use Rattle.connection_steps.specs.Sending.{segment_out}
 use Rattle.connection_steps.proofs.Closing.{runs_on}
+use Rattle.connection_steps.proofs.Going.{longer}
+use Rattle.connection_steps.proofs.Quiet.{same_number, same_scale}
+use Rattle.connection_steps.proofs.Unheeded.{follows_owed, syn_stays}
 
 -- ---- an acknowledgement goes out
 
@@ -128,3 +137,89 @@ module _ (s : Settings) (c : Connection) (up : Upward) (down : Downward) (past :
     prompted = λ is. absurd cc;
     answered = λ is. refl;
   }
+
+-- ---- a segment arrives that doesn't end the rest
+
+module _ (s : Settings) (c : Connection) (up : Upward) (down : Downward) (past : Story) (now m since : ℕ) (tcp : Tcp) (on : now ≤ m) (h : IsResting s c up down past now since)
+    (goes_on : ends_rest past (segment_of tcp) ≡ false) where
+  abbrev came : Segment
+  came = segment_of tcp
+
+  abbrev later : Story
+  later = At m (Arrives came) ∷ past
+
+  same_guest : guest later ≡ guest past
+  same_guest = guest_closed m past came h.over.closed
+
+  known : is_some (their_number past) ≡ true
+  known = ap (λ (n : Option ℕ). is_some n) h.theirs
+
+  same_syn : their_syn later ≡ their_syn past
+  same_syn = syn_stays (their_syn past) (if greets past came then Some came else None) known
+
+  same_host : (our_first (host later) ≡ our_first (host past)) × (sent (host later) ≡ sent (host past))
+  same_host = by (confirms past came)
+    where
+      by : (b : Bool) → (our_first (push (if b then Some (Confirmed came.acknowledgement) else None) (host past)) ≡ our_first (host past))
+          × (sent (push (if b then Some (Confirmed came.acknowledgement) else None) (host past)) ≡ sent (host past))
+      by true = (refl, refl)
+      by false = (refl, refl)
+
+  no_close : MustClose past → ⊥
+  no_close must = let not_it = sym must.2 ∙ h.over.closed in absurd cc
+
+  -- with what may change of the connection
+  rests_as : (t : Transmission) (owed fa : Bool) → t.first ≡ c.transmission.first → t.sent ≡ c.transmission.sent → t.end ≡ c.transmission.end → (owed ≡ false → (c.ack_owed ≡ false) × (renews came ≡ false))
+      → IsResting s (record c { transmission = t; ack_owed = owed; fin_acked = fa }) up down later m (if renews came then m else since)
+  rests_as t owed fa first_is sent_is end_is only =
+      let e = no_part past (part_of c up) c.end_acknowledged c.ours_first c.acknowledged m came same_guest h.ends in
+      record {
+        over = record {
+          runs = record {
+            story = longer past m (Arrives came) (λ none. none) (omega (arith, h.over.runs.moment, on)) h.over.runs.story;
+            moment = omega arith;
+            lawful = (h.over.well, h.over.runs.lawful);
+            dutiful = (no_close, h.over.runs.dutiful);
+          };
+          closed = h.over.closed;
+          well = refl;
+          over = h.over.over;
+          owes = h.over.owes;
+          pays = λ seq ack is. let not_it = sym h.at ∙ is in absurd cc;
+        };
+        at = h.at;
+        begun = rest_goes_on past m since came h.begun ∙ ap (λ (b : Bool). if b then None else Some (if renews came then m else since)) goes_on;
+        theirs = same_number past later same_syn ∙ h.theirs;
+        out = h.out;
+        shift = ap (λ (o : Option ℕ). if not (s.scales && is_some o) then 0 else least_shift s.ring) (same_scale past later same_syn) ∙ h.shift;
+        follows = subst (λ (g : List Up). Follows s.ring (record (part_of c up) { ack_owed = owed }) g) (sym same_guest) (follows_owed s.ring (part_of c up) owed (guest past) (λ is. (only is).0) h.follows);
+        ends = record { low = e.low; kept_low = e.kept_low; fin = e.fin; was_sure = e.was_sure; is_sure = e.is_sure; at = e.at; order = e.order };
+        next = h.next;
+        ended = h.ended;
+        fin_out = h.fin_out ∙ ap (λ (x : End). is_sent x) (sym end_is);
+        first = same_host.0 ∙ h.first ∙ sym first_is;
+        sent = same_host.1 ∙ h.sent ∙ sym sent_is;
+        granted = h.granted;
+        prompted = λ is. refl;
+        answered = λ is. answers (only is).1 (h.answered (only is).0);
+      }
+    where
+      answers : renews came ≡ false → fin_is_answered past ≡ true → (not (renews came) && fin_is_answered past) ≡ true
+      answers is so = rw (is, so) refl
+
+  -- the guest's end is taken: nothing more is
+  up_still : up_after c.received tcp.seq tcp.body up ≡ up
+  up_still = ap (λ (b : Bool). if b then up else after_join (placed (place_in c.received tcp.seq) c.received.taken tcp.body up)) h.ended
+
+  received_still : received_after c.received tcp.seq tcp.body (is_fin tcp) up ≡ c.received
+  received_still =
+      ap (λ (u : Upward). record c.received {
+        taken = c.received.taken + (length u.held - length up.held);
+        ended = c.received.ended || is_end_taken c.received tcp.seq tcp.body (is_fin tcp) (c.received.taken + (length u.held - length up.held));
+      }) up_still
+      ∙ ap (λ (k : ℕ). record c.received { taken = k; ended = c.received.ended || is_end_taken c.received tcp.seq tcp.body (is_fin tcp) k }) (let same : c.received.taken + (length up.held - length up.held) ≡ c.received.taken = omega arith in same)
+      ∙ ap (λ (b : Bool). record c.received { ended = b }) (by c.received.ended (is_end_taken c.received tcp.seq tcp.body (is_fin tcp) c.received.taken) h.ended)
+    where
+      by : (a b : Bool) → a ≡ true → (a || b) ≡ a
+      by true b is = refl
+      by false b is = absurd cc
