@@ -1,27 +1,32 @@
 -- A flow rests: what arrives at it, and what goes out.
-use Rattle.std.proofs.Common.{refl, ◌≡◌, ℕ, ◌+◌, ◌-◌, ◌^◌, ◌<◌, ◌≤◌, List, [], ◌∷◌, length, Bool, true, false, not, ◌&&◌, ◌||◌, Option, None, Some, is_some, if◌then◌else◌, IsTrue, nat_eq, nat_le, nat_lt, max, ℤ, pos, ◌+ℤ◌, arith, ap, subst, sym, ◌∙◌, inl, inr, ◌⊎◌, slice_get}
-use Rattle.std.proofs.lemmas.Bool.Decides.{nat_tests}
+use Rattle.std.proofs.Common.{unwrap_or, refl, ◌≡◌, ℕ, ◌+◌, ◌-◌, ◌≤◌, List, ◌∷◌, length, Bool, true, false, not, ◌&&◌, ◌||◌, Option, None, Some, is_some, if◌then◌else◌, IsTrue, nat_eq, nat_lt, max, ℤ, pos, ◌+ℤ◌, arith, ap, subst, sym, ◌∙◌, inl, inr, ◌⊎◌}
 use Rattle.seq_space.specs.Places.{number_of}
 use Rattle.sock_buffers.specs.Downward.{Downward}
 use Rattle.sock_buffers.specs.Upward.{Upward, after_join, room_of}
-use Rattle.tcp_receive.specs.Received.{next_number, place_in, placed, up_after}
+use Rattle.tcp_receive.specs.Received.{Received, next_number, place_in, placed, up_after}
 use Rattle.tcp_segment.specs.Tcp.{Tcp}
-use Rattle.tcp_transmit.specs.Transmission.{Transmission, is_sent}
+use Rattle.tcp_transmit.specs.Acks.{after_ack, is_acceptable as is_accepted_ack, octets_acked, without}
+use Rattle.tcp_transmit.specs.Timing.{watched_over}
+use Rattle.tcp_transmit.specs.Transmission.{Transmission, is_sent, places}
+use Rattle.tcp_transmit.specs.declared.AckSeen.{AckSeen}
 use Rattle.tcp_transmit.specs.declared.End.{End}
-use Rattle.tcp_guest.specs.Connection.{Connection, closes_first}
-use Rattle.tcp_guest.specs.Checks.{is_fin}
+use Rattle.tcp_guest.specs.Connection.{Connection, closes_first, is_answering, is_synchronized}
+use Rattle.tcp_guest.specs.Checks.{is_ack, is_fin, is_in_window, is_next, is_rst, is_syn, verdict_by, verdict_of}
 use Rattle.tcp_guest.specs.Hosts.{numbers_sent}
-use Rattle.tcp_guest.specs.Segments.{is_end_taken, received_after}
+use Rattle.tcp_guest.specs.Segments.{acknowledged, after_segment, arrived, conn_by, established, is_bare, is_end_taken, is_fin_too, is_past, is_to_acknowledge, is_too_far, opened, received_after, seen_of, settled, up_after_segment, up_by}
 use Rattle.tcp_guest.specs.Owing.{told}
-use Rattle.tcp_guest.specs.Windows.{field, our_shift}
+use Rattle.tcp_guest.specs.Windows.{field, our_shift, window_in}
+use Rattle.tcp_guest.specs.declared.Stage.{Stage}
+use Rattle.tcp_guest.specs.declared.Verdict.{Verdict}
+use Rattle.tcp_guest.specs.declared.Verdict.TheVariants.{Ignored, Resets, Challenged, Heeded}
 use Rattle.tcp_guest.specs.declared.Owed.TheVariants.{Ack}
 use Rattle.tcp_guest.specs.declared.Stage.TheVariants as stage
 use Rattle.flow_laws.specs.Settings.{Settings}
 use Rattle.flow_laws.specs.Event.{Arrives, At, Departs, Segment, Story}
 use Rattle.flow_laws.specs.Guest.{Acked, HasCome, Honest, IsAcknowledged, Up, ackd, from_zero, written}
-use Rattle.flow_laws.specs.Host.{Confirmed, Down, Sent, StandAt, got, our_first, our_place, sent}
+use Rattle.flow_laws.specs.Host.{Confirmed, our_first, our_place, sent}
 use Rattle.flow_laws.specs.Flow.{confirms, greets, guest, host, push, syn_is_out, their_number, their_syn}
-use Rattle.flow_laws.specs.Windows.{is_scaled, least_shift, our_shift as shift_told}
+use Rattle.flow_laws.specs.Windows.{is_scaled, least_shift}
 use Rattle.flow_laws.specs.Close.{ends_rest, fin_is_out, renews}
 use Rattle.flow_laws.specs.Lawful.{IsPiece, May, Send, is_overdue, is_prompted, repeats}
 use Rattle.flow_laws.specs.Dutiful.{MustClose, TellsRoom, fin_is_answered}
@@ -29,17 +34,21 @@ use Rattle.flow_laws.proofs.Scaled.{opens_once}
 use Rattle.flow_laws.proofs.Sides.{guest_acked, guest_closed}
 use Rattle.flow_steps.specs.Ends.{Ends}
 use Rattle.flow_steps.specs.Follows.{Follows}
+use Rattle.flow_steps.specs.Sends.{Outward}
 use Rattle.flow_steps.proofs.Acts.{may_send, must_send}
 use Rattle.flow_steps.proofs.EndAcks.{acknowledges_ends}
 use Rattle.flow_steps.proofs.EndSteps.{no_part}
 use Rattle.flow_steps.proofs.Owed.{plain_owes}
-use Rattle.flow_steps.proofs.Rests.{rest_goes_on}
+use Rattle.flow_steps.proofs.Rests.{rest_goes_on, rest_next}
 use Rattle.flow_steps.proofs.SendSteps.{place_of_number}
 use Rattle.flow_steps.proofs.Steps.{acked}
-use Rattle.connection_steps.specs.Over.{IsOver, IsResting}
+use Rattle.connection_steps.specs.Over.{IsResting}
 use Rattle.connection_steps.specs.Seen.{part_of, segment_of}
 use Rattle.connection_steps.specs.Sending.{segment_out}
 use Rattle.connection_steps.proofs.Closing.{runs_on}
+use Rattle.connection_steps.proofs.Coming.{none_owed}
+use Rattle.connection_steps.proofs.Hearing.{heard_by, heard_stays}
+use Rattle.connection_steps.proofs.Watching.{watched_end, watched_outward}
 use Rattle.connection_steps.proofs.Going.{longer}
 use Rattle.connection_steps.proofs.Quiet.{same_number, same_scale}
 use Rattle.connection_steps.proofs.Unheeded.{follows_owed, syn_stays}
@@ -103,9 +112,9 @@ module _ (s : Settings) (c : Connection) (up : Upward) (down : Downward) (past :
   ends_now : Ends after (part_of (told c up (our_shift c)) up) (c.end_acknowledged || c.received.ended) (closes_first c) (next_number c.received)
   ends_now =
       let e : Ends after (part_of c up) (c.end_acknowledged || c.received.ended) (if nat_eq (next_number c.received) c.acknowledged then c.ours_first else fin_is_out past) (next_number c.received) =
-          acknowledges_ends past (part_of c up) c.end_acknowledged c.ours_first c.acknowledged m seg s.ring (opens_once past h.over.runs.story) refl refl h.theirs refl h.follows h.ends in
+      acknowledges_ends past (part_of c up) c.end_acknowledged c.ours_first c.acknowledged m seg s.ring (opens_once past h.over.runs.story) refl refl h.theirs refl h.follows h.ends in
       let e2 : Ends after (part_of c up) (c.end_acknowledged || c.received.ended) (closes_first c) (next_number c.received) =
-          subst (λ (b : Bool). Ends after (part_of c up) (c.end_acknowledged || c.received.ended) (if nat_eq (next_number c.received) c.acknowledged then c.ours_first else b) (next_number c.received)) h.fin_out e in
+      subst (λ (b : Bool). Ends after (part_of c up) (c.end_acknowledged || c.received.ended) (if nat_eq (next_number c.received) c.acknowledged then c.ours_first else b) (next_number c.received)) h.fin_out e in
       record { low = e2.low; kept_low = e2.kept_low; fin = e2.fin; was_sure = e2.was_sure; is_sure = e2.is_sure; at = e2.at; order = e2.order }
 
   sent_still : sent (host after) ≡ sent (host past)
@@ -223,3 +232,145 @@ module _ (s : Settings) (c : Connection) (up : Upward) (down : Downward) (past :
       by : (a b : Bool) → a ≡ true → (a || b) ≡ a
       by true b is = refl
       by false b is = absurd cc
+
+  -- the sending half after an acknowledgement
+  acked_first : (w : ℕ) (bare : Bool) (seen : AckSeen) (d : Downward) → ((after_ack c.transmission d (record { 0 = tcp.seq }) w bare m seen).first ≡ c.transmission.first)
+      × ((after_ack c.transmission d (record { 0 = tcp.seq }) w bare m seen).sent ≡ c.transmission.sent) × ((after_ack c.transmission d (record { 0 = tcp.seq }) w bare m seen).end ≡ c.transmission.end)
+  acked_first w bare seen d = by (is_accepted_ack seen)
+    where
+      u : Transmission
+      u = heard_by c.transmission (record { 0 = tcp.seq }) w bare m seen
+
+      by : (b : Bool) → ((if b then watched_over (heard_by c.transmission (record { 0 = tcp.seq }) w bare m seen) d m else c.transmission).first ≡ c.transmission.first)
+          × ((if b then watched_over (heard_by c.transmission (record { 0 = tcp.seq }) w bare m seen) d m else c.transmission).sent ≡ c.transmission.sent)
+          × ((if b then watched_over (heard_by c.transmission (record { 0 = tcp.seq }) w bare m seen) d m else c.transmission).end ≡ c.transmission.end)
+      by true =
+          let stays = heard_stays c.transmission (record { 0 = tcp.seq }) w bare m seen in
+          let same = watched_outward (heard_by c.transmission (record { 0 = tcp.seq }) w bare m seen) d (nat_lt (heard_by c.transmission (record { 0 = tcp.seq }) w bare m seen).sent (places (heard_by c.transmission (record { 0 = tcp.seq }) w bare m seen) d)) m in (
+            ap (λ (o : Outward). o.first) same ∙ stays.first,
+            ap (λ (o : Outward). o.sent) same ∙ stays.sent,
+            watched_end (heard_by c.transmission (record { 0 = tcp.seq }) w bare m seen) d (nat_lt (heard_by c.transmission (record { 0 = tcp.seq }) w bare m seen).sent (places (heard_by c.transmission (record { 0 = tcp.seq }) w bare m seen) d)) m ∙ stays.end,
+          )
+      by false = (refl, refl, refl)
+
+  no_renewal : (b d e : Bool) → (b ≡ false) ⊎ ((d ≡ true) ⊎ (e ≡ true)) → (came.fin && b && not d && not e) ≡ false
+  no_renewal b d e is = by came.fin b d e is
+    where
+      by : (a b d e : Bool) → (b ≡ false) ⊎ ((d ≡ true) ⊎ (e ≡ true)) → (a && b && not d && not e) ≡ false
+      by false b d e is = refl
+      by true false d e is = refl
+      by true true true e is = refl
+      by true true false e (inl is) = absurd cc
+      by true true false e (inr (inl is)) = absurd cc
+      by true true false true (inr (inr is)) = refl
+      by true true false false (inr (inr is)) = absurd cc
+
+  -- the verdict is one of three
+  abbrev Result : Type 0
+  Result = IsResting s (after_segment c up down tcp m) up down later m (if renews came then m else since) × (up_after_segment c up down tcp ≡ up)
+
+  as_ignored : verdict_of c up tcp ≡ Ignored → (came.ack ≡ false) ⊎ ((came.syn ≡ true) ⊎ (came.rst ≡ true)) → Result
+  as_ignored is flag = (
+    subst (λ (v : Verdict). IsResting s (conn_by v c up down tcp m) up down later m (if renews came then m else since)) (sym is)
+        (rests_as c.transmission c.ack_owed c.fin_acked refl refl refl (λ none. (none, no_renewal came.ack came.syn came.rst flag))),
+    ap (λ (v : Verdict). up_by v c up down tcp) is,
+  )
+
+  as_challenged : verdict_of c up tcp ≡ Challenged → Result
+  as_challenged is = (
+    subst (λ (v : Verdict). IsResting s (conn_by v c up down tcp m) up down later m (if renews came then m else since)) (sym is)
+        (rests_as c.transmission true c.fin_acked refl refl refl (λ none. absurd cc)),
+    ap (λ (v : Verdict). up_by v c up down tcp) is,
+  )
+
+  -- one that is heeded
+  abbrev w : ℕ
+  w = window_in c tcp
+
+  abbrev seen : AckSeen
+  seen = seen_of c.transmission down tcp.ack
+
+  abbrev heard_now : Connection
+  heard_now = acknowledged c down tcp w (is_bare tcp) m
+
+  opened_still : opened c ≡ c
+  opened_still = ap (λ (b : Bool). if b then established c else c) (ap (λ st. is_answering st) h.at)
+
+  far_or : (a b : Bool) → (a || b) ≡ false → (a ≡ false) × (b ≡ false)
+  far_or true b is = absurd cc
+  far_or false b is = (refl, is)
+
+  as_heeded : verdict_of c up tcp ≡ Heeded → Result
+  as_heeded is = (
+    subst (λ (v : Verdict). IsResting s (conn_by v c up down tcp m) up down later m (if renews came then m else since)) (sym is)
+        (subst (λ (x : Connection). IsResting s (if is_past x down tcp then acknowledged x down tcp (window_in x tcp) (is_bare tcp) m else settled (arrived (acknowledged x down tcp (window_in x tcp) (is_bare tcp) m) up tcp)) up down later m (if renews came then m else since))
+        (sym opened_still) (by (is_too_far seen) refl)),
+    ap (λ (v : Verdict). up_by v c up down tcp) is ∙ up_is (is_past (opened c) down tcp),
+  )
+    where
+      up_is : (b : Bool) → (if b then up else up_after c.received tcp.seq tcp.body up) ≡ up
+      up_is true = refl
+      up_is false = up_still
+
+      acked : (after_ack c.transmission (without (octets_acked seen) down) (record { 0 = tcp.seq }) w (is_bare tcp) m seen).first ≡ c.transmission.first
+      acked = (acked_first w (is_bare tcp) seen (without (octets_acked seen) down)).0
+
+      three : ((after_ack c.transmission (without (octets_acked seen) down) (record { 0 = tcp.seq }) w (is_bare tcp) m seen).first ≡ c.transmission.first)
+          × ((after_ack c.transmission (without (octets_acked seen) down) (record { 0 = tcp.seq }) w (is_bare tcp) m seen).sent ≡ c.transmission.sent)
+          × ((after_ack c.transmission (without (octets_acked seen) down) (record { 0 = tcp.seq }) w (is_bare tcp) m seen).end ≡ c.transmission.end)
+      three = acked_first w (is_bare tcp) seen (without (octets_acked seen) down)
+
+      or_on : (a b : Bool) → b ≡ true → (a || b) ≡ false → ⊥
+      or_on true b is so = absurd cc
+      or_on false b is so = let not_it = sym is ∙ so in absurd cc
+
+      arrived_rests : IsResting s (arrived heard_now up tcp) up down later m (if renews came then m else since)
+      arrived_rests =
+          subst (λ (r : Received). IsResting s (record c {
+            received = r;
+            transmission = after_ack c.transmission (without (octets_acked seen) down) (record { 0 = tcp.seq }) w (is_bare tcp) m seen;
+            ack_owed = (c.ack_owed || is_too_far seen) || is_to_acknowledge c.received tcp.seq tcp.body (is_fin tcp);
+            fin_acked = c.fin_acked || is_fin_too seen;
+          }) up down later m (if renews came then m else since)) (sym received_still)
+          (rests_as (after_ack c.transmission (without (octets_acked seen) down) (record { 0 = tcp.seq }) w (is_bare tcp) m seen)
+          ((c.ack_owed || is_too_far seen) || is_to_acknowledge c.received tcp.seq tcp.body (is_fin tcp)) (c.fin_acked || is_fin_too seen) three.0 three.1 three.2
+          (λ none.
+          let quiet = none_owed c.received tcp.seq tcp.body (is_fin tcp) (c.ack_owed || is_too_far seen) none in
+          ((far_or c.ack_owed (is_too_far seen) quiet.0).0, ap (λ (b : Bool). b && came.ack && not came.syn && not came.rst) quiet.2)))
+
+      settled_is : settled (arrived heard_now up tcp) ≡ arrived heard_now up tcp
+      settled_is = ap (λ (b : Bool). if b then (if closes_first (arrived heard_now up tcp) then record (arrived heard_now up tcp) { stage = stage.Rests } else record (arrived heard_now up tcp) { stage = stage.Gone }) else arrived heard_now up tcp)
+          (ap (λ (st : Stage). is_synchronized st && (arrived heard_now up tcp).host_ended && (arrived heard_now up tcp).fin_acked && (arrived heard_now up tcp).end_acknowledged) h.at)
+
+      by : (b : Bool) → is_too_far seen ≡ b → IsResting s (if b then heard_now else settled (arrived heard_now up tcp)) up down later m (if renews came then m else since)
+      by true far =
+          rests_as (after_ack c.transmission (without (octets_acked seen) down) (record { 0 = tcp.seq }) w (is_bare tcp) m seen) (c.ack_owed || is_too_far seen) (c.fin_acked || is_fin_too seen) three.0 three.1 three.2
+          (λ none. absurd (or_on c.ack_owed (is_too_far seen) far none))
+      by false near = subst (λ (x : Connection). IsResting s x up down later m (if renews came then m else since)) (sym settled_is) arrived_rests
+
+  -- a reset at the next number would end the rest
+  not_reset : came.rst ≡ true → is_next c tcp ≡ true → ⊥
+  not_reset rst next =
+      let number = rest_next past (part_of c up) c.end_acknowledged c.ours_first c.acknowledged c.received.first h.ends h.theirs (h.follows.first) in
+      or_rst came.rst (nat_eq came.number (number_of (unwrap_or (their_number past) 0) (ackd (guest past)))) _ rst
+      (ap (λ (n : ℕ). nat_eq came.number n) (number ∙ h.next) ∙ next) goes_on
+    where
+      or_rst : (a b d : Bool) → a ≡ true → b ≡ true → ((a && b) || d) ≡ false → ⊥
+      or_rst true true d a_is b_is so = absurd cc
+      or_rst true false d a_is b_is so = absurd cc
+      or_rst false b d a_is b_is so = absurd cc
+
+  pub rest_arrives : Result
+  rest_arrives = by (is_rst tcp) (is_next c tcp) (is_in_window c up tcp) (is_syn tcp) (is_ack tcp) refl refl refl refl refl
+    where
+      verdict_is : (a b d e f : Bool) → is_rst tcp ≡ a → is_next c tcp ≡ b → is_in_window c up tcp ≡ d → is_syn tcp ≡ e → is_ack tcp ≡ f
+          → verdict_of c up tcp ≡ (if a then (if b then Resets else (if d then Challenged else Ignored)) else (if e then Challenged else (if f then Heeded else Ignored)))
+      verdict_is a b d e f a_is b_is d_is e_is f_is = ap (λ (st : Stage). verdict_by st c up tcp) h.at ∙ rw (a_is, b_is, d_is, e_is, f_is) refl
+
+      by : (a b d e f : Bool) → is_rst tcp ≡ a → is_next c tcp ≡ b → is_in_window c up tcp ≡ d → is_syn tcp ≡ e → is_ack tcp ≡ f → Result
+      by true true d e f a_is b_is d_is e_is f_is = absurd (not_reset a_is b_is)
+      by true false true e f a_is b_is d_is e_is f_is = as_challenged (verdict_is true false true e f a_is b_is d_is e_is f_is)
+      by true false false e f a_is b_is d_is e_is f_is = as_ignored (verdict_is true false false e f a_is b_is d_is e_is f_is) (inr (inr a_is))
+      by false b d true f a_is b_is d_is e_is f_is = as_challenged (verdict_is false b d true f a_is b_is d_is e_is f_is)
+      by false b d false true a_is b_is d_is e_is f_is = as_heeded (verdict_is false b d false true a_is b_is d_is e_is f_is)
+      by false b d false false a_is b_is d_is e_is f_is = as_ignored (verdict_is false b d false false a_is b_is d_is e_is f_is) (inl f_is)

@@ -24,7 +24,7 @@ use Rattle.flow_laws.specs.Settings.{Settings}
 use Rattle.flow_laws.specs.Event.{Departs, Closes, At, Story}
 use Rattle.flow_laws.specs.Host.{answered}
 use Rattle.flow_laws.specs.Guest.{AckIsDue, Asks, Up}
-use Rattle.flow_laws.specs.Flow.{guest, has_connected, host, is_accepted, is_closed, is_under_way, syn_is_out, their_number}
+use Rattle.flow_laws.specs.Flow.{has_connected, host, is_accepted, is_closed, is_under_way, syn_is_out, their_number}
 use Rattle.flow_laws.specs.Windows.{edge_of as edge_told, mss, our_shift as shift_told, told}
 use Rattle.flow_laws.specs.Close.{is_owed_reset, owes_reset, times_asked}
 use Rattle.flow_laws.specs.Dutiful.{HasAcknowledged, HasSent, IsSettled}

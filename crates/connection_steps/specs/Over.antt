@@ -19,9 +19,8 @@ use Rattle.flow_laws.specs.Lawful.{IsLawful, is_prompted}
 use Rattle.flow_laws.specs.Dutiful.{IsDutiful, fin_is_answered}
 use Rattle.flow_steps.specs.Ends.{Ends}
 use Rattle.flow_steps.specs.Follows.{Follows}
-use Rattle.flow_steps.specs.Sends.{Keeps}
 use Rattle.connection_steps.specs.Holding.{is_live}
-use Rattle.connection_steps.specs.Seen.{outward_of, part_of}
+use Rattle.connection_steps.specs.Seen.{part_of}
 
 -- whatever was done was lawful, and as it must be
 pub record Runs (s : Settings) (past : Story) (now : ℕ) : Type 0 where
