@@ -24,6 +24,7 @@ pub mod Taking
 pub mod Telling
 pub mod Ticking
 pub mod Unheeded
+pub mod Wanting
 pub mod Watching
 pub mod Welcoming
 pub mod Writing
