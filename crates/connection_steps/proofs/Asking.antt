@@ -35,7 +35,7 @@ module _ (s : Settings) (c : Connection) (up : Upward) (down : Downward) (past :
   -- the host hasn't connected yet
   pub connects_yet : Holds s c up down past now → Holds s c up down (At m ConnectsYet ∷ past) m
   connects_yet h = quietly ConnectsYet tt
-      (record { ours = refl; connecting = refl; out = refl; accepted = refl; theirs = refl })
+      (record { ours = refl; connecting = refl; out = refl; accepted = refl; theirs = refl; unasked = refl })
       (record { guest = refl; ended = refl; edge = refl; prompted = refl; answered = refl })
       (record { host = refl; window = refl; fin_out = refl })
       (does s past now m ConnectsYet AskConnected h.goes on (λ o. o) refl (may_ask s past m h.goes.well h.goes.open_yet) (must_ask s past m h.goes.free) h.goes.open_yet refl refl)
@@ -44,7 +44,7 @@ module _ (s : Settings) (c : Connection) (up : Upward) (down : Downward) (past :
   -- a request for the guest's address went out
   pub asks_address : Holds s c up down past now → Holds s c up down (At m AsksAddress ∷ past) m
   asks_address h = quietly AsksAddress tt
-      (record { ours = refl; connecting = refl; out = refl; accepted = refl; theirs = refl })
+      (record { ours = refl; connecting = refl; out = refl; accepted = refl; theirs = refl; unasked = refl })
       (record { guest = refl; ended = refl; edge = refl; prompted = refl; answered = refl })
       (record { host = refl; window = refl; fin_out = refl })
       (comes s past now m AsksAddress h.goes on (λ o. o) refl h.goes.open_yet refl (nothing_to_close (At m AsksAddress ∷ past) refl))

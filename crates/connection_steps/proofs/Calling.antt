@@ -106,6 +106,7 @@ module _ (s : Settings) (c : Connection) (up : Upward) (down : Downward) (past :
           untold = a.untold;
           end_acknowledged = a.end_acknowledged;
           ours_first = a.ours_first;
+          unasked = a.unasked;
         };
         receives = λ is. let not_it = sym is ∙ calls in absurd cc;
         gives = syn_gives s c down up past now m seg on late h opening refl refl;

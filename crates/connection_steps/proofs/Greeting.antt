@@ -85,7 +85,7 @@ module _ (s : Settings) (c : Connection) (up : Upward) (down : Downward) (past :
           buffers = buffers;
           within = h.within;
           goes = comes_on s past now m (Arrives seg) h.goes on (λ so. so) refl h.goes.open_yet refl free;
-          opened = opened_on s c past after (record { ours = refl; connecting = refl; out = refl; accepted = refl; theirs = still_unknown }) (answered_same s c up down past now m seg on h none) h.opened;
+          opened = opened_on s c past after (record { ours = refl; connecting = refl; out = refl; accepted = refl; theirs = still_unknown; unasked = refl }) (answered_same s c up down past now m seg on h none) h.opened;
           awaits = λ is. record {
             theirs = still_unknown ∙ a.theirs;
             guest = same_guest ∙ a.guest;
@@ -99,6 +99,7 @@ module _ (s : Settings) (c : Connection) (up : Upward) (down : Downward) (past :
             untold = a.untold;
             end_acknowledged = a.end_acknowledged;
             ours_first = a.ours_first;
+            unasked = a.unasked;
           };
           receives = λ is. let not_it = sym is ∙ calls in absurd cc;
           gives = g;

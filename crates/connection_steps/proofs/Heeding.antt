@@ -213,7 +213,7 @@ module _ (s : Settings) (c : Connection) (up : Upward) (down : Downward) (past :
 
   opened_all : (tr : Transmission) (owed fa : Bool) → tr.mss ≡ t.mss → answered (host after) ≡ true → IsOpened s (with_all tr owed fa) after
   opened_all tr owed fa most answered_is =
-      let o = opened_on s c past after (record { ours = refl; connecting = refl; out = refl; accepted = refl; theirs = same_syn }) (answered_is ∙ sym ans) h.opened in
+      let o = opened_on s c past after (record { ours = refl; connecting = refl; out = refl; accepted = refl; theirs = same_syn; unasked = refl }) (answered_is ∙ sym ans) h.opened in
       record {
         live = o.live;
         ours = o.ours;

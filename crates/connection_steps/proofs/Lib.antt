@@ -18,6 +18,7 @@ pub mod Pieces
 pub mod Quiet
 pub mod Reading
 pub mod Resting
+pub mod Seeking
 pub mod Settling
 pub mod Syns
 pub mod Taking

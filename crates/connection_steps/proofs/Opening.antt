@@ -142,6 +142,7 @@ module _ (s : Settings) (m ours most size : ℕ) (scales : s.scales ≡ true) (f
         untold = refl;
         end_acknowledged = refl;
         ours_first = refl;
+        unasked = refl;
       };
       receives = λ is. absurd cc;
       gives = record {

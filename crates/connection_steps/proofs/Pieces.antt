@@ -349,7 +349,7 @@ module _ (s : Settings) (c : Connection) (up : Upward) (down : Downward) (past :
     buffers = buffers;
     within = h.within;
     goes = leaves_goes s c up down past now m seg on h known (h.opened.sent synchronized) refl refl refl refl refl refl refl p.place refl low joins (near kind) cut (reason kind) end_after;
-    opened = opened_sending s (told c up (our_shift c)) (after_sent t p m) after refl (opened_told s c up (our_shift c) after (opened_on s c past after (record { ours = refl; connecting = refl; out = refl; accepted = refl; theirs = refl }) refl h.opened));
+    opened = opened_sending s (told c up (our_shift c)) (after_sent t p m) after refl (opened_told s c up (our_shift c) after (opened_on s c past after (record { ours = refl; connecting = refl; out = refl; accepted = refl; theirs = refl; unasked = refl }) refl h.opened));
     awaits = λ is. let not_it = sym is ∙ known in absurd cc;
     receives = λ is. receives_sending s (told c up (our_shift c)) (after_sent t p m) up after
         (leaves_received s c up down past now m seg on h known (h.opened.sent synchronized) refl refl refl refl refl refl refl p.place refl low joins (near kind) cut);

@@ -74,6 +74,7 @@ awaits_on s c up past next start same a = record {
   untold = same.ended ∙ a.untold;
   end_acknowledged = a.end_acknowledged;
   ours_first = a.ours_first;
+  unasked = start.unasked ∙ a.unasked;
 }
 
 pub receives_on : (s : Settings) (c : Connection) (up : Upward) (past : Story) (m : ℕ) (e : Event) → IsQuiet e → is_accepted (At m e ∷ past) ≡ is_accepted past → SameGuest s past (At m e ∷ past)
@@ -199,6 +200,7 @@ awaits_sending s c t up past a = record {
   untold = a.untold;
   end_acknowledged = a.end_acknowledged;
   ours_first = a.ours_first;
+  unasked = a.unasked;
 }
 
 pub opened_sending : (s : Settings) (c : Connection) (t : Transmission) (past : Story) → t.mss ≡ c.transmission.mss → IsOpened s c past → IsOpened s (record c { transmission = t }) past

@@ -74,7 +74,7 @@ module _ (s : Settings) (c : Connection) (up : Upward) (down : Downward) (past :
   pub reads : (xs : List ℕ) → length (down.octets ++ xs) ≤ s.ring → HasBuffers (record c { transmission = watched_over c.transmission (with_octets xs) m }) up (with_octets xs)
       → Holds s (record c { transmission = watched_over c.transmission (with_octets xs) m }) up (with_octets xs) (At m (Reads xs) ∷ past) m
   reads xs fits buffers =
-      let o = opened_on s c past (At m (Reads xs) ∷ past) (record { ours = refl; connecting = refl; out = refl; accepted = refl; theirs = refl }) refl h.opened in
+      let o = opened_on s c past (At m (Reads xs) ∷ past) (record { ours = refl; connecting = refl; out = refl; accepted = refl; theirs = refl; unasked = refl }) refl h.opened in
       let g = read_gives xs in
       record {
         suits = record { ring = h.suits.ring; congestion = h.suits.congestion; scales = h.suits.scales; few = h.suits.few };
@@ -83,7 +83,7 @@ module _ (s : Settings) (c : Connection) (up : Upward) (down : Downward) (past :
         goes = does s past now m (Reads xs) Read h.goes on (λ none. none) refl (may_read s past m none_ended h.goes.well h.goes.open_yet) (must_read s past m h.goes.free) h.goes.open_yet refl refl;
         opened = opened_sending s c (watched_over c.transmission (with_octets xs) m) (At m (Reads xs) ∷ past) (watched_mss c.transmission down (nat_lt c.transmission.sent (places c.transmission (with_octets xs))) m) o;
         awaits = λ is. awaits_sending s c (watched_over c.transmission (with_octets xs) m) up (At m (Reads xs) ∷ past)
-            (awaits_on s c up past (At m (Reads xs) ∷ past) (record { ours = refl; connecting = refl; out = refl; accepted = refl; theirs = refl }) (record { guest = refl; ended = refl; edge = refl; prompted = refl; answered = refl }) (h.awaits is));
+            (awaits_on s c up past (At m (Reads xs) ∷ past) (record { ours = refl; connecting = refl; out = refl; accepted = refl; theirs = refl; unasked = refl }) (record { guest = refl; ended = refl; edge = refl; prompted = refl; answered = refl }) (h.awaits is));
         receives = λ is. receives_sending s c (watched_over c.transmission (with_octets xs) m) up (At m (Reads xs) ∷ past)
             (receives_on s c up past m (Reads xs) tt refl (record { guest = refl; ended = refl; edge = refl; prompted = refl; answered = refl }) (h.receives is));
         gives = gives_watched s c (with_octets xs) (At m (Reads xs) ∷ past) m (nat_lt c.transmission.sent (places c.transmission (with_octets xs))) h.buffers.feeds.sound.steady
@@ -115,7 +115,7 @@ module _ (s : Settings) (c : Connection) (up : Upward) (down : Downward) (past :
   pub reads_end : HasBuffers (record c { transmission = watched unsent_end true m }) up down
       → Holds s (record c { transmission = watched unsent_end true m }) up down (At m ReadsEnd ∷ past) m
   reads_end buffers =
-      let o = opened_on s c past (At m ReadsEnd ∷ past) (record { ours = refl; connecting = refl; out = refl; accepted = refl; theirs = refl }) refl h.opened in
+      let o = opened_on s c past (At m ReadsEnd ∷ past) (record { ours = refl; connecting = refl; out = refl; accepted = refl; theirs = refl; unasked = refl }) refl h.opened in
       let g = ended_gives in
       let ended_c : Connection = record c { transmission = unsent_end } in
       record {
@@ -125,7 +125,7 @@ module _ (s : Settings) (c : Connection) (up : Upward) (down : Downward) (past :
         goes = does s past now m ReadsEnd Read h.goes on (λ none. none) refl (may_read s past m none_ended h.goes.well h.goes.open_yet) (must_read s past m h.goes.free) h.goes.open_yet refl refl;
         opened = opened_sending s c (watched unsent_end true m) (At m ReadsEnd ∷ past) (watched_mss unsent_end down true m) o;
         awaits = λ is. awaits_sending s c (watched unsent_end true m) up (At m ReadsEnd ∷ past)
-            (awaits_on s c up past (At m ReadsEnd ∷ past) (record { ours = refl; connecting = refl; out = refl; accepted = refl; theirs = refl }) (record { guest = refl; ended = refl; edge = refl; prompted = refl; answered = refl }) (h.awaits is));
+            (awaits_on s c up past (At m ReadsEnd ∷ past) (record { ours = refl; connecting = refl; out = refl; accepted = refl; theirs = refl; unasked = refl }) (record { guest = refl; ended = refl; edge = refl; prompted = refl; answered = refl }) (h.awaits is));
         receives = λ is. receives_sending s c (watched unsent_end true m) up (At m ReadsEnd ∷ past)
             (receives_on s c up past m ReadsEnd tt refl (record { guest = refl; ended = refl; edge = refl; prompted = refl; answered = refl }) (h.receives is));
         gives = gives_watched s ended_c down (At m ReadsEnd ∷ past) m true h.buffers.feeds.sound.steady

@@ -100,6 +100,23 @@ and_not_true : (a : Bool) → IsTrue (a && not true) → ⊥
 and_not_true true is = absurd cc
 and_not_true false is = absurd cc
 
+-- while the guest's SYN isn't known, there's nothing to acknowledge
+pub nothing_to_acknowledge : (s : Settings) (c : Connection) (up : Upward) (down : Downward) (past : Story) (now : ℕ) → Holds s c up down past now → is_calls c.stage ≡ true → HasAcknowledged s past false
+nothing_to_acknowledge s c up down past now h calls =
+    let a = h.awaits calls in
+    let unknown : is_some (their_number past) ≡ false = ap (λ (o : Option ℕ). is_some o) (h.opened.theirs ∙ ap (λ (b : Bool). if b then None else Some c.received.first) calls) in
+    record {
+      opening = λ is. absurd (second_none (is_accepted past) (is_some (their_number past)) (not (is_closed past)) unknown is);
+      each = λ open_yet due. subst (λ (g : List Up). AckIsDue g) a.guest due;
+      all = λ open_yet honest q asks. absurd (subst (λ (g : List Up). Asks s.ring g q) a.guest asks);
+      resting = λ is. absurd cc;
+    }
+  where
+    second_none : (a b d : Bool) → b ≡ false → IsTrue (a && b && d) → ⊥
+    second_none true true d so is = absurd cc
+    second_none true false d so is = absurd cc
+    second_none false b d so is = absurd cc
+
 module _ (s : Settings) (c : Connection) (up : Upward) (down : Downward) (past : Story) (now : ℕ) (h : Holds s c up down past now) (nothing : owed_of c up down ≡ None) (early : (at : ℕ) → due_of c ≡ Some at → now < at) (known : Bool) where
   e_now : ℕ
   e_now = if s.congestion then min (edge_told (window_by c.transmission.window)) (c.transmission.acked + mss s past) else edge_told (window_by c.transmission.window)
@@ -223,21 +240,8 @@ module _ (s : Settings) (c : Connection) (up : Upward) (down : Downward) (past :
           first_of true b d is = refl
           first_of false b d is = absurd cc
 
-          second_none : (a b d : Bool) → b ≡ false → IsTrue (a && b && d) → ⊥
-          second_none true true d so is = absurd cc
-          second_none true false d so is = absurd cc
-          second_none false b d so is = absurd cc
-
           by : (b : Bool) → is_calls c.stage ≡ b → HasAcknowledged s past false
-          by true calls =
-              let a = h.awaits calls in
-              let unknown : is_some (their_number past) ≡ false = ap (λ (o : Option ℕ). is_some o) (h.opened.theirs ∙ ap (λ (b : Bool). if b then None else Some c.received.first) calls) in
-              record {
-                opening = λ is. absurd (second_none (is_accepted past) (is_some (their_number past)) (not (is_closed past)) unknown is);
-                each = λ open_yet due. subst (λ (g : List Up). AckIsDue g) a.guest due;
-                all = λ open_yet honest q asks. absurd (subst (λ (g : List Up). Asks s.ring g q) a.guest asks);
-                resting = λ is. absurd cc;
-              }
+          by true calls = nothing_to_acknowledge s c up down past now h calls
           by false reached =
               let r = h.receives reached in
               acknowledged_is s past (part_of c up) false r.follows unowed (r.due unowed)

@@ -131,6 +131,7 @@ module _ (s : Settings) (c : Connection) (up : Upward) (down : Downward) (past :
             untold = a.untold;
             end_acknowledged = a.end_acknowledged;
             ours_first = a.ours_first;
+            unasked = a.unasked;
           };
           receives = λ is. let r = h.receives is in record {
             follows = r.follows;

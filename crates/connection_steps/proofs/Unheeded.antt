@@ -191,7 +191,7 @@ module _ (s : Settings) (c : Connection) (up : Upward) (down : Downward) (past :
     pub stays : (syn_owed ack_owed : Bool) → (c.syn_owed ≡ true → syn_owed ≡ true) → (ack_owed ≡ false → c.ack_owed ≡ false) → (is_connects c.stage ≡ true → ack_owed ≡ false) → (ack_owed ≡ false → c.end_acknowledged ≡ true → renews seg ≡ false)
         → HasBuffers (record c { syn_owed = syn_owed; ack_owed = ack_owed }) up down → Holds s (record c { syn_owed = syn_owed; ack_owed = ack_owed }) up down after m
     stays syn_owed ack_owed keeps_syn only calm fresh buffers =
-        let o = opened_on s c past after (record { ours = refl; connecting = refl; out = refl; accepted = refl; theirs = same_syn }) answered_same h.opened in
+        let o = opened_on s c past after (record { ours = refl; connecting = refl; out = refl; accepted = refl; theirs = same_syn; unasked = refl }) answered_same h.opened in
         record {
           suits = record { ring = h.suits.ring; congestion = h.suits.congestion; scales = h.suits.scales; few = h.suits.few };
           buffers = buffers;

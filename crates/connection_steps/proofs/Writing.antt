@@ -74,7 +74,7 @@ module _ (s : Settings) (c : Connection) (up : Upward) (down : Downward) (past :
           within = h.within;
           goes = does s past now m (Writes (take k up.held) n) (Write (take k up.held)) h.goes on (λ o. o) refl
               (may_write s past m (take k up.held) w.1 w.2 h.goes.well h.goes.open_yet) (must_write s past m (take k up.held) enough h.goes.free) h.goes.open_yet refl refl;
-          opened = opened_on s c past (At m (Writes (take k up.held) n) ∷ past) (record { ours = refl; connecting = refl; out = refl; accepted = refl; theirs = refl }) refl h.opened;
+          opened = opened_on s c past (At m (Writes (take k up.held) n) ∷ past) (record { ours = refl; connecting = refl; out = refl; accepted = refl; theirs = refl; unasked = refl }) refl h.opened;
           awaits = λ is. let not_it = sym is ∙ known in absurd cc;
           receives = λ is. written_receives r;
           gives = gives_on s c down past now m (Writes (take k up.held) n) tt on refl (record { host = refl; window = refl; fin_out = refl }) h.gives;
@@ -102,7 +102,7 @@ module _ (s : Settings) (c : Connection) (up : Upward) (down : Downward) (past :
       let r = h.receives known in
       let t = told_the_end s.ring (part_of c up) (guest past) none ended untold r.follows in
       let g = gives_on s c down past now m EndsHost tt on refl (record { host = refl; window = refl; fin_out = refl }) h.gives in
-      let o = opened_on s c past (At m EndsHost ∷ past) (record { ours = refl; connecting = refl; out = refl; accepted = refl; theirs = refl }) refl h.opened in
+      let o = opened_on s c past (At m EndsHost ∷ past) (record { ours = refl; connecting = refl; out = refl; accepted = refl; theirs = refl; unasked = refl }) refl h.opened in
       record {
         suits = record { ring = h.suits.ring; congestion = h.suits.congestion; scales = h.suits.scales; few = h.suits.few };
         buffers = buffers;

@@ -13,7 +13,7 @@ use Rattle.flow_laws.specs.Settings.{Settings}
 use Rattle.flow_laws.specs.Event.{IsStory, Story, newest_moment}
 use Rattle.flow_laws.specs.Guest.{AckIsDue, Honest, was_acked}
 use Rattle.flow_laws.specs.Host.{answered}
-use Rattle.flow_laws.specs.Flow.{guest, host, is_accepted, is_closed, is_connecting, is_under_way, our_number, syn_is_out, their_number, their_syn}
+use Rattle.flow_laws.specs.Flow.{guest, has_connected, host, is_accepted, is_closed, is_connecting, is_under_way, our_number, syn_is_out, their_number, their_syn}
 use Rattle.flow_laws.specs.Windows.{mss, right_edge, their_scale, window}
 use Rattle.flow_laws.specs.Close.{fin_is_out, host_failed, host_was_ended}
 use Rattle.flow_laws.specs.Lawful.{IsLawful, is_prompted}
@@ -108,6 +108,7 @@ pub record Awaits (s : Settings) (c : Connection) (up : Upward) (past : Story) :
   pub untold : host_was_ended past ≡ false
   pub end_acknowledged : c.end_acknowledged ≡ false
   pub ours_first : c.ours_first ≡ false
+  pub unasked : has_connected past ≡ false
 
 -- the guest's stream, once its SYN is known
 pub record Receives (s : Settings) (c : Connection) (up : Upward) (past : Story) : Type 0 where

@@ -2,7 +2,7 @@
 use Rattle.std.specs.Prelude.{◌≡◌}
 use Rattle.flow_laws.specs.Settings.{Settings}
 use Rattle.flow_laws.specs.Event.{Story}
-use Rattle.flow_laws.specs.Flow.{guest, host, is_accepted, is_connecting, our_number, syn_is_out, their_syn}
+use Rattle.flow_laws.specs.Flow.{guest, has_connected, host, is_accepted, is_connecting, our_number, syn_is_out, their_syn}
 use Rattle.flow_laws.specs.Windows.{right_edge, window}
 use Rattle.flow_laws.specs.Close.{fin_is_out, host_was_ended}
 use Rattle.flow_laws.specs.Lawful.{is_prompted}
@@ -15,6 +15,7 @@ pub record SameStart (past next : Story) : Type 0 where
   pub out : syn_is_out next ≡ syn_is_out past
   pub accepted : is_accepted next ≡ is_accepted past
   pub theirs : their_syn next ≡ their_syn past
+  pub unasked : has_connected next ≡ has_connected past
 
 -- the guest's stream
 pub record SameGuest (s : Settings) (past next : Story) : Type 0 where
