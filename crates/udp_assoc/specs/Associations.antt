@@ -13,6 +13,10 @@ most_associations = 512
 abbrev pub idle_life : ℕ
 idle_life = 240000
 
+-- what stands where there is none: socket 0, for no guest, never used
+abbrev pub no_association : Association
+no_association = record { number = 0; guest = record { addr = record { 0 = 0 }; port = 0 }; mac = record { 0 = 0 ∷ 0 ∷ 0 ∷ 0 ∷ 0 ∷ 0 ∷ [] }; used = 0 }
+
 abbrev pub is_numbered : ℕ → Association → Bool
 is_numbered number a = a.number == number
 

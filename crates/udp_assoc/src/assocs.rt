@@ -25,6 +25,10 @@ pub struct Association {
 }
 
 impl Default for Association {
+    ghost use Rattle.udp_assoc.specs.Associations.{no_association};
+
+    ghost is_default = { λ association. association ≡ no_association };
+
     /// Socket 0, for no guest, never used.
     fn default() -> Association {
         Association {
