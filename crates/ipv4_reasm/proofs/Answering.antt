@@ -1,9 +1,8 @@
 -- What is answered of a part, by the sets for which the areas stand.
-use Rattle.std.proofs.Common.{◌≡◌, ◌+◌, ◌/◌, ◌%◌, ◌<◌, ◌≤◌, ◌&&◌, ◌||◌, not, List, ℕ, Bool, true, false, cond, zero, suc, inl, inr, [], ◌∷◌, ◌++◌, length, drop, get_or, set, replicate, ltb, leb, eqb, None, Some, refl, ap, sym, ◌∙◌, arith, subst, length-set, eqb-true, eq-eqb, add-zero, length-append}
+use Rattle.std.proofs.Common.{◌≡◌, ◌+◌, ◌/◌, ◌%◌, ◌<◌, ◌≤◌, ◌&&◌, not, List, ℕ, Bool, true, false, cond, zero, suc, inl, inr, [], ◌∷◌, ◌++◌, length, drop, set, ltb, leb, eqb, None, Some, refl, ap, sym, ◌∙◌, arith, subst, length-set, eqb-true, eq-eqb, add-zero, length-append}
 use Rattle.std.specs.Prelude.{slice_get}
 use Rattle.std.specs.List.{list_any, remove, position}
 use Rattle.std.proofs.lemmas.Bool.{cases_lt, lt-ltb, ltb-false, or_parts}
-use Rattle.std.proofs.lemmas.List.{length-replicate}
 use Rattle.std.proofs.lemmas.List.Folds.{position_or_len-set, position_or_len_push}
 use Rattle.std.proofs.lemmas.List.Quantifiers.{position-Some}
 use Rattle.std.proofs.lemmas.List.Sums.{prefix_len-le-length}
@@ -12,11 +11,12 @@ use Rattle.ipv4_head.specs.Sets.{Key, Part, PartSet, Outcome, Clashes, Joined, L
 use Rattle.ipv4_reasm.specs.declared.reasm.Added.{Added}
 use Rattle.ipv4_reasm.specs.declared.reasm.Added.TheVariants.{Whole, Kept, Overlap}
 use Rattle.ipv4_reasm.specs.Answers.{IsAnswered, IsWholeAt, answer_of, said}
-use Rattle.ipv4_reasm.specs.Areas.{Fits, Gathered, Gathers, StandFor, StandsFor, after_part, begun, does_clash, is_full, is_marked, is_past, marks_of, place_in, roomy, units_of, with_head, with_joined, with_kept, with_octets}
-use Rattle.ipv4_reasm.proofs.Gathering.{clash_same, marked_at, same_truth}
+use Rattle.ipv4_reasm.specs.Areas.{Fits, Gathered, Gathers, StandFor, StandsFor, after_part, begun, does_clash, is_full, place_in, roomy, with_head, with_joined, with_kept, with_octets}
+use Rattle.ipv4_reasm.specs.Holes.{hole, is_in, lies_in}
+use Rattle.ipv4_reasm.proofs.Clashing.{clash_same}
+use Rattle.ipv4_reasm.proofs.Holing.{in_if, lies_endless, or_left}
 use Rattle.ipv4_reasm.proofs.Keeping.{kept_gathers}
 use Rattle.ipv4_reasm.proofs.Lists.{there}
-use Rattle.ipv4_reasm.proofs.Marks.{marked-false}
 use Rattle.ipv4_reasm.proofs.Standing.{stand_get, stand_length, stand_place, stand_pushed, stand_removed, stand_roomy, stand_set}
 use Rattle.ipv4_reasm.proofs.Wholeness.{full_same}
 
@@ -35,29 +35,14 @@ fits_then p even short =
     whole_units true false is h = cc
     whole_units false b is h = cc
 
--- no unit of the part is marked where it doesn't clash
-pub free_then : (g : Gathered) (p : Part) → does_clash g p ≡ false → list_any is_marked (marks_of p g.marks) ≡ false
-free_then g p h = first_false (list_any is_marked (marks_of p g.marks)) (is_past g.end p) (not p.more && ltb (end_of p) g.top) h
-  where
-    first_false : (a b c : Bool) → (a || b || c) ≡ false → a ≡ false
-    first_false true b c h = cc
-    first_false false b c h = refl
-
 -- an area before the first part
-none_set : (n u : ℕ) → get_or (replicate n false) u false ≡ false
-none_set zero u = refl
-none_set (suc n) zero = refl
-none_set (suc n) (suc u) = none_set n u
-
-pub begun_gathers : (key : Key) (now : ℕ) (g : Gathered) → length g.octets ≡ 65535 → length g.marks ≡ 8190 → Gathers (begun key now g) []
-begun_gathers key now g room long = record {
+pub begun_gathers : (key : Key) (now : ℕ) (g : Gathered) → length g.octets ≡ 65535 → Gathers (begun key now g) []
+begun_gathers key now g room = record {
   room = room;
-  long = length-replicate (length g.marks) false ∙ long;
-  units = sym (marked-false (length g.marks));
   octets = λ p c. absurd (let h = c.1 in omega arith);
-  marks = λ u. none_set (length g.marks) u;
-  last = λ p c. absurd (let h = c.1 in omega arith);
-  end = λ e is. cc;
+  rise = (omega arith, omega arith, λ e. refl, λ t e. cc);
+  holes = (record { missing = λ u is. refl; endless = λ e p c. absurd (let h = c.1 in omega arith); till = λ t e. cc }, tt);
+  told = λ u. inr (inl (or_left (is_in u (hole 0 None)) false (in_if u (hole 0 None) (omega arith) (λ t e. cc))));
   below = λ p c. absurd (let h = c.1 in omega arith);
   top = λ h. absurd (omega arith);
   first = λ p c. absurd (let h = c.1 in omega arith);
@@ -65,22 +50,18 @@ begun_gathers key now g room long = record {
   apart = λ i j d less small. absurd (omega arith);
 }
 
-pub begun_free : (key : Key) (now : ℕ) (g : Gathered) (p : Part) → list_any is_marked (marks_of p (begun key now g).marks) ≡ false
-begun_free key now g p =
-    same_truth (list_any is_marked (marks_of p (replicate (length g.marks) false))) false
-    (λ h. let u = marked_at (replicate (length g.marks) false) p.place (units_of (length p.body)) h in cc (sym u.1.2 ∙ none_set (length g.marks) u.0))
-    (λ h. cc)
+-- it lies in the one hole
+pub begun_free : (key : Key) (now : ℕ) (g : Gathered) (p : Part) → does_clash (begun key now g) p ≡ false
+begun_free key now g p = ap not (or_left (lies_in p (hole 0 None)) false (lies_endless p (hole 0 None) (omega arith) refl))
 
 -- the header of the whole is no matter of the parts
 head_made : (g : Gathered) (parts : List Part) → Gathers g parts → Gathers (with_joined g) parts
 head_made g parts holds = record {
   room = holds.room;
-  long = holds.long;
-  units = holds.units;
   octets = holds.octets;
-  marks = holds.marks;
-  last = holds.last;
-  end = holds.end;
+  rise = holds.rise;
+  holes = holds.holes;
+  told = holds.told;
   below = holds.below;
   top = holds.top;
   first = holds.first;
@@ -103,10 +84,10 @@ kept_since g p = by_start (eqb p.place 0)
     by_start false = refl
 
 -- an area with one part more
-pub after_stands : (g : Gathered) (s : PartSet) (p : Part) → g.key ≡ s.key → g.since ≡ s.since → Gathers g s.parts → Fits p → list_any (do_clash p) s.parts ≡ false → list_any is_marked (marks_of p g.marks) ≡ false
+pub after_stands : (g : Gathered) (s : PartSet) (p : Part) → g.key ≡ s.key → g.since ≡ s.since → Gathers g s.parts → Fits p → list_any (do_clash p) s.parts ≡ false
     → StandsFor (after_part g p) (record s { parts = s.parts ++ p ∷ [] })
-after_stands g s p key since holds fits none free =
-    let kept = kept_gathers g s.parts p holds fits none free in
+after_stands g s p key since holds fits none =
+    let kept = kept_gathers g s.parts p holds fits none in
     by_full kept (is_full (with_kept g p)) refl
   where
     by_full : Gathers (with_kept g p) (s.parts ++ p ∷ []) → (b : Bool) → is_full (with_kept g p) ≡ b → StandsFor (cond b (with_joined (with_kept g p)) (with_kept g p)) (record s { parts = s.parts ++ p ∷ [] })
@@ -241,9 +222,8 @@ answered_put now key p sets held g even short stand at same clash =
     let s = f.0 in
     let fits = fits_then p even short in
     let none = sym (clash_same g s.parts p f.1.stands.parts fits) ∙ clash in
-    let free = free_then g p clash in
-    let after = after_stands g s p f.1.stands.key f.1.stands.since f.1.stands.parts fits none free in
-    let full = full_same (with_kept g p) (s.parts ++ p ∷ []) (kept_gathers g s.parts p f.1.stands.parts fits none free) in
+    let after = after_stands g s p f.1.stands.key f.1.stands.since f.1.stands.parts fits none in
+    let full = full_same (with_kept g p) (s.parts ++ p ∷ []) (kept_gathers g s.parts p f.1.stands.parts fits none) in
     let s_after : PartSet = record s { parts = s.parts ++ p ∷ [] } in
     let sets_are : with_part now key p sets ≡ set sets i s_after =
     ap (put_in now key p sets) (ap (slice_get sets) f.1.place ∙ f.1.at) ∙ ap (λ n. set sets n s_after) f.1.place in
@@ -259,18 +239,17 @@ answered_put now key p sets held g even short stand at same clash =
     answered_by now key p sets (set held i (after_part g p)) i (is_full (with_kept g p)) outcome stands
     (λ h. subst (λ (l : List PartSet). IsWholeAt l key i) (sym sets_are) (record { place = set_place key sets s s_after i f.1.place f.1.at refl; set = (s_after, (get_set_same sets i s_after in_sets, sym f.1.stands.key ∙ same, sym full ∙ h)) }))
 
-pub answered_start : (now : ℕ) (key : Key) (p : Part) (sets : List PartSet) (held : List Gathered) (g : Gathered) → is_uneven p ≡ false → is_too_long p ≡ false → StandFor held sets → place_in key held ≡ length held → length g.octets ≡ 65535 → length g.marks ≡ 8190
+pub answered_start : (now : ℕ) (key : Key) (p : Part) (sets : List PartSet) (held : List Gathered) (g : Gathered) → is_uneven p ≡ false → is_too_long p ≡ false → StandFor held sets → place_in key held ≡ length held → length g.octets ≡ 65535
     → IsAnswered now key p sets (roomy held ++ after_part (begun key now g) p ∷ []) (answer_of (length (roomy held)) (is_full (with_kept (begun key now g) p)))
-answered_start now key p sets held g even short stand absent room long =
+answered_start now key p sets held g even short stand absent room =
     let i = length (roomy held) in
     let area = begun key now g in
     let s : PartSet = record { key = key; since = now; parts = [] } in
     let s_after : PartSet = record { key = key; since = now; parts = p ∷ [] } in
     let fits = fits_then p even short in
-    let holds = begun_gathers key now g room long in
-    let free = begun_free key now g p in
-    let after = after_stands area s p refl refl holds fits refl free in
-    let full = full_same (with_kept area p) (p ∷ []) (kept_gathers area [] p holds fits refl free) in
+    let holds = begun_gathers key now g room in
+    let after = after_stands area s p refl refl holds fits refl in
+    let full = full_same (with_kept area p) (p ∷ []) (kept_gathers area [] p holds fits refl) in
     let absent_set : place_of key sets ≡ length sets = sym (stand_place key held sets stand) ∙ absent ∙ stand_length held sets stand in
     let none : slice_get sets (place_of key sets) ≡ None = slice_get_past sets (place_of key sets) (let a = stand_place key held sets stand in let b = stand_length held sets stand in omega arith) in
     let parts : parts_for key sets ≡ [] = ap parts_of none in
@@ -289,7 +268,7 @@ answered_start now key p sets held g even short stand absent room long =
 
 -- for a place that none has
 abbrev nothing : Gathered
-nothing = record { key = record { from = 0; to = 0; proto = 0; ident = 0 }; since = 0; octets = []; marks = []; units = 0; end = None; top = 0; life = 0; head = []; joined = [] }
+nothing = record { key = record { from = 0; to = 0; proto = 0; ident = 0 }; since = 0; octets = []; holes = []; top = 0; life = 0; head = []; joined = [] }
 
 -- by where the area of the key is found
 pub gathered_some : (now : ℕ) (key : Key) (p : Part) (sets : List PartSet) (held after : List Gathered) (added : Added) (i : ℕ) → is_uneven p ≡ false → is_too_long p ≡ false → StandFor held sets
@@ -318,13 +297,13 @@ gathered_some now key p sets held after added i even short stand is clash put =
         (answered_put now key p sets held g even short stand as_well same h))
 
 pub gathered_none : (now : ℕ) (key : Key) (p : Part) (sets : List PartSet) (held after : List Gathered) (added : Added) (g : Gathered) → is_uneven p ≡ false → is_too_long p ≡ false → StandFor held sets
-    → position (λ (g : Gathered). is_same_key key g.key) held ≡ None → length g.octets ≡ 65535 → length g.marks ≡ 8190
+    → position (λ (g : Gathered). is_same_key key g.key) held ≡ None → length g.octets ≡ 65535
     → after ≡ roomy held ++ after_part (begun key now g) p ∷ [] → added ≡ answer_of (length (roomy held)) (is_full (with_kept (begun key now g) p))
     → IsAnswered now key p sets after added
-gathered_none now key p sets held after added g even short stand is room long eq says =
+gathered_none now key p sets held after added g even short stand is room eq says =
     let absent : place_in key held ≡ length held = past (place_in key held) (length held) (prefix_len-le-length (λ (x : Gathered). not (is_same_key key x.key)) held) is in
     subst (λ (a : Added). IsAnswered now key p sets after a) (sym says)
-    (subst (λ (l : List Gathered). IsAnswered now key p sets l (answer_of (length (roomy held)) (is_full (with_kept (begun key now g) p)))) (sym eq) (answered_start now key p sets held g even short stand absent room long))
+    (subst (λ (l : List Gathered). IsAnswered now key p sets l (answer_of (length (roomy held)) (is_full (with_kept (begun key now g) p)))) (sym eq) (answered_start now key p sets held g even short stand absent room))
   where
     past : (a n : ℕ) → a ≤ n → cond (ltb a n) (Some a) None ≡ None → a ≡ n
     past a n low h = elim (cases_lt a n) [ inl less ↦ cc (sym h ∙ ap (λ b. cond b (Some a) None) (lt-ltb a n less)) | inr more ↦ omega arith ]

@@ -7,10 +7,9 @@ use Rattle.ipv4_head.specs.Sets.{Clashes, Joined, Part, Waits, start_of, end_of,
 use Rattle.ipv4_reasm.specs.Cuts.{AreCuts, room_in, units_in}
 use Rattle.ipv4_reasm.proofs.Answering.{outcome_is}
 use Rattle.ipv4_reasm.proofs.Fragments.{Cut, cut_told, joined, next_start, units_fit}
-use Rattle.ipv4_reasm.proofs.Gathering.{and_is, clash_last, clash_share, not_true, same_truth, some_in}
+use Rattle.ipv4_reasm.proofs.Gathering.{and_is, clash_flip, clash_last, clash_one, clash_share, not_true, same_truth, some_in}
 use Rattle.ipv4_reasm.proofs.Joining.{whole_of}
-use Rattle.ipv4_reasm.proofs.Keeping.{clash_flip}
-use Rattle.ipv4_reasm.proofs.Wholeness.{clash_one, whole_has}
+use Rattle.ipv4_reasm.proofs.Wholeness.{whole_has}
 
 -- one at the front and one behind it
 front_read : (before rest : List Part) (i : ℕ) (d : Part) → i < length before → get_or (before ++ rest) i d ≡ get_or before i d

@@ -5,8 +5,8 @@ use Rattle.std.proofs.lemmas.Bool.{lt-ltb, le-leb}
 use Rattle.std.proofs.lemmas.List.{get_or-drop, get_or-take, same_lists}
 use Rattle.net_octets.specs.Octets.{part}
 use Rattle.ipv4_head.specs.Sets.{Joins, Part, start_of, end_of, has_octet, is_whole}
-use Rattle.ipv4_reasm.proofs.Gathering.{and_is, clash_last, in_some, not_true}
-use Rattle.ipv4_reasm.proofs.Wholeness.{all_range, clash_one}
+use Rattle.ipv4_reasm.proofs.Gathering.{and_is, clash_last, clash_one, in_some, not_true}
+use Rattle.ipv4_reasm.proofs.Wholeness.{all_range}
 
 -- parts that join are whole
 pub whole_of : (parts : List Part) (body : List ℕ) → Joins parts body → is_whole parts ≡ true

@@ -1,5 +1,6 @@
 pub mod Fragments
-pub mod Marks
+pub mod Holing
+pub mod Clashing
 pub mod Lists
 pub mod Standing
 pub mod Gathering

@@ -1,19 +1,19 @@
 -- Areas in which the parts of datagrams are put together, and the sets of parts for which they stand.
-use Rattle.std.specs.Prelude.{◌≡◌, ℕ, ◌+◌, ◌-◌, ◌*◌, ◌/◌, ◌<◌, ◌≤◌, ◌==◌, ◌&&◌, ◌||◌, not, true, false, Bool, nat_lt, nat_le, ◌^◌, max, List, [], ◌∷◌, ◌++◌, length, take, drop, replicate, Option, None, Some, slice_index_or, if◌then◌else◌}
+use Rattle.std.specs.Prelude.{◌≡◌, ℕ, ◌-◌, ◌*◌, ◌<◌, ◌≤◌, ◌==◌, ◌&&◌, ◌⊎◌, not, true, false, Bool, nat_lt, nat_le, ◌^◌, max, List, [], ◌∷◌, ◌++◌, length, take, drop, None, Some, if◌then◌else◌}
 use Rattle.std.specs.List.{AllPairs, Contains, list_any, position_or_len}
 use Rattle.net_octets.specs.Octets.{part}
 use Rattle.ipv4_reasm.specs.declared.area.DatagramKey.{DatagramKey}
 use Rattle.ipv4_head.specs.Ip.{Ip}
+use Rattle.ipv4_reasm.specs.declared.holes.Hole.{Hole}
+use Rattle.ipv4_reasm.specs.Holes.{Rise, all_open, filled, has_hole, is_in, is_open}
 use Rattle.ipv4_head.specs.Sets.{Key, Part, PartSet, start_of, end_of, do_clash, is_same_key, is_whole, whole_head}
 
--- an area: whose parts are in it, since when, their octets, a mark for each unit of 8 octets, how many are marked, the end that the last part gives, the greatest end, time to live and header of the part at the start, and the header of the whole once it is made
+-- an area: whose parts are in it, since when, their octets, the holes between them, the greatest end, time to live and header of the part at the start, and the header of the whole once it is made
 pub record Gathered : Type 0 where
   pub key : Key
   pub since : ℕ
   pub octets : List ℕ
-  pub marks : List Bool
-  pub units : ℕ
-  pub end : Option ℕ
+  pub holes : List Hole
   pub top : ℕ
   pub life : ℕ
   pub head : List ℕ
@@ -21,45 +21,17 @@ pub record Gathered : Type 0 where
 
 -- an area before the first part of its datagram
 abbrev pub begun : Key → ℕ → Gathered → Gathered
-begun key since g = record { key = key; since = since; octets = g.octets; marks = replicate (length g.marks) false; units = 0; end = None; top = 0; life = g.life; head = g.head; joined = g.joined }
+begun key since g = record { key = key; since = since; octets = g.octets; holes = all_open; top = 0; life = g.life; head = g.head; joined = g.joined }
 
--- how many units so many octets take
-abbrev pub units_of : ℕ → ℕ
-units_of size = (size + 7) / 8
-
-abbrev pub is_marked : Bool → Bool
-is_marked mark = mark
-
--- how many are marked
-abbrev pub marked : List Bool → ℕ
-marked [] = 0
-marked (mark ∷ marks) = (if mark then 1 else 0) + marked marks
-
--- the marks of the units that a part takes
-abbrev pub marks_of : Part → List Bool → List Bool
-marks_of p marks = take (units_of (length p.body)) (drop p.place marks)
-
--- a part is a second last one, or ends past the end that is given
-abbrev pub is_past : Option ℕ → Part → Bool
-is_past None p = false
-is_past (Some e) p = not p.more || nat_lt e (end_of p)
-
--- a part can't be of the same datagram as those in the area: a unit of it is there, or its end and theirs don't agree
+-- a part can't be of the same datagram as those in the area: it lies in none of their holes
 abbrev pub does_clash : Gathered → Part → Bool
-does_clash g p =
-    list_any is_marked (marks_of p g.marks) || is_past g.end p || (not p.more && nat_lt (end_of p) g.top)
-
--- the end once a part is there
-abbrev pub end_with : Option ℕ → Part → Option ℕ
-end_with end p = if p.more then end else Some (end_of p)
+does_clash g p = not (has_hole p g.holes)
 
 -- the octets of a part are put into the area
 abbrev pub with_octets : Gathered → Part → Gathered
 with_octets g p = record g {
   octets = take (start_of p) g.octets ++ p.body ++ drop (end_of p) g.octets;
-  marks = take p.place g.marks ++ replicate (units_of (length p.body)) true ++ drop (p.place + units_of (length p.body)) g.marks;
-  units = g.units + units_of (length p.body);
-  end = end_with g.end p;
+  holes = filled p g.holes;
   top = max g.top (end_of p);
 }
 
@@ -70,13 +42,9 @@ with_head g p = record g { life = p.life; head = p.head }
 abbrev pub with_kept : Gathered → Part → Gathered
 with_kept g p = if p.place == 0 then with_head (with_octets g p) p else with_octets g p
 
--- the last part is there, and as many units as it takes to its end
-abbrev pub is_filled : Option ℕ → ℕ → Bool
-is_filled None units = false
-is_filled (Some e) units = units == units_of e
-
+-- no hole is left
 abbrev pub is_full : Gathered → Bool
-is_full g = is_filled g.end g.units
+is_full g = length g.holes == 0
 
 -- the header of the whole is made
 abbrev pub with_joined : Gathered → Gathered
@@ -95,15 +63,29 @@ pub record Fits (p : Part) : Type 0 where
 abbrev pub has_unit : ℕ → Part → Bool
 has_unit u p = nat_le p.place u && nat_lt (8 * u) (end_of p)
 
+-- a unit came, lies in a hole, or is behind the last part
+abbrev pub IsTold : ℕ → List Hole → List Part → Type 0
+IsTold u holes parts =
+    (list_any (has_unit u) parts ≡ true) ⊎ (is_open u holes ≡ true)
+    ⊎ ((q : Part) × (Contains parts q × (q.more ≡ false) × (end_of q ≤ 8 * u)))
+
+-- a hole between parts: no unit in it came, the last part didn't come where it is endless, and else the unit behind it came
+pub record IsHole (h : Hole) (parts : List Part) : Type 0 where
+  pub missing : (u : ℕ) → is_in u h ≡ true → list_any (has_unit u) parts ≡ false
+  pub endless : h.to ≡ None → (q : Part) → Contains parts q → q.more ≡ true
+  pub till : (to : ℕ) → h.to ≡ Some to → list_any (has_unit to) parts ≡ true
+
+abbrev pub AreHoles : List Hole → List Part → Type 0
+AreHoles [] parts = Unit {0}
+AreHoles (h ∷ holes) parts = IsHole h parts × AreHoles holes parts
+
 -- what is in an area are these parts
 pub record Gathers (g : Gathered) (parts : List Part) : Type 0 where
   pub room : length g.octets ≡ 65535
-  pub long : length g.marks ≡ 8190
-  pub units : g.units ≡ marked g.marks
   pub octets : (p : Part) → Contains parts p → part g.octets (start_of p) (length p.body) ≡ p.body
-  pub marks : (u : ℕ) → slice_index_or g.marks u false ≡ list_any (has_unit u) parts
-  pub last : (p : Part) → Contains parts p → p.more ≡ false → g.end ≡ Some (end_of p)
-  pub end : (e : ℕ) → g.end ≡ Some e → (p : Part) × (Contains parts p × (p.more ≡ false) × (end_of p ≡ e))
+  pub rise : Rise 0 g.holes
+  pub holes : AreHoles g.holes parts
+  pub told : (u : ℕ) → IsTold u g.holes parts
   pub below : (p : Part) → Contains parts p → end_of p ≤ g.top
   pub top : 0 < g.top → (p : Part) × (Contains parts p × (end_of p ≡ g.top))
   pub first : (p : Part) → Contains parts p → p.place ≡ 0 → (g.head ≡ p.head) × (g.life ≡ p.life)
@@ -127,22 +109,14 @@ StandFor _ _ = ⊥
 abbrev pub key_by : DatagramKey → Key
 key_by k = record { from = k.from.0; to = k.to.0; proto = k.proto; ident = k.ident }
 
-abbrev pub gathered : DatagramKey → ℕ → List ℕ → List Bool → ℕ → Option ℕ → ℕ → ℕ → List ℕ → List ℕ → Gathered
-gathered key since octets marks units end top life head joined = record { key = key_by key; since = since; octets = octets; marks = marks; units = units; end = end; top = top; life = life; head = head; joined = joined }
+abbrev pub gathered : DatagramKey → ℕ → List ℕ → List Hole → ℕ → ℕ → List ℕ → List ℕ → Gathered
+gathered key since octets holes top life head joined = record { key = key_by key; since = since; octets = octets; holes = holes; top = top; life = life; head = head; joined = joined }
 
--- the end is one of a datagram
-abbrev pub IsWithin : Option ℕ → Type 0
-IsWithin None = Unit {0}
-IsWithin (Some e) = e ≤ 65515
-
--- the room of an area, and that its units are those that are marked
-pub record IsRoomy (since : ℕ) (octets : List ℕ) (marks : List Bool) (units : ℕ) (end : Option ℕ) (top head joined : ℕ) : Type 0 where
+-- the room of an area
+pub record IsRoomy (since : ℕ) (octets : List ℕ) (top head joined : ℕ) : Type 0 where
   pub room : length octets ≡ 65535
-  pub long : length marks ≡ 8190
-  pub counted : units ≡ marked marks
   pub early : since ≤ 2 ^ 62
   pub within : top ≤ 65515
-  pub ends : IsWithin end
   pub full_head : 20 ≤ head
   pub short : head ≤ 60
   pub as_short : joined ≤ 60

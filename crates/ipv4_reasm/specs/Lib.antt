@@ -1,3 +1,4 @@
 pub mod Cuts
+pub mod Holes
 pub mod Areas
 pub mod Answers

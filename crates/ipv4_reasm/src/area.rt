@@ -1,9 +1,9 @@
-ghost use Rattle.std.specs.Prelude.{◌≡◌, ◌+◌, ◌-◌, ◌^◌, ◌≤◌, ◌++◌, true, false, take, drop, replicate, length, nat_lt, if◌then◌else◌};
-ghost use Rattle.std.specs.List.{list_any};
+ghost use Rattle.std.specs.Prelude.{◌≡◌, ◌+◌, ◌-◌, ◌^◌, ◌<◌, ◌≤◌, ◌++◌, false, take, drop, length, nat_lt};
 ghost use Rattle.ipv4_head.specs.Ip.{ip_of};
 ghost use Rattle.ipv4_head.specs.Sets.{end_of, is_same_key, part_of, whole_head};
-ghost use Rattle.ipv4_reasm.specs.Areas.{Gathered, after_part, begun, does_clash, end_with, is_full, is_marked, joined_in, key_by, marks_of, units_of, with_head, with_joined, with_kept, with_octets};
+ghost use Rattle.ipv4_reasm.specs.Areas.{Gathered, after_part, begun, does_clash, is_full, joined_in, key_by, with_head, with_joined, with_kept, with_octets};
 
+use crate::holes::Holes;
 use byteorder::{BigEndian, ByteOrder};
 use ipv4_head::IpView;
 use net_octets::{Ip4, NoMemory, checksum};
@@ -12,9 +12,6 @@ use std::marker::Model;
 
 /// The octets of the greatest datagram.
 const ROOM: usize = 65_535;
-
-/// The units of 8 octets of the greatest body.
-const UNITS: usize = 8_190;
 
 /// The octets of the shortest and of the longest header.
 const SHORTEST_HEAD: usize = 20;
@@ -39,9 +36,7 @@ pub struct Area {
     key: DatagramKey,
     since: u64,
     octets: Vec<u8>,
-    marks: Vec<bool>,
-    units: usize,
-    end: Option<usize>,
+    holes: Holes,
     top: usize,
     life: u8,
     head: [u8; LONGEST_HEAD],
@@ -56,9 +51,9 @@ impl Model for Area {
 
     ghost Value = { Gathered };
 
-    ghost view = { λ a. gathered a.key a.since a.octets.items a.marks.items a.units a.end a.top a.life (take a.head_length a.head) (take a.joined_length a.joined) };
+    ghost view = { λ a. gathered a.key a.since a.octets.items a.holes a.top a.life (take a.head_length a.head) (take a.joined_length a.joined) };
 
-    ghost invariant = { λ a. IsRoomy a.since a.octets.items a.marks.items a.units a.end a.top a.head_length a.joined_length };
+    ghost invariant = { λ a. IsRoomy a.since a.octets.items a.top a.head_length a.joined_length };
 }
 
 impl Area {
@@ -67,9 +62,7 @@ impl Area {
         let Ok(octets) = vec![in alloc; 0; ROOM] else {
             return Err(NoMemory);
         };
-        let Ok(marks) = vec![in alloc; false; UNITS] else {
-            return Err(NoMemory);
-        };
+        let holes = Holes::open(alloc)?;
         Ok(Area {
             key: DatagramKey {
                 from: Ip4(0),
@@ -79,9 +72,7 @@ impl Area {
             },
             since: 0,
             octets,
-            marks,
-            units: 0,
-            end: None,
+            holes,
             top: 0,
             life: 0,
             head: [0; LONGEST_HEAD],
@@ -96,13 +87,10 @@ impl Area {
         requires { now ≤ 2 ^ 62 }
         ensures begun { self.new ≡ begun (key_by key) now self.old }
         ensures room { length self.new.octets ≡ 65535 }
-        ensures long { length self.new.marks ≡ 8190 }
     {
         self.key = key;
         self.since = now;
-        self.marks.fill(false);
-        self.units = 0;
-        self.end = None;
+        self.holes.begin();
         self.top = 0;
     }
 
@@ -111,23 +99,17 @@ impl Area {
         requires { end_of (part_of v.now) ≤ 65515 }
         ensures { result ≡ does_clash self.now (part_of v.now) }
     {
-        let place = v.offset as usize;
-        let end = end_of(v);
-        let units = units_of(v.body.len());
-        let past = match self.end {
-            None => false,
-            Some(e) => !v.more || e < end,
-        };
-        is_any_marked(&self.marks[place..place + units]) || past || (!v.more && end < self.top)
+        !self.holes.has_hole(v)
     }
 
-    /// Puts a part with its octets here, none of whose units is marked. Answers whether the
-    /// datagram is whole with it.
+    /// Puts a part with its octets here, which lies in a hole. Answers whether the datagram is
+    /// whole with it.
     pub fn put(&mut self, v: &IpView<'_>) -> bool
         requires end { end_of (part_of v.now) ≤ 65515 }
         requires head { 20 ≤ length v.now.head.now }
         requires short { length v.now.head.now ≤ 60 }
-        requires free { list_any is_marked (marks_of (part_of v.now) self.old.marks) ≡ false }
+        requires some { 0 < length v.now.body.now }
+        requires free { does_clash self.old (part_of v.now) ≡ false }
         ensures put { self.new ≡ after_part self.old (part_of v.now) }
         ensures whole { result ≡ is_full (with_kept self.old (part_of v.now)) }
     {
@@ -140,12 +122,13 @@ impl Area {
         }
     }
 
-    /// Puts a part with its octets here, none of whose units is marked.
+    /// Puts a part with its octets here, which lies in a hole.
     fn keep(&mut self, v: &IpView<'_>)
         requires end { end_of (part_of v.now) ≤ 65515 }
         requires head { 20 ≤ length v.now.head.now }
         requires short { length v.now.head.now ≤ 60 }
-        requires free { list_any is_marked (marks_of (part_of v.now) self.old.marks) ≡ false }
+        requires some { 0 < length v.now.body.now }
+        requires free { does_clash self.old (part_of v.now) ≡ false }
         ensures { self.new ≡ with_kept self.old (part_of v.now) }
     {
         self.put_octets(v);
@@ -154,20 +137,17 @@ impl Area {
         }
     }
 
-    /// Puts the octets of a part here, and marks its units.
+    /// Puts the octets of a part here, and takes them out of the hole in which they lie.
     fn put_octets(&mut self, v: &IpView<'_>)
         requires end { end_of (part_of v.now) ≤ 65515 }
-        requires free { list_any is_marked (marks_of (part_of v.now) self.old.marks) ≡ false }
+        requires some { 0 < length v.now.body.now }
+        requires free { does_clash self.old (part_of v.now) ≡ false }
         ensures { self.new ≡ with_octets self.old (part_of v.now) }
     {
         let place = v.offset as usize;
-        let end = end_of(v);
-        let units = units_of(v.body.len());
         put_at(&mut self.octets, 8 * place, v.body);
-        mark(&mut self.marks, place, units);
-        self.units += units;
-        self.end = end_with(self.end, v);
-        self.top = self.top.max(end);
+        self.holes.fill(v);
+        self.top = self.top.max(end_of(v));
     }
 
     /// Keeps the header and the time to live of the part at the start.
@@ -185,10 +165,7 @@ impl Area {
     fn is_full(&self) -> bool
         ensures { result ≡ is_full self.now }
     {
-        match self.end {
-            None => false,
-            Some(end) => self.units == units_of(end),
-        }
+        self.holes.is_empty()
     }
 
     /// Makes the header of the whole datagram.
@@ -248,42 +225,12 @@ pub fn end_of(v: &IpView<'_>) -> usize
     8 * v.offset as usize + v.body.len()
 }
 
-/// The end that is given once a part is there.
-fn end_with(before: Option<usize>, v: &IpView<'_>) -> Option<usize>
-    ensures { result ≡ end_with before (part_of v.now) }
-{
-    if v.more { before } else { Some(end_of(v)) }
-}
-
-/// How many units so many octets take.
-fn units_of(size: usize) -> usize
-    requires { size ≤ 65515 }
-    ensures { result ≡ units_of size }
-{
-    (size + 7) / 8
-}
-
-/// Whether a unit is marked.
-fn is_any_marked(marks: &[bool]) -> bool
-    ensures { result ≡ list_any is_marked marks.now }
-{
-    marks.iter().any(|mark| *mark)
-}
-
 /// Writes octets at a place of `into`.
 fn put_at(into: &mut [u8], place: usize, octets: &[u8])
     requires { place + length octets.now ≤ length into.old }
     ensures { into.new ≡ take place into.old ++ octets.now ++ drop (place + length octets.now) into.old }
 {
     into[place..place + octets.len()].copy_from_slice(octets);
-}
-
-/// Marks so many units from a place on.
-fn mark(marks: &mut [bool], place: usize, units: usize)
-    requires { place + units ≤ length marks.old }
-    ensures { marks.new ≡ take place marks.old ++ replicate units true ++ drop (place + units) marks.old }
-{
-    marks[place..place + units].fill(true);
 }
 
 /// Writes octets at the front of `into`.

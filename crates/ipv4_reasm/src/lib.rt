@@ -4,6 +4,7 @@
 
 mod area;
 mod cutting;
+mod holes;
 mod reasm;
 
 pub use cutting::{cut, cuts_join};

@@ -1,8 +1,8 @@
 ghost use Rattle.std.specs.Prelude.{◌≡◌, ℕ, ◌+◌, ◌^◌, ◌≤◌, ◌<◌, ◌++◌, List, [], ◌∷◌, true, false, filter, length, IfOk, IfSome, IfNone, Some, slice_get, slice_set, take, ◌↔◌, if◌then◌else◌};
-ghost use Rattle.std.specs.List.{list_any, position, remove};
+ghost use Rattle.std.specs.List.{position, remove};
 ghost use Rattle.ipv4_head.specs.Ip.{ip_of};
 ghost use Rattle.ipv4_head.specs.Sets.{IsJoined, Joined, Joins, Key, Part, PartSet, end_of, is_same_key, is_too_long, is_uneven, is_whole, key_of, outcome, part_of, sets_after, sets_left, young};
-ghost use Rattle.ipv4_reasm.specs.Areas.{Gathered, StandFor, after_part, begun, does_clash, is_full, is_marked, is_recent, joined_in, key_by, marks_of, place_in, roomy, with_kept};
+ghost use Rattle.ipv4_reasm.specs.Areas.{Gathered, StandFor, after_part, begun, does_clash, is_full, is_recent, joined_in, key_by, place_in, roomy, with_kept};
 ghost use Rattle.ipv4_reasm.specs.declared.reasm.Added.TheVariants.{Overlap, Whole};
 ghost use Rattle.ipv4_reasm.specs.Answers.{IsAnswered, IsFirstDue, IsLeastDue, IsWholeAt, answer_of, said};
 
@@ -178,7 +178,7 @@ impl Reasm {
         requires moment { now ≤ 2 ^ 62 }
         requires few { length self.old < 16 }
         ensures begun { (g : Gathered) × ((self.new ≡ self.old ++ begun (key_by key) now g ∷ [])
-            × (length g.octets ≡ 65535) × (length g.marks ≡ 8190)) }
+            × (length g.octets ≡ 65535)) }
         ensures last { result ≡ length self.old }
     {
         let i = self.count;
@@ -204,8 +204,9 @@ impl Reasm {
         requires end { end_of (part_of part.now) ≤ 65515 }
         requires head { 20 ≤ length part.now.head.now }
         requires short { length part.now.head.now ≤ 60 }
+        requires some { 0 < length part.now.body.now }
         requires free { (g : Gathered) → slice_get self.old i ≡ Some g
-            → list_any is_marked (marks_of (part_of part.now) g.marks) ≡ false }
+            → does_clash g (part_of part.now) ≡ false }
         ensures put { (g : Gathered) → slice_get self.old i ≡ Some g
             → self.new ≡ slice_set self.old i (after_part g (part_of part.now)) }
         ensures whole { (g : Gathered) → slice_get self.old i ≡ Some g
@@ -222,6 +223,7 @@ impl Reasm {
         requires end { end_of (part_of part.now) ≤ 65515 }
         requires head { 20 ≤ length part.now.head.now }
         requires short { length part.now.head.now ≤ 60 }
+        requires some { 0 < length part.now.body.now }
         ensures clash { (g : Gathered) → slice_get self.old i ≡ Some g → does_clash g (part_of part.now) ≡ true
             → (result ≡ Overlap) × (self.new ≡ remove self.old i) }
         ensures put { (g : Gathered) → slice_get self.old i ≡ Some g → does_clash g (part_of part.now) ≡ false
@@ -243,7 +245,8 @@ impl Reasm {
         requires end { end_of (part_of part.now) ≤ 65515 }
         requires head { 20 ≤ length part.now.head.now }
         requires short { length part.now.head.now ≤ 60 }
-        ensures began { (g : Gathered) × ((length g.octets ≡ 65535) × (length g.marks ≡ 8190)
+        requires some { 0 < length part.now.body.now }
+        ensures began { (g : Gathered) × ((length g.octets ≡ 65535)
             × (self.new ≡ roomy self.old ++ after_part (begun (key_by key) now g) (part_of part.now) ∷ [])
             × (result ≡ answer_of (length (roomy self.old)) (is_full (with_kept (begun (key_by key) now g) (part_of part.now))))) }
         ensures within { (area : ℕ) → result ≡ Whole area → area < length self.new }

@@ -185,6 +185,132 @@ fn body_of_65515_octets(rt: HostRuntime) -> Result<(), Fail> {
 }
 
 #[test]
+fn even_units_then_odd_ones(rt: HostRuntime) -> Result<(), Fail> {
+    let mut body = vec![in rt.alloc(); 0; 65_512]?;
+    for (k, octet) in body.iter_mut().enumerate() {
+        *octet = (k / 8 % 251) as u8;
+    }
+    let mut reasm = Reasm::open(rt.alloc())?;
+    for first in 0..2u16 {
+        for k in 0..4_094u16 {
+            let unit = 2 * k + first;
+            let place = 8 * unit as usize;
+            assert_eq!(rt;
+                reasm.add(0, &part(1, unit, true, &body[place..place + 8])),
+                Added::Kept
+            );
+        }
+    }
+    assert!(rt; is_joined(&mut reasm, 0, &part(1, 8188, false, &body[65_504..]), &body));
+    Ok(())
+}
+
+/// Steps by which one goes round the units of a datagram of twelve.
+const STRIDES: [u64; 4] = [1, 5, 7, 11];
+
+/// A number that follows from the last.
+fn random(seed: u64) -> u64 {
+    seed.wrapping_mul(6_364_136_223_846_793_005)
+        .wrapping_add(1_442_695_040_888_963_407)
+}
+
+/// The units of a small datagram that came, by a mark for each, and where it ends.
+#[derive(Clone, Copy)]
+struct Plain {
+    marks: [bool; 16],
+    end: Option<usize>,
+    top: usize,
+}
+
+/// A datagram of which nothing came.
+const NOTHING: Plain = Plain {
+    marks: [false; 16],
+    end: None,
+    top: 0,
+};
+
+/// What becomes of a part, by a look at each mark.
+fn plain_add(plain: &mut Plain, part: &IpView<'_>) -> Added
+    requires place { part.now.offset ≤ 12 }
+    requires size { length part.now.body.now ≤ 24 }
+{
+    let place = part.offset as usize;
+    let end = 8 * place + part.body.len();
+    let behind = place + (part.body.len() + 7) / 8;
+    let past = match plain.end {
+        None => false,
+        Some(e) => !part.more || e < end,
+    };
+    let shared = plain.marks[place..behind].iter().any(|mark| *mark);
+    if shared || past || (!part.more && end < plain.top) {
+        *plain = NOTHING;
+        return Added::Overlap;
+    }
+    plain.marks[place..behind].fill(true);
+    plain.top = plain.top.max(end);
+    if !part.more {
+        plain.end = Some(end);
+    }
+    match plain.end {
+        Some(e) if plain.marks.iter().take(e.div_ceil(8)).all(|mark| *mark) => Added::Whole(0),
+        _ => Added::Kept,
+    }
+}
+
+#[test]
+fn random_parts_are_joined_as_by_marks(rt: HostRuntime) -> Result<(), Fail> {
+    let mut octets = [0; 128];
+    for (k, octet) in octets.iter_mut().enumerate() {
+        *octet = k as u8;
+    }
+    let mut reasm = Reasm::open(rt.alloc())?;
+    let mut plain = NOTHING;
+    let mut seed = 5;
+    let mut order = 0;
+    let mut joined = 0u32;
+    for turn in 0..8_004u64 {
+        seed = random(seed);
+        if turn % 12 == 0 {
+            plain = NOTHING;
+            order = seed >> 33;
+        }
+        // Twelve parts of one unit in an order of their own, and a stray one now and then.
+        let stray = seed >> 60 == 0;
+        let offset = if stray {
+            (seed >> 40) % 12
+        } else {
+            (STRIDES[(order % 4) as usize] * turn + order / 4) % 12
+        } as u16;
+        let more = if stray {
+            (seed >> 50) % 4 > 0
+        } else {
+            offset < 11
+        };
+        let units = if stray { 1 + (seed >> 30) % 3 } else { 1 };
+        let missing = if more { 0 } else { (seed >> 20) % 8 };
+        let size = (8 * units - missing) as usize;
+        let place = 8 * offset as usize;
+        let new = part(
+            (turn / 12) as u16,
+            offset,
+            more,
+            &octets[place..place + size],
+        );
+        let want = plain_add(&mut plain, &new);
+        if want == Added::Whole(0) {
+            let body = octets.get(..plain.top).expect(&rt, "a body");
+            assert!(rt; is_joined(&mut reasm, 0, &new, body));
+            plain = NOTHING;
+            joined += 1;
+        } else {
+            assert_eq!(rt; reasm.add(0, &new), want);
+        }
+    }
+    assert!(rt; joined > 300);
+    Ok(())
+}
+
+#[test]
 fn reply_of_3000_octets_is_cut_in_three(rt: HostRuntime) {
     let body = [5; 3_008];
     let reply = part(9, 0, false, &body);

@@ -16,4 +16,4 @@ returns-in-None-clause-answered c = λ sets stand.
     let s = c.start.ensures.began in
     subst (λ (k : Key). IsAnswered c.args.now k (part_of c.args.part.now) sets c.start.new.self c.start.result) c.key_of-key.ensures
     (gathered_none c.args.now (key_by c.key_of-key.result) (part_of c.args.part.now) sets c.args.self.now c.start.new.self c.start.result s.0 c.requires.even c.requires.end stand
-    (sym c.find.ensures ∙ c.in-None.is) s.1.0 s.1.1 s.1.2 s.1.3)
+    (sym c.find.ensures ∙ c.in-None.is) s.1.0 s.1.1 s.1.2)

@@ -1,4 +1,4 @@
-use Rattle.std.proofs.Common.{◌≡◌, ◌-◌, ◌<◌, List, None, suc, take, length, ◌++◌, ◌∷◌, [], get_or, sym, ap, ◌∙◌, arith, length-append}
+use Rattle.std.proofs.Common.{◌≡◌, ◌-◌, ◌<◌, List, suc, take, length, ◌++◌, ◌∷◌, [], get_or, sym, ap, ◌∙◌, arith, length-append}
 use Rattle.std.specs.List.{remove}
 use Rattle.std.proofs.lemmas.List.{take_at, length-take-le}
 use Rattle.std.proofs.lemmas.List.Edits.{length-remove}
@@ -9,7 +9,7 @@ use Rattle.ipv4_reasm.proofs.reasm.Reasm.release.Goals as goal
 
 -- for a place that none has
 abbrev nothing : Gathered
-nothing = record { key = record { from = 0; to = 0; proto = 0; ident = 0 }; since = 0; octets = []; marks = []; units = 0; end = None; top = 0; life = 0; head = []; joined = [] }
+nothing = record { key = record { from = 0; to = 0; proto = 0; ident = 0 }; since = 0; octets = []; holes = []; top = 0; life = 0; head = []; joined = [] }
 
 pub returns : goal.returns
 returns c =
