@@ -19,7 +19,7 @@ use Rattle.serve_loop.specs.Served.{IsBuilt}
 use Rattle.slirp_app.specs.Serving.{ServesAt, Runs, IsRefused, HasNoMemory}
 use Rattle.slirp_app.specs.Statuses.{code_of, outcome_of}
 use Rattle.slirp_app.specs.declared.status.Outcome.{Outcome}
-use Rattle.slirp_app.specs.declared.status.Outcome.TheVariants.{BadConfig, Usage, LinkFault, NoMemory}
+use Rattle.slirp_app.specs.declared.status.Outcome.TheVariants.{BadConfig}
 
 -- what no option gives is not asked for
 is_built : (given : Word → Option Word) (config : Config) → AreSettings given config → IsBuilt config

@@ -1,6 +1,6 @@
 -- The calls of `serve`.
-use Rattle.std.proofs.Common.{◌≡◌, List, [], ◌∷◌, ◌++◌, refl, ap, subst, ◌∙◌}
-use Rattle.world_face.specs.Journal.{Entry, Place, LinkOpen}
+use Rattle.std.proofs.Common.{◌≡◌, [], ◌∷◌, ◌++◌, refl, ap, subst, ◌∙◌}
+use Rattle.world_face.specs.Journal.{Place, LinkOpen}
 use Rattle.world_face.specs.Tells.{Telling, Answers, Makes}
 use Rattle.world_face.specs.declared.Made.TheVariants.{Done, Failed}
 use Rattle.world_face.proofs.Telling.{makes_one, makes_then}

@@ -1,7 +1,7 @@
 -- What is done by what the words mean.
 use Rattle.std.specs.Prelude.{◌≡◌, ◌≢◌, ◌⊎◌, ◌↔◌, ℕ, ◌<◌, ◌≤◌, List, [], length, Option, Some, None, IsTrue}
 use Rattle.world_face.specs.Frames.{LinkCut, LinkEnded, LinkFailed, LongFrame, Stopped, WaitFailed}
-use Rattle.world_face.specs.Journal.{Entry, Follows, IsPlace, Place}
+use Rattle.world_face.specs.Journal.{Follows, IsPlace, Place}
 use Rattle.world_face.specs.Tells.{Telling, Makes}
 use Rattle.host_policy.specs.Addresses.{Config}
 use Rattle.host_policy.specs.Ranges.{first_broken}

@@ -1,7 +1,7 @@
 -- What a replay did.
-use Rattle.std.specs.Prelude.{◌≡◌, ℕ, ◌+◌, List, [], ◌∷◌, ◌++◌, length, slice_get, codes, decimal, Option, Some, option_map, MatchOption}
+use Rattle.std.specs.Prelude.{◌≡◌, ℕ, ◌+◌, List, [], ◌∷◌, ◌++◌, length, slice_get, codes, decimal, Option, Some, option_map}
 use Rattle.world_face.specs.Frames.{Ending, partial, ending}
-use Rattle.world_face.specs.Journal.{Entry, Call, call_of, AreAllowed, Follows}
+use Rattle.world_face.specs.Journal.{Entry, Call, call_of, AreAllowed}
 use Rattle.world_face.specs.Puts.{added}
 use Rattle.host_policy.specs.Addresses.{Config}
 use Rattle.slirp_laws.specs.Laws.{May, Lawful}

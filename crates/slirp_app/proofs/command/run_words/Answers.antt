@@ -1,8 +1,7 @@
-use Rattle.std.proofs.Common.{List, map, refl, sym, subst, Result, IfOk}
+use Rattle.std.proofs.Common.{map, refl, sym, subst, Result, IfOk}
 use Rattle.std.specs.String.{string_bytes}
-use Rattle.host_policy.specs.Ranges.{IsSound}
 use Rattle.world_face.proofs.Telling.{makes_none}
-use Rattle.slirp_config.specs.Meaning.{HasPlace, Means, config_of, said}
+use Rattle.slirp_config.specs.Meaning.{HasPlace, Means, said}
 use Rattle.slirp_config.specs.declared.Command.{Command}
 use Rattle.slirp_config.specs.declared.WordFault.{WordFault}
 use Rattle.slirp_app.specs.Doing.{Course, Meant}

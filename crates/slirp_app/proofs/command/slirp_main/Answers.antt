@@ -1,4 +1,4 @@
-use Rattle.std.proofs.Common.{◌≡◌, ◌≢◌, ◌↔◌, ◌⊎◌, ℕ, IsTrue, map, sym, ◌∙◌, ap, subst}
+use Rattle.std.proofs.Common.{◌≡◌, ◌↔◌, ◌⊎◌, IsTrue, map, sym, ◌∙◌, ap, subst}
 use Rattle.std.specs.String.{string_bytes}
 use Rattle.slirp_config.specs.Meaning.{Meaning, Means, Replays, Serves}
 use Rattle.slirp_app.specs.Doing.{ReplaysFile}

@@ -1,4 +1,4 @@
-use Rattle.std.proofs.Common.{◌≡◌, ◌++◌, refl, sym, ◌∙◌, ap, subst}
+use Rattle.std.proofs.Common.{◌≡◌, ◌++◌, ◌∙◌, ap, subst}
 use Rattle.std.specs.Result.{is_ok, is_err}
 use Rattle.world_face.specs.Puts.{added}
 use Rattle.world_face.specs.Tells.{Makes}
