@@ -1,0 +1,10 @@
+pub mod Apart
+pub mod Lists
+pub mod Stories
+pub mod Turning
+pub mod Keeping
+pub mod Events
+pub mod Streams
+pub mod Agreeing
+pub mod Laws
+pub mod Newest
