@@ -6,3 +6,4 @@ pub mod Lots
 pub mod Touching
 pub mod Laws
 pub mod Said
+pub mod Taught
