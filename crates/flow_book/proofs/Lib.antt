@@ -8,3 +8,13 @@ pub mod Streams
 pub mod Agreeing
 pub mod Laws
 pub mod Newest
+pub mod Checks
+pub mod Writing
+pub mod TcpRows
+pub mod TcpWrites
+pub mod TcpResets
+pub mod TcpFailures
+pub mod TcpPairs
+pub mod TcpGivesUp
+pub mod TcpForwards
+pub mod TcpRefused

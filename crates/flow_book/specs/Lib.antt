@@ -7,3 +7,4 @@ pub mod Touching
 pub mod Laws
 pub mod Said
 pub mod Taught
+pub mod Check
