@@ -73,7 +73,7 @@ found_by test (g ∷ flows) f differ is = by_test (test g) is (found_by test flo
 
 -- ---- a change of one
 
-only_none : (number : ℕ) (flows : List Flow) → Only number flows flows
+pub only_none : (number : ℕ) (flows : List Flow) → Only number flows flows
 only_none number flows = record { same = refl; apart = λ other not. refl; differ = λ d. d; used = refl }
 
 pub only_then : (number : ℕ) (a b c : List Flow) → Only number a b → Only number b c → Only number a c

@@ -28,14 +28,14 @@ used_retired (s ∷ slots) (suc k) t m at = counts s (in_use_slots (set slots k 
     counts (InUse t) n = refl
     counts (Resting t since) n = refl
 
-numbers_last : (rests : List Rest) (r : Rest) → map (λ (x : Rest). x.number) (rests ++ r ∷ []) ≡ map (λ (x : Rest). x.number) rests ++ r.number ∷ []
+pub numbers_last : (rests : List Rest) (r : Rest) → map (λ (x : Rest). x.number) (rests ++ r ∷ []) ≡ map (λ (x : Rest). x.number) rests ++ r.number ∷ []
 numbers_last [] r = refl
 numbers_last (x ∷ rests) r = ap (λ l. x.number ∷ l) (numbers_last rests r)
 
-slot_more : (rests : List Rest) (r : Rest) (f : Flow) (s : Slot) → IsSlotOf rests f s → IsSlotOf (rests ++ r ∷ []) f s
+pub slot_more : (rests : List Rest) (r : Rest) (f : Flow) (s : Slot) → IsSlotOf rests f s → IsSlotOf (rests ++ r ∷ []) f s
 slot_more rests r f Free is = is
 slot_more rests r f (InUse t) is = is
-slot_more rests r f (Resting t since) is = (is.0, Contains-append_left rests (r ∷ []) (rest f.number since) is.1)
+slot_more rests r f (Resting t since) is = (is.0, Contains-append_left rests (r ∷ []) (rest f.number since) is.1, is.2)
 
 module _ {P : Type 0} (number : P → ℕ) (Follows : P → Story → Type 0) (table : Flows) (parts : List (Option P)) (next : ℕ) (old new : List Flow) (rests : List Rest) where
   pub seats_retired : (k : ℕ) (p q : P) (f g : Flow) (t : Tuple) (m : ℕ) → slice_get parts k ≡ Some (Some p) → slice_get table.slots k ≡ Some (InUse t) → number q ≡ number p → Once table.turns
@@ -63,7 +63,7 @@ module _ {P : Type 0} (number : P → ℕ) (Follows : P → Story → Type 0) (t
                 g_number ∙ sym is_p,
                 subst (λ (x : P). Follows x g.story) (sym one) follows,
                 ap (λ i. slice_get (set table.slots k (Resting t m)) i) at_k ∙ get_set_at table.slots k (InUse t) (Resting t m) slot,
-                (tuple, subst (λ n. Contains (rests ++ rest (number p) m ∷ []) (rest n m)) (sym g_number) (Contains-push rests (rest (number p) m))),
+                (tuple, subst (λ n. Contains (rests ++ rest (number p) m ∷ []) (rest n m)) (sym g_number) (Contains-push rests (rest (number p) m)), sym (ap uses is) ∙ is_unused),
               )
           | inr other ↦
               let was_here : slice_get parts j ≡ Some (Some r) = sym (get_set_other parts k j (Some q) (differ j k other)) ∙ here in

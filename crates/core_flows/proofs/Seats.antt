@@ -1,7 +1,7 @@
 -- One flow is changed, and the others stay as they are.
 use Rattle.std.proofs.Common.{◌≡◌, ◌≢◌, ℕ, ◌+◌, ◌==◌, Bool, true, false, cond, List, [], ◌∷◌, set, slice_get, Option, Some, None, option_map, ◌⊎◌, inl, inr, refl, sym, ◌∙◌, ap, subst, arith}
 use Rattle.std.proofs.lemmas.Bool.Decides.{nat_tests}
-use Rattle.std.specs.Prelude.{filter_map, Contains}
+use Rattle.std.specs.Prelude.{filter_map}
 use Rattle.flow_table.specs.Slots.{Flows}
 use Rattle.flow_table.specs.declared.Slot.{Slot}
 use Rattle.flow_table.specs.declared.Slot.TheVariants.{Free, InUse, Resting}
@@ -62,10 +62,13 @@ owner_id t (f ∷ a) (g ∷ b) same =
     by_test true number rest = ap Some number
     by_test false number rest = rest
 
-pub slot_kept : (rests : List Rest) (f g : Flow) (s : Slot) → g.number ≡ f.number → g.tuple ≡ f.tuple → is_in_use g.story ≡ true → IsSlotOf rests f s → IsSlotOf rests g s
-slot_kept rests f g Free number tuple uses is = is
-slot_kept rests f g (InUse t) number tuple uses is = (tuple ∙ is.0, uses)
-slot_kept rests f g (Resting t since) number tuple uses is = (tuple ∙ is.0, subst (λ n. Contains rests (record { number = n; since = since })) (sym number) is.1)
+pub slot_kept : (rests : List Rest) (f g : Flow) (s : Slot) → g.number ≡ f.number → g.tuple ≡ f.tuple → is_in_use f.story ≡ true → is_in_use g.story ≡ true → IsSlotOf rests f s → IsSlotOf rests g s
+slot_kept rests f g Free number tuple was uses is = is
+slot_kept rests f g (InUse t) number tuple was uses is = (tuple ∙ is.0, uses)
+slot_kept rests f g (Resting t since) number tuple was uses is = absurd (true_false (sym was ∙ is.2))
+  where
+    true_false : true ≡ false → ⊥
+    true_false is = cc
 
 -- ---- numbers of parts
 
@@ -113,7 +116,7 @@ module _ {P : Type 0} (number : P → ℕ) (Follows : P → Story → Type 0) (t
                 g_number ∙ sym same ∙ sym (ap number one),
                 subst (λ (x : P). Follows x g.story) (sym one) follows,
                 ap (λ i. slice_get table.slots i) at_k ∙ seat.5,
-                slot_kept rests f g seat.1 (g_number ∙ sym (number_of_found (number p) old f was)) tuple is_used (subst (λ (x : Flow). IsSlotOf rests x seat.1) is_f seat.6),
+                slot_kept rests f g seat.1 (g_number ∙ sym (number_of_found (number p) old f was)) tuple was_used is_used (subst (λ (x : Flow). IsSlotOf rests x seat.1) is_f seat.6),
               )
           | inr other ↦
               let was_here : slice_get parts j ≡ Some (Some r) = sym (get_set_other parts k j (Some q) (differ j k other)) ∙ here in

@@ -17,10 +17,10 @@ back x k is = grind (arith, nat_tests, is)
 abbrev pub without_one : ℕ → List ℕ → List ℕ
 without_one k xs = remove xs (position_or_len (λ other. other == k) xs)
 
-without_head : (k x : ℕ) (xs : List ℕ) → (x == k) ≡ true → without_one k (x ∷ xs) ≡ xs
+pub without_head : (k x : ℕ) (xs : List ℕ) → (x == k) ≡ true → without_one k (x ∷ xs) ≡ xs
 without_head k x xs is = ap (λ b. remove (x ∷ xs) (cond (not b) (1 + position_or_len (λ other. other == k) xs) 0)) is
 
-without_tail : (k x : ℕ) (xs : List ℕ) → (x == k) ≡ false → without_one k (x ∷ xs) ≡ x ∷ without_one k xs
+pub without_tail : (k x : ℕ) (xs : List ℕ) → (x == k) ≡ false → without_one k (x ∷ xs) ≡ x ∷ without_one k xs
 without_tail k x xs is =
     ap (λ b. remove (x ∷ xs) (cond (not b) (1 + position_or_len (λ other. other == k) xs) 0)) is ∙ ap (remove (x ∷ xs)) (one_more (position_or_len (λ other. other == k) xs))
   where

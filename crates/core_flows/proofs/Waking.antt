@@ -71,7 +71,7 @@ kept test (y ∷ ys) x (suc k) within at passes = by_test (test y) (kept test ys
 slot_less : (rests : List Rest) (n : ℕ) (f : Flow) (s : Slot) → (f.number == n) ≡ false → IsSlotOf rests f s → IsSlotOf (without n rests) f s
 slot_less rests n f Free other is = is
 slot_less rests n f (InUse t) other is = is
-slot_less rests n f (Resting t since) other is = (is.0, kept (λ r. not (r.number == n)) rests (rest f.number since) is.1.0 is.1.1 is.1.2 (ap not other))
+slot_less rests n f (Resting t since) other is = (is.0, kept (λ r. not (r.number == n)) rests (rest f.number since) is.1.0 is.1.1 is.1.2 (ap not other), is.2)
 
 same_used : (new_used old_used : ℕ) (o n : Option Flow) → new_used + one_if (uses o) ≡ old_used + one_if (uses n) → uses o ≡ false → uses n ≡ false → new_used ≡ old_used
 same_used new_used old_used o n is was now =

@@ -14,7 +14,7 @@ use Rattle.flow_book.specs.Said.{Differ}
 abbrev pub IsSlotOf : List Rest → Flow → Slot → Type 0
 IsSlotOf rests f Free = ⊥
 IsSlotOf rests f (InUse t) = (f.tuple ≡ t) × (is_in_use f.story ≡ true)
-IsSlotOf rests f (Resting t since) = (f.tuple ≡ t) × Contains rests (record { number = f.number; since = since })
+IsSlotOf rests f (Resting t since) = (f.tuple ≡ t) × Contains rests (record { number = f.number; since = since }) × (is_in_use f.story ≡ false)
 
 abbrev pub number_in : {P : Type 0} → (P → ℕ) → Option (Option P) → Option ℕ
 number_in number (Some (Some p)) = Some (number p)
@@ -66,3 +66,12 @@ pub record Seats {P : Type 0} (number : P → ℕ) (Follows : P → Story → Ty
   pub differ : Differ flows
   -- the next numbers are no flow's
   pub fresh : (n : ℕ) → next ≤ n → flow_of n flows ≡ None
+
+-- none of these rests since an earlier moment; and each rests at least as long as those behind it
+abbrev pub AreFrom : ℕ → List Rest → Type 0
+AreFrom m [] = Unit {0}
+AreFrom m (r ∷ rests) = (m ≤ r.since) × AreFrom m rests
+
+abbrev pub Rise : List Rest → Type 0
+Rise [] = Unit {0}
+Rise (r ∷ rests) = AreFrom r.since rests × Rise rests

@@ -1,5 +1,5 @@
 -- What an entry of the record is to the flows of TCP.
-use Rattle.std.specs.Prelude.{ℕ, List, [], Option, Some, None}
+use Rattle.std.specs.Prelude.{ℕ, List, Option, Some, None}
 use Rattle.world_face.specs.Journal.{Entry, Wait, Connect, Connected, Accept, TcpRead, TcpWrite, TcpEnd, Close}
 use Rattle.world_face.specs.declared.Io.{Io}
 use Rattle.world_face.specs.declared.Io.TheVariants.{Done, End, NotYet, Failed}
@@ -50,7 +50,7 @@ joined JoinFailed = ConnectFails
 abbrev pub read_by : Io → List ℕ → Event
 read_by (Done n) octets = Reads octets
 read_by End octets = ReadsEnd
-read_by NotYet octets = Reads []
+read_by NotYet octets = Reads octets
 read_by Failed octets = ReadFails
 
 abbrev pub written_by : Io → List ℕ → Event

@@ -61,11 +61,11 @@ abbrev pub taken_on : ℕ → List Entry → List ℕ
 taken_on socket [] = []
 taken_on socket (e ∷ past) = taken_by socket e (taken_on socket past)
 
--- what was read on a socket, in its order
+-- what was read on a socket, in its order; a read that has nothing yet gives nothing
 abbrev pub given_of : Io → List ℕ → List ℕ
 given_of (Done n) octets = octets
 given_of End octets = []
-given_of NotYet octets = []
+given_of NotYet octets = octets
 given_of Failed octets = []
 
 abbrev pub given_by : ℕ → Entry → List ℕ → List ℕ

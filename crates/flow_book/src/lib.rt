@@ -11,7 +11,7 @@
 //! it gives one octet to each number of its stream and has one end with nothing past it.
 #![tactic(auto)]
 
-ghost use Rattle.std.specs.Prelude.{◌≡◌, ℕ, ◌<◌, ◌++◌, ◌||◌, List, ◌∷◌, length, true, Bool, IsTrue, Some, slice_get};
+ghost use Rattle.std.specs.Prelude.{◌≡◌, ℕ, ◌+◌, ◌<◌, ◌++◌, ◌||◌, List, ◌∷◌, length, true, Bool, IsTrue, Some, slice_get};
 ghost use Rattle.net_octets.specs.declared.Endpoint.{Endpoint};
 ghost use Rattle.world_face.specs.Journal.{Entry, Connect};
 ghost use Rattle.world_face.specs.declared.Made.{Made};
