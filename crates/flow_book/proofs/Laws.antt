@@ -2,7 +2,7 @@
 use Rattle.std.proofs.Common.{◌≡◌, ℕ, ◌<◌, ◌==◌, ◌||◌, nat_lt, Bool, true, false, cond, List, [], ◌∷◌, Option, Some, None, option_and_then, if◌then◌else◌, refl, sym, ◌∙◌, ap, subst, arith}
 use Rattle.std.proofs.lemmas.Bool.Decides.{nat_tests}
 use Rattle.net_octets.specs.declared.Endpoint.{Endpoint}
-use Rattle.world_face.specs.Journal.{Entry, Connect, CallConnect}
+use Rattle.world_face.specs.Journal.{Entry, Close, Connect, CallConnect}
 use Rattle.world_face.specs.declared.Made.{Made}
 use Rattle.host_policy.specs.Addresses.{Config}
 use Rattle.host_policy.specs.Targets.{target}
@@ -12,13 +12,13 @@ use Rattle.host_policy.specs.declared.Verdict.TheVariants.{Go, Denied}
 use Rattle.flow_laws.specs.Event.{IsStory}
 use Rattle.flow_laws.specs.Flow.{guest}
 use Rattle.flow_laws.specs.Guest.{Honest, front}
-use Rattle.flow_laws.specs.Lawful.{IsLawful, IsPrefixOf}
+use Rattle.flow_laws.specs.Lawful.{HasCause, IsLawful, IsPrefixOf}
 use Rattle.flow_laws.proofs.GuestLaws.{written_is_a_prefix}
 use Rattle.run_laws.specs.Moments.{moment}
 use Rattle.run_laws.specs.Sockets.{next_number}
-use Rattle.flow_book.specs.Book.{book, story, story_in}
-use Rattle.flow_book.specs.Flows.{Flow, Book, flow_of, is_used, used, is_resting}
-use Rattle.flow_book.specs.Laws.{flow_settings, KeepsFlows}
+use Rattle.flow_book.specs.Book.{book, scene, story, story_in}
+use Rattle.flow_book.specs.Flows.{Flow, Book, comes_directly, comes_last, flow_of, guest_is_known, is_used, used, is_resting}
+use Rattle.flow_book.specs.Laws.{flow_settings, MayShut, KeepsFlows}
 use Rattle.flow_book.specs.Lots.{OfFlow, Dropped, Strange, asked_for, connects_to, due_by, due_for_flows, is_opening, is_to_many, lot, lot_by}
 use Rattle.flow_book.specs.Said.{Each, Kept, taken_on, ConnectsAsAsked}
 use Rattle.flow_book.specs.Segments.{OnTuple}
@@ -116,3 +116,10 @@ connects_as_asked config b number socket to is = by_came b.came refl (asks b.doo
 
 pub connected_as_asked : (config : Config) (past : List Entry) (socket : ℕ) (to : Endpoint) (answer : Made) → KeepsFlows config (Connect socket to answer ∷ past) → ConnectsAsAsked config (book config past) to
 connected_as_asked config past socket to answer keeps = connects_as_asked config (book config past) (next_number past) socket to keeps.0.touches
+
+-- ---- closes
+
+pub closed_for_cause : (config : Config) (past : List Entry) (socket : ℕ) (f : Flow) → KeepsFlows config (Close socket ∷ past) → flow_of socket (book config past).flows ≡ Some f
+    → HasCause (comes_directly (book config past).came f) (comes_last (scene config past) f) (guest_is_known (scene config past) f) (moment past) f.story
+closed_for_cause config past socket f keeps is =
+    (subst (MayShut (flow_settings config) (scene config past) (book config past).came) is keeps.0.touches).closes_with_cause

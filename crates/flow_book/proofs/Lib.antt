@@ -18,3 +18,4 @@ pub mod TcpPairs
 pub mod TcpGivesUp
 pub mod TcpForwards
 pub mod TcpRefused
+pub mod Lots

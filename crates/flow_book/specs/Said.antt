@@ -1,5 +1,5 @@
 -- Words in which laws of the flows of a run are said.
-use Rattle.std.specs.Prelude.{◌≡◌, ℕ, ◌<◌, ◌≤◌, ◌==◌, true, false, List, [], ◌∷◌, ◌++◌, take, Option, Some, None, if◌then◌else◌}
+use Rattle.std.specs.Prelude.{◌≡◌, ℕ, ◌<◌, ◌≤◌, ◌==◌, true, false, List, [], ◌∷◌, ◌++◌, ◌⊎◌, take, Option, Some, None, if◌then◌else◌}
 use Rattle.world_face.specs.Journal.{Entry, TcpRead, TcpWrite}
 use Rattle.world_face.specs.declared.Io.{Io}
 use Rattle.world_face.specs.declared.Io.TheVariants.{Done, End, NotYet, Failed}
@@ -7,7 +7,8 @@ use Rattle.net_octets.specs.declared.Endpoint.{Endpoint}
 use Rattle.host_policy.specs.Addresses.{Config}
 use Rattle.host_policy.specs.Targets.{target}
 use Rattle.host_policy.specs.declared.Proto.TheVariants.{Tcp as OverTcp}
-use Rattle.host_policy.specs.declared.Verdict.TheVariants.{Go}
+use Rattle.host_policy.specs.declared.Verdict.TheVariants.{Go, Denied}
+use Rattle.host_policy.specs.declared.Rule.{Rule}
 use Rattle.flow_laws.specs.Event.{IsStory, newest_moment}
 use Rattle.flow_laws.specs.Close.{host_failed}
 use Rattle.flow_laws.specs.Lawful.{IsLawful}
@@ -16,7 +17,7 @@ use Rattle.run_laws.specs.Moments.{moment}
 use Rattle.run_laws.specs.Sockets.{next_number}
 use Rattle.flow_book.specs.Book.{book}
 use Rattle.flow_book.specs.Flows.{Flow, Book, flow_of, is_used, used, is_resting}
-use Rattle.flow_book.specs.Lots.{is_opening}
+use Rattle.flow_book.specs.Lots.{is_opening, is_to_many}
 use Rattle.flow_book.specs.Segments.{OnTuple}
 use Rattle.flow_book.specs.Laws.{flow_settings}
 
@@ -86,3 +87,20 @@ pub record ConnectsAsAsked (config : Config) (b : Book) (to : Endpoint) : Type 0
   pub awake : is_resting on.tuple b ≡ false
   pub room : used b.flows < config.flows
   pub target : target config OverTcp on.tuple.other ≡ Go to
+
+-- A segment is no flow's: no flow on its two ends is in use, and none rests.
+pub record IsNobodys (b : Book) (on : OnTuple) : Type 0 where
+  pub free : is_used on.tuple b.flows ≡ false
+  pub awake : is_resting on.tuple b ≡ false
+
+-- A guest's SYN is answered by a reset: the policy denies a connection to its destination, which is of one host.
+pub record IsDenied (config : Config) (b : Book) (on : OnTuple) : Type 0 where
+  pub nobodys : IsNobodys b on
+  pub one_host : is_to_many config on.tuple.other ≡ false
+  pub rule : Rule
+  pub denied : target config OverTcp on.tuple.other ≡ Denied rule
+
+-- A guest's SYN is ignored: its destination is of many, or as many flows as may be are in use.
+pub record IsIgnored (config : Config) (b : Book) (on : OnTuple) : Type 0 where
+  pub nobodys : IsNobodys b on
+  pub why : (is_to_many config on.tuple.other ≡ true) ⊎ (config.flows ≤ used b.flows)

@@ -11,9 +11,9 @@
 //! it gives one octet to each number of its stream and has one end with nothing past it.
 #![tactic(auto)]
 
-ghost use Rattle.std.specs.Prelude.{◌≡◌, ℕ, ◌+◌, ◌<◌, ◌++◌, ◌||◌, List, ◌∷◌, length, true, Bool, IsTrue, Some, slice_get};
+ghost use Rattle.std.specs.Prelude.{◌≡◌, ℕ, ◌+◌, ◌<◌, ◌++◌, ◌||◌, List, ◌∷◌, length, true, false, Bool, IsTrue, Some, slice_get};
 ghost use Rattle.net_octets.specs.declared.Endpoint.{Endpoint};
-ghost use Rattle.world_face.specs.Journal.{Entry, Connect};
+ghost use Rattle.world_face.specs.Journal.{Entry, Close, Connect};
 ghost use Rattle.world_face.specs.declared.Made.{Made};
 ghost use Rattle.host_policy.specs.Addresses.{Config};
 ghost use Rattle.seq_space.specs.Places.{number_of};
@@ -21,13 +21,16 @@ ghost use Rattle.flow_laws.specs.Event.{IsStory};
 ghost use Rattle.flow_laws.specs.Flow.{guest, host, their_number, has_connected, is_accepted};
 ghost use Rattle.flow_laws.specs.Guest.{Honest, HasCome, ackd, front, has_ended};
 ghost use Rattle.flow_laws.specs.Host.{Gave, got_end, end_is_out};
-ghost use Rattle.flow_laws.specs.Lawful.{IsLawful, IsPrefixOf};
-ghost use Rattle.flow_laws.specs.Said.{CameAt, something_is_out};
+ghost use Rattle.flow_laws.specs.Close.{owes_reset};
+ghost use Rattle.flow_laws.specs.Lawful.{HasCause, IsLawful, IsPrefixOf};
+ghost use Rattle.flow_laws.specs.Said.{CameAt, closed_as_failed, reset_is_out, something_is_out};
+ghost use Rattle.run_laws.specs.Moments.{moment};
 ghost use Rattle.run_laws.specs.Happenings.{happens};
-ghost use Rattle.flow_book.specs.Book.{book, story};
-ghost use Rattle.flow_book.specs.Flows.{Flow, flow_of};
+ghost use Rattle.flow_book.specs.Book.{book, scene, story};
+ghost use Rattle.flow_book.specs.Flows.{Book, Flow, comes_directly, comes_last, flow_of, guest_is_known};
 ghost use Rattle.flow_book.specs.Laws.{flow_settings, KeepsFlows};
-ghost use Rattle.flow_book.specs.Said.{ConnectsAsAsked, Differ, given_on, taken_on};
+ghost use Rattle.flow_book.specs.Lots.{Dropped, is_opening, is_reset, lot};
+ghost use Rattle.flow_book.specs.Said.{ConnectsAsAsked, Differ, IsDenied, IsIgnored, given_on, taken_on};
 ghost use Rattle.flow_book.specs.Segments.{OnTuple, segment_came};
 ghost use Rattle.flow_book.specs.Touching.{AreApart};
 
@@ -103,4 +106,32 @@ pub fn connects_follow_their_syn_to_the_policys_target()
 pub fn other_flows_change_nothing()
     ensures { (config : Config) (socket : ℕ) (past made : List Entry) → AreApart config socket past made
         → story config (made ++ past) socket ≡ story config past socket }
+{}
+
+/// The socket of a flow is closed only for a cause: both ends passed and each side knows it, the guest reset the flow, a call on
+/// the socket failed, the guest acknowledged nothing for 243,000 ms or its hardware address wasn't found, the host didn't connect
+/// in 75,000 ms, or the run is over and this is the first of the open sockets. So until then what was acknowledged is kept.
+pub fn flows_are_closed_for_a_cause()
+    ensures { (config : Config) (past : List Entry) (socket : ℕ) (f : Flow) → KeepsFlows config (Close socket ∷ past)
+        → flow_of socket (book config past).flows ≡ Some f
+        → HasCause (comes_directly (book config past).came f) (comes_last (scene config past) f) (guest_is_known (scene config past) f)
+        (moment past) f.story }
+{}
+
+/// A flow resets its guest only after it was closed since it had failed, and once.
+pub fn flows_reset_their_guest_for_a_cause()
+    ensures cause { (config : Config) (past : List Entry) (socket : ℕ) → KeepsFlows config past
+        → IsTrue (reset_is_out (story config past socket)) → IsTrue (closed_as_failed (story config past socket)) }
+    ensures once { (config : Config) (past : List Entry) (socket : ℕ) → KeepsFlows config past
+        → IsTrue (reset_is_out (story config past socket)) → owes_reset (story config past socket) ≡ false }
+{}
+
+/// A guest's SYN is answered by a reset at once only where no flow on its two ends is in use or rests, its destination is of one
+/// host, and the policy denies it (RFC 9293, 3.10.7.1); and it is ignored only where its destination is of many, or as many flows
+/// as may be are in use.
+pub fn syns_are_denied_or_ignored_for_a_reason()
+    ensures denied { (config : Config) (b : Book) (on : OnTuple) → is_opening on.segment ≡ true → is_reset config b on ≡ true
+        → IsDenied config b on }
+    ensures ignored { (config : Config) (b : Book) (on : OnTuple) → is_opening on.segment ≡ true → lot config b on ≡ Dropped
+        → IsIgnored config b on }
 {}
