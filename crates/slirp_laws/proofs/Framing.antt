@@ -3,11 +3,12 @@ use Rattle.std.proofs.Common.{◌≡◌, ℕ, zero, suc, ◌+◌, ◌-◌, ◌*�
 use Rattle.std.proofs.lemmas.Bool.{cases_lt}
 use Rattle.std.proofs.lemmas.Bool.Decides.{nat_tests}
 use Rattle.std.proofs.lemmas.Nat.{from_be_bytes-to_be_bytes_2}
-use Rattle.net_octets.specs.Kinds.{ipv4_kind}
+use Rattle.net_octets.specs.Kinds.{arp_kind, ipv4_kind}
 use Rattle.net_octets.specs.Octets.{two_at}
 use Rattle.net_octets.proofs.Six.{Six, six}
 use Rattle.host_policy.specs.Addresses.{Config}
-use Rattle.arp_table.specs.Arp.{Arp}
+use Rattle.ether_frame.specs.Ether.{ether_octets}
+use Rattle.arp_table.specs.Arp.{Arp, arp_octets}
 use Rattle.ipv4_head.specs.Cuts.{cut_at, cut_count, cuts, cuts_from, is_before_last, units_in}
 use Rattle.ipv4_head.specs.Ip.{fragment_of}
 use Rattle.ipv4_head.specs.Sets.{Part}
@@ -23,7 +24,7 @@ drop_next zero (y ∷ xs) rest x is = cc
 drop_next (suc k) [] rest x is = cc
 drop_next (suc k) (y ∷ xs) rest x is = drop_next k xs rest x is
 
-pub drop_none : {A : Type 0} (k : ℕ) → drop k ([] {A = A}) ≡ []
+pub drop_none : (k : ℕ) → drop {A = List ℕ} k [] ≡ []
 drop_none zero = refl
 drop_none (suc k) = refl
 
@@ -73,18 +74,19 @@ part_of_frames config ident to proto from guest body frame rest k = by (fits_dat
     by false fits is = let never : [] ≡ frame ∷ rest = sym (drop_none k) ∙ is in cc
 
 -- ARP has one frame
-pub arp_frame : (config : Config) (ident : ℕ) (to : List ℕ) (arp : Arp) (frame : List ℕ) (rest : List (List ℕ)) (k : ℕ) → drop k (frames_for config ident (ArpAnswer to arp)) ≡ frame ∷ rest → rest ≡ []
-arp_frame config ident to arp frame rest zero is = cc
-arp_frame config ident to arp frame rest (suc zero) is = cc
-arp_frame config ident to arp frame rest (suc (suc k)) is = cc
+pub arp_frame : (config : Config) (ident : ℕ) (to : List ℕ) (arp : Arp) (frame : List ℕ) (rest : List (List ℕ)) (k : ℕ) → drop k (frames_for config ident (ArpAnswer to arp)) ≡ frame ∷ rest
+    → (rest ≡ []) × (frame ≡ ether_octets to arp.sender_mac arp_kind (arp_octets arp))
+arp_frame config ident to arp frame rest zero is = (cc, cc)
+arp_frame config ident to arp frame rest (suc zero) is = absurd cc
+arp_frame config ident to arp frame rest (suc (suc k)) is = absurd cc
 
 -- ---- datagrams that begin
 
-fragment_fits : (place : ℕ) (more : Bool) → place < 2 ^ 13 → fragment_of more place < 2 ^ 16
+pub fragment_fits : (place : ℕ) (more : Bool) → place < 2 ^ 13 → fragment_of more place < 2 ^ 16
 fragment_fits place true fits = omega arith
 fragment_fits place false fits = omega arith
 
-place_kept : (place : ℕ) (more : Bool) → place < 2 ^ 13 → fragment_of more place % 2 ^ 13 ≡ place
+pub place_kept : (place : ℕ) (more : Bool) → place < 2 ^ 13 → fragment_of more place % 2 ^ 13 ≡ place
 place_kept place true fits = omega arith
 place_kept place false fits = omega arith
 
@@ -115,11 +117,14 @@ place_fits mtu size k fits short below = let p = place_below mtu size k fits sho
 pub our_six : (a : ℕ) → length (our_mac a) ≡ 6
 our_six a = refl
 
-one_if : (b : Bool) → b ≡ true → (if b then 1 else 0) ≡ 1
+abbrev as_number : Bool → ℕ
+as_number b = if b then 1 else 0
+
+one_if : (b : Bool) → b ≡ true → as_number b ≡ 1
 one_if true is = refl
 one_if false is = cc
 
-none_if : (b : Bool) → b ≡ false → (if b then 1 else 0) ≡ 0
+none_if : (b : Bool) → b ≡ false → as_number b ≡ 0
 none_if true is = cc
 none_if false is = refl
 
