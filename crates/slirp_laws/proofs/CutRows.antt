@@ -4,7 +4,7 @@ use Rattle.poll_list.specs.declared.Who.TheVariants.{Link, Udp}
 use Rattle.world_face.specs.declared.Io.TheVariants.{Done, NotYet}
 use Rattle.world_face.specs.declared.Got.TheVariants.{From}
 use Rattle.world_face.specs.declared.Waited.TheVariants.{Ready, Stop}
-use Rattle.world_face.specs.Journal.{Entry, Now, Wait, LinkWrite, UdpRecv, Close, CallLinkRead, CallLinkWrite, CallUdpRecv}
+use Rattle.world_face.specs.Journal.{Entry, Now, Wait, LinkWrite, UdpRecv, Close, CallLinkRead, CallLinkWrite}
 use Rattle.world_face.specs.Frames.{spelling, missing, is_too_long, spelt_length}
 use Rattle.host_policy.specs.Addresses.{Config}
 use Rattle.host_policy.specs.Settings.{usual}
@@ -74,11 +74,14 @@ padded : May narrow (run (heard ++ LinkWrite first (Done 78) ∷ [])) (CallLinkW
 unfolding missing spelling is_too_long spelt_length
 padded = λ may. cc (may.answered)
 
--- the next frame or datagram is read between the parts
-read_between : May narrow (run (heard ++ LinkWrite first (Done 78) ∷ [])) (CallLinkRead 4) → ⊥
+-- the next frame is read between the parts, though it was reported
+abbrev both_ready : List Entry
+both_ready = sent ++ Wait (reading Link ∷ reading (Udp 0) ∷ []) (Some 240000) Ready (reading (Udp 0) ∷ reading Link ∷ []) ∷ Now 20 ∷ UdpRecv 0 65507 (From peer 60) payload ∷ []
+
+read_between : May narrow (run (both_ready ++ LinkWrite first (Done 78) ∷ [])) (CallLinkRead 4) → ⊥
 unfolding missing spelling is_too_long spelt_length
 read_between = λ may. cc (may.answered)
 
-heard_between : May narrow (run (heard ++ LinkWrite first (Done 78) ∷ [])) (CallUdpRecv 0 65507) → ⊥
+read_behind : may narrow (run (both_ready ++ LinkWrite first (Done 78) ∷ LinkWrite second (Done 66) ∷ [])) (CallLinkRead 4) ≡ true
 unfolding missing spelling is_too_long spelt_length
-heard_between = λ may. cc (may.answered)
+read_behind = refl
