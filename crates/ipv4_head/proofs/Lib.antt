@@ -1,3 +1,4 @@
+pub mod Cutting
+pub mod Passing
 pub mod Plain
 pub mod Spelling
-pub mod Passing

@@ -1,2 +1,3 @@
+pub mod Cuts
 pub mod Ip
 pub mod Sets

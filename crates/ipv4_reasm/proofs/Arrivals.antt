@@ -4,7 +4,7 @@ use Rattle.std.specs.List.{AllPairs, Contains, list_any}
 use Rattle.std.proofs.lemmas.Bool.{lt-ltb, le-ltb}
 use Rattle.std.proofs.lemmas.List.Elements.{Contains-append_left}
 use Rattle.ipv4_head.specs.Sets.{Clashes, Joined, Part, Waits, start_of, end_of, do_clash, is_uneven, is_whole, outcome_among}
-use Rattle.ipv4_reasm.specs.Cuts.{AreCuts, room_in, units_in}
+use Rattle.ipv4_head.specs.Cuts.{AreCuts, room_in, units_in}
 use Rattle.ipv4_reasm.proofs.Answering.{outcome_is}
 use Rattle.ipv4_reasm.proofs.Fragments.{Cut, cut_told, joined, next_start, units_fit}
 use Rattle.ipv4_reasm.proofs.Gathering.{and_is, clash_flip, clash_last, clash_one, clash_share, not_true, same_truth, some_in}

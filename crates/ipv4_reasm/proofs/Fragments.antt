@@ -8,7 +8,7 @@ use Rattle.std.proofs.lemmas.List.Elements.{Contains-get_or}
 use Rattle.std.proofs.lemmas.Option.{cond_some}
 use Rattle.net_octets.specs.Octets.{part}
 use Rattle.ipv4_head.specs.Sets.{Part, Joins, start_of, end_of, do_clash}
-use Rattle.ipv4_reasm.specs.Cuts.{AreCuts, room_in, units_in, cut_start, is_before_last, is_cut, cut_body, cut_of}
+use Rattle.ipv4_head.specs.Cuts.{AreCuts, room_in, units_in, cut_start, is_before_last, is_cut, cut_body, cut_of}
 
 -- the k-th part, where there is one
 abbrev cut_at : ℕ → Part → ℕ → Part

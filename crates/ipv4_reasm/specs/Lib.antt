@@ -1,4 +1,3 @@
-pub mod Cuts
 pub mod Holes
 pub mod Areas
 pub mod Answers

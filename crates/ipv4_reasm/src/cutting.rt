@@ -1,7 +1,7 @@
 ghost use Rattle.std.specs.Prelude.{◌≡◌, ℕ, ◌+◌, ◌<◌, ◌≤◌, ◌++◌, ◌∷◌, [], false, List, length, Some, None, IfSome, if◌then◌else◌};
 ghost use Rattle.std.specs.Option.{option_map};
 ghost use Rattle.ipv4_head.specs.Sets.{Joined, Joins, Part, Waits, key_of, outcome_among, part_of};
-ghost use Rattle.ipv4_reasm.specs.Cuts.{AreCuts, cut_of, cut_start, is_cut};
+ghost use Rattle.ipv4_head.specs.Cuts.{AreCuts, cut_of, cut_start, is_cut};
 
 use ipv4_head::IpView;
 

@@ -2,6 +2,8 @@
 #![tactic(auto)]
 
 mod command;
+#[cfg(test)]
+mod cut_tests;
 mod fetching;
 mod gathering;
 #[cfg(test)]

@@ -101,9 +101,22 @@ fn heard(alloc: Global, count: usize) -> Result<String, Fail> {
     Ok(schedule)
 }
 
+/// The parts of that datagram where 576 octets of IPv4 fit a frame: 544 octets of its payload, and 5.
+const CUT_AT_576: [&str; 2] = [
+    "lwrite 0000024a52540012345652550a00020208004500023c0000200040118a9bc00002070a00020f00090fa0022d1dd5",
+    "lwrite 0000002752540012345652550a000202080045000019000000454011ac79c00002070a00020f0000000000 = done 43\n",
+];
+
 #[test]
-fn a_reply_over_the_longest_datagram_is_not_sent(rt: HostRuntime) -> Result<(), Fail> {
+fn a_reply_over_the_longest_datagram_is_cut(rt: HostRuntime) -> Result<(), Fail> {
     let mut schedule = heard(rt.alloc(), 549)?;
+    let [first, second] = CUT_AT_576;
+    schedule.push_str(first)?;
+    for _ in 0..544u64 {
+        schedule.push_str("00")?;
+    }
+    schedule.push_str(" = done 590\n")?;
+    schedule.push_str(second)?;
     schedule.push_str("wait 240000 link:r,u0:r = stop\nclose 0 = done\n")?;
     assert!(rt; is_followed(rt.alloc(), &["--mtu", "576"][..], schedule.as_str(), 0)?);
     let ran = replayed_with(rt.alloc(), &["--mtu", "577"][..], schedule.as_str())?;

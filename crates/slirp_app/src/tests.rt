@@ -20,7 +20,7 @@ pub struct Outputs {
 }
 
 /// Room for what a test puts.
-const ROOM: usize = 262_144;
+const ROOM: usize = 1_048_576;
 
 /// Runs these words over this World. The put to `out` with the number `fails` is refused.
 fn ran_on<W: World>(
@@ -55,6 +55,16 @@ pub fn ran(
 
 /// Runs `replay f` where the file f has this content.
 fn replayed(alloc: Global, content: &str, fails: Option<u64>) -> Result<Outputs, Fail> {
+    replayed_with(alloc, &["replay", "f"][..], content, fails)
+}
+
+/// Runs these words where the file f has this content.
+fn replayed_with(
+    alloc: Global,
+    words: &[&str],
+    content: &str,
+    fails: Option<u64>,
+) -> Result<Outputs, Fail> {
     let length = content.len();
     let mut outer = format!(in alloc; "flen 66 = len {length}\n")?;
     let mut place = 0u64;
@@ -65,12 +75,24 @@ fn replayed(alloc: Global, content: &str, fails: Option<u64>) -> Result<Outputs,
         outer.push_str(line.as_str())?;
         place = place.saturating_add(16_384u64);
     }
-    ran(alloc, &["replay", "f"], outer.as_str(), fails)
+    ran(alloc, words, outer.as_str(), fails)
 }
 
 /// Whether the content's replay has this status and puts this.
 pub fn gives(alloc: Global, content: &str, status: u8, out: &str, err: &str) -> Result<bool, Fail> {
-    let ran = replayed(alloc, content, None)?;
+    gives_with(alloc, &["replay", "f"][..], content, status, out, err)
+}
+
+/// The same of a run of these words, where the file f has this content.
+pub fn gives_with(
+    alloc: Global,
+    words: &[&str],
+    content: &str,
+    status: u8,
+    out: &str,
+    err: &str,
+) -> Result<bool, Fail> {
+    let ran = replayed_with(alloc, words, content, None)?;
     Ok(
         ran.status == status
             && ran.out.octets() == out.as_bytes()

@@ -1,5 +1,5 @@
 -- What the core makes of a frame, step by step, is what the packet in it asks for.
-use Rattle.std.proofs.Common.{◌≡◌, ℕ, ◌==◌, ◌&&◌, Bool, true, false, List, [], length, Option, Some, None, if◌then◌else◌, refl, ◌∙◌, ap, arith}
+use Rattle.std.proofs.Common.{◌≡◌, ℕ, ◌==◌, ◌&&◌, Bool, true, false, List, [], Option, Some, None, if◌then◌else◌, refl, ◌∙◌, ap, arith}
 use Rattle.std.proofs.lemmas.Bool.Decides.{nat_tests}
 use Rattle.std.specs.Option.{option_and_then, option_map}
 use Rattle.net_octets.specs.declared.Ip4.{Ip4}
@@ -15,7 +15,7 @@ use Rattle.udp_assoc.specs.Udp.{Udp, read_udp}
 use Rattle.tcp_segment.specs.Tcp.{Tcp, read_tcp}
 use Rattle.run_laws.specs.Guests.{with_pair}
 use Rattle.run_laws.specs.Packets.{Packet, ArpPacket, Message, DatagramPacket, Segment, Datagram, datagram_in, datagram_of, may_come, packet_of, pair_by, pair_by_arp, pair_by_ip, pair_in, pair_of, packet_in, unless_unheard, whole_packet}
-use Rattle.slirp_laws.specs.Answers.{Answer, fits_frame, owed_for_arp, owed_for_icmp, owed_for_datagram, owed_for_packet}
+use Rattle.slirp_laws.specs.Answers.{Answer, owed_for_arp, owed_for_icmp, owed_for_datagram, owed_for_packet}
 use Rattle.slirp_laws.specs.Datagrams.{Errand, errand_of, errand_by_packet}
 use Rattle.slirp_core.specs.Packets.{errand_in, errand_of_ether, errand_of_ip, owed_for, owed_for_ether, owed_for_frame, owed_for_ip, with_address, with_arp, with_ether, with_frame, with_ip}
 
@@ -58,13 +58,11 @@ udp_sends config mac ip (Some udp) = by (may_come config ip udp)
     by false = refl
 
 -- a message to us, or to another
-message_owes : (config : Config) (mac : List ℕ) (ip : Ip) (o : Option Icmp) (ours fits : Bool) → is_ours config ip.to ≡ ours → fits_frame config (length ip.body) ≡ fits
-    → owes config (option_map (Message mac ip) o) ≡ (if ours && fits then owed_for (owed_for_icmp mac ip) o else [])
-message_owes config mac ip None true true o f = refl
-message_owes config mac ip None true false o f = refl
-message_owes config mac ip None false fits o f = refl
-message_owes config mac ip (Some m) ours fits o f =
-    ap (λ (b : Bool). if b && fits_frame config (length ip.body) then owed_for_icmp mac ip m else []) o ∙ ap (λ (b : Bool). if ours && b then owed_for_icmp mac ip m else []) f
+message_owes : (config : Config) (mac : List ℕ) (ip : Ip) (o : Option Icmp) (ours : Bool) → is_ours config ip.to ≡ ours
+    → owes config (option_map (Message mac ip) o) ≡ (if ours then owed_for (owed_for_icmp mac ip) o else [])
+message_owes config mac ip None true o = refl
+message_owes config mac ip None false o = refl
+message_owes config mac ip (Some m) ours o = ap (λ (b : Bool). if b then owed_for_icmp mac ip m else []) o
 
 message_sends : (config : Config) (mac : List ℕ) (ip : Ip) (o : Option Icmp) → sends config (option_map (Message mac ip) o) ≡ None
 message_sends config mac ip None = refl
@@ -79,14 +77,13 @@ segment_sends config mac ip None = refl
 segment_sends config mac ip (Some tcp) = refl
 
 -- the tests on a datagram of IPv4, each by its answer
-record Tests (config : Config) (ip : Ip) (whole udp icmp tcp guest ours fits : Bool) : Type 0 where
+record Tests (config : Config) (ip : Ip) (whole udp icmp tcp guest ours : Bool) : Type 0 where
   is_whole : is_unbroken ip ≡ whole
   is_udp : (ip.proto == udp_proto) ≡ udp
   is_icmp : (ip.proto == icmp_proto) ≡ icmp
   is_tcp : (ip.proto == tcp_proto) ≡ tcp
   is_of_guest : is_guest config ip.from ≡ guest
   is_to_us : is_ours config ip.to ≡ ours
-  is_short : fits_frame config (length ip.body) ≡ fits
 
 one_proto : (proto : ℕ) → (proto == 17) ≡ true → (proto == 1) ≡ true → ⊥
 one_proto proto a b = let first : proto ≡ 17 = grind (arith, nat_tests, a) in let second : proto ≡ 1 = grind (arith, nat_tests, b) in omega (arith, first, second)
@@ -105,36 +102,35 @@ packet_by config mac ip whole udp icmp tcp guest =
 abbrev udp_by : Config → List ℕ → Ip → (udp whole : Bool) → Option Datagram
 udp_by config mac ip udp whole = if udp && whole then option_and_then (comes config mac ip) (read_udp ip.from ip.to ip.body) else None
 
-abbrev owed_by : Config → List ℕ → Ip → (guest ours icmp whole fits udp : Bool) → List Answer
-owed_by config mac ip guest ours icmp whole fits udp =
-    if guest && ours && icmp && whole && fits then owed_for (owed_for_icmp mac ip) (read_icmp ip.body) else owed_for (owed_for_datagram config) (udp_by config mac ip udp whole)
+abbrev owed_by : Config → List ℕ → Ip → (guest ours icmp whole udp : Bool) → List Answer
+owed_by config mac ip guest ours icmp whole udp =
+    if guest && ours && icmp && whole then owed_for (owed_for_icmp mac ip) (read_icmp ip.body) else owed_for (owed_for_datagram config) (udp_by config mac ip udp whole)
 
-owes_by : (config : Config) (mac : List ℕ) (ip : Ip) (whole udp icmp tcp guest ours fits : Bool) → Tests config ip whole udp icmp tcp guest ours fits
-    → owes config (packet_by config mac ip whole udp icmp tcp guest) ≡ owed_by config mac ip guest ours icmp whole fits udp
-owes_by config mac ip true true true tcp guest ours fits t = absurd (one_proto ip.proto t.is_udp t.is_icmp)
-owes_by config mac ip true true false tcp true true fits t = udp_owes config mac ip (read_udp ip.from ip.to ip.body)
-owes_by config mac ip true true false tcp true false fits t = udp_owes config mac ip (read_udp ip.from ip.to ip.body)
-owes_by config mac ip true true false tcp false ours fits t = udp_owes config mac ip (read_udp ip.from ip.to ip.body)
-owes_by config mac ip true false true tcp true true true t = message_owes config mac ip (read_icmp ip.body) true true t.is_to_us t.is_short
-owes_by config mac ip true false true tcp true true false t = message_owes config mac ip (read_icmp ip.body) true false t.is_to_us t.is_short
-owes_by config mac ip true false true tcp true false fits t = message_owes config mac ip (read_icmp ip.body) false fits t.is_to_us t.is_short
-owes_by config mac ip true false false true true true fits t = segment_owes config mac ip (read_tcp ip.from ip.to ip.body)
-owes_by config mac ip true false false true true false fits t = segment_owes config mac ip (read_tcp ip.from ip.to ip.body)
-owes_by config mac ip true false false false true true fits t = refl
-owes_by config mac ip true false false false true false fits t = refl
-owes_by config mac ip true false icmp tcp false ours fits t = refl
-owes_by config mac ip false true true tcp true true fits t = refl
-owes_by config mac ip false true true tcp true false fits t = refl
-owes_by config mac ip false true true tcp false ours fits t = refl
-owes_by config mac ip false true false tcp true true fits t = refl
-owes_by config mac ip false true false tcp true false fits t = refl
-owes_by config mac ip false true false tcp false ours fits t = refl
-owes_by config mac ip false false true tcp true true fits t = refl
-owes_by config mac ip false false true tcp true false fits t = refl
-owes_by config mac ip false false true tcp false ours fits t = refl
-owes_by config mac ip false false false tcp true true fits t = refl
-owes_by config mac ip false false false tcp true false fits t = refl
-owes_by config mac ip false false false tcp false ours fits t = refl
+owes_by : (config : Config) (mac : List ℕ) (ip : Ip) (whole udp icmp tcp guest ours : Bool) → Tests config ip whole udp icmp tcp guest ours
+    → owes config (packet_by config mac ip whole udp icmp tcp guest) ≡ owed_by config mac ip guest ours icmp whole udp
+owes_by config mac ip true true true tcp guest ours t = absurd (one_proto ip.proto t.is_udp t.is_icmp)
+owes_by config mac ip true true false tcp true true t = udp_owes config mac ip (read_udp ip.from ip.to ip.body)
+owes_by config mac ip true true false tcp true false t = udp_owes config mac ip (read_udp ip.from ip.to ip.body)
+owes_by config mac ip true true false tcp false ours t = udp_owes config mac ip (read_udp ip.from ip.to ip.body)
+owes_by config mac ip true false true tcp true true t = message_owes config mac ip (read_icmp ip.body) true t.is_to_us
+owes_by config mac ip true false true tcp true false t = message_owes config mac ip (read_icmp ip.body) false t.is_to_us
+owes_by config mac ip true false false true true true t = segment_owes config mac ip (read_tcp ip.from ip.to ip.body)
+owes_by config mac ip true false false true true false t = segment_owes config mac ip (read_tcp ip.from ip.to ip.body)
+owes_by config mac ip true false false false true true t = refl
+owes_by config mac ip true false false false true false t = refl
+owes_by config mac ip true false icmp tcp false ours t = refl
+owes_by config mac ip false true true tcp true true t = refl
+owes_by config mac ip false true true tcp true false t = refl
+owes_by config mac ip false true true tcp false ours t = refl
+owes_by config mac ip false true false tcp true true t = refl
+owes_by config mac ip false true false tcp true false t = refl
+owes_by config mac ip false true false tcp false ours t = refl
+owes_by config mac ip false false true tcp true true t = refl
+owes_by config mac ip false false true tcp true false t = refl
+owes_by config mac ip false false true tcp false ours t = refl
+owes_by config mac ip false false false tcp true true t = refl
+owes_by config mac ip false false false tcp true false t = refl
+owes_by config mac ip false false false tcp false ours t = refl
 
 sends_by : (config : Config) (mac : List ℕ) (ip : Ip) (whole udp icmp tcp guest : Bool)
     → sends config (packet_by config mac ip whole udp icmp tcp guest) ≡ option_and_then (errand_of config) (udp_by config mac ip udp whole)
@@ -149,8 +145,8 @@ sends_by config mac ip false false icmp tcp guest = refl
 ip_owes : (config : Config) (mac : List ℕ) (o : Option Ip) → owes config (option_and_then (whole_packet config mac) o) ≡ owed_for (owed_for_ip config mac) o
 ip_owes config mac None = refl
 ip_owes config mac (Some ip) =
-    owes_by config mac ip (is_unbroken ip) (ip.proto == udp_proto) (ip.proto == icmp_proto) (ip.proto == tcp_proto) (is_guest config ip.from) (is_ours config ip.to) (fits_frame config (length ip.body))
-    (record { is_whole = refl; is_udp = refl; is_icmp = refl; is_tcp = refl; is_of_guest = refl; is_to_us = refl; is_short = refl })
+    owes_by config mac ip (is_unbroken ip) (ip.proto == udp_proto) (ip.proto == icmp_proto) (ip.proto == tcp_proto) (is_guest config ip.from) (is_ours config ip.to)
+    (record { is_whole = refl; is_udp = refl; is_icmp = refl; is_tcp = refl; is_of_guest = refl; is_to_us = refl })
 
 ip_sends : (config : Config) (mac : List ℕ) (o : Option Ip) → sends config (option_and_then (whole_packet config mac) o) ≡ option_and_then (errand_of_ip config mac) o
 ip_sends config mac None = refl

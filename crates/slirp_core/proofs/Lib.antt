@@ -5,6 +5,7 @@ pub mod Counted
 pub mod Datagramming
 pub mod Filling
 pub mod Guests
+pub mod NextFrames
 pub mod Parts
 pub mod Pumping
 pub mod Relaying

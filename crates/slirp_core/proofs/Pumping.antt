@@ -16,7 +16,7 @@ use Rattle.stream_netdev.specs.Offers.{offered}
 use Rattle.stream_netdev.specs.State.{LinkState}
 use Rattle.stream_netdev.specs.declared.Offered.{Offered}
 use Rattle.stream_netdev.specs.declared.Offered.TheVariants.{Taken, Blocked as OfferBlocked, Failed as OfferFailed}
-use Rattle.slirp_core.specs.Holds.{Standing, Holds, InTurn, OfSockets, Turns, AfterPump, Leaves, LeavesRest}
+use Rattle.slirp_core.specs.Holds.{Standing, Holds, InTurn, OfSockets, Turns, AfterPump, LeavesBehind, LeavesRest}
 use Rattle.slirp_core.specs.Outgoing.{sent_after}
 use Rattle.slirp_core.specs.Pumps.{pumped_of, keep}
 use Rattle.slirp_core.specs.Sockets.{AreThoseOf}
@@ -128,19 +128,19 @@ spelt : (frame : List ℕ) → drop 4 (spelling frame) ≡ frame
 unfolding spelling
 spelt frame = refl
 
-is_the_first : (frame : List ℕ) → is_first (drop 4 (spelling frame)) (frame ∷ []) ≡ true
-is_the_first frame = ap (λ f. bytes_eq f frame) (spelt frame) ∙ same_octets frame
+is_the_first : (frame : List ℕ) (rest : List (List ℕ)) → is_first (drop 4 (spelling frame)) (frame ∷ rest) ≡ true
+is_the_first frame rest = ap (λ f. bytes_eq f frame) (spelt frame) ∙ same_octets frame
 
 counts_on : (more out : ℕ) → (more + out) % 2 ^ 16 ≡ (more + out % 2 ^ 16) % 2 ^ 16
 counts_on more out = omega arith
 
--- a write of the frame that is owed
-pub after_offer : (config : Config) (at : Standing) (slirp new_slirp : SlirpState) (old new : LinkState) (made past : List Entry) (frame : List ℕ) (result : Offered) (pumped : Pumped)
-    → old.tail ≡ [] → slirp.pending ≡ frame ∷ [] → Writes result (spelling frame) made
+-- a write of the frame that is next
+pub after_offer : (config : Config) (at : Standing) (slirp new_slirp : SlirpState) (old new : LinkState) (made past : List Entry) (frame : List ℕ) (rest : List (List ℕ)) (result : Offered) (pumped : Pumped)
+    → old.tail ≡ [] → slirp.pending ≡ frame ∷ rest → Writes result (spelling frame) made
     → ((past : List Entry) → Keeps old past → Keeps new (made ++ past)) → pumped ≡ pumped_of result new.blocked
     → new_slirp ≡ record slirp { pending = keep result slirp.pending; sent = sent_after result slirp.pending slirp.sent }
     → Holds config at slirp old past → AfterPump pumped config at new_slirp new (made ++ past)
-after_offer config at slirp new_slirp old new made past frame result pumped none is_pending (answer, is, was) keeps comes changed holds =
+after_offer config at slirp new_slirp old new made past frame rest result pumped none is_pending (answer, is, was) keeps comes changed holds =
     let kept = ap (λ (s : SlirpState). s.pending) changed in
     let counted = ap (λ (s : SlirpState). s.sent) changed in
     let same = changed ∙ ap (λ p. record slirp { pending = p; sent = sent_after result slirp.pending slirp.sent }) (sym kept) ∙ ap (λ n. record slirp { pending = new_slirp.pending; sent = n }) (sym counted) in
@@ -149,31 +149,31 @@ after_offer config at slirp new_slirp old new made past frame result pumped none
     let tail_is : tail past ≡ [] = holds.keeps.rest ∙ none in
     let only = holds.answers.pending ∙ is_pending in
     let first : is_first (drop 4 (spelling frame)) (left config past) ≡ true =
-    ap (is_first (drop 4 (spelling frame))) only ∙ is_the_first frame in
-    let new_pending : new_slirp.pending ≡ keep (offered answer) (frame ∷ []) = kept ∙ ap (λ r. keep r slirp.pending) was ∙ ap (keep (offered answer)) is_pending in
-    let new_sent : new_slirp.sent ≡ sent_after (offered answer) (frame ∷ []) (identification past) =
-    counted ∙ ap (λ r. sent_after r slirp.pending slirp.sent) was ∙ ap (λ p. sent_after (offered answer) p slirp.sent) is_pending ∙ ap (sent_after (offered answer) (frame ∷ [])) (sym holds.answers.sent) in
+    ap (is_first (drop 4 (spelling frame))) only ∙ is_the_first frame rest in
+    let new_pending : new_slirp.pending ≡ keep (offered answer) (frame ∷ rest) = kept ∙ ap (λ r. keep r slirp.pending) was ∙ ap (keep (offered answer)) is_pending in
+    let new_sent : new_slirp.sent ≡ sent_after (offered answer) (frame ∷ rest) (identification past) =
+    counted ∙ ap (λ r. sent_after r slirp.pending slirp.sent) was ∙ ap (λ p. sent_after (offered answer) p slirp.sent) is_pending ∙ ap (sent_after (offered answer) (frame ∷ rest)) (sym holds.answers.sent) in
     subst Goal (sym is)
     (subst (λ p. AfterPump p config at new_slirp new (LinkWrite (spelling frame) answer ∷ past)) (sym (comes ∙ ap (λ r. pumped_of r new.blocked) was))
     (after_write config at slirp new_slirp old new past (spelling frame) answer new.blocked holds (in_turn holds.stands (λ u. cc (sym is_pending ∙ u.nothing))) k
     (ap (λ t. may_begin config past t (spelling frame)) tail_is ∙ or_first (is_first (drop 4 (spelling frame)) (left config past)) (is_out (left config past) && is_beside config past (drop 4 (spelling frame))) first)
     (remains answer only first tail_is new_pending new_sent) same))
   where
-    sent_by : (a : Io) → with_datagrams (opens (LinkWrite (spelling frame) a) []) (datagrams_out past) % 2 ^ 16 ≡ sent_after (offered a) (frame ∷ []) (identification past)
+    sent_by : (a : Io) → with_datagrams (opens (LinkWrite (spelling frame) a) []) (datagrams_out past) % 2 ^ 16 ≡ sent_after (offered a) (frame ∷ rest) (identification past)
     sent_by (Done n) = ap (λ f. (datagrams_in f + datagrams_out past) % 2 ^ 16) (spelt frame) ∙ counts_on (datagrams_in frame) (datagrams_out past)
     sent_by End = refl
     sent_by NotYet = refl
     sent_by Failed = refl
 
-    left_by : (a : Io) (before : List (List ℕ)) → before ≡ frame ∷ [] → is_first (drop 4 (spelling frame)) before ≡ true
-        → taken (opens (LinkWrite (spelling frame) a) []) before ≡ keep (offered a) (frame ∷ [])
+    left_by : (a : Io) (before : List (List ℕ)) → before ≡ frame ∷ rest → is_first (drop 4 (spelling frame)) before ≡ true
+        → taken (opens (LinkWrite (spelling frame) a) []) before ≡ keep (offered a) (frame ∷ rest)
     left_by (Done n) before only first = ap (λ b. cond b (drop 1 before) before) first ∙ ap (drop 1) only
     left_by End before only first = only
     left_by NotYet before only first = only
     left_by Failed before only first = only
 
-    remains : (a : Io) → left config past ≡ frame ∷ [] → is_first (drop 4 (spelling frame)) (left config past) ≡ true → tail past ≡ []
-        → new_slirp.pending ≡ keep (offered a) (frame ∷ []) → new_slirp.sent ≡ sent_after (offered a) (frame ∷ []) (identification past) → Left config past (spelling frame) a new_slirp
+    remains : (a : Io) → left config past ≡ frame ∷ rest → is_first (drop 4 (spelling frame)) (left config past) ≡ true → tail past ≡ []
+        → new_slirp.pending ≡ keep (offered a) (frame ∷ rest) → new_slirp.sent ≡ sent_after (offered a) (frame ∷ rest) (identification past) → Left config past (spelling frame) a new_slirp
     remains a only first tail_is new_pending new_sent = record {
       sent = ap (λ t. with_datagrams (opens (LinkWrite (spelling frame) a) t) (datagrams_out past) % 2 ^ 16) tail_is ∙ sent_by a ∙ sym new_sent;
       pending = ap (λ t. taken (opens (LinkWrite (spelling frame) a) t) (left config past)) tail_is ∙ left_by a (left config past) only first ∙ sym new_pending;
@@ -184,7 +184,7 @@ leaves_rest new Taken settles = elim new.blocked as (λ b. (b ≡ false → new.
 leaves_rest new OfferBlocked settles = elim new.blocked as (λ b. b ≡ true → new.blocked ≡ b → LeavesRest (pumped_of OfferBlocked b) new) [ true ↦ λ s is. is | false ↦ λ s is. cc ] settles refl
 leaves_rest new OfferFailed settles = tt
 
-pub leaves : (slirp new_slirp : SlirpState) (new : LinkState) (result : Offered) → Settles result new → new_slirp.pending ≡ keep result slirp.pending → Leaves (pumped_of result new.blocked) new_slirp new
-leaves slirp new_slirp new Taken settles kept = elim new.blocked as (λ b. (b ≡ false → new.tail ≡ []) → new.blocked ≡ b → Leaves (pumped_of Taken b) new_slirp new) [ true ↦ λ s is. is | false ↦ λ s is. (is, s refl, kept) ] settles refl
-leaves slirp new_slirp new OfferBlocked settles kept = elim new.blocked as (λ b. b ≡ true → new.blocked ≡ b → Leaves (pumped_of OfferBlocked b) new_slirp new) [ true ↦ λ s is. is | false ↦ λ s is. cc ] settles refl
-leaves slirp new_slirp new OfferFailed settles kept = tt
+pub leaves_behind : (slirp new_slirp : SlirpState) (new : LinkState) (result : Offered) → Settles result new → new_slirp.pending ≡ keep result slirp.pending → LeavesBehind (pumped_of result new.blocked) slirp new_slirp new
+leaves_behind slirp new_slirp new Taken settles kept = elim new.blocked as (λ b. (b ≡ false → new.tail ≡ []) → new.blocked ≡ b → LeavesBehind (pumped_of Taken b) slirp new_slirp new) [ true ↦ λ s is. is | false ↦ λ s is. (is, s refl, kept) ] settles refl
+leaves_behind slirp new_slirp new OfferBlocked settles kept = elim new.blocked as (λ b. b ≡ true → new.blocked ≡ b → LeavesBehind (pumped_of OfferBlocked b) slirp new_slirp new) [ true ↦ λ s is. is | false ↦ λ s is. cc ] settles refl
+leaves_behind slirp new_slirp new OfferFailed settles kept = tt

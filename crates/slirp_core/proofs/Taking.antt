@@ -1,19 +1,22 @@
 -- What a frame asks for, by the kind of what it carries.
-use Rattle.std.proofs.Common.{◌≡◌, ℕ, ◌+◌, ◌==◌, ◌&&◌, ◌||◌, not, Bool, true, false, List, [], ◌∷◌, length, Option, Some, None, if◌then◌else◌, refl, sym, ◌∙◌, ap, arith}
+use Rattle.std.proofs.Common.{◌≡◌, ℕ, ◌+◌, ◌≤◌, ◌==◌, ◌&&◌, ◌||◌, not, Bool, true, false, List, [], ◌∷◌, length, Option, Some, None, if◌then◌else◌, refl, sym, ◌∙◌, ap, arith, append-nil}
 use Rattle.std.proofs.lemmas.Bool.Decides.{nat_tests}
 use Rattle.std.specs.Option.{option_and_then}
 use Rattle.net_octets.specs.Kinds.{arp_kind, ipv4_kind, icmp_proto, udp_proto}
 use Rattle.net_octets.specs.declared.Endpoint.{Endpoint}
 use Rattle.host_policy.specs.Addresses.{Config, address, is_ours, is_guest}
 use Rattle.host_policy.specs.Targets.{shown, is_hidden}
-use Rattle.ether_frame.specs.Ether.{Ether, read_ether, ether_octets}
+use Rattle.ether_frame.specs.Ether.{Ether, read_ether}
 use Rattle.arp_table.specs.Arp.{read_arp}
-use Rattle.ipv4_head.specs.Ip.{Ip, read_ip, ip_octets, is_unbroken}
-use Rattle.icmp_echo.specs.Icmp.{read_icmp, unreachable_octets}
-use Rattle.udp_assoc.specs.Udp.{udp_octets}
+use Rattle.ipv4_head.specs.Ip.{Ip, read_ip, is_unbroken}
+use Rattle.icmp_echo.specs.Icmp.{Icmp, IsIcmp, echo_octets, icmp_octets, icmp_of, read_icmp, unreachable_octets}
+use Rattle.icmp_echo.specs.declared.IcmpView.{IcmpView}
+use Rattle.icmp_echo.specs.declared.IcmpView.TheVariants.{Echo, Unreachable, Other}
+use Rattle.udp_assoc.specs.Udp.{Udp, summed, udp_octets, udp_with, written_sum}
+use Rattle.udp_assoc.proofs.Spelling.{length-udp}
 use Rattle.udp_assoc.specs.declared.assocs.Association.{Association}
-use Rattle.slirp_laws.specs.Answers.{Answer, IpAnswer, our_mac, fits_frame, is_untold, told_about, reply_at, frames_of, owed_for_arp, owed_for_icmp, owed_for_datagram}
-use Rattle.slirp_core.specs.Packets.{is_message_to_us, owed_for, owed_for_ip, owed_for_ether, owed_for_frame}
+use Rattle.slirp_laws.specs.Answers.{Answer, IpAnswer, our_mac, datagram_frames, fits_datagram, is_untold, told_about, reply_at, frames_of, owed_for_arp, owed_for_icmp, owed_for_datagram}
+use Rattle.slirp_core.specs.Packets.{is_message_to_us, owed_for, owed_for_ip, owed_for_ether, owed_for_frame, reply_to}
 use Rattle.run_laws.specs.Packets.{Datagram}
 use Rattle.slirp_core.specs.Packets.{udp_of, errand_of_ip, errand_of_ether, errand_in}
 use Rattle.slirp_laws.specs.Datagrams.{Errand, errand_of}
@@ -48,12 +51,12 @@ module _ (s : SlirpState) (frame : List ℕ) (ether : Ether) (read : read_ether 
       ap (option_and_then (errand_of_ether s.config)) read
       ∙ ap (λ (k : ℕ). if k == ipv4_kind then option_and_then (errand_of_ip s.config ether.from) (read_ip ether.body) else None) kind)
 
-message_proto : (a b : Bool) (proto : ℕ) (c d : Bool) → (a && b && (proto == 1) && c && d) ≡ true → proto ≡ 1
-message_proto a b proto c d is = grind (arith, nat_tests)
+message_proto : (a b : Bool) (proto : ℕ) (c : Bool) → (a && b && (proto == 1) && c) ≡ true → proto ≡ 1
+message_proto a b proto c is = grind (arith, nat_tests)
 
 pub no_udp : (config : Config) (ip : Ip) → is_message_to_us config ip ≡ true → ip.proto ≡ 17 → ⊥
 no_udp config ip asked udp =
-    let one : ip.proto ≡ 1 = message_proto (is_guest config ip.from) (is_ours config ip.to) ip.proto (is_unbroken ip) (fits_frame config (length ip.body)) asked in
+    let one : ip.proto ≡ 1 = message_proto (is_guest config ip.from) (is_ours config ip.to) ip.proto (is_unbroken ip) asked in
     omega arith
 
 -- what a packet asks for
@@ -76,34 +79,58 @@ module _ (s : SlirpState) (mac octets : List ℕ) (ip : Ip) (read : read_ip octe
   pub no_errand : is_message_to_us s.config ip ≡ true → ◌≡◌ {A = Option Errand} None (option_and_then (errand_of_ip s.config mac) (read_ip octets))
   no_errand asked = ap (option_and_then (errand_of s.config)) (none_of_others s.config mac ip (no_udp s.config ip asked)) ∙ sym (ap (option_and_then (errand_of_ip s.config mac)) read)
 
+-- the frames of an answer that a datagram can carry
+pub frames_whole : (config : Config) (ident : ℕ) (to : List ℕ) (proto from guest : ℕ) (body : List ℕ) → length body ≤ 65515
+    → datagram_frames config.mtu to (our_mac config.vhost) ident proto from guest body ≡ frames_of config ident (IpAnswer to proto from guest body ∷ [])
+frames_whole config ident to proto from guest body short =
+    let fits : fits_datagram body ≡ true = grind (arith, nat_tests) in
+    sym (append-nil (if fits_datagram body then datagram_frames config.mtu to (our_mac config.vhost) ident proto from guest body else [])
+    ∙ ap (λ (b : Bool). if b then datagram_frames config.mtu to (our_mac config.vhost) ident proto from guest body else []) fits)
+
+-- an echo request is answered
+pub echoed : (config : Config) (ident : ℕ) (mac : List ℕ) (ip : Ip) (message reply : IcmpView) → Some reply ≡ reply_to message → IsIcmp ip.body (icmp_of message) → length ip.body ≤ 65515 → read_icmp ip.body ≡ Some (icmp_of message)
+    → datagram_frames config.mtu mac (our_mac config.vhost) ident icmp_proto ip.to ip.from (icmp_octets (icmp_of reply)) ≡ frames_of config ident (owed_for (owed_for_icmp mac ip) (read_icmp ip.body))
+echoed config ident mac ip (Echo true number count body) reply is g short read = absurd cc
+echoed config ident mac ip (Echo false number count body) reply is g short read =
+    let this : reply ≡ Echo true number count body = cc in
+    let octets = echo_octets true number count body.now in
+    let long : length octets ≡ 8 + length body.now = omega arith in
+    let came : length ip.body ≡ 8 + length body.now = ap length g.is ∙ omega arith in
+    ap (λ (r : IcmpView). datagram_frames config.mtu mac (our_mac config.vhost) ident icmp_proto ip.to ip.from (icmp_octets (icmp_of r))) this
+    ∙ frames_whole config ident mac icmp_proto ip.to ip.from octets (omega (arith, long, came))
+    ∙ sym (ap (λ (o : Option Icmp). frames_of config ident (owed_for (owed_for_icmp mac ip) o)) read)
+echoed config ident mac ip (Unreachable code quoted) reply is g short read = absurd cc
+echoed config ident mac ip (Other kind code) reply is g short read = absurd cc
+
 -- a guest that may be told is told
-pub told : (config : Config) (ident code : ℕ) (d : Datagram) → is_untold config d ≡ false
-    → ether_octets d.mac (our_mac config.vhost) ipv4_kind (ip_octets ident 0 icmp_proto config.vhost (address d.from) (unreachable_octets code d.quote)) ∷ [] ≡ frames_of config ident (told_about config code d)
-told config ident code d may =
-    sym (ap (λ (b : Bool). frames_of config ident (if b then [] else IpAnswer d.mac icmp_proto config.vhost (address d.from) (unreachable_octets code d.quote) ∷ [])) may)
+pub told : (config : Config) (ident code : ℕ) (d : Datagram) → is_untold config d ≡ false → length d.quote ≤ 68
+    → datagram_frames config.mtu d.mac (our_mac config.vhost) ident icmp_proto config.vhost (address d.from) (unreachable_octets code d.quote) ≡ frames_of config ident (told_about config code d)
+told config ident code d may few =
+    let long : length (unreachable_octets code d.quote) ≡ 8 + length d.quote = omega arith in
+    frames_whole config ident d.mac icmp_proto config.vhost (address d.from) (unreachable_octets code d.quote) (omega (arith, long))
+    ∙ sym (ap (λ (b : Bool). frames_of config ident (if b then [] else IpAnswer d.mac icmp_proto config.vhost (address d.from) (unreachable_octets code d.quote) ∷ [])) may)
 
 pub both_false : (a b c : Bool) → a ≡ false → (b || c) ≡ false → ((a || b) || c) ≡ false
 both_false a b c p q = ap (λ (x : Bool). (x || b) || c) p ∙ q
 
--- a peer that is shown, and whose payload fits a frame, is heard
+-- a peer that is shown is heard
 shown_parts : (b : Bool) (from peer : Endpoint) → Some from ≡ (if b then None else Some peer) → (b ≡ false) × (from ≡ peer)
 shown_parts true from peer is = absurd cc
 shown_parts false from peer is = (refl, cc)
 
-seen_whole : (b fitting : Bool) → b ≡ false → fitting ≡ true → (b || not fitting) ≡ false
-seen_whole true fitting is whole = cc
-seen_whole false true is whole = refl
-seen_whole false false is whole = cc
+abbrev pub reply_datagram : Endpoint → List ℕ → Association → List ℕ
+reply_datagram from octets a = udp_octets (address from) (address a.guest) (record { from_port = from.port; to_port = a.guest.port; body = octets })
 
 abbrev reply_packet : Endpoint → List ℕ → Association → Answer
-reply_packet from octets a =
-    IpAnswer a.mac.0 udp_proto (address from) (address a.guest) (udp_octets (address from) (address a.guest) (record { from_port = from.port; to_port = a.guest.port; body = octets }))
+reply_packet from octets a = IpAnswer a.mac.0 udp_proto (address from) (address a.guest) (reply_datagram from octets a)
 
 pub answered : (config : Config) (ident : ℕ) (peer from : Endpoint) (octets : List ℕ) (a : Association)
-    → Some from ≡ (if is_hidden config peer then None else Some (shown config peer)) → fits_frame config (8 + length octets) ≡ true
-    → ether_octets a.mac.0 (our_mac config.vhost) ipv4_kind (ip_octets ident 0 udp_proto (address from) (address a.guest) (udp_octets (address from) (address a.guest) (record { from_port = from.port; to_port = a.guest.port; body = octets }))) ∷ []
-    ≡ frames_of config ident (reply_at config peer octets a.guest a.mac.0)
-answered config ident peer from octets a is whole =
+    → Some from ≡ (if is_hidden config peer then None else Some (shown config peer)) → length octets ≤ 65507
+    → datagram_frames config.mtu a.mac.0 (our_mac config.vhost) ident udp_proto (address from) (address a.guest) (reply_datagram from octets a) ≡ frames_of config ident (reply_at config peer octets a.guest a.mac.0)
+answered config ident peer from octets a is short =
     let p = shown_parts (is_hidden config peer) from (shown config peer) is in
-    ap (λ (e : Endpoint). frames_of config ident (reply_packet e octets a ∷ [])) p.1
-    ∙ sym (ap (λ (b : Bool). frames_of config ident (if b then [] else reply_packet (shown config peer) octets a ∷ [])) (seen_whole (is_hidden config peer) (fits_frame config (8 + length octets)) p.0 whole))
+    let udp : Udp = record { from_port = from.port; to_port = a.guest.port; body = octets } in
+    let long : length (reply_datagram from octets a) ≡ 8 + length octets = length-udp (written_sum (summed (address from) (address a.guest) (udp_with 0 udp))) udp in
+    frames_whole config ident a.mac.0 udp_proto (address from) (address a.guest) (reply_datagram from octets a) (omega (arith, long))
+    ∙ ap (λ (e : Endpoint). frames_of config ident (reply_packet e octets a ∷ [])) p.1
+    ∙ sym (ap (λ (b : Bool). frames_of config ident (if b then [] else reply_packet (shown config peer) octets a ∷ [])) p.0)

@@ -1,5 +1,5 @@
 -- What the core keeps of the calls made on the World.
-use Rattle.std.specs.Prelude.{◌≡◌, ℕ, ◌<◌, Bool, true, false, List, [], ◌++◌, Some, None}
+use Rattle.std.specs.Prelude.{◌≡◌, ℕ, ◌<◌, Bool, true, false, List, [], ◌++◌, drop, Some, None}
 use Rattle.poll_list.specs.declared.Want.{Want}
 use Rattle.world_face.specs.Journal.{Entry}
 use Rattle.world_face.specs.Frames.{Ending, LinkFailed}
@@ -120,6 +120,12 @@ abbrev pub Leaves : Pumped → SlirpState → LinkState → Type 0
 Leaves Clear slirp link = (link.blocked ≡ false) × (link.tail ≡ []) × (slirp.pending ≡ [])
 Leaves Blocked slirp link = link.blocked ≡ true
 Leaves Failed slirp link = Unit {0}
+
+-- after an offer of the first pending frame the others stay, where nothing of it is left
+abbrev pub LeavesBehind : Pumped → SlirpState → SlirpState → LinkState → Type 0
+LeavesBehind Clear old new link = (link.blocked ≡ false) × (link.tail ≡ []) × (new.pending ≡ drop 1 old.pending)
+LeavesBehind Blocked old new link = link.blocked ≡ true
+LeavesBehind Failed old new link = Unit {0}
 
 -- the same of the rest of a frame alone
 abbrev pub LeavesRest : Pumped → LinkState → Type 0

@@ -1,5 +1,5 @@
 -- What the core makes of a frame as it takes it apart, and the packet that is owed.
-use Rattle.std.specs.Prelude.{ℕ, ◌==◌, ◌&&◌, Bool, true, false, List, [], ◌∷◌, length, Option, Some, None, option_and_then, if◌then◌else◌}
+use Rattle.std.specs.Prelude.{ℕ, ◌==◌, ◌&&◌, Bool, true, false, List, [], ◌∷◌, Option, Some, None, option_and_then, if◌then◌else◌}
 use Rattle.net_octets.specs.Kinds.{arp_kind, ipv4_kind, icmp_proto, udp_proto}
 use Rattle.net_octets.specs.declared.Ip4.{Ip4}
 use Rattle.net_octets.specs.declared.Mac.{Mac}
@@ -15,7 +15,7 @@ use Rattle.arp_table.specs.declared.ArpView.{ArpView}
 use Rattle.arp_table.specs.Arp.{Arp, arp_of, read_arp}
 use Rattle.icmp_echo.specs.declared.IcmpView.{IcmpView}
 use Rattle.icmp_echo.specs.declared.IcmpView.TheVariants.{Echo, Unreachable, Other}
-use Rattle.slirp_laws.specs.Answers.{Answer, ArpAnswer, fits_frame, owed_for_arp, owed_for_icmp, owed_for_datagram}
+use Rattle.slirp_laws.specs.Answers.{Answer, ArpAnswer, owed_for_arp, owed_for_icmp, owed_for_datagram}
 
 abbrev pub packet_of : ArpView → Answer
 packet_of view = ArpAnswer view.target_mac.0 (arp_of view)
@@ -35,9 +35,9 @@ abbrev pub owed_for : {A : Type 0} → (A → List Answer) → Option A → List
 owed_for owes None = []
 owed_for owes (Some a) = owes a
 
--- a guest's whole datagram with a message to one of ours, whose answer fits a frame
+-- a guest's whole datagram with a message to one of ours
 abbrev pub is_message_to_us : Config → Ip → Bool
-is_message_to_us config ip = is_guest config ip.from && is_ours config ip.to && (ip.proto == icmp_proto) && is_unbroken ip && fits_frame config (length ip.body)
+is_message_to_us config ip = is_guest config ip.from && is_ours config ip.to && (ip.proto == icmp_proto) && is_unbroken ip
 
 -- the datagram of UDP that a whole one of IPv4 holds
 abbrev pub udp_of : Config → List ℕ → Ip → Option Datagram

@@ -1,5 +1,5 @@
 -- The answers of pumps, and what is waited for.
-use Rattle.std.specs.Prelude.{◌≡◌, ℕ, ◌-◌, ◌&&◌, ◌||◌, not, ◌==◌, nat_lt, List, [], ◌∷◌, ◌++◌, Bool, true, false, map, length, IsPermutation, Option, Some, None, if◌then◌else◌}
+use Rattle.std.specs.Prelude.{◌≡◌, ℕ, ◌-◌, ◌&&◌, ◌||◌, not, ◌==◌, nat_lt, List, [], ◌∷◌, ◌++◌, Bool, true, false, drop, map, length, IsPermutation, Option, Some, None, if◌then◌else◌}
 use Rattle.std.specs.List.Sorted.{IsNonDecreasing}
 use Rattle.poll_list.specs.declared.Want.{Want}
 use Rattle.poll_list.specs.declared.Who.TheVariants.{Link, Udp}
@@ -20,7 +20,7 @@ pumped_of OfferFailed blocked = Failed
 
 -- the frames that are left after an offer of the first one
 abbrev pub keep : Offered → List (List ℕ) → List (List ℕ)
-keep Taken pending = []
+keep Taken pending = drop 1 pending
 keep OfferBlocked pending = pending
 keep OfferFailed pending = pending
 

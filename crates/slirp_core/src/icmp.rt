@@ -1,5 +1,5 @@
 // Echo requests and their replies, and what tells a guest that its datagram goes nowhere (RFC 792).
-ghost use Rattle.std.specs.Prelude.{[], ◌≡◌, ◌≤◌, length, true};
+ghost use Rattle.std.specs.Prelude.{[], ◌≡◌, ◌≤◌, length};
 ghost use Rattle.ipv4_head.specs.Ip.{ip_of};
 ghost use Rattle.slirp_core.specs.Packets.{is_message_to_us};
 ghost use Rattle.slirp_core.specs.Packets.{reply_to};
@@ -7,7 +7,6 @@ ghost use Rattle.slirp_core.specs.Packets.{reply_to};
 use crate::datagrams::DatagramView;
 use crate::network::Slirp;
 use crate::outgoing::ICMP;
-use crate::sending::fits_frame;
 use host_policy::Policy;
 use icmp_echo::IcmpView;
 use ipv4_head::IpView;
@@ -28,7 +27,7 @@ impl Slirp {
     // Takes in a datagram with a message to one of ours.
     pub(crate) fn take_icmp(&mut self, mac: Mac, datagram: &IpView<'_>)
         requires none { self.old.pending ≡ [] }
-        requires size { length datagram.now.body.now ≤ 1480 }
+        requires size { length datagram.now.body.now ≤ 65515 }
         ensures { self.new ≡ record self.old {
           pending = frames_of self.old.config self.old.sent
               (owed_for (owed_for_icmp mac.0 (ip_of datagram.now)) (read_icmp datagram.now.body.now));
@@ -81,15 +80,13 @@ fn echo_reply<'a>(message: &IcmpView<'a>) -> Option<IcmpView<'a>>
     }
 }
 
-// Whether a datagram is a guest's, to one of ours, whole, with a message whose answer fits a frame.
+// Whether a datagram is a guest's, to one of ours, whole, with a message.
 pub(crate) fn is_message_to_us(policy: &Policy, datagram: &IpView<'_>) -> bool
-    ensures asked { result ≡ is_message_to_us policy.now (ip_of datagram.now) }
-    ensures size { result ≡ true → length datagram.now.body.now ≤ 1480 }
+    ensures { result ≡ is_message_to_us policy.now (ip_of datagram.now) }
 {
     policy.is_guest(datagram.from)
         && policy.is_ours(datagram.to)
         && datagram.proto == ICMP
         && !datagram.more
         && datagram.offset == 0
-        && fits_frame(policy, datagram.body.len())
 }

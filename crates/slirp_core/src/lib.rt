@@ -2,6 +2,7 @@
 #![tactic(auto)]
 
 mod arp;
+mod cutting;
 mod datagrams;
 mod icmp;
 mod network;

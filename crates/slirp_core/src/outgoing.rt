@@ -1,19 +1,17 @@
-// The frame that is owed to a guest and isn't out yet.
-ghost use Rattle.std.specs.Prelude.{◌≡◌, ℕ, ◌+◌, ◌≤◌, ◌<◌, List, [], ◌∷◌, length, take};
-ghost use Rattle.net_octets.specs.Kinds.{ipv4_kind, arp_kind, icmp_proto, udp_proto};
+// The frames that are owed to a guest and aren't out yet.
+ghost use Rattle.std.specs.Prelude.{◌≡◌, ℕ, ◌≤◌, ◌<◌, List, [], ◌∷◌, length, take};
+ghost use Rattle.net_octets.specs.Kinds.{arp_kind, icmp_proto, udp_proto};
 ghost use Rattle.arp_table.specs.Arp.{arp_of, arp_octets};
 ghost use Rattle.ether_frame.specs.Ether.{ether_octets};
-ghost use Rattle.ipv4_head.specs.Ip.{ip_octets};
 ghost use Rattle.icmp_echo.specs.Icmp.{CanWrite, icmp_of, icmp_with, icmp_octets};
 ghost use Rattle.udp_assoc.specs.Udp.{udp_of, udp_octets};
 ghost use Rattle.slirp_laws.specs.Answers.{datagrams_in};
 
-use crate::datagrams::UDP;
+use crate::cutting::Cutting;
 use arp_table::ArpView;
 use byteorder::{BigEndian, ByteOrder};
 use ether_frame::EtherView;
 use icmp_echo::IcmpView;
-use ipv4_head::IpView;
 use net_octets::{Ip4, Mac, NoMemory};
 use std::alloc::Global;
 use std::marker::Model;
@@ -31,15 +29,16 @@ pub const ICMP: u8 = 1;
 /// The octets of the longest frame.
 const LONGEST: usize = 1514;
 
-/// At most one frame. A second buffer is for writing what it carries.
+/// The frame that is next, whole, and the datagram of which the parts behind it aren't cut yet. A second buffer is for writing what a frame carries.
 #[derive(Drop)]
 pub struct Outgoing {
     frame: Vec<u8>,
     packet: Vec<u8>,
+    cutting: Cutting,
     used: usize,
 }
 
-/// Between whom a datagram goes, and which one it is.
+/// Between whom a datagram goes, which one it is, and how many octets of IPv4 a frame carries.
 #[derive(Clone, Copy, Debug, PartialEq, Eq)]
 pub struct Course {
     /// The guest's hardware address.
@@ -49,23 +48,25 @@ pub struct Course {
     pub ident: u16,
     pub from: Ip4,
     pub to: Ip4,
+    pub mtu: u16,
 }
 
 impl Model for Outgoing {
-    ghost use Rattle.std.specs.Prelude.{◌≡◌, ℕ, ◌≤◌, List, length};
+    ghost use Rattle.std.specs.Prelude.{◌≡◌, ℕ, ◌≤◌, ◌++◌, [], List, length};
     ghost use Rattle.slirp_core.specs.Outgoing.{frames_in};
 
     ghost Value = { List (List ℕ) };
 
-    ghost view = { λ o. frames_in o.used o.frame.items };
+    ghost view = { λ o. frames_in o.used o.frame.items ++ o.cutting };
 
-    ghost invariant = { λ o. (o.used ≤ 1514) × (length o.frame.items ≡ 1514) × (length o.packet.items ≡ 1514) };
+    ghost invariant = { λ o. (o.used ≤ 1514) × (length o.frame.items ≡ 1514) × (length o.packet.items ≡ 1514) × (o.used ≡ 0 → o.cutting ≡ []) };
 }
 
 impl Outgoing {
-    ghost use Rattle.std.specs.Prelude.{nat_lt, IfOk};
+    ghost use Rattle.std.specs.Prelude.{nat_lt, drop, IfOk};
+    ghost use Rattle.slirp_laws.specs.Answers.{datagram_frames};
 
-    /// No frame, and the room for one.
+    /// No frame, and the room for those of a datagram.
     pub fn open(alloc: Global) -> Result<Outgoing, NoMemory>
         ensures { IfOk result (λ outgoing. outgoing ≡ []) }
     {
@@ -73,9 +74,11 @@ impl Outgoing {
         else {
             return Err(NoMemory);
         };
+        let cutting = Cutting::open(alloc)?;
         Ok(Outgoing {
             frame,
             packet,
+            cutting,
             used: 0,
         })
     }
@@ -87,46 +90,62 @@ impl Outgoing {
         self.used > 0
     }
 
-    /// The frame.
+    /// The frame that is next.
     pub fn frame(&self) -> &[u8]
         requires { 0 < length self.now }
-        ensures frame { self.now ≡ result.now ∷ [] }
+        ensures frame { self.now ≡ result.now ∷ drop 1 self.now }
         ensures length { length result.now ≤ 1514 }
     {
         &self.frame[..self.used]
+    }
+
+    /// The frame that was next is out: from now on the one behind it is.
+    pub fn advance(&mut self)
+        requires { 0 < length self.old }
+        ensures { self.new ≡ drop 1 self.old }
+    {
+        self.used = self.cutting.write_next(&mut self.frame, &mut self.packet);
     }
 
     /// From now on there is none.
     pub fn clear(&mut self)
         ensures { self.new ≡ [] }
     {
+        self.cutting.clear();
         self.used = 0;
     }
 
-    /// From now on the frame is that of an ARP packet.
+    /// From now on the one frame is that of an ARP packet.
     pub fn put_arp(&mut self, packet: &ArpView)
         ensures { self.new ≡ ether_octets packet.now.target_mac.0 packet.now.sender_mac.0 arp_kind (arp_octets (arp_of packet.now)) ∷ [] }
     {
+        self.cutting.clear();
         self.used = write_arp(packet, &mut self.frame, &mut self.packet);
     }
 
-    /// From now on the frame is that of a datagram with a message, which has at most 1,480 octets.
+    /// From now on the frames are those of a datagram with a message, which has at most 65,515 octets.
     pub fn put_message(&mut self, course: &Course, message: &IcmpView<'_>)
-        requires size { length (icmp_with 0 (icmp_of message.now)) ≤ 1480 }
+        requires least { 28 ≤ course.now.mtu }
+        requires most { course.now.mtu ≤ 1500 }
+        requires size { length (icmp_with 0 (icmp_of message.now)) ≤ 65515 }
         requires kind { CanWrite (icmp_of message.now) }
-        ensures { self.new ≡ ether_octets course.now.to_mac.0 course.now.from_mac.0 ipv4_kind
-            (ip_octets course.now.ident 0 icmp_proto course.now.from.0 course.now.to.0 (icmp_octets (icmp_of message.now))) ∷ [] }
+        ensures { self.new ≡ datagram_frames course.now.mtu course.now.to_mac.0 course.now.from_mac.0 course.now.ident icmp_proto
+            course.now.from.0 course.now.to.0 (icmp_octets (icmp_of message.now)) }
     {
-        self.used = write_message(course, message, &mut self.frame, &mut self.packet);
+        self.cutting.put_message(course, message);
+        self.used = self.cutting.write_next(&mut self.frame, &mut self.packet);
     }
 
-    /// From now on the frame is that of a datagram of UDP, whose payload has at most 1,472 octets.
+    /// From now on the frames are those of a datagram of UDP, whose payload has at most 65,507 octets.
     pub fn put_udp(&mut self, course: &Course, datagram: &UdpView<'_>)
-        requires { length datagram.now.body.now ≤ 1472 }
-        ensures { self.new ≡ ether_octets course.now.to_mac.0 course.now.from_mac.0 ipv4_kind
-            (ip_octets course.now.ident 0 udp_proto course.now.from.0 course.now.to.0 (udp_octets course.now.from.0 course.now.to.0 (udp_of datagram.now))) ∷ [] }
+        requires least { 28 ≤ course.now.mtu }
+        requires most { course.now.mtu ≤ 1500 }
+        requires size { length datagram.now.body.now ≤ 65507 }
+        ensures { self.new ≡ datagram_frames course.now.mtu course.now.to_mac.0 course.now.from_mac.0 course.now.ident udp_proto
+            course.now.from.0 course.now.to.0 (udp_octets course.now.from.0 course.now.to.0 (udp_of datagram.now)) }
     {
-        self.used = write_udp(course, datagram, &mut self.frame, &mut self.packet);
+        self.cutting.put_udp(course, datagram);
+        self.used = self.cutting.write_next(&mut self.frame, &mut self.packet);
     }
 }
 
@@ -145,89 +164,6 @@ fn write_arp(packet: &ArpView, frame: &mut [u8], body: &mut [u8]) -> usize
         from: packet.sender_mac,
         kind: ARP,
         body: &body[..written],
-    };
-    let Ok(length) = ether_frame::encode(&ether, frame) else {
-        unreachable!()
-    };
-    length
-}
-
-// Writes the frame of a datagram with a message, and answers its length.
-fn write_message(
-    course: &Course,
-    message: &IcmpView<'_>,
-    frame: &mut [u8],
-    packet: &mut [u8],
-) -> usize
-    requires room { (length frame.old ≡ 1514) × (length packet.old ≡ 1514) }
-    requires size { length (icmp_with 0 (icmp_of message.now)) ≤ 1480 }
-    requires kind { CanWrite (icmp_of message.now) }
-    ensures frame { take result frame.new ≡ ether_octets course.now.to_mac.0 course.now.from_mac.0 ipv4_kind
-        (ip_octets course.now.ident 0 icmp_proto course.now.from.0 course.now.to.0 (icmp_octets (icmp_of message.now))) }
-    ensures length { (0 < result) × (result ≤ 1514) }
-    ensures room { (length frame.new ≡ 1514) × (length packet.new ≡ 1514) }
-{
-    let Ok(carried) = icmp_echo::encode(message, frame) else {
-        unreachable!()
-    };
-    let datagram = write_datagram(course, ICMP, &frame[..carried], packet);
-    write_frame(course, &packet[..datagram], frame)
-}
-
-// Writes the frame of a datagram of UDP, and answers its length.
-fn write_udp(course: &Course, datagram: &UdpView<'_>, frame: &mut [u8], packet: &mut [u8]) -> usize
-    requires room { (length frame.old ≡ 1514) × (length packet.old ≡ 1514) }
-    requires size { length datagram.now.body.now ≤ 1472 }
-    ensures frame { take result frame.new ≡ ether_octets course.now.to_mac.0 course.now.from_mac.0 ipv4_kind
-        (ip_octets course.now.ident 0 udp_proto course.now.from.0 course.now.to.0 (udp_octets course.now.from.0 course.now.to.0 (udp_of datagram.now))) }
-    ensures length { (0 < result) × (result ≤ 1514) }
-    ensures room { (length frame.new ≡ 1514) × (length packet.new ≡ 1514) }
-{
-    let Ok(carried) = udp_assoc::encode(datagram, course.from, course.to, frame) else {
-        unreachable!()
-    };
-    let datagram = write_datagram(course, UDP, &frame[..carried], packet);
-    write_frame(course, &packet[..datagram], frame)
-}
-
-// Writes a datagram with this protocol, and answers its length.
-fn write_datagram(course: &Course, proto: u8, body: &[u8], packet: &mut [u8]) -> usize
-    requires room { length packet.old ≡ 1514 }
-    requires size { length body.now ≤ 1480 }
-    ensures datagram { take result packet.new ≡ ip_octets course.now.ident 0 proto course.now.from.0 course.now.to.0 body.now }
-    ensures length { result ≡ 20 + length body.now }
-    ensures room { length packet.new ≡ 1514 }
-{
-    let datagram = IpView {
-        ident: course.ident,
-        more: false,
-        offset: 0,
-        ttl: 64,
-        proto,
-        from: course.from,
-        to: course.to,
-        head: &[],
-        body,
-    };
-    let Ok(length) = ipv4_head::encode(&datagram, packet) else {
-        unreachable!()
-    };
-    length
-}
-
-// Writes the frame of a datagram, and answers its length.
-fn write_frame(course: &Course, datagram: &[u8], frame: &mut [u8]) -> usize
-    requires room { length frame.old ≡ 1514 }
-    requires size { length datagram.now ≤ 1500 }
-    ensures frame { take result frame.new ≡ ether_octets course.now.to_mac.0 course.now.from_mac.0 ipv4_kind datagram.now }
-    ensures length { (0 < result) × (result ≤ 1514) }
-    ensures room { length frame.new ≡ 1514 }
-{
-    let ether = EtherView {
-        to: course.to_mac,
-        from: course.from_mac,
-        kind: IPV4,
-        body: datagram,
     };
     let Ok(length) = ether_frame::encode(&ether, frame) else {
         unreachable!()

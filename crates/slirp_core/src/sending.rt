@@ -1,18 +1,14 @@
 // What is owed and isn't out yet, and the pump that sends it.
-ghost use Rattle.std.specs.Prelude.{[], ◌≡◌, ◌<◌, ◌≤◌, length, true};
-ghost use Rattle.slirp_laws.specs.Answers.{fits_frame, our_mac};
+ghost use Rattle.std.specs.Prelude.{[], ◌≡◌, ◌<◌, ◌≤◌, length};
+ghost use Rattle.slirp_laws.specs.Answers.{our_mac};
 ghost use Rattle.slirp_core.specs.Pumps.{pumped_of};
 
 use crate::arp::our_mac;
 use crate::network::Slirp;
 use crate::outgoing::{Course, datagrams_in};
-use host_policy::Policy;
 use net_octets::{Ip4, Mac};
 use stream_netdev::{Link, Offered};
 use world_face::World;
-
-/// The octets of the header of a datagram that goes out (RFC 791, 3.1).
-const IP_HEADER: u16 = 20;
 
 /// What a pump came to.
 #[derive(Clone, Copy, Debug, PartialEq, Eq)]
@@ -33,7 +29,7 @@ impl Slirp {
     ghost use Rattle.stream_netdev.specs.State.{under_way};
     ghost use Rattle.slirp_core.specs.Outgoing.{sent_after};
     ghost use Rattle.slirp_core.specs.Pumps.{keep, is_settled};
-    ghost use Rattle.slirp_core.specs.Holds.{Standing, Holds, AfterPump, Leaves, LeavesRest};
+    ghost use Rattle.slirp_core.specs.Holds.{Standing, Holds, AfterPump, Leaves, LeavesBehind, LeavesRest};
 
     /// Whether nothing is left to be sent.
     pub fn is_settled(&self, link: &Link) -> bool
@@ -49,7 +45,7 @@ impl Slirp {
         self.outgoing.is_some()
     }
 
-    /// Sends what is owed, until the link is blocked: the rest of the frame before, then the pending one.
+    /// Sends what is owed, until the link is blocked: the rest of the frame before, then the pending ones.
     pub fn pump<W: World>(&mut self, world: &mut W, link: &mut Link) -> Pumped
         ensures makes { (config : Config) (at : Standing) → Brings (W.tells world.old) (W.tells world.new)
             (Holds config at self.old link.old) (AfterPump result config at self.new link.new) }
@@ -85,7 +81,7 @@ impl Slirp {
         outcome(offered, link.blocked())
     }
 
-    // Sends the pending frame.
+    // Sends the pending frames, one after another.
     fn pump_pending<W: World>(&mut self, world: &mut W, link: &mut Link) -> Pumped
         requires free { link.old.blocked ≡ false }
         requires none { link.old.tail ≡ [] }
@@ -98,9 +94,28 @@ impl Slirp {
         ensures number { self.new.number ≡ self.old.number }
         ensures others { self.new ≡ record self.old { pending = self.new.pending; sent = self.new.sent } }
     {
-        if !self.pending() {
-            return Pumped::Clear;
+        while self.pending() {
+            match self.pump_next(world, link) {
+                Pumped::Clear => {}
+                Pumped::Blocked => return Pumped::Blocked,
+                Pumped::Failed => return Pumped::Failed,
+            }
         }
+        Pumped::Clear
+    }
+
+    // Sends the pending frame that is next.
+    fn pump_next<W: World>(&mut self, world: &mut W, link: &mut Link) -> Pumped
+        requires free { link.old.blocked ≡ false }
+        requires none { link.old.tail ≡ [] }
+        requires some { 0 < length self.old.pending }
+        ensures makes { (config : Config) (at : Standing) → Brings (W.tells world.old) (W.tells world.new)
+            (Holds config at self.old link.old) (AfterPump result config at self.new link.new) }
+        ensures failed { result ≡ Pumped.Failed → Rose (W.tells world.old).faults.link (W.tells world.new).faults.link }
+        ensures leaves { LeavesBehind result self.old self.new link.new }
+        ensures same { under_way link.new ≡ under_way link.old }
+        ensures others { self.new ≡ record self.old { pending = self.new.pending; sent = self.new.sent } }
+    {
         let offered = link.offer(world, self.outgoing.frame());
         self.mark_out(offered);
         outcome(offered, link.blocked())
@@ -113,13 +128,14 @@ impl Slirp {
     {
         if offer == Offered::Taken {
             self.sent = self.sent.wrapping_add(datagrams_in(self.outgoing.frame()));
-            self.outgoing.clear();
+            self.outgoing.advance();
         }
     }
 
     // The course of the next datagram.
     pub(crate) fn course(&self, to_mac: Mac, from: Ip4, to: Ip4) -> Course
-        ensures { result ≡ record { to_mac = to_mac; from_mac = record { 0 = our_mac self.now.config.vhost }; ident = self.now.sent; from = from; to = to } }
+        ensures course { result ≡ record { to_mac = to_mac; from_mac = record { 0 = our_mac self.now.config.vhost }; ident = self.now.sent; from = from; to = to; mtu = self.now.config.mtu } }
+        ensures mtu { (576 ≤ result.mtu) × (result.mtu ≤ 1500) }
     {
         Course {
             to_mac,
@@ -127,6 +143,7 @@ impl Slirp {
             ident: self.sent,
             from,
             to,
+            mtu: self.policy.mtu(),
         }
     }
 }
@@ -140,12 +157,4 @@ fn outcome(offered: Offered, blocked: bool) -> Pumped
         Offered::Taken | Offered::Blocked => Pumped::Clear,
         Offered::Failed => Pumped::Failed,
     }
-}
-
-// Whether a datagram with so many octets behind its header fits a frame to a guest.
-pub(crate) fn fits_frame(policy: &Policy, octets: usize) -> bool
-    ensures fits { result ≡ fits_frame policy.now octets }
-    ensures size { result ≡ true → octets ≤ 1480 }
-{
-    octets <= (policy.mtu() - IP_HEADER) as usize
 }

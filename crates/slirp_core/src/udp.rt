@@ -4,13 +4,9 @@ ghost use Rattle.std.specs.Prelude.{[], ◌≡◌, ℕ, ◌+◌, ◌^◌, ◌<�
 use crate::datagrams::{DatagramView, ErrandView, Outcome, fate};
 use crate::icmp::{NO_NETWORK, PROHIBITED};
 use crate::network::Slirp;
-use crate::sending::fits_frame;
 use net_octets::{Endpoint, Ip4};
 use udp_assoc::{Association, UdpView};
 use world_face::{Got, Made, Sent, World};
-
-/// The octets of the header of UDP (RFC 768).
-const UDP_HEADER: usize = 8;
 
 /// Every address and port of the host.
 const ANYWHERE: Endpoint = Endpoint {
@@ -177,15 +173,13 @@ impl Slirp {
 
     // What a peer said on a socket is owed to its guest.
     fn answer_peer(&mut self, peer: Endpoint, octets: &[u8], association: &Association)
-        requires { self.old.pending ≡ [] }
+        requires none { self.old.pending ≡ [] }
+        requires short { length octets.now ≤ 65507 }
         ensures { self.new ≡ record self.old { pending = frames_of self.old.config self.old.sent (reply_at self.old.config peer octets.now association.now.guest association.now.mac.0) } }
     {
         let Some(from) = self.policy.shown(peer) else {
             return;
         };
-        if !fits_frame(&self.policy, UDP_HEADER + octets.len()) {
-            return;
-        }
         let guest = association.guest;
         let course = self.course(association.mac, from.addr, guest.addr);
         let datagram = UdpView {

@@ -1,10 +1,12 @@
 pub mod Bools
 pub mod Checks
-pub mod Counting
+pub mod CutRows
 pub mod Deeds
 pub mod Finding
+pub mod Framing
 pub mod Joining
 pub mod Longest
+pub mod Numbers
 pub mod OpenSockets
 pub mod Owing
 pub mod Parting

@@ -1,5 +1,5 @@
 -- What is left to be sent is what is owed for what came last.
-use Rattle.std.proofs.Common.{◌≡◌, ℕ, ◌%◌, ◌^◌, ◌<◌, ◌≤◌, ◌==◌, ◌&&◌, ◌||◌, Bool, true, false, List, [], ◌∷◌, drop, length, Option, Some, None, if◌then◌else◌, ◌⊎◌, inl, inr, refl, sym, ◌∙◌, ap, subst, arith}
+use Rattle.std.proofs.Common.{◌≡◌, ℕ, zero, suc, ◌+◌, ◌-◌, ◌%◌, ◌^◌, ◌<◌, ◌≤◌, ◌==◌, ◌&&◌, ◌||◌, Bool, true, false, List, [], ◌∷◌, drop, length, Option, Some, None, if◌then◌else◌, ◌⊎◌, inl, inr, refl, sym, ◌∙◌, ap, subst, arith}
 use Rattle.std.proofs.lemmas.Bool.Decides.{nat_tests}
 use Rattle.world_face.specs.Journal.{Entry, LinkRead, LinkWrite, UdpOpen, UdpSend, UdpRecv, call_of}
 use Rattle.world_face.specs.Frames.{goes_out, opens, tail}
@@ -20,16 +20,18 @@ use Rattle.run_laws.specs.Moments.{moment, waits}
 use Rattle.run_laws.specs.Packets.{Datagram, Packet, Unheard, ArpPacket, Message, DatagramPacket, Segment}
 use Rattle.run_laws.specs.Shape.{phase}
 use Rattle.run_laws.specs.Sockets.{is_among, next_number}
-use Rattle.slirp_laws.specs.Answers.{Answer, datagrams_out, with_datagrams, frame_of, frames_of, identification, is_first, is_out, is_untold, left, left_after, no_network, owed_for_fate, owed_for_icmp, owed_for_packet, reply_for, taken, told_about, unsent}
+use Rattle.slirp_laws.specs.Answers.{Answer, ArpAnswer, IpAnswer, datagrams_in, datagrams_out, with_datagrams, frames_for, frames_of, identification, is_first, is_out, is_untold, left, left_after, no_network, owed_for_fate, owed_for_icmp, owed_for_packet, reply_for, taken, told_about, unsent}
 use Rattle.slirp_laws.specs.Datagrams.{Errand, Fate, Ignored, Refused, GoesTo, fate, Step, Settled, NeedsRoom, NeedsSocket, NeedsSending}
 use Rattle.slirp_laws.specs.Asking.{errand_after, errand_by_call, errand_left, step, step_of}
 use Rattle.slirp_laws.specs.Laws.{May, Lawful, may_begin}
 use Rattle.slirp_laws.specs.Ports.{last_datagram, last_mac, last_port, mac_of, opened_for, or_before}
-use Rattle.slirp_laws.specs.Said.{AnswersLast, Occasion, NoOccasion, Came, Heard, Unsent, last_occasion, occasion_after, owed_for, unsent_or}
+use Rattle.slirp_laws.specs.Said.{AnswersLast, IsRest, Occasion, NoOccasion, Came, Heard, Unsent, identification_with, last_occasion, occasion_after, owed_for, unsent_or}
 use Rattle.slirp_laws.proofs.Bools.{equal_octets}
+use Rattle.slirp_laws.proofs.Framing.{arp_frame, drop_next, drop_none, first_counts, frames_one, later_counts, part_of_frames}
 use Rattle.slirp_laws.proofs.Joining.{none_early}
 use Rattle.slirp_laws.proofs.OpenSockets.{open_below, hears_on_open}
 use Rattle.slirp_laws.proofs.Phases.{asks_after_waits, comes_working, has_waited, hears_settled, more_waits, opens as opened_where, sends, working_waited}
+use Rattle.slirp_laws.proofs.Reading.{AllAnswers, SixAnswer, six_occasion, six_owed}
 use Rattle.slirp_laws.proofs.Steps.{Asks, errand_asks, errand_is, none_by_call}
 use Rattle.slirp_laws.proofs.Uses.{drawn_on}
 
@@ -128,44 +130,92 @@ owed_stays config e past (Heard socket peer octets) may well =
 
 -- ---- what is left
 
-abbrev pub IsOwed : Config → List Entry → List (List ℕ) → ℕ → Occasion → Type 0
-IsOwed config past frames ident o = (frames ≡ []) ⊎ (frames ≡ frames_of config ident (owed_for config past o))
+-- the identification of an answer of which so many frames are out, where so many datagrams went out
+abbrev pub ident_with : ℕ → ℕ → ℕ
+ident_with zero out = out % 2 ^ 16
+ident_with (suc k) out = (out - 1) % 2 ^ 16
 
-pub record Owing (config : Config) (past : List Entry) (frames : List (List ℕ)) (ident : ℕ) (o : Occasion) (errand : Option Errand) : Type 0 where
-  pub owed : IsOwed config past frames ident o
+-- nothing is left, or what is owed but for so many frames
+abbrev pub IsOwed : Config → List Entry → List (List ℕ) → ℕ → Occasion → Type 0
+IsOwed config past frames out o = (frames ≡ []) ⊎ ((k : ℕ) × (frames ≡ drop k (frames_of config (ident_with k out) (owed_for config past o))))
+
+pub record Owing (config : Config) (past : List Entry) (frames : List (List ℕ)) (out : ℕ) (o : Occasion) (errand : Option Errand) : Type 0 where
+  pub owed : IsOwed config past frames out o
   pub heard : HeardWell (next_number past) errand o
 
 abbrev pub OwingAt : Config → List Entry → Type 0
-OwingAt config past = Owing config past (left config past) (identification past) (last_occasion config past) (errand_left config past)
+OwingAt config past = Owing config past (left config past) (datagrams_out past) (last_occasion config past) (errand_left config past)
 
 -- an entry that leaves it
 unchanged : (config : Config) (e : Entry) (past : List Entry) → May config past (call_of e) → OwingAt config past
-    → Owing config (e ∷ past) (left config past) (identification past) (last_occasion config past) (errand_by_call e (errand_left config past))
+    → Owing config (e ∷ past) (left config past) (datagrams_out past) (last_occasion config past) (errand_by_call e (errand_left config past))
 unchanged config e past may is = record {
   owed = (elim is.owed [
     | inl none ↦ inl none
-    | inr some ↦ inr (some ∙ ap (frames_of config (identification past)) (sym (owed_stays config e past (last_occasion config past) may is.heard)))
+    | inr some ↦ inr (some.0, some.1 ∙ ap (λ a. drop some.0 (frames_of config (ident_with some.0 (datagrams_out past)) a)) (sym (owed_stays config e past (last_occasion config past) may is.heard)))
   ]);
   heard = heard_on e past (errand_left config past) (last_occasion config past) is.heard;
 }
 
 by_read : (config : Config) (asked : ℕ) (answer : Io) (octets : List ℕ) (past : List Entry) (o : Option Arrival) → May config past (call_of (LinkRead asked answer octets)) → OwingAt config past
-    → Owing config (LinkRead asked answer octets ∷ past) (left_after config past (happens config past (LinkRead asked answer octets)) o (left config past)) (identification past)
+    → Owing config (LinkRead asked answer octets ∷ past) (left_after config past (happens config past (LinkRead asked answer octets)) o (left config past)) (datagrams_out past)
     (occasion_after (LinkRead asked answer octets) o (last_datagram config past) (last_occasion config past)) (errand_after config (LinkRead asked answer octets) o (errand_left config past))
 by_read config asked answer octets past None may is = unchanged config (LinkRead asked answer octets) past may is
-by_read config asked answer octets past (Some arrival) may is = record { owed = inr refl; heard = tt }
+by_read config asked answer octets past (Some arrival) may is = record { owed = inr (0, refl); heard = tt }
 
 -- a frame went out
-few_frames : (config : Config) (ident : ℕ) (answers : List Answer) → length answers ≤ 1 → drop 1 (frames_of config ident answers) ≡ []
-few_frames config ident [] few = refl
-few_frames config ident (a ∷ []) few = refl
-few_frames config ident (a ∷ b ∷ answers) few = absurd (omega (arith, few))
+begins_with : (frame : List ℕ) (frames : List (List ℕ)) → is_first frame frames ≡ true → (rest : List (List ℕ)) × (frames ≡ frame ∷ rest)
+begins_with frame [] is = cc
+begins_with frame (first ∷ rest) is = (rest, ap (λ f. f ∷ rest) (sym (equal_octets frame first is)))
 
-nothing_more : (config : Config) (past : List Entry) (frames : List (List ℕ)) (ident : ℕ) (o : Occasion) → IsOwed config past frames ident o → drop 1 frames ≡ []
-nothing_more config past frames ident o is = elim is [
-  | inl none ↦ ap (drop 1) none
-  | inr some ↦ ap (drop 1) some ∙ few_frames config ident (owed_for config past o) (one_answer config past o)
-]
+-- of one answer, so many of whose frames are out, this one went
+one_went : (config : Config) (k out : ℕ) (a : Answer) (frame : List ℕ) (rest : List (List ℕ)) → 28 ≤ config.mtu → SixAnswer a → drop k (frames_for config (ident_with k out) a) ≡ frame ∷ rest
+    → (rest ≡ []) ⊎ ((j : ℕ) × (rest ≡ drop j (frames_for config (ident_with j (datagrams_in frame + out)) a)))
+one_went config k out (ArpAnswer to arp) frame rest fits six is = inl (arp_frame config (ident_with k out) to arp frame rest k is).0
+one_went config zero out (IpAnswer to proto from guest body) frame rest fits six is =
+    let one = first_counts config (out % 2 ^ 16) to proto from guest body frame fits six (part_of_frames config (out % 2 ^ 16) to proto from guest body frame rest 0 is) in
+    let same : out % 2 ^ 16 ≡ (datagrams_in frame + out - 1) % 2 ^ 16 = ap (λ n. n % 2 ^ 16) (omega (arith, one)) in
+    inr (1, sym (drop_next 0 (frames_for config (out % 2 ^ 16) (IpAnswer to proto from guest body)) rest frame is) ∙ ap (λ i. drop 1 (frames_for config i (IpAnswer to proto from guest body))) same)
+one_went config (suc k) out (IpAnswer to proto from guest body) frame rest fits six is =
+    let ident = (out - 1) % 2 ^ 16 in
+    let none = later_counts config ident to proto from guest body frame k fits six (part_of_frames config ident to proto from guest body frame rest (suc k) is) in
+    let same : ident ≡ (datagrams_in frame + out - 1) % 2 ^ 16 = ap (λ n. n % 2 ^ 16) (omega (arith, none)) in
+    inr (suc (suc k), sym (drop_next (suc k) (frames_for config ident (IpAnswer to proto from guest body)) rest frame is) ∙ ap (λ i. drop (suc (suc k)) (frames_for config i (IpAnswer to proto from guest body))) same)
+
+-- what was owed is one answer, where a frame of it is left
+pub record OfOne (config : Config) (answers : List Answer) (k ident : ℕ) (frame : List ℕ) (rest : List (List ℕ)) : Type 0 where
+  pub answer : Answer
+  pub only : answers ≡ answer ∷ []
+  pub is : drop k (frames_for config ident answer) ≡ frame ∷ rest
+
+of_one : (config : Config) (answers : List Answer) (k ident : ℕ) (frame : List ℕ) (rest : List (List ℕ)) → length answers ≤ 1 → drop k (frames_of config ident answers) ≡ frame ∷ rest → OfOne config answers k ident frame rest
+of_one config [] k ident frame rest few is = let never : [] ≡ frame ∷ rest = sym (drop_none k) ∙ is in cc
+of_one config (a ∷ []) k ident frame rest few is = record { answer = a; only = refl; is = ap (drop k) (sym (frames_one config ident a)) ∙ is }
+of_one config (a ∷ b ∷ answers) k ident frame rest few is = absurd (omega (arith, few))
+
+one_six : (answers : List Answer) (a : Answer) → answers ≡ a ∷ [] → AllAnswers SixAnswer answers → SixAnswer a
+one_six answers a is all = (subst (AllAnswers SixAnswer) is all).0
+
+pub out_six : (config : Config) (past : List Entry) (a : Answer) → owed_for config past (last_occasion config past) ≡ a ∷ [] → SixAnswer a
+out_six config past a is = one_six (owed_for config past (last_occasion config past)) a is (six_owed config past (last_occasion config past) (six_occasion config past))
+
+-- what went is of what was owed
+went : (config : Config) (past : List Entry) (frames : List (List ℕ)) (frame : List ℕ) → 28 ≤ config.mtu → is_first frame frames ≡ true → IsOwed config past frames (datagrams_out past) (last_occasion config past)
+    → IsOwed config past (drop 1 frames) (datagrams_in frame + datagrams_out past) (last_occasion config past)
+went config past frames frame fits first is =
+    let b = begins_with frame frames first in
+    let out = datagrams_out past in
+    let owed = owed_for config past (last_occasion config past) in
+    elim is [
+      | inl none ↦ (let never : is_first frame [] ≡ true = subst (λ l. is_first frame l ≡ true) none first in cc)
+      | inr some ↦ (let o = of_one config owed some.0 (ident_with some.0 out) frame b.0 (one_answer config past (last_occasion config past)) (sym some.1 ∙ b.1) in
+          elim (one_went config some.0 out o.answer frame b.0 fits (out_six config past o.answer o.only) o.is) [
+            | inl over ↦ inl (ap (drop 1) b.1 ∙ over)
+            | inr on ↦ (let as_one : frames_for config (ident_with on.0 (datagrams_in frame + out)) o.answer ≡ frames_of config (ident_with on.0 (datagrams_in frame + out)) owed =
+                sym (frames_one config (ident_with on.0 (datagrams_in frame + out)) o.answer) ∙ ap (frames_of config (ident_with on.0 (datagrams_in frame + out))) (sym o.only) in
+                inr (on.0, ap (drop 1) b.1 ∙ on.1 ∙ ap (drop on.0) as_one))
+          ])
+    ]
 
 or_nothing : (a b : Bool) → (a || (b && false)) ≡ true → a ≡ true
 or_nothing true b is = refl
@@ -176,21 +226,32 @@ first_left : (config : Config) (past : List Entry) (octets : List ℕ) → tail 
 first_left config past octets clear may =
     or_nothing (is_first (drop 4 octets) (left config past)) (is_out (left config past)) (subst (λ t. may_begin config past t octets ≡ true) clear may)
 
-by_write : (config : Config) (past : List Entry) (octets : List ℕ) (answer : Io) (t : List ℕ) → tail past ≡ t → May config past (call_of (LinkWrite octets answer)) → OwingAt config past
-    → IsOwed config (LinkWrite octets answer ∷ past) (taken (opens (LinkWrite octets answer) t) (left config past)) (with_datagrams (opens (LinkWrite octets answer) t) (datagrams_out past) % 2 ^ 16) (last_occasion config past)
-by_write config past octets answer (x ∷ rest) clear may is = (unchanged config (LinkWrite octets answer) past may is).owed
-by_write config past octets (IoDone n) [] clear may is =
-    inl (ap (λ (b : Bool). if b then drop 1 (left config past) else left config past) (first_left config past octets clear may.answered)
-    ∙ nothing_more config past (left config past) (identification past) (last_occasion config past) is.owed)
-by_write config past octets End [] clear may is = (unchanged config (LinkWrite octets End) past may is).owed
-by_write config past octets IoNotYet [] clear may is = (unchanged config (LinkWrite octets IoNotYet) past may is).owed
-by_write config past octets IoFailed [] clear may is = (unchanged config (LinkWrite octets IoFailed) past may is).owed
+owed_later : (config : Config) (e : Entry) (past : List Entry) (frames : List (List ℕ)) (out : ℕ) → May config past (call_of e) → HeardWell (next_number past) (errand_left config past) (last_occasion config past)
+    → IsOwed config past frames out (last_occasion config past) → IsOwed config (e ∷ past) frames out (last_occasion config past)
+owed_later config e past frames out may heard is = elim is [
+  | inl none ↦ inl none
+  | inr some ↦ inr (some.0, some.1 ∙ ap (λ a. drop some.0 (frames_of config (ident_with some.0 out) a)) (sym (owed_stays config e past (last_occasion config past) may heard)))
+]
+
+by_write : (config : Config) (past : List Entry) (octets : List ℕ) (answer : Io) (t : List ℕ) → 28 ≤ config.mtu → tail past ≡ t → May config past (call_of (LinkWrite octets answer)) → OwingAt config past
+    → IsOwed config (LinkWrite octets answer ∷ past) (taken (opens (LinkWrite octets answer) t) (left config past)) (with_datagrams (opens (LinkWrite octets answer) t) (datagrams_out past)) (last_occasion config past)
+by_write config past octets answer (x ∷ rest) fits clear may is = (unchanged config (LinkWrite octets answer) past may is).owed
+by_write config past octets (IoDone n) [] fits clear may is =
+    let frame = drop 4 octets in
+    let first = first_left config past octets clear may.answered in
+    let took : (if is_first frame (left config past) then drop 1 (left config past) else left config past) ≡ drop 1 (left config past) = ap (λ (b : Bool). if b then drop 1 (left config past) else left config past) first in
+    subst (λ l. IsOwed config (LinkWrite octets (IoDone n) ∷ past) l (datagrams_in frame + datagrams_out past) (last_occasion config past)) (sym took)
+    (owed_later config (LinkWrite octets (IoDone n)) past (drop 1 (left config past)) (datagrams_in frame + datagrams_out past) may is.heard (went config past (left config past) frame fits first is.owed))
+by_write config past octets End [] fits clear may is = (unchanged config (LinkWrite octets End) past may is).owed
+by_write config past octets IoNotYet [] fits clear may is = (unchanged config (LinkWrite octets IoNotYet) past may is).owed
+by_write config past octets IoFailed [] fits clear may is = (unchanged config (LinkWrite octets IoFailed) past may is).owed
 
 -- a datagram could get no socket, or couldn't be sent
-told : (config : Config) (e : Entry) (past : List Entry) (ident : ℕ) (step : Step) (frames : List (List ℕ)) (last : Option Datagram) (o : Occasion) (d : Datagram) → unsent config ident step frames ≡ frames_of config ident (told_about config no_network d)
-    → last ≡ Some d → IsOwed config (e ∷ past) (unsent config ident step frames) ident (unsent_or last o)
-told config e past ident step frames last o d is came =
-    inr (is ∙ sym (ap (λ l. frames_of config ident (owed_for config (e ∷ past) (unsent_or l o))) came))
+told : (config : Config) (e : Entry) (past : List Entry) (step : Step) (frames : List (List ℕ)) (last : Option Datagram) (o : Occasion) (d : Datagram)
+    → unsent config (identification past) step frames ≡ frames_of config (identification past) (told_about config no_network d)
+    → last ≡ Some d → IsOwed config (e ∷ past) (unsent config (identification past) step frames) (datagrams_out past) (unsent_or last o)
+told config e past step frames last o d is came =
+    inr (0, is ∙ sym (ap (λ l. frames_of config (identification past) (owed_for config (e ∷ past) (unsent_or l o))) came))
 
 unsent_well : (number : ℕ) (errand : Option Errand) (last : Option Datagram) (o : Occasion) → HeardWell number errand o → HeardWell number errand (unsent_or last o)
 unsent_well number errand None o is = is
@@ -201,7 +262,7 @@ by_open config past socket at MadeDone may lawful is = unchanged config (UdpOpen
 by_open config past socket at MadeFailed may lawful is = record {
   owed = (elim (opened_where config past socket at may) [
     | inl early ↦ before early.0
-    | inr o ↦ told config e past (identification past) (step config past) (left config past) (last_datagram config past) (last_occasion config past) o.errand.datagram
+    | inr o ↦ told config e past (step config past) (left config past) (last_datagram config past) (last_occasion config past) o.errand.datagram
         (ap (λ s. unsent config (identification past) s (left config past)) o.asked) (asks o.errand (errand_is config past (NeedsSocket o.errand) o.asked)).datagram
   ]);
   heard = unsent_well (next_number (e ∷ past)) None (last_datagram config past) (last_occasion config past) (unchanged config e past may is).heard;
@@ -216,11 +277,11 @@ by_open config past socket at MadeFailed may lawful is = record {
     none_yet : waits past ≡ 0 → last_datagram config past ≡ None
     none_yet early = elim (came_after_waits config past lawful) [ inl none ↦ none | inr waited ↦ absurd (omega (arith, early, waited)) ]
 
-    before : waits past ≡ 0 → IsOwed config (UdpOpen socket at MadeFailed ∷ past) (unsent config (identification past) (step config past) (left config past)) (identification past) (unsent_or (last_datagram config past) (last_occasion config past))
+    before : waits past ≡ 0 → IsOwed config (UdpOpen socket at MadeFailed ∷ past) (unsent config (identification past) (step config past) (left config past)) (datagrams_out past) (unsent_or (last_datagram config past) (last_occasion config past))
     before early =
         let settled = ap (step_of config past) (none_early (waits past) (errand_left config past) early (asks_after_waits config past lawful)) in
-        subst (λ s. IsOwed config (UdpOpen socket at MadeFailed ∷ past) (unsent config (identification past) s (left config past)) (identification past) (unsent_or (last_datagram config past) (last_occasion config past))) (sym settled)
-        (subst (λ l. IsOwed config (UdpOpen socket at MadeFailed ∷ past) (left config past) (identification past) (unsent_or l (last_occasion config past))) (sym (none_yet early))
+        subst (λ s. IsOwed config (UdpOpen socket at MadeFailed ∷ past) (unsent config (identification past) s (left config past)) (datagrams_out past) (unsent_or (last_datagram config past) (last_occasion config past))) (sym settled)
+        (subst (λ l. IsOwed config (UdpOpen socket at MadeFailed ∷ past) (left config past) (datagrams_out past) (unsent_or l (last_occasion config past))) (sym (none_yet early))
         (unchanged config (UdpOpen socket at MadeFailed) past may is).owed)
 
 by_send : (config : Config) (past : List Entry) (socket : ℕ) (to : Endpoint) (octets : List ℕ) (answer : Sent) → May config past (call_of (UdpSend socket to octets answer)) → OwingAt config past → OwingAt config (UdpSend socket to octets answer ∷ past)
@@ -230,7 +291,7 @@ by_send config past socket to octets SentFailed may is =
     let s = sends config past socket to octets may in
     let asks : Asks config (last_datagram config past) s.errand = errand_asks config past s.errand (errand_is config past (NeedsSending socket s.errand) s.asked) in
     record {
-      owed = told config (UdpSend socket to octets SentFailed) past (identification past) (step config past) (left config past) (last_datagram config past) (last_occasion config past) s.errand.datagram
+      owed = told config (UdpSend socket to octets SentFailed) past (step config past) (left config past) (last_datagram config past) (last_occasion config past) s.errand.datagram
           (ap (λ step. unsent config (identification past) step (left config past)) s.asked) asks.datagram;
       heard = unsent_well (next_number past) None (last_datagram config past) (last_occasion config past) (unchanged config (UdpSend socket to octets SentFailed) past may is).heard;
     }
@@ -239,23 +300,34 @@ by_send config past socket to octets SentFailed may is =
 by_hearing : (config : Config) (past : List Entry) (socket asked : ℕ) (answer : Got) (octets : List ℕ) → May config past (call_of (UdpRecv socket asked answer octets)) → Lawful config past → OwingAt config past → OwingAt config (UdpRecv socket asked answer octets ∷ past)
 by_hearing config past socket asked (From peer n) octets may lawful is =
     record {
-      owed = inr refl;
+      owed = inr (0, refl);
       heard = (open_below config past lawful socket (hears_on_open config past socket asked may.socket), errand_is config past Settled (hears_settled config past socket asked may));
     }
 by_hearing config past socket asked GotNotYet octets may lawful is = unchanged config (UdpRecv socket asked GotNotYet octets) past may is
 by_hearing config past socket asked GotFailed octets may lawful is = unchanged config (UdpRecv socket asked GotFailed octets) past may is
 
-owing_by : (config : Config) (e : Entry) (past : List Entry) → May config past (call_of e) → Lawful config past → OwingAt config past → OwingAt config (e ∷ past)
-owing_by config (LinkRead asked answer octets) past may lawful is = by_read config asked answer octets past (happens config past (LinkRead asked answer octets)).came may is
-owing_by config (LinkWrite octets answer) past may lawful is = record { owed = by_write config past octets answer (tail past) refl may is; heard = (unchanged config (LinkWrite octets answer) past may is).heard }
-owing_by config (UdpOpen socket at answer) past may lawful is = by_open config past socket at answer may lawful is
-owing_by config (UdpSend socket to octets answer) past may lawful is = by_send config past socket to octets answer may is
-owing_by config (UdpRecv socket asked answer octets) past may lawful is = by_hearing config past socket asked answer octets may lawful is
-owing_by config e past may lawful is = unchanged config e past may is
+owing_by : (config : Config) (e : Entry) (past : List Entry) → 28 ≤ config.mtu → May config past (call_of e) → Lawful config past → OwingAt config past → OwingAt config (e ∷ past)
+owing_by config (LinkRead asked answer octets) past fits may lawful is = by_read config asked answer octets past (happens config past (LinkRead asked answer octets)).came may is
+owing_by config (LinkWrite octets answer) past fits may lawful is = record { owed = by_write config past octets answer (tail past) fits refl may is; heard = (unchanged config (LinkWrite octets answer) past may is).heard }
+owing_by config (UdpOpen socket at answer) past fits may lawful is = by_open config past socket at answer may lawful is
+owing_by config (UdpSend socket to octets answer) past fits may lawful is = by_send config past socket to octets answer may is
+owing_by config (UdpRecv socket asked answer octets) past fits may lawful is = by_hearing config past socket asked answer octets may lawful is
+owing_by config e past fits may lawful is = unchanged config e past may is
 
-pub owing : (config : Config) (past : List Entry) → Lawful config past → OwingAt config past
-owing config [] lawful = record { owed = inl refl; heard = tt }
-owing config (e ∷ past) lawful = owing_by config e past lawful.0 lawful.1 (owing config past lawful.1)
+pub owing : (config : Config) (past : List Entry) → 28 ≤ config.mtu → Lawful config past → OwingAt config past
+owing config [] fits lawful = record { owed = inl refl; heard = tt }
+owing config (e ∷ past) fits lawful = owing_by config e past fits lawful.0 lawful.1 (owing config past fits lawful.1)
+
+-- what is left, as it is said
+pub same_ident : (k : ℕ) (past : List Entry) → ident_with k (datagrams_out past) ≡ identification_with k past
+same_ident zero past = refl
+same_ident (suc k) past = refl
+
+pub what_is_left : (config : Config) (past : List Entry) → 28 ≤ config.mtu → Lawful config past → (left config past ≡ []) ⊎ IsRest config past (left config past)
+what_is_left config past fits lawful = elim (owing config past fits lawful).owed [
+  | inl none ↦ inl none
+  | inr some ↦ inr (record { out = some.0; is = some.1 ∙ ap (λ i. drop some.0 (frames_of config i (owed_for config past (last_occasion config past)))) (same_ident some.0 past) })
+]
 
 -- ---- a frame that goes out
 
@@ -274,32 +346,33 @@ pub out_by : (config : Config) (e : Entry) (past : List Entry) (frame : List ℕ
 out_by config (LinkWrite octets answer) past frame may is = begun config past octets answer (tail past) frame refl may.answered is
 out_by config _ past frame may is = cc
 
-answers_by : (config : Config) (past : List Entry) (frame : List ℕ) (frames : List (List ℕ)) (ident : ℕ) (answers : List Answer) → is_first frame frames ≡ true → frames ≡ frames_of config ident answers → length answers ≤ 1
-    → (answer : Answer) × (answers ≡ answer ∷ []) × (frame ≡ frame_of config ident answer)
-answers_by config past frame frames ident [] first is few = let none : is_first frame [] ≡ true = subst (λ l. is_first frame l ≡ true) is first in cc
-answers_by config past frame frames ident (a ∷ []) first is few = (a, refl, equal_octets frame (frame_of config ident a) (subst (λ l. is_first frame l ≡ true) is first))
-answers_by config past frame frames ident (a ∷ b ∷ answers) first is few = absurd (omega (arith, few))
+-- a frame that is the first of those left is the next one of the answer
+pub next_left : (config : Config) (past : List Entry) (frame : List ℕ) (rest : List (List ℕ)) → 28 ≤ config.mtu → Lawful config past → left config past ≡ frame ∷ rest → AnswersLast config past frame
+next_left config past frame rest fits lawful is = elim (owing config past fits lawful).owed [
+  | inl none ↦ (let never : [] ≡ frame ∷ rest = sym none ∙ is in cc)
+  | inr some ↦ (let o = of_one config (owed_for config past (last_occasion config past)) some.0 (ident_with some.0 (datagrams_out past)) frame rest (one_answer config past (last_occasion config past)) (sym some.1 ∙ is) in
+      record { answer = o.answer; owed = o.only; out = some.0; rest = rest; is = ap (λ i. drop some.0 (frames_for config i o.answer)) (sym (same_ident some.0 past)) ∙ o.is })
+]
 
-pub answers_last : (config : Config) (e : Entry) (past : List Entry) (frame : List ℕ) → Lawful config (e ∷ past) → goes_out e past ≡ Some frame → AnswersLast config past frame
-answers_last config e past frame lawful out =
-    let first = (out_by config e past frame lawful.0 out).first in
-    elim (owing config past lawful.1).owed [
-      | inl none ↦ (let never : is_first frame [] ≡ true = subst (λ l. is_first frame l ≡ true) none first in cc)
-      | inr some ↦ (let found = answers_by config past frame (left config past) (identification past) (owed_for config past (last_occasion config past)) first some (one_answer config past (last_occasion config past)) in
-          record { answer = found.0; owed = found.1; is = found.2 })
-    ]
+pub answers_last : (config : Config) (e : Entry) (past : List Entry) (frame : List ℕ) → 28 ≤ config.mtu → Lawful config (e ∷ past) → goes_out e past ≡ Some frame → AnswersLast config past frame
+answers_last config e past frame fits lawful out =
+    let b = begins_with frame (left config past) (out_by config e past frame lawful.0 out).first in
+    next_left config past frame b.0 fits lawful.1 b.1
 
--- and nothing is left after it
-out_last : (config : Config) (past : List Entry) (octets : List ℕ) (answer : Io) (t : List ℕ) (frame : List ℕ) → tail past ≡ t → May config past (call_of (LinkWrite octets answer)) → OwingAt config past → opens (LinkWrite octets answer) t ≡ Some frame
-    → taken (opens (LinkWrite octets answer) t) (left config past) ≡ []
-out_last config past octets answer (x ∷ rest) frame clear may is out = cc
-out_last config past octets (IoDone n) [] frame clear may is out =
-    ap (λ (b : Bool). if b then drop 1 (left config past) else left config past) (first_left config past octets clear may.answered)
-    ∙ nothing_more config past (left config past) (identification past) (last_occasion config past) is.owed
-out_last config past octets End [] frame clear may is out = cc
-out_last config past octets IoNotYet [] frame clear may is out = cc
-out_last config past octets IoFailed [] frame clear may is out = cc
+-- and the others stay behind it
+taken_first : (config : Config) (past : List Entry) (octets : List ℕ) (answer : Io) (t : List ℕ) (frame : List ℕ) → tail past ≡ t → May config past (call_of (LinkWrite octets answer)) → opens (LinkWrite octets answer) t ≡ Some frame
+    → left config past ≡ frame ∷ taken (opens (LinkWrite octets answer) t) (left config past)
+taken_first config past octets answer (x ∷ rest) frame clear may out = cc
+taken_first config past octets (IoDone n) [] frame clear may out =
+    let this : drop 4 octets ≡ frame = cc in
+    let first = first_left config past octets clear may.answered in
+    let b = begins_with (drop 4 octets) (left config past) first in
+    b.1 ∙ ap (λ f. f ∷ b.0) this
+    ∙ ap (λ l. frame ∷ l) (sym (ap (λ (b : Bool). if b then drop 1 (left config past) else left config past) first ∙ ap (drop 1) b.1))
+taken_first config past octets End [] frame clear may out = cc
+taken_first config past octets IoNotYet [] frame clear may out = cc
+taken_first config past octets IoFailed [] frame clear may out = cc
 
-pub answered_once : (config : Config) (e : Entry) (past : List Entry) (frame : List ℕ) → Lawful config (e ∷ past) → goes_out e past ≡ Some frame → left config (e ∷ past) ≡ []
-answered_once config (LinkWrite octets answer) past frame lawful out = out_last config past octets answer (tail past) frame refl lawful.0 (owing config past lawful.1) out
-answered_once config _ past frame lawful out = cc
+pub others_stay : (config : Config) (e : Entry) (past : List Entry) (frame : List ℕ) → Lawful config (e ∷ past) → goes_out e past ≡ Some frame → left config past ≡ frame ∷ left config (e ∷ past)
+others_stay config (LinkWrite octets answer) past frame lawful out = taken_first config past octets answer (tail past) frame refl lawful.0 out
+others_stay config _ past frame lawful out = cc

@@ -1,5 +1,6 @@
 -- A reply as it is read has what the peer sent, for the port that asked.
-use Rattle.std.proofs.Common.{◌≡◌, ℕ, ◌+◌, ◌^◌, ◌<◌, Bool, true, false, List, [], ◌∷◌, length, take, Option, Some, if◌then◌else◌, refl, sym, ◌∙◌, ap, subst, arith, append-nil}
+use Rattle.std.proofs.Common.{◌≡◌, ℕ, ◌+◌, ◌*◌, ◌^◌, ◌<◌, ◌≤◌, ◌==◌, ◌&&◌, not, Bool, true, false, List, [], ◌∷◌, length, take, drop, Option, Some, if◌then◌else◌, refl, sym, ◌∙◌, ap, subst, arith, append-nil}
+use Rattle.std.proofs.lemmas.Bool.Decides.{nat_tests}
 use Rattle.std.proofs.lemmas.List.{take_all}
 use Rattle.world_face.specs.Journal.{Entry, AreAllowed, IsEndpoint}
 use Rattle.world_face.specs.Frames.{goes_out}
@@ -7,17 +8,20 @@ use Rattle.net_octets.specs.declared.Endpoint.{Endpoint}
 use Rattle.net_octets.specs.Kinds.{udp_proto}
 use Rattle.host_policy.specs.Addresses.{Config, address, endpoint}
 use Rattle.host_policy.specs.Targets.{is_loopback, shown}
-use Rattle.ipv4_head.specs.Ip.{Ip, ip_octets, read_ip, summed_head}
+use Rattle.ipv4_head.specs.Cuts.{cut_at, cut_start, is_before_last, units_in}
+use Rattle.ipv4_head.specs.Ip.{Ip, ip_octets, is_unbroken, read_ip, summed_head}
 use Rattle.ipv4_head.proofs.Plain.{written_is}
 use Rattle.ipv4_head.proofs.Spelling.{reads as reads_datagram}
 use Rattle.udp_assoc.specs.Udp.{Udp, read_udp, summed, udp_octets, udp_with, written_sum}
 use Rattle.udp_assoc.proofs.Spelling.{length-udp, reads as reads_udp}
 use Rattle.udp_assoc.proofs.Writing.{front_is}
-use Rattle.slirp_laws.specs.Answers.{identification}
+use Rattle.slirp_laws.specs.Answers.{our_mac, part_frame, uncut}
 use Rattle.slirp_laws.specs.Laws.{Lawful}
-use Rattle.slirp_laws.specs.Said.{Carries, Heard, IsReplyToItsPort, RepliesToItsPort}
+use Rattle.slirp_laws.specs.Said.{Carries, Heard, IsReplyToItsPort, RepliesToItsPort, identification_with}
 use Rattle.slirp_laws.proofs.Ranges.{RangePeer, RangePort, range_peer, range_port}
-use Rattle.slirp_laws.proofs.Reading.{SixMac, carried_ip, ident_fits, six_mac}
+use Rattle.slirp_laws.proofs.Framing.{part_of_frames}
+use Rattle.slirp_laws.proofs.Numbers.{ident_fits, reads_cut}
+use Rattle.slirp_laws.proofs.Reading.{SixMac, carried_ip, six_mac}
 use Rattle.slirp_laws.proofs.Replies.{replies}
 
 same_some : {A : Type 0} (o : Option A) (one two : A) → o ≡ Some one → o ≡ Some two → one ≡ two
@@ -42,6 +46,22 @@ udp_back from to udp f t size =
     let written = front_is from to udp (8 + length udp.body) now [] f t size refl (sym (append-nil now)) in
     ap (read_udp from to) (sym all) ∙ reads_udp from to (take (8 + length udp.body) now) udp written.0
 
+-- a part at the front of a datagram behind which none follows is all of it
+unbroken_is : (more : Bool) (place : ℕ) → (not more && (place == 0)) ≡ true → (more ≡ false) × (place ≡ 0)
+unbroken_is true place is = absurd cc
+unbroken_is false place is = (refl, grind (arith, nat_tests, is))
+
+whole_if : (n : ℕ) (b : Bool) (room : ℕ) (body : List ℕ) → n ≡ 0 → b ≡ false → (if b then take room (drop n body) else drop n body) ≡ body
+whole_if n true room body none is = cc
+whole_if n false room body none is = ap (λ n. drop n body) none
+
+only_cut : (mtu : ℕ) (body : List ℕ) (k : ℕ) → 28 ≤ mtu → k * units_in mtu ≡ 0 → is_before_last mtu (length body) k ≡ false → cut_at mtu (uncut body) k ≡ uncut body
+only_cut mtu body k room front last =
+    let start : cut_start mtu k ≡ 0 = omega (arith, front) in
+    ap (λ n. record (cut_at mtu (uncut body) k) { place = n }) front
+    ∙ ap (λ b. record (cut_at mtu (uncut body) k) { place = 0; more = b }) last
+    ∙ ap (λ o. record (uncut body) { body = o }) (whole_if (cut_start mtu k) (is_before_last mtu (length body) k) (8 * units_in mtu) body start last)
+
 -- a peer as it is shown is in range
 shown_range : (config : Config) (peer : Endpoint) → config.vhost < 2 ^ 32 → IsEndpoint peer → IsEndpoint (shown config peer)
 shown_range config peer ours is = by (is_loopback (address peer))
@@ -50,7 +70,7 @@ shown_range config peer ours is = by (is_loopback (address peer))
     by true = (ours, is.1)
     by false = is
 
-module _ (config : Config) (past : List Entry) (frame : List ℕ) (ip : Ip) (udp : Udp) (r : RepliesToItsPort config past frame) (peer_range : IsEndpoint (shown config r.peer)) (guest_range : IsEndpoint r.guest) (sized : config.mtu < 2 ^ 16) where
+module _ (config : Config) (past : List Entry) (frame : List ℕ) (ip : Ip) (udp : Udp) (r : RepliesToItsPort config past frame) (peer_range : IsEndpoint (shown config r.peer)) (guest_range : IsEndpoint r.guest) where
   from : ℕ
   from = address (shown config r.peer)
 
@@ -60,17 +80,22 @@ module _ (config : Config) (past : List Entry) (frame : List ℕ) (ip : Ip) (udp
   reply : Udp
   reply = record { from_port = (shown config r.peer).port; to_port = r.guest.port; body = r.octets }
 
-  as_read : length r.mac ≡ 6 → Carries frame ip → read_udp ip.from ip.to ip.body ≡ Some udp → IsReplyToItsPort config past ip udp
+  as_read : 28 ≤ config.mtu → length r.mac ≡ 6 → Carries frame ip → is_unbroken ip ≡ true → read_udp ip.from ip.to ip.body ≡ Some udp → IsReplyToItsPort config past ip udp
   unfolding from to reply
-  as_read six c is =
+  as_read room six c unbroken is =
       let fits = r.fits in
       let body = udp_octets from to reply in
+      let ident = identification_with r.out past in
       let long : length body ≡ 8 + length r.octets = length-udp (written_sum (summed from to (udp_with 0 reply))) reply in
-      let held = carried_ip config (identification past) r.mac udp_proto from to body ip six (subst (λ f. Carries f ip) r.is c) in
-      let whole = same_some (read_ip (ip_octets (identification past) 0 udp_proto from to body)) ip _ held
-      (ip_back (identification past) udp_proto from to body (ident_fits past) peer_range.0 guest_range.0 (omega (arith, long, fits, sized))) in
+      let p = part_of_frames config ident r.mac udp_proto from to body frame r.rest r.out r.is in
+      let read_back = reads_cut config ident r.mac udp_proto from to body frame r.out ip room (ident_fits r.out past) six p c in
+      let tests = unbroken_is ip.more ip.place unbroken in
+      let only = only_cut config.mtu body r.out room (sym read_back.place ∙ tests.1) (sym read_back.more ∙ tests.0) in
+      let held = carried_ip config ident r.mac udp_proto from to (uncut body) ip six (subst (λ f. Carries f ip) (p.is ∙ ap (part_frame r.mac (our_mac config.vhost) ident udp_proto from to) only) c) in
+      let whole = same_some (read_ip (ip_octets ident 0 udp_proto from to body)) ip _ held
+      (ip_back ident udp_proto from to body (ident_fits r.out past) peer_range.0 guest_range.0 (omega (arith, long, fits))) in
       let that : read_udp from to body ≡ Some udp = ap (λ (i : Ip). read_udp i.from i.to i.body) (sym whole) ∙ is in
-      let same = same_some (read_udp from to body) udp reply that (udp_back from to reply peer_range.1 guest_range.1 (omega (arith, fits, sized))) in
+      let same = same_some (read_udp from to body) udp reply that (udp_back from to reply peer_range.1 guest_range.1 (omega (arith, fits))) in
       let sent_to : r.guest ≡ endpoint ip.to udp.to_port = λ i. record { addr = record { 0 = (sym whole i).to }; port = (sym same i).to_port } in
       let sent_from : shown config r.peer ≡ endpoint ip.from udp.from_port = λ i. record { addr = record { 0 = (sym whole i).from }; port = (sym same i).from_port } in
       record {
@@ -82,11 +107,11 @@ module _ (config : Config) (past : List Entry) (frame : List ℕ) (ip : Ip) (udp
         source = sent_from;
       }
 
-pub reply_as_read : (config : Config) (e : Entry) (past : List Entry) (frame : List ℕ) (ip : Ip) (udp : Udp) → Lawful config (e ∷ past) → AreAllowed past → config.vhost < 2 ^ 32 → config.mtu < 2 ^ 16 → goes_out e past ≡ Some frame
-    → Carries frame ip → ip.proto ≡ udp_proto → read_udp ip.from ip.to ip.body ≡ Some udp → IsReplyToItsPort config past ip udp
-reply_as_read config e past frame ip udp lawful allowed ours sized out c proto is =
-    let r = replies config e past frame ip lawful out c proto in
+pub reply_as_read : (config : Config) (e : Entry) (past : List Entry) (frame : List ℕ) (ip : Ip) (udp : Udp) → 28 ≤ config.mtu → Lawful config (e ∷ past) → AreAllowed past → config.vhost < 2 ^ 32 → goes_out e past ≡ Some frame
+    → Carries frame ip → is_unbroken ip ≡ true → ip.proto ≡ udp_proto → read_udp ip.from ip.to ip.body ≡ Some udp → IsReplyToItsPort config past ip udp
+reply_as_read config e past frame ip udp room lawful allowed ours out c unbroken proto is =
+    let r = replies config e past frame ip room lawful out c proto in
     let peer : IsEndpoint r.peer = subst RangePeer r.last (range_peer config past allowed) in
     let guest : IsEndpoint r.guest = subst RangePort r.port (range_port config r.socket past allowed) in
     let six : length r.mac ≡ 6 = subst SixMac r.at (six_mac config r.socket past) in
-    as_read config past frame ip udp r (shown_range config r.peer ours peer) guest sized six c is
+    as_read config past frame ip udp r (shown_range config r.peer ours peer) guest room six c unbroken is

@@ -10,7 +10,7 @@ use Rattle.world_face.specs.declared.Sent.{Sent}
 use Rattle.world_face.specs.declared.Sent.TheVariants.{Done as SentDone, NotYet as SentNotYet, Failed as SentFailed}
 use Rattle.world_face.specs.declared.Got.{Got}
 use Rattle.world_face.specs.declared.Got.TheVariants.{From, NotYet as GotNotYet, Failed as GotFailed}
-use Rattle.world_face.specs.Frames.{arrives, goes_out}
+use Rattle.world_face.specs.Frames.{arrives}
 use Rattle.net_octets.specs.declared.Endpoint.{Endpoint}
 use Rattle.net_octets.specs.Kinds.{arp_kind, ipv4_kind, icmp_proto, udp_proto, tcp_proto}
 use Rattle.net_octets.specs.Octets.{one_at, two_at, four_at, part}
@@ -20,19 +20,19 @@ use Rattle.host_policy.specs.Targets.{is_hidden}
 use Rattle.ether_frame.specs.Ether.{Ether, read_ether, ether_octets}
 use Rattle.ether_frame.proofs.Spelling.{reads as reads_frame}
 use Rattle.arp_table.specs.Arp.{Arp, read_arp, is_arp, arp_octets}
-use Rattle.ipv4_head.specs.Ip.{Ip, read_ip, is_ip, ip_octets, head_length, is_unbroken}
+use Rattle.ipv4_head.specs.Ip.{Ip, read_ip, is_ip, ip_octets, fragment_of, head_length, is_unbroken}
+use Rattle.ipv4_head.specs.Sets.{Part}
 use Rattle.icmp_echo.specs.Icmp.{Icmp, echo, unreachable, other as another, read_icmp}
 use Rattle.udp_assoc.specs.Udp.{Udp, read_udp}
 use Rattle.tcp_segment.specs.Tcp.{Tcp, read_tcp}
 use Rattle.run_laws.specs.Happenings.{arrival_of, datagram_by, datagram_came}
 use Rattle.run_laws.specs.Packets.{Datagram, Packet, Unheard, ArpPacket, Message, DatagramPacket, Segment, datagram_in, datagram_of, may_come, packet_in, packet_of, packet_of_ip, unless_unheard, whole_packet}
-use Rattle.slirp_laws.specs.Answers.{Answer, ArpAnswer, IpAnswer, arp_reply, frame_of, frames_of, identification, is_untold, left, fits_frame, no_network, our_mac, owed_for_fate, owed_for_icmp, owed_for_packet, told_about, reply_for}
+use Rattle.slirp_laws.specs.Answers.{Answer, ArpAnswer, IpAnswer, arp_reply, is_untold, no_network, part_frame, our_mac, owed_for_fate, owed_for_icmp, owed_for_packet, told_about, reply_for}
 use Rattle.slirp_laws.specs.Datagrams.{Fate, Ignored, Refused, GoesTo, fate}
-use Rattle.slirp_laws.specs.Laws.{Lawful}
 use Rattle.slirp_laws.specs.Ports.{last_datagram, last_mac, mac_by, mac_of, opened_for, or_before}
 use Rattle.slirp_laws.specs.Said.{Carries, Occasion, NoOccasion, Came, Heard, Unsent, by_call, by_got, by_made, by_sent, last_occasion, occasion_after, owed_for, unsent_or}
 use Rattle.slirp_laws.proofs.Bools.{first_of}
-use Rattle.slirp_laws.proofs.Owing.{answers_last, owing}
+use Rattle.slirp_laws.proofs.Framing.{fragment_fits, our_six, place_kept}
 
 -- ---- hardware addresses have six octets
 
@@ -156,9 +156,6 @@ all_if : (P : Answer → Type 0) (b : Bool) (one other : List Answer) → AllAns
 all_if P true one other is else_ = is
 all_if P false one other is else_ = else_
 
-our_six : (a : ℕ) → length (our_mac a) ≡ 6
-our_six a = refl
-
 ours_icmp : (mac : List ℕ) (ip : Ip) (message : Icmp) → length mac ≡ 6 → AllAnswers IsOurs (owed_for_icmp mac ip message)
 ours_icmp mac ip (echo true ident number body) is = tt
 ours_icmp mac ip (echo false ident number body) is = ((is, refl), tt)
@@ -181,7 +178,7 @@ ours_packet config (DatagramPacket d) is = ours_fate config d (fate config d) is
 ours_packet config (Segment mac ip tcp) is = tt
 
 six_reply : (config : Config) (peer : Endpoint) (octets : List ℕ) (port : Option Endpoint) (mac : Option (List ℕ)) → SixMac mac → AllAnswers SixAnswer (reply_for config peer octets port mac)
-six_reply config peer octets (Some guest) (Some mac) is = all_if SixAnswer (is_hidden config peer || not (fits_frame config (8 + length octets))) [] _ tt (is, tt)
+six_reply config peer octets (Some guest) (Some mac) is = all_if SixAnswer (is_hidden config peer) [] _ tt (is, tt)
 six_reply config peer octets (Some guest) None is = tt
 six_reply config peer octets None mac is = tt
 
@@ -198,7 +195,7 @@ all_six : (answers : List Answer) → AllAnswers IsOurs answers → AllAnswers S
 all_six [] is = tt
 all_six (a ∷ answers) is = (is.0.0, all_six answers is.1)
 
-six_owed : (config : Config) (past : List Entry) (o : Occasion) → SixOccasion o → AllAnswers SixAnswer (owed_for config past o)
+pub six_owed : (config : Config) (past : List Entry) (o : Occasion) → SixOccasion o → AllAnswers SixAnswer (owed_for config past o)
 six_owed config past NoOccasion is = tt
 six_owed config past (Came packet) is = all_six (owed_for_packet config packet) (ours_packet config packet is)
 six_owed config past (Heard socket peer octets) is = six_reply config peer octets (opened_for config socket past) (mac_of config socket past) (six_mac config socket past)
@@ -234,15 +231,20 @@ six_occasion config (e ∷ past) = six_after config e (arrives e past) (last_dat
 
 -- ---- what our frames carry
 
--- a datagram of ours, as it is read
-pub record ReadsBack (number protocol : ℕ) (ip : Ip) : Type 0 where
+-- a part of a datagram of ours, as it is read
+pub record ReadsBack (number front protocol : ℕ) (follows : Bool) (ip : Ip) : Type 0 where
   pub ident : ip.ident ≡ number
-  pub place : ip.place ≡ 0
+  pub place : ip.place ≡ front
+  pub more : ip.more ≡ follows
   pub proto : ip.proto ≡ protocol
 
-reads_ip : (ident proto from guest : ℕ) (body : List ℕ) (ip : Ip) → ident < 2 ^ 16 → read_ip (ip_octets ident 0 proto from guest body) ≡ Some ip → ReadsBack ident proto ip
-reads_ip ident proto from guest body ip fits is =
-    let octets = ip_octets ident 0 proto from guest body in
+more_kept : (place : ℕ) (more : Bool) → place < 2 ^ 13 → ((fragment_of more place / 2 ^ 13) % 2 == 1) ≡ more
+more_kept place true fits = let is : (8192 + place) / 8192 % 2 ≡ 1 = omega arith in ap (λ n. n == 1) is
+more_kept place false fits = let is : (0 + place) / 8192 % 2 ≡ 0 = omega arith in ap (λ n. n == 1) is
+
+reads_ip : (ident place proto from guest : ℕ) (more : Bool) (body : List ℕ) (ip : Ip) → ident < 2 ^ 16 → place < 2 ^ 13 → read_ip (ip_octets ident (fragment_of more place) proto from guest body) ≡ Some ip → ReadsBack ident place proto more ip
+reads_ip ident place proto from guest more body ip fits within is =
+    let octets = ip_octets ident (fragment_of more place) proto from guest body in
     let found = cond_some (is_ip octets) (record {
       ident = two_at octets 4;
       more = (two_at octets 6 / 2 ^ 13) % 2 == 1;
@@ -253,9 +255,11 @@ reads_ip ident proto from guest body ip fits is =
       head = take (head_length octets) octets;
       body = part octets (head_length octets) (two_at octets 2 - head_length octets);
     }) ip is in
+    let fragment : two_at octets 6 ≡ fragment_of more place = from_be_bytes-to_be_bytes_2 (fragment_of more place) (fragment_fits place more within) in
     record {
       ident = ap (λ (i : Ip). i.ident) (sym found.1) ∙ from_be_bytes-to_be_bytes_2 ident fits;
-      place = ap (λ (i : Ip). i.place) (sym found.1);
+      place = ap (λ (i : Ip). i.place) (sym found.1) ∙ ap (λ n. n % 2 ^ 13) fragment ∙ place_kept place more within;
+      more = ap (λ (i : Ip). i.more) (sym found.1) ∙ ap (λ n. (n / 2 ^ 13) % 2 == 1) fragment ∙ more_kept place more within;
       proto = ap (λ (i : Ip). i.proto) (sym found.1);
     }
 
@@ -267,54 +271,22 @@ framed_ip to from body kind to_six from_six fits =
 same_frame : (o : Option Ether) (one other : Ether) → o ≡ Some one → o ≡ Some other → one ≡ other
 same_frame o one other is was = let both : Some one ≡ Some other = sym is ∙ was in cc
 
-pub reads_answer : (config : Config) (ident : ℕ) (to : List ℕ) (proto from guest : ℕ) (body : List ℕ) (ip : Ip) → ident < 2 ^ 16 → length to ≡ 6 → Carries (frame_of config ident (IpAnswer to proto from guest body)) ip → ReadsBack ident proto ip
-reads_answer config ident to proto from guest body ip fits to_six c =
-    let ours = framed_ip to (our_mac config.vhost) (ip_octets ident 0 proto from guest body) ipv4_kind to_six (our_six config.vhost) (lit< tt) in
-    let same = same_frame (read_ether (frame_of config ident (IpAnswer to proto from guest body))) c.ether (record { to = to; from = our_mac config.vhost; kind = ipv4_kind; body = ip_octets ident 0 proto from guest body }) c.framed ours in
-    reads_ip ident proto from guest body ip fits (ap (λ (e : Ether). read_ip e.body) (sym same) ∙ c.holds)
-
--- what the frame of a datagram holds
-pub carried_ip : (config : Config) (ident : ℕ) (to : List ℕ) (proto from guest : ℕ) (body : List ℕ) (ip : Ip) → length to ≡ 6 → Carries (frame_of config ident (IpAnswer to proto from guest body)) ip → read_ip (ip_octets ident 0 proto from guest body) ≡ Some ip
-carried_ip config ident to proto from guest body ip to_six c =
-    let ours = framed_ip to (our_mac config.vhost) (ip_octets ident 0 proto from guest body) ipv4_kind to_six (our_six config.vhost) (lit< tt) in
-    let same = same_frame (read_ether (frame_of config ident (IpAnswer to proto from guest body))) c.ether (record { to = to; from = our_mac config.vhost; kind = ipv4_kind; body = ip_octets ident 0 proto from guest body }) c.framed ours in
+-- what the frame of a part holds
+pub carried_ip : (config : Config) (ident : ℕ) (to : List ℕ) (proto from guest : ℕ) (p : Part) (ip : Ip) → length to ≡ 6 → Carries (part_frame to (our_mac config.vhost) ident proto from guest p) ip
+    → read_ip (ip_octets ident (fragment_of p.more p.place) proto from guest p.body) ≡ Some ip
+carried_ip config ident to proto from guest p ip to_six c =
+    let octets = ip_octets ident (fragment_of p.more p.place) proto from guest p.body in
+    let ours = framed_ip to (our_mac config.vhost) octets ipv4_kind to_six (our_six config.vhost) (lit< tt) in
+    let same = same_frame (read_ether (ether_octets to (our_mac config.vhost) ipv4_kind octets)) c.ether (record { to = to; from = our_mac config.vhost; kind = ipv4_kind; body = octets }) c.framed ours in
     ap (λ (e : Ether). read_ip e.body) (sym same) ∙ c.holds
 
-pub no_arp : (config : Config) (ident : ℕ) (to : List ℕ) (arp : Arp) (ip : Ip) → length to ≡ 6 → length arp.sender_mac ≡ 6 → Carries (frame_of config ident (ArpAnswer to arp)) ip → ⊥
-no_arp config ident to arp ip to_six from_six c =
+pub reads_part : (config : Config) (ident : ℕ) (to : List ℕ) (proto from guest : ℕ) (p : Part) (ip : Ip) → ident < 2 ^ 16 → p.place < 2 ^ 13 → length to ≡ 6 → Carries (part_frame to (our_mac config.vhost) ident proto from guest p) ip
+    → ReadsBack ident p.place proto p.more ip
+reads_part config ident to proto from guest p ip fits within to_six c = reads_ip ident p.place proto from guest p.more p.body ip fits within (carried_ip config ident to proto from guest p ip to_six c)
+
+pub no_arp : (to : List ℕ) (arp : Arp) (ip : Ip) → length to ≡ 6 → length arp.sender_mac ≡ 6 → Carries (ether_octets to arp.sender_mac arp_kind (arp_octets arp)) ip → ⊥
+no_arp to arp ip to_six from_six c =
     let ours = framed_ip to arp.sender_mac (arp_octets arp) arp_kind to_six from_six (lit< tt) in
-    let same = same_frame (read_ether (frame_of config ident (ArpAnswer to arp))) c.ether (record { to = to; from = arp.sender_mac; kind = arp_kind; body = arp_octets arp }) c.framed ours in
+    let same = same_frame (read_ether (ether_octets to arp.sender_mac arp_kind (arp_octets arp))) c.ether (record { to = to; from = arp.sender_mac; kind = arp_kind; body = arp_octets arp }) c.framed ours in
     let kinds : 2048 ≡ 2054 = sym c.kind ∙ ap (λ (e : Ether). e.kind) same in
     absurd (omega (arith, kinds))
-
-pub ident_fits : (past : List Entry) → identification past < 2 ^ 16
-ident_fits past = omega arith
-
--- ---- identifications
-
-pub next_ident : (config : Config) (past : List Entry) (answer : Answer) (ip : Ip) → SixAnswer answer → Carries (frame_of config (identification past) answer) ip → (ip.ident ≡ identification past) × (ip.place ≡ 0)
-next_ident config past (ArpAnswer to arp) ip is c = absurd (no_arp config (identification past) to arp ip is.0 is.1 c)
-next_ident config past (IpAnswer to proto from guest body) ip is c = let r = reads_answer config (identification past) to proto from guest body ip (ident_fits past) is c in (r.ident, r.place)
-
-one_six : (answers : List Answer) (a : Answer) → answers ≡ a ∷ [] → AllAnswers SixAnswer answers → SixAnswer a
-one_six answers a is all = (subst (AllAnswers SixAnswer) is all).0
-
-pub out_six : (config : Config) (past : List Entry) (a : Answer) → owed_for config past (last_occasion config past) ≡ a ∷ [] → SixAnswer a
-out_six config past a is = one_six (owed_for config past (last_occasion config past)) a is (six_owed config past (last_occasion config past) (six_occasion config past))
-
-pub out_ident : (config : Config) (e : Entry) (past : List Entry) (frame : List ℕ) (ip : Ip) → Lawful config (e ∷ past) → goes_out e past ≡ Some frame → Carries frame ip → (ip.ident ≡ identification past) × (ip.place ≡ 0)
-out_ident config e past frame ip lawful out c =
-    let a = answers_last config e past frame lawful out in
-    next_ident config past a.answer ip (out_six config past a.answer a.owed) (subst (λ f. Carries f ip) a.is c)
-
--- the first that is left
-first_answer : (config : Config) (ident : ℕ) (answers : List Answer) (frame : List ℕ) (rest : List (List ℕ)) → frames_of config ident answers ≡ frame ∷ rest → AllAnswers SixAnswer answers → (a : Answer) × (frame ≡ frame_of config ident a) × SixAnswer a
-first_answer config ident [] frame rest is all = cc
-first_answer config ident (a ∷ answers) frame rest is all = (a, cc, all.0)
-
-pub left_ident : (config : Config) (past : List Entry) (frame : List ℕ) (rest : List (List ℕ)) (ip : Ip) → Lawful config past → left config past ≡ frame ∷ rest → Carries frame ip → ip.ident ≡ identification past
-left_ident config past frame rest ip lawful is c = elim (owing config past lawful).owed [
-  | inl none ↦ (let never : [] ≡ frame ∷ rest = sym none ∙ is in cc)
-  | inr some ↦ (let a = first_answer config (identification past) (owed_for config past (last_occasion config past)) frame rest (sym some ∙ is) (six_owed config past (last_occasion config past) (six_occasion config past)) in
-      (next_ident config past a.0 ip a.2 (subst (λ f. Carries f ip) a.1 c)).0)
-]

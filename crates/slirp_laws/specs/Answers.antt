@@ -1,5 +1,5 @@
 -- What is owed to a guest for the frame or datagram that came last, and what of it isn't out yet.
-use Rattle.std.specs.Prelude.{◌≡◌, ℕ, ◌+◌, ◌%◌, ◌^◌, ◌==◌, ◌&&◌, ◌||◌, not, nat_le, Bool, true, false, List, [], ◌∷◌, drop, length, map, bytes_eq, Option, Some, None, if◌then◌else◌}
+use Rattle.std.specs.Prelude.{◌≡◌, ℕ, ◌+◌, ◌%◌, ◌^◌, ◌==◌, ◌&&◌, ◌||◌, not, nat_le, Bool, true, false, List, [], ◌∷◌, ◌++◌, drop, length, map, bytes_eq, Option, Some, None, if◌then◌else◌}
 use Rattle.world_face.specs.Frames.{goes_out}
 use Rattle.world_face.specs.Journal.{Entry, LinkWrite, UdpOpen, UdpSend, UdpRecv}
 use Rattle.world_face.specs.declared.Made.{Made}
@@ -15,7 +15,9 @@ use Rattle.host_policy.specs.Addresses.{Config, address, last_address, is_ours, 
 use Rattle.host_policy.specs.Targets.{is_group_or_reserved, shown, is_hidden}
 use Rattle.ether_frame.specs.Ether.{ether_octets}
 use Rattle.arp_table.specs.Arp.{Arp, arp_octets}
-use Rattle.ipv4_head.specs.Ip.{Ip, ip_octets}
+use Rattle.ipv4_head.specs.Cuts.{cuts}
+use Rattle.ipv4_head.specs.Ip.{Ip, fragment_of, ip_octets}
+use Rattle.ipv4_head.specs.Sets.{Part}
 use Rattle.icmp_echo.specs.Icmp.{Icmp, echo, unreachable, other, echo_octets, unreachable_octets}
 use Rattle.udp_assoc.specs.Udp.{udp_octets}
 use Rattle.run_laws.specs.Happenings.{Arrival, Happening, happens}
@@ -47,13 +49,9 @@ owed_for_icmp mac ip (echo false ident number body) = IpAnswer mac icmp_proto ip
 owed_for_icmp mac ip (unreachable code quoted) = []
 owed_for_icmp mac ip (other kind code) = []
 
--- A datagram with so many octets behind its header of 20 fits a frame to a guest (RFC 894; the settings say how long one may be).
-abbrev pub fits_frame : Config → ℕ → Bool
-fits_frame config octets = nat_le (20 + octets) config.mtu
-
--- a message to one of ours; one whose answer doesn't fit a frame owes nothing yet
+-- a message to one of ours
 abbrev pub owed_for_message : Config → List ℕ → Ip → Icmp → List Answer
-owed_for_message config mac ip message = if is_ours config ip.to && fits_frame config (length ip.body) then owed_for_icmp mac ip message else []
+owed_for_message config mac ip message = if is_ours config ip.to then owed_for_icmp mac ip message else []
 
 -- no unreachable is sent to nobody, nor about what went to many (RFC 1122, 3.2.2)
 abbrev pub is_untold : Config → Datagram → Bool
@@ -86,11 +84,11 @@ owed_for_packet config (Message mac ip message) = owed_for_message config mac ip
 owed_for_packet config (DatagramPacket d) = owed_for_datagram config d
 owed_for_packet config (Segment mac ip tcp) = []
 
--- What a peer's datagram owes: its payload, whole, to the port of a guest for which the socket was opened, at the hardware address from which that port spoke last. Nothing where the peer isn't shown; and where the answer doesn't fit a frame nothing yet.
+-- What a peer's datagram owes: its payload, whole, to the port of a guest for which the socket was opened, at the hardware address from which that port spoke last. Nothing where the peer isn't shown.
 abbrev pub reply_at : Config → Endpoint → List ℕ → Endpoint → List ℕ → List Answer
 reply_at config peer octets guest mac =
     let from = shown config peer in
-    if is_hidden config peer || not (fits_frame config (8 + length octets)) then []
+    if is_hidden config peer then []
     else IpAnswer mac udp_proto (address from) (address guest) (udp_octets (address from) (address guest) (record { from_port = from.port; to_port = guest.port; body = octets })) ∷ []
 
 abbrev pub reply_for : Config → Endpoint → List ℕ → Option Endpoint → Option (List ℕ) → List Answer
@@ -98,13 +96,30 @@ reply_for config peer octets (Some guest) (Some mac) = reply_at config peer octe
 reply_for config peer octets (Some guest) None = []
 reply_for config peer octets None mac = []
 
--- a packet as it goes out, a datagram with this identification
-abbrev pub frame_of : Config → ℕ → Answer → List ℕ
-frame_of config ident (ArpAnswer to arp) = ether_octets to arp.sender_mac arp_kind (arp_octets arp)
-frame_of config ident (IpAnswer to proto from guest body) = ether_octets to (our_mac config.vhost) ipv4_kind (ip_octets ident 0 proto from guest body)
+-- a datagram that isn't cut yet, as a part of its own
+abbrev pub uncut : List ℕ → Part
+uncut body = record { place = 0; more = false; life = 64; head = []; body = body }
+
+-- the frame in which a part of a datagram goes out
+abbrev pub part_frame : (to from : List ℕ) (ident proto source guest : ℕ) → Part → List ℕ
+part_frame to from ident proto source guest p = ether_octets to from ipv4_kind (ip_octets ident (fragment_of p.more p.place) proto source guest p.body)
+
+-- A datagram goes out in the parts that fit a frame, in their order, all with its identification (RFC 791, 2.3; RFC 894; the settings say how long a part may be).
+abbrev pub datagram_frames : (mtu : ℕ) (to from : List ℕ) (ident proto source guest : ℕ) → List ℕ → List (List ℕ)
+datagram_frames mtu to from ident proto source guest body = map (part_frame to from ident proto source guest) (cuts mtu (uncut body))
+
+-- a datagram carries at most 65,515 octets behind a header of 20 (RFC 791, 3.1)
+abbrev pub fits_datagram : List ℕ → Bool
+fits_datagram body = nat_le (length body) 65515
+
+-- the frames of an answer as they go out, those of a datagram with this identification
+abbrev pub frames_for : Config → ℕ → Answer → List (List ℕ)
+frames_for config ident (ArpAnswer to arp) = ether_octets to arp.sender_mac arp_kind (arp_octets arp) ∷ []
+frames_for config ident (IpAnswer to proto from guest body) = if fits_datagram body then datagram_frames config.mtu to (our_mac config.vhost) ident proto from guest body else []
 
 abbrev pub frames_of : Config → ℕ → List Answer → List (List ℕ)
-frames_of config ident packets = map (frame_of config ident) packets
+frames_of config ident [] = []
+frames_of config ident (answer ∷ answers) = frames_for config ident answer ++ frames_of config ident answers
 
 -- a frame that carries a datagram, or the first part of one
 abbrev pub begins_datagram : List ℕ → Bool

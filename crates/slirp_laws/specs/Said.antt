@@ -1,5 +1,5 @@
 -- What the laws come to, in the words of guests, their ports and their datagrams.
-use Rattle.std.specs.Prelude.{◌≡◌, ℕ, ◌+◌, ◌<◌, ◌≤◌, ◌||◌, not, nat_le, true, false, List, [], ◌∷◌, length, Option, Some, None, if◌then◌else◌}
+use Rattle.std.specs.Prelude.{◌≡◌, ℕ, zero, suc, ◌+◌, ◌-◌, ◌%◌, ◌^◌, ◌<◌, ◌≤◌, ◌||◌, not, nat_le, true, false, List, [], ◌∷◌, drop, length, Option, Some, None, if◌then◌else◌}
 use Rattle.world_face.specs.Journal.{Entry, UdpOpen, UdpSend, UdpRecv}
 use Rattle.world_face.specs.declared.Made.{Made}
 use Rattle.world_face.specs.declared.Made.TheVariants.{Done as MadeDone, Failed as MadeFailed}
@@ -22,7 +22,7 @@ use Rattle.run_laws.specs.Happenings.{Arrival, happens}
 use Rattle.run_laws.specs.Moments.{moment}
 use Rattle.run_laws.specs.Packets.{Datagram, Packet}
 use Rattle.run_laws.specs.Sockets.{is_among}
-use Rattle.slirp_laws.specs.Answers.{Answer, IpAnswer, frame_of, identification, no_network, owed_for_packet, reply_for, told_about}
+use Rattle.slirp_laws.specs.Answers.{Answer, IpAnswer, datagrams_out, frames_for, frames_of, identification, no_network, owed_for_packet, reply_for, told_about}
 use Rattle.slirp_laws.specs.Ports.{associations_open, last_datagram, last_use, mac_of, opened_for, used_at}
 
 -- A datagram that is sent is the payload, whole, of the one that came last; it goes where that one may go, on a socket that was opened for the port from which it came.
@@ -88,11 +88,23 @@ owed_for config past (Came packet) = owed_for_packet config packet
 owed_for config past (Heard socket peer octets) = reply_for config peer octets (opened_for config socket past) (mac_of config socket past)
 owed_for config past (Unsent d) = told_about config no_network d
 
--- A frame answers what came last: one answer is owed for that, and the frame is this one, with the next identification.
+-- the identification of an answer of which so many frames are out: where none is it is the next one, and later that of the datagram that began last
+abbrev pub identification_with : ℕ → List Entry → ℕ
+identification_with zero past = identification past
+identification_with (suc frames) past = (datagrams_out past - 1) % 2 ^ 16
+
+-- What is left is what is owed for what came last, but for so many frames, which are out.
+pub record IsRest (config : Config) (past : List Entry) (left : List (List ℕ)) : Type 0 where
+  pub out : ℕ
+  pub is : left ≡ drop out (frames_of config (identification_with out past) (owed_for config past (last_occasion config past)))
+
+-- A frame answers what came last: one answer is owed for that, so many of its frames are out, and this is the next one, which the others follow.
 pub record AnswersLast (config : Config) (past : List Entry) (frame : List ℕ) : Type 0 where
   pub answer : Answer
   pub owed : owed_for config past (last_occasion config past) ≡ answer ∷ []
-  pub is : frame ≡ frame_of config (identification past) answer
+  pub out : ℕ
+  pub rest : List (List ℕ)
+  pub is : drop out (frames_for config (identification_with out past) answer) ≡ frame ∷ rest
 
 -- what a frame carries, as it is read: a datagram of IPv4 (RFC 894; RFC 791, 3.1)
 pub record Carries (frame : List ℕ) (ip : Ip) : Type 0 where
@@ -101,20 +113,23 @@ pub record Carries (frame : List ℕ) (ip : Ip) : Type 0 where
   pub kind : ether.kind ≡ ipv4_kind
   pub holds : read_ip ether.body ≡ Some ip
 
--- A frame is the reply to what was received last: on a socket that was opened for this port of a guest, its payload whole, from the peer as it is shown.
+-- A frame is one of the reply to what was received last: on a socket that was opened for this port of a guest, its payload whole, from the peer as it is shown. So many frames of the reply are out.
 pub record RepliesToItsPort (config : Config) (past : List Entry) (frame : List ℕ) : Type 0 where
   pub socket : ℕ
   pub peer : Endpoint
   pub octets : List ℕ
   pub last : last_occasion config past ≡ Heard socket peer octets
   pub seen : is_hidden config peer ≡ false
-  pub fits : 28 + length octets ≤ config.mtu
+  pub fits : length octets ≤ 65507
   pub guest : Endpoint
   pub port : opened_for config socket past ≡ Some guest
   pub mac : List ℕ
   pub at : mac_of config socket past ≡ Some mac
-  pub is : frame ≡ frame_of config (identification past) (IpAnswer mac udp_proto (address (shown config peer)) (address guest)
-      (udp_octets (address (shown config peer)) (address guest) (record { from_port = (shown config peer).port; to_port = guest.port; body = octets })))
+  pub out : ℕ
+  pub rest : List (List ℕ)
+  pub is : drop out (frames_for config (identification_with out past) (IpAnswer mac udp_proto (address (shown config peer)) (address guest)
+      (udp_octets (address (shown config peer)) (address guest) (record { from_port = (shown config peer).port; to_port = guest.port; body = octets }))))
+      ≡ frame ∷ rest
 
 -- The same of a frame as it is read: what it carries is what was received last, whole; it goes to the port for which the socket was opened, and from the peer as it is shown.
 pub record IsReplyToItsPort (config : Config) (past : List Entry) (ip : Ip) (udp : Udp) : Type 0 where

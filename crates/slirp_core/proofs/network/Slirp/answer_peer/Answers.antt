@@ -1,11 +1,9 @@
 use Rattle.std.proofs.Common.{◌≡◌, ℕ, ◌+◌, true, List, [], ◌∷◌, length, Some, None, if◌then◌else◌, sym, ◌∙◌, ap}
-use Rattle.net_octets.specs.Kinds.{ipv4_kind, udp_proto}
+use Rattle.net_octets.specs.Kinds.{udp_proto}
 use Rattle.host_policy.specs.Addresses.{Config}
 use Rattle.host_policy.specs.Targets.{shown, is_hidden}
-use Rattle.ether_frame.specs.Ether.{ether_octets}
-use Rattle.ipv4_head.specs.Ip.{ip_octets}
 use Rattle.udp_assoc.specs.Udp.{udp_octets}
-use Rattle.slirp_laws.specs.Answers.{fits_frame, frames_of, reply_at}
+use Rattle.slirp_laws.specs.Answers.{datagram_frames, frames_of, reply_at}
 use Rattle.slirp_core.specs.State.{SlirpState}
 use Rattle.slirp_core.specs.declared.outgoing.Course.{Course}
 use Rattle.slirp_core.proofs.Taking.{answered}
@@ -22,10 +20,9 @@ returns c =
     let policy : inside.policy ≡ old.config = ap (λ (s : SlirpState). s.config) c.self.view_is in
     let seen : Some from ≡ (if is_hidden old.config peer then None else Some (shown old.config peer)) =
     c.in-Some.ensures ∙ ap (λ (k : Config). if is_hidden k peer then None else Some (shown k peer)) policy in
-    let whole : fits_frame old.config (8 + length octets) ≡ true = ap (λ (k : Config). fits_frame k (8 + length octets)) (sym policy) ∙ sym c.fits_frame.ensures.fits ∙ c.if-not-fits_frame.false in
     let pending : c.put_udp.new.self ≡ frames_of old.config old.sent (reply_at old.config peer octets a.guest a.mac.0) =
     c.put_udp.ensures
-    ∙ ap (λ (k : Course). ether_octets k.to_mac.0 k.from_mac.0 ipv4_kind (ip_octets k.ident 0 udp_proto k.from.0 k.to.0 (udp_octets k.from.0 k.to.0 (record { from_port = from.port; to_port = a.guest.port; body = octets }))) ∷ []) c.course-course.ensures
-    ∙ answered old.config old.sent peer from octets a seen whole in
+    ∙ ap (λ (k : Course). datagram_frames k.mtu k.to_mac.0 k.from_mac.0 k.ident udp_proto k.from.0 k.to.0 (udp_octets k.from.0 k.to.0 (record { from_port = from.port; to_port = a.guest.port; body = octets }))) c.course-course.ensures.course
+    ∙ answered old.config old.sent peer from octets a seen c.requires.short in
     ap (λ (p : List (List ℕ)). record { config = inside.policy; known = inside.guests; sent = inside.sent; pending = p; moment = inside.moment; number = inside.number; associations = inside.associations }) pending
     ∙ ap (λ (s : SlirpState). record s { pending = frames_of old.config old.sent (reply_at old.config peer octets a.guest a.mac.0) }) c.self.view_is

@@ -1,15 +1,27 @@
-use Rattle.std.proofs.Common.{◌∙◌, ap, sym}
-use Rattle.world_face.proofs.Telling.{brings_from}
-use Rattle.slirp_core.specs.Pumps.{pumped_of}
+use Rattle.std.proofs.Common.{[], ◌∙◌, ap}
+use Rattle.world_face.proofs.Counting.{rose_after}
+use Rattle.world_face.proofs.Telling.{brings_then}
+use Rattle.slirp_core.specs.Holds.{standing}
 use Rattle.slirp_core.specs.State.{SlirpState}
-use Rattle.slirp_core.proofs.Pumping.{after_offer}
+use Rattle.slirp_core.proofs.Counted.{grown}
 use Rattle.slirp_core.proofs.network.Slirp.pump_pending.Goals as goal
 
-pub returns-clause-makes : goal.returns-clause-makes
-returns-clause-makes g c config at =
-    let old = c.args.link.now in
-    let new = c.offer-offered.new.self in
-    let comes = c.outcome.ensures ∙ ap (pumped_of c.offer-offered.result) c.blocked.ensures in
-    brings_from c.offer-offered.ensures.makes (λ made writes past holds.
-    after_offer config at c.args.self.now c.mark_out.new.self old new made past c.frame.result.now c.offer-offered.result c.outcome.result c.requires.none
-    (sym (ap (λ (s : SlirpState). s.pending) c.self.view_is) ∙ c.frame.ensures.frame) writes.0 writes.1 comes c.mark_out.ensures holds)
+pub loop-self-preserved : goal.loop-self-preserved
+loop-self-preserved g c = record {
+  makes = λ config at. brings_then (c.loop-self.invariant.makes config at) (c.in-Clear.ensures.makes config at);
+  free = c.in-Clear.ensures.leaves.0;
+  none = c.in-Clear.ensures.leaves.1;
+  same = c.in-Clear.ensures.same ∙ c.loop-self.invariant.same;
+  others = c.in-Clear.ensures.others ∙ ap (λ (s : SlirpState). record s { pending = c.pump_next.new.self.pending; sent = c.pump_next.new.self.sent }) c.loop-self.invariant.others;
+}
+
+pub returns-in-Blocked-clause-makes : goal.returns-in-Blocked-clause-makes
+returns-in-Blocked-clause-makes g c config at = brings_then (c.loop-self.invariant.makes config at) (c.in-Blocked.ensures.makes config at)
+
+pub returns-in-Failed-clause-makes : goal.returns-in-Failed-clause-makes
+returns-in-Failed-clause-makes g c config at = brings_then (c.loop-self.invariant.makes config at) (c.in-Failed.ensures.makes config at)
+
+pub returns-in-Failed-clause-failed : goal.returns-in-Failed-clause-failed
+returns-in-Failed-clause-failed g c is =
+    let before = grown _ _ _ (c.loop-self.invariant.makes c.args.self.now.config (standing 0 [] [])).counted in
+    rose_after (g.W.World.tells c.args.world.now).faults.link _ _ before.0 (c.in-Failed.ensures.failed is)

@@ -14,14 +14,14 @@ pub returns-then-is_message_to_us-clause-errand : goal.returns-then-is_message_t
 returns-then-is_message_to_us-clause-errand c =
     let ip = ip_of c.in-Ok.packet in
     let policy = ap (λ (s : SlirpState). s.config) c.self.view_is ∙ ap (λ (s : SlirpState). s.config) c.learn.ensures in
-    let asked : is_message_to_us c.args.self.now.config ip ≡ true = ap (λ (k : Config). is_message_to_us k ip) (sym policy) ∙ sym c.is_message_to_us.ensures.asked ∙ c.if-is_message_to_us.true in
+    let asked : is_message_to_us c.args.self.now.config ip ≡ true = ap (λ (k : Config). is_message_to_us k ip) (sym policy) ∙ sym c.is_message_to_us.ensures ∙ c.if-is_message_to_us.true in
     no_errand c.args.self.now c.args.mac.0 c.args.body.now ip c.in-Ok.ensures.fields asked
 
 pub returns-then-is_message_to_us-clause-changes : goal.returns-then-is_message_to_us-clause-changes
 returns-then-is_message_to_us-clause-changes c =
     let ip = ip_of c.in-Ok.packet in
     let policy = ap (λ (s : SlirpState). s.config) c.self.view_is ∙ ap (λ (s : SlirpState). s.config) c.learn.ensures in
-    let asked : is_message_to_us c.args.self.now.config ip ≡ true = ap (λ (k : Config). is_message_to_us k ip) (sym policy) ∙ sym c.is_message_to_us.ensures.asked ∙ c.if-is_message_to_us.true in
+    let asked : is_message_to_us c.args.self.now.config ip ≡ true = ap (λ (k : Config). is_message_to_us k ip) (sym policy) ∙ sym c.is_message_to_us.ensures ∙ c.if-is_message_to_us.true in
     c.take_icmp.ensures
     ∙ ap (λ (s : SlirpState). record s { pending = frames_of s.config s.sent (owed_for (owed_for_icmp c.args.mac.0 ip) (read_icmp ip.body)) }) c.learn.ensures
     ∙ message_to_us c.args.self.now c.args.mac.0 c.args.body.now ip c.in-Ok.ensures.fields asked
@@ -31,7 +31,7 @@ returns-clause-changes c =
     let ip = ip_of c.in-Ok.packet in
     let d = datagram_of c.in_ok-datagram.datagram in
     let policy = ap (λ (s : SlirpState). s.config) c.self.view_is ∙ ap (λ (s : SlirpState). s.config) c.learn.ensures in
-    let asked : is_message_to_us c.args.self.now.config ip ≡ false = ap (λ (k : Config). is_message_to_us k ip) (sym policy) ∙ sym c.is_message_to_us.ensures.asked ∙ c.if-is_message_to_us.false in
+    let asked : is_message_to_us c.args.self.now.config ip ≡ false = ap (λ (k : Config). is_message_to_us k ip) (sym policy) ∙ sym c.is_message_to_us.ensures ∙ c.if-is_message_to_us.false in
     let udp : Some d ≡ udp_of c.args.self.now.config c.args.mac.0 ip = c.in_ok-datagram.ensures.datagram ∙ ap (λ (k : Config). udp_of k c.args.mac.0 ip) policy in
     c.take_udp.ensures.changes
     ∙ ap (λ (s : SlirpState). record s { pending = frames_of s.config s.sent (owed_for_datagram s.config d) }) c.learn.ensures

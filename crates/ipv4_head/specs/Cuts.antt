@@ -1,5 +1,5 @@
 -- The parts into which a datagram is cut (RFC 791, 2.3).
-use Rattle.std.specs.Prelude.{◌≡◌, zero, suc, ◌≢◌, ℕ, ◌-◌, ◌*◌, ◌/◌, true, Bool, nat_lt, List, length, take, drop, Option, None, Some, if◌then◌else◌}
+use Rattle.std.specs.Prelude.{◌≡◌, zero, suc, ◌≢◌, ℕ, ◌+◌, ◌-◌, ◌*◌, ◌/◌, true, Bool, nat_lt, List, [], ◌∷◌, length, take, drop, Option, None, Some, if◌then◌else◌}
 use Rattle.std.specs.List.{Contains, AllPairs}
 use Rattle.ipv4_head.specs.Sets.{Part}
 
@@ -28,11 +28,26 @@ abbrev pub cut_body : ℕ → List ℕ → ℕ → List ℕ
 cut_body mtu body k = let rest = drop (cut_start mtu k) body in
     if is_before_last mtu (length body) k then take (8 * units_in mtu) rest else rest
 
+-- the k-th part
+abbrev pub cut_at : ℕ → Part → ℕ → Part
+cut_at mtu whole k = record whole { place = k * units_in mtu; more = is_before_last mtu (length whole.body) k; body = cut_body mtu whole.body k }
+
 -- the k-th part of a datagram that is none itself
 abbrev pub cut_of : ℕ → Part → ℕ → Option Part
-cut_of mtu whole k =
-    if is_cut mtu (length whole.body) k then Some (record whole { place = k * units_in mtu; more = is_before_last mtu (length whole.body) k; body = cut_body mtu whole.body k })
-    else None
+cut_of mtu whole k = if is_cut mtu (length whole.body) k then Some (cut_at mtu whole k) else None
+
+-- how many parts there are: the last, and as many before it as what doesn't fit has whole units for
+abbrev pub cut_count : ℕ → ℕ → ℕ
+cut_count mtu size = suc ((size - room_in mtu + (8 * units_in mtu - 1)) / (8 * units_in mtu))
+
+-- so many parts, from the k-th on
+abbrev pub cuts_from : ℕ → Part → ℕ → ℕ → List Part
+cuts_from mtu whole k zero = []
+cuts_from mtu whole k (suc n) = cut_at mtu whole k ∷ cuts_from mtu whole (suc k) n
+
+-- the parts into which a datagram is cut, in their order
+abbrev pub cuts : ℕ → Part → List Part
+cuts mtu whole = cuts_from mtu whole 0 (cut_count mtu (length whole.body))
 
 -- parts are those into which a datagram is cut, each once, in any order
 pub record AreCuts (mtu : ℕ) (whole : Part) (parts : List Part) : Type 0 where
