@@ -5,11 +5,12 @@ use Rattle.host_policy.specs.Targets.{shown, is_hidden}
 use Rattle.ether_frame.specs.Ether.{ether_octets}
 use Rattle.ipv4_head.specs.Ip.{ip_octets}
 use Rattle.udp_assoc.specs.Udp.{udp_octets}
+use Rattle.udp_assoc.specs.declared.assocs.Association.{Association}
 use Rattle.slirp_laws.specs.Answers.{fits_frame, frames_of, reply_at}
 use Rattle.slirp_core.specs.State.{SlirpState}
 use Rattle.slirp_core.specs.declared.outgoing.Course.{Course}
 use Rattle.slirp_core.proofs.Taking.{answered}
-use Rattle.slirp_core.proofs.network.Slirp.answer_peer.Goals as goal
+use Rattle.slirp_core.proofs.network.Slirp.put_reply.Goals as goal
 
 pub returns : goal.returns
 returns c =
@@ -18,7 +19,7 @@ returns c =
     let peer = c.args.peer in
     let from = c.in-Some.from in
     let octets = c.args.octets.now in
-    let a = c.args.association.now in
+    let a : Association = record { number = 0; guest = c.args.guest; mac = c.args.mac; used = 0 } in
     let policy : inside.policy ≡ old.config = ap (λ (s : SlirpState). s.config) c.self.view_is in
     let seen : Some from ≡ (if is_hidden old.config peer then None else Some (shown old.config peer)) =
     c.in-Some.ensures ∙ ap (λ (k : Config). if is_hidden k peer then None else Some (shown k peer)) policy in
