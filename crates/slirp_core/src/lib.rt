@@ -12,3 +12,4 @@ mod wants;
 
 pub use network::Slirp;
 pub use sending::Pumped;
+pub use wants::TurnWants;

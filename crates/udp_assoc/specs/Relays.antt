@@ -25,11 +25,15 @@ pub record Outbound : Type 0 where
 abbrev pub opened : Outbound → ℕ → ℕ → Association
 opened d number now = record { number = number; guest = d.from; mac = d.mac; used = now }
 
--- a guest is told that the network can't be reached where the World refuses (RFC 792, code 0)
+-- the code of an unreachable: the network can't be reached (RFC 792)
+abbrev pub no_network : ℕ
+no_network = 0
+
+-- which a guest is told where the World refuses
 abbrev pub told : Sent → Reply
 told Done = Nothing
 told NotYet = Nothing
-told Failed = Unreachable 0
+told Failed = Unreachable no_network
 
 -- a datagram was sent on a socket
 abbrev pub SendsOn : ℕ → Outbound → Reply → List Entry → Type 0
@@ -48,7 +52,7 @@ with_room (oldest ∷ list) = if nat_le most_associations (length (oldest ∷ li
 pub data OpensFor (d : Outbound) (now number : ℕ) (old new : List Association) (reply : Reply) (made : List Entry) : Type 0 where
   Opens : (answer : Sent) → made ≡ UdpSend number d.to d.body answer ∷ UdpOpen number anywhere MadeDone ∷ []
       → new ≡ moved_last (sent_from d.mac now) number (old ++ (opened d number now ∷ [])) → reply ≡ told answer → OpensFor d now number old new reply made
-  OpensNone : made ≡ UdpOpen number anywhere MadeFailed ∷ [] → new ≡ old → reply ≡ Unreachable 0 → OpensFor d now number old new reply made
+  OpensNone : made ≡ UdpOpen number anywhere MadeFailed ∷ [] → new ≡ old → reply ≡ Unreachable no_network → OpensFor d now number old new reply made
 
 -- a datagram is sent on the socket of its forward, or on that of its port, or on one that is opened for it
 pub data Relays (forward : Option ℕ) (d : Outbound) (now number next : ℕ) (old new : List Association) (reply : Reply) (made : List Entry) : Type 0 where
