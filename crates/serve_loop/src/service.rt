@@ -15,8 +15,8 @@ ghost use Rattle.poll_list.specs.declared.Want.{Want as AnItem};
 
 use host_policy::SlirpConfig;
 use net_octets::NoMemory;
-use poll_list::{ReadyList, Want, Wants, Who};
-use slirp_core::{Pumped, Slirp};
+use poll_list::{ReadyList, Want, Who};
+use slirp_core::{Pumped, Slirp, TurnWants};
 use std::alloc::Global;
 use std::marker::Model;
 use stream_netdev::{Arrived, Link};
@@ -67,7 +67,7 @@ pub enum Slept {
 pub struct Service {
     slirp: Slirp,
     link: Link,
-    wants: Wants,
+    wants: TurnWants,
     ready: ReadyList,
     payload: Vec<u8>,
     turns: u64,
@@ -116,7 +116,7 @@ impl Service {
     {
         let link = Link::open(alloc)?;
         let (Ok(wants), Ok(ready), Ok(payload)) = (
-            Wants::open(alloc, MOST_READY),
+            TurnWants::open(alloc, MOST_READY),
             ReadyList::open(alloc, MOST_READY),
             vec![in alloc; 0; MOST_PAYLOAD],
         ) else {
@@ -229,7 +229,7 @@ impl Service {
         ensures number { self.new.slirp.number ≡ self.old.slirp.number }
     {
         let timeout = self.slirp.pollfds_fill(&self.link, &mut self.wants);
-        match world.wait(&self.wants, timeout, &mut self.ready) {
+        match world.wait(self.wants.list(), timeout, &mut self.ready) {
             Waited::Ready => {
                 let told = world.now();
                 self.slirp.tell_moment(told);

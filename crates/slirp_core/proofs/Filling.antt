@@ -1,22 +1,29 @@
 -- What is waited for.
-use Rattle.std.proofs.Common.{◌≡◌, ℕ, ◌^◌, ◌<◌, ◌≤◌, ◌&&◌, ◌||◌, nat_lt, Bool, true, false, IsTrue, List, [], ◌∷◌, ◌++◌, length, refl, sym, ◌∙◌, ap, append-nil, arith}
+use Rattle.std.proofs.Common.{◌≡◌, ℕ, ◌^◌, ◌<◌, ◌≤◌, ◌&&◌, ◌||◌, not, nat_lt, Bool, true, false, IsTrue, List, [], ◌∷◌, ◌++◌, length, refl, sym, ◌∙◌, ap, append-nil, arith}
 use Rattle.std.proofs.lemmas.Bool.Decides.{nat_tests}
 use Rattle.poll_list.specs.Listing.{AreWants, are_wants, is_who}
 use Rattle.poll_list.specs.declared.Want.{Want}
-use Rattle.slirp_core.specs.Pumps.{link_want, udp_want, socket_wants}
+use Rattle.std.specs.List.Sorted.{IsPermutation, IsNonDecreasing}
+use Rattle.stream_netdev.specs.State.{LinkState}
+use Rattle.udp_assoc.specs.Associations.{numbers}
+use Rattle.slirp_core.specs.Pumps.{WantsOf, is_settled, link_want, udp_want, socket_wants}
+use Rattle.slirp_core.specs.State.{SlirpState}
 
 -- the link, and then the sockets where they are wanted
-module _ (wants linked : List Want) (read settled write : Bool) (sockets : List ℕ) (link : linked ≡ link_want read write) (same : read ≡ settled) where
-  first : linked ≡ link_want settled write
-  first = link ∙ ap (λ (b : Bool). link_want b write) same
+pub wants_of : (slirp : SlirpState) (link : LinkState) (wants : List Want) (read write : Bool) (sockets : List ℕ) → read ≡ is_settled slirp link → write ≡ link.blocked → IsPermutation (numbers slirp.associations) sockets → IsNonDecreasing sockets
+    → wants ≡ link_want read write ++ socket_wants read sockets → WantsOf slirp link wants
+wants_of slirp link wants read write sockets settled blocked all rising is = record {
+  sockets = sockets;
+  all = all;
+  rising = rising;
+  is = is ∙ ap (λ (b : Bool). link_want b write ++ socket_wants b sockets) settled ∙ ap (λ (b : Bool). link_want (is_settled slirp link) b ++ socket_wants (is_settled slirp link) sockets) blocked;
+}
 
-  pub with_sockets : read ≡ true → wants ≡ linked ++ socket_wants true sockets → wants ≡ link_want settled write ++ socket_wants settled sockets
-  with_sockets wanted is =
-      is ∙ ap (λ (w : List Want). w ++ socket_wants true sockets) first ∙ ap (λ (b : Bool). link_want settled write ++ socket_wants b sockets) (sym wanted ∙ same)
-
-  pub with_none : read ≡ false → wants ≡ linked → wants ≡ link_want settled write ++ socket_wants settled sockets
-  with_none no_read is =
-      is ∙ sym (append-nil linked) ∙ ap (λ (w : List Want). w ++ socket_wants false sockets) first ∙ ap (λ (b : Bool). link_want settled write ++ socket_wants b sockets) (sym no_read ∙ same)
+-- all is wanted for reading
+pub all_read : (read write : Bool) (sockets : List ℕ) → (read && not write) ≡ true → link_want true false ++ socket_wants true sockets ≡ link_want read write ++ socket_wants read sockets
+all_read true false sockets is = refl
+all_read true true sockets is = cc
+all_read false write sockets is = cc
 
 -- what is wanted has a direction
 pub link_wants : (read write : Bool) → IsTrue (are_wants (link_want read write))

@@ -1,4 +1,4 @@
-pub mod Below
+pub mod Associating
 pub mod Bridging
 pub mod Closing
 pub mod Counted

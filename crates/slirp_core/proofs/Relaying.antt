@@ -16,6 +16,7 @@ use Rattle.host_policy.specs.Addresses.{Config, address}
 use Rattle.host_policy.specs.Targets.{anywhere, same_endpoint}
 use Rattle.udp_assoc.specs.Associations.{most_associations, numbers, numbered, is_numbered, is_idle, is_of, socket_of, without, moved_last, sent_from, heard_at}
 use Rattle.udp_assoc.specs.declared.assocs.Association.{Association}
+use Rattle.udp_assoc.proofs.Yielding.{still_none}
 use Rattle.run_laws.specs.Moments.{moment, waits}
 use Rattle.run_laws.specs.Shape.{phase, is_ended, is_over, is_working}
 use Rattle.run_laws.specs.Sockets.{Association as OfAssociation, datagram_kind, is_among, is_association, kind_of, next_number, open_sockets}
@@ -36,7 +37,7 @@ use Rattle.slirp_core.specs.Holds.{Standing, standing, HoldsAt, Holds, InTurn, I
 use Rattle.slirp_core.specs.Sockets.{IsRising}
 use Rattle.slirp_core.specs.State.{SlirpState}
 use Rattle.slirp_core.proofs.Parts.{after_socket, asked_for, asks_nothing, behind_of, due_is, errand_for, in_turn, or_first, or_second, reads_of, still_open}
-use Rattle.slirp_core.proofs.Sockets.{same, fewer, among_last, among_without, numbered_among, those_last, those_moved, those_without, idle_among, rising_last, rising_up, rising_without}
+use Rattle.slirp_core.proofs.Sockets.{same, among_last, among_without, numbered_among, those_last, those_moved, those_without, idle_among, rising_last, rising_up, rising_without}
 
 pub and_both : (a b : Bool) → a ≡ true → b ≡ true → (a && b) ≡ true
 and_both true true one two = refl
@@ -102,16 +103,6 @@ has_room (x ∷ others) errand room = ap (λ b. if b then NeedsRoom x.number err
 none_of_room : (o : Option ℕ) (list : List Association) (socket : ℕ) (errand : Errand) → with_socket o list errand ≡ NeedsRoom socket errand → o ≡ None
 none_of_room None list socket errand is = refl
 none_of_room (Some s) list socket errand is = cc
-
-pub still_none : (guest : Endpoint) (socket : ℕ) (list : List Association) → socket_of guest list ≡ None → socket_of guest (without socket list) ≡ None
-still_none guest socket [] none = refl
-still_none guest socket (a ∷ list) none = by (is_of guest a) refl (is_numbered socket a) none (λ rest. still_none guest socket list rest)
-  where
-    by : (b : Bool) → is_of guest a ≡ b → (t : Bool) → option_map (λ (x : Association). x.number) (if b then Some a else find (is_of guest) list) ≡ None → (socket_of guest list ≡ None → socket_of guest (without socket list) ≡ None)
-        → socket_of guest (if not t then a ∷ without socket list else without socket list) ≡ None
-    by true here t none more = cc
-    by false here true none more = more none
-    by false here false none more = ap (λ (b : Bool). option_map (λ (x : Association). x.number) (if b then Some a else find (is_of guest) (without socket list))) here ∙ more none
 
 asks_for_one : (socket : ℕ) (errand : Errand) (list : List Association) → length (without socket list) < most_associations → step_for list (Some errand) ≡ NeedsRoom socket errand
     → step_for (without socket list) (Some errand) ≡ NeedsSocket errand
@@ -373,17 +364,3 @@ module _ (config : Config) (count : ℕ) (wants : List Want) (item : Want) (item
 
   pub after_no_hearing : (octets : List ℕ) → Holds config behind_it slirp link (UdpRecv socket size GotFailed octets ∷ past)
   after_no_hearing octets = heard_nothing GotFailed octets holds.answers.pending refl
-
--- where as many sockets are open as may be, the longest unused one gives way
-pub yields_first : (list : List Association) (oldest : Association) (errand : Errand) → slice_get list 0 ≡ Some oldest → nat_le most_associations (length list) ≡ true
-    → (others : List Association) × (list ≡ oldest ∷ others) × (without_socket list errand ≡ NeedsRoom oldest.number errand)
-yields_first [] oldest errand is full = cc
-yields_first (x ∷ others) oldest errand is full =
-    let this : x ≡ oldest = cc in
-    (others, ap (λ a. a ∷ others) this, ap (λ b. if b then NeedsRoom x.number errand else NeedsSocket errand) full ∙ ap (λ (a : Association). NeedsRoom a.number errand) this)
-
-pub fewer_left : (list others : List Association) (oldest : Association) → list ≡ oldest ∷ others → length list ≤ most_associations → length (without oldest.number list) < most_associations
-fewer_left list others oldest is most =
-    let less = fewer oldest.number (λ a. true) (oldest ∷ others) (ap (λ b. (b && true) || list_any (λ a. is_numbered oldest.number a && true) others) (same oldest.number)) in
-    let same_length = ap (λ l. length (without oldest.number l)) is in
-    omega (arith, less, most, ap length is, same_length)

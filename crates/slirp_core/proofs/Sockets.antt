@@ -142,24 +142,6 @@ idle_among n now list is = any_among n (is_over now) list is
 pub least_among : (n : ℕ) (list : List Association) → IsLeast (λ a. true) list (Some n) → is_among n (numbers list) ≡ true
 least_among n list is = any_among n (λ a. true) list is.0
 
--- what is left is less
-no_more : (n : ℕ) (list : List Association) → length (without n list) ≤ length list
-no_more n [] = omega arith
-no_more n (y ∷ list) = by_one (y.number == n) (no_more n list)
-  where
-    by_one : (t : Bool) → length (without n list) ≤ length list → length (cond (not t) (y ∷ without n list) (without n list)) ≤ length (y ∷ list)
-    by_one true rest = omega (arith, rest)
-    by_one false rest = omega (arith, rest)
-
-pub fewer : (n : ℕ) (test : Association → Bool) (list : List Association) → list_any (λ a. is_numbered n a && test a) list ≡ true → length (without n list) < length list
-fewer n test [] is = cc
-fewer n test (x ∷ list) is = by_test (x.number == n) (test x) (λ more. fewer n test list more) is
-  where
-    by_test : (t u : Bool) → (list_any (λ a. is_numbered n a && test a) list ≡ true → length (without n list) < length list)
-        → ((t && u) || list_any (λ a. is_numbered n a && test a) list) ≡ true → length (cond (not t) (x ∷ without n list) (without n list)) < length (x ∷ list)
-    by_test true u more is = omega (arith, no_more n list)
-    by_test false u more is = omega (arith, more is)
-
 -- numbers that rise
 above_more : (n m : ℕ) (ns : List ℕ) → AllAbove n ns → n < m → AllAbove n (ns ++ (m ∷ []))
 above_more n m [] above less = (less, tt)

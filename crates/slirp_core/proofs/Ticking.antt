@@ -4,11 +4,9 @@ use Rattle.std.proofs.lemmas.Bool.Decides.{nat_tests}
 use Rattle.std.proofs.lemmas.List.Elements.{All-head, All-tail}
 use Rattle.std.specs.List.{list_any}
 use Rattle.world_face.specs.Journal.{Entry, Close}
-use Rattle.world_face.specs.Tells.{Telling, Makes}
-use Rattle.world_face.proofs.Telling.{makes_none, makes_then}
 use Rattle.udp_assoc.specs.Associations.{is_numbered, is_over, without}
 use Rattle.udp_assoc.specs.declared.assocs.Association.{Association}
-use Rattle.slirp_core.specs.Hearing.{ClosesBelow, ClosesLeast, ClosesRising}
+use Rattle.slirp_core.specs.Hearing.{ClosesBelow}
 
 -- those whose idle life is over have numbers from this one on
 abbrev pub AreFrom : ℕ → ℕ → List Association → Type 0
@@ -19,11 +17,11 @@ pub from_zero : (now : ℕ) (list : List Association) → AreFrom 0 now list
 from_zero now [] = tt
 from_zero now (a ∷ list) = (λ over. omega arith, from_zero now list)
 
-from_least : (n now : ℕ) (list : List Association) → All (λ a. is_over now a ≡ true → n ≤ a.number) list → AreFrom n now list
+pub from_least : (n now : ℕ) (list : List Association) → All (λ a. is_over now a ≡ true → n ≤ a.number) list → AreFrom n now list
 from_least n now [] all = tt
 from_least n now (a ∷ list) all = (All-head (λ (x : Association). is_over now x ≡ true → n ≤ x.number) a list all, from_least n now list (All-tail (λ (x : Association). is_over now x ≡ true → n ≤ x.number) a list all))
 
-without_least : (n now : ℕ) (list : List Association) → AreFrom n now list → AreFrom (n + 1) now (without n list)
+pub without_least : (n now : ℕ) (list : List Association) → AreFrom n now list → AreFrom (n + 1) now (without n list)
 without_least n now [] from = tt
 without_least n now (a ∷ list) from = by (is_numbered n a) refl (without_least n now list from.1)
   where
@@ -31,7 +29,7 @@ without_least n now (a ∷ list) from = by (is_numbered n a) refl (without_least
     by true is rest = rest
     by false is rest = (λ over. let least = from.0 over in grind (arith, nat_tests, is, least), rest)
 
-found_from : (bound n now : ℕ) (list : List Association) → AreFrom bound now list → list_any (λ a. is_numbered n a && is_over now a) list ≡ true → bound ≤ n
+pub found_from : (bound n now : ℕ) (list : List Association) → AreFrom bound now list → list_any (λ a. is_numbered n a && is_over now a) list ≡ true → bound ≤ n
 found_from bound n now [] from is = cc
 found_from bound n now (a ∷ list) from is = by (is_numbered n a) (is_over now a) refl refl is (found_from bound n now list from.1)
   where
@@ -41,34 +39,7 @@ found_from bound n now (a ∷ list) from is = by (is_numbered n a) (is_over now 
     by true false b o is more = more is
     by false over b o is more = more is
 
-below_more : (bound more : ℕ) (made : List Entry) → bound ≤ more → ClosesBelow bound made → ClosesBelow more made
+pub below_more : (bound more : ℕ) (made : List Entry) → bound ≤ more → ClosesBelow bound made → ClosesBelow more made
 below_more bound more [] le below = tt
 below_more bound more (Close n ∷ made) le below = (omega (arith, le, below.0), below_more bound more made le below.1)
 below_more bound more (_ ∷ made) le below = absurd below
-
--- so far
-pub record Ticked (old new : Telling) (now : ℕ) (list : List Association) : Type 0 where
-  pub bound : ℕ
-  pub makes : Makes old new (λ made. ClosesBelow bound made × ClosesRising made)
-  pub from : AreFrom bound now list
-
-pub ticked_none : (tells : Telling) (now : ℕ) (list : List Association) → Ticked tells tells now list
-ticked_none tells now list = record { bound = 0; makes = makes_none tells _ (tt, tt); from = from_zero now list }
-
-pub ticked_next : (a b c : Telling) (now : ℕ) (list new : List Association) → Ticked a b now list → Makes b c (ClosesLeast true now list new) → Ticked a c now new
-ticked_next a b c now list new so_far makes =
-    let closes = makes.holds in
-    let n = closes.0 in
-    let least = closes.2 in
-    let from = found_from so_far.bound n now list so_far.from least.0 in
-    record {
-      bound = n + 1;
-      makes = makes_then a b c _ (λ made. made ≡ Close n ∷ []) _ so_far.makes (record { made = makes.made; same = makes.same; allowed = makes.allowed; told = makes.told; counted = makes.counted; holds = closes.1 })
-          (λ first second before is. subst (λ (m : List Entry). ClosesBelow (n + 1) (m ++ first) × ClosesRising (m ++ first)) (sym is)
-          ((omega arith, below_more so_far.bound (n + 1) first (omega (arith, from)) before.0), (below_more so_far.bound n first from before.0, before.1)));
-      from = subst (AreFrom (n + 1) now) (sym closes.3) (without_least n now list (from_least n now list least.1));
-    }
-
-pub ticked_all : (a b c : Telling) (now : ℕ) (list new : List Association) → Ticked a b now list → Makes b c (ClosesLeast false now list new) → Makes a c ClosesRising
-ticked_all a b c now list new so_far makes =
-    makes_then a b c _ (λ made. made ≡ []) _ so_far.makes makes (λ first second before is. subst (λ (m : List Entry). ClosesRising (m ++ first)) (sym is) before.1)

@@ -5,5 +5,6 @@ pub mod Holds
 pub mod Outgoing
 pub mod Packets
 pub mod Pumps
+pub mod Replies
 pub mod Sockets
 pub mod State

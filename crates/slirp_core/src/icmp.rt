@@ -12,9 +12,6 @@ use icmp_echo::IcmpView;
 use ipv4_head::IpView;
 use net_octets::{Ip4, Mac};
 
-/// Why a destination can't be reached: the network can't (RFC 792).
-pub(crate) const NO_NETWORK: u8 = 0;
-
 /// Communication is prohibited (RFC 1122, 3.2.2.1).
 pub(crate) const PROHIBITED: u8 = 10;
 

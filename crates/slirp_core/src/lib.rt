@@ -13,3 +13,4 @@ mod wants;
 
 pub use network::Slirp;
 pub use sending::Pumped;
+pub use wants::TurnWants;

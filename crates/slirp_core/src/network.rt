@@ -9,7 +9,7 @@ use host_policy::{Policy, SlirpConfig};
 use net_octets::{Ip4, Mac, NoMemory};
 use std::alloc::Global;
 use std::marker::Model;
-use udp_assoc::Associations;
+use udp_assoc::Assocs;
 use world_face::World;
 
 /// The greatest moment, in milliseconds.
@@ -20,7 +20,7 @@ const LAST_MOMENT: u64 = 1 << 62;
 pub struct Slirp {
     pub(crate) policy: Policy,
     pub(crate) guests: ArpTable,
-    pub(crate) associations: Associations,
+    pub(crate) associations: Assocs,
     pub(crate) sent: u16,
     pub(crate) outgoing: Outgoing,
     pub(crate) moment: u64,
@@ -54,7 +54,7 @@ impl Slirp {
     ghost use Rattle.slirp_core.specs.Packets.{owed_for, owed_for_ip, owed_for_frame};
     ghost use Rattle.slirp_core.specs.Packets.{errand_of_ip, errand_in};
     ghost use Rattle.world_face.specs.Tells.{Brings, Makes};
-    ghost use Rattle.slirp_core.specs.Hearing.{ClosesLeast, ClosesRising};
+    ghost use Rattle.slirp_core.specs.Hearing.{ClosesRising};
     ghost use Rattle.stream_netdev.specs.State.{LinkState};
     ghost use Rattle.slirp_core.specs.Datagrams.{errand_of, FitsErrand};
     ghost use Rattle.slirp_core.specs.Holds.{Standing, Holds, Closing, AfterClosing, Ran};
@@ -75,7 +75,7 @@ impl Slirp {
         Ok(Slirp {
             policy: Policy::new(c),
             guests: ArpTable::new(),
-            associations: Associations::new(),
+            associations: Assocs::new(),
             sent: 0,
             outgoing,
             moment: 0,
@@ -154,24 +154,7 @@ impl Slirp {
         ensures none { All (λ a. is_over self.new.moment a ≡ false) self.new.associations }
         ensures same { self.new ≡ record self.old { associations = self.new.associations } }
     {
-        while self.close_idle(world) {}
-    }
-
-    // Closes the socket with the least number of those whose idle life is over, and answers whether there was one.
-    fn close_idle<W: World>(&mut self, world: &mut W) -> bool
-        ensures makes { (config : Config) (at : Standing) (link : LinkState) → Brings (W.tells world.old) (W.tells world.new)
-            (Holds config at self.old link) (Holds config at self.new link) }
-        ensures closes { Makes (W.tells world.old) (W.tells world.new) (ClosesLeast result self.old.moment self.old.associations self.new.associations) }
-        ensures fewer { result ≡ true → length self.new.associations < length self.old.associations }
-        ensures none { result ≡ false → All (λ a. is_over self.new.moment a ≡ false) self.new.associations }
-        ensures same { self.new ≡ record self.old { associations = self.new.associations } }
-    {
-        let Some(number) = self.associations.idle(self.moment) else {
-            return false;
-        };
-        world.close(number);
-        self.associations.close(number);
-        true
+        self.associations.tick(world, self.moment);
     }
 
     /// Closes all sockets, by rising number.
@@ -191,11 +174,6 @@ impl Slirp {
         ensures none { result ≡ false → self.new.associations ≡ [] }
         ensures same { self.new ≡ record self.old { associations = self.new.associations } }
     {
-        let Some(number) = self.associations.least() else {
-            return false;
-        };
-        world.close(number);
-        self.associations.close(number);
-        true
+        self.associations.close_first(world)
     }
 }

@@ -1,18 +1,117 @@
 // What the network waits for, and how long.
-ghost use Rattle.std.specs.Prelude.{[], ◌≡◌, ◌+◌, ◌≤◌, ◌++◌, map, length};
+ghost use Rattle.std.specs.Prelude.{[], ◌≡◌, ◌+◌, ◌≤◌, ◌++◌, true, false, map, length, IfOk};
 ghost use Rattle.poll_list.specs.Listing.{AreWants};
-ghost use Rattle.slirp_core.specs.Pumps.{link_want, udp_want};
+ghost use Rattle.slirp_core.specs.Pumps.{link_want, socket_wants, udp_want};
 
 use crate::network::Slirp;
+use arrayvec::ArrayVec;
+use net_octets::NoMemory;
 use poll_list::{Want, Wants, Who};
+use std::alloc::Global;
+use std::marker::Model;
 use stream_netdev::Link;
 use udp_assoc::IDLE_LIFE;
+
+/// What a turn waits for: a list with room for a fixed number of wants, all of it taken at opening.
+///
+/// Most turns wait for what the turn before waited for: the link, and the same sockets, for reading. So the numbers of the sockets of such a list are kept,
+/// and it stands where the sockets are the same.
+#[derive(Drop)]
+pub struct TurnWants {
+    list: Wants,
+    sockets: ArrayVec<u64, 512>,
+    // whether the list has the link and these sockets, all for reading
+    reads: bool,
+}
+
+impl Model for TurnWants {
+    ghost use Rattle.std.specs.Prelude.{◌≡◌, true, false, ◌++◌, map};
+    ghost use Rattle.poll_list.specs.Listing.{AreWants, Listing};
+    ghost use Rattle.slirp_core.specs.Pumps.{link_want, udp_want};
+
+    ghost Value = { Listing };
+
+    ghost view = { λ w. w.list };
+
+    ghost invariant = { λ w. AreWants w.list.items × (w.reads ≡ true → w.list.items ≡ link_want true false ++ map udp_want w.sockets.items) };
+}
+
+impl TurnWants {
+    /// An empty list with room for `capacity` wants.
+    pub fn open(alloc: Global, capacity: usize) -> Result<TurnWants, NoMemory>
+        ensures empty { IfOk result (λ wants. wants.items ≡ []) }
+        ensures capacity { IfOk result (λ wants. wants.capacity ≡ capacity) }
+    {
+        let Ok(list) = Wants::open(alloc, capacity) else {
+            return Err(NoMemory);
+        };
+        Ok(TurnWants {
+            list,
+            sockets: ArrayVec::new(),
+            reads: false,
+        })
+    }
+
+    /// The list.
+    pub fn list(&self) -> &Wants
+        ensures { result.now ≡ self.now }
+    {
+        &self.list
+    }
+
+    /// What is waited for.
+    pub fn items(&self) -> &[Want]
+        ensures { result.now ≡ self.now.items }
+    {
+        self.list.items()
+    }
+
+    // From now on the link is waited for in these directions, and these sockets where it is read.
+    fn fill(&mut self, read: bool, write: bool, sockets: &[u64])
+        requires room { 513 ≤ self.old.capacity }
+        requires most { length sockets.now ≤ 512 }
+        ensures items { self.new.items ≡ link_want read write ++ socket_wants read sockets.now }
+        ensures wants { AreWants self.new.items }
+        ensures few { length self.new.items ≤ 513 }
+        ensures capacity { self.new.capacity ≡ self.old.capacity }
+    {
+        if read && !write {
+            self.read_all(sockets);
+        } else {
+            self.reads = false;
+            self.list.clear();
+            add_link(read, write, &mut self.list);
+            add_wanted(read, sockets, &mut self.list);
+        }
+    }
+
+    // From now on the link and these sockets are waited for, for reading.
+    fn read_all(&mut self, sockets: &[u64])
+        requires room { 513 ≤ self.old.capacity }
+        requires most { length sockets.now ≤ 512 }
+        ensures items { self.new.items ≡ link_want true false ++ map udp_want sockets.now }
+        ensures wants { AreWants self.new.items }
+        ensures few { length self.new.items ≤ 513 }
+        ensures capacity { self.new.capacity ≡ self.old.capacity }
+    {
+        if self.reads && are_same(self.sockets.as_slice(), sockets) {
+            return;
+        }
+        self.reads = false;
+        self.sockets.clear();
+        let _ = self.sockets.try_extend_from_slice(sockets);
+        self.list.clear();
+        add_link(true, false, &mut self.list);
+        add_sockets(sockets, &mut self.list);
+        self.reads = true;
+    }
+}
 
 impl Slirp {
     ghost use Rattle.slirp_core.specs.Pumps.{time_left, WantsOf};
 
     /// What the network waits for, and how long at most: the link for reading, and each open socket by rising number, where nothing is left to be sent; the link for writing where it is blocked; until the idle life of the longest unused socket is over.
-    pub fn pollfds_fill(&self, link: &Link, wants: &mut Wants) -> Option<u64>
+    pub fn pollfds_fill(&self, link: &Link, wants: &mut TurnWants) -> Option<u64>
         requires { 513 ≤ wants.old.capacity }
         ensures timeout { result ≡ time_left self.now.moment self.now.associations }
         ensures items { WantsOf self.now link.now wants.new.items }
@@ -20,27 +119,28 @@ impl Slirp {
         ensures few { length wants.new.items ≤ 513 }
         ensures capacity { wants.new.capacity ≡ wants.old.capacity }
     {
-        self.fill(link, wants);
+        wants.fill(
+            self.is_settled(link),
+            link.blocked(),
+            self.associations.rising(),
+        );
         let oldest = self.associations.oldest()?;
         Some(IDLE_LIFE.saturating_sub(self.moment.saturating_sub(oldest.used)))
     }
+}
 
-    // What is waited for.
-    fn fill(&self, link: &Link, wants: &mut Wants)
-        requires { 513 ≤ wants.old.capacity }
-        ensures items { WantsOf self.now link.now wants.new.items }
-        ensures wants { AreWants wants.new.items }
-        ensures few { length wants.new.items ≤ 513 }
-        ensures capacity { wants.new.capacity ≡ wants.old.capacity }
-    {
-        wants.clear();
-        let read = self.is_settled(link);
-        add_link(read, link.blocked(), wants);
-        let rising = self.associations.rising();
-        if read {
-            add_sockets(rising, wants);
-        }
+// Whether two lists of numbers are the same.
+fn are_same(some: &[u64], others: &[u64]) -> bool
+    ensures { result ≡ true → some.now ≡ others.now }
+{
+    if some.len() != others.len() {
+        return false;
     }
+    let mut same = true;
+    for place in 0..others.len() {
+        same &= some[place] == others[place];
+    }
+    same
 }
 
 // Puts the link at the end, in the directions in which it is wanted.
@@ -58,6 +158,20 @@ fn add_link(read: bool, write: bool, wants: &mut Wants)
             read,
             write,
         });
+    }
+}
+
+// Puts the sockets of these numbers at the end, for reading, where they are wanted.
+fn add_wanted(wanted: bool, numbers: &[u64], wants: &mut Wants)
+    requires wants { AreWants wants.old.items }
+    requires room { length wants.old.items + length numbers.now ≤ wants.old.capacity }
+    ensures items { wants.new.items ≡ wants.old.items ++ socket_wants wanted numbers.now }
+    ensures wants { AreWants wants.new.items }
+    ensures room { length wants.new.items ≤ length wants.old.items + length numbers.now }
+    ensures capacity { wants.new.capacity ≡ wants.old.capacity }
+{
+    if wanted {
+        add_sockets(numbers, wants);
     }
 }
 

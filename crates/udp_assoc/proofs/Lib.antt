@@ -1,3 +1,4 @@
+pub mod Below
 pub mod Changing
 pub mod Keeping
 pub mod Numbering
@@ -6,3 +7,4 @@ pub mod Passing
 pub mod Porting
 pub mod Spelling
 pub mod Writing
+pub mod Yielding

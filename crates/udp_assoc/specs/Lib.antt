@@ -1,3 +1,5 @@
 pub mod Udp
 pub mod Associations
 pub mod Rows
+pub mod Relays
+pub mod Sending

@@ -2,6 +2,7 @@
 #![tactic(auto)]
 
 mod assocs;
+mod sockets;
 
 ghost use Rattle.std.specs.Prelude.{◌≡◌, ℕ, List, None, ◌+◌, ◌≤◌, ◌<◌, ◌^◌, ◌↔◌, ◌++◌, length, take, drop, IsOk, IfOk, OnErr, MatchResult, Some};
 ghost use Rattle.std.specs.Result.{result_ok, result_err};
@@ -11,6 +12,7 @@ ghost use Rattle.net_octets.specs.Octets.{IsOctets};
 pub use assocs::{Association, Associations, IDLE_LIFE, MOST_ASSOCIATIONS};
 use byteorder::{BigEndian, ByteOrder};
 use net_octets::{Fault, FaultKind, Ip4, NoRoom, checksum_after, pseudo, write_packet};
+pub use sockets::Assocs;
 
 /// A datagram: the ports between which it goes, and its payload.
 #[derive(Clone, Copy, Debug, PartialEq, Eq)]

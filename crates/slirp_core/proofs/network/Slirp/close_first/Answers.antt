@@ -1,38 +1,29 @@
-use Rattle.std.proofs.Common.{◌≡◌, List, [], ◌∷◌, length, true, ◌<◌, sym, subst}
+use Rattle.std.proofs.Common.{◌≡◌, List, [], length, ◌<◌, sym, ◌∙◌, ap, subst}
 use Rattle.world_face.specs.Tells.{Brings}
-use Rattle.world_face.specs.Journal.{Close}
-use Rattle.world_face.proofs.Telling.{brings_one, brings_none}
-use Rattle.udp_assoc.specs.declared.assocs.Association.{Association}
-use Rattle.slirp_core.specs.Holds.{Closing, Ran}
+use Rattle.world_face.proofs.Telling.{brings_from}
+use Rattle.slirp_core.specs.Holds.{Closing, AfterClosing}
 use Rattle.slirp_core.specs.State.{SlirpState}
-use Rattle.slirp_core.proofs.Below.{AreBelow, below_without}
-use Rattle.slirp_core.proofs.Closing.{after_closing, all_closed}
-use Rattle.slirp_core.proofs.Sockets.{fewer, no_association}
+use Rattle.slirp_core.proofs.Associating.{below_first, closed_first, none_first}
 use Rattle.slirp_core.proofs.network.Slirp.close_first.Goals as goal
-
-pub returns-in_default-clause-makes : goal.returns-in_default-clause-makes
-returns-in_default-clause-makes g c config over =
-    subst (λ (s : SlirpState). Brings (g.W.World.tells c.args.world.now) (g.W.World.tells c.args.world.now) (Closing config over s.associations) (Ran config over)) c.self.view_is
-    (brings_none (λ past closing. all_closed config over c.self.inside.associations past c.in_default.ensures closing))
 
 pub returns-clause-makes : goal.returns-clause-makes
 returns-clause-makes g c config over =
     let i = c.self.inside in
-    let list = i.associations in
-    subst (λ (s : SlirpState). Brings (g.W.World.tells c.args.world.now) (g.W.World.tells c.close.new.self) (Closing config over s.associations) (Closing config over c.close-2.new.self)) c.self.view_is
-    (brings_one c.close.ensures (λ allowed past closing.
-    subst (λ (l : List Association). Closing config over l (Close c.in-Some.number ∷ past)) (sym c.close-2.ensures) (after_closing config over list past c.in-Some.number c.in-Some.ensures closing)))
+    subst (λ (s : SlirpState). Brings (g.W.World.tells c.args.world.now) (g.W.World.tells c.close_first.new.world) (Closing config over s.associations) (AfterClosing c.close_first.result config over c.close_first.new.self)) c.self.view_is
+    (brings_from c.close_first.ensures.closes (λ made closes past holds. closed_first config over c.close_first.result i.associations c.close_first.new.self made past closes holds))
 
 pub returns-clause-fewer : goal.returns-clause-fewer
 returns-clause-fewer g c is =
+    subst (λ (s : SlirpState). length c.close_first.new.self < length s.associations) c.self.view_is (c.close_first.ensures.fewer is)
+
+pub returns-clause-none : goal.returns-clause-none
+returns-clause-none g c is =
     let i = c.self.inside in
-    let less = fewer c.in-Some.number (λ a. true) i.associations c.in-Some.ensures.0 in
-    subst (λ (s : SlirpState). length c.close-2.new.self < length s.associations) c.self.view_is (subst (λ (l : List Association). length l < length i.associations) (sym c.close-2.ensures) less)
+    let makes = c.close_first.ensures.closes in
+    none_first c.close_first.result i.associations c.close_first.new.self makes.made makes.holds is
 
 pub invariant_of-self : goal.invariant_of-self
 invariant_of-self g c =
     let i = c.self.inside in
-    subst (AreBelow i.number) (sym c.close-2.ensures) (below_without i.number c.in-Some.number i.associations c.self.invariant)
-
-pub returns-in_default-clause-none : goal.returns-in_default-clause-none
-returns-in_default-clause-none g c is = subst (λ (s : SlirpState). s.associations ≡ []) c.self.view_is (no_association c.self.inside.associations c.in_default.ensures)
+    let makes = c.close_first.ensures.closes in
+    below_first i.number c.close_first.result i.associations c.close_first.new.self makes.made makes.holds c.self.invariant

@@ -1,32 +1,25 @@
-use Rattle.std.proofs.Common.{ℕ, Bool, refl, sym, ◌∙◌, ap, subst}
-use Rattle.world_face.specs.Tells.{Makes}
-use Rattle.world_face.proofs.Telling.{brings_none, brings_then}
+use Rattle.std.proofs.Common.{sym, ap, subst}
+use Rattle.world_face.specs.Tells.{Brings, Makes}
+use Rattle.world_face.proofs.Telling.{brings_from, makes_as}
+use Rattle.slirp_core.specs.Holds.{Holds}
 use Rattle.slirp_core.specs.State.{SlirpState}
-use Rattle.slirp_core.specs.Hearing.{ClosesLeast}
-use Rattle.slirp_core.proofs.Ticking.{Ticked, ticked_all, ticked_next, ticked_none}
+use Rattle.slirp_core.proofs.Associating.{below_ticked, closes_rising, ticked}
 use Rattle.slirp_core.proofs.network.Slirp.tick.Goals as goal
 
-pub loop-init : goal.loop-init
-loop-init g c = record { makes = λ config at link. brings_none (λ past holds. holds); rising = ticked_none _ _ _; same = refl }
-
-pub loop-smaller : goal.loop-smaller
-loop-smaller g c = c.close_idle.ensures.fewer c.loop-test.true
-
-pub loop-preserved : goal.loop-preserved
-loop-preserved g c = record {
-  makes = λ config at link. brings_then (c.loop.invariant.makes config at link) (c.close_idle.ensures.makes config at link);
-  rising =
-      let same_moment = ap (λ (s : SlirpState). s.moment) c.close_idle.ensures.same in
-      let closed = subst (λ (b : Bool). Makes (g.W.World.tells c.loop.world) (g.W.World.tells c.close_idle.new.world) (ClosesLeast b c.loop.self.moment c.loop.self.associations c.close_idle.new.self.associations)) c.loop-test.true c.close_idle.ensures.closes in
-      subst (λ (m : ℕ). Ticked (g.W.World.tells c.args.world.now) (g.W.World.tells c.close_idle.new.world) m c.close_idle.new.self.associations) (sym same_moment)
-      (ticked_next _ _ _ c.loop.self.moment c.loop.self.associations c.close_idle.new.self.associations c.loop.invariant.rising closed);
-  same = c.close_idle.ensures.same ∙ ap (λ (s : SlirpState). record s { associations = c.close_idle.new.self.associations }) c.loop.invariant.same;
-}
-
 pub returns-clause-makes : goal.returns-clause-makes
-returns-clause-makes g c config at link = brings_then (c.loop.invariant.makes config at link) (c.close_idle.ensures.makes config at link)
+returns-clause-makes g c config at link =
+    let i = c.self.inside in
+    let slirp : SlirpState = record { config = i.policy; known = i.guests; sent = i.sent; pending = i.outgoing; moment = i.moment; number = i.number; associations = i.associations } in
+    subst (λ (s : SlirpState). Brings (g.W.World.tells c.args.world.now) (g.W.World.tells c.tick.new.world) (Holds config at s link) (Holds config at (record slirp { associations = c.tick.new.self }) link)) c.self.view_is
+    (brings_from c.tick.ensures.closes (λ made ticks past holds. ticked config at link slirp past c.tick.new.self made ticks holds))
 
 pub returns-clause-rising : goal.returns-clause-rising
 returns-clause-rising g c =
-    let closed = subst (λ (b : Bool). Makes (g.W.World.tells c.loop.world) (g.W.World.tells c.close_idle.new.world) (ClosesLeast b c.loop.self.moment c.loop.self.associations c.close_idle.new.self.associations)) c.loop-test.false c.close_idle.ensures.closes in
-    ticked_all _ _ _ c.loop.self.moment c.loop.self.associations c.close_idle.new.self.associations c.loop.invariant.rising closed
+    let i = c.self.inside in
+    makes_as _ _ _ _ c.tick.ensures.closes (λ made ticks. closes_rising i.moment i.associations c.tick.new.self made ticks)
+
+pub invariant_of-self : goal.invariant_of-self
+invariant_of-self g c =
+    let i = c.self.inside in
+    let makes = c.tick.ensures.closes in
+    below_ticked i.number i.moment i.associations c.tick.new.self makes.made makes.holds c.self.invariant

@@ -1,0 +1,210 @@
+-- The calls that the associations make, step by step.
+use Rattle.std.proofs.Common.{◌≡◌, ℕ, ◌+◌, ◌<◌, ◌≤◌, ◌&&◌, Bool, true, false, nat_le, All, List, [], ◌∷◌, ◌++◌, length, take, Option, Some, None, if◌then◌else◌, refl, sym, ◌∙◌, ap, subst, append_assoc, arith}
+use Rattle.net_octets.specs.declared.Endpoint.{Endpoint}
+use Rattle.net_octets.specs.declared.Mac.{Mac}
+use Rattle.poll_list.specs.declared.Want.{Want}
+use Rattle.poll_list.specs.declared.Who.TheVariants.{Udp}
+use Rattle.host_policy.specs.Addresses.{Config}
+use Rattle.host_policy.specs.declared.Reply.{Reply}
+use Rattle.world_face.specs.Journal.{Entry, Close, UdpSend, UdpRecv, filled_got}
+use Rattle.world_face.specs.declared.Sent.{Sent}
+use Rattle.world_face.specs.declared.Sent.TheVariants.{Done, NotYet, Failed}
+use Rattle.world_face.specs.declared.Got.{Got}
+use Rattle.world_face.specs.declared.Got.TheVariants.{From, NotYet as GotNotYet, Failed as GotFailed}
+use Rattle.udp_assoc.specs.Associations.{IsLeast, most_associations, numbers, numbered, socket_of, without, moved_last, sent_from, heard_at, is_over}
+use Rattle.udp_assoc.specs.Relays.{Relays, ByForward, BySocket, ByNewSocket, OpensFor, Opens, OpensNone, SendsOn, Hears, OnForward, OnAssociation, OnNone, Receives, Ticks, ClosesLeast, calls_for_room, with_room, with_reply, opened, told, passed}
+use Rattle.udp_assoc.specs.declared.assocs.Association.{Association}
+use Rattle.run_laws.specs.Sockets.{is_among}
+use Rattle.run_laws.specs.Shape.{Phase}
+use Rattle.slirp_laws.specs.Agenda.{is_to_read, wanted_of}
+use Rattle.slirp_laws.specs.Datagrams.{Errand, NeedsRoom, NeedsSocket, NeedsSending}
+use Rattle.slirp_laws.specs.Relayed.{step_for, with_socket, without_socket}
+use Rattle.stream_netdev.specs.State.{LinkState}
+use Rattle.slirp_core.specs.Hearing.{Receives as ReceivesOn, ClosesBelow, ClosesRising}
+use Rattle.slirp_core.specs.Holds.{Standing, standing, HoldsAt, Holds, Closing, AfterClosing}
+use Rattle.slirp_core.specs.Replies.{outbound_of, told_by, owed_by}
+use Rattle.slirp_core.specs.State.{SlirpState}
+use Rattle.udp_assoc.proofs.Below.{AreBelow, below_last, below_moved, below_up, below_without}
+use Rattle.slirp_core.proofs.Closing.{after_closing, all_closed}
+use Rattle.slirp_core.proofs.Relaying.{after_open, after_refusal, after_sent, after_failure, after_yielding, after_idling, after_hearing, after_not_yet, after_no_hearing}
+use Rattle.slirp_core.proofs.Reports.{passes_over}
+use Rattle.slirp_core.proofs.Sockets.{last_among, no_association, socket_among}
+use Rattle.slirp_core.proofs.Ticking.{AreFrom, below_more, found_from, from_least, from_zero, without_least}
+
+module _ (config : Config) (at : Standing) (link : LinkState) where
+  -- a datagram was sent on the socket of its port
+  sent_on : (slirp : SlirpState) (past : List Entry) (socket : ℕ) (errand : Errand) → is_among socket (numbers slirp.associations) ≡ true → HoldsAt config at (NeedsSending socket errand) slirp link past → (answer : Sent)
+      → Holds config at (record slirp { associations = moved_last (sent_from (record { 0 = errand.datagram.mac }) slirp.moment) socket slirp.associations; pending = told_by slirp errand.datagram (told answer) }) link
+      (UdpSend socket errand.to errand.datagram.body answer ∷ past)
+  sent_on slirp past socket errand among holds Done = after_sent config at slirp link past socket errand among holds Done refl
+  sent_on slirp past socket errand among holds NotYet = after_sent config at slirp link past socket errand among holds NotYet refl
+  sent_on slirp past socket errand among holds Failed = after_failure config at slirp link past socket errand among holds
+
+  -- a socket was opened for it, or wasn't
+  opened_for : (slirp : SlirpState) (past : List Entry) (errand : Errand) (new : List Association) (reply : Reply) (calls : List Entry)
+      → OpensFor (outbound_of errand) slirp.moment slirp.number slirp.associations new reply calls → HoldsAt config at (NeedsSocket errand) slirp link past
+      → Holds config at (record slirp { associations = new; pending = told_by slirp errand.datagram reply; number = slirp.number + 1 }) link (calls ++ past)
+  opened_for slirp past errand new reply calls (Opens answer made is replies) holds =
+      let one = opened (outbound_of errand) slirp.number slirp.moment in
+      let with_one : SlirpState = record slirp { number = slirp.number + 1; associations = slirp.associations ++ (one ∷ []) } in
+      subst (λ (l : List Association). Holds config at (record slirp { associations = l; pending = told_by slirp errand.datagram reply; number = slirp.number + 1 }) link (calls ++ past)) (sym is)
+      (subst (λ (r : Reply). Holds config at (record with_one { associations = moved_last (sent_from (record { 0 = errand.datagram.mac }) slirp.moment) slirp.number with_one.associations; pending = told_by slirp errand.datagram r }) link (calls ++ past)) (sym replies)
+      (subst (λ (m : List Entry). Holds config at (record with_one { associations = moved_last (sent_from (record { 0 = errand.datagram.mac }) slirp.moment) slirp.number with_one.associations; pending = told_by slirp errand.datagram (told answer) }) link (m ++ past)) (sym made)
+      (sent_on with_one _ slirp.number errand (last_among slirp.associations one) (after_open config at slirp link past errand holds) answer)))
+  opened_for slirp past errand new reply calls (OpensNone made is replies) holds =
+      subst (λ (l : List Association). Holds config at (record slirp { associations = l; pending = told_by slirp errand.datagram reply; number = slirp.number + 1 }) link (calls ++ past)) (sym is)
+      (subst (λ (r : Reply). Holds config at (record slirp { pending = told_by slirp errand.datagram r; number = slirp.number + 1 }) link (calls ++ past)) (sym replies)
+      (subst (λ (m : List Entry). Holds config at (record slirp { pending = told_by slirp errand.datagram (told Failed); number = slirp.number + 1 }) link (m ++ past)) (sym made)
+      (after_refusal config at slirp link past errand holds)))
+
+  -- there is room for one more
+  roomed : (slirp : SlirpState) (past : List Entry) (errand : Errand) (list : List Association) → length (with_room list) < most_associations
+      → HoldsAt config at (without_socket list errand) (record slirp { associations = list }) link past
+      → HoldsAt config at (NeedsSocket errand) (record slirp { associations = with_room list }) link (calls_for_room list ++ past)
+  roomed slirp past errand [] room holds = holds
+  roomed slirp past errand (oldest ∷ others) room holds = by (nat_le most_associations (length (oldest ∷ others))) room holds
+    where
+      by : (b : Bool) → length (if b then without oldest.number (oldest ∷ others) else oldest ∷ others) < most_associations
+          → HoldsAt config at (if b then NeedsRoom oldest.number errand else NeedsSocket errand) (record slirp { associations = oldest ∷ others }) link past
+          → HoldsAt config at (NeedsSocket errand) (record slirp { associations = if b then without oldest.number (oldest ∷ others) else oldest ∷ others }) link ((if b then Close oldest.number ∷ [] else []) ++ past)
+      by true room holds = after_yielding config at (record slirp { associations = oldest ∷ others }) link past oldest others errand refl room holds
+      by false room holds = holds
+
+  pub relayed : (slirp : SlirpState) (past : List Entry) (errand : Errand) (next : ℕ) (new : List Association) (reply : Reply) (made : List Entry)
+      → Relays None (outbound_of errand) slirp.moment slirp.number next slirp.associations new reply made → HoldsAt config at (step_for slirp.associations (Some errand)) slirp link past
+      → Holds config at (record slirp { associations = new; pending = told_by slirp errand.datagram reply; number = next }) link (made ++ past)
+  relayed slirp past errand next new reply made (ByForward socket for sends is same) holds = cc
+  relayed slirp past errand next new reply made (BySocket socket for found sends is same) holds =
+      let due = subst (λ (o : Option ℕ). HoldsAt config at (with_socket o slirp.associations errand) slirp link past) found holds in
+      subst (λ (n : ℕ). Holds config at (record slirp { associations = new; pending = told_by slirp errand.datagram reply; number = n }) link (made ++ past)) (sym same)
+      (subst (λ (l : List Association). Holds config at (record slirp { associations = l; pending = told_by slirp errand.datagram reply }) link (made ++ past)) (sym is)
+      (subst (λ (r : Reply). Holds config at (record slirp { associations = moved_last (sent_from (record { 0 = errand.datagram.mac }) slirp.moment) socket slirp.associations; pending = told_by slirp errand.datagram r }) link (made ++ past)) (sym sends.2)
+      (subst (λ (m : List Entry). Holds config at (record slirp { associations = moved_last (sent_from (record { 0 = errand.datagram.mac }) slirp.moment) socket slirp.associations; pending = told_by slirp errand.datagram (told sends.0) }) link (m ++ past)) (sym sends.1)
+      (sent_on slirp past socket errand (socket_among errand.datagram.from slirp.associations socket found) due sends.0))))
+  relayed slirp past errand next new reply made (ByNewSocket calls for found room opens is same) holds =
+      let due = subst (λ (o : Option ℕ). HoldsAt config at (with_socket o slirp.associations errand) slirp link past) found holds in
+      let ready = roomed slirp past errand slirp.associations room due in
+      subst (λ (n : ℕ). Holds config at (record slirp { associations = new; pending = told_by slirp errand.datagram reply; number = n }) link (made ++ past)) (sym same)
+      (subst (λ (m : List Entry). Holds config at (record slirp { associations = new; pending = told_by slirp errand.datagram reply; number = slirp.number + 1 }) link (m ++ past)) (sym is)
+      (subst (λ (h : List Entry). Holds config at (record slirp { associations = new; pending = told_by slirp errand.datagram reply; number = slirp.number + 1 }) link h) (sym (append_assoc calls (calls_for_room slirp.associations) past))
+      (opened_for (record slirp { associations = with_room slirp.associations }) (calls_for_room slirp.associations ++ past) errand new reply calls opens ready)))
+
+  -- those whose idle life was over were closed
+  pub ticked : (slirp : SlirpState) (past : List Entry) (new : List Association) (made : List Entry) → Ticks slirp.moment slirp.associations new made → Holds config at slirp link past
+      → Holds config at (record slirp { associations = new }) link (made ++ past)
+  ticked slirp past new [] is holds = subst (λ (l : List Association). Holds config at (record slirp { associations = l }) link past) (sym is) holds
+  ticked slirp past new (Close n ∷ made) ticks holds =
+      subst (λ (l : List Association). Holds config at (record slirp { associations = l }) link (Close n ∷ made ++ past)) (sym ticks.3)
+      (after_idling config at (record slirp { associations = ticks.0 }) link (made ++ past) n ticks.2.0 (ticked slirp past ticks.0 made ticks.1 holds))
+  ticked slirp past new (_ ∷ made) ticks holds = absurd ticks
+
+-- their numbers rise
+record Ticked (now : ℕ) (list : List Association) (made : List Entry) : Type 0 where
+  pub bound : ℕ
+  pub below : ClosesBelow bound made
+  pub rising : ClosesRising made
+  pub from : AreFrom bound now list
+
+ticks_rise : (now : ℕ) (old new : List Association) (made : List Entry) → Ticks now old new made → Ticked now new made
+ticks_rise now old new [] is = record { bound = 0; below = tt; rising = tt; from = from_zero now new }
+ticks_rise now old new (Close n ∷ made) ticks =
+    let before = ticks_rise now old ticks.0 made ticks.1 in
+    let from = found_from before.bound n now ticks.0 before.from ticks.2.0 in
+    record {
+      bound = n + 1;
+      below = (omega arith, below_more before.bound (n + 1) made (omega (arith, from)) before.below);
+      rising = (below_more before.bound n made from before.below, before.rising);
+      from = subst (AreFrom (n + 1) now) (sym ticks.3) (without_least n now ticks.0 (from_least n now ticks.0 ticks.2.1));
+    }
+ticks_rise now old new (_ ∷ made) ticks = absurd ticks
+
+pub closes_rising : (now : ℕ) (old new : List Association) (made : List Entry) → Ticks now old new made → ClosesRising made
+closes_rising now old new made ticks = let t = ticks_rise now old new made ticks in t.rising
+
+-- the numbers of those that are left stay below a bound
+pub below_ticked : (bound now : ℕ) (old new : List Association) (made : List Entry) → Ticks now old new made → AreBelow bound old → AreBelow bound new
+below_ticked bound now old new [] is below = subst (AreBelow bound) (sym is) below
+below_ticked bound now old new (Close n ∷ made) ticks below = subst (AreBelow bound) (sym ticks.3) (below_without bound n ticks.0 (below_ticked bound now old ticks.0 made ticks.1 below))
+below_ticked bound now old new (_ ∷ made) ticks below = absurd ticks
+
+below_room : (bound : ℕ) (list : List Association) → AreBelow bound list → AreBelow bound (with_room list)
+below_room bound [] below = below
+below_room bound (oldest ∷ list) below = by (nat_le most_associations (length (oldest ∷ list)))
+  where
+    by : (b : Bool) → AreBelow bound (if b then without oldest.number (oldest ∷ list) else oldest ∷ list)
+    by true = below_without bound oldest.number (oldest ∷ list) below
+    by false = below
+
+below_opened : (d : Errand) (now number : ℕ) (old new : List Association) (reply : Reply) (calls : List Entry) → OpensFor (outbound_of d) now number old new reply calls → AreBelow number old → AreBelow (number + 1) new
+below_opened d now number old new reply calls (Opens answer made is replies) below =
+    subst (AreBelow (number + 1)) (sym is) (below_moved (number + 1) number (sent_from (record { 0 = d.datagram.mac }) now) (λ a. refl) _ (below_last number old (opened (outbound_of d) number now) below refl))
+below_opened d now number old new reply calls (OpensNone made is replies) below = subst (AreBelow (number + 1)) (sym is) (below_up number old below)
+
+pub below_relayed : (d : Errand) (now number next : ℕ) (old new : List Association) (reply : Reply) (made : List Entry) → Relays None (outbound_of d) now number next old new reply made → AreBelow number old → AreBelow next new
+below_relayed d now number next old new reply made (ByForward socket for sends is same) below = cc
+below_relayed d now number next old new reply made (BySocket socket for found sends is same) below =
+    subst (λ n. AreBelow n new) (sym same) (subst (AreBelow number) (sym is) (below_moved number socket (sent_from (record { 0 = d.datagram.mac }) now) (λ a. refl) old below))
+below_relayed d now number next old new reply made (ByNewSocket calls for found room opens is same) below =
+    subst (λ n. AreBelow n new) (sym same) (below_opened d now number (with_room old) new reply calls opens (below_room number old below))
+
+-- a number is used at most
+pub counts_up : (d : Errand) (now number next : ℕ) (old new : List Association) (reply : Reply) (made : List Entry) → Relays None (outbound_of d) now number next old new reply made → next ≤ number + 1
+counts_up d now number next old new reply made (ByForward socket for sends is same) = cc
+counts_up d now number next old new reply made (BySocket socket for found sends is same) = omega (arith, same)
+counts_up d now number next old new reply made (ByNewSocket calls for found room opens is same) = omega (arith, same)
+
+-- what is left to be sent after a receipt
+below_reply : (bound now socket : ℕ) (list : List Association) (reply : Reply) → AreBelow bound list → AreBelow bound (with_reply reply now socket list)
+below_reply bound now socket list Reply.Nothing below = below
+below_reply bound now socket list (Reply.Datagram count from to mac) below = below_moved bound socket (heard_at now) (λ a. refl) list below
+below_reply bound now socket list (Reply.Unreachable code) below = below
+
+pub below_heard : (bound now socket room : ℕ) (into : List ℕ) (old new : List Association) (reply : Reply) (made : List Entry) → Hears None now socket room into old new reply made → AreBelow bound old → AreBelow bound new
+below_heard bound now socket room into old new reply made (OnForward guest for receives is) below = cc
+below_heard bound now socket room into old new reply made (OnAssociation a for found receives is) below = subst (AreBelow bound) (sym is) (below_reply bound now socket old reply below)
+below_heard bound now socket room into old new reply made (OnNone for found none is replies) below = subst (AreBelow bound) (sym is) below
+
+pub receives_on : (now socket room : ℕ) (into : List ℕ) (old new : List Association) (reply : Reply) (made : List Entry) (a : Association) → numbered socket old ≡ Some a → Hears None now socket room into old new reply made → ReceivesOn socket made
+receives_on now socket room into old new reply made a held (OnForward guest for receives is) = cc
+receives_on now socket room into old new reply made a held (OnAssociation b for found receives is) = (room, receives.0, filled_got receives.0 into, receives.1)
+receives_on now socket room into old new reply made a held (OnNone for found none is replies) = cc
+
+module _ (config : Config) (count : ℕ) (wants : List Want) (item : Want) (items : List Want) (link : LinkState) where
+  pub heard : (slirp : SlirpState) (past : List Entry) (socket room : ℕ) (into : List ℕ) (new : List Association) (reply : Reply) (made : List Entry)
+      → is_to_read (Udp socket) (wanted_of wants item) ≡ true → room ≡ 65507 → slirp.pending ≡ [] → link.tail ≡ [] → Hears None slirp.moment socket room into slirp.associations new reply made
+      → Holds config (standing count wants (item ∷ items)) slirp link past
+      → Holds config (standing count wants items) (record slirp { associations = new; pending = owed_by slirp into reply }) link (made ++ past)
+  heard slirp past socket room into new reply made reported whole none out (OnForward guest for receives is) holds = cc
+  heard slirp past socket room into new reply made reported whole none out (OnNone for found no_call is replies) holds =
+      subst (λ (l : List Association). Holds config (standing count wants items) (record slirp { associations = l; pending = owed_by slirp into reply }) link (made ++ past)) (sym is)
+      (subst (λ (r : Reply). Holds config (standing count wants items) (record slirp { pending = owed_by slirp into r }) link (made ++ past)) (sym replies)
+      (subst (λ (m : List Entry). Holds config (standing count wants items) slirp link (m ++ past)) (sym no_call)
+      (passes_over config count wants item items slirp link past holds)))
+  heard slirp past socket room into new reply made reported whole none out (OnAssociation a for found receives is) holds =
+      subst (λ (l : List Association). Holds config (standing count wants items) (record slirp { associations = l; pending = owed_by slirp into reply }) link (made ++ past)) (sym is)
+      (subst (λ (r : Reply). Holds config (standing count wants items) (record slirp { associations = with_reply r slirp.moment socket slirp.associations; pending = owed_by slirp into r }) link (made ++ past)) (sym receives.2)
+      (subst (λ (m : List Entry). Holds config (standing count wants items) (record slirp { associations = with_reply (passed receives.0 a.guest (Some a.mac)) slirp.moment socket slirp.associations; pending = owed_by slirp into (passed receives.0 a.guest (Some a.mac)) }) link (m ++ past)) (sym receives.1)
+      (by receives.0)))
+    where
+      by : (answer : Got) → Holds config (standing count wants items) (record slirp { associations = with_reply (passed answer a.guest (Some a.mac)) slirp.moment socket slirp.associations; pending = owed_by slirp into (passed answer a.guest (Some a.mac)) }) link
+          (UdpRecv socket room answer (filled_got answer into) ∷ past)
+      by (From peer size) = after_hearing config count wants item items slirp link past socket room a reported found whole none out holds peer size (take size into)
+      by GotNotYet = after_not_yet config count wants item items slirp link past socket room a reported found whole none out holds (filled_got GotNotYet into)
+      by GotFailed = after_no_hearing config count wants item items slirp link past socket room a reported found whole none out holds (filled_got GotFailed into)
+
+-- the first socket was closed, or none was left
+pub closed_first : (config : Config) (over : Phase) (b : Bool) (old new : List Association) (made past : List Entry) → ClosesLeast (λ a. true) b old new made → Closing config over old past → AfterClosing b config over new (made ++ past)
+closed_first config over true old new made past closes holds =
+    subst (λ (l : List Association). Closing config over l (made ++ past)) (sym closes.3)
+    (subst (λ (m : List Entry). Closing config over (without closes.0 old) (m ++ past)) (sym closes.1)
+    (after_closing config over old past closes.0 closes.2 holds))
+closed_first config over false old new made past closes holds =
+    subst (λ (m : List Entry). AfterClosing false config over new (m ++ past)) (sym closes.0) (all_closed config over old past closes.1 holds)
+
+pub none_first : (b : Bool) (old new : List Association) (made : List Entry) → ClosesLeast (λ a. true) b old new made → b ≡ false → new ≡ []
+none_first true old new made closes is = cc
+none_first false old new made closes is = closes.2 ∙ no_association old closes.1
+
+pub below_first : (bound : ℕ) (b : Bool) (old new : List Association) (made : List Entry) → ClosesLeast (λ a. true) b old new made → AreBelow bound old → AreBelow bound new
+below_first bound true old new made closes below = subst (AreBelow bound) (sym closes.3) (below_without bound closes.0 old below)
+below_first bound false old new made closes below = subst (AreBelow bound) (sym closes.2) below

@@ -1,0 +1,336 @@
+// The sockets of associations: a guest's datagram goes out on the one of its port, and a peer's comes in on it.
+ghost use Rattle.std.specs.Prelude.{◌≡◌, ◌+◌, ◌-◌, ◌^◌, ◌<◌, ◌≤◌, [], All, IsPermutation, length, min, true, false, slice_get};
+ghost use Rattle.std.specs.List.Sorted.{IsNonDecreasing};
+ghost use Rattle.std.specs.Option.{option_map};
+ghost use Rattle.world_face.specs.Limits.{most_to_udp};
+ghost use Rattle.world_face.specs.Tells.{Makes};
+ghost use Rattle.udp_assoc.specs.Associations.{idle_life, is_over, most_associations, numbers, socket_of};
+ghost use Rattle.udp_assoc.specs.Relays.{FitsRoom, Receives, SendsOn};
+ghost use Rattle.udp_assoc.specs.Sending.{outbound_of};
+
+use crate::assocs::{Association, Associations, IDLE_LIFE};
+use host_policy::Reply;
+use net_octets::{Endpoint, Ip4, Mac};
+use std::marker::Model;
+use world_face::{Got, Made, Sent, World};
+
+/// Every address and port of the host.
+const ANYWHERE: Endpoint = Endpoint {
+    addr: Ip4(0),
+    port: 0,
+};
+
+/// Why a destination can't be reached: the network can't (RFC 792).
+const NO_NETWORK: u8 = 0;
+
+/// A datagram of a guest: its endpoint, the hardware address from which it came, where it goes, and its payload.
+#[derive(Clone, Copy, Debug, PartialEq, Eq)]
+pub struct OutboundView<'a> {
+    pub from: Endpoint,
+    pub mac: Mac,
+    pub to: Endpoint,
+    pub body: &'a [u8],
+}
+
+/// The sockets of at most 512 associations, and the calls on them. Contracts see the list of associations, the longest unused first.
+///
+/// Moments are in milliseconds. Each call says which calls it makes on the World, what becomes of the list, and what it answers. The core draws the numbers
+/// of sockets, and keeps an answer until it is out.
+#[derive(Drop)]
+pub struct Assocs {
+    list: Associations,
+}
+
+impl Model for Assocs {
+    ghost use Rattle.std.specs.Prelude.{List};
+    ghost use Rattle.udp_assoc.specs.declared.assocs.Association.{Association};
+
+    ghost Value = { List Association };
+
+    ghost view = { λ s. s.list };
+}
+
+impl Assocs {
+    ghost use Rattle.std.specs.Prelude.{List};
+    ghost use Rattle.udp_assoc.specs.declared.assocs.Association.{Association as AnAssociation};
+    ghost use Rattle.udp_assoc.specs.Relays.{Relays, OpensFor, Hears, Ticks, ClosesLeast, calls_for_room, with_room, with_reply};
+    ghost use Rattle.udp_assoc.specs.Associations.{moved_last, numbered, sent_from};
+    ghost use Rattle.net_octets.specs.declared.Endpoint.{Endpoint as AnEndpoint};
+    ghost use Rattle.std.specs.Prelude.{ℕ, ◌++◌, ◌∷◌, None};
+
+    /// No socket is open. All room for associations is in the value itself, so nothing is taken later.
+    pub fn new() -> Assocs
+        ensures { result ≡ [] }
+    {
+        Assocs {
+            list: Associations::new(),
+        }
+    }
+
+    /// Sends a guest's datagram, which came from this hardware address, with a payload of at most 65,507 octets: on the socket of a forward where one is
+    /// given, without an association; else on the socket of its port. Where that has none one is opened with this number, which then counts up; where 512
+    /// are open the longest unused one is closed before. Unreachable with code 0 where no socket can be opened, or the sending fails (RFC 792).
+    pub fn guest<W: World>(
+        &mut self,
+        world: &mut W,
+        now: u64,
+        number: &mut u64,
+        forward: Option<u64>,
+        from: Endpoint,
+        mac: Mac,
+        to: Endpoint,
+        body: &[u8],
+    ) -> Reply
+        requires fits { length body.now ≤ most_to_udp }
+        requires numbers { number.old + 1 < 2 ^ 64 }
+        requires above { All (λ n. n < number.old) (numbers self.old) }
+        ensures relays { Makes (W.tells world.old) (W.tells world.new)
+            (Relays forward (record { from = from; mac = mac; to = to; body = body.now }) now number.old number.new self.old self.new result) }
+    {
+        let datagram = OutboundView {
+            from,
+            mac,
+            to,
+            body,
+        };
+        match forward {
+            Some(socket) => send(world, socket, &datagram),
+            None => self.relay(world, now, number, &datagram),
+        }
+    }
+
+    // Sends a datagram on the socket of its port, which is opened where there is none.
+    fn relay<W: World>(
+        &mut self,
+        world: &mut W,
+        now: u64,
+        number: &mut u64,
+        datagram: &OutboundView<'_>,
+    ) -> Reply
+        requires fits { length datagram.now.body.now ≤ most_to_udp }
+        requires numbers { number.old + 1 < 2 ^ 64 }
+        requires above { All (λ n. n < number.old) (numbers self.old) }
+        ensures { Makes (W.tells world.old) (W.tells world.new) (Relays None (outbound_of datagram.now) now number.old number.new self.old self.new result) }
+    {
+        match self.list.socket_of(datagram.from) {
+            Some(socket) => self.send_on(world, now, socket, datagram),
+            None => {
+                self.make_room(world);
+                self.open_for(world, now, number, datagram)
+            }
+        }
+    }
+
+    // Where as many sockets are open as may be, the longest unused one gives way.
+    fn make_room<W: World>(&mut self, world: &mut W)
+        ensures calls { Makes (W.tells world.old) (W.tells world.new) (λ made. made ≡ calls_for_room self.old) }
+        ensures list { self.new ≡ with_room self.old }
+        ensures room { length self.new < most_associations }
+        ensures fresh { (guest : AnEndpoint) → socket_of guest self.old ≡ None → socket_of guest self.new ≡ None }
+        ensures above { (bound : ℕ) → All (λ n. n < bound) (numbers self.old) → All (λ n. n < bound) (numbers self.new) }
+    {
+        if self.list.is_full() {
+            if let Some(oldest) = self.list.oldest() {
+                world.close(oldest.number);
+                self.list.close(oldest.number);
+            }
+        }
+    }
+
+    // Opens a socket, and sends the datagram on it.
+    fn open_for<W: World>(
+        &mut self,
+        world: &mut W,
+        now: u64,
+        number: &mut u64,
+        datagram: &OutboundView<'_>,
+    ) -> Reply
+        requires fits { length datagram.now.body.now ≤ most_to_udp }
+        requires numbers { number.old + 1 < 2 ^ 64 }
+        requires above { All (λ n. n < number.old) (numbers self.old) }
+        requires room { length self.old < most_associations }
+        requires fresh { socket_of datagram.now.from self.old ≡ None }
+        ensures opens { Makes (W.tells world.old) (W.tells world.new) (OpensFor (outbound_of datagram.now) now number.old self.old self.new result) }
+        ensures next { number.new ≡ number.old + 1 }
+    {
+        let socket = *number;
+        *number += 1;
+        match world.udp_open(socket, ANYWHERE) {
+            Made::Done => {
+                self.list.open(Association {
+                    number: socket,
+                    guest: datagram.from,
+                    mac: datagram.mac,
+                    used: now,
+                });
+                self.send_on(world, now, socket, datagram)
+            }
+            Made::Failed => Reply::Unreachable(NO_NETWORK),
+        }
+    }
+
+    // Sends the datagram on the socket of an association, which is used by it.
+    fn send_on<W: World>(
+        &mut self,
+        world: &mut W,
+        now: u64,
+        socket: u64,
+        datagram: &OutboundView<'_>,
+    ) -> Reply
+        requires { length datagram.now.body.now ≤ most_to_udp }
+        ensures sends { Makes (W.tells world.old) (W.tells world.new) (SendsOn socket (outbound_of datagram.now) result) }
+        ensures list { self.new ≡ moved_last (sent_from datagram.now.mac now) socket self.old }
+    {
+        let reply = send(world, socket, datagram);
+        self.list.sent(socket, datagram.mac, now);
+        reply
+    }
+
+    /// Receives a datagram on a socket, in the room that is given, at least one octet: on the socket of a forward where its guest's endpoint is given, else on
+    /// that of an association. The answer says to whom it goes and from which peer, as the host sees it; its octets lie at the front of the room.
+    pub fn host<W: World>(
+        &mut self,
+        world: &mut W,
+        now: u64,
+        s: u64,
+        forward: Option<Endpoint>,
+        into: &mut [u8],
+    ) -> Reply
+        requires { 0 < length into.old }
+        ensures hears { Makes (W.tells world.old) (W.tells world.new) (Hears forward now s (length into.old) into.new self.old self.new result) }
+        ensures fits { FitsRoom result (length into.new) }
+        ensures room { length into.new ≡ length into.old }
+    {
+        match forward {
+            Some(guest) => receive(world, s, guest, None, into),
+            None => self.hear(world, now, s, into),
+        }
+    }
+
+    // Receives a datagram on the socket of an association, which is used by it.
+    fn hear<W: World>(&mut self, world: &mut W, now: u64, s: u64, into: &mut [u8]) -> Reply
+        requires { 0 < length into.old }
+        ensures hears { Makes (W.tells world.old) (W.tells world.new) (Hears None now s (length into.old) into.new self.old self.new result) }
+        ensures fits { FitsRoom result (length into.new) }
+        ensures room { length into.new ≡ length into.old }
+    {
+        let Some(association) = self.list.numbered(s) else {
+            return Reply::Nothing;
+        };
+        let reply = receive(world, s, association.guest, Some(association.mac), into);
+        self.mark(now, s, reply);
+        reply
+    }
+
+    // The association of a socket is used where a datagram came.
+    fn mark(&mut self, now: u64, s: u64, reply: Reply)
+        ensures { self.new ≡ with_reply reply now s self.old }
+    {
+        if let Reply::Datagram { .. } = reply {
+            self.list.heard(s, now);
+        }
+    }
+
+    /// The k-th open socket by rising number, counted from 0. None exactly where there are no more than k.
+    pub fn socket(&self, k: usize) -> Option<u64>
+        ensures { (rising : List ℕ) × IsPermutation (numbers self.now) rising × IsNonDecreasing rising × (result ≡ slice_get rising k) }
+    {
+        self.list.rising().get(k).copied()
+    }
+
+    /// The numbers of all open sockets, the least first.
+    pub fn rising(&self) -> &[u64]
+        ensures all { IsPermutation (numbers self.now) result.now }
+        ensures rising { IsNonDecreasing result.now }
+        ensures most { length result.now ≤ most_associations }
+    {
+        self.list.rising()
+    }
+
+    /// The longest unused association. None exactly where there is none.
+    pub fn oldest(&self) -> Option<Association>
+        ensures { result ≡ slice_get self.now 0 }
+    {
+        self.list.oldest()
+    }
+
+    /// The moment at which the idle life of the longest unused association is over, at most 2^64 - 1. None exactly where there is none.
+    pub fn next_due(&self) -> Option<u64>
+        ensures { result ≡ option_map (λ a. min (2 ^ 64 - 1) (a.used + idle_life)) (slice_get self.now 0) }
+    {
+        let oldest = self.list.oldest()?;
+        Some(oldest.used.saturating_add(IDLE_LIFE))
+    }
+
+    /// Closes the sockets whose idle life is over, by rising number.
+    pub fn tick<W: World>(&mut self, world: &mut W, now: u64)
+        ensures closes { Makes (W.tells world.old) (W.tells world.new) (Ticks now self.old self.new) }
+        ensures none { All (λ a. is_over now a ≡ false) self.new }
+    {
+        while self.close_idle(world, now) {}
+    }
+
+    // Closes the socket with the least number of those whose idle life is over, and answers whether there was one.
+    fn close_idle<W: World>(&mut self, world: &mut W, now: u64) -> bool
+        ensures closes { Makes (W.tells world.old) (W.tells world.new) (ClosesLeast (is_over now) result self.old self.new) }
+        ensures fewer { result ≡ true → length self.new < length self.old }
+        ensures none { result ≡ false → All (λ a. is_over now a ≡ false) self.new }
+    {
+        let Some(number) = self.list.idle(now) else {
+            return false;
+        };
+        world.close(number);
+        self.list.close(number);
+        true
+    }
+
+    /// Closes the socket with the least number, and answers whether there was one.
+    pub fn close_first<W: World>(&mut self, world: &mut W) -> bool
+        ensures closes { Makes (W.tells world.old) (W.tells world.new) (ClosesLeast (λ a. true) result self.old self.new) }
+        ensures fewer { result ≡ true → length self.new < length self.old }
+    {
+        let Some(number) = self.list.least() else {
+            return false;
+        };
+        world.close(number);
+        self.list.close(number);
+        true
+    }
+}
+
+// Sends a datagram on a socket.
+fn send<W: World>(world: &mut W, socket: u64, datagram: &OutboundView<'_>) -> Reply
+    requires { length datagram.now.body.now ≤ most_to_udp }
+    ensures { Makes (W.tells world.old) (W.tells world.new) (SendsOn socket (outbound_of datagram.now) result) }
+{
+    match world.udp_send(socket, datagram.to, datagram.body) {
+        Sent::Done => Reply::Nothing,
+        Sent::NotYet => Reply::Nothing,
+        Sent::Failed => Reply::Unreachable(NO_NETWORK),
+    }
+}
+
+// Receives a datagram on a socket, for a guest.
+fn receive<W: World>(
+    world: &mut W,
+    socket: u64,
+    guest: Endpoint,
+    mac: Option<Mac>,
+    into: &mut [u8],
+) -> Reply
+    requires { 0 < length into.old }
+    ensures receives { Makes (W.tells world.old) (W.tells world.new) (Receives socket guest mac (length into.old) into.new result) }
+    ensures fits { FitsRoom result (length into.new) }
+    ensures room { length into.new ≡ length into.old }
+{
+    match world.udp_recv(socket, into) {
+        Got::From(peer, length) => Reply::Datagram {
+            length,
+            from: peer,
+            to: guest,
+            mac,
+        },
+        Got::NotYet => Reply::Nothing,
+        Got::Failed => Reply::Nothing,
+    }
+}
