@@ -1,7 +1,7 @@
 -- What each entry adds to the two streams by the record is what it adds to the flow's story.
-use Rattle.std.proofs.Common.{◌≡◌, ℕ, ◌==◌, Bool, true, false, List, [], ◌∷◌, ◌++◌, drop, Option, Some, None, option_map, if◌then◌else◌, refl, sym, ◌∙◌, ap}
+use Rattle.std.proofs.Common.{◌≡◌, ℕ, ◌==◌, Bool, true, false, List, [], ◌∷◌, ◌++◌, drop, Option, Some, None, if◌then◌else◌, refl, sym, ◌∙◌, ap}
 use Rattle.std.proofs.lemmas.List.{append-nil}
-use Rattle.world_face.specs.Frames.{arrives, tail, opens}
+use Rattle.world_face.specs.Frames.{tail, opens}
 use Rattle.world_face.specs.Journal.{Entry, Now, Wait, LinkOpen, LinkRead, LinkWrite, Connect, Connected, Listen, Accept, TcpRead, TcpWrite, TcpEnd, Close, UdpOpen, UdpSend, UdpRecv, FileLen, FileRead}
 use Rattle.world_face.specs.declared.Io.{Io}
 use Rattle.world_face.specs.declared.Io.TheVariants.{Done, End, NotYet, Failed}
@@ -16,7 +16,7 @@ use Rattle.flow_laws.specs.Event.{Event}
 use Rattle.flow_laws.specs.Flow.{guest, host}
 use Rattle.flow_laws.specs.Guest.{written}
 use Rattle.flow_laws.specs.Host.{got}
-use Rattle.run_laws.specs.Happenings.{Arrival, arrival_of}
+use Rattle.run_laws.specs.Happenings.{Arrival, happens}
 use Rattle.flow_book.specs.Book.{story}
 use Rattle.flow_book.specs.Doings.{Doing, Calls, comes, goes, seeks, by_call, doing_by, doing, joins, visits, joined, read_by, written_by, ended_by}
 use Rattle.flow_book.specs.Laws.{KeepsFlows}
@@ -121,7 +121,7 @@ module _ (config : Config) (c : ℕ) where
   taken_more past (Now told) = adds_nothing wrote_by c (taken_on c past) (doing config past (Now told)) refl
   taken_more past (Wait wants timeout answer ready) = adds_nothing wrote_by c (taken_on c past) (doing config past (Wait wants timeout answer ready)) refl
   taken_more past (LinkOpen at answer) = adds_nothing wrote_by c (taken_on c past) (doing config past (LinkOpen at answer)) refl
-  taken_more past (LinkRead asked answer octets) = adds_nothing wrote_by c (taken_on c past) (doing config past (LinkRead asked answer octets)) (read_nothing wrote_by c (option_map (arrival_of config) (arrives (LinkRead asked answer octets) past)) (LinkRead asked answer octets) refl)
+  taken_more past (LinkRead asked answer octets) = adds_nothing wrote_by c (taken_on c past) (doing config past (LinkRead asked answer octets)) (read_nothing wrote_by c (happens config past (LinkRead asked answer octets)).came (LinkRead asked answer octets) refl)
   taken_more past (LinkWrite octets answer) = adds_nothing wrote_by c (taken_on c past) (doing config past (LinkWrite octets answer)) (write_nothing wrote_by c octets answer (tail past))
   taken_more past (Connect socket to answer) = adds_nothing wrote_by c (taken_on c past) (doing config past (Connect socket to answer)) (joins_nothing wrote_by c answer socket)
   taken_more past (Connected socket answer) = adds_nothing wrote_by c (taken_on c past) (doing config past (Connected socket answer)) (call_nothing wrote_by c (joined answer) socket (wrote_joined answer))
@@ -141,7 +141,7 @@ module _ (config : Config) (c : ℕ) where
   given_more past (Now told) = adds_nothing got_by c (given_on c past) (doing config past (Now told)) refl
   given_more past (Wait wants timeout answer ready) = adds_nothing got_by c (given_on c past) (doing config past (Wait wants timeout answer ready)) refl
   given_more past (LinkOpen at answer) = adds_nothing got_by c (given_on c past) (doing config past (LinkOpen at answer)) refl
-  given_more past (LinkRead asked answer octets) = adds_nothing got_by c (given_on c past) (doing config past (LinkRead asked answer octets)) (read_nothing got_by c (option_map (arrival_of config) (arrives (LinkRead asked answer octets) past)) (LinkRead asked answer octets) refl)
+  given_more past (LinkRead asked answer octets) = adds_nothing got_by c (given_on c past) (doing config past (LinkRead asked answer octets)) (read_nothing got_by c (happens config past (LinkRead asked answer octets)).came (LinkRead asked answer octets) refl)
   given_more past (LinkWrite octets answer) = adds_nothing got_by c (given_on c past) (doing config past (LinkWrite octets answer)) (write_nothing got_by c octets answer (tail past))
   given_more past (Connect socket to answer) = adds_nothing got_by c (given_on c past) (doing config past (Connect socket to answer)) (joins_nothing got_by c answer socket)
   given_more past (Connected socket answer) = adds_nothing got_by c (given_on c past) (doing config past (Connected socket answer)) (call_nothing got_by c (joined answer) socket (got_joined answer))

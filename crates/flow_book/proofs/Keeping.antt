@@ -1,7 +1,7 @@
 -- Each flow of a run keeps the law of one flow, where each call was one that may follow its past.
-use Rattle.std.proofs.Common.{◌≡◌, ℕ, ◌+◌, ◌^◌, ◌≤◌, min, max, List, [], ◌∷◌, drop, Option, Some, None, MatchOption, option_map, refl, sym, subst, arith}
+use Rattle.std.proofs.Common.{◌≡◌, ℕ, ◌+◌, ◌^◌, ◌≤◌, min, max, List, [], ◌∷◌, drop, Option, Some, None, MatchOption, refl, sym, subst, arith}
 use Rattle.net_octets.specs.declared.Endpoint.{Endpoint}
-use Rattle.world_face.specs.Frames.{arrives, tail, opens}
+use Rattle.world_face.specs.Frames.{tail, opens}
 use Rattle.world_face.specs.Journal.{Entry, Call, call_of, Now, Wait, LinkOpen, LinkRead, LinkWrite, Connect, Connected, Listen, Accept, TcpRead, TcpWrite, TcpEnd, Close, UdpOpen, UdpSend, UdpRecv, FileLen, FileRead, CallConnect, CallClose}
 use Rattle.world_face.specs.declared.Io.{Io}
 use Rattle.world_face.specs.declared.Io.TheVariants.{Done, End, NotYet, Failed}
@@ -12,7 +12,7 @@ use Rattle.world_face.specs.declared.Accepted.TheVariants.{From, NotYet as NotYe
 use Rattle.host_policy.specs.Addresses.{Config}
 use Rattle.flow_laws.specs.Event.{Event, At, Opens, Story}
 use Rattle.flow_laws.specs.Lawful.{Act, AskConnected, Write, EndHost, Read, May, MayHappen}
-use Rattle.run_laws.specs.Happenings.{Arrival, arrival_of}
+use Rattle.run_laws.specs.Happenings.{Arrival, happens}
 use Rattle.run_laws.specs.Moments.{moment}
 use Rattle.run_laws.specs.Sockets.{next_number}
 use Rattle.flow_book.specs.Book.{book, scene, turned, quiet}
@@ -116,7 +116,7 @@ module _ (config : Config) (past : List Entry) (kept : AreKept config past) wher
       same_sound config (flow_settings config) (scene config past) (next_number past) (book config past) kept (moment past) (next_number past) (turned config (scene config past) Pauses (book config past)) (omega arith) (omega arith) (free _ may.due (λ n is. cc)) refl
   goes_on (LinkOpen at answer) may = nothing (free _ may.due (λ n is. cc))
   goes_on (LinkRead asked answer octets) may =
-      came (LinkRead asked answer octets) (free _ may.due (λ n is. cc)) (nothing (free _ may.due (λ n is. cc))) (option_map (arrival_of config) (arrives (LinkRead asked answer octets) past))
+      came (LinkRead asked answer octets) (free _ may.due (λ n is. cc)) (nothing (free _ may.due (λ n is. cc))) (happens config past (LinkRead asked answer octets)).came
   goes_on (LinkWrite octets answer) may = begun octets answer (free _ may.due (λ n is. cc)) (tail past) may.touches
   goes_on (Connect socket to answer) may =
       connects socket to answer (free _ may.due (λ n is. cc)) (connects_next (book config past).doomed (connects_to config (book config past)) (next_number past) socket to may.touches)

@@ -2,7 +2,7 @@
 use Rattle.std.proofs.Common.{◌≡◌, ℕ, ◌==◌, ◌&&◌, Bool, true, false, cond, List, [], ◌∷◌, ◌++◌, drop, length, map, Option, Some, None, option_map, if◌then◌else◌, refl, sym, ◌∙◌, ap, arith}
 use Rattle.std.proofs.lemmas.List.{append-nil}
 use Rattle.net_octets.specs.declared.Endpoint.{Endpoint}
-use Rattle.world_face.specs.Frames.{arrives, tail, opens}
+use Rattle.world_face.specs.Frames.{tail, opens}
 use Rattle.world_face.specs.Journal.{Entry, call_of, Now, Wait, LinkOpen, LinkRead, LinkWrite, Connect, Connected, Listen, Accept, TcpRead, TcpWrite, TcpEnd, Close, UdpOpen, UdpSend, UdpRecv, FileLen, FileRead}
 use Rattle.world_face.specs.declared.Io.{Io}
 use Rattle.world_face.specs.declared.Io.TheVariants.{Done, End, NotYet, Failed}
@@ -15,7 +15,7 @@ use Rattle.flow_laws.specs.Event.{Segment, Event, Connects, Accepts, Arrives, De
 use Rattle.flow_laws.specs.Flow.{first_number, guest, is_accepted}
 use Rattle.flow_laws.specs.Lawful.{Act, AskConnected, Write, EndHost, Read}
 use Rattle.flow_laws.specs.Settings.{Settings}
-use Rattle.run_laws.specs.Happenings.{Arrival, arrival_of}
+use Rattle.run_laws.specs.Happenings.{Arrival, happens}
 use Rattle.run_laws.specs.Moments.{moment}
 use Rattle.run_laws.specs.Sockets.{next_number}
 use Rattle.flow_book.specs.Book.{port_of, tuple_for, is_refused, joins_for, visits_for, doom, opens as opens_flow, turned, scene, book, story_in}
@@ -199,7 +199,7 @@ module _ (read : Story → List ℕ) (by : Event → List ℕ) (starts : read []
   fits config past (Now told) may = tt
   fits config past (Wait wants timeout answer ready) may = tt
   fits config past (LinkOpen at answer) may = tt
-  fits config past (LinkRead asked answer octets) may = read_fits (next_number past) (book config past).flows (option_map (arrival_of config) (arrives (LinkRead asked answer octets) past)) (LinkRead asked answer octets) tt
+  fits config past (LinkRead asked answer octets) may = read_fits (next_number past) (book config past).flows (happens config past (LinkRead asked answer octets)).came (LinkRead asked answer octets) tt
   fits config past (LinkWrite octets answer) may = write_fits (next_number past) (book config past).flows octets answer (tail past)
   fits config past (Connect socket to answer) may =
       joins_fits (next_number past) (book config past).flows answer socket (connects_next (book config past).doomed (connects_to config (book config past)) (next_number past) socket to may.touches)
