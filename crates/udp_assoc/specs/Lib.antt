@@ -3,3 +3,4 @@ pub mod Associations
 pub mod Rows
 pub mod Relays
 pub mod Sending
+pub mod Links

@@ -2,9 +2,10 @@
 ghost use Rattle.std.specs.Prelude.{◌≡◌, ◌≤◌, ◌<◌, [], ◌∷◌, ◌++◌, length, true, All, IsPermutation, slice_get, slice_set};
 ghost use Rattle.std.specs.List.Sorted.{IsNonDecreasing};
 ghost use Rattle.udp_assoc.specs.Associations.{most_associations, numbers, is_over, lesser, is_meant, IsLeast};
-ghost use Rattle.udp_assoc.specs.Rows.{gone, key, times, AreSince, IsPlace, IsRoomFor, IsTakenOut, Rise};
+ghost use Rattle.udp_assoc.specs.Rows.{key, times, AreSince, IsPlace, IsRoomFor, IsTakenOut, Rise};
 ghost use Rattle.udp_assoc.specs.declared.assocs.Association.{Association};
 
+use crate::order::Order;
 use arrayvec::ArrayVec;
 use net_octets::{Endpoint, Ip4, Mac};
 use std::marker::Model;
@@ -46,13 +47,13 @@ impl Default for Association {
 /// At most 512 associations, the longest unused first.
 ///
 /// Their rows stand by rising number, and their numbers beside them; the endpoints of their guests, as numbers, by rising endpoint, and beside each the
-/// number of its association. So one is found by its number or by its guest without a walk. The order of use is a list of numbers: no row moves where
-/// one is used. None was used before `since`.
+/// number of its association. So one is found by its number or by its guest without a walk. The order of use is kept by links between numbers: nothing
+/// moves where one is used. None was used before `since`.
 #[derive(Drop)]
 pub struct Associations {
     rows: ArrayVec<Association, 512>,
     rising: ArrayVec<u64, 512>,
-    order: ArrayVec<u64, 512>,
+    order: Order,
     keys: ArrayVec<u64, 512>,
     owners: ArrayVec<u64, 512>,
     since: u64,
@@ -65,9 +66,9 @@ impl Model for Associations {
 
     ghost Value = { List Association };
 
-    ghost view = { λ s. in_order s.rows.items s.order.items };
+    ghost view = { λ s. in_order s.rows.items s.order };
 
-    ghost invariant = { λ s. AreRows s.rows.items s.rising.items s.order.items s.since × ArePorts s.rows.items s.keys.items s.owners.items };
+    ghost invariant = { λ s. AreRows s.rows.items s.rising.items s.order s.since × ArePorts s.rows.items s.keys.items s.owners.items };
 }
 
 impl Associations {
@@ -81,7 +82,7 @@ impl Associations {
         Associations {
             rows: ArrayVec::new(),
             rising: ArrayVec::new(),
-            order: ArrayVec::new(),
+            order: Order::new(),
             keys: ArrayVec::new(),
             owners: ArrayVec::new(),
             since: u64::MAX,
@@ -100,7 +101,7 @@ impl Associations {
     pub fn oldest(&self) -> Option<Association>
         ensures { result ≡ slice_get self.now 0 }
     {
-        let number = *self.order.as_slice().first()?;
+        let number = self.order.first()?;
         self.numbered(number)
     }
 
@@ -144,7 +145,7 @@ impl Associations {
         if let Some(place) = place_of(self.rising.as_slice(), number) {
             let row = self.rows.remove(place);
             self.rising.remove(place);
-            forget(&mut self.order, number);
+            self.order.forget(number);
             forget_port(&mut self.keys, &mut self.owners, key(row.guest));
         }
     }
@@ -158,7 +159,7 @@ impl Associations {
             row.mac = mac;
             row.used = now;
             put(&mut self.rows, place, row);
-            make_last(&mut self.order, number);
+            self.order.make_last(number);
             self.since = self.since.min(now);
         }
     }
@@ -171,7 +172,7 @@ impl Associations {
             let mut row = self.rows.as_slice()[place];
             row.used = now;
             put(&mut self.rows, place, row);
-            make_last(&mut self.order, number);
+            self.order.make_last(number);
             self.since = self.since.min(now);
         }
     }
@@ -206,7 +207,7 @@ impl Associations {
 }
 
 // The place of a number among numbers that rise.
-fn place_of(rising: &[u64], number: u64) -> Option<usize>
+pub(crate) fn place_of(rising: &[u64], number: u64) -> Option<usize>
     requires { Rise rising.now }
     ensures { IsPlace number rising.now result }
 {
@@ -256,41 +257,6 @@ fn put(rows: &mut ArrayVec<Association, 512>, place: usize, row: Association)
     ensures { rows.new.items ≡ slice_set rows.old.items place row }
 {
     rows.as_mut_slice()[place] = row;
-}
-
-// Takes a number out of the order of use.
-fn forget(order: &mut ArrayVec<u64, 512>, number: u64)
-    requires { times number order.old.items ≤ 1 }
-    ensures { order.new.items ≡ gone number order.old.items }
-{
-    if let Some(place) = last_place(order.as_slice(), number) {
-        order.remove(place);
-    }
-}
-
-// Makes a number the last in the order of use.
-fn make_last(order: &mut ArrayVec<u64, 512>, number: u64)
-    requires { times number order.old.items ≡ 1 }
-    ensures { order.new.items ≡ gone number order.old.items ++ (number ∷ []) }
-{
-    if let Some(place) = last_place(order.as_slice(), number) {
-        order.remove(place);
-        order.push(number);
-    }
-}
-
-// The place of a number in the order of use, looked for from the last on: what is used often stands there.
-fn last_place(order: &[u64], number: u64) -> Option<usize>
-    ensures { IsPlace number order.now result }
-{
-    let mut place = order.len();
-    while place > 0 {
-        place -= 1;
-        if order[place] == number {
-            return Some(place);
-        }
-    }
-    None
 }
 
 // The first moment at which one of these was used.

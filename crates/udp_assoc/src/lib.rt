@@ -2,6 +2,7 @@
 #![tactic(auto)]
 
 mod assocs;
+mod order;
 mod sockets;
 
 ghost use Rattle.std.specs.Prelude.{◌≡◌, ℕ, List, None, ◌+◌, ◌≤◌, ◌<◌, ◌^◌, ◌↔◌, ◌++◌, length, take, drop, IsOk, IfOk, OnErr, MatchResult, Some};

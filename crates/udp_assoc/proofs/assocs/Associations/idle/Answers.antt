@@ -14,7 +14,7 @@ returns-then-saturating_sub-lt-IDLE_LIFE-clause-least c =
     let are = c.self.invariant.0 in
     let now = c.args.now in
     subst (λ (list : List Association). IsLeast (is_over now) list None) c.self.view_is
-    (least_in_order (is_over now) i.rows.items i.order.items None (λ n. are.same n ∙ ap (times n) are.numbers_are) (subst Rise are.numbers_are are.rise)
+    (least_in_order (is_over now) i.rows.items i.order None (λ n. are.same n ∙ ap (times n) are.numbers_are) (subst Rise are.numbers_are are.rise)
     (none_over i.since now i.rows.items are.since_then (early now i.since c.saturating_sub.result c.saturating_sub.ensures c.if-saturating_sub-lt-IDLE_LIFE.true)))
 
 pub returns-clause-least : goal.returns-clause-least
@@ -22,5 +22,5 @@ returns-clause-least c =
     let i = c.self.inside in
     let are = c.self.invariant.0 in
     subst (λ (list : List Association). IsLeast (is_over c.args.now) list c.least_of.result) c.self.view_is
-    (least_in_order (is_over c.args.now) i.rows.items i.order.items c.least_of.result (λ n. are.same n ∙ ap (times n) are.numbers_are) (subst Rise are.numbers_are are.rise)
+    (least_in_order (is_over c.args.now) i.rows.items i.order c.least_of.result (λ n. are.same n ∙ ap (times n) are.numbers_are) (subst Rise are.numbers_are are.rise)
     (subst (λ (list : List Association). IsLeast (is_over c.args.now) list c.least_of.result) c.as_slice-2.ensures.value c.least_of.ensures))

@@ -10,5 +10,5 @@ returns c =
     let i = c.self.inside in
     let are = c.self.invariant.0 in
     subst (λ (list : List Association). IsLeast (λ a. true) list c.least_of.result) c.self.view_is
-    (least_in_order (λ a. true) i.rows.items i.order.items c.least_of.result (λ n. are.same n ∙ ap (times n) are.numbers_are) (subst Rise are.numbers_are are.rise)
+    (least_in_order (λ a. true) i.rows.items i.order c.least_of.result (λ n. are.same n ∙ ap (times n) are.numbers_are) (subst Rise are.numbers_are are.rise)
     (subst (λ (list : List Association). IsLeast (λ a. true) list c.least_of.result) c.as_slice.ensures.value c.least_of.ensures))

@@ -7,6 +7,5 @@ use Rattle.udp_assoc.proofs.assocs.Associations.oldest.Goals as goal
 pub returns : goal.returns
 returns c =
     let i = c.self.inside in
-    c.numbered.ensures ∙ ap (numbered c.in_ok-number.field-0.now) (sym c.self.view_is)
-    ∙ first_numbered c.in_ok-number.field-0.now i.rows.items i.order.items (ap (λ (l : List ℕ). slice_get l 0) (sym c.as_slice.ensures.value) ∙ sym c.in_ok-number.ensures.value)
-    ∙ ap (λ (l : List Association). slice_get l 0) c.self.view_is
+    let n = c.in_ok-number.number in
+    c.numbered.ensures ∙ ap (numbered n) (sym c.self.view_is) ∙ first_numbered n i.rows.items i.order (sym c.in_ok-number.ensures) ∙ ap (λ (l : List Association). slice_get l 0) c.self.view_is

@@ -9,8 +9,8 @@ pub returns-clause-all : goal.returns-clause-all
 returns-clause-all c =
     let i = c.self.inside in
     let are = c.self.invariant.0 in
-    subst (λ (l : List ℕ). IsPermutation l c.as_slice.result.now) (sym (numbers_in_order i.rows.items i.order.items) ∙ ap numbers c.self.view_is)
-    (subst (λ (l : List ℕ). IsPermutation i.order.items l) (sym c.as_slice.ensures.value) (as_often i.order.items i.rising.items are.same))
+    subst (λ (l : List ℕ). IsPermutation l c.as_slice.result.now) (sym (numbers_in_order i.rows.items i.order) ∙ ap numbers c.self.view_is)
+    (subst (λ (l : List ℕ). IsPermutation i.order l) (sym c.as_slice.ensures.value) (as_often i.order i.rising.items are.same))
 
 pub returns-clause-rising : goal.returns-clause-rising
 returns-clause-rising c = subst IsNonDecreasing (sym c.as_slice.ensures.value) (never_falls c.self.inside.rising.items c.self.invariant.0.rise)

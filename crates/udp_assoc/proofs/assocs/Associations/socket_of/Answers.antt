@@ -8,7 +8,7 @@ pub returns-in_err-place : goal.returns-in_err-place
 returns-in_err-place c =
     let i = c.self.inside in
     let none = ap (times (key c.args.guest)) (sym c.as_slice.ensures.value) ∙ ap (λ k. times k c.as_slice.result.now) (sym c.key.ensures.number) ∙ c.in_err-place.ensures in
-    c.from_residual.ensures ∙ sym (socket_missing c.args.guest i.rows.items i.rising.items i.order.items i.keys.items i.owners.items i.since c.self.invariant.0 c.self.invariant.1 c.key.ensures.port none)
+    c.from_residual.ensures ∙ sym (socket_missing c.args.guest i.rows.items i.rising.items i.order i.keys.items i.owners.items i.since c.self.invariant.0 c.self.invariant.1 c.key.ensures.port none)
     ∙ ap (socket_of c.args.guest) c.self.view_is
 
 pub returns : goal.returns
@@ -18,5 +18,5 @@ returns c =
     let few = subst (λ (l : List ℕ). place < length l) c.as_slice.ensures.value c.in_ok-place.ensures.0 in
     let here = sym (ap (λ (l : List ℕ). get_or l place 0) c.as_slice.ensures.value) ∙ c.in_ok-place.ensures.1 ∙ c.key.ensures.number in
     ap (λ (l : List ℕ). Some (get_or l place 0)) c.as_slice-2.ensures.value
-    ∙ sym (socket_found c.args.guest i.rows.items i.rising.items i.order.items i.keys.items i.owners.items i.since c.self.invariant.0 c.self.invariant.1 c.key.ensures.port place (few, here) 0)
+    ∙ sym (socket_found c.args.guest i.rows.items i.rising.items i.order i.keys.items i.owners.items i.since c.self.invariant.0 c.self.invariant.1 c.key.ensures.port place (few, here) 0)
     ∙ ap (socket_of c.args.guest) c.self.view_is
