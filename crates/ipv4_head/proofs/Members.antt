@@ -97,7 +97,7 @@ module _ (P : Key → Part → Type 0) where
   found key (t ∷ sets) s is = found_if key t (find (λ (u : PartSet). is_same_key key u.key) sets) s (is_same_key key t.key) refl (found key sets s) is
 
   -- the set at a key's place has that key
-  found_key : (key : Key) (sets : List PartSet) (s : PartSet) → slice_get sets (place_of key sets) ≡ Some s → is_same_key key s.key ≡ true
+  pub found_key : (key : Key) (sets : List PartSet) (s : PartSet) → slice_get sets (place_of key sets) ≡ Some s → is_same_key key s.key ≡ true
   found_key key sets s is = found key sets s (find_at (λ (u : PartSet). is_same_key key u.key) sets ∙ is)
 
   of_put : (now : ℕ) (key : Key) (p : Part) (sets : List PartSet) (o : Option PartSet) → slice_get sets (place_of key sets) ≡ o → OfSets P sets → P key p → OfSets P (put_in now key p sets o)
