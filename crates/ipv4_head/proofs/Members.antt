@@ -3,16 +3,7 @@ use Rattle.std.proofs.Common.{◌≡◌, ℕ, zero, suc, ◌+◌, ◌<◌, ◌==
 use Rattle.std.proofs.lemmas.Bool.Decides.{nat_tests}
 use Rattle.std.proofs.lemmas.List.Folds.{find_at}
 use Rattle.std.specs.List.{position_or_len, remove}
-use Rattle.ipv4_head.specs.Sets.{Key, Part, PartSet, Outcome, UnevenPart, LongPart, Clashes, Waits, Joined, is_same_key, is_uneven, is_young, young, place_of, parts_for, put_in, with_room, with_part, outcome_among, changed_by, left_by, sets_after, sets_left, outcome}
-
--- of each part of a set, with its key
-abbrev pub OfParts : (Key → Part → Type 0) → Key → List Part → Type 0
-OfParts P key [] = Unit {0}
-OfParts P key (p ∷ parts) = P key p × OfParts P key parts
-
-abbrev pub OfSets : (Key → Part → Type 0) → List PartSet → Type 0
-OfSets P [] = Unit {0}
-OfSets P (s ∷ sets) = OfParts P s.key s.parts × OfSets P sets
+use Rattle.ipv4_head.specs.Sets.{OfParts, OfSets, Key, Part, PartSet, Outcome, UnevenPart, LongPart, Clashes, Waits, Joined, is_same_key, is_uneven, is_young, young, place_of, parts_for, put_in, with_room, with_part, outcome_among, changed_by, left_by, sets_after, sets_left, outcome}
 
 -- keys that are told to be the same are
 pub same_key : (a b : Key) → is_same_key a b ≡ true → a ≡ b
@@ -40,7 +31,7 @@ module _ (P : Key → Part → Type 0) where
   young_if true s sets is all = (is, all)
   young_if false s sets is all = all
 
-  of_young : (now : ℕ) (sets : List PartSet) → OfSets P sets → OfSets P (young now sets)
+  pub of_young : (now : ℕ) (sets : List PartSet) → OfSets P sets → OfSets P (young now sets)
   of_young now [] all = tt
   of_young now (s ∷ sets) all = young_if (is_young now s) s (young now sets) all.0 (of_young now sets all.1)
 
@@ -132,9 +123,13 @@ module _ (P : Key → Part → Type 0) where
   even_joins true o is = cc
   even_joins false o is = refl
 
+  -- of the sets that wait, and of those after a part came
+  pub of_changed_by : (now : ℕ) (key : Key) (p : Part) (waiting : List PartSet) → OfSets P waiting → (is_uneven p ≡ false → P key p) → OfSets P (changed_by (outcome_among p (parts_for key waiting)) now key p waiting)
+  of_changed_by now key p waiting all is =
+      kept_by (outcome_among p (parts_for key waiting)) now key p waiting all (λ waits. is (even_waits (is_uneven p) _ waits)) (λ joins. is (even_joins (is_uneven p) _ joins))
+
   pub of_after : (now : ℕ) (key : Key) (p : Part) (sets : List PartSet) → OfSets P sets → (is_uneven p ≡ false → P key p) → OfSets P (sets_after now key p sets)
-  of_after now key p sets all is =
-      kept_by (outcome now key p sets) now key p (young now sets) (of_young now sets all) (λ waits. is (even_waits (is_uneven p) _ waits)) (λ joins. is (even_joins (is_uneven p) _ joins))
+  of_after now key p sets all is = of_changed_by now key p (young now sets) (of_young now sets all) is
 
   pub of_left : (now : ℕ) (key : Key) (p : Part) (sets : List PartSet) → OfSets P sets → (is_uneven p ≡ false → P key p) → OfSets P (sets_left now key p sets)
   of_left now key p sets all is = left_of (outcome now key p sets) key (sets_after now key p sets) (of_after now key p sets all is)

@@ -198,7 +198,7 @@ abbrev pub joined : PartSet → Ip
 joined s = let body = joined_body s.parts in
     record { ident = s.key.ident; more = false; place = 0; proto = s.key.proto; from = s.key.from; to = s.key.to; head = whole_head (first_head s.parts) (length body); body = body }
 
--- the datagram that is whole by a part: that to which its set then joins
+-- the datagram that is whole by a part, where these sets wait, all of them young: that to which its set then joins
 abbrev pub set_for : Key → List PartSet → Option PartSet
 set_for key sets = slice_get sets (place_of key sets)
 
@@ -210,7 +210,20 @@ whole_by Clashes set = None
 whole_by Waits set = None
 
 abbrev pub whole_with : ℕ → Key → Part → List PartSet → Option Ip
-whole_with now key p sets = whole_by (outcome now key p sets) (set_for key (sets_after now key p sets))
+whole_with now key p waiting = whole_by (outcome_among p (parts_for key waiting)) (set_for key (changed_by (outcome_among p (parts_for key waiting)) now key p waiting))
+
+-- what holds of each part of a set, and of each set
+abbrev pub OfParts : (Key → Part → Type 0) → Key → List Part → Type 0
+OfParts P key [] = Unit {0}
+OfParts P key (p ∷ parts) = P key p × OfParts P key parts
+
+abbrev pub OfSets : (Key → Part → Type 0) → List PartSet → Type 0
+OfSets P [] = Unit {0}
+OfSets P (s ∷ sets) = OfParts P s.key s.parts × OfSets P sets
+
+-- a part carries octets
+abbrev pub Carrying : Key → Part → Type 0
+Carrying key p = 0 < length p.body
 
 -- a datagram as a part, and its key
 abbrev pub key_of : IpView → Key

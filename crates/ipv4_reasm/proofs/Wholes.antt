@@ -5,14 +5,9 @@ use Rattle.std.proofs.lemmas.Bool.{lt-ltb, ltb-true, le-leb, leb-true}
 use Rattle.std.proofs.lemmas.List.FromFn.{fill_by_all}
 use Rattle.std.proofs.lemmas.Bool.Decides.{nat_tests}
 use Rattle.ipv4_head.specs.Ip.{Ip}
-use Rattle.ipv4_head.specs.Sets.{Key, Part, PartSet, IsJoined, Joins, start_of, end_of, has_octet, is_first, is_last, end_by, head_by, first_head, joined, joined_body, joined_size, octet_in, octet_of, whole_head, do_share}
-use Rattle.ipv4_head.proofs.Members.{OfParts}
+use Rattle.ipv4_head.specs.Sets.{Carrying, OfParts, Key, Part, PartSet, IsJoined, Joins, start_of, end_of, has_octet, is_first, is_last, end_by, head_by, first_head, joined, joined_body, joined_size, octet_in, octet_of, whole_head, do_share}
 use Rattle.ipv4_reasm.proofs.Gathering.{and_is, both, clash_last, clash_one, clash_share, not_true}
 use Rattle.ipv4_reasm.proofs.Joining.{read_part}
-
--- a part carries octets
-abbrev pub Carrying : Key → Part → Type 0
-Carrying key p = 0 < length p.body
 
 carries : (key : Key) (parts : List Part) (p : Part) → OfParts Carrying key parts → Contains parts p → 0 < length p.body
 carries key [] p all (k, less, is) = absurd (omega (arith, less))

@@ -7,7 +7,7 @@ use Rattle.world_face.specs.Frames.{arrives}
 use Rattle.host_policy.specs.Addresses.{Config, is_guest}
 use Rattle.ether_frame.specs.Ether.{Ether, read_ether}
 use Rattle.ipv4_head.specs.Ip.{Ip, read_ip, is_unbroken}
-use Rattle.ipv4_head.specs.Sets.{Key, Part, PartSet, sets_left, whole_with}
+use Rattle.ipv4_head.specs.Sets.{Key, Part, PartSet, sets_left, whole_with, young}
 use Rattle.run_laws.specs.Moments.{moment}
 
 -- a part of a datagram, and which datagram it is of
@@ -46,10 +46,14 @@ abbrev pub sets : Config → List Entry → List PartSet
 sets config [] = []
 sets config (e ∷ past) = with_frame config (moment past) (arrives e past) (sets config past)
 
--- The datagram that arrives by what a frame carries, where these sets wait: it, where it is whole, or that to which its set joins by it.
+-- of which those go on waiting that are less than 60,000 ms old
+abbrev pub waiting : Config → List Entry → List PartSet
+waiting config past = young (moment past) (sets config past)
+
+-- The datagram that arrives by what a frame carries: it, where it is whole, or that to which its set joins by it.
 abbrev pub joined_by : ℕ → List PartSet → Option Fragment → Option Ip
-joined_by now sets None = None
-joined_by now sets (Some f) = whole_with now f.key f.part sets
+joined_by now waiting None = None
+joined_by now waiting (Some f) = whole_with now f.key f.part waiting
 
 abbrev pub arrived : Config → ℕ → List PartSet → List ℕ → Ip → Option Ip
-arrived config now sets octets ip = if is_unbroken ip then Some ip else joined_by now sets (fragment_by config octets ip)
+arrived config now waiting octets ip = if is_unbroken ip then Some ip else joined_by now waiting (fragment_by config octets ip)

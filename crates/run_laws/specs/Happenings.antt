@@ -4,7 +4,7 @@ use Rattle.world_face.specs.Journal.{Entry}
 use Rattle.world_face.specs.Frames.{arrives, goes_out}
 use Rattle.host_policy.specs.Addresses.{Config}
 use Rattle.ipv4_head.specs.Sets.{PartSet}
-use Rattle.run_laws.specs.Fragments.{sets}
+use Rattle.run_laws.specs.Fragments.{waiting}
 use Rattle.run_laws.specs.Moments.{moment}
 use Rattle.run_laws.specs.Packets.{Packet, Pair, Datagram, DatagramPacket, packet_in, pair_in}
 
@@ -22,10 +22,10 @@ pub record Happening : Type 0 where
   pub call : Entry
 
 abbrev pub arrival_of : Config → ℕ → List PartSet → List ℕ → Arrival
-arrival_of config now sets frame = record { pair = pair_in config frame; packet = packet_in config now sets frame }
+arrival_of config now waiting frame = record { pair = pair_in config frame; packet = packet_in config now waiting frame }
 
 abbrev pub happens : Config → List Entry → Entry → Happening
-happens config past e = record { came = option_map (arrival_of config (moment past) (sets config past)) (arrives e past); went = goes_out e past; call = e }
+happens config past e = record { came = option_map (arrival_of config (moment past) (waiting config past)) (arrives e past); went = goes_out e past; call = e }
 
 -- the datagram that came
 abbrev pub datagram_by : Packet → Option Datagram

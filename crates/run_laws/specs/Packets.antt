@@ -55,17 +55,17 @@ packet_of_ip config mac ip =
     else (if ip.proto == tcp_proto then option_map (Segment mac ip) (read_tcp ip.from ip.to ip.body) else None))
     else None)
 
--- what a frame holds that came at this moment, where these sets of fragments waited
+-- what a frame holds, or makes whole, that came at this moment, while these sets of fragments waited
 abbrev pub whole_packet : Config → ℕ → List PartSet → List ℕ → List ℕ → Ip → Option Packet
-whole_packet config now sets mac octets ip = option_and_then (packet_of_ip config mac) (arrived config now sets octets ip)
+whole_packet config now waiting mac octets ip = option_and_then (packet_of_ip config mac) (arrived config now waiting octets ip)
 
 abbrev pub packet_of : Config → ℕ → List PartSet → Ether → Option Packet
-packet_of config now sets ether =
+packet_of config now waiting ether =
     if ether.kind == arp_kind then option_map ArpPacket (read_arp ether.body)
-    else (if ether.kind == ipv4_kind then option_and_then (whole_packet config now sets ether.from ether.body) (read_ip ether.body) else None)
+    else (if ether.kind == ipv4_kind then option_and_then (whole_packet config now waiting ether.from ether.body) (read_ip ether.body) else None)
 
 abbrev pub packet_in : Config → ℕ → List PartSet → List ℕ → Packet
-packet_in config now sets frame = unless_unheard (option_and_then (packet_of config now sets) (read_ether frame))
+packet_in config now waiting frame = unless_unheard (option_and_then (packet_of config now waiting) (read_ether frame))
 
 -- A guest's address and a hardware address that a frame teaches (RFC 826: the sender's; and the source of each datagram).
 pub record Pair : Type 0 where

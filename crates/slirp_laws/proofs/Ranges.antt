@@ -20,12 +20,12 @@ use Rattle.host_policy.specs.Addresses.{Config, is_guest}
 use Rattle.ether_frame.specs.Ether.{Ether, read_ether}
 use Rattle.arp_table.specs.Arp.{Arp, read_arp}
 use Rattle.ipv4_head.specs.Ip.{Ip, read_ip, is_ip, head_length, is_unbroken}
-use Rattle.ipv4_head.specs.Sets.{Key, Part, PartSet, Outcome, UnevenPart, LongPart, Clashes, Waits, Joined, has_octet, joined_body, joined_size, octet_in, octet_of, outcome, place_of, set_for, sets_after, start_of, whole_by}
-use Rattle.ipv4_head.proofs.Members.{OfParts, OfSets, found_key, of_after, of_left, of_there, same_key}
+use Rattle.ipv4_head.specs.Sets.{Key, Part, PartSet, Outcome, UnevenPart, LongPart, Clashes, Waits, Joined, has_octet, joined_body, joined_size, octet_in, octet_of, outcome_among, parts_for, changed_by, OfParts, OfSets, place_of, set_for, start_of, whole_by}
+use Rattle.ipv4_head.proofs.Members.{found_key, of_changed_by, of_left, of_there, of_young, same_key}
 use Rattle.icmp_echo.specs.Icmp.{Icmp, read_icmp}
 use Rattle.udp_assoc.specs.Udp.{Udp, is_udp, read_udp}
 use Rattle.tcp_segment.specs.Tcp.{Tcp, read_tcp}
-use Rattle.run_laws.specs.Fragments.{Fragment, arrived, fragment_by, fragment_in, fragment_of, joined_by, key_by, part_by, sets, with_fragment, with_frame}
+use Rattle.run_laws.specs.Fragments.{Fragment, arrived, fragment_by, fragment_in, fragment_of, joined_by, key_by, part_by, sets, waiting, with_fragment, with_frame}
 use Rattle.run_laws.specs.Moments.{moment}
 use Rattle.run_laws.specs.Happenings.{Arrival, arrival_of, happens, datagram_by, datagram_came}
 use Rattle.run_laws.specs.Packets.{Datagram, Packet, Unheard, ArpPacket, Message, DatagramPacket, Segment, datagram_in, datagram_of, may_come, packet_in, packet_of, packet_of_ip, unless_unheard, whole_packet}
@@ -204,7 +204,9 @@ whole_range key waiting Waits o at from all = tt
 joined_range : (now : ℕ) (waiting : List PartSet) (o : Option Fragment) → RangeFragment o → OfSets RangePart waiting → RangeIp (joined_by now waiting o)
 joined_range now waiting None is all = tt
 joined_range now waiting (Some f) is all =
-    whole_range f.key (sets_after now f.key f.part waiting) (outcome now f.key f.part waiting) (set_for f.key (sets_after now f.key f.part waiting)) refl is.0 (of_after RangePart now f.key f.part waiting all (λ even. is))
+    let o = outcome_among f.part (parts_for f.key waiting) in
+    let after = changed_by o now f.key f.part waiting in
+    whole_range f.key after o (set_for f.key after) refl is.0 (of_changed_by RangePart now f.key f.part waiting all (λ even. is))
 
 arrived_range : (config : Config) (now : ℕ) (waiting : List PartSet) (octets : List ℕ) (ip : Ip) → (ip.from < 2 ^ 32) × AreOctets ip.body → OfSets RangePart waiting → RangeIp (arrived config now waiting octets ip)
 arrived_range config now waiting octets ip is all = by (is_unbroken ip)
@@ -254,7 +256,7 @@ range_came config now waiting (Some frame) last octets kept before = range_by (p
 range_last : (config : Config) (past : List Entry) → AreAllowed past → RangeLast (last_datagram config past)
 range_last config [] allowed = tt
 range_last config (e ∷ past) allowed =
-    range_came config (moment past) (sets config past) (arrives e past) (last_datagram config past) (λ frame is. frame_octets e past frame allowed is) (range_sets config past allowed.1) (range_last config past allowed.1)
+    range_came config (moment past) (waiting config past) (arrives e past) (last_datagram config past) (λ frame is. frame_octets e past frame allowed is) (of_young RangePart (moment past) (sets config past) (range_sets config past allowed.1)) (range_last config past allowed.1)
 
 abbrev pub RangePort : Option Endpoint → Type 0
 RangePort None = Unit {0}

@@ -25,7 +25,7 @@ use Rattle.ipv4_head.specs.Sets.{Part, PartSet}
 use Rattle.icmp_echo.specs.Icmp.{Icmp, echo, unreachable, other as another, read_icmp}
 use Rattle.udp_assoc.specs.Udp.{Udp, read_udp}
 use Rattle.tcp_segment.specs.Tcp.{Tcp, read_tcp}
-use Rattle.run_laws.specs.Fragments.{arrived, sets}
+use Rattle.run_laws.specs.Fragments.{arrived, waiting}
 use Rattle.run_laws.specs.Happenings.{arrival_of, datagram_by, datagram_came}
 use Rattle.run_laws.specs.Moments.{moment}
 use Rattle.run_laws.specs.Packets.{Datagram, Packet, Unheard, ArpPacket, Message, DatagramPacket, Segment, datagram_in, datagram_of, may_come, packet_in, packet_of, packet_of_ip, unless_unheard, whole_packet}
@@ -117,7 +117,7 @@ six_came config now sets (Some frame) last before = six_by (packet_in config now
 
 six_last : (config : Config) (past : List Entry) → SixDatagram (last_datagram config past)
 six_last config [] = tt
-six_last config (e ∷ past) = six_came config (moment past) (sets config past) (arrives e past) (last_datagram config past) (six_last config past)
+six_last config (e ∷ past) = six_came config (moment past) (waiting config past) (arrives e past) (last_datagram config past) (six_last config past)
 
 abbrev pub SixMac : Option (List ℕ) → Type 0
 SixMac None = Unit {0}
@@ -234,7 +234,7 @@ six_after config now sets e (Some frame) last o is before = six_packet config no
 
 pub six_occasion : (config : Config) (past : List Entry) → SixOccasion (last_occasion config past)
 six_occasion config [] = tt
-six_occasion config (e ∷ past) = six_after config (moment past) (sets config past) e (arrives e past) (last_datagram config past) (last_occasion config past) (six_last config past) (six_occasion config past)
+six_occasion config (e ∷ past) = six_after config (moment past) (waiting config past) e (arrives e past) (last_datagram config past) (last_occasion config past) (six_last config past) (six_occasion config past)
 
 -- ---- what our frames carry
 
