@@ -1,5 +1,6 @@
 pub mod Counts
 pub mod Datagrams
+pub mod Fragments
 pub mod Hearing
 pub mod Holds
 pub mod Outgoing
@@ -7,3 +8,4 @@ pub mod Packets
 pub mod Pumps
 pub mod Sockets
 pub mod State
+pub mod Waiting

@@ -4,6 +4,7 @@
 mod arp;
 mod cutting;
 mod datagrams;
+mod fragments;
 mod icmp;
 mod network;
 mod outgoing;
@@ -11,5 +12,6 @@ mod sending;
 mod udp;
 mod wants;
 
+pub use fragments::{Assembled, Brought, LONGEST_ASSEMBLED};
 pub use network::Slirp;
 pub use sending::Pumped;

@@ -32,7 +32,7 @@ returns-clause-fewer g c is =
 pub invariant_of-self : goal.invariant_of-self
 invariant_of-self g c =
     let i = c.self.inside in
-    subst (AreBelow i.number) (sym c.close-2.ensures) (below_without i.number c.in-Some.number i.associations c.self.invariant)
+    (subst (AreBelow i.number) (sym c.close-2.ensures) (below_without i.number c.in-Some.number i.associations c.self.invariant.0), c.self.invariant.1)
 
 pub returns-in_default-clause-none : goal.returns-in_default-clause-none
 returns-in_default-clause-none g c is = subst (λ (s : SlirpState). s.associations ≡ []) c.self.view_is (no_association c.self.inside.associations c.in_default.ensures)

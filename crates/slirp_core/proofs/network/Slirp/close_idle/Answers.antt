@@ -16,7 +16,7 @@ pub returns-clause-makes : goal.returns-clause-makes
 returns-clause-makes g c config at link =
     let i = c.self.inside in
     let closed = c.close-2.ensures ∙ ap (without c.in-Some.number) c.in-Some.ensures.same in
-    let slirp : SlirpState = record { config = i.policy; known = i.guests; sent = i.sent; pending = i.outgoing; moment = i.moment; number = i.number; associations = i.associations } in
+    let slirp : SlirpState = record { config = i.policy; known = i.guests; sent = i.sent; pending = i.outgoing; moment = i.moment; number = i.number; associations = i.associations; parts = i.reasm } in
     subst (λ (s : SlirpState). Brings (g.W.World.tells c.args.world.now) (g.W.World.tells c.close.new.self) (Holds config at s link) (Holds config at (record slirp { associations = c.close-2.new.self }) link)) c.self.view_is
     (brings_one c.close.ensures (λ allowed past holds.
     subst (λ (l : List Association). Holds config at (record slirp { associations = l }) link (Close c.in-Some.number ∷ past)) (sym closed) (after_idling config at slirp link past c.in-Some.number c.in-Some.ensures.least.0 holds)))
@@ -42,7 +42,7 @@ returns-in_default-clause-closes g c = makes_none _ _ refl
 pub invariant_of-self-2 : goal.invariant_of-self-2
 invariant_of-self-2 g c =
     let i = c.self.inside in
-    subst (AreBelow i.number) (sym (c.close-2.ensures ∙ ap (without c.in-Some.number) c.in-Some.ensures.same)) (below_without i.number c.in-Some.number i.associations c.self.invariant)
+    (subst (AreBelow i.number) (sym (c.close-2.ensures ∙ ap (without c.in-Some.number) c.in-Some.ensures.same)) (below_without i.number c.in-Some.number i.associations c.self.invariant.0), c.self.invariant.1)
 
 pub invariant_of-self : goal.invariant_of-self
-invariant_of-self g c = subst (AreBelow c.self.inside.number) (sym c.in_default.ensures.same) c.self.invariant
+invariant_of-self g c = (subst (AreBelow c.self.inside.number) (sym c.in_default.ensures.same) c.self.invariant.0, c.self.invariant.1)

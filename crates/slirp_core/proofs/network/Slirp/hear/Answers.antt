@@ -17,7 +17,7 @@ use Rattle.slirp_core.proofs.network.Slirp.hear.Goals as goal
 pub returns-in-From-clause-makes : goal.returns-in-From-clause-makes
 returns-in-From-clause-makes g c config count wants item items link reported out =
     let i = c.self.inside in
-    let slirp : SlirpState = record { config = i.policy; known = i.guests; sent = i.sent; pending = i.outgoing; moment = i.moment; number = i.number; associations = i.associations } in
+    let slirp : SlirpState = record { config = i.policy; known = i.guests; sent = i.sent; pending = i.outgoing; moment = i.moment; number = i.number; associations = i.associations; parts = i.reasm } in
     let a = c.in-Some.association in
     let found : numbered c.args.number slirp.associations ≡ Some a = sym c.in-Some.ensures in
     let none = ap (λ (s : SlirpState). s.pending) c.self.view_is ∙ c.requires.none in
@@ -73,4 +73,4 @@ returns-in_default-clause-makes g c config count wants item items link reported 
 pub invariant_of-self : goal.invariant_of-self
 invariant_of-self g c =
     let i = c.self.inside in
-    subst (AreBelow i.number) (sym c.heard.ensures) (below_moved i.number c.args.number (heard_at i.moment) (λ a. refl) i.associations c.self.invariant)
+    (subst (AreBelow i.number) (sym c.heard.ensures) (below_moved i.number c.args.number (heard_at i.moment) (λ a. refl) i.associations c.self.invariant.0), c.self.invariant.1)

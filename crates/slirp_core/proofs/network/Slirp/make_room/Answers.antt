@@ -20,7 +20,7 @@ few_of_none (a ∷ list) none = cc
 pub returns-in-Some-clause-makes : goal.returns-in-Some-clause-makes
 returns-in-Some-clause-makes g c config at link =
     let i = c.self.inside in
-    let slirp : SlirpState = record { config = i.policy; known = i.guests; sent = i.sent; pending = i.outgoing; moment = i.moment; number = i.number; associations = i.associations } in
+    let slirp : SlirpState = record { config = i.policy; known = i.guests; sent = i.sent; pending = i.outgoing; moment = i.moment; number = i.number; associations = i.associations; parts = i.reasm } in
     let errand = errand_of c.args.errand.now in
     let oldest = c.in-Some.oldest in
     let full : nat_le most_associations (length i.associations) ≡ true = sym c.is_full.ensures.full ∙ c.if-is_full.true in
@@ -44,7 +44,7 @@ returns-in-Some-clause-room g c =
 pub invariant_of-self : goal.invariant_of-self
 invariant_of-self g c =
     let i = c.self.inside in
-    subst (AreBelow i.number) (sym c.close-in-Some.ensures) (below_without i.number c.in-Some.oldest.number i.associations c.self.invariant)
+    (subst (AreBelow i.number) (sym c.close-in-Some.ensures) (below_without i.number c.in-Some.oldest.number i.associations c.self.invariant.0), c.self.invariant.1)
 
 pub returns-in-Some-clause-fresh : goal.returns-in-Some-clause-fresh
 returns-in-Some-clause-fresh g c guest none =

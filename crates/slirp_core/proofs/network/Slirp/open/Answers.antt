@@ -19,7 +19,7 @@ use Rattle.slirp_core.proofs.network.Slirp.open.Goals as goal
 pub returns-in-Done-clause-makes : goal.returns-in-Done-clause-makes
 returns-in-Done-clause-makes g c config at link =
     let i = c.self.inside in
-    let slirp : SlirpState = record { config = i.policy; known = i.guests; sent = i.sent; pending = i.outgoing; moment = i.moment; number = i.number; associations = i.associations } in
+    let slirp : SlirpState = record { config = i.policy; known = i.guests; sent = i.sent; pending = i.outgoing; moment = i.moment; number = i.number; associations = i.associations; parts = i.reasm } in
     let errand = errand_of c.args.errand.now in
     let opened = brings_one c.in-Done.ensures (λ allowed past holds.
     subst (λ (l : List Association). HoldsAt config at (NeedsSending slirp.number errand) (record slirp { number = slirp.number + 1; associations = l }) link (UdpOpen slirp.number anywhere Done ∷ past)) (sym c.open.ensures)
@@ -31,7 +31,7 @@ returns-in-Done-clause-makes g c config at link =
 pub returns-in-Failed-clause-makes : goal.returns-in-Failed-clause-makes
 returns-in-Failed-clause-makes g c config at link =
     let i = c.self.inside in
-    let slirp : SlirpState = record { config = i.policy; known = i.guests; sent = i.sent; pending = i.outgoing; moment = i.moment; number = i.number; associations = i.associations } in
+    let slirp : SlirpState = record { config = i.policy; known = i.guests; sent = i.sent; pending = i.outgoing; moment = i.moment; number = i.number; associations = i.associations; parts = i.reasm } in
     let errand = errand_of c.args.errand.now in
     subst (λ (s : SlirpState). Brings (g.W.World.tells c.args.world.now) (g.W.World.tells c.udp_open.new.self) (HoldsAt config at (NeedsSocket errand) s link) (Holds config at c.tell_about.new.self link)) c.self.view_is
     (brings_one c.in-Failed.ensures (λ allowed past holds.

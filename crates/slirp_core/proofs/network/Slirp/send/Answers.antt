@@ -18,7 +18,7 @@ use Rattle.slirp_core.proofs.network.Slirp.send.Goals as goal
 pub returns-in-Done : goal.returns-in-Done
 returns-in-Done g c =
     let i = c.self.inside in
-    let slirp : SlirpState = record { config = i.policy; known = i.guests; sent = i.sent; pending = i.outgoing; moment = i.moment; number = i.number; associations = i.associations } in
+    let slirp : SlirpState = record { config = i.policy; known = i.guests; sent = i.sent; pending = i.outgoing; moment = i.moment; number = i.number; associations = i.associations; parts = i.reasm } in
     let number = c.args.number in
     let errand = errand_of c.args.errand.now in
     record {
@@ -36,7 +36,7 @@ returns-in-Done g c =
 pub returns-in-NotYet : goal.returns-in-NotYet
 returns-in-NotYet g c =
     let i = c.self.inside in
-    let slirp : SlirpState = record { config = i.policy; known = i.guests; sent = i.sent; pending = i.outgoing; moment = i.moment; number = i.number; associations = i.associations } in
+    let slirp : SlirpState = record { config = i.policy; known = i.guests; sent = i.sent; pending = i.outgoing; moment = i.moment; number = i.number; associations = i.associations; parts = i.reasm } in
     let number = c.args.number in
     let errand = errand_of c.args.errand.now in
     record {
@@ -54,7 +54,7 @@ returns-in-NotYet g c =
 pub returns-in-Failed-clause-makes : goal.returns-in-Failed-clause-makes
 returns-in-Failed-clause-makes g c config at link among =
     let i = c.self.inside in
-    let slirp : SlirpState = record { config = i.policy; known = i.guests; sent = i.sent; pending = i.outgoing; moment = i.moment; number = i.number; associations = i.associations } in
+    let slirp : SlirpState = record { config = i.policy; known = i.guests; sent = i.sent; pending = i.outgoing; moment = i.moment; number = i.number; associations = i.associations; parts = i.reasm } in
     let number = c.args.number in
     let errand = errand_of c.args.errand.now in
     let here = ap (λ (s : SlirpState). is_among number (numbers s.associations)) c.self.view_is ∙ among in
@@ -66,14 +66,14 @@ returns-in-Failed-clause-makes g c config at link among =
 pub invariant_of-self : goal.invariant_of-self
 invariant_of-self g c =
     let i = c.self.inside in
-    subst (AreBelow i.number) (sym c.sent.ensures) (below_moved i.number c.args.number (sent_from c.args.errand.now.datagram.mac i.moment) (λ a. refl) i.associations c.self.invariant)
+    (subst (AreBelow i.number) (sym c.sent.ensures) (below_moved i.number c.args.number (sent_from c.args.errand.now.datagram.mac i.moment) (λ a. refl) i.associations c.self.invariant.0), c.self.invariant.1)
 
 pub invariant_of-self-in-NotYet : goal.invariant_of-self-in-NotYet
 invariant_of-self-in-NotYet g c =
     let i = c.self.inside in
-    subst (AreBelow i.number) (sym c.sent.ensures) (below_moved i.number c.args.number (sent_from c.args.errand.now.datagram.mac i.moment) (λ a. refl) i.associations c.self.invariant)
+    (subst (AreBelow i.number) (sym c.sent.ensures) (below_moved i.number c.args.number (sent_from c.args.errand.now.datagram.mac i.moment) (λ a. refl) i.associations c.self.invariant.0), c.self.invariant.1)
 
 pub invariant_of-self-in-Failed : goal.invariant_of-self-in-Failed
 invariant_of-self-in-Failed g c =
     let i = c.self.inside in
-    subst (AreBelow i.number) (sym c.sent.ensures) (below_moved i.number c.args.number (sent_from c.args.errand.now.datagram.mac i.moment) (λ a. refl) i.associations c.self.invariant)
+    (subst (AreBelow i.number) (sym c.sent.ensures) (below_moved i.number c.args.number (sent_from c.args.errand.now.datagram.mac i.moment) (λ a. refl) i.associations c.self.invariant.0), c.self.invariant.1)

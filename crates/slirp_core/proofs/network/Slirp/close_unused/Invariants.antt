@@ -4,7 +4,7 @@ use Rattle.stream_netdev.specs.State.{LinkState}
 use Rattle.host_policy.specs.Addresses.{Config}
 use Rattle.slirp_core.specs.Holds.{Standing, Holds}
 use Rattle.slirp_core.proofs.Ticking.{Ticked}
-use Rattle.slirp_core.proofs.network.Slirp.tick.Given as goal
+use Rattle.slirp_core.proofs.network.Slirp.close_unused.Given as goal
 
 abbrev pub invariant-loop : goal.invariant-loop
 invariant-loop g l = record {
