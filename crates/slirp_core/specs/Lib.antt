@@ -8,4 +8,5 @@ pub mod Packets
 pub mod Pumps
 pub mod Sockets
 pub mod State
+pub mod Timeouts
 pub mod Waiting
