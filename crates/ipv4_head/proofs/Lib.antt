@@ -1,4 +1,5 @@
 pub mod Cutting
+pub mod Members
 pub mod Passing
 pub mod Plain
 pub mod Spelling

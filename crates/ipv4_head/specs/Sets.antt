@@ -1,7 +1,8 @@
 -- Parts of datagrams, and the sets of them that wait to be joined (RFC 791, 2.3 and 3.2; of overlaps RFC 5722, 3).
-use Rattle.std.specs.Prelude.{◌≡◌, ℕ, ◌+◌, ◌-◌, ◌*◌, ◌/◌, ◌%◌, ◌^◌, ◌<◌, ◌≤◌, ◌==◌, ◌&&◌, ◌||◌, not, false, Bool, nat_lt, nat_le, min, List, [], ◌∷◌, ◌++◌, length, drop, filter, Option, None, Some, slice_get, slice_set, if◌then◌else◌}
+use Rattle.std.specs.Prelude.{◌≡◌, ℕ, ◌+◌, ◌-◌, ◌*◌, ◌/◌, ◌%◌, ◌^◌, ◌<◌, ◌≤◌, ◌==◌, ◌&&◌, ◌||◌, not, false, Bool, nat_lt, nat_le, min, List, [], ◌∷◌, ◌++◌, length, drop, filter, find, map, Option, None, Some, slice_get, slice_set, if◌then◌else◌}
+use Rattle.std.specs.Option.{option_map}
 use Rattle.std.specs.List.{Contains, AllPairs, list_any, list_all, range_with_len, position_or_len, remove}
-use Rattle.net_octets.specs.Octets.{two_at, part, two, word_sum, checksum}
+use Rattle.net_octets.specs.Octets.{one_at, two_at, part, two, word_sum, checksum}
 use Rattle.ipv4_head.specs.declared.IpView.{IpView}
 use Rattle.ipv4_head.specs.Ip.{Ip}
 
@@ -158,6 +159,71 @@ pub record IsJoined (s : PartSet) (ip : Ip) (life : ℕ) : Type 0 where
   pub to : ip.to ≡ s.key.to
   pub proto : ip.proto ≡ s.key.proto
   pub ident : ip.ident ≡ s.key.ident
+
+-- the octet at a place of the body to which parts join: that of the part that has it
+abbrev pub octet_in : ℕ → Option Part → ℕ
+octet_in k None = 0
+octet_in k (Some p) = one_at p.body (k - start_of p)
+
+abbrev pub octet_of : List Part → ℕ → ℕ
+octet_of parts k = octet_in k (find (has_octet k) parts)
+
+-- where the last part ends
+abbrev pub is_last : Part → Bool
+is_last p = not p.more
+
+abbrev pub end_by : Option Part → ℕ
+end_by None = 0
+end_by (Some p) = end_of p
+
+abbrev pub joined_size : List Part → ℕ
+joined_size parts = end_by (find is_last parts)
+
+abbrev pub joined_body : List Part → List ℕ
+joined_body parts = map (octet_of parts) (range_with_len 0 (joined_size parts))
+
+-- the header of the part at the start
+abbrev pub is_first : Part → Bool
+is_first p = p.place == 0
+
+abbrev pub head_by : Option Part → List ℕ
+head_by None = []
+head_by (Some p) = p.head
+
+abbrev pub first_head : List Part → List ℕ
+first_head parts = head_by (find is_first parts)
+
+-- the datagram to which the parts of a set join, where they do
+abbrev pub joined : PartSet → Ip
+joined s = let body = joined_body s.parts in
+    record { ident = s.key.ident; more = false; place = 0; proto = s.key.proto; from = s.key.from; to = s.key.to; head = whole_head (first_head s.parts) (length body); body = body }
+
+-- the datagram that is whole by a part, where these sets wait, all of them young: that to which its set then joins
+abbrev pub set_for : Key → List PartSet → Option PartSet
+set_for key sets = slice_get sets (place_of key sets)
+
+abbrev pub whole_by : Outcome → Option PartSet → Option Ip
+whole_by Joined set = option_map joined set
+whole_by UnevenPart set = None
+whole_by LongPart set = None
+whole_by Clashes set = None
+whole_by Waits set = None
+
+abbrev pub whole_with : ℕ → Key → Part → List PartSet → Option Ip
+whole_with now key p waiting = whole_by (outcome_among p (parts_for key waiting)) (set_for key (changed_by (outcome_among p (parts_for key waiting)) now key p waiting))
+
+-- what holds of each part of a set, and of each set
+abbrev pub OfParts : (Key → Part → Type 0) → Key → List Part → Type 0
+OfParts P key [] = Unit {0}
+OfParts P key (p ∷ parts) = P key p × OfParts P key parts
+
+abbrev pub OfSets : (Key → Part → Type 0) → List PartSet → Type 0
+OfSets P [] = Unit {0}
+OfSets P (s ∷ sets) = OfParts P s.key s.parts × OfSets P sets
+
+-- a part carries octets
+abbrev pub Carrying : Key → Part → Type 0
+Carrying key p = 0 < length p.body
 
 -- a datagram as a part, and its key
 abbrev pub key_of : IpView → Key

@@ -20,7 +20,7 @@ whole_of parts body j =
     in_some (has_octet k) parts r.0 r.1.0 (and_is (leb (start_of r.0) k) (ltb k (end_of r.0)) (le-leb (start_of r.0) k r.1.1) (lt-ltb k (end_of r.0) r.1.2)))))
 
 -- an octet of a part that stands in a body
-read_part : (body octets : List ℕ) (start k d : ℕ) → part body start (length octets) ≡ octets → start ≤ k → k < start + length octets → get_or body k d ≡ get_or octets (k - start) d
+pub read_part : (body octets : List ℕ) (start k d : ℕ) → part body start (length octets) ≡ octets → start ≤ k → k < start + length octets → get_or body k d ≡ get_or octets (k - start) d
 read_part body octets start k d stands low high =
     let at : start + (k - start) ≡ k = omega arith in
     sym (get_or-take (length octets) (drop start body) (k - start) d (omega arith) ∙ get_or-drop start body (k - start) d ∙ ap (λ i. get_or body i d) at)

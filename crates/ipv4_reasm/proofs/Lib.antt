@@ -6,6 +6,7 @@ pub mod Standing
 pub mod Gathering
 pub mod Keeping
 pub mod Wholeness
+pub mod Wholes
 pub mod Answering
 pub mod Dues
 pub mod Joining

@@ -3,9 +3,12 @@ use Rattle.std.specs.Prelude.{ℕ, List, Option, option_map, None, Some}
 use Rattle.world_face.specs.Journal.{Entry}
 use Rattle.world_face.specs.Frames.{arrives, goes_out}
 use Rattle.host_policy.specs.Addresses.{Config}
+use Rattle.ipv4_head.specs.Sets.{PartSet}
+use Rattle.run_laws.specs.Fragments.{waiting}
+use Rattle.run_laws.specs.Moments.{moment}
 use Rattle.run_laws.specs.Packets.{Packet, Pair, Datagram, DatagramPacket, packet_in, pair_in}
 
--- a frame came that is whole by this entry: what it teaches and what it holds
+-- a frame came that is whole by this entry: what it teaches, and what it holds or makes whole
 pub record Arrival : Type 0 where
   pub pair : Option Pair
   pub packet : Packet
@@ -18,11 +21,11 @@ pub record Happening : Type 0 where
   -- the call, with its answer
   pub call : Entry
 
-abbrev pub arrival_of : Config → List ℕ → Arrival
-arrival_of config frame = record { pair = pair_in config frame; packet = packet_in config frame }
+abbrev pub arrival_of : Config → ℕ → List PartSet → List ℕ → Arrival
+arrival_of config now waiting frame = record { pair = pair_in config frame; packet = packet_in config now waiting frame }
 
 abbrev pub happens : Config → List Entry → Entry → Happening
-happens config past e = record { came = option_map (arrival_of config) (arrives e past); went = goes_out e past; call = e }
+happens config past e = record { came = option_map (arrival_of config (moment past) (waiting config past)) (arrives e past); went = goes_out e past; call = e }
 
 -- the datagram that came
 abbrev pub datagram_by : Packet → Option Datagram

@@ -1,3 +1,4 @@
+pub mod Fragments
 pub mod Guests
 pub mod Happenings
 pub mod Moments

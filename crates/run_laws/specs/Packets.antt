@@ -5,10 +5,12 @@ use Rattle.net_octets.specs.Kinds.{arp_kind, ipv4_kind, icmp_proto, udp_proto, t
 use Rattle.host_policy.specs.Addresses.{Config, endpoint, is_guest}
 use Rattle.ether_frame.specs.Ether.{Ether, read_ether}
 use Rattle.arp_table.specs.Arp.{Arp, read_arp}
-use Rattle.ipv4_head.specs.Ip.{Ip, read_ip, is_unbroken}
+use Rattle.ipv4_head.specs.Ip.{Ip, read_ip}
+use Rattle.ipv4_head.specs.Sets.{PartSet}
 use Rattle.icmp_echo.specs.Icmp.{Icmp, read_icmp}
 use Rattle.udp_assoc.specs.Udp.{Udp, read_udp}
 use Rattle.tcp_segment.specs.Tcp.{Tcp, read_tcp}
+use Rattle.run_laws.specs.Fragments.{arrived}
 
 -- a datagram from a guest: the hardware address from which its frame came, its endpoints, its payload, and what an unreachable quotes of it
 pub record Datagram : Type 0 where
@@ -29,7 +31,7 @@ datagram_of mac ip udp = record { mac = mac; from = endpoint ip.from udp.from_po
 abbrev pub may_come : Config → Ip → Udp → Bool
 may_come config ip udp = is_guest config ip.from || ((ip.from == 0) && (udp.to_port == 67))
 
--- A packet of the guests: one of ARP, a message, a datagram, a segment between two ends, each whole, the last three with the hardware address from which the frame came; or nothing that anybody listens to.
+-- A packet of the guests: one of ARP, a message, a datagram, a segment between two ends, each whole, the last three with the hardware address from which the frame came by which it was whole; or nothing that anybody listens to.
 pub data Packet : Type 0 where
   Unheard : Packet
   ArpPacket : Arp → Packet
@@ -53,16 +55,17 @@ packet_of_ip config mac ip =
     else (if ip.proto == tcp_proto then option_map (Segment mac ip) (read_tcp ip.from ip.to ip.body) else None))
     else None)
 
-abbrev pub whole_packet : Config → List ℕ → Ip → Option Packet
-whole_packet config mac ip = if is_unbroken ip then packet_of_ip config mac ip else None
+-- what a frame holds, or makes whole, that came at this moment, while these sets of fragments waited
+abbrev pub whole_packet : Config → ℕ → List PartSet → List ℕ → List ℕ → Ip → Option Packet
+whole_packet config now waiting mac octets ip = option_and_then (packet_of_ip config mac) (arrived config now waiting octets ip)
 
-abbrev pub packet_of : Config → Ether → Option Packet
-packet_of config ether =
+abbrev pub packet_of : Config → ℕ → List PartSet → Ether → Option Packet
+packet_of config now waiting ether =
     if ether.kind == arp_kind then option_map ArpPacket (read_arp ether.body)
-    else (if ether.kind == ipv4_kind then option_and_then (whole_packet config ether.from) (read_ip ether.body) else None)
+    else (if ether.kind == ipv4_kind then option_and_then (whole_packet config now waiting ether.from ether.body) (read_ip ether.body) else None)
 
-abbrev pub packet_in : Config → List ℕ → Packet
-packet_in config frame = unless_unheard (option_and_then (packet_of config) (read_ether frame))
+abbrev pub packet_in : Config → ℕ → List PartSet → List ℕ → Packet
+packet_in config now waiting frame = unless_unheard (option_and_then (packet_of config now waiting) (read_ether frame))
 
 -- A guest's address and a hardware address that a frame teaches (RFC 826: the sender's; and the source of each datagram).
 pub record Pair : Type 0 where

@@ -9,15 +9,17 @@ use Rattle.host_policy.specs.Addresses.{Config, is_guest, is_ours}
 use Rattle.ether_frame.specs.Ether.{Ether, read_ether}
 use Rattle.arp_table.specs.Arp.{Arp, read_arp}
 use Rattle.arp_table.specs.Table.{learnt}
-use Rattle.ipv4_head.specs.Ip.{Ip, read_ip, is_unbroken}
+use Rattle.ipv4_head.specs.Ip.{Ip, read_ip}
+use Rattle.ipv4_head.specs.Sets.{PartSet}
 use Rattle.icmp_echo.specs.Icmp.{Icmp, read_icmp}
 use Rattle.udp_assoc.specs.Udp.{Udp, read_udp}
 use Rattle.tcp_segment.specs.Tcp.{Tcp, read_tcp}
 use Rattle.run_laws.specs.Guests.{with_pair}
-use Rattle.run_laws.specs.Packets.{Packet, ArpPacket, Message, DatagramPacket, Segment, Datagram, datagram_in, datagram_of, may_come, packet_of, pair_by, pair_by_arp, pair_by_ip, pair_in, pair_of, packet_in, unless_unheard, whole_packet}
+use Rattle.run_laws.specs.Fragments.{arrived}
+use Rattle.run_laws.specs.Packets.{Packet, packet_of_ip, ArpPacket, Message, DatagramPacket, Segment, Datagram, datagram_in, datagram_of, may_come, packet_of, pair_by, pair_by_arp, pair_by_ip, pair_in, pair_of, packet_in, unless_unheard, whole_packet}
 use Rattle.slirp_laws.specs.Answers.{Answer, owed_for_arp, owed_for_icmp, owed_for_datagram, owed_for_packet}
 use Rattle.slirp_laws.specs.Datagrams.{Errand, errand_of, errand_by_packet}
-use Rattle.slirp_core.specs.Packets.{errand_in, errand_of_ether, errand_of_ip, owed_for, owed_for_ether, owed_for_frame, owed_for_ip, with_address, with_arp, with_ether, with_frame, with_ip}
+use Rattle.slirp_core.specs.Packets.{errand_in, errand_of_arrived, errand_of_ether, errand_of_ip, owed_for, owed_for_arrived, owed_for_ether, owed_for_frame, owed_for_ip, with_address, with_arp, with_ether, with_frame, with_ip}
 
 -- what a packet that may be none owes and asks for
 abbrev owes : Config → Option Packet → List Answer
@@ -77,8 +79,7 @@ segment_sends config mac ip None = refl
 segment_sends config mac ip (Some tcp) = refl
 
 -- the tests on a datagram of IPv4, each by its answer
-record Tests (config : Config) (ip : Ip) (whole udp icmp tcp guest ours : Bool) : Type 0 where
-  is_whole : is_unbroken ip ≡ whole
+record Tests (config : Config) (ip : Ip) (udp icmp tcp guest ours : Bool) : Type 0 where
   is_udp : (ip.proto == udp_proto) ≡ udp
   is_icmp : (ip.proto == icmp_proto) ≡ icmp
   is_tcp : (ip.proto == tcp_proto) ≡ tcp
@@ -89,100 +90,95 @@ one_proto : (proto : ℕ) → (proto == 17) ≡ true → (proto == 1) ≡ true �
 one_proto proto a b = let first : proto ≡ 17 = grind (arith, nat_tests, a) in let second : proto ≡ 1 = grind (arith, nat_tests, b) in omega (arith, first, second)
 
 -- what is tested, with the answers in the place of the tests
-abbrev packet_by : Config → List ℕ → Ip → (whole udp icmp tcp guest : Bool) → Option Packet
-packet_by config mac ip whole udp icmp tcp guest =
-    if whole then
-    (if udp then datagram_in config mac ip
+abbrev packet_by : Config → List ℕ → Ip → (udp icmp tcp guest : Bool) → Option Packet
+packet_by config mac ip udp icmp tcp guest =
+    if udp then datagram_in config mac ip
     else (if guest then
     (if icmp then option_map (Message mac ip) (read_icmp ip.body)
     else (if tcp then option_map (Segment mac ip) (read_tcp ip.from ip.to ip.body) else None))
-    else None))
-    else None
+    else None)
 
-abbrev udp_by : Config → List ℕ → Ip → (udp whole : Bool) → Option Datagram
-udp_by config mac ip udp whole = if udp && whole then option_and_then (comes config mac ip) (read_udp ip.from ip.to ip.body) else None
+abbrev udp_by : Config → List ℕ → Ip → (udp : Bool) → Option Datagram
+udp_by config mac ip udp = if udp then option_and_then (comes config mac ip) (read_udp ip.from ip.to ip.body) else None
 
-abbrev owed_by : Config → List ℕ → Ip → (guest ours icmp whole udp : Bool) → List Answer
-owed_by config mac ip guest ours icmp whole udp =
-    if guest && ours && icmp && whole then owed_for (owed_for_icmp mac ip) (read_icmp ip.body) else owed_for (owed_for_datagram config) (udp_by config mac ip udp whole)
+abbrev owed_by : Config → List ℕ → Ip → (guest ours icmp udp : Bool) → List Answer
+owed_by config mac ip guest ours icmp udp =
+    if guest && ours && icmp then owed_for (owed_for_icmp mac ip) (read_icmp ip.body) else owed_for (owed_for_datagram config) (udp_by config mac ip udp)
 
-owes_by : (config : Config) (mac : List ℕ) (ip : Ip) (whole udp icmp tcp guest ours : Bool) → Tests config ip whole udp icmp tcp guest ours
-    → owes config (packet_by config mac ip whole udp icmp tcp guest) ≡ owed_by config mac ip guest ours icmp whole udp
-owes_by config mac ip true true true tcp guest ours t = absurd (one_proto ip.proto t.is_udp t.is_icmp)
-owes_by config mac ip true true false tcp true true t = udp_owes config mac ip (read_udp ip.from ip.to ip.body)
-owes_by config mac ip true true false tcp true false t = udp_owes config mac ip (read_udp ip.from ip.to ip.body)
-owes_by config mac ip true true false tcp false ours t = udp_owes config mac ip (read_udp ip.from ip.to ip.body)
-owes_by config mac ip true false true tcp true true t = message_owes config mac ip (read_icmp ip.body) true t.is_to_us
-owes_by config mac ip true false true tcp true false t = message_owes config mac ip (read_icmp ip.body) false t.is_to_us
-owes_by config mac ip true false false true true true t = segment_owes config mac ip (read_tcp ip.from ip.to ip.body)
-owes_by config mac ip true false false true true false t = segment_owes config mac ip (read_tcp ip.from ip.to ip.body)
-owes_by config mac ip true false false false true true t = refl
-owes_by config mac ip true false false false true false t = refl
-owes_by config mac ip true false icmp tcp false ours t = refl
-owes_by config mac ip false true true tcp true true t = refl
-owes_by config mac ip false true true tcp true false t = refl
-owes_by config mac ip false true true tcp false ours t = refl
-owes_by config mac ip false true false tcp true true t = refl
-owes_by config mac ip false true false tcp true false t = refl
-owes_by config mac ip false true false tcp false ours t = refl
-owes_by config mac ip false false true tcp true true t = refl
-owes_by config mac ip false false true tcp true false t = refl
-owes_by config mac ip false false true tcp false ours t = refl
-owes_by config mac ip false false false tcp true true t = refl
-owes_by config mac ip false false false tcp true false t = refl
-owes_by config mac ip false false false tcp false ours t = refl
+owes_by : (config : Config) (mac : List ℕ) (ip : Ip) (udp icmp tcp guest ours : Bool) → Tests config ip udp icmp tcp guest ours
+    → owes config (packet_by config mac ip udp icmp tcp guest) ≡ owed_by config mac ip guest ours icmp udp
+owes_by config mac ip true true tcp guest ours t = absurd (one_proto ip.proto t.is_udp t.is_icmp)
+owes_by config mac ip true false tcp true true t = udp_owes config mac ip (read_udp ip.from ip.to ip.body)
+owes_by config mac ip true false tcp true false t = udp_owes config mac ip (read_udp ip.from ip.to ip.body)
+owes_by config mac ip true false tcp false ours t = udp_owes config mac ip (read_udp ip.from ip.to ip.body)
+owes_by config mac ip false true tcp true true t = message_owes config mac ip (read_icmp ip.body) true t.is_to_us
+owes_by config mac ip false true tcp true false t = message_owes config mac ip (read_icmp ip.body) false t.is_to_us
+owes_by config mac ip false false true true true t = segment_owes config mac ip (read_tcp ip.from ip.to ip.body)
+owes_by config mac ip false false true true false t = segment_owes config mac ip (read_tcp ip.from ip.to ip.body)
+owes_by config mac ip false false false true true t = refl
+owes_by config mac ip false false false true false t = refl
+owes_by config mac ip false icmp tcp false ours t = refl
 
-sends_by : (config : Config) (mac : List ℕ) (ip : Ip) (whole udp icmp tcp guest : Bool)
-    → sends config (packet_by config mac ip whole udp icmp tcp guest) ≡ option_and_then (errand_of config) (udp_by config mac ip udp whole)
-sends_by config mac ip true true icmp tcp guest = udp_sends config mac ip (read_udp ip.from ip.to ip.body)
-sends_by config mac ip true false true tcp true = message_sends config mac ip (read_icmp ip.body)
-sends_by config mac ip true false false true true = segment_sends config mac ip (read_tcp ip.from ip.to ip.body)
-sends_by config mac ip true false false false true = refl
-sends_by config mac ip true false icmp tcp false = refl
-sends_by config mac ip false true icmp tcp guest = refl
-sends_by config mac ip false false icmp tcp guest = refl
+sends_by : (config : Config) (mac : List ℕ) (ip : Ip) (udp icmp tcp guest : Bool)
+    → sends config (packet_by config mac ip udp icmp tcp guest) ≡ option_and_then (errand_of config) (udp_by config mac ip udp)
+sends_by config mac ip true icmp tcp guest = udp_sends config mac ip (read_udp ip.from ip.to ip.body)
+sends_by config mac ip false true tcp true = message_sends config mac ip (read_icmp ip.body)
+sends_by config mac ip false false true true = segment_sends config mac ip (read_tcp ip.from ip.to ip.body)
+sends_by config mac ip false false false true = refl
+sends_by config mac ip false icmp tcp false = refl
 
-ip_owes : (config : Config) (mac : List ℕ) (o : Option Ip) → owes config (option_and_then (whole_packet config mac) o) ≡ owed_for (owed_for_ip config mac) o
-ip_owes config mac None = refl
-ip_owes config mac (Some ip) =
-    owes_by config mac ip (is_unbroken ip) (ip.proto == udp_proto) (ip.proto == icmp_proto) (ip.proto == tcp_proto) (is_guest config ip.from) (is_ours config ip.to)
-    (record { is_whole = refl; is_udp = refl; is_icmp = refl; is_tcp = refl; is_of_guest = refl; is_to_us = refl })
+-- of a datagram that arrived
+arrived_owes : (config : Config) (mac : List ℕ) (o : Option Ip) → owes config (option_and_then (packet_of_ip config mac) o) ≡ owed_for (owed_for_ip config mac) o
+arrived_owes config mac None = refl
+arrived_owes config mac (Some ip) =
+    owes_by config mac ip (ip.proto == udp_proto) (ip.proto == icmp_proto) (ip.proto == tcp_proto) (is_guest config ip.from) (is_ours config ip.to)
+    (record { is_udp = refl; is_icmp = refl; is_tcp = refl; is_of_guest = refl; is_to_us = refl })
 
-ip_sends : (config : Config) (mac : List ℕ) (o : Option Ip) → sends config (option_and_then (whole_packet config mac) o) ≡ option_and_then (errand_of_ip config mac) o
-ip_sends config mac None = refl
-ip_sends config mac (Some ip) = sends_by config mac ip (is_unbroken ip) (ip.proto == udp_proto) (ip.proto == icmp_proto) (ip.proto == tcp_proto) (is_guest config ip.from)
+arrived_sends : (config : Config) (mac : List ℕ) (o : Option Ip) → sends config (option_and_then (packet_of_ip config mac) o) ≡ option_and_then (errand_of_ip config mac) o
+arrived_sends config mac None = refl
+arrived_sends config mac (Some ip) = sends_by config mac ip (ip.proto == udp_proto) (ip.proto == icmp_proto) (ip.proto == tcp_proto) (is_guest config ip.from)
 
-ether_owes : (config : Config) (o : Option Ether) → owes config (option_and_then (packet_of config) o) ≡ owed_for (owed_for_ether config) o
-ether_owes config None = refl
-ether_owes config (Some ether) = by (ether.kind == arp_kind) (ether.kind == ipv4_kind)
+ip_owes : (config : Config) (now : ℕ) (waiting : List PartSet) (mac octets : List ℕ) (o : Option Ip)
+    → owes config (option_and_then (whole_packet config now waiting mac octets) o) ≡ owed_for (owed_for_arrived config now waiting mac octets) o
+ip_owes config now waiting mac octets None = refl
+ip_owes config now waiting mac octets (Some ip) = arrived_owes config mac (arrived config now waiting octets ip)
+
+ip_sends : (config : Config) (now : ℕ) (waiting : List PartSet) (mac octets : List ℕ) (o : Option Ip)
+    → sends config (option_and_then (whole_packet config now waiting mac octets) o) ≡ option_and_then (errand_of_arrived config now waiting mac octets) o
+ip_sends config now waiting mac octets None = refl
+ip_sends config now waiting mac octets (Some ip) = arrived_sends config mac (arrived config now waiting octets ip)
+
+ether_owes : (config : Config) (now : ℕ) (waiting : List PartSet) (o : Option Ether) → owes config (option_and_then (packet_of config now waiting) o) ≡ owed_for (owed_for_ether config now waiting) o
+ether_owes config now waiting None = refl
+ether_owes config now waiting (Some ether) = by (ether.kind == arp_kind) (ether.kind == ipv4_kind)
   where
-    by : (arp ip : Bool) → owes config (if arp then option_map ArpPacket (read_arp ether.body) else (if ip then option_and_then (whole_packet config ether.from) (read_ip ether.body) else None))
-        ≡ (if arp then owed_for (owed_for_arp config) (read_arp ether.body) else (if ip then owed_for (owed_for_ip config ether.from) (read_ip ether.body) else []))
+    by : (arp ip : Bool) → owes config (if arp then option_map ArpPacket (read_arp ether.body) else (if ip then option_and_then (whole_packet config now waiting ether.from ether.body) (read_ip ether.body) else None))
+        ≡ (if arp then owed_for (owed_for_arp config) (read_arp ether.body) else (if ip then owed_for (owed_for_arrived config now waiting ether.from ether.body) (read_ip ether.body) else []))
     by true ip = arp_owes config (read_arp ether.body)
-    by false true = ip_owes config ether.from (read_ip ether.body)
+    by false true = ip_owes config now waiting ether.from ether.body (read_ip ether.body)
     by false false = refl
 
 two_kinds : (kind : ℕ) → (kind == arp_kind) ≡ true → (kind == ipv4_kind) ≡ true → ⊥
 two_kinds kind a b = let first : kind ≡ 2054 = grind (arith, nat_tests, a) in let second : kind ≡ 2048 = grind (arith, nat_tests, b) in omega (arith, first, second)
 
-ether_sends : (config : Config) (o : Option Ether) → sends config (option_and_then (packet_of config) o) ≡ option_and_then (errand_of_ether config) o
-ether_sends config None = refl
-ether_sends config (Some ether) = by (ether.kind == arp_kind) (ether.kind == ipv4_kind) refl refl
+ether_sends : (config : Config) (now : ℕ) (waiting : List PartSet) (o : Option Ether) → sends config (option_and_then (packet_of config now waiting) o) ≡ option_and_then (errand_of_ether config now waiting) o
+ether_sends config now waiting None = refl
+ether_sends config now waiting (Some ether) = by (ether.kind == arp_kind) (ether.kind == ipv4_kind) refl refl
   where
     by : (arp ip : Bool) → (ether.kind == arp_kind) ≡ arp → (ether.kind == ipv4_kind) ≡ ip
-        → sends config (if arp then option_map ArpPacket (read_arp ether.body) else (if ip then option_and_then (whole_packet config ether.from) (read_ip ether.body) else None))
-        ≡ (if ip then option_and_then (errand_of_ip config ether.from) (read_ip ether.body) else None)
+        → sends config (if arp then option_map ArpPacket (read_arp ether.body) else (if ip then option_and_then (whole_packet config now waiting ether.from ether.body) (read_ip ether.body) else None))
+        ≡ (if ip then option_and_then (errand_of_arrived config now waiting ether.from ether.body) (read_ip ether.body) else None)
     by true true a i = absurd (two_kinds ether.kind a i)
     by true false a i = arp_sends config (read_arp ether.body)
-    by false true a i = ip_sends config ether.from (read_ip ether.body)
+    by false true a i = ip_sends config now waiting ether.from ether.body (read_ip ether.body)
     by false false a i = refl
 
 -- what it owes, what it sends, and whom it makes known
-pub owes_same : (config : Config) (frame : List ℕ) → owed_for_packet config (packet_in config frame) ≡ owed_for_frame config frame
-owes_same config frame = ether_owes config (read_ether frame)
+pub owes_same : (config : Config) (now : ℕ) (waiting : List PartSet) (frame : List ℕ) → owed_for_packet config (packet_in config now waiting frame) ≡ owed_for_frame config now waiting frame
+owes_same config now waiting frame = ether_owes config now waiting (read_ether frame)
 
-pub sends_same : (config : Config) (frame : List ℕ) → errand_by_packet config (packet_in config frame) ≡ errand_in config frame
-sends_same config frame = ether_sends config (read_ether frame)
+pub sends_same : (config : Config) (now : ℕ) (waiting : List PartSet) (frame : List ℕ) → errand_by_packet config (packet_in config now waiting frame) ≡ errand_in config now waiting frame
+sends_same config now waiting frame = ether_sends config now waiting (read_ether frame)
 
 pair_same : (config : Config) (address : ℕ) (mac : List ℕ) (pairs : List (Ip4 × Mac)) → with_pair (pair_of config address mac) pairs ≡ with_address config address mac pairs
 pair_same config address mac pairs = by (is_guest config address)

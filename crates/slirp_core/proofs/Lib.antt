@@ -1,9 +1,12 @@
+pub mod Arriving
+pub mod Assembling
 pub mod Associating
 pub mod Bridging
 pub mod Closing
 pub mod Counted
 pub mod Datagramming
 pub mod Filling
+pub mod Forgetting
 pub mod Guests
 pub mod NextFrames
 pub mod Parts
@@ -13,3 +16,4 @@ pub mod Reports
 pub mod Sockets
 pub mod Taking
 pub mod Ticking
+pub mod Waitings

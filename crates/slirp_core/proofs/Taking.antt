@@ -8,7 +8,9 @@ use Rattle.host_policy.specs.Addresses.{Config, address, is_ours, is_guest}
 use Rattle.host_policy.specs.Targets.{shown, is_hidden}
 use Rattle.ether_frame.specs.Ether.{Ether, read_ether}
 use Rattle.arp_table.specs.Arp.{read_arp}
-use Rattle.ipv4_head.specs.Ip.{Ip, read_ip, is_unbroken}
+use Rattle.ipv4_head.specs.Ip.{Ip, read_ip}
+use Rattle.ipv4_head.specs.Sets.{PartSet}
+use Rattle.ipv4_reasm.specs.Areas.{Gathered}
 use Rattle.icmp_echo.specs.Icmp.{Icmp, IsIcmp, echo_octets, icmp_octets, icmp_of, read_icmp, unreachable_octets}
 use Rattle.icmp_echo.specs.declared.IcmpView.{IcmpView}
 use Rattle.icmp_echo.specs.declared.IcmpView.TheVariants.{Echo, Unreachable, Other}
@@ -16,68 +18,86 @@ use Rattle.udp_assoc.specs.Udp.{Udp, summed, udp_octets, udp_with, written_sum}
 use Rattle.udp_assoc.proofs.Spelling.{length-udp}
 use Rattle.udp_assoc.specs.declared.assocs.Association.{Association}
 use Rattle.slirp_laws.specs.Answers.{Answer, IpAnswer, our_mac, datagram_frames, fits_datagram, is_untold, told_about, reply_at, frames_of, owed_for_arp, owed_for_icmp, owed_for_datagram}
-use Rattle.slirp_core.specs.Packets.{is_message_to_us, owed_for, owed_for_ip, owed_for_ether, owed_for_frame, reply_to}
+use Rattle.slirp_core.specs.Packets.{is_message_to_us, owed_for, owed_for_arrived, owed_for_ip, owed_for_ether, owed_for_frame, reply_to}
+use Rattle.run_laws.specs.Fragments.{fragment_by, fragment_in, fragment_of}
 use Rattle.run_laws.specs.Packets.{Datagram}
-use Rattle.slirp_core.specs.Packets.{udp_of, errand_of_ip, errand_of_ether, errand_in}
+use Rattle.slirp_core.specs.Packets.{udp_of, errand_of_arrived, errand_of_ip, errand_of_ether, errand_in}
 use Rattle.slirp_laws.specs.Datagrams.{Errand, errand_of}
 use Rattle.slirp_core.specs.Packets.{with_address, with_arp, with_ip, with_ether}
 use Rattle.slirp_core.specs.State.{SlirpState}
 use Rattle.slirp_core.proofs.Datagramming.{none_of_others}
 
 -- a frame that carries a packet asks for what the packet does
-abbrev after_kind : SlirpState → Ether → ℕ → SlirpState
-after_kind s ether kind = record s {
+abbrev after_kind : SlirpState → List Gathered → List PartSet → Ether → ℕ → SlirpState
+after_kind s parts waiting ether kind = record s {
   pending = frames_of s.config s.sent
       (if kind == arp_kind then owed_for (owed_for_arp s.config) (read_arp ether.body)
-      else (if kind == ipv4_kind then owed_for (owed_for_ip s.config ether.from) (read_ip ether.body) else []));
+      else (if kind == ipv4_kind then owed_for (owed_for_arrived s.config s.moment waiting ether.from ether.body) (read_ip ether.body) else []));
   known = if kind == arp_kind then with_arp s.config (read_arp ether.body) s.known
       else (if kind == ipv4_kind then with_ip s.config ether.from (read_ip ether.body) s.known else s.known);
+  parts = parts;
 }
 
-module _ (s : SlirpState) (frame : List ℕ) (ether : Ether) (read : read_ether frame ≡ Some ether) (kind : ether.kind ≡ ipv4_kind) where
+module _ (s : SlirpState) (parts : List Gathered) (waiting : List PartSet) (frame : List ℕ) (ether : Ether) (read : read_ether frame ≡ Some ether) (kind : ether.kind ≡ ipv4_kind) where
   pub frame_of_packet : ◌≡◌ {A = SlirpState}
       (record s {
-        pending = frames_of s.config s.sent (owed_for (owed_for_ip s.config ether.from) (read_ip ether.body));
+        pending = frames_of s.config s.sent (owed_for (owed_for_arrived s.config s.moment waiting ether.from ether.body) (read_ip ether.body));
         known = with_ip s.config ether.from (read_ip ether.body) s.known;
+        parts = parts;
       })
       (record s {
-        pending = frames_of s.config s.sent (owed_for_frame s.config frame);
+        pending = frames_of s.config s.sent (owed_for_frame s.config s.moment waiting frame);
         known = with_ether s.config (read_ether frame) s.known;
+        parts = parts;
       })
-  frame_of_packet = sym (ap (λ (o : Option Ether). record s { pending = frames_of s.config s.sent (owed_for (owed_for_ether s.config) o); known = with_ether s.config o s.known }) read ∙ ap (after_kind s ether) kind)
+  frame_of_packet = sym (
+      ap (λ (o : Option Ether). record s { pending = frames_of s.config s.sent (owed_for (owed_for_ether s.config s.moment waiting) o); known = with_ether s.config o s.known; parts = parts }) read
+      ∙ ap (after_kind s parts waiting ether) kind)
 
-  pub errand_of_packet : option_and_then (errand_of_ip s.config ether.from) (read_ip ether.body) ≡ errand_in s.config frame
+  pub errand_of_packet : option_and_then (errand_of_arrived s.config s.moment waiting ether.from ether.body) (read_ip ether.body) ≡ errand_in s.config s.moment waiting frame
   errand_of_packet = sym (
-      ap (option_and_then (errand_of_ether s.config)) read
-      ∙ ap (λ (k : ℕ). if k == ipv4_kind then option_and_then (errand_of_ip s.config ether.from) (read_ip ether.body) else None) kind)
+      ap (option_and_then (errand_of_ether s.config s.moment waiting)) read
+      ∙ ap (λ (k : ℕ). if k == ipv4_kind then option_and_then (errand_of_arrived s.config s.moment waiting ether.from ether.body) (read_ip ether.body) else None) kind)
 
-message_proto : (a b : Bool) (proto : ℕ) (c : Bool) → (a && b && (proto == 1) && c) ≡ true → proto ≡ 1
-message_proto a b proto c is = grind (arith, nat_tests)
+  pub fragment_of_packet : option_and_then (fragment_by s.config ether.body) (read_ip ether.body) ≡ fragment_in s.config frame
+  fragment_of_packet = sym (
+      ap (option_and_then (fragment_of s.config)) read
+      ∙ ap (λ (k : ℕ). if k == ipv4_kind then option_and_then (fragment_by s.config ether.body) (read_ip ether.body) else None) kind)
+
+-- one that carries none has no fragment
+pub no_fragment : (config : Config) (frame : List ℕ) (ether : Ether) → read_ether frame ≡ Some ether → (ether.kind ≡ ipv4_kind → ⊥) → fragment_in config frame ≡ None
+no_fragment config frame ether read other =
+    let not_ip : (ether.kind == ipv4_kind) ≡ false = other_kind ether.kind other in
+    ap (option_and_then (fragment_of config)) read ∙ ap (λ (b : Bool). if b then option_and_then (fragment_by config ether.body) (read_ip ether.body) else None) not_ip
+  where
+    other_kind : (kind : ℕ) → (kind ≡ 2048 → ⊥) → (kind == 2048) ≡ false
+    other_kind kind other = grind (arith, nat_tests)
+
+message_proto : (a b : Bool) (proto : ℕ) → (a && b && (proto == 1)) ≡ true → proto ≡ 1
+message_proto a b proto is = grind (arith, nat_tests)
 
 pub no_udp : (config : Config) (ip : Ip) → is_message_to_us config ip ≡ true → ip.proto ≡ 17 → ⊥
 no_udp config ip asked udp =
-    let one : ip.proto ≡ 1 = message_proto (is_guest config ip.from) (is_ours config ip.to) ip.proto (is_unbroken ip) asked in
+    let one : ip.proto ≡ 1 = message_proto (is_guest config ip.from) (is_ours config ip.to) ip.proto asked in
     omega arith
 
--- what a packet asks for
-module _ (s : SlirpState) (mac octets : List ℕ) (ip : Ip) (read : read_ip octets ≡ Some ip) where
+-- what a whole datagram asks for
+module _ (s : SlirpState) (mac : List ℕ) (ip : Ip) where
   pub message_to_us : is_message_to_us s.config ip ≡ true → ◌≡◌ {A = SlirpState}
-      (record s { pending = frames_of s.config s.sent (owed_for (owed_for_icmp mac ip) (read_icmp ip.body)); known = with_address s.config ip.from mac s.known })
-      (record s { pending = frames_of s.config s.sent (owed_for (owed_for_ip s.config mac) (read_ip octets)); known = with_ip s.config mac (read_ip octets) s.known })
-  message_to_us asked = sym (
-      ap (λ (o : Option Ip). record s { pending = frames_of s.config s.sent (owed_for (owed_for_ip s.config mac) o); known = with_ip s.config mac o s.known }) read
-      ∙ ap (λ (b : Bool). record s { pending = frames_of s.config s.sent (if b then owed_for (owed_for_icmp mac ip) (read_icmp ip.body) else owed_for (owed_for_datagram s.config) (udp_of s.config mac ip)); known = with_address s.config ip.from mac s.known }) asked)
+      (record s { pending = frames_of s.config s.sent (owed_for (owed_for_icmp mac ip) (read_icmp ip.body)) })
+      (record s { pending = frames_of s.config s.sent (owed_for_ip s.config mac ip) })
+  message_to_us asked =
+      sym (ap (λ (b : Bool). record s { pending = frames_of s.config s.sent (if b then owed_for (owed_for_icmp mac ip) (read_icmp ip.body) else owed_for (owed_for_datagram s.config) (udp_of s.config mac ip)) }) asked)
 
   pub no_message : is_message_to_us s.config ip ≡ false → (d : Option Datagram) → d ≡ udp_of s.config mac ip → ◌≡◌ {A = SlirpState}
-      (record s { pending = frames_of s.config s.sent (owed_for (owed_for_datagram s.config) d); known = with_address s.config ip.from mac s.known })
-      (record s { pending = frames_of s.config s.sent (owed_for (owed_for_ip s.config mac) (read_ip octets)); known = with_ip s.config mac (read_ip octets) s.known })
+      (record s { pending = frames_of s.config s.sent (owed_for (owed_for_datagram s.config) d) })
+      (record s { pending = frames_of s.config s.sent (owed_for_ip s.config mac ip) })
   no_message asked d udp = sym (
-      ap (λ (o : Option Ip). record s { pending = frames_of s.config s.sent (owed_for (owed_for_ip s.config mac) o); known = with_ip s.config mac o s.known }) read
-      ∙ ap (λ (b : Bool). record s { pending = frames_of s.config s.sent (if b then owed_for (owed_for_icmp mac ip) (read_icmp ip.body) else owed_for (owed_for_datagram s.config) (udp_of s.config mac ip)); known = with_address s.config ip.from mac s.known }) asked
-      ∙ ap (λ (o : Option Datagram). record s { pending = frames_of s.config s.sent (owed_for (owed_for_datagram s.config) o); known = with_address s.config ip.from mac s.known }) (sym udp))
+      ap (λ (b : Bool). record s { pending = frames_of s.config s.sent (if b then owed_for (owed_for_icmp mac ip) (read_icmp ip.body) else owed_for (owed_for_datagram s.config) (udp_of s.config mac ip)) }) asked
+      ∙ ap (λ (o : Option Datagram). record s { pending = frames_of s.config s.sent (owed_for (owed_for_datagram s.config) o) }) (sym udp))
 
-  pub no_errand : is_message_to_us s.config ip ≡ true → ◌≡◌ {A = Option Errand} None (option_and_then (errand_of_ip s.config mac) (read_ip octets))
-  no_errand asked = ap (option_and_then (errand_of s.config)) (none_of_others s.config mac ip (no_udp s.config ip asked)) ∙ sym (ap (option_and_then (errand_of_ip s.config mac)) read)
+  pub no_errand : is_message_to_us s.config ip ≡ true → ◌≡◌ {A = Option Errand} None (errand_of_ip s.config mac ip)
+  no_errand asked = ap (option_and_then (errand_of s.config)) (none_of_others s.config mac ip (no_udp s.config ip asked))
 
 -- the frames of an answer that a datagram can carry
 pub frames_whole : (config : Config) (ident : ℕ) (to : List ℕ) (proto from guest : ℕ) (body : List ℕ) → length body ≤ 65515

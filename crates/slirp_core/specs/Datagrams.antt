@@ -1,5 +1,5 @@
 -- Datagrams and errands as the core has them.
-use Rattle.std.specs.Prelude.{◌≤◌, length}
+use Rattle.std.specs.Prelude.{◌≡◌, ℕ, ◌≤◌, ◌++◌, List, length}
 use Rattle.run_laws.specs.Packets.{Datagram}
 use Rattle.slirp_laws.specs.Datagrams.{Errand, Fate, Ignored, Refused, GoesTo}
 use Rattle.slirp_core.specs.declared.datagrams.DatagramView.{DatagramView}
@@ -21,3 +21,10 @@ fate_of (SeenGoesTo to) = GoesTo to
 -- its payload fits a datagram, and what is quoted of it an answer
 abbrev pub FitsErrand : ErrandView → Type 0
 FitsErrand e = (length e.datagram.body.now ≤ 65507) × (length e.datagram.quote.now ≤ 68)
+
+-- octets are a header, a body, and what else may follow
+pub record Lies (octets head body : List ℕ) : Type 0 where
+  pub rest : List ℕ
+  pub is : octets ≡ head ++ (body ++ rest)
+  pub few : length head ≤ 60
+  pub short : length body ≤ 65515

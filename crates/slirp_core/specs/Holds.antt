@@ -19,6 +19,7 @@ use Rattle.stream_netdev.specs.Keeps.{Keeps}
 use Rattle.stream_netdev.specs.State.{LinkState}
 use Rattle.slirp_core.specs.Sockets.{IsRising, AreThoseOf}
 use Rattle.slirp_core.specs.State.{SlirpState}
+use Rattle.slirp_core.specs.Waiting.{OfFragments}
 use Rattle.slirp_core.specs.declared.sending.Pumped.{Pumped}
 use Rattle.slirp_core.specs.declared.sending.Pumped.TheVariants.{Clear, Blocked, Failed}
 
@@ -74,10 +75,11 @@ pub record OfClock (at : Standing) (slirp : SlirpState) (past : List Entry) : Ty
   pub moment : moment past ≡ slirp.moment
   pub counted : waits past ≡ at.count
 
--- what only a frame of the guests changes, the settings aside, which nothing does: whose addresses are known
+-- what only a frame of the guests changes, and time, the settings aside, which nothing does: whose addresses are known, and which fragments wait
 pub record OfGuests (config : Config) (slirp : SlirpState) (past : List Entry) : Type 0 where
   pub settings : slirp.config ≡ config
   pub known : known config past ≡ slirp.known
+  pub fragments : OfFragments config slirp past
 
 -- the associations in the order of use, and what the datagram that came last still asks for
 pub record OfRelay (config : Config) (step : Step) (slirp : SlirpState) (past : List Entry) : Type 0 where

@@ -1,5 +1,6 @@
 pub mod Counts
 pub mod Datagrams
+pub mod Fragments
 pub mod Hearing
 pub mod Holds
 pub mod Outgoing
@@ -8,3 +9,5 @@ pub mod Pumps
 pub mod Replies
 pub mod Sockets
 pub mod State
+pub mod Timeouts
+pub mod Waiting

@@ -6,9 +6,11 @@ use Rattle.net_octets.specs.declared.Mac.{Mac}
 use Rattle.host_policy.specs.Addresses.{Config, is_guest, is_ours}
 use Rattle.ether_frame.specs.Ether.{Ether, read_ether}
 use Rattle.arp_table.specs.Table.{learnt}
-use Rattle.ipv4_head.specs.Ip.{Ip, read_ip, is_unbroken}
+use Rattle.ipv4_head.specs.Ip.{Ip, read_ip}
+use Rattle.ipv4_head.specs.Sets.{PartSet}
 use Rattle.icmp_echo.specs.Icmp.{read_icmp}
 use Rattle.udp_assoc.specs.Udp.{read_udp}
+use Rattle.run_laws.specs.Fragments.{arrived}
 use Rattle.run_laws.specs.Packets.{Datagram, datagram_of, may_come}
 use Rattle.slirp_laws.specs.Datagrams.{Errand, errand_of}
 use Rattle.arp_table.specs.declared.ArpView.{ArpView}
@@ -35,37 +37,44 @@ abbrev pub owed_for : {A : Type 0} → (A → List Answer) → Option A → List
 owed_for owes None = []
 owed_for owes (Some a) = owes a
 
--- a guest's whole datagram with a message to one of ours
+-- a guest's datagram with a message to one of ours
 abbrev pub is_message_to_us : Config → Ip → Bool
-is_message_to_us config ip = is_guest config ip.from && is_ours config ip.to && (ip.proto == icmp_proto) && is_unbroken ip
+is_message_to_us config ip = is_guest config ip.from && is_ours config ip.to && (ip.proto == icmp_proto)
 
 -- the datagram of UDP that a whole one of IPv4 holds
 abbrev pub udp_of : Config → List ℕ → Ip → Option Datagram
 udp_of config mac ip =
-    if (ip.proto == udp_proto) && is_unbroken ip
+    if ip.proto == udp_proto
     then option_and_then (λ udp. if may_come config ip udp then Some (datagram_of mac ip udp) else None) (read_udp ip.from ip.to ip.body)
     else None
 
 abbrev pub owed_for_ip : Config → List ℕ → Ip → List Answer
 owed_for_ip config mac ip = if is_message_to_us config ip then owed_for (owed_for_icmp mac ip) (read_icmp ip.body) else owed_for (owed_for_datagram config) (udp_of config mac ip)
 
-abbrev pub owed_for_ether : Config → Ether → List Answer
-owed_for_ether config ether =
-    if ether.kind == arp_kind then owed_for (owed_for_arp config) (read_arp ether.body)
-    else (if ether.kind == ipv4_kind then owed_for (owed_for_ip config ether.from) (read_ip ether.body) else [])
-
-abbrev pub owed_for_frame : Config → List ℕ → List Answer
-owed_for_frame config frame = owed_for (owed_for_ether config) (read_ether frame)
-
--- the errand of a frame that holds a datagram whole
+-- the errand of a datagram
 abbrev pub errand_of_ip : Config → List ℕ → Ip → Option Errand
 errand_of_ip config mac ip = option_and_then (errand_of config) (udp_of config mac ip)
 
-abbrev pub errand_of_ether : Config → Ether → Option Errand
-errand_of_ether config ether = if ether.kind == ipv4_kind then option_and_then (errand_of_ip config ether.from) (read_ip ether.body) else None
+-- the same of what arrives by a frame at this moment, while these sets wait
+abbrev pub owed_for_arrived : Config → ℕ → List PartSet → List ℕ → List ℕ → Ip → List Answer
+owed_for_arrived config now waiting mac octets ip = owed_for (owed_for_ip config mac) (arrived config now waiting octets ip)
 
-abbrev pub errand_in : Config → List ℕ → Option Errand
-errand_in config frame = option_and_then (errand_of_ether config) (read_ether frame)
+abbrev pub owed_for_ether : Config → ℕ → List PartSet → Ether → List Answer
+owed_for_ether config now waiting ether =
+    if ether.kind == arp_kind then owed_for (owed_for_arp config) (read_arp ether.body)
+    else (if ether.kind == ipv4_kind then owed_for (owed_for_arrived config now waiting ether.from ether.body) (read_ip ether.body) else [])
+
+abbrev pub owed_for_frame : Config → ℕ → List PartSet → List ℕ → List Answer
+owed_for_frame config now waiting frame = owed_for (owed_for_ether config now waiting) (read_ether frame)
+
+abbrev pub errand_of_arrived : Config → ℕ → List PartSet → List ℕ → List ℕ → Ip → Option Errand
+errand_of_arrived config now waiting mac octets ip = option_and_then (errand_of_ip config mac) (arrived config now waiting octets ip)
+
+abbrev pub errand_of_ether : Config → ℕ → List PartSet → Ether → Option Errand
+errand_of_ether config now waiting ether = if ether.kind == ipv4_kind then option_and_then (errand_of_arrived config now waiting ether.from ether.body) (read_ip ether.body) else None
+
+abbrev pub errand_in : Config → ℕ → List PartSet → List ℕ → Option Errand
+errand_in config now waiting frame = option_and_then (errand_of_ether config now waiting) (read_ether frame)
 
 -- whom a frame makes known
 abbrev pub with_address : Config → ℕ → List ℕ → List (Ip4 × Mac) → List (Ip4 × Mac)

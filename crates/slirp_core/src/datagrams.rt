@@ -1,12 +1,12 @@
 // The UDP datagrams of guests, and what becomes of them.
-ghost use Rattle.std.specs.Prelude.{◌≡◌, ◌≤◌, ◌||◌, ◌==◌, ◌&&◌, length, Some, None, IfSome};
+ghost use Rattle.std.specs.Prelude.{◌≡◌, ◌≤◌, ◌||◌, ◌==◌, ◌&&◌, length, IfSome};
 ghost use Rattle.std.specs.Option.{option_map};
 ghost use Rattle.host_policy.specs.Addresses.{is_guest};
-ghost use Rattle.ipv4_head.specs.Ip.{ip_of, read_ip};
+ghost use Rattle.ipv4_head.specs.Ip.{ip_of};
 ghost use Rattle.slirp_core.specs.Packets.{udp_of};
 ghost use Rattle.run_laws.specs.Packets.{quoted};
 ghost use Rattle.slirp_laws.specs.Datagrams.{fate};
-ghost use Rattle.slirp_core.specs.Datagrams.{datagram_of, fate_of};
+ghost use Rattle.slirp_core.specs.Datagrams.{Lies, datagram_of, fate_of};
 
 use host_policy::{Policy, Proto, Verdict};
 use ipv4_head::IpView;
@@ -53,19 +53,19 @@ pub enum Outcome {
     GoesTo(Endpoint),
 }
 
-/// The datagram of UDP that a whole packet of a guest carries. `octets` are those of the packet, from its header on.
+/// The datagram of UDP that a whole packet of a guest carries. `octets` are those of the packet: its header, its body and what else may follow.
 pub fn datagram_in<'a>(
     policy: &Policy,
     mac: Mac,
     octets: &'a [u8],
     packet: &IpView<'a>,
 ) -> Option<DatagramView<'a>>
-    requires { read_ip octets.now ≡ Some (ip_of packet.now) }
+    requires { Lies octets.now packet.now.head.now packet.now.body.now }
     ensures datagram { option_map datagram_of result ≡ udp_of policy.now mac.0 (ip_of packet.now) }
     ensures quote { IfSome result (λ d. length d.quote.now ≤ 68) }
     ensures body { IfSome result (λ d. length d.body.now ≤ 65507) }
 {
-    if packet.proto != UDP || packet.more || packet.offset != 0 {
+    if packet.proto != UDP {
         return None;
     }
     let Ok(udp) = udp_assoc::decode(packet.body, packet.from, packet.to) else {
@@ -91,7 +91,7 @@ pub fn datagram_in<'a>(
 
 // What an unreachable quotes of a packet: its header and the first octets of what it carries.
 fn quote<'a>(octets: &'a [u8], packet: &IpView<'a>) -> &'a [u8]
-    requires { read_ip octets.now ≡ Some (ip_of packet.now) }
+    requires { Lies octets.now packet.now.head.now packet.now.body.now }
     ensures quoted { result.now ≡ quoted (ip_of packet.now) }
     ensures few { length result.now ≤ 68 }
 {

@@ -77,13 +77,11 @@ fn echo_reply<'a>(message: &IcmpView<'a>) -> Option<IcmpView<'a>>
     }
 }
 
-// Whether a datagram is a guest's, to one of ours, whole, with a message.
+// Whether a whole datagram is a guest's, to one of ours, with a message.
 pub(crate) fn is_message_to_us(policy: &Policy, datagram: &IpView<'_>) -> bool
     ensures { result ≡ is_message_to_us policy.now (ip_of datagram.now) }
 {
     policy.is_guest(datagram.from)
         && policy.is_ours(datagram.to)
         && datagram.proto == ICMP
-        && !datagram.more
-        && datagram.offset == 0
 }

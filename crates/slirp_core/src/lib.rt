@@ -4,13 +4,16 @@
 mod arp;
 mod cutting;
 mod datagrams;
+mod fragments;
 mod icmp;
 mod network;
 mod outgoing;
 mod sending;
+mod timeouts;
 mod udp;
 mod wants;
 
+pub use fragments::{Assembled, Brought, LONGEST_ASSEMBLED};
 pub use network::Slirp;
 pub use sending::Pumped;
 pub use wants::TurnWants;

@@ -4,13 +4,13 @@ ghost use Rattle.poll_list.specs.Listing.{AreWants};
 ghost use Rattle.slirp_core.specs.Pumps.{link_want, socket_wants, udp_want};
 
 use crate::network::Slirp;
+use crate::timeouts::sooner;
 use arrayvec::ArrayVec;
 use net_octets::NoMemory;
 use poll_list::{Want, Wants, Who};
 use std::alloc::Global;
 use std::marker::Model;
 use stream_netdev::Link;
-use udp_assoc::IDLE_LIFE;
 
 /// What a turn waits for: a list with room for a fixed number of wants, all of it taken at opening.
 ///
@@ -108,12 +108,16 @@ impl TurnWants {
 }
 
 impl Slirp {
-    ghost use Rattle.slirp_core.specs.Pumps.{time_left, WantsOf};
+    ghost use Rattle.std.specs.Prelude.{List};
+    ghost use Rattle.ipv4_head.specs.Sets.{PartSet};
+    ghost use Rattle.slirp_core.specs.Fragments.{IsHeld};
+    ghost use Rattle.slirp_core.specs.Pumps.{WantsOf};
+    ghost use Rattle.slirp_core.specs.Timeouts.{IsTimeout};
 
-    /// What the network waits for, and how long at most: the link for reading, and each open socket by rising number, where nothing is left to be sent; the link for writing where it is blocked; until the idle life of the longest unused socket is over.
+    /// What the network waits for, and how long at most: the link for reading, and each open socket by rising number, where nothing is left to be sent; the link for writing where it is blocked; until the idle life of the longest unused socket is over, or the first fragments are dropped.
     pub fn pollfds_fill(&self, link: &Link, wants: &mut TurnWants) -> Option<u64>
         requires { 513 ≤ wants.old.capacity }
-        ensures timeout { result ≡ time_left self.now.moment self.now.associations }
+        ensures timeout { (held : List PartSet) → IsHeld self.now.parts held → IsTimeout self.now held result }
         ensures items { WantsOf self.now link.now wants.new.items }
         ensures wants { AreWants wants.new.items }
         ensures few { length wants.new.items ≤ 513 }
@@ -124,8 +128,7 @@ impl Slirp {
             link.blocked(),
             self.associations.rising(),
         );
-        let oldest = self.associations.oldest()?;
-        Some(IDLE_LIFE.saturating_sub(self.moment.saturating_sub(oldest.used)))
+        sooner(self.time_of_sockets(), self.time_of_parts())
     }
 }
 

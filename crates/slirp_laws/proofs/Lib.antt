@@ -3,6 +3,7 @@ pub mod Checks
 pub mod CutRows
 pub mod Deeds
 pub mod Finding
+pub mod FragmentRows
 pub mod Framing
 pub mod Joining
 pub mod Longest

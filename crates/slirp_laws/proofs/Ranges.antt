@@ -1,8 +1,9 @@
 -- What guests and peers say is in its range where each answer is one that a World may give.
-use Rattle.std.proofs.Common.{◌≡◌, ℕ, ◌-◌, ◌/◌, ◌%◌, ◌^◌, ◌<◌, ◌==◌, nat_le, Bool, true, false, List, [], ◌∷◌, ◌++◌, get_or, length, take, drop, Option, Some, None, option_map, option_and_then, if◌then◌else◌, inl, inr, refl, ap, subst, arith}
+use Rattle.std.proofs.Common.{◌≡◌, ℕ, ◌-◌, ◌/◌, ◌%◌, ◌^◌, ◌<◌, ◌==◌, ◌&&◌, not, cond, find, lit<, nat_le, Bool, true, false, List, [], ◌∷◌, ◌++◌, get_or, length, take, drop, Option, Some, None, option_map, option_and_then, if◌then◌else◌, inl, inr, refl, ap, subst, arith}
 use Rattle.std.proofs.lemmas.Bool.{cases_lt}
 use Rattle.std.proofs.lemmas.List.{get_or_past}
-use Rattle.std.proofs.lemmas.List.Elements.{All-append, All-drop, All-get_or, All-take}
+use Rattle.std.specs.List.{range_with_len}
+use Rattle.std.proofs.lemmas.List.Elements.{All-append, All-drop, All-get_or, All-map, All-take}
 use Rattle.std.proofs.lemmas.Option.{cond_some}
 use Rattle.world_face.specs.Journal.{Entry, LinkRead, UdpOpen, UdpSend, UdpRecv, AreAllowed, AreOctets, IsEndpoint}
 use Rattle.world_face.specs.Frames.{arrives, is_whole, partial}
@@ -19,9 +20,13 @@ use Rattle.host_policy.specs.Addresses.{Config, is_guest}
 use Rattle.ether_frame.specs.Ether.{Ether, read_ether}
 use Rattle.arp_table.specs.Arp.{Arp, read_arp}
 use Rattle.ipv4_head.specs.Ip.{Ip, read_ip, is_ip, head_length, is_unbroken}
+use Rattle.ipv4_head.specs.Sets.{Key, Part, PartSet, Outcome, UnevenPart, LongPart, Clashes, Waits, Joined, has_octet, joined_body, joined_size, octet_in, octet_of, outcome_among, parts_for, changed_by, OfParts, OfSets, place_of, set_for, start_of, whole_by}
+use Rattle.ipv4_head.proofs.Members.{found_key, of_changed_by, of_left, of_there, of_young, same_key}
 use Rattle.icmp_echo.specs.Icmp.{Icmp, read_icmp}
 use Rattle.udp_assoc.specs.Udp.{Udp, is_udp, read_udp}
 use Rattle.tcp_segment.specs.Tcp.{Tcp, read_tcp}
+use Rattle.run_laws.specs.Fragments.{Fragment, arrived, fragment_by, fragment_in, fragment_of, joined_by, key_by, part_by, sets, waiting, with_fragment, with_frame}
+use Rattle.run_laws.specs.Moments.{moment}
 use Rattle.run_laws.specs.Happenings.{Arrival, arrival_of, happens, datagram_by, datagram_came}
 use Rattle.run_laws.specs.Packets.{Datagram, Packet, Unheard, ArpPacket, Message, DatagramPacket, Segment, datagram_in, datagram_of, may_come, packet_in, packet_of, packet_of_ip, unless_unheard, whole_packet}
 use Rattle.slirp_laws.specs.Ports.{last_datagram, last_port, opened_by, opened_for, or_before}
@@ -104,9 +109,15 @@ range_ip config mac ip from octets =
     (range_if (ip.proto == tcp_proto) (option_map (Segment mac ip) (read_tcp ip.from ip.to ip.body)) None (range_tcp mac ip (read_tcp ip.from ip.to ip.body)) tt))
     tt)
 
-range_whole : (config : Config) (mac octets : List ℕ) (o : Option Ip) → read_ip octets ≡ o → AreOctets octets → RangeIn (option_and_then (whole_packet config mac) o)
-range_whole config mac octets None is all = tt
-range_whole config mac octets (Some ip) is all =
+-- what a frame and a datagram carry are octets
+ether_range : (frame : List ℕ) (ether : Ether) → read_ether frame ≡ Some ether → AreOctets frame → AreOctets ether.body
+ether_range frame ether is all =
+    let found = cond_some (nat_le 14 (length frame)) (record { to = part frame 0 6; from = part frame 6 6; kind = two_at frame 12; body = drop 14 frame }) ether is in
+    let body : drop 14 frame ≡ ether.body = ap (λ (e : Ether). e.body) found.1 in
+    subst AreOctets body (All-drop IsOctet 14 frame all)
+
+ip_range : (octets : List ℕ) (ip : Ip) → read_ip octets ≡ Some ip → AreOctets octets → (ip.from < 2 ^ 32) × AreOctets ip.body
+ip_range octets ip is all =
     let found = cond_some (is_ip octets) (record {
       ident = two_at octets 4;
       more = (two_at octets 6 / 2 ^ 13) % 2 == 1;
@@ -118,22 +129,111 @@ range_whole config mac octets (Some ip) is all =
       body = part octets (head_length octets) (two_at octets 2 - head_length octets);
     }) ip is in
     let from : four_at octets 12 ≡ ip.from = ap (λ (i : Ip). i.from) found.1 in
-    let body : part octets (head_length octets) (two_at octets 2 - head_length octets) ≡ ip.body = ap (λ (i : Ip). i.body) found.1 in
-    range_if (is_unbroken ip) (packet_of_ip config mac ip) None
-    (range_ip config mac ip (subst (λ n. n < 2 ^ 32) from (four_at-fits octets 12 (in_range octets all)))
-    (subst AreOctets body (All-take IsOctet (two_at octets 2 - head_length octets) (drop (head_length octets) octets) (All-drop IsOctet (head_length octets) octets all)))) tt
+    let body : part octets (head_length octets) (two_at octets 2 - head_length octets) ≡ ip.body = ap (λ (i : Ip). i.body) found.1 in (
+      subst (λ n. n < 2 ^ 32) from (four_at-fits octets 12 (in_range octets all)),
+      subst AreOctets body (All-take IsOctet (two_at octets 2 - head_length octets) (drop (head_length octets) octets) (All-drop IsOctet (head_length octets) octets all)),
+    )
 
-range_ether : (config : Config) (frame : List ℕ) (o : Option Ether) → read_ether frame ≡ o → AreOctets frame → RangeIn (option_and_then (packet_of config) o)
-range_ether config frame None is all = tt
-range_ether config frame (Some ether) is all =
-    let found = cond_some (nat_le 14 (length frame)) (record { to = part frame 0 6; from = part frame 6 6; kind = two_at frame 12; body = drop 14 frame }) ether is in
-    let body : drop 14 frame ≡ ether.body = ap (λ (e : Ether). e.body) found.1 in
+-- ---- fragments
+
+abbrev RangePart : Key → Part → Type 0
+RangePart key p = (key.from < 2 ^ 32) × AreOctets p.body
+
+abbrev RangeFragment : Option Fragment → Type 0
+RangeFragment None = Unit {0}
+RangeFragment (Some f) = RangePart f.key f.part
+
+fragment_if : (b : Bool) (f : Fragment) → RangePart f.key f.part → RangeFragment (if b then Some f else None)
+fragment_if true f is = is
+fragment_if false f is = tt
+
+fragment_range : (config : Config) (octets : List ℕ) (ip : Ip) → (ip.from < 2 ^ 32) × AreOctets ip.body → RangeFragment (fragment_by config octets ip)
+fragment_range config octets ip is = fragment_if (is_guest config ip.from && not (is_unbroken ip)) (record { key = key_by ip; part = part_by octets ip }) is
+
+range_fragment_ip : (config : Config) (octets : List ℕ) (o : Option Ip) → read_ip octets ≡ o → AreOctets octets → RangeFragment (option_and_then (fragment_by config octets) o)
+range_fragment_ip config octets None is all = tt
+range_fragment_ip config octets (Some ip) is all = fragment_range config octets ip (ip_range octets ip is all)
+
+range_fragment_of : (b : Bool) (o : Option Fragment) → RangeFragment o → RangeFragment (if b then o else None)
+range_fragment_of true o is = is
+range_fragment_of false o is = tt
+
+range_fragment_in : (config : Config) (frame : List ℕ) (o : Option Ether) → read_ether frame ≡ o → AreOctets frame → RangeFragment (option_and_then (fragment_of config) o)
+range_fragment_in config frame None is all = tt
+range_fragment_in config frame (Some ether) is all =
+    range_fragment_of (ether.kind == ipv4_kind) (option_and_then (fragment_by config ether.body) (read_ip ether.body)) (range_fragment_ip config ether.body (read_ip ether.body) refl (ether_range frame ether is all))
+
+sets_with : (now : ℕ) (o : Option Fragment) (waiting : List PartSet) → RangeFragment o → OfSets RangePart waiting → OfSets RangePart (with_fragment now o waiting)
+sets_with now None waiting is all = all
+sets_with now (Some f) waiting is all = of_left RangePart now f.key f.part waiting all (λ even. is)
+
+sets_by : (config : Config) (now : ℕ) (o : Option (List ℕ)) (waiting : List PartSet) → ((frame : List ℕ) → o ≡ Some frame → AreOctets frame) → OfSets RangePart waiting → OfSets RangePart (with_frame config now o waiting)
+sets_by config now None waiting octets all = all
+sets_by config now (Some frame) waiting octets all = sets_with now (fragment_in config frame) waiting (range_fragment_in config frame (read_ether frame) refl (octets frame refl)) all
+
+range_sets : (config : Config) (past : List Entry) → AreAllowed past → OfSets RangePart (sets config past)
+range_sets config [] allowed = tt
+range_sets config (e ∷ past) allowed = sets_by config (moment past) (arrives e past) (sets config past) (λ frame is. frame_octets e past frame allowed is) (range_sets config past allowed.1)
+
+-- what is joined of them
+octets_of : (key : Key) (parts : List Part) (test : Part → Bool) (k : ℕ) → OfParts RangePart key parts → octet_in k (find test parts) < 2 ^ 8
+octets_of key [] test k all = lit< tt
+octets_of key (p ∷ parts) test k all = octet_if (test p) (in_range p.body all.0.1 (k - start_of p)) (octets_of key parts test k all.1)
+  where
+    octet_if : (b : Bool) → one_at p.body (k - start_of p) < 2 ^ 8 → octet_in k (find test parts) < 2 ^ 8 → octet_in k (cond b (Some p) (find test parts)) < 2 ^ 8
+    octet_if true is later = is
+    octet_if false is later = later
+
+joined_octets : (s : PartSet) → OfParts RangePart s.key s.parts → AreOctets (joined_body s.parts)
+joined_octets s all = All-map IsOctet (octet_of s.parts) (range_with_len 0 (joined_size s.parts)) (λ i d less. octets_of s.key s.parts (has_octet (get_or (range_with_len 0 (joined_size s.parts)) i d)) (get_or (range_with_len 0 (joined_size s.parts)) i d) all)
+
+abbrev RangeIp : Option Ip → Type 0
+RangeIp None = Unit {0}
+RangeIp (Some ip) = (ip.from < 2 ^ 32) × AreOctets ip.body
+
+whole_range : (key : Key) (waiting : List PartSet) (outcome : Outcome) (o : Option PartSet) → set_for key waiting ≡ o → key.from < 2 ^ 32 → OfSets RangePart waiting → RangeIp (whole_by outcome o)
+whole_range key waiting Joined None at from all = tt
+whole_range key waiting Joined (Some s) at from all =
+    let key_is : key ≡ s.key = same_key key s.key (found_key RangePart key waiting s at) in
+    (subst (λ (k : Key). k.from < 2 ^ 32) key_is from, joined_octets s (of_there RangePart waiting (place_of key waiting) s at all))
+whole_range key waiting UnevenPart o at from all = tt
+whole_range key waiting LongPart o at from all = tt
+whole_range key waiting Clashes o at from all = tt
+whole_range key waiting Waits o at from all = tt
+
+joined_range : (now : ℕ) (waiting : List PartSet) (o : Option Fragment) → RangeFragment o → OfSets RangePart waiting → RangeIp (joined_by now waiting o)
+joined_range now waiting None is all = tt
+joined_range now waiting (Some f) is all =
+    let o = outcome_among f.part (parts_for f.key waiting) in
+    let after = changed_by o now f.key f.part waiting in
+    whole_range f.key after o (set_for f.key after) refl is.0 (of_changed_by RangePart now f.key f.part waiting all (λ even. is))
+
+arrived_range : (config : Config) (now : ℕ) (waiting : List PartSet) (octets : List ℕ) (ip : Ip) → (ip.from < 2 ^ 32) × AreOctets ip.body → OfSets RangePart waiting → RangeIp (arrived config now waiting octets ip)
+arrived_range config now waiting octets ip is all = by (is_unbroken ip)
+  where
+    by : (b : Bool) → RangeIp (if b then Some ip else joined_by now waiting (fragment_by config octets ip))
+    by true = is
+    by false = joined_range now waiting (fragment_by config octets ip) (fragment_range config octets ip is) all
+
+-- ---- what came
+
+range_arrived : (config : Config) (mac : List ℕ) (o : Option Ip) → RangeIp o → RangeIn (option_and_then (packet_of_ip config mac) o)
+range_arrived config mac None is = tt
+range_arrived config mac (Some ip) is = range_ip config mac ip is.0 is.1
+
+range_whole : (config : Config) (now : ℕ) (waiting : List PartSet) (mac octets : List ℕ) (o : Option Ip) → read_ip octets ≡ o → AreOctets octets → OfSets RangePart waiting → RangeIn (option_and_then (whole_packet config now waiting mac octets) o)
+range_whole config now waiting mac octets None is all kept = tt
+range_whole config now waiting mac octets (Some ip) is all kept = range_arrived config mac (arrived config now waiting octets ip) (arrived_range config now waiting octets ip (ip_range octets ip is all) kept)
+
+range_ether : (config : Config) (now : ℕ) (waiting : List PartSet) (frame : List ℕ) (o : Option Ether) → read_ether frame ≡ o → AreOctets frame → OfSets RangePart waiting → RangeIn (option_and_then (packet_of config now waiting) o)
+range_ether config now waiting frame None is all kept = tt
+range_ether config now waiting frame (Some ether) is all kept =
     range_if (ether.kind == arp_kind) (option_map ArpPacket (read_arp ether.body)) _ (range_arp (read_arp ether.body))
-    (range_if (ether.kind == ipv4_kind) (option_and_then (whole_packet config ether.from) (read_ip ether.body)) None
-    (range_whole config ether.from ether.body (read_ip ether.body) refl (subst AreOctets body (All-drop IsOctet 14 frame all))) tt)
+    (range_if (ether.kind == ipv4_kind) (option_and_then (whole_packet config now waiting ether.from ether.body) (read_ip ether.body)) None
+    (range_whole config now waiting ether.from ether.body (read_ip ether.body) refl (ether_range frame ether is all) kept) tt)
 
-range_packet : (config : Config) (frame : List ℕ) → AreOctets frame → InRange (packet_in config frame)
-range_packet config frame all = range_ether config frame (read_ether frame) refl all
+range_packet : (config : Config) (now : ℕ) (waiting : List PartSet) (frame : List ℕ) → AreOctets frame → OfSets RangePart waiting → InRange (packet_in config now waiting frame)
+range_packet config now waiting frame all kept = range_ether config now waiting frame (read_ether frame) refl all kept
 
 -- ---- ports
 
@@ -148,13 +248,15 @@ range_by (ArpPacket arp) last is before = before
 range_by (Message mac ip message) last is before = before
 range_by (Segment mac ip tcp) last is before = before
 
-range_came : (config : Config) (o : Option (List ℕ)) (last : Option Datagram) → ((frame : List ℕ) → o ≡ Some frame → AreOctets frame) → RangeLast last → RangeLast (or_before (datagram_came (option_map (arrival_of config) o)) last)
-range_came config None last octets before = before
-range_came config (Some frame) last octets before = range_by (packet_in config frame) last (range_packet config frame (octets frame refl)) before
+range_came : (config : Config) (now : ℕ) (waiting : List PartSet) (o : Option (List ℕ)) (last : Option Datagram) → ((frame : List ℕ) → o ≡ Some frame → AreOctets frame) → OfSets RangePart waiting → RangeLast last
+    → RangeLast (or_before (datagram_came (option_map (arrival_of config now waiting) o)) last)
+range_came config now waiting None last octets kept before = before
+range_came config now waiting (Some frame) last octets kept before = range_by (packet_in config now waiting frame) last (range_packet config now waiting frame (octets frame refl) kept) before
 
 range_last : (config : Config) (past : List Entry) → AreAllowed past → RangeLast (last_datagram config past)
 range_last config [] allowed = tt
-range_last config (e ∷ past) allowed = range_came config (arrives e past) (last_datagram config past) (λ frame is. frame_octets e past frame allowed is) (range_last config past allowed.1)
+range_last config (e ∷ past) allowed =
+    range_came config (moment past) (waiting config past) (arrives e past) (last_datagram config past) (λ frame is. frame_octets e past frame allowed is) (of_young RangePart (moment past) (sets config past) (range_sets config past allowed.1)) (range_last config past allowed.1)
 
 abbrev pub RangePort : Option Endpoint → Type 0
 RangePort None = Unit {0}

@@ -20,12 +20,14 @@ use Rattle.host_policy.specs.Targets.{is_hidden}
 use Rattle.ether_frame.specs.Ether.{Ether, read_ether, ether_octets}
 use Rattle.ether_frame.proofs.Spelling.{reads as reads_frame}
 use Rattle.arp_table.specs.Arp.{Arp, read_arp, is_arp, arp_octets}
-use Rattle.ipv4_head.specs.Ip.{Ip, read_ip, is_ip, ip_octets, fragment_of, head_length, is_unbroken}
-use Rattle.ipv4_head.specs.Sets.{Part}
+use Rattle.ipv4_head.specs.Ip.{Ip, read_ip, is_ip, ip_octets, fragment_of, head_length}
+use Rattle.ipv4_head.specs.Sets.{Part, PartSet}
 use Rattle.icmp_echo.specs.Icmp.{Icmp, echo, unreachable, other as another, read_icmp}
 use Rattle.udp_assoc.specs.Udp.{Udp, read_udp}
 use Rattle.tcp_segment.specs.Tcp.{Tcp, read_tcp}
+use Rattle.run_laws.specs.Fragments.{arrived, waiting}
 use Rattle.run_laws.specs.Happenings.{arrival_of, datagram_by, datagram_came}
+use Rattle.run_laws.specs.Moments.{moment}
 use Rattle.run_laws.specs.Packets.{Datagram, Packet, Unheard, ArpPacket, Message, DatagramPacket, Segment, datagram_in, datagram_of, may_come, packet_in, packet_of, packet_of_ip, unless_unheard, whole_packet}
 use Rattle.slirp_laws.specs.Answers.{Answer, ArpAnswer, IpAnswer, arp_reply, is_untold, no_network, part_frame, our_mac, owed_for_fate, owed_for_icmp, owed_for_packet, told_about, reply_for}
 use Rattle.slirp_laws.specs.Datagrams.{Fate, Ignored, Refused, GoesTo, fate}
@@ -78,21 +80,25 @@ six_ip config mac ip is =
     (six_if (ip.proto == tcp_proto) (option_map (Segment mac ip) (read_tcp ip.from ip.to ip.body)) None (six_tcp mac ip (read_tcp ip.from ip.to ip.body) is) tt))
     tt)
 
-six_whole : (config : Config) (mac : List ℕ) (o : Option Ip) → length mac ≡ 6 → SixIn (option_and_then (whole_packet config mac) o)
-six_whole config mac None is = tt
-six_whole config mac (Some ip) is = six_if (is_unbroken ip) (packet_of_ip config mac ip) None (six_ip config mac ip is) tt
+six_arrived : (config : Config) (mac : List ℕ) (o : Option Ip) → length mac ≡ 6 → SixIn (option_and_then (packet_of_ip config mac) o)
+six_arrived config mac None is = tt
+six_arrived config mac (Some ip) is = six_ip config mac ip is
 
-six_ether : (config : Config) (frame : List ℕ) (o : Option Ether) → read_ether frame ≡ o → SixIn (option_and_then (packet_of config) o)
-six_ether config frame None is = tt
-six_ether config frame (Some ether) is =
+six_whole : (config : Config) (now : ℕ) (sets : List PartSet) (mac octets : List ℕ) (o : Option Ip) → length mac ≡ 6 → SixIn (option_and_then (whole_packet config now sets mac octets) o)
+six_whole config now sets mac octets None is = tt
+six_whole config now sets mac octets (Some ip) is = six_arrived config mac (arrived config now sets octets ip) is
+
+six_ether : (config : Config) (now : ℕ) (sets : List PartSet) (frame : List ℕ) (o : Option Ether) → read_ether frame ≡ o → SixIn (option_and_then (packet_of config now sets) o)
+six_ether config now sets frame None is = tt
+six_ether config now sets frame (Some ether) is =
     let found = cond_some (nat_le 14 (length frame)) (record { to = part frame 0 6; from = part frame 6 6; kind = two_at frame 12; body = drop 14 frame }) ether is in
     let enough : 12 ≤ length frame = (let long = found.0 in grind (arith, nat_tests, long)) in
     let mac : length ether.from ≡ 6 = ap (λ (e : Ether). length e.from) (sym found.1) ∙ length-part frame 6 6 enough in
     six_if (ether.kind == arp_kind) (option_map ArpPacket (read_arp ether.body)) _ (six_arp ether.body (read_arp ether.body) refl)
-    (six_if (ether.kind == ipv4_kind) (option_and_then (whole_packet config ether.from) (read_ip ether.body)) None (six_whole config ether.from (read_ip ether.body) mac) tt)
+    (six_if (ether.kind == ipv4_kind) (option_and_then (whole_packet config now sets ether.from ether.body) (read_ip ether.body)) None (six_whole config now sets ether.from ether.body (read_ip ether.body) mac) tt)
 
-six_packet : (config : Config) (frame : List ℕ) → SixPacket (packet_in config frame)
-six_packet config frame = six_ether config frame (read_ether frame) refl
+six_packet : (config : Config) (now : ℕ) (sets : List PartSet) (frame : List ℕ) → SixPacket (packet_in config now sets frame)
+six_packet config now sets frame = six_ether config now sets frame (read_ether frame) refl
 
 abbrev SixDatagram : Option Datagram → Type 0
 SixDatagram None = Unit {0}
@@ -105,13 +111,13 @@ six_by (ArpPacket arp) last is before = before
 six_by (Message mac ip message) last is before = before
 six_by (Segment mac ip tcp) last is before = before
 
-six_came : (config : Config) (o : Option (List ℕ)) (last : Option Datagram) → SixDatagram last → SixDatagram (or_before (datagram_came (option_map (arrival_of config) o)) last)
-six_came config None last before = before
-six_came config (Some frame) last before = six_by (packet_in config frame) last (six_packet config frame) before
+six_came : (config : Config) (now : ℕ) (sets : List PartSet) (o : Option (List ℕ)) (last : Option Datagram) → SixDatagram last → SixDatagram (or_before (datagram_came (option_map (arrival_of config now sets) o)) last)
+six_came config now sets None last before = before
+six_came config now sets (Some frame) last before = six_by (packet_in config now sets frame) last (six_packet config now sets frame) before
 
 six_last : (config : Config) (past : List Entry) → SixDatagram (last_datagram config past)
 six_last config [] = tt
-six_last config (e ∷ past) = six_came config (arrives e past) (last_datagram config past) (six_last config past)
+six_last config (e ∷ past) = six_came config (moment past) (waiting config past) (arrives e past) (last_datagram config past) (six_last config past)
 
 abbrev pub SixMac : Option (List ℕ) → Type 0
 SixMac None = Unit {0}
@@ -221,13 +227,14 @@ six_by_call (UdpSend socket to octets answer) last o is before = six_by_sent ans
 six_by_call (UdpRecv socket asked answer octets) last o is before = six_by_got answer socket octets o before
 six_by_call _ last o is before = before
 
-six_after : (config : Config) (e : Entry) (frame : Option (List ℕ)) (last : Option Datagram) (o : Occasion) → SixDatagram last → SixOccasion o → SixOccasion (occasion_after e (option_map (arrival_of config) frame) last o)
-six_after config e None last o is before = six_by_call e last o is before
-six_after config e (Some frame) last o is before = six_packet config frame
+six_after : (config : Config) (now : ℕ) (sets : List PartSet) (e : Entry) (frame : Option (List ℕ)) (last : Option Datagram) (o : Occasion) → SixDatagram last → SixOccasion o
+    → SixOccasion (occasion_after e (option_map (arrival_of config now sets) frame) last o)
+six_after config now sets e None last o is before = six_by_call e last o is before
+six_after config now sets e (Some frame) last o is before = six_packet config now sets frame
 
 pub six_occasion : (config : Config) (past : List Entry) → SixOccasion (last_occasion config past)
 six_occasion config [] = tt
-six_occasion config (e ∷ past) = six_after config e (arrives e past) (last_datagram config past) (last_occasion config past) (six_last config past) (six_occasion config past)
+six_occasion config (e ∷ past) = six_after config (moment past) (waiting config past) e (arrives e past) (last_datagram config past) (last_occasion config past) (six_last config past) (six_occasion config past)
 
 -- ---- what our frames carry
 

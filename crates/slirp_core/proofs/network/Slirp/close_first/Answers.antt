@@ -26,4 +26,4 @@ pub invariant_of-self : goal.invariant_of-self
 invariant_of-self g c =
     let i = c.self.inside in
     let makes = c.close_first.ensures.closes in
-    below_first i.number c.close_first.result i.associations c.close_first.new.self makes.made makes.holds c.self.invariant
+    (below_first i.number c.close_first.result i.associations c.close_first.new.self makes.made makes.holds c.self.invariant.0, c.self.invariant.1)

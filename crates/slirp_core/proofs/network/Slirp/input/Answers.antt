@@ -1,28 +1,40 @@
-use Rattle.std.proofs.Common.{◌∙◌, ap}
-use Rattle.std.specs.Option.{option_and_then}
-use Rattle.ether_frame.specs.Ether.{ether_of}
-use Rattle.ipv4_head.specs.Ip.{read_ip}
+use Rattle.std.proofs.Common.{◌≡◌, ℕ, List, ◌∙◌, ap, subst}
+use Rattle.ether_frame.specs.Ether.{ether_of, read_ether}
+use Rattle.ipv4_head.specs.Sets.{PartSet, young}
+use Rattle.run_laws.specs.Fragments.{fragment_in, with_fragment}
 use Rattle.slirp_laws.specs.Answers.{frames_of}
-use Rattle.slirp_core.specs.Packets.{owed_for, owed_for_ip}
-use Rattle.slirp_core.specs.Packets.{errand_of_ip}
-use Rattle.slirp_core.specs.Packets.{with_ip}
+use Rattle.slirp_core.specs.Fragments.{IsHeld, brought_errand, taken_on}
+use Rattle.slirp_core.specs.Packets.{errand_in, owed_for_frame, with_ether}
 use Rattle.slirp_core.specs.State.{SlirpState}
-use Rattle.slirp_core.proofs.Taking.{frame_of_packet, errand_of_packet}
+use Rattle.slirp_core.proofs.Taking.{frame_of_packet, errand_of_packet, fragment_of_packet}
 use Rattle.slirp_core.proofs.network.Slirp.input.Goals as goal
 
 pub returns-then-ether-eq-IPV4-clause-errand : goal.returns-then-ether-eq-IPV4-clause-errand
 returns-then-ether-eq-IPV4-clause-errand c =
-    let ether = ether_of c.in-Ok.ether in
-    c.take_ip.ensures.errand
-    ∙ ap (λ (s : SlirpState). option_and_then (errand_of_ip s.config ether.from) (read_ip ether.body)) c.self.view_is
-    ∙ errand_of_packet c.args.self.now c.args.frame.now ether c.in-Ok.ensures.fields c.if-ether-eq-IPV4.true
+    let i = c.self.inside in
+    let slirp : SlirpState = record { config = i.policy; known = i.guests; sent = i.sent; pending = i.outgoing; moment = i.moment; number = i.number; associations = i.associations; parts = i.reasm } in
+    let frame = c.args.frame.now in
+    subst (λ (s : SlirpState). (held : List PartSet) → IsHeld s.parts held → brought_errand s.config c.take_ip.result c.take_ip.new.room ≡ errand_in s.config s.moment (young s.moment held) frame) c.self.view_is
+    (λ held h. (c.take_ip.ensures.arrives held h).errand ∙ errand_of_packet slirp c.take_ip.new.self.parts (young slirp.moment held) frame (ether_of c.in-Ok.ether) c.in-Ok.ensures.fields c.if-ether-eq-IPV4.true)
 
 pub returns-then-ether-eq-IPV4-clause-changes : goal.returns-then-ether-eq-IPV4-clause-changes
 returns-then-ether-eq-IPV4-clause-changes c =
-    let ether = ether_of c.in-Ok.ether in
-    c.take_ip.ensures.changes
-    ∙ ap (λ (s : SlirpState). record s {
-      pending = frames_of s.config s.sent (owed_for (owed_for_ip s.config ether.from) (read_ip ether.body));
-      known = with_ip s.config ether.from (read_ip ether.body) s.known;
+    let i = c.self.inside in
+    let slirp : SlirpState = record { config = i.policy; known = i.guests; sent = i.sent; pending = i.outgoing; moment = i.moment; number = i.number; associations = i.associations; parts = i.reasm } in
+    let frame = c.args.frame.now in
+    let new = c.take_ip.new.self in
+    subst (λ (s : SlirpState). (held : List PartSet) → IsHeld s.parts held → taken_on new c.take_ip.result c.take_ip.new.room ≡ record s {
+      pending = frames_of s.config s.sent (owed_for_frame s.config s.moment (young s.moment held) frame);
+      known = with_ether s.config (read_ether frame) s.known;
+      parts = new.parts;
     }) c.self.view_is
-    ∙ frame_of_packet c.args.self.now c.args.frame.now ether c.in-Ok.ensures.fields c.if-ether-eq-IPV4.true
+    (λ held h. (c.take_ip.ensures.arrives held h).changes ∙ frame_of_packet slirp new.parts (young slirp.moment held) frame (ether_of c.in-Ok.ether) c.in-Ok.ensures.fields c.if-ether-eq-IPV4.true)
+
+pub returns-then-ether-eq-IPV4-clause-parts : goal.returns-then-ether-eq-IPV4-clause-parts
+returns-then-ether-eq-IPV4-clause-parts c =
+    let i = c.self.inside in
+    let slirp : SlirpState = record { config = i.policy; known = i.guests; sent = i.sent; pending = i.outgoing; moment = i.moment; number = i.number; associations = i.associations; parts = i.reasm } in
+    let frame = c.args.frame.now in
+    let new = c.take_ip.new.self in
+    subst (λ (s : SlirpState). (held : List PartSet) → IsHeld s.parts held → IsHeld new.parts (with_fragment s.moment (fragment_in s.config frame) held)) c.self.view_is
+    (λ held h. subst (λ o. IsHeld new.parts (with_fragment slirp.moment o held)) (fragment_of_packet slirp new.parts (young slirp.moment held) frame (ether_of c.in-Ok.ether) c.in-Ok.ensures.fields c.if-ether-eq-IPV4.true) (c.take_ip.ensures.arrives held h).parts)

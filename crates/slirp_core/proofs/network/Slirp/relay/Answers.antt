@@ -13,7 +13,7 @@ use Rattle.slirp_core.proofs.network.Slirp.relay.Goals as goal
 pub returns-clause-makes : goal.returns-clause-makes
 returns-clause-makes g c config at link =
     let i = c.self.inside in
-    let slirp : SlirpState = record { config = i.policy; known = i.guests; sent = i.sent; pending = i.outgoing; moment = i.moment; number = i.number; associations = i.associations } in
+    let slirp : SlirpState = record { config = i.policy; known = i.guests; sent = i.sent; pending = i.outgoing; moment = i.moment; number = i.number; associations = i.associations; parts = i.reasm } in
     let errand = errand_of c.args.errand.now in
     subst (λ (s : SlirpState). Brings (g.W.World.tells c.args.world.now) (g.W.World.tells c.guest-reply.new.world) (HoldsAt config at (step_for s.associations (Some errand)) s link) (Holds config at c.tell.new.self link)) c.self.view_is
     (brings_from c.guest-reply.ensures.relays (λ made relays past holds.
@@ -34,4 +34,4 @@ invariant_of-self g c =
     let i = c.self.inside in
     let errand = errand_of c.args.errand.now in
     let makes = c.guest-reply.ensures.relays in
-    below_relayed errand i.moment i.number c.guest-reply.new.number i.associations c.guest-reply.new.self c.guest-reply.result makes.made makes.holds c.self.invariant
+    (below_relayed errand i.moment i.number c.guest-reply.new.number i.associations c.guest-reply.new.self c.guest-reply.result makes.made makes.holds c.self.invariant.0, c.self.invariant.1)

@@ -1,38 +1,49 @@
-use Rattle.std.proofs.Common.{◌≡◌, true, false, Some, sym, ◌∙◌, ap}
-use Rattle.ipv4_head.specs.Ip.{ip_of}
-use Rattle.icmp_echo.specs.Icmp.{read_icmp}
-use Rattle.host_policy.specs.Addresses.{Config}
-use Rattle.slirp_core.specs.Packets.{is_message_to_us, owed_for}
-use Rattle.slirp_laws.specs.Answers.{frames_of, owed_for_icmp, owed_for_datagram}
-use Rattle.slirp_core.specs.Packets.{udp_of}
-use Rattle.slirp_core.specs.Datagrams.{datagram_of}
+use Rattle.std.proofs.Common.{◌≡◌, ℕ, not, Bool, true, false, List, refl, sym, ◌∙◌, ap, subst}
+use Rattle.ipv4_head.specs.Ip.{ip_of, is_unbroken}
+use Rattle.ipv4_head.specs.Sets.{Part, part_of}
+use Rattle.run_laws.specs.Fragments.{part_by}
+use Rattle.slirp_laws.specs.Answers.{frames_of}
+use Rattle.slirp_core.specs.Fragments.{Arrives, Gathers, IsHeld}
+use Rattle.slirp_core.specs.Packets.{errand_of_ip, owed_for_ip}
 use Rattle.slirp_core.specs.State.{SlirpState}
-use Rattle.slirp_core.proofs.Taking.{message_to_us, no_message, no_errand}
+use Rattle.slirp_core.specs.declared.fragments.Brought.{Brought}
+use Rattle.slirp_core.proofs.Arriving.{part_arrives, whole_arrives}
 use Rattle.slirp_core.proofs.network.Slirp.take_ip.Goals as goal
 
-pub returns-then-is_message_to_us-clause-errand : goal.returns-then-is_message_to_us-clause-errand
-returns-then-is_message_to_us-clause-errand c =
-    let ip = ip_of c.in-Ok.packet in
-    let policy = ap (λ (s : SlirpState). s.config) c.self.view_is ∙ ap (λ (s : SlirpState). s.config) c.learn.ensures in
-    let asked : is_message_to_us c.args.self.now.config ip ≡ true = ap (λ (k : Config). is_message_to_us k ip) (sym policy) ∙ sym c.is_message_to_us.ensures ∙ c.if-is_message_to_us.true in
-    no_errand c.args.self.now c.args.mac.0 c.args.body.now ip c.in-Ok.ensures.fields asked
+not_true : (b : Bool) → not b ≡ true → b ≡ false
+not_true true is = cc
+not_true false is = refl
 
-pub returns-then-is_message_to_us-clause-changes : goal.returns-then-is_message_to_us-clause-changes
-returns-then-is_message_to_us-clause-changes c =
-    let ip = ip_of c.in-Ok.packet in
-    let policy = ap (λ (s : SlirpState). s.config) c.self.view_is ∙ ap (λ (s : SlirpState). s.config) c.learn.ensures in
-    let asked : is_message_to_us c.args.self.now.config ip ≡ true = ap (λ (k : Config). is_message_to_us k ip) (sym policy) ∙ sym c.is_message_to_us.ensures ∙ c.if-is_message_to_us.true in
-    c.take_icmp.ensures
-    ∙ ap (λ (s : SlirpState). record s { pending = frames_of s.config s.sent (owed_for (owed_for_icmp c.args.mac.0 ip) (read_icmp ip.body)) }) c.learn.ensures
-    ∙ message_to_us c.args.self.now c.args.mac.0 c.args.body.now ip c.in-Ok.ensures.fields asked
+not_false : (b : Bool) → not b ≡ false → b ≡ true
+not_false true is = refl
+not_false false is = cc
 
-pub returns-clause-changes : goal.returns-clause-changes
-returns-clause-changes c =
+pub returns-then-is_part-clause-arrives : goal.returns-then-is_part-clause-arrives
+returns-then-is_part-clause-arrives c = λ held h.
+    let old = c.args.self.now in
+    let mac = c.args.mac.0 in
+    let body = c.args.body.now in
+    let packet = c.in-Ok.packet in
+    let new = c.gather-assembled.new.self in
+    let room = c.gather-assembled.new.room in
+    let made = c.gather-assembled.result in
+    let broken : is_unbroken (ip_of packet) ≡ false = not_true (is_unbroken (ip_of packet)) (sym c.is_part.ensures ∙ c.if-is_part.true) in
+    let p_is : part_of packet ≡ part_by body (ip_of packet) = ap (λ (n : ℕ). record (part_of packet) { life = n }) c.in-Ok.ensures.life in
+    let kept = subst (λ (s : SlirpState). IsHeld s.parts held) (sym c.learn.ensures) h in
+    let gathers = subst (λ (s : SlirpState). Gathers s held mac (ip_of packet) (part_of packet) new.parts made room) c.learn.ensures (c.gather-assembled.ensures.gathers held kept) in
+    subst (λ (b : Brought). Arrives old held mac body new b room) (sym c.whole_or_none.ensures)
+    (part_arrives old held mac body (ip_of packet) room c.in-Ok.ensures.fields h new (part_of packet) made broken p_is c.requires.none gathers
+    (c.gather-assembled.ensures.same ∙ ap (λ (s : SlirpState). record s { parts = new.parts }) c.learn.ensures))
+
+pub returns-clause-arrives : goal.returns-clause-arrives
+returns-clause-arrives c = λ held h.
+    let old = c.args.self.now in
+    let mac = c.args.mac.0 in
+    let body = c.args.body.now in
     let ip = ip_of c.in-Ok.packet in
-    let d = datagram_of c.in_ok-datagram.datagram in
-    let policy = ap (λ (s : SlirpState). s.config) c.self.view_is ∙ ap (λ (s : SlirpState). s.config) c.learn.ensures in
-    let asked : is_message_to_us c.args.self.now.config ip ≡ false = ap (λ (k : Config). is_message_to_us k ip) (sym policy) ∙ sym c.is_message_to_us.ensures ∙ c.if-is_message_to_us.false in
-    let udp : Some d ≡ udp_of c.args.self.now.config c.args.mac.0 ip = c.in_ok-datagram.ensures.datagram ∙ ap (λ (k : Config). udp_of k c.args.mac.0 ip) policy in
-    c.take_udp.ensures.changes
-    ∙ ap (λ (s : SlirpState). record s { pending = frames_of s.config s.sent (owed_for_datagram s.config d) }) c.learn.ensures
-    ∙ no_message c.args.self.now c.args.mac.0 c.args.body.now ip c.in-Ok.ensures.fields asked (Some d) udp
+    let new = c.take_datagram-errand.new.self in
+    let whole : is_unbroken ip ≡ true = not_false (is_unbroken ip) (sym c.is_part.ensures ∙ c.if-is_part.false) in
+    subst (λ (b : Brought). Arrives old held mac body new b c.args.room.now) (sym c.errand_or_none.ensures)
+    (whole_arrives old held mac body ip c.args.room.now c.in-Ok.ensures.fields h new c.take_datagram-errand.result whole
+    (c.take_datagram-errand.ensures.errand ∙ ap (λ (s : SlirpState). errand_of_ip s.config mac ip) c.learn.ensures)
+    (c.take_datagram-errand.ensures.changes ∙ ap (λ (s : SlirpState). record s { pending = frames_of s.config s.sent (owed_for_ip s.config mac ip) }) c.learn.ensures))

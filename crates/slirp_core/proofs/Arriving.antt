@@ -1,0 +1,125 @@
+-- What octets of IPv4 bring, whole or as a part.
+use Rattle.std.proofs.Common.{◌≡◌, ℕ, ◌&&◌, not, Bool, true, false, List, [], Option, Some, None, option_map, if◌then◌else◌, refl, sym, ◌∙◌, ap, subst}
+use Rattle.std.specs.Option.{option_and_then}
+use Rattle.net_octets.specs.declared.Ip4.{Ip4}
+use Rattle.net_octets.specs.declared.Mac.{Mac}
+use Rattle.host_policy.specs.Addresses.{Config, is_guest}
+use Rattle.ipv4_head.specs.Ip.{Ip, read_ip, is_unbroken}
+use Rattle.ipv4_head.specs.Sets.{Part, PartSet, young}
+use Rattle.ipv4_reasm.specs.Areas.{Gathered}
+use Rattle.run_laws.specs.Fragments.{Fragment, arrived, fragment_by, joined_by, key_by, part_by, with_fragment}
+use Rattle.slirp_laws.specs.Answers.{Answer, frames_of}
+use Rattle.slirp_laws.specs.Datagrams.{Errand}
+use Rattle.slirp_core.specs.Datagrams.{errand_of}
+use Rattle.slirp_core.specs.Fragments.{Arrives, CameBy, Gathers, GathersIf, IsHeld, Took, assembled_ip, brought_errand, errand_or_none, taken_on, whole_or_none}
+use Rattle.slirp_core.specs.Packets.{errand_of_arrived, errand_of_ip, owed_for, owed_for_arrived, owed_for_ip, with_address, with_ip}
+use Rattle.slirp_core.specs.State.{SlirpState}
+use Rattle.slirp_core.specs.declared.datagrams.ErrandView.{ErrandView}
+use Rattle.slirp_core.specs.declared.fragments.Assembled.{Assembled}
+use Rattle.slirp_core.specs.declared.fragments.Brought.{Brought}
+use Rattle.slirp_core.specs.declared.fragments.Brought.TheVariants.{Nothing}
+
+-- none is read
+pub none_arrives : (old : SlirpState) (held : List PartSet) (mac octets room : List ℕ) → read_ip octets ≡ None → old.pending ≡ [] → IsHeld old.parts held → Arrives old held mac octets old Nothing room
+none_arrives old held mac octets room read none is = record {
+  errand = sym (ap (option_and_then (errand_of_arrived old.config old.moment (young old.moment held) mac octets)) read);
+  changes =
+      ap (λ p. record old { pending = p }) none
+      ∙ sym (ap (λ o. record old { pending = frames_of old.config old.sent (owed_for (owed_for_arrived old.config old.moment (young old.moment held) mac octets) o); known = with_ip old.config mac o old.known }) read);
+  parts = subst (λ o. IsHeld old.parts (with_fragment old.moment o held)) (sym (ap (option_and_then (fragment_by old.config octets)) read)) is;
+}
+
+-- a whole one has no fragment
+whole_fragment : (guest unbroken : Bool) (f : Fragment) → unbroken ≡ true → (if guest && not unbroken then Some f else None) ≡ None
+whole_fragment true true f is = refl
+whole_fragment false true f is = refl
+whole_fragment guest false f is = cc
+
+no_fragment : (config : Config) (octets : List ℕ) (ip : Ip) → is_unbroken ip ≡ true → fragment_by config octets ip ≡ None
+no_fragment config octets ip whole = whole_fragment (is_guest config ip.from) (is_unbroken ip) (record { key = key_by ip; part = part_by octets ip }) whole
+
+errand_sent : (config : Config) (o : Option ErrandView) (room : List ℕ) → brought_errand config (errand_or_none o) room ≡ option_map errand_of o
+errand_sent config None room = refl
+errand_sent config (Some e) room = refl
+
+taken_sent : (s : SlirpState) (o : Option ErrandView) (room : List ℕ) → taken_on s (errand_or_none o) room ≡ s
+taken_sent s None room = refl
+taken_sent s (Some e) room = refl
+
+module _ (old : SlirpState) (held : List PartSet) (mac octets : List ℕ) (ip : Ip) (room : List ℕ) (read : read_ip octets ≡ Some ip) (is : IsHeld old.parts held) where
+  -- a whole datagram is taken in
+  pub whole_arrives : (new : SlirpState) (o : Option ErrandView) → is_unbroken ip ≡ true → option_map errand_of o ≡ errand_of_ip old.config mac ip
+      → new ≡ record old { pending = frames_of old.config old.sent (owed_for_ip old.config mac ip); known = with_address old.config ip.from mac old.known } → Arrives old held mac octets new (errand_or_none o) room
+  whole_arrives new o whole errand same =
+      let arrives : arrived old.config old.moment (young old.moment held) octets ip ≡ Some ip =
+      ap (λ (b : Bool). if b then Some ip else joined_by old.moment (young old.moment held) (fragment_by old.config octets ip)) whole in
+      let parts : new.parts ≡ old.parts = ap (λ (s : SlirpState). s.parts) same in
+      record {
+        errand =
+            errand_sent old.config o room ∙ errand
+            ∙ sym (ap (option_and_then (errand_of_arrived old.config old.moment (young old.moment held) mac octets)) read ∙ ap (option_and_then (errand_of_ip old.config mac)) arrives);
+        changes =
+            taken_sent new o room ∙ same
+            ∙ ap (λ l. record old { pending = frames_of old.config old.sent (owed_for_ip old.config mac ip); known = with_address old.config ip.from mac old.known; parts = l }) (sym parts)
+            ∙ sym (ap (λ o. record old { pending = frames_of old.config old.sent (owed_for (owed_for_arrived old.config old.moment (young old.moment held) mac octets) o); known = with_ip old.config mac o old.known; parts = new.parts }) read
+            ∙ ap (λ o. record old { pending = frames_of old.config old.sent (owed_for (owed_for_ip old.config mac) o); known = with_address old.config ip.from mac old.known; parts = new.parts }) arrives);
+        parts = subst (λ l. IsHeld l (with_fragment old.moment (option_and_then (fragment_by old.config octets) (read_ip octets)) held)) (sym parts)
+            (subst (λ o. IsHeld old.parts (with_fragment old.moment o held)) (sym (ap (option_and_then (fragment_by old.config octets)) read ∙ no_fragment old.config octets ip whole)) is);
+      }
+
+  -- a part is put to those of its datagram
+  abbrev whole_of : Option Assembled → Option Ip
+  whole_of o = option_map (λ (a : Assembled). assembled_ip a room) o
+
+  errand_made : (config : Config) (o : Option Assembled) → CameBy mac o → brought_errand config (whole_or_none o) room ≡ option_and_then (errand_of_ip config mac) (whole_of o)
+  errand_made config None came = refl
+  errand_made config (Some a) came = ap (λ m. errand_of_ip config m (assembled_ip a room)) came
+
+  taken_made : (s : SlirpState) (o : Option Assembled) → CameBy mac o → s.pending ≡ [] → taken_on s (whole_or_none o) room ≡ record s { pending = frames_of s.config s.sent (owed_for (owed_for_ip s.config mac) (whole_of o)) }
+  taken_made s None came none = ap (λ p. record s { pending = p }) none
+  taken_made s (Some a) came none = ap (λ m. record s { pending = frames_of s.config s.sent (owed_for_ip s.config m (assembled_ip a room)) }) came
+
+  -- what arrives by it, and which sets wait
+  record Gathering (areas : List Gathered) (o : Option Assembled) : Type 0 where
+    came : CameBy mac o
+    arrives : whole_of o ≡ arrived old.config old.moment (young old.moment held) octets ip
+    held_by : IsHeld areas (with_fragment old.moment (fragment_by old.config octets ip) held)
+
+  broken_arrives : is_unbroken ip ≡ false → joined_by old.moment (young old.moment held) (fragment_by old.config octets ip) ≡ arrived old.config old.moment (young old.moment held) octets ip
+  broken_arrives broken = sym (ap (λ (b : Bool). if b then Some ip else joined_by old.moment (young old.moment held) (fragment_by old.config octets ip)) broken)
+
+  gathering : (b : Bool) (pairs : List (Ip4 × Mac)) (areas : List Gathered) (o : Option Assembled) → is_guest old.config ip.from ≡ b → is_unbroken ip ≡ false → GathersIf b (record old { known = pairs }) held mac ip (part_by octets ip) areas o room → Gathering areas o
+  gathering true pairs areas o guest broken took =
+      let fragment : fragment_by old.config octets ip ≡ Some (record { key = key_by ip; part = part_by octets ip }) =
+      ap (λ (g : Bool). if g && not (is_unbroken ip) then Some (record { key = key_by ip; part = part_by octets ip }) else None) guest
+      ∙ ap (λ (u : Bool). if not u then Some (record { key = key_by ip; part = part_by octets ip }) else None) broken in
+      record {
+        came = took.came;
+        arrives = took.whole ∙ sym (ap (joined_by old.moment (young old.moment held)) fragment) ∙ broken_arrives broken;
+        held_by = subst (λ o. IsHeld areas (with_fragment old.moment o held)) (sym fragment) took.held_by;
+      }
+  gathering false pairs areas o guest broken (same, none) =
+      let fragment : fragment_by old.config octets ip ≡ None = ap (λ (g : Bool). if g && not (is_unbroken ip) then Some (record { key = key_by ip; part = part_by octets ip }) else None) guest in
+      record {
+        came = subst (CameBy mac) (sym none) tt;
+        arrives = ap whole_of none ∙ sym (ap (joined_by old.moment (young old.moment held)) fragment) ∙ broken_arrives broken;
+        held_by = subst (λ l. IsHeld l (with_fragment old.moment (fragment_by old.config octets ip) held)) (sym same) (subst (λ o. IsHeld old.parts (with_fragment old.moment o held)) (sym fragment) is);
+      }
+
+  pub part_arrives : (new : SlirpState) (p : Part) (o : Option Assembled) → is_unbroken ip ≡ false → p ≡ part_by octets ip → old.pending ≡ [] → Gathers (record old { known = with_address old.config ip.from mac old.known }) held mac ip p new.parts o room
+      → new ≡ record old { known = with_address old.config ip.from mac old.known; parts = new.parts } → Arrives old held mac octets new (whole_or_none o) room
+  part_arrives new p o broken p_is none gathers same =
+      let pairs = with_address old.config ip.from mac old.known in
+      let g = gathering (is_guest old.config ip.from) pairs new.parts o refl broken (subst (λ (q : Part). Gathers (record old { known = pairs }) held mac ip q new.parts o room) p_is gathers) in
+      let mid : SlirpState = record old { known = with_address old.config ip.from mac old.known; parts = new.parts } in
+      record {
+        errand =
+            errand_made old.config o g.came ∙ ap (option_and_then (errand_of_ip old.config mac)) g.arrives
+            ∙ sym (ap (option_and_then (errand_of_arrived old.config old.moment (young old.moment held) mac octets)) read);
+        changes =
+            ap (λ (s : SlirpState). taken_on s (whole_or_none o) room) same
+            ∙ taken_made mid o g.came none
+            ∙ ap (λ (w : Option Ip). record mid { pending = frames_of old.config old.sent (owed_for (owed_for_ip old.config mac) w) }) g.arrives
+            ∙ sym (ap (λ o. record old { pending = frames_of old.config old.sent (owed_for (owed_for_arrived old.config old.moment (young old.moment held) mac octets) o); known = with_ip old.config mac o old.known; parts = new.parts }) read);
+        parts = subst (λ o. IsHeld new.parts (with_fragment old.moment o held)) (sym (ap (option_and_then (fragment_by old.config octets)) read)) g.held_by;
+      }

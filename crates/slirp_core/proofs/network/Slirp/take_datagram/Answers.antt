@@ -1,0 +1,31 @@
+use Rattle.std.proofs.Common.{◌≡◌, true, false, Some, sym, ◌∙◌, ap}
+use Rattle.ipv4_head.specs.Ip.{ip_of}
+use Rattle.host_policy.specs.Addresses.{Config}
+use Rattle.slirp_core.specs.Packets.{is_message_to_us, udp_of}
+use Rattle.slirp_core.specs.Datagrams.{datagram_of}
+use Rattle.slirp_core.specs.State.{SlirpState}
+use Rattle.slirp_core.proofs.Taking.{message_to_us, no_message, no_errand}
+use Rattle.slirp_core.proofs.network.Slirp.take_datagram.Goals as goal
+
+pub returns-then-is_message_to_us-clause-errand : goal.returns-then-is_message_to_us-clause-errand
+returns-then-is_message_to_us-clause-errand c =
+    let ip = ip_of c.args.datagram.now in
+    let policy = ap (λ (s : SlirpState). s.config) c.self.view_is in
+    let asked : is_message_to_us c.args.self.now.config ip ≡ true = ap (λ (k : Config). is_message_to_us k ip) (sym policy) ∙ sym c.is_message_to_us.ensures ∙ c.if-is_message_to_us.true in
+    no_errand c.args.self.now c.args.mac.0 ip asked
+
+pub returns-then-is_message_to_us-clause-changes : goal.returns-then-is_message_to_us-clause-changes
+returns-then-is_message_to_us-clause-changes c =
+    let ip = ip_of c.args.datagram.now in
+    let policy = ap (λ (s : SlirpState). s.config) c.self.view_is in
+    let asked : is_message_to_us c.args.self.now.config ip ≡ true = ap (λ (k : Config). is_message_to_us k ip) (sym policy) ∙ sym c.is_message_to_us.ensures ∙ c.if-is_message_to_us.true in
+    c.take_icmp.ensures ∙ message_to_us c.args.self.now c.args.mac.0 ip asked
+
+pub returns-clause-changes : goal.returns-clause-changes
+returns-clause-changes c =
+    let ip = ip_of c.args.datagram.now in
+    let d = datagram_of c.in_ok-datagram.datagram in
+    let policy = ap (λ (s : SlirpState). s.config) c.self.view_is in
+    let asked : is_message_to_us c.args.self.now.config ip ≡ false = ap (λ (k : Config). is_message_to_us k ip) (sym policy) ∙ sym c.is_message_to_us.ensures ∙ c.if-is_message_to_us.false in
+    let udp : Some d ≡ udp_of c.args.self.now.config c.args.mac.0 ip = c.in_ok-datagram.ensures.datagram ∙ ap (λ (k : Config). udp_of k c.args.mac.0 ip) policy in
+    c.take_udp.ensures.changes ∙ no_message c.args.self.now c.args.mac.0 ip asked (Some d) udp

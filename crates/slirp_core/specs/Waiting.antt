@@ -1,0 +1,15 @@
+-- The fragments that wait, as the core keeps them.
+use Rattle.std.specs.Prelude.{◌≡◌, List}
+use Rattle.world_face.specs.Journal.{Entry}
+use Rattle.host_policy.specs.Addresses.{Config}
+use Rattle.ipv4_head.specs.Sets.{PartSet, young}
+use Rattle.run_laws.specs.Fragments.{waiting}
+use Rattle.run_laws.specs.Moments.{moment}
+use Rattle.slirp_core.specs.Fragments.{IsHeld}
+use Rattle.slirp_core.specs.State.{SlirpState}
+
+-- the areas stand for some sets, of which the young ones are those that wait; the others are dropped sooner or later
+pub record OfFragments (config : Config) (slirp : SlirpState) (past : List Entry) : Type 0 where
+  pub held : List PartSet
+  pub is_held : IsHeld slirp.parts held
+  pub wait : young (moment past) held ≡ waiting config past

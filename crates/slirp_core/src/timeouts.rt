@@ -1,0 +1,38 @@
+// How long a wait may last.
+ghost use Rattle.std.specs.Prelude.{◌≡◌, List};
+ghost use Rattle.ipv4_head.specs.Sets.{PartSet};
+ghost use Rattle.slirp_core.specs.Fragments.{IsHeld};
+ghost use Rattle.slirp_core.specs.Pumps.{time_left};
+ghost use Rattle.slirp_core.specs.Timeouts.{IsPartTime, sooner};
+
+use crate::network::Slirp;
+use udp_assoc::IDLE_LIFE;
+
+impl Slirp {
+    // How long it is until the idle life of the longest unused socket is over.
+    pub(crate) fn time_of_sockets(&self) -> Option<u64>
+        ensures { result ≡ time_left self.now.moment self.now.associations }
+    {
+        let oldest = self.associations.oldest()?;
+        Some(IDLE_LIFE.saturating_sub(self.moment.saturating_sub(oldest.used)))
+    }
+
+    // How long it is until the first fragments are dropped.
+    pub(crate) fn time_of_parts(&self) -> Option<u64>
+        ensures { (held : List PartSet) → IsHeld self.now.parts held → IsPartTime self.now.moment held result }
+    {
+        let due = self.reasm.next_due()?;
+        Some(due.saturating_sub(self.moment))
+    }
+}
+
+// The shorter of two times.
+pub(crate) fn sooner(one: Option<u64>, other: Option<u64>) -> Option<u64>
+    ensures { result ≡ sooner one other }
+{
+    match (one, other) {
+        (Some(one), Some(other)) => Some(one.min(other)),
+        (Some(one), None) => Some(one),
+        (None, other) => other,
+    }
+}
