@@ -293,11 +293,10 @@ module _ (config : Config) (count : ℕ) (wants : List Want) (item : Want) (item
       nothing_last all none ([], is) = cc (sym is ∙ none)
       nothing_last all none ((x ∷ before), is) = cc (sym is ∙ none)
 
-  wait : List PartSet
+  abbrev pub wait : List PartSet
   wait = waiting config past
 
   all : AllRead config count wants items slirp wait (made ++ past)
-  unfolding wait
   all =
       let r = read past holds.keeps in
       all_read config count wants item items slirp wait reads_it made past r.1.reads r.0.framed (record {
@@ -363,7 +362,6 @@ module _ (config : Config) (count : ℕ) (wants : List Want) (item : Want) (item
       })
       → ((held : List PartSet) → IsHeld slirp.parts held → IsHeld new_slirp.parts (with_fragment slirp.moment (fragment_in slirp.config frame) held))
       → HoldsAt config (standing count wants items) (step_for slirp.associations errand) new_slirp new (made ++ past)
-  unfolding wait
   taken_in new_slirp frame errand came goes_on sends is keeps =
       let c = holds.guests.settings in
       let f = holds.guests.fragments in
