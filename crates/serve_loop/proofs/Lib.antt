@@ -1,3 +1,4 @@
+pub mod Completing
 mod Counted
 pub mod Serving
 pub mod Turning

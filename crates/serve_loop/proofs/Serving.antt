@@ -33,7 +33,7 @@ started service told new = record {
   lawful = (asks service.slirp.config [] (ap (λ f. unless_due (due_in (Opening 0 f) []) None) new.forwards) refl, tt);
   keeps = record { framed = (tt, tt); partly = sym new.input; rest = sym new.output; blocked = sym new.free };
   answers = record { sent = sym new.sent; pending = sym new.pending };
-  guests = guests_begin (record service.slirp { moment = max (min told (2 ^ 62)) service.slirp.moment }) (Now told) refl new.known;
+  guests = guests_begin (record service.slirp { moment = max (min told (2 ^ 62)) service.slirp.moment }) (Now told) refl new.known new.parts;
   relayed = record { list = sym new.associations; asks = refl };
   sockets = record {
     number = sym new.number;

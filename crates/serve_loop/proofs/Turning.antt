@@ -18,7 +18,12 @@ use Rattle.ether_frame.specs.Ether.{read_ether}
 use Rattle.udp_assoc.specs.declared.assocs.Association.{Association}
 use Rattle.run_laws.specs.Guests.{known, with_arrival}
 use Rattle.run_laws.specs.Happenings.{arrival_of, happens}
+use Rattle.ipv4_head.specs.Sets.{PartSet, young}
+use Rattle.run_laws.specs.Fragments.{fragment_in, sets, waiting, with_fragment, with_frame as waits_with}
 use Rattle.run_laws.specs.Moments.{moment, waits}
+use Rattle.slirp_core.specs.Fragments.{IsHeld}
+use Rattle.slirp_core.specs.Waiting.{OfFragments}
+use Rattle.slirp_core.proofs.Waitings.{fragments_stay, fragments_take}
 use Rattle.run_laws.specs.Shape.{Phase, Working, Over, By, due_in, phase, phase_after, unless_over, is_working, may_turn}
 use Rattle.run_laws.specs.Sockets.{next_number}
 use Rattle.slirp_laws.specs.Agenda.{agenda, all_wanted, behind, from, is_to_read, reads_on as goes_on_reading, wanted_of}
@@ -126,7 +131,7 @@ settled slirp link is =
     (none_at link.tail both.0, none slirp.pending (not_true (nat_lt 0 (length slirp.pending)) both.1))
 
 -- reads of a frame, before the last
-record Quiet (config : Config) (count : ℕ) (wants : List Want) (item : Want) (items : List Want) (slirp : SlirpState) (past : List Entry) : Type 0 where
+record Quiet (config : Config) (count : ℕ) (wants : List Want) (item : Want) (items : List Want) (slirp : SlirpState) (wait : List PartSet) (past : List Entry) : Type 0 where
   turn : InTurn config past
   reported : IsLast (all_wanted wants (item ∷ items)) (agenda past)
   open_yet : is_closing config past ≡ false
@@ -138,11 +143,13 @@ record Quiet (config : Config) (count : ℕ) (wants : List Want) (item : Want) (
   list : associations config past ≡ slirp.associations
   unasked : errand_left config past ≡ None
   clock : moment past ≡ slirp.moment
+  fragments : OfFragments config slirp past
+  waits : waiting config past ≡ wait
   sockets : OfSockets slirp past
 
-module _ (config : Config) (count : ℕ) (wants : List Want) (item : Want) (items : List Want) (slirp : SlirpState) (reads_it : is_to_read TheLink (wanted_of wants item) ≡ true) where
+module _ (config : Config) (count : ℕ) (wants : List Want) (item : Want) (items : List Want) (slirp : SlirpState) (wait : List PartSet) (reads_it : is_to_read TheLink (wanted_of wants item) ≡ true) where
   -- a read may come, that asks for what is missing
-  may_read : (asked : ℕ) (past : List Entry) → MayFrame past (CallLinkRead asked) → Quiet config count wants item items slirp past → May config past (CallLinkRead asked)
+  may_read : (asked : ℕ) (past : List Entry) → MayFrame past (CallLinkRead asked) → Quiet config count wants item items slirp wait past → May config past (CallLinkRead asked)
   may_read asked past framed q =
       reads_on config past asked framed (due_is config past Settled q.turn.working (ap (step_of config past) q.unasked)) (ap is_working q.turn.working)
       (reads_of TheLink (wanted_of wants item) (all_wanted wants items) (agenda past) reads_it q.reported)
@@ -152,8 +159,8 @@ module _ (config : Config) (count : ℕ) (wants : List Want) (item : Want) (item
   not_whole : (octets : List ℕ) → (if is_whole octets then Some (drop 4 octets) else None) ≡ None → is_whole octets ≡ false
   not_whole octets = elim (is_whole octets) as (λ b. (if b then Some (drop 4 octets) else None) ≡ None → b ≡ false) [ true ↦ λ is. cc | false ↦ λ is. refl ]
 
-  quiet : (made past : List Entry) → Pieces made past → Follows MayFrame (made ++ past) → Quiet config count wants item items slirp past → Lawful config past
-      → Quiet config count wants item items slirp (made ++ past) × Lawful config (made ++ past)
+  quiet : (made past : List Entry) → Pieces made past → Follows MayFrame (made ++ past) → Quiet config count wants item items slirp wait past → Lawful config past
+      → Quiet config count wants item items slirp wait (made ++ past) × Lawful config (made ++ past)
   quiet [] past pieces framed q lawful = (q, lawful)
   quiet (LinkRead asked (Done n) octets ∷ made) past pieces framed q lawful =
       let (before, so_far) = quiet made past pieces.3 framed.1 q lawful in
@@ -165,13 +172,15 @@ module _ (config : Config) (count : ℕ) (wants : List Want) (item : Want) (item
               (sym (not_whole (partial (made ++ past) ++ octets) frame)) (from_of TheLink (wanted_of wants item) (all_wanted wants items) (agenda (made ++ past)) reads_it before.reported);
           open_yet = before.open_yet;
           sent_is = before.sent_is;
-          none = ap (λ o. left_after config (made ++ past) (happens config (made ++ past) e) (option_map (arrival_of config) o) (left config (made ++ past))) frame ∙ before.none;
+          none = ap (λ o. left_after config (made ++ past) (happens config (made ++ past) e) (option_map (arrival_of config (moment (made ++ past)) (waiting config (made ++ past))) o) (left config (made ++ past))) frame ∙ before.none;
           out = before.out;
-          known_is = ap (λ o. with_arrival (option_map (arrival_of config) o) (known config (made ++ past))) frame ∙ before.known_is;
+          known_is = ap (λ o. with_arrival (option_map (arrival_of config (moment (made ++ past)) (waiting config (made ++ past))) o) (known config (made ++ past))) frame ∙ before.known_is;
           counted = before.counted;
           list = before.list;
-          unasked = ap (λ o. errand_after config e (option_map (arrival_of config) o) (errand_left config (made ++ past))) frame ∙ before.unasked;
+          unasked = ap (λ o. errand_after config e (option_map (arrival_of config (moment (made ++ past)) (waiting config (made ++ past))) o) (errand_left config (made ++ past))) frame ∙ before.unasked;
           clock = before.clock;
+          fragments = fragments_stay config slirp slirp e (made ++ past) frame refl before.fragments;
+          waits = ap (λ o. young (moment (made ++ past)) (waits_with config (moment (made ++ past)) o (sets config (made ++ past)))) frame ∙ before.waits;
           sockets = record { number = before.sockets.number; rising = before.sockets.rising; those = before.sockets.those; kinds = before.sockets.kinds };
         },
         (may_read asked (made ++ past) framed.0 before, so_far),
@@ -186,49 +195,61 @@ abbrev pub over_by : Option Ending → Phase
 over_by None = Working
 over_by (Some why) = Over (By why)
 
-abbrev pub errand_by : Config → Option (List ℕ) → Option Errand
-errand_by config None = None
-errand_by config (Some frame) = errand_in config frame
+abbrev pub errand_by : Config → ℕ → List PartSet → Option (List ℕ) → Option Errand
+errand_by config now wait None = None
+errand_by config now wait (Some frame) = errand_in config now wait frame
 
-abbrev pub owed_by : Config → Option (List ℕ) → List Answer
-owed_by config None = []
-owed_by config (Some frame) = owed_for_frame config frame
+abbrev pub owed_by : Config → ℕ → List PartSet → Option (List ℕ) → List Answer
+owed_by config now wait None = []
+owed_by config now wait (Some frame) = owed_for_frame config now wait frame
+
+-- and which fragments wait
+abbrev pub KeepsParts : Config → SlirpState → SlirpState → Option (List ℕ) → Type 0
+KeepsParts config slirp new None = new.parts ≡ slirp.parts
+KeepsParts config slirp new (Some frame) = (held : List PartSet) → IsHeld slirp.parts held → IsHeld new.parts (with_fragment slirp.moment (fragment_in config frame) held)
 
 -- reads of a frame
-record AllRead (config : Config) (count : ℕ) (wants items : List Want) (slirp : SlirpState) (all : List Entry) : Type 0 where
+record AllRead (config : Config) (count : ℕ) (wants items : List Want) (slirp : SlirpState) (wait : List PartSet) (all : List Entry) : Type 0 where
   lawful : Lawful config all
   phase_is : phase config all ≡ over_by (ended all)
   waited : 0 < waits all
   reported : IsLast (all_wanted wants items) (agenda all)
   open_yet : is_closing config all ≡ false
   sent_is : identification all ≡ slirp.sent
-  left_is : left config all ≡ frames_of config slirp.sent (owed_by config (arrived all))
+  left_is : left config all ≡ frames_of config slirp.sent (owed_by config slirp.moment wait (arrived all))
   known_is : known config all ≡ with_frame config (arrived all) slirp.known
   counted : waits all ≡ count
   list : associations config all ≡ slirp.associations
-  asks : errand_left config all ≡ errand_by config (arrived all)
+  asks : errand_left config all ≡ errand_by config slirp.moment wait (arrived all)
   clock : moment all ≡ slirp.moment
+  fragments : (new : SlirpState) → KeepsParts config slirp new (arrived all) → OfFragments config new all
   sockets : OfSockets slirp all
 
-all_read : (config : Config) (count : ℕ) (wants : List Want) (item : Want) (items : List Want) (slirp : SlirpState) → is_to_read TheLink (wanted_of wants item) ≡ true
-    → (made past : List Entry) → Reads made past → Follows MayFrame (made ++ past) → Quiet config count wants item items slirp past → Lawful config past → AllRead config count wants items slirp (made ++ past)
-all_read config count wants item items slirp reads_it [] past reads framed q lawful = absurd reads
-all_read config count wants item items slirp reads_it (LinkRead asked answer octets ∷ made) past reads framed q lawful =
-    let (before, so_far) = quiet config count wants item items slirp reads_it made past reads.1 framed.1 q lawful in
+all_read : (config : Config) (count : ℕ) (wants : List Want) (item : Want) (items : List Want) (slirp : SlirpState) (wait : List PartSet) → is_to_read TheLink (wanted_of wants item) ≡ true
+    → (made past : List Entry) → Reads made past → Follows MayFrame (made ++ past) → Quiet config count wants item items slirp wait past → Lawful config past → AllRead config count wants items slirp wait (made ++ past)
+all_read config count wants item items slirp wait reads_it [] past reads framed q lawful = absurd reads
+all_read config count wants item items slirp wait reads_it (LinkRead asked answer octets ∷ made) past reads framed q lawful =
+    let (before, so_far) = quiet config count wants item items slirp wait reads_it made past reads.1 framed.1 q lawful in
     let e = LinkRead asked answer octets in
     record {
-      lawful = (may_read config count wants item items slirp reads_it asked (made ++ past) framed.0 before, so_far);
+      lawful = (may_read config count wants item items slirp wait reads_it asked (made ++ past) framed.0 before, so_far);
       phase_is = ap (phase_after e (ending e (partial (made ++ past)))) before.turn.working ∙ stands (ending e (partial (made ++ past)));
       waited = before.turn.waited;
       reported = passed (goes_on_reading answer (partial (made ++ past) ++ octets)) before.reported;
       open_yet = before.open_yet;
       sent_is = before.sent_is;
-      left_is = owes (arrives e (made ++ past)) before.none ∙ ap (λ i. frames_of config i (owed_by config (arrives e (made ++ past)))) before.sent_is;
+      left_is = owes (arrives e (made ++ past)) before.none
+          ∙ ap (λ i. frames_of config i (owed_by config (moment (made ++ past)) (waiting config (made ++ past)) (arrives e (made ++ past)))) before.sent_is
+          ∙ ap (λ n. frames_of config slirp.sent (owed_by config n (waiting config (made ++ past)) (arrives e (made ++ past)))) before.clock
+          ∙ ap (λ w. frames_of config slirp.sent (owed_by config slirp.moment w (arrives e (made ++ past)))) before.waits;
       known_is = teaches (arrives e (made ++ past)) (known config (made ++ past)) ∙ ap (with_frame config (arrives e (made ++ past))) before.known_is;
       counted = before.counted;
       list = before.list;
-      asks = sets_out (arrives e (made ++ past)) before.unasked;
+      asks = sets_out (arrives e (made ++ past)) before.unasked
+          ∙ ap (λ n. errand_by config n (waiting config (made ++ past)) (arrives e (made ++ past))) before.clock
+          ∙ ap (λ w. errand_by config slirp.moment w (arrives e (made ++ past))) before.waits;
       clock = before.clock;
+      fragments = λ new keeps. puts new (arrives e (made ++ past)) refl keeps before.clock before.fragments;
       sockets = record { number = before.sockets.number; rising = before.sockets.rising; those = before.sockets.those; kinds = before.sockets.kinds };
     }
   where
@@ -240,20 +261,27 @@ all_read config count wants item items slirp reads_it (LinkRead asked answer oct
     stands None = refl
     stands (Some why) = refl
 
-    teaches : (o : Option (List ℕ)) (pairs : List (Ip4 × Mac)) → with_arrival (option_map (arrival_of config) o) pairs ≡ with_frame config o pairs
+    teaches : (o : Option (List ℕ)) (pairs : List (Ip4 × Mac)) → with_arrival (option_map (arrival_of config (moment (made ++ past)) (waiting config (made ++ past))) o) pairs ≡ with_frame config o pairs
     teaches None pairs = refl
     teaches (Some frame) pairs = teaches_same config frame pairs
 
     sets_out : (o : Option (List ℕ)) → errand_left config (made ++ past) ≡ None
-        → errand_after config (LinkRead asked answer octets) (option_map (arrival_of config) o) (errand_left config (made ++ past)) ≡ errand_by config o
+        → errand_after config (LinkRead asked answer octets) (option_map (arrival_of config (moment (made ++ past)) (waiting config (made ++ past))) o) (errand_left config (made ++ past))
+        ≡ errand_by config (moment (made ++ past)) (waiting config (made ++ past)) o
     sets_out None is = is
-    sets_out (Some frame) is = sends_same config frame
+    sets_out (Some frame) is = sends_same config (moment (made ++ past)) (waiting config (made ++ past)) frame
 
     owes : (o : Option (List ℕ)) → left config (made ++ past) ≡ []
-        → left_after config (made ++ past) (happens config (made ++ past) (LinkRead asked answer octets)) (option_map (arrival_of config) o) (left config (made ++ past)) ≡ frames_of config (identification (made ++ past)) (owed_by config o)
+        → left_after config (made ++ past) (happens config (made ++ past) (LinkRead asked answer octets)) (option_map (arrival_of config (moment (made ++ past)) (waiting config (made ++ past))) o) (left config (made ++ past))
+        ≡ frames_of config (identification (made ++ past)) (owed_by config (moment (made ++ past)) (waiting config (made ++ past)) o)
     owes None is = is
-    owes (Some frame) is = ap (frames_of config (identification (made ++ past))) (owes_same config frame)
-all_read config count wants item items slirp reads_it (_ ∷ made) past reads framed q lawful = absurd reads.0
+    owes (Some frame) is = ap (frames_of config (identification (made ++ past))) (owes_same config (moment (made ++ past)) (waiting config (made ++ past)) frame)
+
+    puts : (new : SlirpState) (o : Option (List ℕ)) → arrives (LinkRead asked answer octets) (made ++ past) ≡ o → KeepsParts config slirp new o → moment (made ++ past) ≡ slirp.moment → OfFragments config slirp (made ++ past)
+        → OfFragments config new (LinkRead asked answer octets ∷ (made ++ past))
+    puts new None came keeps at before = fragments_stay config slirp new (LinkRead asked answer octets) (made ++ past) came keeps before
+    puts new (Some frame) came keeps at before = fragments_take config slirp new (LinkRead asked answer octets) (made ++ past) frame came refl (sym at) before (keeps before.held before.is_held)
+all_read config count wants item items slirp wait reads_it (_ ∷ made) past reads framed q lawful = absurd reads.0
 
 module _ (config : Config) (count : ℕ) (wants : List Want) (item : Want) (items : List Want) (reads_it : is_to_read TheLink (wanted_of wants item) ≡ true)
     (slirp : SlirpState) (old new : LinkState) (answer : Arrived) (no_packet : slirp.pending ≡ []) (out : old.tail ≡ [])
@@ -265,10 +293,13 @@ module _ (config : Config) (count : ℕ) (wants : List Want) (item : Want) (item
       nothing_last all none ([], is) = cc (sym is ∙ none)
       nothing_last all none ((x ∷ before), is) = cc (sym is ∙ none)
 
-  all : AllRead config count wants items slirp (made ++ past)
+  abbrev pub wait : List PartSet
+  wait = waiting config past
+
+  all : AllRead config count wants items slirp wait (made ++ past)
   all =
       let r = read past holds.keeps in
-      all_read config count wants item items slirp reads_it made past r.1.reads r.0.framed (record {
+      all_read config count wants item items slirp wait reads_it made past r.1.reads r.0.framed (record {
         turn = reported_in_turn;
         reported = holds.agenda;
         open_yet = holds.open_yet;
@@ -280,27 +311,35 @@ module _ (config : Config) (count : ℕ) (wants : List Want) (item : Want) (item
         list = holds.relayed.list;
         unasked = errand_for config Settled slirp past holds.relayed;
         clock = holds.clock.moment;
+        fragments = holds.guests.fragments;
+        waits = refl;
         sockets = holds.sockets;
       }) holds.lawful
 
-  pub read_on : (new_slirp : SlirpState) → ending_of answer ≡ None
-      → new_slirp ≡ record slirp { pending = frames_of config slirp.sent (owed_by config (hands answer new)); known = with_frame config (hands answer new) slirp.known }
-      → HoldsAt config (standing count wants items) (step_for slirp.associations (errand_by config (hands answer new))) new_slirp new (made ++ past)
-  read_on new_slirp goes_on is =
+  pub read_on : (new_slirp : SlirpState) → ending_of answer ≡ None → KeepsParts config slirp new_slirp (hands answer new)
+      → new_slirp ≡ record slirp { pending = frames_of config slirp.sent (owed_by config slirp.moment wait (hands answer new)); known = with_frame config (hands answer new) slirp.known; parts = new_slirp.parts }
+      → HoldsAt config (standing count wants items) (step_for slirp.associations (errand_by config slirp.moment wait (hands answer new))) new_slirp new (made ++ past)
+  read_on new_slirp goes_on keeps is =
       let r = read past holds.keeps in
-      subst (λ (s : SlirpState). HoldsAt config (standing count wants items) (step_for slirp.associations (errand_by config (hands answer new))) s new (made ++ past)) (sym is) (record {
+      let after = record slirp { pending = frames_of config slirp.sent (owed_by config slirp.moment wait (hands answer new)); known = with_frame config (hands answer new) slirp.known; parts = new_slirp.parts } in
+      subst (λ (s : SlirpState). HoldsAt config (standing count wants items) (step_for slirp.associations (errand_by config slirp.moment wait (hands answer new))) s new (made ++ past)) (sym is) (record {
         lawful = all.lawful;
         keeps = r.0;
-        answers = record { sent = all.sent_is; pending = all.left_is ∙ ap (λ o. frames_of config slirp.sent (owed_by config o)) r.1.frame };
-        guests = guests_learn config slirp (record slirp { pending = frames_of config slirp.sent (owed_by config (hands answer new)); known = with_frame config (hands answer new) slirp.known }) (hands answer new) (made ++ past) holds.guests.settings
-            (all.known_is ∙ ap (λ o. with_frame config o slirp.known) r.1.frame) refl;
-        relayed = record { list = all.list; asks = ap (step_for slirp.associations) (all.asks ∙ ap (errand_by config) r.1.frame) };
+        answers = record { sent = all.sent_is; pending = all.left_is ∙ ap (λ o. frames_of config slirp.sent (owed_by config slirp.moment wait o)) r.1.frame };
+        guests = guests_learn config slirp after (hands answer new) (made ++ past) holds.guests.settings
+            (all.known_is ∙ ap (λ o. with_frame config o slirp.known) r.1.frame) refl refl (all.fragments after (subst (λ o. KeepsParts config slirp after o) (sym r.1.frame) (kept_as (hands answer new) new_slirp keeps)));
+        relayed = record { list = all.list; asks = ap (step_for slirp.associations) (all.asks ∙ ap (errand_by config slirp.moment wait) r.1.frame) };
         sockets = record { number = all.sockets.number; rising = all.sockets.rising; those = all.sockets.those; kinds = all.sockets.kinds };
         clock = record { moment = all.clock; counted = all.counted };
         stands = Turns (record { working = all.phase_is ∙ ap over_by (r.1.last ∙ goes_on); waited = all.waited });
         agenda = all.reported;
         open_yet = all.open_yet;
       })
+    where
+      kept_as : (o : Option (List ℕ)) (other : SlirpState) → KeepsParts config slirp other o
+          → KeepsParts config slirp (record slirp { pending = frames_of config slirp.sent (owed_by config slirp.moment wait (hands answer new)); known = with_frame config (hands answer new) slirp.known; parts = other.parts }) o
+      kept_as None other keeps = keeps
+      kept_as (Some frame) other keeps = keeps
 
   pub read_ends_it : (why : Ending) → ending_of answer ≡ Some why → hands answer new ≡ None → Ended config why slirp.associations (made ++ past)
   read_ends_it why is none =
@@ -308,28 +347,41 @@ module _ (config : Config) (count : ℕ) (wants : List Want) (item : Want) (item
       record {
         lawful = all.lawful;
         over = all.phase_is ∙ ap over_by (r.1.last ∙ is);
-        asks = all.asks ∙ ap (errand_by config) (r.1.frame ∙ none);
+        asks = all.asks ∙ ap (errand_by config slirp.moment wait) (r.1.frame ∙ none);
         rising = all.sockets.rising;
         those = all.sockets.those;
       }
 
   -- a whole frame, taken in
-  pub taken_in : (new_slirp : SlirpState) (frame : List ℕ) → hands answer new ≡ Some frame → ending_of answer ≡ None
-      → new_slirp ≡ record slirp { pending = frames_of slirp.config slirp.sent (owed_for_frame slirp.config frame); known = with_ether slirp.config (read_ether frame) slirp.known }
-      → HoldsAt config (standing count wants items) (step_for slirp.associations (errand_in slirp.config frame)) new_slirp new (made ++ past)
-  taken_in new_slirp frame came goes_on is =
+  pub taken_in : (new_slirp : SlirpState) (frame : List ℕ) (errand : Option Errand) → hands answer new ≡ Some frame → ending_of answer ≡ None
+      → ((held : List PartSet) → IsHeld slirp.parts held → errand ≡ errand_in slirp.config slirp.moment (young slirp.moment held) frame)
+      → ((held : List PartSet) → IsHeld slirp.parts held → new_slirp ≡ record slirp {
+        pending = frames_of slirp.config slirp.sent (owed_for_frame slirp.config slirp.moment (young slirp.moment held) frame);
+        known = with_ether slirp.config (read_ether frame) slirp.known;
+        parts = new_slirp.parts;
+      })
+      → ((held : List PartSet) → IsHeld slirp.parts held → IsHeld new_slirp.parts (with_fragment slirp.moment (fragment_in slirp.config frame) held))
+      → HoldsAt config (standing count wants items) (step_for slirp.associations errand) new_slirp new (made ++ past)
+  taken_in new_slirp frame errand came goes_on sends is keeps =
       let c = holds.guests.settings in
-      let h = read_on new_slirp goes_on (is
-      ∙ ap (λ k. record slirp { pending = frames_of k slirp.sent (owed_for_frame k frame); known = with_ether k (read_ether frame) slirp.known }) c
-      ∙ sym (ap (λ o. record slirp { pending = frames_of config slirp.sent (owed_by config o); known = with_frame config o slirp.known }) came)) in
-      subst (λ (t : Step). HoldsAt config (standing count wants items) t new_slirp new (made ++ past))
-      (ap (λ o. step_for slirp.associations (errand_by config o)) came ∙ sym (ap (λ k. step_for slirp.associations (errand_in k frame)) c)) h
+      let f = holds.guests.fragments in
+      let w : young slirp.moment f.held ≡ waiting config past = ap (λ n. young n f.held) (sym holds.clock.moment) ∙ f.wait in
+      let kept = subst (λ o. KeepsParts config slirp new_slirp o) (sym came) (subst (λ (k : Config). (held : List PartSet) → IsHeld slirp.parts held → IsHeld new_slirp.parts (with_fragment slirp.moment (fragment_in k frame) held)) c keeps) in
+      let h = read_on new_slirp goes_on kept (is f.held f.is_held
+      ∙ ap (λ k. record slirp { pending = frames_of k slirp.sent (owed_for_frame k slirp.moment (young slirp.moment f.held) frame); known = with_ether k (read_ether frame) slirp.known; parts = new_slirp.parts }) c
+      ∙ ap (λ w. record slirp { pending = frames_of config slirp.sent (owed_for_frame config slirp.moment w frame); known = with_ether config (read_ether frame) slirp.known; parts = new_slirp.parts }) w
+      ∙ sym (ap (λ o. record slirp { pending = frames_of config slirp.sent (owed_by config slirp.moment (waiting config past) o); known = with_frame config o slirp.known; parts = new_slirp.parts }) came)) in
+      let asks : errand_by config slirp.moment (waiting config past) (hands answer new) ≡ errand =
+      ap (errand_by config slirp.moment (waiting config past)) came
+      ∙ sym (sends f.held f.is_held ∙ ap (λ k. errand_in k slirp.moment (young slirp.moment f.held) frame) c ∙ ap (λ w. errand_in config slirp.moment w frame) w) in
+      subst (λ (e : Option Errand). HoldsAt config (standing count wants items) (step_for slirp.associations e) new_slirp new (made ++ past)) asks h
 
   -- or none
   pub nothing_came : hands answer new ≡ None → ending_of answer ≡ None → Holds config (standing count wants items) slirp new (made ++ past)
   nothing_came none goes_on =
-      let h = read_on slirp goes_on (ap (λ p. record slirp { pending = p }) no_packet ∙ sym (ap (λ o. record slirp { pending = frames_of config slirp.sent (owed_by config o); known = with_frame config o slirp.known }) none)) in
-      subst (λ (t : Step). HoldsAt config (standing count wants items) t slirp new (made ++ past)) (ap (λ o. step_for slirp.associations (errand_by config o)) none) h
+      let h = read_on slirp goes_on (subst (λ o. KeepsParts config slirp slirp o) (sym none) refl)
+      (ap (λ p. record slirp { pending = p }) no_packet ∙ sym (ap (λ o. record slirp { pending = frames_of config slirp.sent (owed_by config slirp.moment wait o); known = with_frame config o slirp.known }) none)) in
+      subst (λ (t : Step). HoldsAt config (standing count wants items) t slirp new (made ++ past)) (ap (λ o. step_for slirp.associations (errand_by config slirp.moment wait o)) none) h
 
 -- the run has ended
 pub ended_as : (config : Config) (why : Ending) (associations : List Association) (past : List Entry) → Ended config why associations past → EndedAs config (end_by why) associations past

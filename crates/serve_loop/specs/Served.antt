@@ -21,7 +21,7 @@ pub record IsBuilt (config : Config) : Type 0 where
   pub outbound : config.outbound ≡ None
   pub control : config.control ≡ None
 
--- nothing was read or written, no datagram was sent, no guest is known, no socket is open, no moment was told and nothing is owed; no port of the host is given to a guest yet
+-- nothing was read or written, no datagram was sent, no guest is known, no socket is open, no moment was told, nothing is owed and no fragment waits; no port of the host is given to a guest yet
 pub record IsNew (service : ServiceState) : Type 0 where
   pub forwards : service.slirp.config.forwards ≡ []
   pub known : service.slirp.known ≡ []
@@ -30,6 +30,7 @@ pub record IsNew (service : ServiceState) : Type 0 where
   pub moment : service.slirp.moment ≡ 0
   pub number : service.slirp.number ≡ 0
   pub associations : service.slirp.associations ≡ []
+  pub parts : service.slirp.parts ≡ []
   pub input : under_way service.link ≡ []
   pub output : service.link.tail ≡ []
   pub free : service.link.blocked ≡ false

@@ -16,7 +16,7 @@ ghost use Rattle.poll_list.specs.declared.Want.{Want as AnItem};
 use host_policy::SlirpConfig;
 use net_octets::NoMemory;
 use poll_list::{ReadyList, Want, Who};
-use slirp_core::{Pumped, Slirp, TurnWants};
+use slirp_core::{LONGEST_ASSEMBLED, Pumped, Slirp, TurnWants};
 use std::alloc::Global;
 use std::marker::Model;
 use stream_netdev::{Arrived, Link};
@@ -70,6 +70,7 @@ pub struct Service {
     wants: TurnWants,
     ready: ReadyList,
     payload: Vec<u8>,
+    joined: Vec<u8>,
     turns: u64,
 }
 
@@ -81,7 +82,7 @@ impl Model for Service {
 
     ghost view = { λ s. record { slirp = s.slirp; link = s.link; wants = s.wants.items; ready = s.ready.items } };
 
-    ghost invariant = { λ s. (s.turns ≡ s.slirp.config.turns) × (s.wants.capacity ≡ 5155) × (s.ready.capacity ≡ 5155) × (length s.payload.items ≡ 65507) };
+    ghost invariant = { λ s. (s.turns ≡ s.slirp.config.turns) × (s.wants.capacity ≡ 5155) × (s.ready.capacity ≡ 5155) × (length s.payload.items ≡ 65507) × (length s.joined.items ≡ 65575) };
 }
 
 impl Service {
@@ -115,10 +116,11 @@ impl Service {
         ensures config { IfOk result (λ service. service.slirp.config ≡ settings c.now) }
     {
         let link = Link::open(alloc)?;
-        let (Ok(wants), Ok(ready), Ok(payload)) = (
+        let (Ok(wants), Ok(ready), Ok(payload), Ok(joined)) = (
             TurnWants::open(alloc, MOST_READY),
             ReadyList::open(alloc, MOST_READY),
             vec![in alloc; 0; MOST_PAYLOAD],
+            vec![in alloc; 0; LONGEST_ASSEMBLED],
         ) else {
             return Err(NoMemory);
         };
@@ -129,6 +131,7 @@ impl Service {
             wants,
             ready,
             payload,
+            joined,
             turns: c.turns,
         })
     }
@@ -357,7 +360,8 @@ impl Service {
         }
         match self.link.read_frame(world) {
             Arrived::Frame => {
-                if let Some(errand) = self.slirp.input(self.link.frame()) {
+                let brought = self.slirp.input(self.link.frame(), &mut self.joined);
+                if let Some(errand) = self.slirp.complete(brought, &self.joined) {
                     self.slirp.relay(world, &errand);
                 }
                 Turn::Again

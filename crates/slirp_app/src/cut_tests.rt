@@ -11,12 +11,12 @@ const HEARD: &str =
 
 const STOP: &str = "wait 240000 link:r,u0:r = stop\nclose 0 = done\n";
 
-/// From whom a datagram goes to 10.0.2.15: its protocol and both addresses, in hexadecimal, and the sum of the words of a header without length, number and place.
+/// Between whom a datagram goes: its protocol and both addresses, in hexadecimal, and the sum of the words of a header without length, number and place.
 #[derive(Drop)]
-struct Course {
-    proto: &'static str,
-    addresses: &'static str,
-    sum: u64,
+pub struct Course {
+    pub proto: &'static str,
+    pub addresses: &'static str,
+    pub sum: u64,
 }
 
 const FROM_PEER: Course = Course {
@@ -25,7 +25,7 @@ const FROM_PEER: Course = Course {
     sum: 113_492,
 };
 
-const FROM_HOST: Course = Course {
+pub const FROM_HOST: Course = Course {
     proto: "01",
     addresses: "0a0002020a00020f",
     sum: 40_210,
@@ -33,13 +33,13 @@ const FROM_HOST: Course = Course {
 
 /// The first octets of what is carried, in hexadecimal, and how many a5 follow.
 #[derive(Drop)]
-struct Carried {
-    begins: &'static str,
-    filled: u64,
+pub struct Carried {
+    pub begins: &'static str,
+    pub filled: u64,
 }
 
 /// So many octets a5, in hexadecimal.
-fn filled(alloc: Global, count: u64) -> Result<String, Fail> {
+pub fn filled(alloc: Global, count: u64) -> Result<String, Fail> {
     let mut digits = String::new(alloc);
     for _ in 0..count {
         digits.push_str("a5")?;
@@ -47,17 +47,16 @@ fn filled(alloc: Global, count: u64) -> Result<String, Fail> {
     Ok(digits)
 }
 
-/// The frame of a part with its length, in hexadecimal: the number of its datagram, its fragment field and what it carries.
-fn part(
+/// A part of a datagram, in hexadecimal, and how many octets it has: the number of its datagram, its fragment field and what it carries.
+pub fn datagram(
     alloc: Global,
     course: &Course,
     ident: u64,
     fragment: u64,
     carried: &Carried,
-) -> Result<String, Fail> {
+) -> Result<(String, u64), Fail> {
     let begun = carried.begins.len() as u64 / 2;
     let total = 20u64.saturating_add(begun).saturating_add(carried.filled);
-    let length = total.saturating_add(14);
     let words = course
         .sum
         .saturating_add(total)
@@ -66,19 +65,33 @@ fn part(
     let sum = 65_535 - words % 65_535;
     let rest = filled(alloc, carried.filled)?;
     let (proto, addresses, begins) = (course.proto, course.addresses, carried.begins);
-    Ok(format!(in alloc;
-        "{length:08x}52540012345652550a00020208004500{total:04x}{ident:04x}{fragment:04x}40{proto}{sum:04x}{addresses}{begins}{rest}"
-    )?)
+    let octets = format!(in alloc;
+        "4500{total:04x}{ident:04x}{fragment:04x}40{proto}{sum:04x}{addresses}{begins}{rest}"
+    )?;
+    Ok((octets, total))
+}
+
+/// The frame in which it goes to a guest, with its length, in hexadecimal.
+pub fn part(
+    alloc: Global,
+    course: &Course,
+    ident: u64,
+    fragment: u64,
+    carried: &Carried,
+) -> Result<String, Fail> {
+    let (octets, total) = datagram(alloc, course, ident, fragment, carried)?;
+    let length = total.saturating_add(14);
+    Ok(format!(in alloc; "{length:08x}52540012345652550a0002020800{octets}")?)
 }
 
 /// The line by which all octets of a frame are taken.
-fn taken(alloc: Global, frame: &str) -> Result<String, Fail> {
+pub fn taken(alloc: Global, frame: &str) -> Result<String, Fail> {
     let count = frame.len() / 2;
     Ok(format!(in alloc; "lwrite {frame} = done {count}\n")?)
 }
 
 /// Whether this schedule is followed to its end, with status 0.
-fn is_followed(alloc: Global, schedule: &str) -> Result<bool, Fail> {
+pub fn is_followed(alloc: Global, schedule: &str) -> Result<bool, Fail> {
     let out = format!(in alloc; "{schedule}end 0\n")?;
     gives(alloc, schedule, 0, out.as_str(), "")
 }

@@ -5,6 +5,8 @@ mod command;
 #[cfg(test)]
 mod cut_tests;
 mod fetching;
+#[cfg(test)]
+mod fragment_tests;
 mod gathering;
 #[cfg(test)]
 mod gathering_tests;

@@ -102,15 +102,6 @@ fn octets_past_the_length_are_not_sent(rt: HostRuntime) -> Result<(), Fail> {
 }
 
 #[test]
-fn a_fragment_is_ignored(rt: HostRuntime) -> Result<(), Fail> {
-    let fragment =
-        "lread 4 = done 0000002c\nlread 44 = done 52550a00020252540012345608004500001e0001200040118cb80a00020fc00002070fa00009000a00006869\n";
-    let schedule = format!(in rt.alloc(); "{BEGINS}{fragment}{IGNORED}")?;
-    assert!(rt; is_followed(rt.alloc(), schedule.as_str())?);
-    Ok(())
-}
-
-#[test]
 fn a_guest_is_told_where_no_socket_opens_or_sends(rt: HostRuntime) -> Result<(), Fail> {
     let schedule = format!(in rt.alloc();
         "{BEGINS}{FROM_4000}uopen 0 0.0.0.0:0 = fail\n{NO_NETWORK}{IGNORED}"

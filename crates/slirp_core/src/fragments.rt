@@ -42,7 +42,12 @@ impl Slirp {
     ghost use Rattle.slirp_core.specs.Fragments.{Gathers};
 
     // Takes in a part of a datagram, which counts where its source is a guest, and answers the datagram that it makes whole, which then stands in the buffer.
-    pub(crate) fn gather(&mut self, mac: Mac, part: &IpView<'_>, room: &mut [u8]) -> Option<Assembled>
+    pub(crate) fn gather(
+        &mut self,
+        mac: Mac,
+        part: &IpView<'_>,
+        room: &mut [u8],
+    ) -> Option<Assembled>
         requires room { length room.old ≡ 65575 }
         requires head { 20 ≤ length part.now.head.now }
         requires short { length part.now.head.now ≤ 60 }

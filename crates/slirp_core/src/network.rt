@@ -113,6 +113,7 @@ impl Slirp {
         } }
         ensures parts { (held : List PartSet) → IsHeld self.old.parts held
             → IsHeld self.new.parts (with_fragment self.old.moment (fragment_in self.old.config frame.now) held) }
+        ensures others { self.new ≡ record self.old { pending = self.new.pending; known = self.new.known; parts = self.new.parts } }
         ensures fits { FitsBrought result self.new.pending 65575 }
         ensures room { length room.new ≡ 65575 }
     {
@@ -135,6 +136,7 @@ impl Slirp {
         requires { FitsBrought brought self.old.pending (length octets.now) }
         ensures errand { option_map errand_of result ≡ brought_errand self.old.config brought.entry octets.now }
         ensures changes { self.new ≡ taken_on self.old brought.entry octets.now }
+        ensures others { self.new ≡ record self.old { pending = self.new.pending } }
         ensures fits { IfSome result (λ e. FitsErrand e) }
         ensures none { IfSome result (λ e. self.new.pending ≡ []) }
     {
@@ -153,6 +155,7 @@ impl Slirp {
         requires none { self.old.pending ≡ [] }
         requires room { length room.old ≡ 65575 }
         ensures arrives { (held : List PartSet) → IsHeld self.old.parts held → Arrives self.old held mac.0 body.now self.new result room.new }
+        ensures others { self.new ≡ record self.old { pending = self.new.pending; known = self.new.known; parts = self.new.parts } }
         ensures fits { FitsBrought result self.new.pending 65575 }
         ensures room { length room.new ≡ 65575 }
     {

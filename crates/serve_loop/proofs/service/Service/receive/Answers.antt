@@ -1,11 +1,10 @@
-use Rattle.std.proofs.Common.{◌≡◌, List, [], ◌∷◌, ◌++◌, Some, None, Option, refl, sym, ◌∙◌, ap, subst}
+use Rattle.std.proofs.Common.{◌≡◌, List, [], ◌∷◌, ◌++◌, length, drop, Some, None, Option, refl, sym, ◌∙◌, ap, subst, arith}
+use Rattle.std.proofs.lemmas.List.{take_at}
 use Rattle.world_face.specs.Frames.{LinkEnded, LinkCut, LongFrame, LinkFailed}
 use Rattle.world_face.specs.Tells.{Brings}
 use Rattle.world_face.proofs.Telling.{brings_none, brings_from, brings_then}
 use Rattle.stream_netdev.specs.declared.Arrived.TheVariants.{Frame, NotYet, End, Cut, TooLong, Failed}
-use Rattle.slirp_laws.specs.Datagrams.{Errand}
 use Rattle.slirp_laws.specs.Relayed.{step_for}
-use Rattle.slirp_core.specs.Packets.{errand_in}
 use Rattle.slirp_core.specs.Datagrams.{errand_of}
 use Rattle.slirp_core.specs.Holds.{HoldsAt, Holds, standing}
 use Rattle.serve_loop.specs.Turns.{AfterTurn}
@@ -16,6 +15,7 @@ use Rattle.udp_assoc.specs.declared.assocs.Association.{Association}
 use Rattle.serve_loop.specs.declared.service.Turn.TheVariants.{Again, Ended as TurnEnded}
 use Rattle.serve_loop.specs.declared.service.End.TheVariants.{Done, Cut as EndCut, TooLong as EndLong, LinkFault}
 use Rattle.slirp_core.proofs.Reports.{passes_over}
+use Rattle.serve_loop.proofs.Completing.{owes_then, sends_then, waits_then}
 use Rattle.serve_loop.proofs.Turning.{taken_in, nothing_came, read_ends_it, ended_as, settled}
 use Rattle.slirp_core.proofs.Counted.{grown}
 use Rattle.serve_loop.proofs.Counted.{grown_then}
@@ -34,12 +34,22 @@ returns-in-Some-clause-makes g c config count wants item items reads_it =
     let new = c.read_frame.new in
     let before = settled slirp link (ap (λ (s : ServiceState). is_settled s.slirp s.link) c.self.view_is ∙ sym c.is_settled.ensures ∙ c.if-not-is_settled.false) in
     let frame = c.frame.result.now in
-    let errand : errand_in slirp.config frame ≡ Some (errand_of c.in-Some.errand) = sym c.in-Some.ensures.errand in
+    let mid = c.input-brought.new.self in
+    let done = c.complete.new.self in
+    let brought = c.input-brought.result in
+    let room = c.input-brought.new.room in
+    let octets = c.deref.result.now in
+    let same : octets ≡ room = c.deref.ensures.value ∙ take_at room (drop (length room) c.self.inside.joined.items) c.self.inside.joined.len (omega (arith, c.input-brought.ensures.room)) in
+    let settings : mid.config ≡ slirp.config = ap (λ (s : SlirpState). s.config) c.input-brought.ensures.others in
+    let parts : done.parts ≡ mid.parts = ap (λ (s : SlirpState). s.parts) c.in-Some.ensures.others in
     let took = brings_from c.in-Frame.ensures.makes (λ made read past holds.
-    subst (λ (o : Option Errand). HoldsAt config (standing count wants items) (step_for slirp.associations o) c.input.new.self new.self (made ++ past)) errand
-    (taken_in config count wants item items reads_it slirp link new.self Frame before.1 before.0 made past read.1 holds c.input.new.self frame (ap Some (sym c.frame.ensures)) refl c.input.ensures.changes)) in
-    let relayed = subst (λ (l : List Association). Brings (g.W.World.tells new.world) (g.W.World.tells c.relay.new.world) (HoldsAt config (standing count wants items) (step_for l (Some (errand_of c.in-Some.errand))) c.input.new.self new.self) (Holds config (standing count wants items) c.relay.new.self new.self))
-    (ap (λ (s : SlirpState). s.associations) c.input.ensures.changes) (c.relay.ensures.makes config (standing count wants items) new.self) in
+    taken_in config count wants item items reads_it slirp link new.self Frame before.1 before.0 made past read.1 holds done frame (Some (errand_of c.in-Some.errand)) (ap Some (sym c.frame.ensures)) refl
+    (sends_then slirp mid done frame brought room octets same (Some (errand_of c.in-Some.errand)) settings c.in-Some.ensures.errand c.input-brought.ensures.errand)
+    (owes_then slirp mid done frame brought room octets same c.in-Some.ensures.changes parts c.input-brought.ensures.changes)
+    (waits_then slirp mid done frame brought room octets same parts c.input-brought.ensures.parts)) in
+    let associations : done.associations ≡ slirp.associations = ap (λ (s : SlirpState). s.associations) c.in-Some.ensures.others ∙ ap (λ (s : SlirpState). s.associations) c.input-brought.ensures.others in
+    let relayed = subst (λ (l : List Association). Brings (g.W.World.tells new.world) (g.W.World.tells c.relay.new.world) (HoldsAt config (standing count wants items) (step_for l (Some (errand_of c.in-Some.errand))) done new.self) (Holds config (standing count wants items) c.relay.new.self new.self))
+    associations (c.relay.ensures.makes config (standing count wants items) new.self) in
     subst (λ (s : ServiceState). Brings (g.W.World.tells c.args.world.now) (g.W.World.tells c.relay.new.world) (Holds config (standing count wants (item ∷ items)) s.slirp s.link) (AfterTurn Again config (standing count wants items) c.relay.new.self new.self)) c.self.view_is
     (brings_then took relayed)
 
@@ -50,11 +60,21 @@ returns-in_default-clause-makes g c config count wants item items reads_it =
     let new = c.read_frame.new in
     let before = settled slirp link (ap (λ (s : ServiceState). is_settled s.slirp s.link) c.self.view_is ∙ sym c.is_settled.ensures ∙ c.if-not-is_settled.false) in
     let frame = c.frame.result.now in
-    let errand : errand_in slirp.config frame ≡ None = sym c.in_default.ensures.errand in
-    subst (λ (s : ServiceState). Brings (g.W.World.tells c.args.world.now) (g.W.World.tells new.world) (Holds config (standing count wants (item ∷ items)) s.slirp s.link) (AfterTurn Again config (standing count wants items) c.input.new.self new.self)) c.self.view_is
-    (brings_from c.in-Frame.ensures.makes (λ made read past holds.
-    subst (λ (o : Option Errand). HoldsAt config (standing count wants items) (step_for slirp.associations o) c.input.new.self new.self (made ++ past)) errand
-    (taken_in config count wants item items reads_it slirp link new.self Frame before.1 before.0 made past read.1 holds c.input.new.self frame (ap Some (sym c.frame.ensures)) refl c.input.ensures.changes)))
+    let mid = c.input-brought.new.self in
+    let done = c.complete.new.self in
+    let brought = c.input-brought.result in
+    let room = c.input-brought.new.room in
+    let octets = c.deref.result.now in
+    let same : octets ≡ room = c.deref.ensures.value ∙ take_at room (drop (length room) c.self.inside.joined.items) c.self.inside.joined.len (omega (arith, c.input-brought.ensures.room)) in
+    let settings : mid.config ≡ slirp.config = ap (λ (s : SlirpState). s.config) c.input-brought.ensures.others in
+    let parts : done.parts ≡ mid.parts = ap (λ (s : SlirpState). s.parts) c.in_default.ensures.others in
+    let took = brings_from c.in-Frame.ensures.makes (λ made read past holds.
+    taken_in config count wants item items reads_it slirp link new.self Frame before.1 before.0 made past read.1 holds done frame None (ap Some (sym c.frame.ensures)) refl
+    (sends_then slirp mid done frame brought room octets same None settings c.in_default.ensures.errand c.input-brought.ensures.errand)
+    (owes_then slirp mid done frame brought room octets same c.in_default.ensures.changes parts c.input-brought.ensures.changes)
+    (waits_then slirp mid done frame brought room octets same parts c.input-brought.ensures.parts)) in
+    subst (λ (s : ServiceState). Brings (g.W.World.tells c.args.world.now) (g.W.World.tells new.world) (Holds config (standing count wants (item ∷ items)) s.slirp s.link) (AfterTurn Again config (standing count wants items) done new.self)) c.self.view_is
+    took
 
 pub returns-in-NotYet-clause-makes : goal.returns-in-NotYet-clause-makes
 returns-in-NotYet-clause-makes g c config count wants item items reads_it =
