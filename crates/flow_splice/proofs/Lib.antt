@@ -1,0 +1,5 @@
+pub mod Opened
+pub mod Calls
+pub mod Events
+pub mod Shutting
+pub mod Hosting

@@ -1,0 +1,56 @@
+-- What calls on the host's socket change of a flow.
+use Rattle.std.specs.Prelude.{◌≡◌, ℕ, ◌+◌, List, [], ◌∷◌, ◌++◌, Bool, true, false}
+use Rattle.sock_buffers.specs.Downward.{Downward}
+use Rattle.tcp_guest.specs.declared.Change.{Change}
+use Rattle.tcp_guest.specs.declared.Change.TheVariants.{Nothing, GuestReset, Finished, Unfit}
+use Rattle.tcp_transmit.specs.Timing.{watched_over}
+use Rattle.world_face.specs.Journal.{Entry, Close}
+use Rattle.world_face.specs.declared.Io.{Io}
+use Rattle.world_face.specs.declared.Io.TheVariants.{Done, End, NotYet, Failed}
+use Rattle.flow_splice.specs.Splice.{Splice, closed}
+
+-- between whom it goes, its guest's hardware address and the sizes stay
+pub record IsAsOld (old new : Splice) : Type 0 where
+  pub face : new.face ≡ old.face
+  pub mac : new.mac ≡ old.mac
+  pub since : new.since ≡ old.since
+  pub asked : new.asked ≡ old.asked
+  pub ask_at : new.ask_at ≡ old.ask_at
+  pub up_size : new.up.size ≡ old.up.size
+  pub down_size : new.down.size ≡ old.down.size
+  pub mru : new.mru ≡ old.mru
+
+-- after octets of the host came
+abbrev pub given : Splice → List ℕ → ℕ → Splice
+given f octets now =
+    let down : Downward = record f.down { octets = f.down.octets ++ octets } in
+    record f {
+      conn = record f.conn { transmission = watched_over f.conn.transmission down now };
+      down = down;
+    }
+
+-- octets came, or none yet
+abbrev pub gives_octets : Io → Bool
+gives_octets (Done n) = true
+gives_octets End = false
+gives_octets NotYet = true
+gives_octets Failed = false
+
+-- after a read
+abbrev pub after_read : Splice → Io → List ℕ → ℕ → Splice
+after_read f (Done n) octets now = given f octets now
+after_read f End octets now = f
+after_read f NotYet octets now = given f octets now
+after_read f Failed octets now = f
+
+-- a change of the connection by which it is over
+abbrev pub ends : Change → Bool
+ends Nothing = false
+ends GuestReset = true
+ends Finished = true
+ends Unfit = false
+
+-- the socket is closed where a change ended the connection
+abbrev pub Sees : Bool → Splice → Splice → ℕ → List Entry → Type 0
+Sees true old new now made = (made ≡ Close old.face.number ∷ []) × (new ≡ closed old now)
+Sees false old new now made = (made ≡ []) × (new ≡ old)

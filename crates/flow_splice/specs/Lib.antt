@@ -1,0 +1,7 @@
+pub mod Splice
+pub mod Hosts
+pub mod Wants
+pub mod Frames
+pub mod Entries
+pub mod Follows
+pub mod Serves
