@@ -1,6 +1,7 @@
 -- What calls on the host's socket change of a flow.
 use Rattle.std.specs.Prelude.{◌≡◌, ℕ, ◌+◌, List, [], ◌∷◌, ◌++◌, Bool, true, false}
 use Rattle.sock_buffers.specs.Downward.{Downward}
+use Rattle.tcp_guest.specs.Connection.{Connection}
 use Rattle.tcp_guest.specs.declared.Change.{Change}
 use Rattle.tcp_guest.specs.declared.Change.TheVariants.{Nothing, GuestReset, Finished, Unfit}
 use Rattle.tcp_transmit.specs.Timing.{watched_over}
@@ -21,13 +22,14 @@ pub record IsAsOld (old new : Splice) : Type 0 where
   pub mru : new.mru ≡ old.mru
 
 -- after octets of the host came
+abbrev pub down_given : Downward → List ℕ → Downward
+down_given down octets = record down { octets = down.octets ++ octets }
+
+abbrev pub conn_given : Connection → Downward → ℕ → Connection
+conn_given c down now = record c { transmission = watched_over c.transmission down now }
+
 abbrev pub given : Splice → List ℕ → ℕ → Splice
-given f octets now =
-    let down : Downward = record f.down { octets = f.down.octets ++ octets } in
-    record f {
-      conn = record f.conn { transmission = watched_over f.conn.transmission down now };
-      down = down;
-    }
+given f octets now = record f { conn = conn_given f.conn (down_given f.down octets) now; down = down_given f.down octets }
 
 -- octets came, or none yet
 abbrev pub gives_octets : Io → Bool
@@ -36,12 +38,15 @@ gives_octets End = false
 gives_octets NotYet = true
 gives_octets Failed = false
 
--- after a read
-abbrev pub after_read : Splice → Io → List ℕ → ℕ → Splice
-after_read f (Done n) octets now = given f octets now
-after_read f End octets now = f
-after_read f NotYet octets now = given f octets now
-after_read f Failed octets now = f
+-- the connection and its buffer after a read
+abbrev pub IsRead : Bool → Connection → Downward → List ℕ → ℕ → Connection → Downward → Type 0
+IsRead true c down octets now new new_down = (new ≡ conn_given c (down_given down octets) now) × (new_down ≡ down_given down octets)
+IsRead false c down octets now new new_down = (new ≡ c) × (new_down ≡ down)
+
+-- the flow
+abbrev pub read_by : Bool → Splice → List ℕ → ℕ → Splice
+read_by true f octets now = given f octets now
+read_by false f octets now = f
 
 -- a change of the connection by which it is over
 abbrev pub ends : Change → Bool

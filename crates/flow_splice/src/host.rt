@@ -2,17 +2,18 @@
 ghost use Rattle.std.specs.Prelude.{◌≡◌, ℕ, ◌+◌, ◌-◌, ◌^◌, ◌<◌, ◌≤◌, List, ◌∷◌, [], length, take, min, nat_lt, true, false};
 ghost use Rattle.sock_buffers.specs.Upward.{Upward};
 ghost use Rattle.tcp_guest.specs.Connection.{HasBuffers};
-ghost use Rattle.tcp_guest.specs.Hosts.{connected_by, host_ended, reset, write_ended};
+ghost use Rattle.tcp_guest.specs.Hosts.{connected_by, host_ended, is_open as is_host_open, reset, write_ended};
 ghost use Rattle.tcp_guest.specs.Segments.{settled, settling};
 ghost use Rattle.tcp_guest.specs.declared.Change.{Change as Changes};
 ghost use Rattle.tcp_transmit.specs.Transmission.{octets_read};
 ghost use Rattle.world_face.specs.Journal.{Connected, TcpRead, TcpWrite, TcpEnd, Close, count_of};
 ghost use Rattle.world_face.specs.Tells.{Answers, Makes};
 ghost use Rattle.connection_steps.specs.Holding.{is_connects, without};
-ghost use Rattle.flow_splice.specs.Hosts.{gives_octets};
+ghost use Rattle.flow_splice.specs.Hosts.{IsRead, gives_octets};
 
 use crate::{MOST, Spliced};
-use tcp_guest::{Change, HostNews};
+use sock_buffers::Down;
+use tcp_guest::{Change, Conn, HostNews};
 use world_face::{Io, Joined, Made, World};
 
 impl Spliced {
@@ -202,7 +203,7 @@ impl Spliced {
 impl Spliced {
     ghost use Rattle.flow_splice.specs.Splice.{is_open as is_open_by};
     ghost use Rattle.flow_splice.specs.Serves.{GoesOn};
-    ghost use Rattle.flow_splice.specs.Hosts.{IsAsOld, after_read};
+    ghost use Rattle.flow_splice.specs.Hosts.{IsAsOld, read_by};
     ghost use Rattle.flow_splice.specs.Wants.{may_read as may_read_by};
 
     // Reads octets, as many as there is room for, 16,384 at most.
@@ -230,17 +231,19 @@ impl Spliced {
         requires few { octets_read self.old.down + 16384 < 2 ^ 62 }
         ensures read { (octets : List ℕ) × Answers (W.tells world.old) (W.tells world.new)
             (TcpRead self.old.face.number (min 16384 (self.old.down.size - length self.old.down.octets)) result octets)
-            × (self.new ≡ after_read self.old result octets now) × (length octets ≤ min 16384 (self.old.down.size - length self.old.down.octets)) }
+            × (length octets ≤ min 16384 (self.old.down.size - length self.old.down.octets))
+            × (self.new ≡ read_by (gives_octets result) self.old octets now) }
         ensures buffers { HasBuffers self.new.conn self.new.up self.new.down }
         ensures size { self.old.down.size ≡ self.old.up.size }
     {
-        let asked = self.down.room().min(MOST);
-        let answer = read_part(world, self.number, &mut self.buffer, asked);
-        if gives_octets(answer) {
-            self.conn
-                .more(&mut self.down, &self.buffer[..answer.count()], now);
-        }
-        answer
+        read_into(
+            world,
+            self.number,
+            &mut self.conn,
+            &mut self.down,
+            &mut self.buffer,
+            now,
+        )
     }
 
     // The host ended its stream.
@@ -251,6 +254,36 @@ impl Spliced {
     {
         self.conn.on_host(HostNews::Ended, now);
     }
+}
+
+// Asks a socket for as many octets as there is room for, and takes those that came.
+fn read_into<W: World>(
+    world: &mut W,
+    number: u64,
+    conn: &mut Conn,
+    down: &mut Down,
+    buffer: &mut [u8],
+    now: u64,
+) -> Io
+    requires now { now ≤ 2 ^ 62 }
+    requires feeds { (up : Upward) × HasBuffers conn.old up down.old }
+    requires yet { is_host_open conn.old.transmission.end ≡ true }
+    requires some { 0 < down.old.size - length down.old.octets }
+    requires few { octets_read down.old + 16384 < 2 ^ 62 }
+    requires size { length buffer.old ≡ 16384 }
+    ensures read { (octets : List ℕ) × Answers (W.tells world.old) (W.tells world.new)
+        (TcpRead number (min 16384 (down.old.size - length down.old.octets)) result octets)
+        × (length octets ≤ min 16384 (down.old.size - length down.old.octets))
+        × IsRead (gives_octets result) conn.old down.old octets now conn.new down.new }
+    ensures buffers { (up : Upward) → HasBuffers conn.old up down.old → HasBuffers conn.new up down.new }
+    ensures size { length buffer.new ≡ 16384 }
+{
+    let asked = down.room().min(MOST);
+    let answer = read_part(world, number, buffer, asked);
+    if gives_octets(answer) {
+        conn.more(down, &buffer[..answer.count()], now);
+    }
+    answer
 }
 
 // Reads from a socket into a part of a buffer.
