@@ -3,3 +3,7 @@ pub mod Calls
 pub mod Events
 pub mod Shutting
 pub mod Hosting
+pub mod Coming
+pub mod Hearing
+pub mod Resting
+pub mod Timing

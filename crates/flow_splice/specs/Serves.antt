@@ -1,5 +1,5 @@
 -- What a call makes, and what follows then.
-use Rattle.std.specs.Prelude.{ℕ, ◌≤◌, List, Bool, ◌++◌}
+use Rattle.std.specs.Prelude.{◌≡◌, ℕ, ◌≤◌, List, Bool, false, None, ◌++◌}
 use Rattle.world_face.specs.Journal.{Entry}
 use Rattle.flow_laws.specs.Settings.{Settings}
 use Rattle.flow_laws.specs.Event.{Story}
@@ -18,3 +18,9 @@ pub record Serves (s : Settings) (f : Splice) (directly known : Bool) (ident now
 abbrev pub GoesOn : (old new : Splice) → (directly : Bool) → (now : ℕ) → List Entry → Type 0
 GoesOn old new directly now made =
     (s : Settings) (past : Story) (before ident : ℕ) (known : Bool) → before ≤ now → Follows s old past before → Serves s new directly known ident now past made
+
+-- The same, where the guest's hardware address is known wherever the flow has it.
+abbrev pub TicksOn : (old new : Splice) → (now : ℕ) → List Entry → Type 0
+TicksOn old new now made =
+    (s : Settings) (past : Story) (before ident : ℕ) (known : Bool) → before ≤ now → (old.mac ≡ None → known ≡ false) → Follows s old past before
+    → Serves s new false known ident now past made

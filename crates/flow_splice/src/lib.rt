@@ -8,7 +8,9 @@
 //! it with these (`Follows`, `Serves`). Each event was allowed by the laws of one flow, and was as it must be. Moments are in milliseconds, at most 2^62.
 #![tactic(auto)]
 
+mod guest;
 mod host;
+mod time;
 
 
 ghost use Rattle.std.specs.Prelude.{◌≡◌, ℕ, ◌+◌, ◌-◌, ◌*◌, ◌^◌, ◌<◌, ◌≤◌, List, [], ◌∷◌, ◌++◌, length, take, drop, min, true, false, None, Some, IfOk, IsSome, Bool, ◌&&◌, not};
