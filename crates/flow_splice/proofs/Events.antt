@@ -8,7 +8,7 @@ use Rattle.flow_laws.specs.Event.{Segment, Event, Departs, AsksAddress, At, Stor
 use Rattle.flow_laws.specs.Dutiful.{read_size}
 use Rattle.flow_splice.specs.Entries.{Adds, AreEvents, OffersRequest, OffersSegment, datagrams, ident_after, went}
 use Rattle.flow_splice.specs.Follows.{Follows}
-use Rattle.flow_splice.specs.Serves.{GoesOn, Serves}
+use Rattle.flow_splice.specs.Serves.{GoesOn, Serves, TicksOn}
 use Rattle.flow_splice.specs.Splice.{Face, Splice}
 use Rattle.flow_splice.proofs.Opened.{follows_later}
 
@@ -76,3 +76,7 @@ goes_then old mid new directly now before made same_face same_mac first second s
           b.are;
       follows = subst (λ (q : Story). Follows s new q now) (sym (append_assoc b.beats a.beats past)) b.follows;
     }
+
+-- what goes on whatever is known goes on
+pub ticks_as : (old new : Splice) (now : ℕ) (made : List Entry) → GoesOn old new false now made → TicksOn old new now made
+ticks_as old new now made goes s past before ident known on unknown h = goes s past before ident known on h

@@ -206,15 +206,15 @@ module _ (f : Splice) (now : ℕ) (tcp : Tcp) (open_yet : is_open f ≡ true) (l
         let opened_is : opened c ≡ e = ap (λ (st : Stage). if is_answering st then e else c) at in
         let near : is_past (opened c) f.down tcp ≡ false = ap (λ (y : Connection). is_past y f.down tcp) opened_is ∙ not_far at number in
         let c_is : after_segment c f.up f.down tcp now ≡ settled x =
-            ap (λ (v : Verdict). conn_by v c f.up f.down tcp now) is
-            ∙ ap (λ (p : Bool). if p then conn_heard c f.down tcp now else settled (arrived (conn_heard c f.down tcp now) f.up tcp)) near
-            ∙ ap (λ (y : Connection). settled (arrived (acknowledged y f.down tcp (window_in y tcp) (is_bare tcp) now) f.up tcp)) opened_is in
+        ap (λ (v : Verdict). conn_by v c f.up f.down tcp now) is
+        ∙ ap (λ (p : Bool). if p then conn_heard c f.down tcp now else settled (arrived (conn_heard c f.down tcp now) f.up tcp)) near
+        ∙ ap (λ (y : Connection). settled (arrived (acknowledged y f.down tcp (window_in y tcp) (is_bare tcp) now) f.up tcp)) opened_is in
         let u_is : up_after_segment c f.up f.down tcp ≡ u = ap (λ (v : Verdict). up_by v c f.up f.down tcp) is ∙ ap (λ (p : Bool). if p then f.up else u) near in
         let d_is : down_after_segment c f.up f.down tcp ≡ d = ap (λ (v : Verdict). down_by v c f.down tcp) is ∙ ap (λ (y : Connection). without (octets_acked (seen_of y.transmission f.down tcp.ack)) f.down) opened_is in
         let change_is : change_at c f.up f.down tcp now ≡ settling x =
-            ap (λ (v : Verdict). change_by v c f.up f.down tcp now) is
-            ∙ ap (λ (p : Bool). if p then Nothing else settling (arrived (conn_heard c f.down tcp now) f.up tcp)) near
-            ∙ ap (λ (y : Connection). settling (arrived (acknowledged y f.down tcp (window_in y tcp) (is_bare tcp) now) f.up tcp)) opened_is in
+        ap (λ (v : Verdict). change_by v c f.up f.down tcp now) is
+        ∙ ap (λ (p : Bool). if p then Nothing else settling (arrived (conn_heard c f.down tcp now) f.up tcp)) near
+        ∙ ap (λ (y : Connection). settling (arrived (acknowledged y f.down tcp (window_in y tcp) (is_bare tcp) now) f.up tcp)) opened_is in
         let kept = unsettled x u d (has (settled x) u d c_is u_is d_is) in
         settles x u d c_is u_is d_is change_is rst
         (opens_now s c f.up f.down past before now tcp on late o.holds at out number ack rst syn seq_fits few (subst (λ (v : Upward). Comes c.received tcp.seq tcp.body f.up v) u_is comes) (subst (λ (v : Upward). length v.held ≤ v.size) u_is within) kept.fills kept)
@@ -262,9 +262,9 @@ module _ (f : Splice) (now : ℕ) (tcp : Tcp) (open_yet : is_open f ≡ true) (l
         by true far =
             let x : Connection = acknowledged c f.down tcp (window_in c tcp) (is_bare tcp) now in
             let c_is : after_segment c f.up f.down tcp now ≡ x =
-                ap (λ (v : Verdict). conn_by v c f.up f.down tcp now) is
-                ∙ ap (λ (p : Bool). if p then conn_heard c f.down tcp now else settled (arrived (conn_heard c f.down tcp now) f.up tcp)) (past_is ∙ far)
-                ∙ ap (λ (y : Connection). acknowledged y f.down tcp (window_in y tcp) (is_bare tcp) now) opened_is in
+            ap (λ (v : Verdict). conn_by v c f.up f.down tcp now) is
+            ∙ ap (λ (p : Bool). if p then conn_heard c f.down tcp now else settled (arrived (conn_heard c f.down tcp now) f.up tcp)) (past_is ∙ far)
+            ∙ ap (λ (y : Connection). acknowledged y f.down tcp (window_in y tcp) (is_bare tcp) now) opened_is in
             let u_is : up_after_segment c f.up f.down tcp ≡ f.up = ap (λ (v : Verdict). up_by v c f.up f.down tcp) is ∙ ap (λ (p : Bool). if p then f.up else up_after c.received tcp.seq tcp.body f.up) (past_is ∙ far) in
             holds_on x f.up (without (octets_acked (seen_of c.transmission f.down tcp.ack)) f.down) c_is u_is d_is
             (heeds_none s c f.up f.down past before now tcp on late o.holds no_call late_stage sync ack rst syn far (has x f.up (without (octets_acked (seen_of c.transmission f.down tcp.ack)) f.down) c_is u_is d_is))
@@ -274,14 +274,14 @@ module _ (f : Splice) (now : ℕ) (tcp : Tcp) (open_yet : is_open f ≡ true) (l
             let x : Connection = arrived (acknowledged c f.down tcp (window_in c tcp) (is_bare tcp) now) f.up tcp in
             let u : Upward = up_after c.received tcp.seq tcp.body f.up in
             let c_is : after_segment c f.up f.down tcp now ≡ settled x =
-                ap (λ (v : Verdict). conn_by v c f.up f.down tcp now) is
-                ∙ ap (λ (p : Bool). if p then conn_heard c f.down tcp now else settled (arrived (conn_heard c f.down tcp now) f.up tcp)) (past_is ∙ near)
-                ∙ ap (λ (y : Connection). settled (arrived (acknowledged y f.down tcp (window_in y tcp) (is_bare tcp) now) f.up tcp)) opened_is in
+            ap (λ (v : Verdict). conn_by v c f.up f.down tcp now) is
+            ∙ ap (λ (p : Bool). if p then conn_heard c f.down tcp now else settled (arrived (conn_heard c f.down tcp now) f.up tcp)) (past_is ∙ near)
+            ∙ ap (λ (y : Connection). settled (arrived (acknowledged y f.down tcp (window_in y tcp) (is_bare tcp) now) f.up tcp)) opened_is in
             let u_is : up_after_segment c f.up f.down tcp ≡ u = ap (λ (v : Verdict). up_by v c f.up f.down tcp) is ∙ ap (λ (p : Bool). if p then f.up else u) (past_is ∙ near) in
             let change_is : change_at c f.up f.down tcp now ≡ settling x =
-                ap (λ (v : Verdict). change_by v c f.up f.down tcp now) is
-                ∙ ap (λ (p : Bool). if p then Nothing else settling (arrived (conn_heard c f.down tcp now) f.up tcp)) (past_is ∙ near)
-                ∙ ap (λ (y : Connection). settling (arrived (acknowledged y f.down tcp (window_in y tcp) (is_bare tcp) now) f.up tcp)) opened_is in
+            ap (λ (v : Verdict). change_by v c f.up f.down tcp now) is
+            ∙ ap (λ (p : Bool). if p then Nothing else settling (arrived (conn_heard c f.down tcp now) f.up tcp)) (past_is ∙ near)
+            ∙ ap (λ (y : Connection). settling (arrived (acknowledged y f.down tcp (window_in y tcp) (is_bare tcp) now) f.up tcp)) opened_is in
             let after_d : Downward = without (octets_acked (seen_of c.transmission f.down tcp.ack)) f.down in
             let kept = unsettled x u after_d (has (settled x) u after_d c_is u_is d_is) in
             settles x u after_d c_is u_is d_is change_is rst

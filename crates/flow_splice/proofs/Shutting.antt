@@ -14,7 +14,7 @@ use Rattle.connection_steps.specs.Over.{IsOver, IsResting, is_resets}
 use Rattle.connection_steps.proofs.Causes.{done_goes, done_rests, settled_is}
 use Rattle.flow_splice.specs.Hosts.{ends}
 use Rattle.flow_splice.specs.Follows.{Follows, FollowsAt, IsOpen}
-use Rattle.flow_splice.specs.Splice.{Splice, closed, place_after}
+use Rattle.flow_splice.specs.Splice.{Splice, closed, is_in_use, is_open, place_after}
 
 -- a connection that is over and doesn't rest
 pub over_follows : (s : Settings) (f : Splice) (past : Story) (now : ℕ) → IsOver s f.conn past now → (f.conn.stage ≡ stage.Rests → ⊥) → f.mru ≡ s.mru → (is_resets f.conn.stage ≡ true → f.mac ≡ None → ⊥)
@@ -129,3 +129,11 @@ reset_dead c = by c.stage
     by stage.Rests = refl
     by (stage.Resets seq ack) = refl
     by stage.Gone = refl
+
+-- what is closed isn't open
+pub shut_is : (f : Splice) (now : ℕ) → is_open (closed f now) ≡ true → ⊥
+shut_is f now is = by (is_in_use (place_after f.conn.stage now)) is
+  where
+    by : (b : Bool) → (b && not true) ≡ true → ⊥
+    by true is = cc
+    by false is = cc

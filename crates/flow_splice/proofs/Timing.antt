@@ -29,7 +29,7 @@ use Rattle.flow_splice.specs.Serves.{GoesOn, Serves, TicksOn}
 use Rattle.flow_splice.specs.Splice.{Splice, closed, is_open}
 use Rattle.flow_splice.specs.Wants.{connect_end, seeks}
 use Rattle.flow_splice.proofs.Opened.{open_follows, open_is, open_later}
-use Rattle.flow_splice.proofs.Shutting.{reset_dead, reset_follows}
+use Rattle.flow_splice.proofs.Shutting.{reset_dead, reset_follows, shut_is}
 
 late_test : (m n : ℕ) → m ≤ n → nat_le m n ≡ true
 late_test m n low = grind (arith, nat_tests)
@@ -70,7 +70,7 @@ module _ (f : Splice) (now : ℕ) (open_yet : is_open f ≡ true) where
       let accepted : is_accepted past ≡ true = o.holds.opened.calls two.0 in
       let silent : syn_is_out past ≡ false = o.holds.opened.out ∙ two.1 in
       let missing : IsTrue (finds_no_guest known now past) = subst (λ (b : Bool). IsTrue (finds_no_guest b now past)) (sym (unknown none))
-          (not_found past f.ask_at now (subst (λ (n : ℕ). Seeks past n f.ask_at) many.0 (o.seeks none (let is = many.0 in omega (arith, is)))) many.1 accepted silent) in
+      (not_found past f.ask_at now (subst (λ (n : ℕ). Seeks past n f.ask_at) many.0 (o.seeks none (let is = many.0 in omega (arith, is)))) many.1 accepted silent) in
       shut_by s past before ident known o
       (reset_follows s f past (At now (Closes false false known) ∷ past) before now o
       (unfound_closes s f.conn f.up f.down past before now on o.holds known missing (rw (accepted, silent) refl)))
@@ -206,3 +206,19 @@ module _ (f : Splice) (now : ℕ) (open_yet : is_open f ≡ true) where
 
     pub ticks : GoesOn f new false now made
     ticks s past before ident known on h = by_due s past before ident known on (open_is s f past before open_yet h) (is_due (conn_due f.conn) now) refl
+
+-- a connection that isn't over keeps its stage
+pub tick_stage : (c : Connection) (now : ℕ) → ends (change_at_tick c now) ≡ false → (after_tick c now).stage ≡ c.stage
+tick_stage c now is = by (is_due (conn_due c) now) (is_spent c) c.ack_owed (is_opening c.stage) is
+  where
+    by : (a b d e : Bool) → ends (if a then (if b then (if d then Nothing else Finished) else Nothing) else Nothing) ≡ false
+        → (if a then (if b then (if d then c else reset c) else (if e then record c { syn = resend_expired c.syn; syn_owed = true } else record c { transmission = transmission_expired c.transmission })) else c).stage ≡ c.stage
+    by true true true e is = refl
+    by true true false e is = absurd cc
+    by true false d true is = refl
+    by true false d false is = refl
+    by false b d e is = refl
+
+pub sees_stage : (b : Bool) (f new : Splice) (now : ℕ) (made : List Entry) → ends (change_at_tick f.conn now) ≡ b → Sees b (record f { conn = after_tick f.conn now }) new now made → is_open new ≡ true → new.conn.stage ≡ f.conn.stage
+sees_stage true f new now made is sees yet = absurd (shut_is (record f { conn = after_tick f.conn now }) now (ap is_open (sym sees.1) ∙ yet))
+sees_stage false f new now made is sees yet = ap (λ (x : Splice). x.conn.stage) sees.1 ∙ tick_stage f.conn now is

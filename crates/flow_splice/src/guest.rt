@@ -76,9 +76,7 @@ impl Spliced {
         let (_number, _acknowledgement) = (seg.seq.0, seg.ack.0);
         let held = self.up.held();
         prove!(held <= 1 << 20);
-        let change = self
-            .conn
-            .on_segment(&mut self.up, &mut self.down, now, seg);
+        let change = self.conn.on_segment(&mut self.up, &mut self.down, now, seg);
         let held = self.up.held();
         prove!(held <= 1 << 20);
         change

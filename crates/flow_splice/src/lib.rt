@@ -12,7 +12,6 @@ mod guest;
 mod host;
 mod time;
 
-
 ghost use Rattle.std.specs.Prelude.{◌≡◌, ℕ, ◌+◌, ◌-◌, ◌*◌, ◌^◌, ◌<◌, ◌≤◌, List, [], ◌∷◌, ◌++◌, length, take, drop, min, true, false, None, Some, IfOk, IsSome, Bool, ◌&&◌, not};
 ghost use Rattle.world_face.specs.Journal.{Close};
 ghost use Rattle.world_face.specs.Tells.{Answers, Makes};

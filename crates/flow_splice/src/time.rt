@@ -1,5 +1,5 @@
 // What time does to a flow.
-ghost use Rattle.std.specs.Prelude.{◌≡◌, ◌^◌, ◌≤◌, ◌&&◌, nat_eq, nat_le, true, false};
+ghost use Rattle.std.specs.Prelude.{◌≡◌, ◌^◌, ◌<◌, ◌≤◌, ◌&&◌, nat_eq, nat_le, true, false};
 ghost use Rattle.tcp_guest.specs.Connection.{HasBuffers};
 ghost use Rattle.tcp_guest.specs.Timing.{after_tick, change_at_tick};
 ghost use Rattle.world_face.specs.Tells.{Makes};
@@ -16,7 +16,7 @@ impl Spliced {
     ghost use Rattle.flow_splice.specs.Hosts.{IsAsOld};
     ghost use Rattle.flow_splice.specs.Serves.{GoesOn, TicksOn};
     ghost use Rattle.flow_splice.specs.Splice.{is_open as is_open_by};
-    ghost use Rattle.flow_splice.specs.Wants.{seeks as seeks_by};
+    ghost use Rattle.flow_splice.specs.Wants.{connect_end as connect_end_by, seeks as seeks_by};
 
     /// The moment came. A socket that didn't connect in 75,000 ms is closed; so is that of a flow whose guest wasn't found by nine requests and the waits
     /// after them, and that of one that is given up. Else what the connection's timer makes owed again is owed from now on.
@@ -26,6 +26,7 @@ impl Spliced {
         ensures same { IsAsOld self.old self.new }
         ensures up { self.new.up ≡ self.old.up }
         ensures down { self.new.down ≡ self.old.down }
+        ensures in_time { is_open_by self.new ≡ true → is_connects self.new.conn.stage ≡ true → now < connect_end_by self.new }
     {
         if !self.is_open() {
             return;
@@ -48,6 +49,7 @@ impl Spliced {
         ensures same { IsAsOld self.old self.new }
         ensures up { self.new.up ≡ self.old.up }
         ensures down { self.new.down ≡ self.old.down }
+        ensures in_time { is_open_by self.new ≡ true → now < connect_end_by self.new }
     {
         if self.connect_end() <= now {
             self.fail(world, now);
@@ -63,6 +65,7 @@ impl Spliced {
         ensures same { IsAsOld self.old self.new }
         ensures up { self.new.up ≡ self.old.up }
         ensures down { self.new.down ≡ self.old.down }
+        ensures stage { is_open_by self.new ≡ true → self.new.conn.stage ≡ self.old.conn.stage }
     {
         if self.has_asked_enough(now) {
             self.fail(world, now);
@@ -84,6 +87,7 @@ impl Spliced {
         ensures same { IsAsOld self.old self.new }
         ensures up { self.new.up ≡ self.old.up }
         ensures down { self.new.down ≡ self.old.down }
+        ensures stage { is_open_by self.new ≡ true → self.new.conn.stage ≡ self.old.conn.stage }
     {
         let change = self.tick_connection(now);
         self.see(world, now, change);

@@ -7,7 +7,7 @@ use Rattle.connection_steps.specs.Holding.{is_live}
 use Rattle.flow_splice.specs.Hosts.{Sees, ends}
 use Rattle.flow_splice.specs.Serves.{GoesOn}
 use Rattle.flow_splice.specs.Splice.{Splice}
-use Rattle.flow_splice.proofs.Timing.{tick_dead, ticks}
+use Rattle.flow_splice.proofs.Timing.{sees_stage, tick_dead, ticks}
 use Rattle.flow_splice.proofs.Spliced.expire.Goals as goal
 
 pub see-requires : goal.see-requires
@@ -26,3 +26,11 @@ returns-clause-makes g c =
     (λ made sees.
     ticks f now c.requires.open_yet (subst (λ (x : Splice). HasBuffers x.conn x.up x.down) is ticked.ensures.buffers) (ends ticked.result) (sym (ap ends ticked.ensures.change)) c.see.new.self made
     (subst (λ (x : Splice). Sees (ends ticked.result) x c.see.new.self now made) is sees))
+
+pub returns-clause-stage : goal.returns-clause-stage
+returns-clause-stage g c yet =
+    let f : Splice = c.args.self.now in
+    let now : ℕ = c.args.now in
+    let ticked = c.tick_connection-change in
+    sees_stage (ends ticked.result) f c.see.new.self now c.see.ensures.made (sym (ap ends ticked.ensures.change))
+    (subst (λ (x : Splice). Sees (ends ticked.result) x c.see.new.self now c.see.ensures.made) ticked.ensures.ticked c.see.ensures.holds) yet
