@@ -7,3 +7,6 @@ pub mod Coming
 pub mod Hearing
 pub mod Resting
 pub mod Timing
+pub mod Sending
+pub mod Going
+pub mod Lessening

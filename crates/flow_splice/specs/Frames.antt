@@ -1,14 +1,19 @@
 -- The frames of a flow.
-use Rattle.std.specs.Prelude.{ℕ, ◌+◌, List, [], ◌∷◌, Bool, false, not, if◌then◌else◌}
+use Rattle.std.specs.Prelude.{ℕ, ◌+◌, ◌≤◌, length, List, [], ◌∷◌, Bool, false, not, if◌then◌else◌}
 use Rattle.net_octets.specs.Kinds.{arp_kind, ipv4_kind, tcp_proto}
 use Rattle.net_octets.specs.Octets.{four}
 use Rattle.net_octets.specs.declared.Mac.{Mac}
 use Rattle.arp_table.specs.Arp.{Arp, arp_octets}
 use Rattle.ether_frame.specs.Ether.{ether_octets}
 use Rattle.ipv4_head.specs.Ip.{ip_octets}
-use Rattle.tcp_segment.specs.Tcp.{Tcp, tcp_octets}
+use Rattle.tcp_segment.specs.Tcp.{Tcp, mss_octets, scale_octets, tcp_octets}
+use Rattle.sock_buffers.specs.Downward.{Downward}
+use Rattle.tcp_guest.specs.declared.Head.{Head}
+use Rattle.tcp_guest.specs.declared.Owed.{Owed}
+use Rattle.tcp_guest.specs.declared.Owed.TheVariants.{Syn, SynAck, Data, Ack, Reset}
 use Rattle.flow_laws.specs.Event.{Segment}
 use Rattle.flow_laws.specs.Guest.{is_empty}
+use Rattle.connection_steps.specs.Sending.{carried, mss_in}
 use Rattle.flow_splice.specs.Splice.{Face}
 
 -- our hardware address: 52:55, and then the octets of an address of ours
@@ -54,3 +59,15 @@ request face = record { is_reply = false; sender_mac = our_mac face.vhost.0; sen
 
 abbrev pub request_frame : Face → List ℕ
 request_frame face = ether_octets everyone (our_mac face.vhost.0) arp_kind (arp_octets (request face))
+
+-- what a segment carries is held, and fits a frame
+abbrev pub IsHeld : Downward → Owed → Type 0
+IsHeld down Syn = Unit {0}
+IsHeld down SynAck = Unit {0}
+IsHeld down (Data p) = (down.first ≤ p.place) × (p.place + p.length ≤ down.first + length down.octets) × (p.length ≤ 1460)
+IsHeld down Ack = Unit {0}
+IsHeld down (Reset seq ack) = Unit {0}
+
+-- how many octets the frame has
+abbrev pub frame_length : Head → (mru : ℕ) → Downward → Owed → ℕ
+frame_length h mru down what = 54 + length (mss_octets (mss_in mru what)) + length (scale_octets h.scale) + length (carried down what)

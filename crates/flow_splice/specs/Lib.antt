@@ -6,3 +6,5 @@ pub mod Frames
 pub mod Entries
 pub mod Follows
 pub mod Serves
+pub mod Left
+pub mod Sends

@@ -35,12 +35,14 @@ pub record Splice : Type 0 where
   pub down : Downward
   pub mru : ℕ
 
--- what holds of every flow: the buffers are those of its connection, both have one size, up to a mebibyte, and the guest's address is asked for nine times at most
-pub record IsSound (c : Connection) (up : Upward) (down : Downward) (asked : ℕ) : Type 0 where
+-- what holds of every flow: the buffers are those of its connection, both have one size, up to a mebibyte, and the guest's address is asked for nine times at most; and what
+-- comes may have the two headers
+pub record IsSound (c : Connection) (up : Upward) (down : Downward) (asked mru : ℕ) : Type 0 where
   pub buffers : HasBuffers c up down
   pub size : down.size ≡ up.size
   pub room : up.size ≤ 2 ^ 20
   pub few : asked ≤ 9
+  pub segments : 40 ≤ mru
 
 -- a place is taken by a flow whose socket is open, or that owes its guest a reset
 abbrev pub is_in_use : Place → Bool

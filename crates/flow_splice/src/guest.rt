@@ -109,7 +109,7 @@ impl Spliced {
             || (seg.is_syn() && !seg.is_ack() && !seg.is_rst() && is_ahead(seg.seq, next))
     }
 
-    fn leave(&mut self)
+    pub(crate) fn leave(&mut self)
         ensures { self.new ≡ record self.old { place = Empty } }
     {
         self.place = Place::Empty;

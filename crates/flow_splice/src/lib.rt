@@ -8,8 +8,10 @@
 //! it with these (`Follows`, `Serves`). Each event was allowed by the laws of one flow, and was as it must be. Moments are in milliseconds, at most 2^62.
 #![tactic(auto)]
 
+mod frames;
 mod guest;
 mod host;
+mod pump;
 mod time;
 
 ghost use Rattle.std.specs.Prelude.{◌≡◌, ℕ, ◌+◌, ◌-◌, ◌*◌, ◌^◌, ◌<◌, ◌≤◌, List, [], ◌∷◌, ◌++◌, length, take, drop, min, true, false, None, Some, IfOk, IsSome, Bool, ◌&&◌, not};
@@ -57,6 +59,17 @@ pub enum Place {
     Resting(u64),
 }
 
+/// What a pump came to.
+#[derive(Clone, Copy, Debug, PartialEq, Eq)]
+pub enum Pumped {
+    /// All that the flow owes is out.
+    Clear,
+    /// The link takes no more for now.
+    Blocked,
+    /// The link failed.
+    Failed,
+}
+
 /// One flow, or the place for one. A contract sees a `Splice`.
 #[derive(Drop)]
 pub struct Spliced {
@@ -99,7 +112,7 @@ impl Model for Spliced {
       mru = s.mru;
     } };
 
-    ghost invariant = { λ s. IsSound s.conn s.up s.down s.asked × (s.since ≤ 2 ^ 62) × (length s.buffer.items ≡ 16384) };
+    ghost invariant = { λ s. IsSound s.conn s.up s.down s.asked s.mru × (s.since ≤ 2 ^ 62) × (length s.buffer.items ≡ 16384) };
 }
 
 impl Spliced {

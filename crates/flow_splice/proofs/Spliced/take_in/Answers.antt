@@ -21,4 +21,4 @@ invariant_of-self c =
     let size = ap (λ (u : Upward). u.size) c.on_segment-change.ensures.up ∙ up_sized i.conn i.up i.down (tcp_of c.args.seg.now) in
     let down_size = ap (λ (d : Downward). d.size) c.on_segment-change.ensures.down ∙ down_sized i.conn i.up i.down (tcp_of c.args.seg.now) in
     let room = kept.0.room in
-    (record { buffers = c.on_segment-change.ensures.buffers; size = down_size ∙ kept.0.size ∙ sym size; room = omega (arith, size, room); few = kept.0.few }, kept.1, kept.2)
+    (record { buffers = c.on_segment-change.ensures.buffers; size = down_size ∙ kept.0.size ∙ sym size; room = omega (arith, size, room); few = kept.0.few; segments = kept.0.segments }, kept.1, kept.2)
