@@ -71,13 +71,15 @@ module _ (f : Splice) (now first : ℕ) (what : Owed) (mac : Mac) (known_mac : f
     -- it wasn't taken
     untaken : IsLawful s out → IsDutiful s out → count_of answer ≡ 0 → (new : Splice) (made : List Entry) → made ≡ [] → new ≡ f
         → (serves : Serves s new false known first now past (made ++ (LinkWrite octets answer ∷ []))) × (first ≡ ident_after first serves.beats)
-    untaken lawful dutiful none new made made_is new_is =
-        (record {
-          beats = [];
-          are = subst (λ (es : List Entry). AreEvents s new.face new.mac false known first now past (es ++ (LinkWrite octets answer ∷ [])) []) (sym made_is)
-              (offers new (ap (λ (x : Splice). x.face) new_is) (ap (λ (x : Splice). x.mac) new_is) lawful dutiful [] (sym (ap (λ (n : ℕ). if nat_lt 0 n then At now (Departs seg) ∷ [] else []) none)));
-          follows = subst (λ (x : Splice). Follows s x past now) (sym new_is) (follows_later s f past before now on h);
-        }, (let same : first ≡ (first + 0) % 2 ^ 16 = omega (arith, small) in same))
+    untaken lawful dutiful none new made made_is new_is = (
+      record {
+        beats = [];
+        are = subst (λ (es : List Entry). AreEvents s new.face new.mac false known first now past (es ++ (LinkWrite octets answer ∷ [])) []) (sym made_is)
+            (offers new (ap (λ (x : Splice). x.face) new_is) (ap (λ (x : Splice). x.mac) new_is) lawful dutiful [] (sym (ap (λ (n : ℕ). if nat_lt 0 n then At now (Departs seg) ∷ [] else []) none)));
+        follows = subst (λ (x : Splice). Follows s x past now) (sym new_is) (follows_later s f past before now on h);
+      },
+      (let same : first ≡ (first + 0) % 2 ^ 16 = omega (arith, small) in same),
+    )
 
     module _ (some : nat_lt 0 (count_of answer) ≡ true) where
       taken_is : At now (Departs seg) ∷ [] ≡ went answer now (Departs seg) []
@@ -86,25 +88,31 @@ module _ (f : Splice) (now first : ℕ) (what : Owed) (mac : Mac) (known_mac : f
       -- it was, and nothing else was made
       taken : IsLawful s out → IsDutiful s out → (x new : Splice) (made : List Entry) → x.face ≡ f.face → x.mac ≡ f.mac → made ≡ [] → new ≡ x → Follows s x out now
           → (serves : Serves s new false known first now past (made ++ (LinkWrite octets answer ∷ []))) × ((first + 1) % 2 ^ 16 ≡ ident_after first serves.beats)
-      taken lawful dutiful x new made face_is mac_is made_is new_is q =
-          (record {
-            beats = At now (Departs seg) ∷ [];
-            are = subst (λ (es : List Entry). AreEvents s new.face new.mac false known first now past (es ++ (LinkWrite octets answer ∷ [])) (At now (Departs seg) ∷ [])) (sym made_is)
-                (offers new (ap (λ (y : Splice). y.face) new_is ∙ face_is) (ap (λ (y : Splice). y.mac) new_is ∙ mac_is) lawful dutiful (At now (Departs seg) ∷ []) taken_is);
-            follows = subst (λ (y : Splice). Follows s y out now) (sym new_is) q;
-          }, (let same : (first + 1) % 2 ^ 16 ≡ (first + (0 + 1)) % 2 ^ 16 = omega arith in same))
+      taken lawful dutiful x new made face_is mac_is made_is new_is q = (
+        record {
+          beats = At now (Departs seg) ∷ [];
+          are = subst (λ (es : List Entry). AreEvents s new.face new.mac false known first now past (es ++ (LinkWrite octets answer ∷ [])) (At now (Departs seg) ∷ [])) (sym made_is)
+              (offers new (ap (λ (y : Splice). y.face) new_is ∙ face_is) (ap (λ (y : Splice). y.mac) new_is ∙ mac_is) lawful dutiful (At now (Departs seg) ∷ []) taken_is);
+          follows = subst (λ (y : Splice). Follows s y out now) (sym new_is) q;
+        },
+        (let same : (first + 1) % 2 ^ 16 ≡ (first + (0 + 1)) % 2 ^ 16 = omega arith in same),
+      )
 
       -- it was, and the socket was closed then
       taken_last : IsLawful s out → IsDutiful s out → (x new : Splice) (made : List Entry) → x.face ≡ f.face → x.mac ≡ f.mac → made ≡ Close f.face.number ∷ [] → new ≡ x → Follows s x (At now (Closes false false known) ∷ out) now
           → (serves : Serves s new false known first now past (made ++ (LinkWrite octets answer ∷ []))) × ((first + 1) % 2 ^ 16 ≡ ident_after first serves.beats)
-      taken_last lawful dutiful x new made face_is mac_is made_is new_is q =
-          (record {
-            beats = At now (Closes false false known) ∷ At now (Departs seg) ∷ [];
-            are = subst (λ (es : List Entry). AreEvents s new.face new.mac false known first now past (es ++ (LinkWrite octets answer ∷ [])) (At now (Closes false false known) ∷ At now (Departs seg) ∷ [])) (sym made_is)
-                (At now (Departs seg) ∷ [], offers new (ap (λ (y : Splice). y.face) new_is ∙ face_is) (ap (λ (y : Splice). y.mac) new_is ∙ mac_is) lawful dutiful (At now (Departs seg) ∷ []) taken_is,
-                (sym (ap (λ (y : Splice). y.face.number) new_is ∙ ap (λ face. face.number) face_is), refl));
-            follows = subst (λ (y : Splice). Follows s y (At now (Closes false false known) ∷ out) now) (sym new_is) q;
-          }, (let same : (first + 1) % 2 ^ 16 ≡ (first + (0 + 1)) % 2 ^ 16 = omega arith in same))
+      taken_last lawful dutiful x new made face_is mac_is made_is new_is q = (
+        record {
+          beats = At now (Closes false false known) ∷ At now (Departs seg) ∷ [];
+          are = subst (λ (es : List Entry). AreEvents s new.face new.mac false known first now past (es ++ (LinkWrite octets answer ∷ [])) (At now (Closes false false known) ∷ At now (Departs seg) ∷ [])) (sym made_is) (
+            At now (Departs seg) ∷ [],
+            offers new (ap (λ (y : Splice). y.face) new_is ∙ face_is) (ap (λ (y : Splice). y.mac) new_is ∙ mac_is) lawful dutiful (At now (Departs seg) ∷ []) taken_is,
+            (sym (ap (λ (y : Splice). y.face.number) new_is ∙ ap (λ face. face.number) face_is), refl),
+          );
+          follows = subst (λ (y : Splice). Follows s y (At now (Closes false false known) ∷ out) now) (sym new_is) q;
+        },
+        (let same : (first + 1) % 2 ^ 16 ≡ (first + (0 + 1)) % 2 ^ 16 = omega arith in same),
+      )
 
 -- ---- by where the flow stands
 

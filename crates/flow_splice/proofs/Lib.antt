@@ -10,3 +10,5 @@ pub mod Timing
 pub mod Sending
 pub mod Going
 pub mod Lessening
+pub mod Marking
+pub mod Asking

@@ -10,8 +10,10 @@ ghost use Rattle.sock_buffers.specs.Downward.{Downward};
 ghost use Rattle.tcp_guest.specs.declared.Head.{Head as Header};
 ghost use Rattle.tcp_segment.specs.Tcp.{head_octets, mss_octets, scale_octets, tcp_length, tcp_octets, tcp_of, words_of as words_by};
 ghost use Rattle.connection_steps.specs.Sending.{carried, mss_in, with_head};
-ghost use Rattle.flow_splice.specs.Frames.{IsHeld, bit_if, flags_of, frame_length, our_mac as our_mac_by, segment_frame, tcp_out};
+ghost use Rattle.flow_splice.specs.Frames.{IsHeld, bit_if, flags_of, frame_length, our_mac as our_mac_by, request_frame, segment_frame, tcp_out};
+ghost use Rattle.net_octets.specs.declared.Endpoint.{Endpoint as AnEndpoint};
 
+use arp_table::ArpView;
 use byteorder::{BigEndian, ByteOrder};
 use ether_frame::EtherView;
 use net_octets::{Endpoint, Ip4, Mac, checksum, checksum_after, pseudo};
@@ -21,6 +23,15 @@ use tcp_segment::{ACK, FIN, PSH, RST, SYN, TcpView};
 
 /// The kind of a frame that carries IPv4 (RFC 894).
 const IPV4: u16 = 0x0800;
+
+/// The kind of a frame that carries ARP (RFC 826).
+const ARP: u16 = 0x0806;
+
+/// The hardware address of everyone.
+const EVERYONE: Mac = Mac([255; 6]);
+
+/// The hardware address of nobody.
+const NOBODY: Mac = Mac([0; 6]);
 
 /// The number of TCP in an IPv4 header.
 const TCP: u8 = 6;
@@ -185,14 +196,7 @@ fn put(head: &[u8], options: &[u8], what: &Owed, down: &Down, segment: &mut [u8]
 }
 
 /// Writes a segment into exactly as many octets as it takes. They are summed once, with 0 in the place of the sum.
-fn write_segment(
-    v: &TcpView<'_>,
-    from: Ip4,
-    to: Ip4,
-    what: &Owed,
-    down: &Down,
-    segment: &mut [u8],
-)
+fn write_segment(v: &TcpView<'_>, from: Ip4, to: Ip4, what: &Owed, down: &Down, segment: &mut [u8])
     requires held { IsHeld down.now what.now }
     requires size { tcp_length (record (tcp_of v.now) { body = carried down.now what.now }) < 2 ^ 16 }
     requires room { length segment.old ≡ tcp_length (record (tcp_of v.now) { body = carried down.now what.now }) }
@@ -307,4 +311,36 @@ pub(crate) fn write_frame(
     let size = segment_size(&v, what);
     write_at(route, &v, what, down, size, into);
     FRONT + size
+}
+
+/// Writes the frame of a request for a guest's hardware address (RFC 826) at the front of `into`, and answers its length.
+pub(crate) fn write_request(vhost: Ip4, guest: Ip4, into: &mut [u8]) -> usize
+    requires room { 1514 ≤ length into.old }
+    ensures frame { (other at : AnEndpoint) (number : ℕ) → take result into.new
+        ≡ request_frame (record { guest = record { addr = guest; port = at.port }; other = other; number = number; vhost = vhost }) }
+    ensures short { result ≤ 1514 }
+    ensures room { length into.new ≡ length into.old }
+{
+    let ours = our_mac(vhost);
+    let mut packet = [0; 28];
+    let request = ArpView {
+        reply: false,
+        sender_mac: ours,
+        sender_ip: vhost,
+        target_mac: NOBODY,
+        target_ip: guest,
+    };
+    let Ok(written) = arp_table::encode(&request, &mut packet) else {
+        unreachable!()
+    };
+    let ether = EtherView {
+        to: EVERYONE,
+        from: ours,
+        kind: ARP,
+        body: &packet[..written],
+    };
+    let Ok(length) = ether_frame::encode(&ether, into) else {
+        unreachable!()
+    };
+    length
 }

@@ -3,6 +3,7 @@ use Rattle.world_face.specs.Frames.{spelling}
 use Rattle.world_face.specs.Journal.{Entry}
 use Rattle.world_face.specs.Tells.{Makes}
 use Rattle.stream_netdev.specs.Keeps.{Keeps, Writes}
+use Rattle.tcp_guest.specs.Connection.{HasBuffers}
 use Rattle.tcp_guest.specs.Owing.{head_of, owed_of}
 use Rattle.tcp_guest.specs.declared.Owed.{Owed}
 use Rattle.tcp_guest.specs.declared.Head.{Head}
@@ -37,3 +38,6 @@ returns-clause-makes g c =
     Writes c.offer_frame.result (spelling (segment_frame (record { guest = i.guest; other = i.other; number = i.number; vhost = i.vhost }) c.args.mac c.args.ident (with_head h i.mru i.down what))) made
     × ((past : List Entry) → Keeps c.args.link.now past → Keeps c.offer_frame.new.link (made ++ past))))
     c.head-head.ensures (c.offer_frame.ensures.makes i.number))
+
+pub returns-clause-buffers : goal.returns-clause-buffers
+returns-clause-buffers g c = subst (λ (f : Splice). HasBuffers f.conn f.up f.down) c.self.view_is c.self.invariant.0.buffers
