@@ -12,3 +12,4 @@ pub mod Going
 pub mod Lessening
 pub mod Marking
 pub mod Asking
+pub mod Promises

@@ -50,6 +50,12 @@ is_in_use Empty = false
 is_in_use InUse = true
 is_in_use (Resting since) = false
 
+-- a place at which a flow rests
+abbrev pub is_at_rest : Place → Bool
+is_at_rest Empty = false
+is_at_rest InUse = false
+is_at_rest (Resting since) = true
+
 -- its socket is open
 abbrev pub is_open : Splice → Bool
 is_open f = is_in_use f.place && not f.shut

@@ -11,6 +11,7 @@
 mod frames;
 mod guest;
 mod host;
+pub mod laws;
 mod pump;
 mod time;
 
@@ -230,12 +231,16 @@ impl Spliced {
 
     /// What is waited for: that the socket has octets, where there is room for them; that it connects or takes octets or the guest's end.
     pub fn want(&self) -> Want
-        ensures { result ≡ record { of = OnTcp self.now.face.number; read = reads self.now; write = writes self.now } }
+        ensures wants { result ≡ record { of = OnTcp self.now.face.number; read = reads self.now; write = writes self.now } }
+        // It is waited for octets exactly where the law says so, and to write where it must be, and only where it may be.
+        ensures reads { (s : Settings) (past : Story) (now : ℕ) → Follows s self.now past now → waits_to_read s past ≡ result.read }
+        ensures must { (s : Settings) (past : Story) (now : ℕ) → Follows s self.now past now → must_wait_to_write past ≡ true → result.write ≡ true }
+        ensures may { (s : Settings) (past : Story) (now : ℕ) → Follows s self.now past now → result.write ≡ true → MayWaitToWrite past }
     {
         Want {
             of: Who::Tcp(self.number),
-            read: self.is_open() && self.may_read(),
-            write: self.is_open() && self.may_write(),
+            read: self.reads(),
+            write: self.writes(),
         }
     }
 
@@ -252,7 +257,7 @@ impl Spliced {
 impl Spliced {
     ghost use Rattle.flow_splice.specs.Hosts.{Sees, ends};
     ghost use Rattle.flow_splice.specs.Splice.{closed, is_open as is_open_by, place_after as place_after_by};
-    ghost use Rattle.flow_splice.specs.Wants.{connect_end as connect_end_by, may_end, may_read as may_read_by, may_write as may_write_by, owes_octets as owes_octets_by, seeks as seeks_by};
+    ghost use Rattle.flow_splice.specs.Wants.{connect_end as connect_end_by, may_end, may_read as may_read_by, may_write as may_write_by, owes_octets as owes_octets_by, reads as reads_by, seeks as seeks_by, writes as writes_by};
 
     // Whether its socket is open.
     pub(crate) fn is_open(&self) -> bool
@@ -280,6 +285,18 @@ impl Spliced {
         ensures { result ≡ connect_end_by self.now }
     {
         self.since + CONNECTS_FOR
+    }
+
+    fn reads(&self) -> bool
+        ensures { result ≡ reads_by self.now }
+    {
+        self.is_open() && self.may_read()
+    }
+
+    fn writes(&self) -> bool
+        ensures { result ≡ writes_by self.now }
+    {
+        self.is_open() && self.may_write()
     }
 
     // Whether the host may give octets, and there is room for some.
