@@ -1,11 +1,11 @@
 -- What calls on the host's socket change of a flow.
-use Rattle.std.specs.Prelude.{◌≡◌, ℕ, ◌+◌, List, [], ◌∷◌, ◌++◌, Bool, true, false}
+use Rattle.std.specs.Prelude.{◌≡◌, ℕ, ◌+◌, List, [], ◌∷◌, ◌++◌, Bool, true, false, ◌||◌}
 use Rattle.sock_buffers.specs.Downward.{Downward}
 use Rattle.tcp_guest.specs.Connection.{Connection}
 use Rattle.tcp_guest.specs.declared.Change.{Change}
 use Rattle.tcp_guest.specs.declared.Change.TheVariants.{Nothing, GuestReset, Finished, Unfit}
 use Rattle.tcp_transmit.specs.Timing.{watched_over}
-use Rattle.world_face.specs.Journal.{Entry, Close}
+use Rattle.world_face.specs.Journal.{Entry, Close, Connected, TcpRead, TcpWrite, TcpEnd}
 use Rattle.world_face.specs.declared.Io.{Io}
 use Rattle.world_face.specs.declared.Io.TheVariants.{Done, End, NotYet, Failed}
 use Rattle.flow_splice.specs.Splice.{Splice, closed}
@@ -59,3 +59,19 @@ ends Unfit = false
 abbrev pub Sees : Bool → Splice → Splice → ℕ → List Entry → Type 0
 Sees true old new now made = (made ≡ Close old.face.number ∷ []) × (new ≡ closed old now)
 Sees false old new now made = (made ≡ []) × (new ≡ old)
+
+-- a call for a socket that was reported ready for writing: whether it connected, octets, or the end; and for one that was for reading
+abbrev pub is_for_writing : Entry → Bool
+is_for_writing (Connected socket answer) = true
+is_for_writing (TcpWrite socket octets answer) = true
+is_for_writing (TcpEnd socket answer) = true
+is_for_writing _ = false
+
+abbrev pub is_for_reading : Entry → Bool
+is_for_reading (TcpRead socket asked answer octets) = true
+is_for_reading _ = false
+
+-- one of these entries is such a call
+abbrev pub some_is : (Entry → Bool) → List Entry → Bool
+some_is is [] = false
+some_is is (e ∷ made) = is e || some_is is made

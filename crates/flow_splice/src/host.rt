@@ -19,8 +19,8 @@ use world_face::{Io, Joined, Made, World};
 impl Spliced {
     ghost use Rattle.flow_splice.specs.Splice.{closed, is_open as is_open_by};
     ghost use Rattle.flow_splice.specs.Serves.{GoesOn};
-    ghost use Rattle.flow_splice.specs.Hosts.{IsAsOld};
-    ghost use Rattle.flow_splice.specs.Wants.{may_end, owes_octets as owes_octets_by};
+    ghost use Rattle.flow_splice.specs.Hosts.{IsAsOld, is_for_reading, is_for_writing, some_is};
+    ghost use Rattle.flow_splice.specs.Wants.{may_end, owes_octets as owes_octets_by, reads, writes};
 
     /// The host's socket was reported ready, for reading, for writing or for both. It is asked whether it connected, or gets octets or the guest's end;
     /// and then what it has is read, as far as there is room. Where a call fails, or both ends passed, the socket is closed.
@@ -31,6 +31,11 @@ impl Spliced {
         ensures same { IsAsOld self.old self.new }
         ensures up { self.new.up.written ≤ self.old.up.written + 16384 }
         ensures down { octets_read self.new.down ≤ octets_read self.old.down + 16384 }
+        // A direction that was reported is served.
+        ensures serves_writing { write ≡ true → writes self.old ≡ true
+            → Makes (W.tells world.old) (W.tells world.new) (λ made. some_is is_for_writing made ≡ true) }
+        ensures serves_reading { read ≡ true → write ≡ false → reads self.old ≡ true
+            → Makes (W.tells world.old) (W.tells world.new) (λ made. some_is is_for_reading made ≡ true) }
     {
         self.serve_writing(world, now, write);
         self.serve_reading(world, now, read);
@@ -43,6 +48,8 @@ impl Spliced {
         ensures same { IsAsOld self.old self.new }
         ensures up { self.new.up.written ≤ self.old.up.written + 16384 }
         ensures down { self.new.down ≡ self.old.down }
+        ensures serves { ready ≡ true → writes self.old ≡ true → Makes (W.tells world.old) (W.tells world.new) (λ made. some_is is_for_writing made ≡ true) }
+        ensures idle { ready ≡ false → (self.new ≡ self.old) × (W.tells world.new ≡ W.tells world.old) }
     {
         if !ready || !self.is_open() {
             return;
@@ -64,6 +71,7 @@ impl Spliced {
         ensures same { IsAsOld self.old self.new }
         ensures up { self.new.up ≡ self.old.up }
         ensures down { octets_read self.new.down ≤ octets_read self.old.down + 16384 }
+        ensures serves { ready ≡ true → reads self.old ≡ true → Makes (W.tells world.old) (W.tells world.new) (λ made. some_is is_for_reading made ≡ true) }
     {
         if ready && self.is_open() && self.may_read() {
             self.read(world, now);
@@ -81,6 +89,7 @@ impl Spliced {
         ensures same { IsAsOld self.old self.new }
         ensures up { self.new.up ≡ self.old.up }
         ensures down { self.new.down ≡ self.old.down }
+        ensures serves { Makes (W.tells world.old) (W.tells world.new) (λ made. some_is is_for_writing made ≡ true) }
     {
         match self.ask(world) {
             Joined::Yes => self.join(now),
@@ -136,6 +145,7 @@ impl Spliced {
         ensures same { IsAsOld self.old self.new }
         ensures up { self.new.up.written ≤ self.old.up.written + 16384 }
         ensures down { self.new.down ≡ self.old.down }
+        ensures serves { Makes (W.tells world.old) (W.tells world.new) (λ made. some_is is_for_writing made ≡ true) }
     {
         match self.offer(world) {
             Io::Failed => self.fail(world, now),
@@ -168,6 +178,7 @@ impl Spliced {
         ensures same { IsAsOld self.old self.new }
         ensures up { self.new.up ≡ self.old.up }
         ensures down { self.new.down ≡ self.old.down }
+        ensures serves { Makes (W.tells world.old) (W.tells world.new) (λ made. some_is is_for_writing made ≡ true) }
     {
         match self.offer_end(world) {
             Made::Done => {
@@ -203,7 +214,7 @@ impl Spliced {
 impl Spliced {
     ghost use Rattle.flow_splice.specs.Splice.{is_open as is_open_by};
     ghost use Rattle.flow_splice.specs.Serves.{GoesOn};
-    ghost use Rattle.flow_splice.specs.Hosts.{IsAsOld, read_by};
+    ghost use Rattle.flow_splice.specs.Hosts.{IsAsOld, is_for_reading, read_by, some_is};
     ghost use Rattle.flow_splice.specs.Wants.{may_read as may_read_by};
 
     // Reads octets, as many as there is room for, 16,384 at most.
@@ -216,6 +227,7 @@ impl Spliced {
         ensures same { IsAsOld self.old self.new }
         ensures up { self.new.up ≡ self.old.up }
         ensures down { octets_read self.new.down ≤ octets_read self.old.down + 16384 }
+        ensures serves { Makes (W.tells world.old) (W.tells world.new) (λ made. some_is is_for_reading made ≡ true) }
     {
         match self.ask_octets(world, now) {
             Io::End => self.end_reading(now),

@@ -1,4 +1,4 @@
-use Rattle.std.proofs.Common.{◌≡◌, ◌∷◌, [], ◌≤◌, ◌+◌, ℕ, length, take, min, false, refl, rules, arith, ap, subst, sym, ◌∙◌, inl, inr, ◌⊎◌}
+use Rattle.std.proofs.Common.{◌≡◌, ◌∷◌, [], ◌≤◌, ◌+◌, ℕ, length, take, min, false, refl, rules, arith, ap, subst, sym, ◌∙◌, inl, inr, ◌⊎◌, true}
 use Rattle.world_face.specs.Journal.{Close, TcpWrite, count_of}
 use Rattle.world_face.specs.Tells.{Answers}
 use Rattle.world_face.specs.declared.Io.{Io}
@@ -12,6 +12,7 @@ use Rattle.flow_splice.specs.Serves.{GoesOn}
 use Rattle.flow_splice.specs.Splice.{Splice, closed}
 use Rattle.flow_splice.proofs.Calls.{two_calls}
 use Rattle.flow_splice.proofs.Hosting.{host_takes, host_takes_none}
+use Rattle.flow_splice.specs.Hosts.{is_for_writing, some_is}
 use Rattle.flow_splice.proofs.Spliced.write.Goals as goal
 
 none_taken : (up : Upward) → without up 0 ≡ up
@@ -44,7 +45,13 @@ returns-in-Done g c =
       makes = makes_one _ _ (TcpWrite f.face.number (take (min 16384 (length f.up.held)) f.up.held) answer) (GoesOn f c.offer.new.self false now) c.offer.ensures.offers
           (λ allowed. subst (λ (x : Splice). GoesOn f x false now (TcpWrite f.face.number (take (min 16384 (length f.up.held)) f.up.held) answer ∷ [])) (sym change)
           (host_takes f now c.requires.open_yet c.requires.owes answer c.offer.ensures.few (subst (λ (x : Splice). HasBuffers x.conn x.up x.down) change c.offer.ensures.buffers) (not_failed answer c.in-Done.is)));
+      serves = makes_one _ _ (TcpWrite f.face.number (take (min 16384 (length f.up.held)) f.up.held) answer) (λ made. some_is is_for_writing made ≡ true) c.offer.ensures.offers (λ allowed. refl);
       same = rw change (record { face = refl; mac = refl; since = refl; asked = refl; ask_at = refl; up_size = refl; down_size = refl; mru = refl });
       up = let few = c.offer.ensures.few in rw change (omega (arith, few));
       down = ap (λ (x : Splice). x.down) change;
     }
+
+pub returns-in-Failed-clause-serves : goal.returns-in-Failed-clause-serves
+returns-in-Failed-clause-serves g c =
+    let f : Splice = c.args.self.now in
+    two_calls _ _ _ (TcpWrite f.face.number (take (min 16384 (length f.up.held)) f.up.held) c.offer.result) (Close c.offer.new.self.face.number) (λ made. some_is is_for_writing made ≡ true) c.offer.ensures.offers c.fail.ensures.closes (λ one two. refl)
