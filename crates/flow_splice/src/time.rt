@@ -27,6 +27,9 @@ impl Spliced {
         ensures up { self.new.up ≡ self.old.up }
         ensures down { self.new.down ≡ self.old.down }
         ensures in_time { is_open_by self.new ≡ true → is_connects self.new.conn.stage ≡ true → now < connect_end_by self.new }
+        // What the connection's timer makes owed again is owed again.
+        ensures again { is_open_by self.old ≡ true → is_connects self.old.conn.stage ≡ false → seeks_by self.old ≡ false → is_open_by self.new ≡ true
+            → self.new ≡ record self.old { conn = after_tick self.old.conn now } }
     {
         if !self.is_open() {
             return;
@@ -88,6 +91,7 @@ impl Spliced {
         ensures up { self.new.up ≡ self.old.up }
         ensures down { self.new.down ≡ self.old.down }
         ensures stage { is_open_by self.new ≡ true → self.new.conn.stage ≡ self.old.conn.stage }
+        ensures again { is_open_by self.new ≡ true → self.new ≡ record self.old { conn = after_tick self.old.conn now } }
     {
         let change = self.tick_connection(now);
         self.see(world, now, change);
