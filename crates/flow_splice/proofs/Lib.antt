@@ -13,3 +13,4 @@ pub mod Lessening
 pub mod Marking
 pub mod Asking
 pub mod Promises
+pub mod Ahead

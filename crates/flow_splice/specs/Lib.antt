@@ -8,3 +8,4 @@ pub mod Follows
 pub mod Serves
 pub mod Left
 pub mod Sends
+pub mod Ahead

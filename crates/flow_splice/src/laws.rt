@@ -1,6 +1,5 @@
 //! What follows where a flow follows its story. There is no code to run: each function is a law, and its contract is proved though its body is empty.
 ghost use Rattle.std.specs.Prelude.{◌≡◌, ℕ, ◌+◌, ◌<◌, ◌≤◌, ◌++◌, length, Bool, true, false, None, Some};
-ghost use Rattle.tcp_guest.specs.Timing.{due_of};
 ghost use Rattle.flow_laws.specs.Settings.{Settings};
 ghost use Rattle.flow_laws.specs.Event.{Story};
 ghost use Rattle.flow_laws.specs.Guest.{Honest, IsAcknowledged, front, written};
@@ -9,6 +8,7 @@ ghost use Rattle.flow_laws.specs.Close.{is_in_use as is_in_use_by_law, rests_sin
 ghost use Rattle.flow_laws.specs.Lawful.{IsLawful, IsPrefixOf};
 ghost use Rattle.flow_laws.specs.Dutiful.{IsDutiful, IsSettled, MayWait};
 ghost use Rattle.connection_steps.specs.Holding.{is_connects};
+ghost use Rattle.flow_splice.specs.Ahead.{IsAhead};
 ghost use Rattle.flow_splice.specs.Follows.{Follows};
 ghost use Rattle.flow_splice.specs.Sends.{IsClear};
 ghost use Rattle.flow_splice.specs.Splice.{Splice, is_at_rest, is_in_use, is_open};
@@ -21,12 +21,12 @@ pub fn what_a_flow_did_was_lawful()
     ensures dutiful { (s : Settings) (f : Splice) (past : Story) (now : ℕ) → Follows s f past now → IsDutiful s past }
 {}
 
-/// Where a pump cleared the flow, and its connection's timer isn't due, all holds of it that is to hold whenever the program waits, unless the link is
+/// Where a pump cleared the flow, and its connection's timer isn't due (as after a tick at this moment, by `Spliced::tick` and `pump`: `ahead`), all holds of it that is to hold whenever the program waits, unless the link is
 /// blocked: all octets, ends and resets that may go out are out, what came is acknowledged, the room is told, and what is under way goes again within a
 /// minute. The guest's hardware address isn't known where the flow doesn't have it.
 pub fn a_flow_that_is_clear_is_settled()
     ensures { (s : Settings) (f : Splice) (past : Story) (now : ℕ) (known : Bool) → Follows s f past now → IsClear f → (f.mac ≡ None → known ≡ false)
-        → ((at : ℕ) → due_of f.conn ≡ Some at → now < at) → IsSettled s past known (is_at_rest f.place) now }
+        → IsAhead f.conn now → IsSettled s past known (is_at_rest f.place) now }
 {}
 
 /// It may be waited at all, where the socket's time to connect isn't over: a flow of which both ends passed is closed.

@@ -10,6 +10,8 @@ ghost use Rattle.tcp_guest.specs.Owing.{change_gone, owed_of};
 ghost use Rattle.connection_steps.specs.Sending.{is_rst, segment_out, with_head};
 ghost use Rattle.flow_splice.specs.Sends.{pumped_of};
 ghost use Rattle.flow_splice.specs.Frames.{IsHeld, frame_length, request_frame, segment_frame};
+ghost use Rattle.flow_laws.specs.Settings.{Settings};
+ghost use Rattle.flow_laws.specs.Event.{Story};
 ghost use Rattle.flow_steps.specs.Resends.{least_wait};
 ghost use Rattle.net_octets.specs.declared.Endpoint.{Endpoint};
 
@@ -150,6 +152,8 @@ impl Spliced {
 
 // The pump.
 impl Spliced {
+    ghost use Rattle.flow_splice.specs.Ahead.{IsAhead, IsEarly};
+    ghost use Rattle.flow_splice.specs.Follows.{Follows};
     ghost use Rattle.flow_splice.specs.Hosts.{IsAsOld};
     ghost use Rattle.flow_splice.specs.Left.{left};
     ghost use Rattle.flow_splice.specs.Splice.{is_open as is_open_by};
@@ -177,6 +181,8 @@ impl Spliced {
         ensures clear { result ≡ Clear → IsClear self.new }
         ensures same { under_way link.new ≡ under_way link.old }
         ensures stays { IsPumped mac self.old self.new }
+        // Where the connection's timer wasn't due, it isn't due then.
+        ensures ahead { (s : Settings) (past : Story) (before : ℕ) → Follows s self.old past before → IsAhead self.old.conn now → IsAhead self.new.conn now }
     {
         let _first = *ident;
         self.learn(mac);
@@ -228,6 +234,7 @@ impl Spliced {
         ensures clear { result ≡ Clear → is_open_by self.new ≡ true → 0 < self.new.asked }
         ensures same { under_way link.new ≡ under_way link.old }
         ensures stays { IsPumped None self.old self.new }
+        ensures conn { self.new.conn ≡ self.old.conn }
     {
         if !self.asks_now(now) {
             return Pumped::Clear;
@@ -292,6 +299,7 @@ impl Spliced {
         ensures as_old { IsAsOld self.old self.new }
         ensures up { self.new.up ≡ self.old.up }
         ensures down { self.new.down ≡ self.old.down }
+        ensures early { IsEarly now self.old.conn → IsEarly now self.new.conn }
     {
         let _first = *ident;
         while let Some(what) = self.owed() {
@@ -328,6 +336,7 @@ impl Spliced {
         ensures as_old { IsAsOld self.old self.new }
         ensures up { self.new.up ≡ self.old.up }
         ensures down { self.new.down ≡ self.old.down }
+        ensures early { IsEarly now self.old.conn → IsEarly now self.new.conn }
     {
         let offered = self.offer_owed(world, link, what, mac, *ident);
         self.mark(world, ident, what, offered, now);

@@ -1,8 +1,11 @@
 // What time does to a flow.
-ghost use Rattle.std.specs.Prelude.{◌≡◌, ◌^◌, ◌<◌, ◌≤◌, ◌&&◌, nat_eq, nat_le, true, false};
+ghost use Rattle.std.specs.Prelude.{◌≡◌, ◌^◌, ◌<◌, ◌≤◌, ◌&&◌, ◌⊎◌, ℕ, nat_eq, nat_le, true, false};
 ghost use Rattle.tcp_guest.specs.Connection.{HasBuffers};
+ghost use Rattle.tcp_guest.specs.Hosts.{reset};
 ghost use Rattle.tcp_guest.specs.Timing.{after_tick, change_at_tick};
 ghost use Rattle.world_face.specs.Tells.{Makes};
+ghost use Rattle.flow_laws.specs.Settings.{Settings};
+ghost use Rattle.flow_laws.specs.Event.{Story};
 ghost use Rattle.connection_steps.specs.Holding.{is_connects};
 
 use crate::Spliced;
@@ -13,6 +16,8 @@ use world_face::World;
 pub(crate) const REQUESTS: u8 = 9;
 
 impl Spliced {
+    ghost use Rattle.flow_splice.specs.Ahead.{IsAhead};
+    ghost use Rattle.flow_splice.specs.Follows.{Follows};
     ghost use Rattle.flow_splice.specs.Hosts.{IsAsOld};
     ghost use Rattle.flow_splice.specs.Serves.{GoesOn, TicksOn};
     ghost use Rattle.flow_splice.specs.Splice.{is_open as is_open_by};
@@ -30,6 +35,8 @@ impl Spliced {
         // What the connection's timer makes owed again is owed again.
         ensures again { is_open_by self.old ≡ true → is_connects self.old.conn.stage ≡ false → seeks_by self.old ≡ false → is_open_by self.new ≡ true
             → self.new ≡ record self.old { conn = after_tick self.old.conn now } }
+        // The connection's timer isn't due then, unless an acknowledgement is owed.
+        ensures ahead { (s : Settings) (past : Story) (before : ℕ) → Follows s self.old past before → self.old.conn.ack_owed ≡ false → IsAhead self.new.conn now }
     {
         if !self.is_open() {
             return;
@@ -53,6 +60,7 @@ impl Spliced {
         ensures up { self.new.up ≡ self.old.up }
         ensures down { self.new.down ≡ self.old.down }
         ensures in_time { is_open_by self.new ≡ true → now < connect_end_by self.new }
+        ensures conn { (self.new.conn ≡ self.old.conn) ⊎ (self.new.conn ≡ reset self.old.conn) }
     {
         if self.connect_end() <= now {
             self.fail(world, now);
@@ -69,6 +77,7 @@ impl Spliced {
         ensures up { self.new.up ≡ self.old.up }
         ensures down { self.new.down ≡ self.old.down }
         ensures stage { is_open_by self.new ≡ true → self.new.conn.stage ≡ self.old.conn.stage }
+        ensures conn { (self.new.conn ≡ self.old.conn) ⊎ (self.new.conn ≡ reset self.old.conn) }
     {
         if self.has_asked_enough(now) {
             self.fail(world, now);
@@ -92,6 +101,7 @@ impl Spliced {
         ensures down { self.new.down ≡ self.old.down }
         ensures stage { is_open_by self.new ≡ true → self.new.conn.stage ≡ self.old.conn.stage }
         ensures again { is_open_by self.new ≡ true → self.new ≡ record self.old { conn = after_tick self.old.conn now } }
+        ensures conn { self.new.conn ≡ after_tick self.old.conn now }
     {
         let change = self.tick_connection(now);
         self.see(world, now, change);

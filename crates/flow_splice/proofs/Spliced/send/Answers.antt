@@ -20,6 +20,7 @@ use Rattle.flow_splice.specs.declared.Place.{Place}
 use Rattle.flow_splice.specs.declared.Place.TheVariants.{Empty, InUse, Resting}
 use Rattle.flow_splice.specs.declared.Pumped.{Pumped}
 use Rattle.flow_splice.specs.declared.Pumped.TheVariants.{Clear, Blocked as PumpBlocked, Failed as PumpFailed}
+use Rattle.flow_splice.proofs.Ahead.{marks_early}
 use Rattle.flow_splice.proofs.Going.{sends}
 use Rattle.flow_splice.proofs.Marking.{Stays, closes_keep, makes_allowed, marks_less, marks_stay}
 use Rattle.flow_splice.proofs.Spliced.send.Goals as goal
@@ -87,3 +88,9 @@ returns-clause-down g c =
     let offer = c.offer_owed-offered in
     (marks_stay offer.result c.args.what.now c.args.self.now c.mark.new.self c.args.now c.mark.ensures.makes.made
     (subst (λ (x : Splice). Marks offer.result c.args.what.now x c.mark.new.self c.args.now c.mark.ensures.makes.made) offer.ensures.change c.mark.ensures.makes.holds)).down
+
+pub returns-clause-early : goal.returns-clause-early
+returns-clause-early g c early =
+    let offer = c.offer_owed-offered in
+    marks_early offer.result c.args.what.now c.args.self.now c.mark.new.self c.args.now c.mark.ensures.makes.made offer.ensures.buffers
+    (subst (λ (x : Splice). Marks offer.result c.args.what.now x c.mark.new.self c.args.now c.mark.ensures.makes.made) offer.ensures.change c.mark.ensures.makes.holds) early

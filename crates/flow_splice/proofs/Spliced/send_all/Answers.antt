@@ -16,6 +16,7 @@ loop-what-init g c = record {
   up = refl;
   down = refl;
   same = refl;
+  early = λ early. early;
 }
 
 pub loop-what-preserved : goal.loop-what-preserved
@@ -35,6 +36,7 @@ loop-what-preserved g c =
       up = c.send.ensures.up ∙ kept.up;
       down = c.send.ensures.down ∙ kept.down;
       same = c.send.ensures.same ∙ kept.same;
+      early = λ early. c.send.ensures.early (kept.early early);
     }
 
 pub returns-in-Blocked-clause-makes : goal.returns-in-Blocked-clause-makes
@@ -54,3 +56,9 @@ returns-in-Failed-clause-makes g c =
     makes_then _ _ _ (SendsOn old mid c.args.link.now c.loop-what.link c.args.ident.now c.loop-what.ident c.args.now) (SendsOn mid new c.loop-what.link c.send.new.link c.loop-what.ident c.send.new.ident c.args.now)
     (SendsOn old new c.args.link.now c.send.new.link c.args.ident.now c.send.new.ident c.args.now) c.loop-what.invariant.makes c.send.ensures.makes
     (λ first second a b. sends_then old mid new c.args.link.now c.loop-what.link c.send.new.link c.args.ident.now c.loop-what.ident c.send.new.ident c.args.now first second c.send.ensures.as_old.face c.send.ensures.as_old.mac a b)
+
+pub returns-in-Blocked-clause-early : goal.returns-in-Blocked-clause-early
+returns-in-Blocked-clause-early g c early = c.send.ensures.early (c.loop-what.invariant.early early)
+
+pub returns-in-Failed-clause-early : goal.returns-in-Failed-clause-early
+returns-in-Failed-clause-early g c early = c.send.ensures.early (c.loop-what.invariant.early early)

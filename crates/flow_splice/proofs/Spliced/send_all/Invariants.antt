@@ -1,6 +1,7 @@
 use Rattle.std.proofs.Common.{◌≡◌, ◌^◌, ◌<◌, ℕ, [], false}
 use Rattle.world_face.specs.Tells.{Makes}
 use Rattle.stream_netdev.specs.State.{under_way}
+use Rattle.flow_splice.specs.Ahead.{IsEarly}
 use Rattle.flow_splice.specs.Hosts.{IsAsOld}
 use Rattle.flow_splice.specs.Left.{left}
 use Rattle.flow_splice.specs.Sends.{SendsOn}
@@ -15,6 +16,7 @@ invariant-loop-what g l = record {
   up : l.self.up ≡ l.fn.self.up;
   down : l.self.down ≡ l.fn.self.down;
   same : under_way l.link ≡ under_way l.fn.link;
+  early : IsEarly l.now l.fn.self.conn → IsEarly l.now l.self.conn;
 }
 
 abbrev pub decreases-loop-what : goal.decreases-loop-what
