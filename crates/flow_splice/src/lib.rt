@@ -371,3 +371,6 @@ impl Spliced {
         }
     }
 }
+
+#[cfg(test)]
+mod tests;
