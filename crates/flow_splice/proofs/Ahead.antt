@@ -1,7 +1,7 @@
 -- The connection's timer isn't due after a tick, nor after what goes out.
-use Rattle.std.proofs.Common.{refl, ◌≡◌, ℕ, ◌+◌, ◌<◌, ◌≤◌, Bool, true, false, not, ◌&&◌, Option, None, Some, is_some, nat_le, nat_lt, if◌then◌else◌, List, arith, ap, subst, sym, ◌∙◌, ◌⊎◌, inl, inr}
+use Rattle.std.proofs.Common.{refl, ◌≡◌, ℕ, ◌+◌, ◌<◌, Bool, true, false, not, ◌&&◌, Option, None, Some, is_some, nat_le, nat_lt, if◌then◌else◌, List, arith, ap, subst, sym, ◌∙◌, ◌⊎◌, inl, inr}
 use Rattle.std.proofs.lemmas.Bool.Decides.{nat_tests}
-use Rattle.retransmit.specs.Resending.{IsSteady, Resending, after_expired as resend_expired, after_sent as resend_sent, doublings, due_by as due_by_timer, due_of as resend_due, expired_by, is_given_up, is_off, least_wait, set_unless_running}
+use Rattle.retransmit.specs.Resending.{IsSteady, Resending, after_expired as resend_expired, after_sent as resend_sent, doublings, due_by as due_by_timer, due_of as resend_due, expired_by, is_given_up, is_off, set_unless_running}
 use Rattle.retransmit.specs.Estimate.{after_expiry}
 use Rattle.retransmit.specs.declared.Timer.{Timer}
 use Rattle.retransmit.specs.declared.Timer.TheVariants as timer
@@ -33,11 +33,10 @@ use Rattle.flow_splice.specs.Ahead.{IsAhead, IsEarly, Waits}
 use Rattle.flow_splice.specs.Follows.{Follows, FollowsAt, IsOpen}
 use Rattle.flow_splice.specs.Hosts.{Sees, ends}
 use Rattle.flow_splice.specs.Sends.{GoesOut, Marks, went_out}
-use Rattle.flow_splice.specs.Splice.{Splice, closed, is_in_use, is_open}
+use Rattle.flow_splice.specs.Splice.{Splice, is_in_use, is_open}
 use Rattle.flow_splice.specs.Wants.{seeks}
 use Rattle.flow_splice.specs.declared.Place.{Place}
 use Rattle.flow_splice.specs.declared.Place.TheVariants.{Empty, InUse, Resting}
-use Rattle.flow_splice.proofs.Opened.{open_is}
 use Rattle.flow_splice.proofs.Shutting.{reset_dead}
 
 abbrev Early : Option ℕ → ℕ → Type 0

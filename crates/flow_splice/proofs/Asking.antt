@@ -1,19 +1,18 @@
 -- The guest's hardware address: it is told, or asked for.
-use Rattle.std.proofs.Common.{refl, ◌≡◌, ℕ, zero, suc, ◌+◌, ◌<◌, ◌≤◌, ◌^◌, ◌%◌, [], ◌∷◌, ◌++◌, List, Bool, true, false, not, ◌&&◌, ◌||◌, Option, None, Some, nat_eq, nat_le, nat_lt, if◌then◌else◌, arith, ap, subst, sym, ◌∙◌, inl, inr}
+use Rattle.std.proofs.Common.{refl, ◌≡◌, ℕ, zero, suc, ◌+◌, ◌<◌, ◌≤◌, ◌^◌, ◌%◌, [], ◌∷◌, List, Bool, true, false, ◌&&◌, ◌||◌, Option, None, Some, nat_eq, nat_le, nat_lt, if◌then◌else◌, arith, ap, subst, sym, ◌∙◌, inr}
 use Rattle.std.proofs.lemmas.Bool.Decides.{nat_tests}
 use Rattle.net_octets.specs.declared.Mac.{Mac}
 use Rattle.world_face.specs.Frames.{spelling}
 use Rattle.world_face.specs.Journal.{Allowed, Entry, LinkWrite, count_of}
 use Rattle.world_face.specs.declared.Io.{Io}
 use Rattle.world_face.specs.declared.Io.TheVariants.{Done, End, NotYet, Failed as IoFailed}
-use Rattle.stream_netdev.specs.Keeps.{Keeps}
 use Rattle.stream_netdev.specs.Offers.{offered}
 use Rattle.stream_netdev.specs.State.{LinkState}
 use Rattle.stream_netdev.specs.declared.Offered.{Offered}
-use Rattle.stream_netdev.specs.declared.Offered.TheVariants.{Taken, Blocked, Failed}
+use Rattle.stream_netdev.specs.declared.Offered.TheVariants.{Taken}
 use Rattle.flow_laws.specs.Settings.{Settings}
 use Rattle.flow_laws.specs.Event.{Accepts, AsksAddress, At, Connects, IsStory, Story, newest_moment}
-use Rattle.flow_laws.specs.Flow.{is_accepted, is_closed, opened_at, syn_is_out}
+use Rattle.flow_laws.specs.Flow.{opened_at}
 use Rattle.flow_steps.specs.Resends.{Seeks, least_wait}
 use Rattle.flow_steps.proofs.InTime.{asks_again, asks_first}
 use Rattle.connection_steps.proofs.Asking.{asks_address}

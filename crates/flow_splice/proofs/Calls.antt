@@ -1,5 +1,5 @@
 -- Two calls, and calls after one.
-use Rattle.std.proofs.Common.{refl, ◌≡◌, List, [], ◌∷◌, ◌++◌, ap, subst, sym, ◌∙◌}
+use Rattle.std.proofs.Common.{refl, ◌≡◌, List, [], ◌∷◌, ◌++◌, subst, sym}
 use Rattle.world_face.specs.Journal.{Allowed, Entry}
 use Rattle.world_face.specs.Tells.{Answers, Makes, Telling}
 use Rattle.world_face.proofs.Telling.{makes_next, makes_one, makes_then}

@@ -1,30 +1,21 @@
 -- A segment of the guest arrives at a flow whose socket is open.
-use Rattle.std.proofs.Common.{refl, ◌≡◌, ℕ, ◌+◌, ◌<◌, ◌≤◌, ◌^◌, [], ◌∷◌, ◌++◌, List, length, drop, Bool, true, false, not, ◌&&◌, ◌||◌, None, Some, if◌then◌else◌, ℤ, pos, arith, ap, subst, sym, ◌∙◌, inl, inr, ◌⊎◌}
-use Rattle.seq_space.specs.Places.{number_of}
+use Rattle.std.proofs.Common.{refl, ◌≡◌, ℕ, List, Bool, true, false, if◌then◌else◌, ap, ◌∙◌}
 use Rattle.sock_buffers.specs.Downward.{Downward}
 use Rattle.sock_buffers.specs.Upward.{Upward}
-use Rattle.tcp_receive.specs.Coming.{Comes}
-use Rattle.tcp_receive.specs.Received.{next_number, up_after}
+use Rattle.tcp_receive.specs.Received.{up_after}
 use Rattle.tcp_segment.specs.Tcp.{Tcp}
 use Rattle.tcp_transmit.specs.Acks.{octets_acked, without}
-use Rattle.tcp_transmit.specs.Transmission.{Feeds, Transmission}
-use Rattle.tcp_transmit.specs.declared.AckSeen.{AckSeen}
-use Rattle.tcp_transmit.specs.declared.AckSeen.TheVariants.{Old, Same, Forward, FinToo, TooFar}
 use Rattle.tcp_guest.specs.Checks.{is_ack, verdict_of}
-use Rattle.tcp_guest.specs.Connection.{Connection, HasBuffers, has_gone, is_answering, is_opening, is_synchronized}
-use Rattle.tcp_guest.specs.Segments.{acknowledged, after_segment, arrived, change_at, change_by, change_heeding, conn_by, congested, down_after_segment, down_by, down_heeding, established, greeted, heard as conn_heard, heeded, is_bare, is_done, is_past, is_too_far, opened, seen_of, settled, settling, up_after_segment, up_by, up_heeding, welcomed}
-use Rattle.tcp_guest.specs.Windows.{window_in}
-use Rattle.tcp_guest.specs.declared.Change.{Change}
-use Rattle.tcp_guest.specs.declared.Change.TheVariants.{Nothing, GuestReset, Finished, Unfit}
-use Rattle.tcp_guest.specs.declared.Stage.{Stage}
-use Rattle.tcp_guest.specs.declared.Stage.TheVariants as stage
+use Rattle.tcp_guest.specs.Connection.{Connection}
+use Rattle.tcp_guest.specs.Segments.{after_segment, arrived, change_at, change_by, conn_by, down_after_segment, down_by, established, greeted, heard as conn_heard, is_past, opened, seen_of, settled, settling, up_after_segment, up_by}
+use Rattle.tcp_guest.specs.declared.Change.TheVariants.{Nothing}
 use Rattle.tcp_guest.specs.declared.Verdict.{Verdict}
 use Rattle.tcp_guest.specs.declared.Verdict.TheVariants.{Ignored, Resets, Unacceptable, Repeats, Challenged, Greets, Heeded}
 use Rattle.connection_steps.specs.Holding.{is_live}
 use Rattle.connection_steps.proofs.Coming.{sized}
 use Rattle.flow_splice.specs.Guests.{heard}
 use Rattle.flow_splice.specs.Hosts.{IsAsOld, Sees, ends}
-use Rattle.flow_splice.specs.Splice.{Splice, closed}
+use Rattle.flow_splice.specs.Splice.{Splice}
 use Rattle.flow_splice.proofs.Shutting.{settled_over}
 use Rattle.world_face.specs.Journal.{Entry}
 

@@ -1,5 +1,5 @@
 -- Entries as events, one after another.
-use Rattle.std.proofs.Common.{refl, ◌≡◌, ℕ, ◌+◌, ◌≤◌, List, [], ◌∷◌, ◌++◌, Bool, Option, true, false, nat_lt, if◌then◌else◌, append_assoc, arith, ap, subst, sym, ◌∙◌, inl, inr}
+use Rattle.std.proofs.Common.{refl, ◌≡◌, ℕ, ◌+◌, List, [], ◌∷◌, ◌++◌, Bool, Option, true, false, nat_lt, if◌then◌else◌, append_assoc, arith, ap, subst, sym, ◌∙◌, inl, inr}
 use Rattle.net_octets.specs.declared.Mac.{Mac}
 use Rattle.world_face.specs.Journal.{Entry, LinkWrite, Connected, TcpRead, TcpWrite, TcpEnd, Close, count_of}
 use Rattle.world_face.specs.declared.Io.{Io}
@@ -8,7 +8,7 @@ use Rattle.flow_laws.specs.Event.{Segment, Event, Departs, AsksAddress, At, Stor
 use Rattle.flow_laws.specs.Dutiful.{read_size}
 use Rattle.flow_splice.specs.Entries.{Adds, AreEvents, OffersRequest, OffersSegment, datagrams, ident_after, went}
 use Rattle.flow_splice.specs.Follows.{Follows}
-use Rattle.flow_splice.specs.Serves.{GoesOn, Serves, TicksOn}
+use Rattle.flow_splice.specs.Serves.{GoesOn, TicksOn}
 use Rattle.flow_splice.specs.Splice.{Face, Splice}
 use Rattle.flow_splice.proofs.Opened.{follows_later}
 

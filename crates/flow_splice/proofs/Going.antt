@@ -1,5 +1,5 @@
 -- A segment is offered to the link: the flow's story goes on where something of it was taken.
-use Rattle.std.proofs.Common.{refl, ◌≡◌, ℕ, ◌+◌, ◌<◌, ◌≤◌, ◌^◌, ◌%◌, [], ◌∷◌, ◌++◌, List, Bool, true, false, not, ◌&&◌, ◌||◌, Option, None, Some, if◌then◌else◌, nat_lt, arith, ap, subst, sym, ◌∙◌, inl, inr, ◌⊎◌}
+use Rattle.std.proofs.Common.{refl, ◌≡◌, ℕ, ◌+◌, ◌<◌, ◌≤◌, ◌^◌, ◌%◌, [], ◌∷◌, ◌++◌, List, Bool, true, false, not, ◌&&◌, ◌||◌, Option, None, Some, if◌then◌else◌, nat_lt, arith, ap, subst, sym, ◌∙◌, inl}
 use Rattle.std.proofs.lemmas.Bool.Decides.{nat_tests}
 use Rattle.net_octets.specs.declared.Mac.{Mac}
 use Rattle.seq_space.specs.declared.Seq.{Seq}
@@ -11,8 +11,8 @@ use Rattle.stream_netdev.specs.Offers.{offered}
 use Rattle.stream_netdev.specs.declared.Offered.{Offered}
 use Rattle.stream_netdev.specs.declared.Offered.TheVariants.{Taken, Blocked, Failed}
 use Rattle.tcp_guest.specs.Connection.{Connection, HasBuffers, is_synchronized}
-use Rattle.tcp_guest.specs.Owing.{ack_if, after_gone, change_gone, gone, owed_by, owed_of, piece_or_ack, told}
-use Rattle.tcp_guest.specs.Segments.{is_done, settled, settling}
+use Rattle.tcp_guest.specs.Owing.{ack_if, gone, owed_by, owed_of, piece_or_ack, told}
+use Rattle.tcp_guest.specs.Segments.{is_done, settling}
 use Rattle.tcp_guest.specs.Windows.{is_update_owed, our_shift}
 use Rattle.tcp_transmit.specs.Pieces.{piece_owed}
 use Rattle.tcp_transmit.specs.declared.Piece.{Piece}
@@ -33,7 +33,7 @@ use Rattle.connection_steps.specs.Sending.{is_rst, segment_out}
 use Rattle.connection_steps.proofs.Departing.{departs}
 use Rattle.connection_steps.proofs.Owing.{reset_goes}
 use Rattle.connection_steps.proofs.Resting.{ack_goes}
-use Rattle.flow_splice.specs.Entries.{AreEvents, OffersSegment, ident_after, went}
+use Rattle.flow_splice.specs.Entries.{AreEvents, ident_after, went}
 use Rattle.flow_splice.specs.Follows.{Follows, FollowsAt, IsAtRest, IsOpen, IsOwing}
 use Rattle.flow_splice.specs.Frames.{segment_frame}
 use Rattle.flow_splice.specs.Hosts.{Sees, ends}
@@ -43,7 +43,7 @@ use Rattle.flow_splice.specs.Splice.{Splice, closed, is_in_use, is_open}
 use Rattle.flow_splice.specs.declared.Place.{Place}
 use Rattle.flow_splice.specs.declared.Place.TheVariants.{Empty, InUse, Resting}
 use Rattle.flow_splice.proofs.Opened.{follows_later, goes_on, open_follows}
-use Rattle.flow_splice.proofs.Sending.{goes_has, went_has}
+use Rattle.flow_splice.proofs.Sending.{went_has}
 use Rattle.flow_splice.proofs.Shutting.{done_follows, settled_same}
 
 -- what is offered, and taken or not

@@ -1,11 +1,11 @@
 -- A segment of the guest arrives, by what it means.
-use Rattle.std.proofs.Common.{refl, ◌≡◌, ℕ, ◌+◌, ◌<◌, ◌≤◌, ◌^◌, [], ◌∷◌, ◌++◌, List, length, drop, Bool, true, false, not, ◌&&◌, ◌||◌, None, Some, if◌then◌else◌, ℤ, pos, arith, ap, subst, sym, ◌∙◌, inl, inr, ◌⊎◌}
+use Rattle.std.proofs.Common.{refl, ◌≡◌, ℕ, ◌<◌, ◌≤◌, ◌^◌, [], ◌∷◌, List, length, Bool, true, false, ◌&&◌, ◌||◌, None, Some, if◌then◌else◌, pos, arith, ap, subst, sym, ◌∙◌}
 use Rattle.std.proofs.lemmas.Int.{ints}
 use Rattle.seq_space.specs.Places.{number_of}
 use Rattle.sock_buffers.specs.Downward.{Downward}
 use Rattle.sock_buffers.specs.Upward.{Upward}
 use Rattle.tcp_receive.specs.Coming.{Comes}
-use Rattle.tcp_receive.specs.Received.{next_number, up_after}
+use Rattle.tcp_receive.specs.Received.{up_after}
 use Rattle.tcp_segment.specs.Tcp.{Tcp}
 use Rattle.tcp_transmit.specs.Acks.{IsSeenAs, octets_acked, place_acked, without}
 use Rattle.tcp_transmit.specs.Transmission.{Feeds, Transmission}
@@ -13,25 +13,23 @@ use Rattle.tcp_transmit.specs.declared.AckSeen.{AckSeen}
 use Rattle.tcp_transmit.specs.declared.AckSeen.TheVariants.{Old, Same, Forward, FinToo, TooFar}
 use Rattle.tcp_guest.specs.Checks.{is_ack, verdict_of}
 use Rattle.tcp_guest.specs.Connection.{Connection, HasBuffers, has_gone, is_answering, is_opening, is_synchronized}
-use Rattle.tcp_guest.specs.Segments.{acknowledged, after_segment, arrived, change_at, change_by, conn_by, congested, down_after_segment, down_by, established, greeted, heard as conn_heard, is_bare, is_fin_too, is_done, is_past, is_too_far, opened, seen_of, settled, settling, up_after_segment, up_by, welcomed}
+use Rattle.tcp_guest.specs.Segments.{acknowledged, after_segment, arrived, change_at, change_by, conn_by, congested, down_after_segment, down_by, established, greeted, heard as conn_heard, is_bare, is_fin_too, is_done, is_past, is_too_far, opened, seen_of, settled, settling, up_after_segment, up_by}
 use Rattle.tcp_guest.specs.Windows.{window_in}
-use Rattle.tcp_guest.specs.declared.Change.{Change}
-use Rattle.tcp_guest.specs.declared.Change.TheVariants.{Nothing, GuestReset, Finished, Unfit}
+use Rattle.tcp_guest.specs.declared.Change.TheVariants.{Nothing, Finished}
 use Rattle.tcp_guest.specs.declared.Stage.{Stage}
 use Rattle.tcp_guest.specs.declared.Stage.TheVariants as stage
 use Rattle.tcp_guest.specs.declared.Verdict.{Verdict}
-use Rattle.tcp_guest.specs.declared.Verdict.TheVariants.{Ignored, Resets, Unacceptable, Repeats, Challenged, Greets, Heeded}
+use Rattle.tcp_guest.specs.declared.Verdict.TheVariants.{Resets, Greets, Heeded}
 use Rattle.world_face.specs.Journal.{Close, Entry}
 use Rattle.flow_laws.specs.Settings.{Settings}
 use Rattle.flow_laws.specs.Event.{Arrives, At, Closes, Segment, Story}
 use Rattle.flow_laws.specs.Flow.{greets, host}
-use Rattle.flow_laws.specs.Host.{our_first, our_place, sent}
+use Rattle.flow_laws.specs.Host.{our_place}
 use Rattle.flow_steps.specs.Sends.{Keeps}
 use Rattle.flow_steps.proofs.SendSteps.{place_of_number}
-use Rattle.connection_steps.specs.Holding.{Holds, is_calls, is_live}
-use Rattle.connection_steps.specs.Over.{is_resets}
+use Rattle.connection_steps.specs.Holding.{Holds, is_calls}
 use Rattle.connection_steps.specs.Seen.{outward_of, segment_of}
-use Rattle.connection_steps.proofs.Arriving.{Means, Quiet, is_greeted, is_heard, is_opened, means, resets, rests, rests_holds, turns_away, waits}
+use Rattle.connection_steps.proofs.Arriving.{Means, is_greeted, is_heard, is_opened, means, resets, rests, rests_holds, turns_away, waits}
 use Rattle.connection_steps.proofs.Causes.{called_reset_closes, next_reset_closes}
 use Rattle.connection_steps.proofs.Confirming.{place_same}
 use Rattle.connection_steps.proofs.Departing.{unsettled}

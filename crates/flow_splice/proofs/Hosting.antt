@@ -1,14 +1,12 @@
 -- The calls on the host's socket, one by one.
-use Rattle.std.proofs.Common.{refl, ◌≡◌, ℕ, ◌+◌, ◌-◌, ◌<◌, ◌≤◌, ◌^◌, List, [], ◌∷◌, ◌++◌, length, take, drop, min, Bool, true, false, not, ◌&&◌, ◌||◌, nat_lt, None, if◌then◌else◌, append_assoc, length-append, arith, ap, subst, sym, ◌∙◌}
+use Rattle.std.proofs.Common.{refl, ◌≡◌, ℕ, ◌-◌, ◌<◌, ◌≤◌, List, [], ◌∷◌, ◌++◌, length, take, min, Bool, true, false, not, ◌&&◌, nat_lt, if◌then◌else◌, length-append, arith, ap, subst, sym, ◌∙◌}
 use Rattle.std.proofs.lemmas.Bool.Decides.{nat_tests}
-use Rattle.sock_buffers.specs.Downward.{Downward}
-use Rattle.sock_buffers.specs.Upward.{Upward}
 use Rattle.world_face.specs.Journal.{Entry, Connected, TcpRead, TcpWrite, TcpEnd, Close, count_of}
 use Rattle.world_face.specs.declared.Io.{Io}
 use Rattle.world_face.specs.declared.Io.TheVariants.{Done, End, NotYet, Failed}
 use Rattle.world_face.specs.declared.Joined.TheVariants.{Yes, NotYet as NotJoined, Failed as JoinFailed}
 use Rattle.world_face.specs.declared.Made.TheVariants.{Done as MadeDone, Failed as MadeFailed}
-use Rattle.tcp_guest.specs.Connection.{Connection, HasBuffers, has_gone, is_opening, is_synchronized}
+use Rattle.tcp_guest.specs.Connection.{Connection, HasBuffers, is_opening, is_synchronized}
 use Rattle.tcp_guest.specs.Hosts.{connected_by, host_ended, is_open as is_host_open, reset, write_ended}
 use Rattle.tcp_guest.specs.Segments.{is_done, settled, settling}
 use Rattle.tcp_guest.specs.declared.Change.TheVariants.{Nothing, Finished}
@@ -16,19 +14,18 @@ use Rattle.tcp_guest.specs.declared.Stage.{Stage}
 use Rattle.tcp_guest.specs.declared.Stage.TheVariants as stage
 use Rattle.tcp_transmit.specs.Timing.{watched}
 use Rattle.flow_laws.specs.Settings.{Settings}
-use Rattle.flow_laws.specs.Event.{At, Closes, Connected as HostConnected, ConnectsYet, ConnectFails, Writes, WriteFails, Reads, ReadsEnd, ReadFails, EndsHost, EndFails, Event, Opens, Story}
+use Rattle.flow_laws.specs.Event.{At, Closes, Connected as HostConnected, ConnectsYet, ConnectFails, Writes, WriteFails, Reads, ReadsEnd, ReadFails, EndsHost, EndFails, Story}
 use Rattle.flow_laws.specs.Dutiful.{read_size}
-use Rattle.connection_steps.specs.Holding.{Holds, is_calls, is_connects, is_live, without}
-use Rattle.connection_steps.specs.Over.{IsOver}
+use Rattle.connection_steps.specs.Holding.{Holds, is_calls, is_connects, without}
 use Rattle.connection_steps.proofs.Asking.{connects_now, connects_yet}
-use Rattle.connection_steps.proofs.Causes.{done_goes, done_rests, end_fails_closes, read_fails_closes, refused_closes, settled_is, write_fails_closes}
+use Rattle.connection_steps.proofs.Causes.{end_fails_closes, read_fails_closes, refused_closes, write_fails_closes}
 use Rattle.connection_steps.proofs.Departing.{unsettled}
 use Rattle.connection_steps.proofs.Reading.{reads, reads_end, unsent_end}
 use Rattle.connection_steps.proofs.Wanting.{asks_for_all_room}
 use Rattle.connection_steps.proofs.Writing.{ends_host, writes}
 use Rattle.flow_splice.specs.Follows.{Follows, IsOpen}
 use Rattle.flow_splice.specs.Hosts.{Sees, ends as ends_by, given, gives_octets}
-use Rattle.flow_splice.specs.Serves.{GoesOn, Serves}
+use Rattle.flow_splice.specs.Serves.{GoesOn}
 use Rattle.flow_splice.specs.Splice.{Splice, closed, is_open}
 use Rattle.flow_splice.specs.Wants.{may_end, may_read, owes_octets}
 use Rattle.flow_splice.proofs.Opened.{goes_on, open_follows, open_is}

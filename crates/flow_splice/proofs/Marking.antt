@@ -1,5 +1,5 @@
 -- What an offer changes, and offers one after another.
-use Rattle.std.proofs.Common.{refl, ◌≡◌, ℕ, ◌+◌, ◌<◌, ◌≤◌, ◌^◌, ◌%◌, [], ◌∷◌, ◌++◌, List, Bool, true, false, Option, None, Some, if◌then◌else◌, append_assoc, arith, ap, subst, sym, ◌∙◌, inl, inr, ◌⊎◌}
+use Rattle.std.proofs.Common.{refl, ◌≡◌, ℕ, ◌+◌, ◌<◌, ◌^◌, ◌%◌, [], ◌∷◌, ◌++◌, List, Bool, true, false, Option, Some, append_assoc, arith, ap, subst, sym, ◌∙◌, inl, inr, ◌⊎◌}
 use Rattle.net_octets.specs.declared.Mac.{Mac}
 use Rattle.sock_buffers.specs.Downward.{Downward}
 use Rattle.sock_buffers.specs.Upward.{Upward}
@@ -12,7 +12,6 @@ use Rattle.stream_netdev.specs.declared.Offered.TheVariants.{Taken, Blocked, Fai
 use Rattle.tcp_guest.specs.Connection.{Connection, HasBuffers}
 use Rattle.tcp_guest.specs.Owing.{after_gone, change_gone, owed_of}
 use Rattle.tcp_guest.specs.declared.Owed.{Owed}
-use Rattle.flow_laws.specs.Settings.{Settings}
 use Rattle.flow_laws.specs.Event.{Story}
 use Rattle.connection_steps.specs.Sending.{is_rst}
 use Rattle.flow_splice.specs.Entries.{AreEvents, ident_after}

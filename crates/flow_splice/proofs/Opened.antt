@@ -1,5 +1,5 @@
 -- A flow whose socket is open goes on to follow its story.
-use Rattle.std.proofs.Common.{refl, ◌≡◌, ℕ, ◌<◌, ◌≤◌, ◌∷◌, Bool, true, false, not, ◌&&◌, None, arith, sym, ◌∙◌}
+use Rattle.std.proofs.Common.{refl, ◌≡◌, ℕ, ◌≤◌, ◌∷◌, Bool, true, false, not, ◌&&◌, None, arith, ◌∙◌}
 use Rattle.sock_buffers.specs.Downward.{Downward}
 use Rattle.sock_buffers.specs.Upward.{Upward}
 use Rattle.tcp_guest.specs.Connection.{Connection, has_gone}
@@ -12,7 +12,7 @@ use Rattle.connection_steps.specs.Holding.{Holds, is_calls}
 use Rattle.connection_steps.specs.Over.{IsOver, IsResting, Runs}
 use Rattle.connection_steps.proofs.Quiet.{holds_later}
 use Rattle.connection_steps.proofs.Seeking.{seeks_on}
-use Rattle.flow_splice.specs.Follows.{Follows, FollowsAt, IsAtRest, IsFree, IsOpen, IsOwing}
+use Rattle.flow_splice.specs.Follows.{Follows, FollowsAt, IsOpen}
 use Rattle.flow_splice.specs.Splice.{Splice, is_in_use, is_open}
 use Rattle.flow_splice.specs.declared.Place.{Place}
 use Rattle.flow_splice.specs.declared.Place.TheVariants.{Empty, InUse, Resting}

@@ -1,43 +1,39 @@
 -- What follows where a flow follows its story.
-use Rattle.std.proofs.Common.{refl, ◌≡◌, ℕ, ◌+◌, ◌-◌, ◌<◌, ◌≤◌, [], ◌∷◌, ◌++◌, List, length, Bool, true, false, not, ◌&&◌, ◌||◌, Option, None, Some, nat_lt, IsTrue, if◌then◌else◌, arith, ap, subst, sym, ◌∙◌, inl, inr, ◌⊎◌}
+use Rattle.std.proofs.Common.{refl, ◌≡◌, ℕ, ◌+◌, ◌-◌, ◌<◌, ◌≤◌, [], ◌++◌, List, length, Bool, true, false, not, ◌&&◌, ◌||◌, Option, None, Some, nat_lt, IsTrue, if◌then◌else◌, arith, ap, subst, sym, ◌∙◌, inl, inr, ◌⊎◌}
 use Rattle.std.proofs.lemmas.Bool.Decides.{nat_tests}
 use Rattle.net_octets.specs.declared.Mac.{Mac}
 use Rattle.retransmit.specs.Resending.{due_by as due_by_timer, is_off}
 use Rattle.retransmit.specs.declared.Timer.{Timer}
 use Rattle.retransmit.specs.declared.Timer.TheVariants as timer
-use Rattle.sock_buffers.specs.Downward.{Downward}
-use Rattle.sock_buffers.specs.Upward.{Upward}
 use Rattle.tcp_guest.specs.Connection.{Connection, has_gone, is_opening, is_synchronized}
 use Rattle.tcp_guest.specs.Hosts.{is_open as is_host_open}
 use Rattle.tcp_guest.specs.Owing.{ack_if, owed_by, owed_of}
-use Rattle.tcp_guest.specs.Segments.{is_done}
 use Rattle.tcp_guest.specs.Timing.{due_by, due_of}
 use Rattle.tcp_guest.specs.declared.Owed.{Owed}
-use Rattle.tcp_guest.specs.declared.Owed.TheVariants.{Syn, SynAck, Data, Ack, Reset}
+use Rattle.tcp_guest.specs.declared.Owed.TheVariants.{Syn, SynAck}
 use Rattle.tcp_guest.specs.declared.Stage.{Stage}
 use Rattle.tcp_guest.specs.declared.Stage.TheVariants as stage
 use Rattle.flow_laws.specs.Settings.{Settings}
 use Rattle.flow_laws.specs.Event.{Story}
 use Rattle.flow_laws.specs.Guest.{Honest, IsAcknowledged, Up, ackd, front, has_ended, written}
 use Rattle.flow_laws.specs.Host.{answered, got, got_end, acked}
-use Rattle.flow_laws.specs.Flow.{guest, has_connected, host, is_accepted, is_closed, is_connecting, is_under_way, opened_at, syn_is_out}
-use Rattle.flow_laws.specs.Close.{host_was_ended, is_done as is_done_by_law, is_in_use as is_in_use_by_law, our_fin_is_acked, fin_was_acknowledged, owes_reset, rests_since, times_asked}
+use Rattle.flow_laws.specs.Flow.{guest, has_connected, host, is_accepted, is_closed, is_connecting, is_under_way, opened_at}
+use Rattle.flow_laws.specs.Close.{host_was_ended, is_in_use as is_in_use_by_law, our_fin_is_acked, fin_was_acknowledged, owes_reset, rests_since}
 use Rattle.flow_laws.specs.Lawful.{IsLawful, IsPrefixOf}
 use Rattle.flow_laws.specs.Dutiful.{AreAhead, IsDutiful, IsSettled, MayWait, MayWaitToWrite, fin_is_answered, moment_if, must_wait_to_write, waits_since, waits_to_read}
 use Rattle.flow_steps.proofs.Wanting.{acknowledged_few, begins_front}
 use Rattle.connection_steps.specs.Holding.{Holds, is_calls, is_connects, is_live}
-use Rattle.connection_steps.specs.Over.{IsOver, is_resets}
+use Rattle.connection_steps.specs.Over.{is_resets}
 use Rattle.connection_steps.specs.Seen.{part_of}
 use Rattle.connection_steps.proofs.Seeking.{seeking_settled}
-use Rattle.connection_steps.proofs.Settling.{open_owes_none, opening_settled, synchronized_settled}
+use Rattle.connection_steps.proofs.Settling.{opening_settled, synchronized_settled}
 use Rattle.connection_steps.proofs.Wanting.{may_wait, may_write as may_write_by, must_write, reads_where_room}
-use Rattle.flow_splice.specs.Follows.{Follows, FollowsAt, IsAtRest, IsFree, IsOpen, IsOwing}
+use Rattle.flow_splice.specs.Follows.{Follows, FollowsAt, IsOpen}
 use Rattle.flow_splice.specs.Sends.{IsClear, IsClearBy, takes_part_at}
 use Rattle.flow_splice.specs.Splice.{Splice, is_at_rest, is_in_use, is_open}
-use Rattle.flow_splice.specs.Wants.{connect_end, may_end, may_read, may_write, owes_octets, reads, writes}
+use Rattle.flow_splice.specs.Wants.{connect_end, may_read, may_write, reads, writes}
 use Rattle.flow_splice.specs.declared.Place.{Place}
 use Rattle.flow_splice.specs.declared.Place.TheVariants.{Empty, InUse, Resting}
-use Rattle.flow_splice.proofs.Opened.{open_is}
 
 -- ---- what was done
 

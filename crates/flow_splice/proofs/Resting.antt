@@ -1,5 +1,5 @@
 -- A segment of the guest arrives at a flow whose socket was closed.
-use Rattle.std.proofs.Common.{refl, ◌≡◌, ℕ, ◌≤◌, [], ◌∷◌, List, Bool, true, false, not, ◌&&◌, ◌||◌, Option, None, Some, if◌then◌else◌, nat_eq, arith, ap, subst, sym, ◌∙◌}
+use Rattle.std.proofs.Common.{refl, ◌≡◌, ℕ, ◌≤◌, [], ◌∷◌, Bool, true, false, not, ◌&&◌, ◌||◌, Option, None, Some, if◌then◌else◌, nat_eq, arith, ap, subst, sym, ◌∙◌}
 use Rattle.std.specs.Option.{option_or, option_map, unwrap_or}
 use Rattle.seq_space.specs.Places.{number_of}
 use Rattle.sock_buffers.specs.Downward.{Downward}
@@ -8,7 +8,6 @@ use Rattle.tcp_segment.specs.Tcp.{Tcp}
 use Rattle.tcp_receive.specs.Received.{next_number}
 use Rattle.tcp_guest.specs.Connection.{Connection}
 use Rattle.tcp_guest.specs.Segments.{after_segment, down_after_segment, up_after_segment}
-use Rattle.tcp_guest.specs.declared.Stage.{Stage}
 use Rattle.flow_laws.specs.Settings.{Settings}
 use Rattle.flow_laws.specs.Event.{Arrives, At, Segment, Story}
 use Rattle.flow_laws.specs.Flow.{confirms, greets, host, is_accepted, is_ahead, is_closed, our_number, push, syn_is_out, their_number, their_syn}
@@ -19,7 +18,7 @@ use Rattle.flow_laws.specs.Close.{ends_rest as ends_rest_of, is_owed_reset}
 use Rattle.flow_laws.specs.Flow.{next_number as number_after}
 use Rattle.flow_laws.specs.Dutiful.{MustClose}
 use Rattle.flow_steps.proofs.Rests.{rest_next}
-use Rattle.connection_steps.specs.Over.{IsOver, IsResting, Pays, is_resets}
+use Rattle.connection_steps.specs.Over.{IsOver, IsResting, is_resets}
 use Rattle.connection_steps.specs.Seen.{part_of, segment_of}
 use Rattle.connection_steps.proofs.Going.{longer}
 use Rattle.connection_steps.proofs.Resting.{rest_arrives}

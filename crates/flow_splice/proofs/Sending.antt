@@ -1,22 +1,18 @@
 -- What a flow owes goes out, or is offered and not taken.
-use Rattle.std.proofs.Common.{refl, ◌≡◌, ℕ, ◌+◌, ◌-◌, ◌<◌, ◌≤◌, ◌^◌, ◌%◌, [], ◌∷◌, ◌++◌, List, length, take, drop, min, Bool, true, false, not, ◌&&◌, ◌||◌, Option, None, Some, if◌then◌else◌, nat_lt, length-take, length-drop, arith, ap, subst, sym, ◌∙◌, inl, inr, ◌⊎◌}
-use Rattle.std.proofs.lemmas.Bool.Decides.{nat_tests}
-use Rattle.net_octets.specs.declared.Mac.{Mac}
+use Rattle.std.proofs.Common.{◌≡◌, ℕ, ◌-◌, ◌≤◌, ◌^◌, length, drop, Bool, true, false, Option, None, Some, if◌then◌else◌, nat_lt, length-take, arith, ap, subst, sym}
 use Rattle.sock_buffers.specs.Downward.{Downward}
 use Rattle.sock_buffers.specs.Upward.{Upward}
-use Rattle.tcp_segment.specs.Tcp.{mss_octets, scale_octets}
+use Rattle.tcp_segment.specs.Tcp.{scale_octets}
 use Rattle.tcp_transmit.specs.Transmission.{Feeds, Transmission, is_owed_again, is_unsent, octets_read}
-use Rattle.tcp_transmit.specs.Pieces.{IsOfStream, fresh, next, numbers, oldest, piece, piece_owed, probe}
+use Rattle.tcp_transmit.specs.Pieces.{IsOfStream, fresh, next, oldest, piece, probe}
 use Rattle.tcp_transmit.specs.declared.Piece.{Piece}
 use Rattle.tcp_transmit.proofs.Feeding.{sent_feeds}
 use Rattle.tcp_transmit.proofs.Owed.{next_of_stream}
-use Rattle.tcp_guest.specs.Connection.{Connection, HasBuffers, is_synchronized}
-use Rattle.tcp_guest.specs.Owing.{after_gone, gone, head_of, owed_of, scale_if}
-use Rattle.tcp_guest.specs.Segments.{settled}
+use Rattle.tcp_guest.specs.Connection.{Connection, HasBuffers}
+use Rattle.tcp_guest.specs.Owing.{after_gone, gone, head_of, owed_of}
 use Rattle.tcp_guest.specs.declared.Owed.{Owed}
 use Rattle.tcp_guest.specs.declared.Owed.TheVariants.{Syn, SynAck, Data, Ack, Reset}
 use Rattle.tcp_guest.proofs.Keeping.{data_owed, gone_has, settled_has}
-use Rattle.connection_steps.specs.Sending.{carried, mss_in, octets_of}
 use Rattle.connection_steps.proofs.Pieces.{some_numbers}
 use Rattle.flow_splice.specs.Frames.{IsHeld, frame_length}
 

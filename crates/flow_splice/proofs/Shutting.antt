@@ -1,5 +1,5 @@
 -- The socket is closed.
-use Rattle.std.proofs.Common.{refl, ◌≡◌, ℕ, ◌≤◌, ◌∷◌, [], Bool, true, false, not, ◌&&◌, None, if◌then◌else◌, arith, ap, subst, sym, ◌∙◌}
+use Rattle.std.proofs.Common.{refl, ◌≡◌, ℕ, ◌∷◌, Bool, true, false, not, ◌&&◌, None, if◌then◌else◌, arith, ap, subst, sym, ◌∙◌}
 use Rattle.tcp_guest.specs.Connection.{Connection, closes_first, has_gone, is_synchronized}
 use Rattle.tcp_guest.specs.Hosts.{numbers_sent, over_by, reset, resets}
 use Rattle.tcp_guest.specs.Segments.{is_done, settled, settling}

@@ -1,5 +1,5 @@
 -- Time passes: what was awaited too long, and timers.
-use Rattle.std.proofs.Common.{refl, ◌≡◌, ℕ, ◌+◌, ◌<◌, ◌≤◌, ◌^◌, [], ◌∷◌, ◌++◌, List, Bool, true, false, not, ◌&&◌, ◌||◌, Option, None, Some, is_some, if◌then◌else◌, nat_eq, nat_le, nat_lt, IsTrue, arith, ap, subst, sym, ◌∙◌}
+use Rattle.std.proofs.Common.{refl, ◌≡◌, ℕ, ◌+◌, ◌≤◌, [], ◌∷◌, List, Bool, true, false, not, ◌&&◌, Option, None, Some, is_some, if◌then◌else◌, nat_eq, nat_le, nat_lt, IsTrue, arith, ap, subst, sym, ◌∙◌}
 use Rattle.std.proofs.lemmas.Bool.Decides.{nat_tests}
 use Rattle.retransmit.specs.Resending.{after_expired as resend_expired, due_of as resend_due, is_given_up}
 use Rattle.net_octets.specs.declared.Mac.{Mac}
@@ -8,7 +8,7 @@ use Rattle.flow_steps.specs.Resends.{Seeks}
 use Rattle.tcp_guest.specs.Connection.{Connection, HasBuffers, has_gone, is_opening}
 use Rattle.tcp_guest.specs.Hosts.{reset}
 use Rattle.tcp_guest.specs.Segments.{is_done}
-use Rattle.tcp_guest.specs.Timing.{after_tick, again, change_at_tick, change_expiring, due_by, due_of as conn_due, expired, is_due, is_spent}
+use Rattle.tcp_guest.specs.Timing.{after_tick, again, change_at_tick, due_by, due_of as conn_due, is_due, is_spent}
 use Rattle.tcp_guest.specs.declared.Change.TheVariants.{Nothing, Finished}
 use Rattle.tcp_guest.specs.declared.Stage.{Stage}
 use Rattle.tcp_guest.specs.declared.Stage.TheVariants as stage
@@ -21,7 +21,6 @@ use Rattle.flow_steps.proofs.InTime.{not_found}
 use Rattle.connection_steps.specs.Holding.{Holds, is_calls, is_connects, is_live}
 use Rattle.connection_steps.proofs.Causes.{gives_up_closes, late_closes, unfound_closes}
 use Rattle.connection_steps.proofs.Ticking.{piece_expires, piece_spent, syn_expires, syn_spent}
-use Rattle.connection_steps.proofs.Watching.{opening_is}
 use Rattle.flow_splice.specs.Entries.{AreEvents}
 use Rattle.flow_splice.specs.Follows.{Follows, IsOpen}
 use Rattle.flow_splice.specs.Hosts.{Sees, ends}

@@ -15,7 +15,6 @@ use Rattle.connection_steps.specs.Seen.{segment_of}
 use Rattle.flow_splice.specs.Follows.{Follows}
 use Rattle.flow_splice.specs.Serves.{Serves}
 use Rattle.flow_splice.specs.Splice.{Splice, is_open}
-use Rattle.flow_splice.specs.declared.Place.{Place}
 use Rattle.flow_splice.specs.declared.Place.TheVariants.{Empty, Resting}
 
 -- the connection and its buffers take a segment

@@ -1,5 +1,5 @@
 -- What calls on the host's socket change of a flow.
-use Rattle.std.specs.Prelude.{◌≡◌, ℕ, ◌+◌, List, [], ◌∷◌, ◌++◌, Bool, true, false, ◌||◌}
+use Rattle.std.specs.Prelude.{◌≡◌, ℕ, List, [], ◌∷◌, ◌++◌, Bool, true, false, ◌||◌}
 use Rattle.sock_buffers.specs.Downward.{Downward}
 use Rattle.tcp_guest.specs.Connection.{Connection}
 use Rattle.tcp_guest.specs.declared.Change.{Change}

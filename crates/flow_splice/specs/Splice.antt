@@ -1,5 +1,5 @@
 -- What a contract sees of a flow that is spliced.
-use Rattle.std.specs.Prelude.{◌≡◌, ℕ, ◌+◌, ◌≤◌, ◌^◌, [], Bool, true, false, ◌&&◌, not, Option}
+use Rattle.std.specs.Prelude.{◌≡◌, ℕ, ◌≤◌, ◌^◌, [], Bool, true, false, ◌&&◌, not, Option}
 use Rattle.net_octets.specs.declared.Endpoint.{Endpoint}
 use Rattle.net_octets.specs.declared.Ip4.{Ip4}
 use Rattle.net_octets.specs.declared.Mac.{Mac}

@@ -1,5 +1,5 @@
 -- What a flow waits for.
-use Rattle.std.specs.Prelude.{ℕ, ◌+◌, ◌-◌, Bool, true, false, ◌&&◌, ◌||◌, not, nat_lt, length, Option, None, Some, is_some, if◌then◌else◌}
+use Rattle.std.specs.Prelude.{ℕ, ◌+◌, ◌-◌, Bool, ◌&&◌, ◌||◌, not, nat_lt, length, Option, None, Some, is_some, if◌then◌else◌}
 use Rattle.tcp_guest.specs.Hosts.{is_open as host_is_open}
 use Rattle.tcp_guest.specs.Timing.{due_of as conn_due}
 use Rattle.connection_steps.specs.Holding.{is_connects}

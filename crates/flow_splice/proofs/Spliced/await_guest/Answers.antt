@@ -1,4 +1,4 @@
-use Rattle.std.proofs.Common.{◌≡◌, ◌∷◌, [], ℕ, false, ap, subst, sym, ◌∙◌}
+use Rattle.std.proofs.Common.{◌∷◌, [], ℕ, false, ap, subst, sym, ◌∙◌}
 use Rattle.world_face.specs.Journal.{Close}
 use Rattle.world_face.proofs.Telling.{makes_none, makes_one}
 use Rattle.tcp_guest.specs.Hosts.{reset}

@@ -1,6 +1,5 @@
-use Rattle.std.proofs.Common.{[], ◌∷◌, false, List, subst, sym, refl, ◌≡◌, true}
-use Rattle.world_face.specs.Journal.{Close, Connected, Entry}
-use Rattle.world_face.specs.Tells.{Answers}
+use Rattle.std.proofs.Common.{[], ◌∷◌, false, subst, sym, refl, ◌≡◌, true}
+use Rattle.world_face.specs.Journal.{Close, Connected}
 use Rattle.world_face.specs.declared.Joined.TheVariants.{Yes, NotYet, Failed}
 use Rattle.world_face.proofs.Telling.{makes_one}
 use Rattle.tcp_guest.specs.Connection.{HasBuffers}

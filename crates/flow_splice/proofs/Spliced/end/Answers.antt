@@ -1,9 +1,9 @@
-use Rattle.std.proofs.Common.{◌≡◌, ◌∷◌, [], ◌++◌, ℕ, List, Bool, true, false, refl, ap, subst, sym, ◌∙◌, ◌||◌}
+use Rattle.std.proofs.Common.{◌≡◌, ◌∷◌, [], ◌++◌, ℕ, List, Bool, true, false, refl, ap, subst, sym, ◌||◌}
 use Rattle.world_face.specs.Journal.{Close, Entry, TcpEnd}
 use Rattle.world_face.specs.declared.Made.TheVariants.{Done, Failed}
 use Rattle.tcp_guest.specs.Connection.{HasBuffers}
 use Rattle.tcp_guest.specs.Hosts.{write_ended}
-use Rattle.tcp_guest.specs.Segments.{settled, settling}
+use Rattle.tcp_guest.specs.Segments.{settled}
 use Rattle.flow_splice.specs.Hosts.{Sees, ends, is_for_writing, some_is}
 use Rattle.flow_splice.specs.Serves.{GoesOn}
 use Rattle.flow_splice.specs.Splice.{Splice}

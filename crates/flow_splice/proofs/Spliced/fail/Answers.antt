@@ -1,4 +1,4 @@
-use Rattle.std.proofs.Common.{◌≡◌, false, ap, subst, ◌∙◌}
+use Rattle.std.proofs.Common.{ap, subst, ◌∙◌}
 use Rattle.world_face.specs.Journal.{Close}
 use Rattle.world_face.specs.Tells.{Answers}
 use Rattle.connection_steps.specs.Holding.{is_live}

@@ -1,13 +1,9 @@
-use Rattle.std.proofs.Common.{◌≡◌, ℕ, Bool, List, false, ap, subst, sym, ◌∙◌}
-use Rattle.world_face.specs.Journal.{Entry}
+use Rattle.std.proofs.Common.{◌≡◌, ℕ, Bool, false, subst, sym, ◌∙◌}
 use Rattle.world_face.proofs.Telling.{makes_as}
-use Rattle.tcp_guest.specs.Owing.{change_gone}
 use Rattle.tcp_guest.specs.declared.Change.{Change}
 use Rattle.connection_steps.specs.Sending.{is_rst}
 use Rattle.flow_splice.specs.Hosts.{Sees, ends}
 use Rattle.flow_splice.specs.Sends.{GoesOut, went_out}
-use Rattle.flow_splice.proofs.Going.{sends}
-use Rattle.flow_splice.proofs.Lessening.{less}
 use Rattle.flow_splice.specs.Splice.{Splice}
 use Rattle.flow_splice.proofs.Spliced.go_out.Goals as goal
 

@@ -1,12 +1,10 @@
-use Rattle.std.proofs.Common.{◌≡◌, ◌&&◌, ℕ, [], Bool, false, refl, ap, subst, sym, ◌∙◌}
+use Rattle.std.proofs.Common.{◌&&◌, ℕ, [], Bool, refl, ap, subst, sym, ◌∙◌}
 use Rattle.world_face.proofs.Telling.{makes_none}
 use Rattle.tcp_segment.specs.Tcp.{Tcp, tcp_of}
 use Rattle.tcp_guest.specs.Segments.{change_at}
-use Rattle.flow_splice.specs.Guests.{Hears, ends_rest, heard_at_rest, is_unfit}
+use Rattle.flow_splice.specs.Guests.{Hears, ends_rest, is_unfit}
 use Rattle.flow_splice.specs.Hosts.{IsAsOld}
 use Rattle.flow_splice.specs.Splice.{Splice}
-use Rattle.flow_splice.specs.declared.Place.{Place}
-use Rattle.flow_splice.specs.declared.Place.TheVariants.{Resting}
 use Rattle.flow_splice.proofs.Resting.{at_rest_as_old, hears_at_rest, hears_nothing}
 use Rattle.flow_splice.proofs.Spliced.guest_segment.Goals as goal
 

@@ -1,5 +1,4 @@
-use Rattle.std.proofs.Common.{◌≡◌, ◌≤◌, ℕ, List, true, length, arith, ap, subst, sym, ◌∙◌}
-use Rattle.world_face.specs.Journal.{Entry}
+use Rattle.std.proofs.Common.{◌≡◌, ◌≤◌, ℕ, length, arith, ap, subst, sym, ◌∙◌}
 use Rattle.world_face.proofs.Telling.{makes_as}
 use Rattle.sock_buffers.specs.Upward.{Upward}
 use Rattle.tcp_receive.specs.Coming.{Comes}

@@ -1,11 +1,10 @@
-use Rattle.std.proofs.Common.{◌≡◌, ℕ, [], List, refl, ap, subst, sym, ◌∙◌, inl, inr, ◌⊎◌}
-use Rattle.world_face.specs.Journal.{Entry}
+use Rattle.std.proofs.Common.{◌≡◌, ℕ, [], refl, subst, sym, inl, inr, ◌⊎◌}
 use Rattle.world_face.proofs.Telling.{makes_as, makes_none}
 use Rattle.stream_netdev.specs.declared.Offered.{Offered}
-use Rattle.stream_netdev.specs.declared.Offered.TheVariants.{Taken, Blocked, Failed}
+use Rattle.stream_netdev.specs.declared.Offered.TheVariants.{Blocked, Failed}
 use Rattle.tcp_guest.specs.declared.Owed.{Owed}
 use Rattle.connection_steps.specs.Sending.{is_rst}
-use Rattle.flow_splice.specs.Sends.{GoesOut, Marks, ident_if}
+use Rattle.flow_splice.specs.Sends.{GoesOut, Marks}
 use Rattle.flow_splice.specs.Splice.{Splice}
 use Rattle.flow_splice.proofs.Spliced.mark.Goals as goal
 

@@ -1,4 +1,3 @@
-use Rattle.tcp_guest.specs.Connection.{HasBuffers}
 use Rattle.flow_splice.proofs.Spliced.mark_ended.Goals as goal
 
 pub invariant_of-self : goal.invariant_of-self

@@ -1,14 +1,14 @@
-use Rattle.std.proofs.Common.{◌≡◌, List, ◌++◌, ℕ, Some, Option, ap, subst, sym, ◌∙◌}
+use Rattle.std.proofs.Common.{List, ◌++◌, ap, subst, ◌∙◌}
 use Rattle.world_face.specs.Frames.{spelling}
 use Rattle.world_face.specs.Journal.{Entry}
 use Rattle.world_face.specs.Tells.{Makes}
 use Rattle.stream_netdev.specs.Keeps.{Keeps, Writes}
 use Rattle.tcp_guest.specs.Connection.{HasBuffers}
-use Rattle.tcp_guest.specs.Owing.{head_of, owed_of}
+use Rattle.tcp_guest.specs.Owing.{owed_of}
 use Rattle.tcp_guest.specs.declared.Owed.{Owed}
 use Rattle.tcp_guest.specs.declared.Head.{Head}
 use Rattle.connection_steps.specs.Sending.{segment_out, with_head}
-use Rattle.flow_splice.specs.Frames.{IsHeld, frame_length, segment_frame}
+use Rattle.flow_splice.specs.Frames.{segment_frame}
 use Rattle.flow_splice.specs.Splice.{Splice}
 use Rattle.flow_splice.proofs.Sending.{fits_of, held_of}
 use Rattle.flow_splice.proofs.Spliced.offer_owed.Goals as goal

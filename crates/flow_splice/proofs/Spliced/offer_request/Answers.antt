@@ -1,4 +1,4 @@
-use Rattle.std.proofs.Common.{List, ◌++◌, ℕ, subst}
+use Rattle.std.proofs.Common.{List, ◌++◌, subst}
 use Rattle.world_face.specs.Frames.{spelling}
 use Rattle.world_face.specs.Journal.{Entry}
 use Rattle.world_face.specs.Tells.{Makes}

@@ -1,8 +1,6 @@
-use Rattle.std.proofs.Common.{◌≡◌, ℕ, List, [], refl, ap, rules, sym, subst, arith, ◌∙◌}
-use Rattle.sock_buffers.specs.Downward.{Downward, downward}
-use Rattle.sock_buffers.specs.Upward.{Upward, empty}
-use Rattle.tcp_guest.specs.Connection.{HasBuffers}
-use Rattle.flow_splice.specs.Splice.{IsSound}
+use Rattle.std.proofs.Common.{◌≡◌, [], refl, rules, arith}
+use Rattle.sock_buffers.specs.Downward.{downward}
+use Rattle.sock_buffers.specs.Upward.{empty}
 use Rattle.flow_splice.proofs.Spliced.open.Goals as goal
 
 pub invariant_of-result : goal.invariant_of-result

@@ -1,8 +1,7 @@
-use Rattle.std.proofs.Common.{◌≡◌, ◌<◌, ◌^◌, ℕ, [], List, arith, subst, sym, ap, ◌∙◌}
-use Rattle.world_face.specs.Journal.{Entry}
+use Rattle.std.proofs.Common.{◌≡◌, ◌<◌, ◌^◌, ℕ, [], arith, subst, sym, ap, ◌∙◌}
 use Rattle.world_face.proofs.Telling.{makes_as, makes_none}
 use Rattle.stream_netdev.specs.State.{LinkState}
-use Rattle.flow_splice.specs.Sends.{SendsOn, learnt}
+use Rattle.flow_splice.specs.Sends.{SendsOn}
 use Rattle.flow_splice.specs.Splice.{Splice}
 use Rattle.tcp_guest.specs.Connection.{Connection}
 use Rattle.flow_splice.specs.Ahead.{IsAhead, IsEarly}

@@ -1,6 +1,6 @@
-use Rattle.std.proofs.Common.{◌≡◌, ◌<◌, ◌^◌, ℕ, [], ◌∷◌, ◌++◌, List, false, subst, sym, ap, ◌∙◌}
+use Rattle.std.proofs.Common.{◌≡◌, ◌<◌, ◌^◌, ℕ, ◌++◌, List, subst, sym, ap, ◌∙◌}
 use Rattle.world_face.specs.Frames.{spelling}
-use Rattle.world_face.specs.Journal.{AreAllowed, Entry, LinkWrite}
+use Rattle.world_face.specs.Journal.{AreAllowed, Entry}
 use Rattle.world_face.proofs.Telling.{makes_as, makes_none}
 use Rattle.stream_netdev.specs.Keeps.{Keeps, Writes}
 use Rattle.stream_netdev.specs.State.{LinkState}

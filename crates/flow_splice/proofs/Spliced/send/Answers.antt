@@ -1,8 +1,6 @@
-use Rattle.std.proofs.Common.{◌≡◌, ◌<◌, ℕ, [], ◌∷◌, ◌++◌, List, Bool, Option, None, Some, true, false, if◌then◌else◌, refl, arith, append_assoc, ap, subst, sym, ◌∙◌}
+use Rattle.std.proofs.Common.{◌≡◌, ℕ, [], ◌∷◌, ◌++◌, List, Bool, Option, Some, if◌then◌else◌, refl, arith, append_assoc, ap, subst, sym, ◌∙◌}
 use Rattle.world_face.specs.Frames.{spelling}
-use Rattle.world_face.specs.Journal.{Allowed, AreAllowed, Entry, LinkWrite}
-use Rattle.world_face.specs.Tells.{Makes}
-use Rattle.world_face.specs.declared.Io.{Io}
+use Rattle.world_face.specs.Journal.{AreAllowed, Entry, LinkWrite}
 use Rattle.world_face.proofs.Telling.{makes_then}
 use Rattle.stream_netdev.specs.Keeps.{Keeps, Settles, Writes}
 use Rattle.stream_netdev.specs.State.{LinkState}
@@ -12,17 +10,14 @@ use Rattle.tcp_guest.specs.Owing.{owed_of}
 use Rattle.tcp_guest.specs.declared.Owed.{Owed}
 use Rattle.connection_steps.specs.Sending.{segment_out}
 use Rattle.flow_splice.specs.Frames.{segment_frame}
-use Rattle.flow_splice.specs.Hosts.{IsAsOld}
-use Rattle.flow_splice.specs.Left.{left}
 use Rattle.flow_splice.specs.Sends.{Marks, Sends, SendsOn, pumped_of, takes_part_at}
 use Rattle.flow_splice.specs.Splice.{Splice}
 use Rattle.flow_splice.specs.declared.Place.{Place}
 use Rattle.flow_splice.specs.declared.Place.TheVariants.{Empty, InUse, Resting}
-use Rattle.flow_splice.specs.declared.Pumped.{Pumped}
-use Rattle.flow_splice.specs.declared.Pumped.TheVariants.{Clear, Blocked as PumpBlocked, Failed as PumpFailed}
+use Rattle.flow_splice.specs.declared.Pumped.TheVariants.{Clear, Blocked as PumpBlocked}
 use Rattle.flow_splice.proofs.Ahead.{marks_early}
 use Rattle.flow_splice.proofs.Going.{sends}
-use Rattle.flow_splice.proofs.Marking.{Stays, closes_keep, makes_allowed, marks_less, marks_stay}
+use Rattle.flow_splice.proofs.Marking.{closes_keep, makes_allowed, marks_less, marks_stay}
 use Rattle.flow_splice.proofs.Spliced.send.Goals as goal
 
 used_is : (p : Place) (o : Option Owed) (what : Owed) → takes_part_at p o ≡ Some what → (p ≡ Empty → ⊥) × (o ≡ Some what)

@@ -1,6 +1,5 @@
-use Rattle.std.proofs.Common.{◌≡◌, ℕ, refl, arith, ◌∙◌}
+use Rattle.std.proofs.Common.{refl, arith, ◌∙◌}
 use Rattle.world_face.proofs.Telling.{makes_none, makes_then}
-use Rattle.stream_netdev.specs.State.{LinkState}
 use Rattle.flow_splice.specs.Sends.{SendsOn}
 use Rattle.flow_splice.specs.Splice.{Splice}
 use Rattle.flow_splice.proofs.Coming.{as_old_then}

@@ -1,4 +1,4 @@
-use Rattle.std.proofs.Common.{◌≡◌, ◌^◌, ◌<◌, ℕ, [], false}
+use Rattle.std.proofs.Common.{◌≡◌, [], false}
 use Rattle.world_face.specs.Tells.{Makes}
 use Rattle.stream_netdev.specs.State.{under_way}
 use Rattle.flow_splice.specs.Ahead.{IsEarly}

@@ -1,4 +1,4 @@
-use Rattle.std.proofs.Common.{◌≡◌, ◌∷◌, [], ℕ, false, subst, sym, ◌∙◌, ◌⊎◌, inl, inr}
+use Rattle.std.proofs.Common.{◌≡◌, [], ℕ, false, subst, sym, ◌∙◌, ◌⊎◌, inl, inr}
 use Rattle.tcp_guest.specs.Connection.{Connection}
 use Rattle.tcp_guest.specs.Hosts.{reset}
 use Rattle.world_face.proofs.Telling.{makes_as, makes_none}

@@ -1,4 +1,4 @@
-use Rattle.std.proofs.Common.{◌≡◌, ◌∷◌, [], ◌≤◌, ◌+◌, ℕ, length, take, min, false, refl, rules, arith, ap, subst, sym, ◌∙◌, inl, inr, ◌⊎◌, true}
+use Rattle.std.proofs.Common.{◌≡◌, ◌∷◌, [], ℕ, length, take, min, false, refl, arith, ap, subst, sym, ◌∙◌, inl, inr, ◌⊎◌, true}
 use Rattle.world_face.specs.Journal.{Close, TcpWrite, count_of}
 use Rattle.world_face.specs.Tells.{Answers}
 use Rattle.world_face.specs.declared.Io.{Io}

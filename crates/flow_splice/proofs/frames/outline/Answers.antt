@@ -1,4 +1,4 @@
-use Rattle.std.proofs.Common.{◌≡◌, ℕ, Option, ap, ◌∙◌}
+use Rattle.std.proofs.Common.{ℕ, Option, ap, ◌∙◌}
 use Rattle.tcp_segment.specs.Tcp.{Tcp}
 use Rattle.connection_steps.specs.Sending.{with_head}
 use Rattle.flow_splice.specs.Frames.{tcp_out}

@@ -1,4 +1,4 @@
-use Rattle.std.proofs.Common.{◌≡◌, ◌≤◌, arith}
+use Rattle.std.proofs.Common.{arith}
 use Rattle.flow_splice.proofs.frames.segment_size.Goals as goal
 
 pub overflow_add-result-3 : goal.overflow_add-result-3

@@ -1,4 +1,4 @@
-use Rattle.std.proofs.Common.{◌≡◌, ℕ, ◌+◌, ◌-◌, ◌≤◌, ◌++◌, List, [], length, take, drop, refl, arith, ap, append_assoc, length-append, sym, subst, ◌∙◌, rules}
+use Rattle.std.proofs.Common.{◌≡◌, ℕ, ◌+◌, ◌-◌, ◌++◌, List, [], length, refl, arith, ap, length-append, ◌∙◌}
 use Rattle.net_octets.proofs.Writing.{written}
 use Rattle.net_octets.specs.Kinds.{ipv4_kind, tcp_proto}
 use Rattle.net_octets.specs.Octets.{two}
