@@ -42,8 +42,8 @@ with_link n last k l = if n == k then link last None else l
 
 -- the one where there is no such number, else the other
 abbrev pub unless_none : Option ℕ → Option ℕ → Option ℕ → Option ℕ
-unless_none None none some = none
-unless_none (Some n) none some = some
+unless_none None otherwise some = otherwise
+unless_none (Some n) otherwise some = some
 
 -- the numbers rise, and their links stand in this order
 pub record AreLinks (numbers : List ℕ) (links : List Link) (first last : Option ℕ) : Type 0 where

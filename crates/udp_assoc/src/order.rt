@@ -213,11 +213,11 @@ fn put(links: &mut ArrayVec<Link, 512>, place: usize, link: Link)
 }
 
 // The one where there is no such number, else the other.
-fn unless_none(number: Option<u64>, none: Option<u64>, some: Option<u64>) -> Option<u64>
-    ensures { result ≡ unless_none number none some }
+fn unless_none(number: Option<u64>, otherwise: Option<u64>, some: Option<u64>) -> Option<u64>
+    ensures { result ≡ unless_none number otherwise some }
 {
     match number {
-        None => none,
+        None => otherwise,
         Some(_) => some,
     }
 }

@@ -1,0 +1,160 @@
+-- The guest's hardware address: it is told, or asked for.
+use Rattle.std.proofs.Common.{refl, ◌≡◌, ℕ, zero, suc, ◌+◌, ◌<◌, ◌≤◌, ◌^◌, ◌%◌, [], ◌∷◌, ◌++◌, List, Bool, true, false, not, ◌&&◌, ◌||◌, Option, None, Some, nat_eq, nat_le, nat_lt, if◌then◌else◌, arith, ap, subst, sym, ◌∙◌, inl, inr}
+use Rattle.std.proofs.lemmas.Bool.Decides.{nat_tests}
+use Rattle.net_octets.specs.declared.Mac.{Mac}
+use Rattle.world_face.specs.Frames.{spelling}
+use Rattle.world_face.specs.Journal.{Allowed, Entry, LinkWrite, count_of}
+use Rattle.world_face.specs.declared.Io.{Io}
+use Rattle.world_face.specs.declared.Io.TheVariants.{Done, End, NotYet, Failed as IoFailed}
+use Rattle.stream_netdev.specs.Keeps.{Keeps}
+use Rattle.stream_netdev.specs.Offers.{offered}
+use Rattle.stream_netdev.specs.State.{LinkState}
+use Rattle.stream_netdev.specs.declared.Offered.{Offered}
+use Rattle.stream_netdev.specs.declared.Offered.TheVariants.{Taken, Blocked, Failed}
+use Rattle.flow_laws.specs.Settings.{Settings}
+use Rattle.flow_laws.specs.Event.{Accepts, AsksAddress, At, Connects, IsStory, Story, newest_moment}
+use Rattle.flow_laws.specs.Flow.{is_accepted, is_closed, opened_at, syn_is_out}
+use Rattle.flow_steps.specs.Resends.{Seeks, least_wait}
+use Rattle.flow_steps.proofs.InTime.{asks_again, asks_first}
+use Rattle.connection_steps.proofs.Asking.{asks_address}
+use Rattle.flow_splice.specs.Entries.{AreEvents, ident_after}
+use Rattle.flow_splice.specs.Follows.{Follows, FollowsAt, IsOpen}
+use Rattle.flow_splice.specs.Frames.{request_frame}
+use Rattle.flow_splice.specs.Sends.{Sends, SendsOn, asked, asks_now, learnt, or_known}
+use Rattle.flow_splice.specs.Serves.{Serves}
+use Rattle.flow_splice.specs.Splice.{Splice, is_open}
+use Rattle.flow_splice.specs.declared.Place.{Place}
+use Rattle.flow_splice.specs.declared.Place.TheVariants.{Empty, InUse, Resting}
+use Rattle.flow_splice.proofs.Opened.{follows_later, open_follows, open_is}
+
+-- ---- it is told
+
+or_none : (m o : Option Mac) → or_known m o ≡ None → o ≡ None
+or_none None o is = is
+or_none (Some mac) o is = absurd cc
+
+pub learn_follows : (s : Settings) (f : Splice) (mac : Option Mac) (past : Story) (now : ℕ) → Follows s f past now → Follows s (learnt f mac) past now
+learn_follows s f mac past now h = by f.place f.shut h
+  where
+    by : (p : Place) (b : Bool) → FollowsAt p b s f past now → FollowsAt p b s (learnt f mac) past now
+    by Empty b q = record { over = q.over; owes_none = q.owes_none }
+    by InUse true q = record { over = q.over; owes = q.owes; mru = q.mru; known = λ none. q.known (or_none mac f.mac none) }
+    by InUse false q = record {
+      holds = q.holds;
+      mru = q.mru;
+      since = q.since;
+      told = q.told;
+      unfinished = q.unfinished;
+      unsent = λ none. q.unsent (or_none mac f.mac none);
+      seeks = λ none some. q.seeks (or_none mac f.mac none) some;
+    }
+    by (Resting since) b q = record { rests = q.rests; mru = q.mru; known = λ none. q.known (or_none mac f.mac none) }
+
+pub learn_then : (f new : Splice) (mac : Option Mac) (link next : LinkState) (first last now : ℕ) (made : List Entry) → SendsOn (learnt f mac) new link next first last now made → SendsOn f new link next first last now made
+learn_then f new mac link next first last now made sends = ((λ s past before known on h. sends.0 s past before known on (learn_follows s f mac past before h)), sends.1)
+
+-- ---- it is asked for
+
+first_opened : (past : Story) → IsStory past → opened_at past ≤ newest_moment past
+first_opened [] is = absurd is
+first_opened (At m (Connects ours syn) ∷ past) is = omega arith
+first_opened (At m (Accepts ours) ∷ past) is = omega arith
+first_opened (At m _ ∷ []) is = absurd is
+first_opened (At m _ ∷ b ∷ past) is = let before = first_opened (b ∷ past) is.2 in let low = is.1 in omega (arith, before, low)
+
+three : (a b d : Bool) → (a && b && d) ≡ true → (a ≡ true) × (b ≡ true) × (d ≡ true)
+three true true true is = (refl, refl, refl)
+three true true false is = absurd cc
+three true false d is = absurd cc
+three false b d is = absurd cc
+
+module _ (f : Splice) (now : ℕ) (unknown : f.mac ≡ None) (asks : asks_now f now ≡ true) (result : Offered) (answer : Io) (result_is : result ≡ offered answer) (allowed : Allowed (LinkWrite (spelling (request_frame f.face)) answer))
+    (new : Splice) (new_is : new ≡ asked result f now) (first : ℕ) (small : first < 2 ^ 16) where
+  abbrev octets : List ℕ
+  octets = spelling (request_frame f.face)
+
+  parts : (is_open f ≡ true) × (nat_lt f.asked 9 ≡ true) × ((nat_eq f.asked 0 || nat_le f.ask_at now) ≡ true)
+  parts = three (is_open f) (nat_lt f.asked 9) (nat_eq f.asked 0 || nat_le f.ask_at now) asks
+
+  stays : first ≡ (first + 0) % 2 ^ 16
+  stays = omega (arith, small)
+
+  module _ (s : Settings) (past : Story) (before : ℕ) (known : Bool) (on : before ≤ now) (h : Follows s f past before) where
+    o : IsOpen s f past before
+    o = open_is s f past before parts.0 h
+
+    abbrev Result : Type 0
+    Result = (serves : Serves s new false known first now past (LinkWrite octets answer ∷ [])) × (first ≡ ident_after first serves.beats)
+
+    seeks_now : (n at : ℕ) → f.asked ≡ n → (nat_eq n 0 || nat_le f.ask_at now) ≡ true → Seeks (At now AsksAddress ∷ past) (n + 1) (now + least_wait n)
+    seeks_now zero at is due = asks_first past now (least_wait 0) (let opened = first_opened past o.holds.goes.story in let moment = o.holds.goes.moment in omega (arith, opened, moment, on)) (omega arith)
+    seeks_now (suc n) at is due =
+        let late : f.ask_at ≤ now = grind (arith, nat_tests) in
+        let again = asks_again past (suc n) f.ask_at now (least_wait (suc n)) late (omega arith) (subst (λ (k : ℕ). Seeks past k f.ask_at) is (o.seeks unknown (omega (arith, is)))) in
+        subst (λ (k : ℕ). Seeks (At now AsksAddress ∷ past) k (now + least_wait (suc n))) (omega arith) again
+
+    taken : nat_lt 0 (count_of answer) ≡ true → new ≡ asked Taken f now → Result
+    taken some is = (
+      record {
+        beats = At now AsksAddress ∷ [];
+        are = subst (λ (g : Splice). AreEvents s g.face g.mac false known first now past (LinkWrite octets answer ∷ []) (At now AsksAddress ∷ [])) (sym is) (
+          [],
+          refl,
+          inr (
+            record {
+              unknown = unknown;
+              frame = refl;
+              accepted = o.holds.opened.calls (o.unsent unknown).0;
+              unsent = o.holds.opened.out ∙ (o.unsent unknown).1;
+              open_yet = o.holds.goes.open_yet;
+            },
+            sym (ap (λ (b : Bool). if b then At now AsksAddress ∷ [] else []) some),
+          ),
+        );
+        follows = subst (λ (g : Splice). Follows s g (At now AsksAddress ∷ past) now) (sym is)
+            (open_follows s (asked Taken f now) (At now AsksAddress ∷ past) now parts.0 (record {
+              holds = asks_address s f.conn f.up f.down past before now on o.holds;
+              mru = o.mru;
+              since = o.since;
+              told = o.told;
+              unfinished = o.unfinished;
+              unsent = o.unsent;
+              seeks = λ none more. seeks_now f.asked f.ask_at refl parts.2;
+            }));
+      },
+      stays,
+    )
+
+    untaken : count_of answer ≡ 0 → new ≡ f → Result
+    untaken none is = (
+      record {
+        beats = [];
+        are = subst (λ (g : Splice). AreEvents s g.face g.mac false known first now past (LinkWrite octets answer ∷ []) []) (sym is) (
+          [],
+          refl,
+          inr (
+            record {
+              unknown = unknown;
+              frame = refl;
+              accepted = o.holds.opened.calls (o.unsent unknown).0;
+              unsent = o.holds.opened.out ∙ (o.unsent unknown).1;
+              open_yet = o.holds.goes.open_yet;
+            },
+            sym (ap (λ (n : ℕ). if nat_lt 0 n then At now AsksAddress ∷ [] else []) none),
+          ),
+        );
+        follows = subst (λ (g : Splice). Follows s g past now) (sym is) (follows_later s f past before now on h);
+      },
+      stays,
+    )
+
+    by : (a : Io) → answer ≡ a → Result
+    by (Done n) is =
+        let some = subst (λ (q : Io). Allowed (LinkWrite octets q)) is allowed in
+        taken (ap (λ (q : Io). nat_lt 0 (count_of q)) is ∙ (let more = some.0.0 in grind (arith, nat_tests))) (new_is ∙ ap (λ (r : Offered). asked r f now) (result_is ∙ ap offered is))
+    by End is = untaken (ap count_of is) (new_is ∙ ap (λ (r : Offered). asked r f now) (result_is ∙ ap offered is))
+    by NotYet is = untaken (ap count_of is) (new_is ∙ ap (λ (r : Offered). asked r f now) (result_is ∙ ap offered is))
+    by IoFailed is = untaken (ap count_of is) (new_is ∙ ap (λ (r : Offered). asked r f now) (result_is ∙ ap offered is))
+
+  pub requests : Sends f new first first now (LinkWrite octets answer ∷ [])
+  requests s past before known on h = by s past before known on h answer refl

@@ -1,0 +1,116 @@
+-- A segment of the guest arrives at a flow whose socket is open.
+use Rattle.std.proofs.Common.{refl, ◌≡◌, ℕ, ◌+◌, ◌<◌, ◌≤◌, ◌^◌, [], ◌∷◌, ◌++◌, List, length, drop, Bool, true, false, not, ◌&&◌, ◌||◌, None, Some, if◌then◌else◌, ℤ, pos, arith, ap, subst, sym, ◌∙◌, inl, inr, ◌⊎◌}
+use Rattle.seq_space.specs.Places.{number_of}
+use Rattle.sock_buffers.specs.Downward.{Downward}
+use Rattle.sock_buffers.specs.Upward.{Upward}
+use Rattle.tcp_receive.specs.Coming.{Comes}
+use Rattle.tcp_receive.specs.Received.{next_number, up_after}
+use Rattle.tcp_segment.specs.Tcp.{Tcp}
+use Rattle.tcp_transmit.specs.Acks.{octets_acked, without}
+use Rattle.tcp_transmit.specs.Transmission.{Feeds, Transmission}
+use Rattle.tcp_transmit.specs.declared.AckSeen.{AckSeen}
+use Rattle.tcp_transmit.specs.declared.AckSeen.TheVariants.{Old, Same, Forward, FinToo, TooFar}
+use Rattle.tcp_guest.specs.Checks.{is_ack, verdict_of}
+use Rattle.tcp_guest.specs.Connection.{Connection, HasBuffers, has_gone, is_answering, is_opening, is_synchronized}
+use Rattle.tcp_guest.specs.Segments.{acknowledged, after_segment, arrived, change_at, change_by, change_heeding, conn_by, congested, down_after_segment, down_by, down_heeding, established, greeted, heard as conn_heard, heeded, is_bare, is_done, is_past, is_too_far, opened, seen_of, settled, settling, up_after_segment, up_by, up_heeding, welcomed}
+use Rattle.tcp_guest.specs.Windows.{window_in}
+use Rattle.tcp_guest.specs.declared.Change.{Change}
+use Rattle.tcp_guest.specs.declared.Change.TheVariants.{Nothing, GuestReset, Finished, Unfit}
+use Rattle.tcp_guest.specs.declared.Stage.{Stage}
+use Rattle.tcp_guest.specs.declared.Stage.TheVariants as stage
+use Rattle.tcp_guest.specs.declared.Verdict.{Verdict}
+use Rattle.tcp_guest.specs.declared.Verdict.TheVariants.{Ignored, Resets, Unacceptable, Repeats, Challenged, Greets, Heeded}
+use Rattle.connection_steps.specs.Holding.{is_live}
+use Rattle.connection_steps.proofs.Coming.{sized}
+use Rattle.flow_splice.specs.Guests.{heard}
+use Rattle.flow_splice.specs.Hosts.{IsAsOld, Sees, ends}
+use Rattle.flow_splice.specs.Splice.{Splice, closed}
+use Rattle.flow_splice.proofs.Shutting.{settled_over}
+use Rattle.world_face.specs.Journal.{Entry}
+
+-- ---- sizes stay
+
+up_stays : (v : Verdict) (c : Connection) (up : Upward) (down : Downward) (tcp : Tcp) → ((up_by v c up down tcp).size ≡ up.size) × ((up_by v c up down tcp).written ≡ up.written)
+up_stays Ignored c up down tcp = (refl, refl)
+up_stays Resets c up down tcp = (refl, refl)
+up_stays Unacceptable c up down tcp = (refl, refl)
+up_stays Repeats c up down tcp = (refl, refl)
+up_stays Challenged c up down tcp = (refl, refl)
+up_stays Greets c up down tcp = (refl, refl)
+up_stays Heeded c up down tcp = by (is_past (opened c) down tcp)
+  where
+    by : (b : Bool) → ((if b then up else up_after c.received tcp.seq tcp.body up).size ≡ up.size) × ((if b then up else up_after c.received tcp.seq tcp.body up).written ≡ up.written)
+    by true = (refl, refl)
+    by false = sized c.received tcp.seq tcp.body up
+
+down_stays : (v : Verdict) (c : Connection) (down : Downward) (tcp : Tcp) → (down_by v c down tcp).size ≡ down.size
+down_stays Ignored c down tcp = refl
+down_stays Resets c down tcp = refl
+down_stays Unacceptable c down tcp = refl
+down_stays Repeats c down tcp = refl
+down_stays Challenged c down tcp = refl
+down_stays Greets c down tcp = by (is_ack tcp)
+  where
+    by : (b : Bool) → (if b then without (octets_acked (seen_of (established (greeted c tcp)).transmission down tcp.ack)) down else down).size ≡ down.size
+    by true = refl
+    by false = refl
+down_stays Heeded c down tcp = refl
+
+pub up_sized : (c : Connection) (up : Upward) (down : Downward) (tcp : Tcp) → (up_after_segment c up down tcp).size ≡ up.size
+up_sized c up down tcp = (up_stays (verdict_of c up tcp) c up down tcp).0
+
+pub down_sized : (c : Connection) (up : Upward) (down : Downward) (tcp : Tcp) → (down_after_segment c up down tcp).size ≡ down.size
+down_sized c up down tcp = down_stays (verdict_of c up tcp) c down tcp
+
+pub heard_as_old : (f : Splice) (tcp : Tcp) (now : ℕ) → IsAsOld f (heard f tcp now)
+heard_as_old f tcp now = record {
+  face = refl;
+  mac = refl;
+  since = refl;
+  asked = refl;
+  ask_at = refl;
+  up_size = (up_stays (verdict_of f.conn f.up tcp) f.conn f.up f.down tcp).0;
+  down_size = down_stays (verdict_of f.conn f.up tcp) f.conn f.down tcp;
+  mru = refl;
+}
+
+pub heard_written : (f : Splice) (tcp : Tcp) (now : ℕ) → (heard f tcp now).up.written ≡ f.up.written
+heard_written f tcp now = (up_stays (verdict_of f.conn f.up tcp) f.conn f.up f.down tcp).1
+
+pub sees_as_old : (b : Bool) (mid new : Splice) (now : ℕ) (made : List Entry) → Sees b mid new now made → IsAsOld mid new
+sees_as_old true mid new now made sees = rw sees.1 (record { face = refl; mac = refl; since = refl; asked = refl; ask_at = refl; up_size = refl; down_size = refl; mru = refl })
+sees_as_old false mid new now made sees = rw sees.1 (record { face = refl; mac = refl; since = refl; asked = refl; ask_at = refl; up_size = refl; down_size = refl; mru = refl })
+
+pub sees_up : (b : Bool) (mid new : Splice) (now : ℕ) (made : List Entry) → Sees b mid new now made → new.up ≡ mid.up
+sees_up true mid new now made sees = ap (λ (f : Splice). f.up) sees.1
+sees_up false mid new now made sees = ap (λ (f : Splice). f.up) sees.1
+
+pub as_old_then : (old mid new : Splice) → IsAsOld old mid → IsAsOld mid new → IsAsOld old new
+as_old_then old mid new a b = record {
+  face = b.face ∙ a.face;
+  mac = b.mac ∙ a.mac;
+  since = b.since ∙ a.since;
+  asked = b.asked ∙ a.asked;
+  ask_at = b.ask_at ∙ a.ask_at;
+  up_size = b.up_size ∙ a.up_size;
+  down_size = b.down_size ∙ a.down_size;
+  mru = b.mru ∙ a.mru;
+}
+
+-- ---- a change that ends the connection
+
+dead_by : (v : Verdict) (c : Connection) (up : Upward) (down : Downward) (tcp : Tcp) (now : ℕ) → ends (change_by v c up down tcp now) ≡ true → is_live (conn_by v c up down tcp now).stage ≡ false
+dead_by Ignored c up down tcp now is = absurd cc
+dead_by Resets c up down tcp now is = refl
+dead_by Unacceptable c up down tcp now is = absurd cc
+dead_by Repeats c up down tcp now is = absurd cc
+dead_by Challenged c up down tcp now is = absurd cc
+dead_by Greets c up down tcp now is = absurd cc
+dead_by Heeded c up down tcp now is = by (is_past (opened c) down tcp) is
+  where
+    by : (b : Bool) → ends (if b then Nothing else settling (arrived (conn_heard c down tcp now) up tcp)) ≡ true → is_live (if b then conn_heard c down tcp now else settled (arrived (conn_heard c down tcp now) up tcp)).stage ≡ false
+    by true is = absurd cc
+    by false is = settled_over (arrived (conn_heard c down tcp now) up tcp) is
+
+pub heard_dead : (c : Connection) (up : Upward) (down : Downward) (tcp : Tcp) (now : ℕ) → ends (change_at c up down tcp now) ≡ true → is_live (after_segment c up down tcp now).stage ≡ false
+heard_dead c up down tcp now is = dead_by (verdict_of c up tcp) c up down tcp now is

@@ -1,0 +1,16 @@
+pub mod Opened
+pub mod Calls
+pub mod Events
+pub mod Shutting
+pub mod Hosting
+pub mod Coming
+pub mod Hearing
+pub mod Resting
+pub mod Timing
+pub mod Sending
+pub mod Going
+pub mod Lessening
+pub mod Marking
+pub mod Asking
+pub mod Promises
+pub mod Ahead

@@ -1,0 +1,108 @@
+-- A flow whose socket is open goes on to follow its story.
+use Rattle.std.proofs.Common.{refl, ◌≡◌, ℕ, ◌<◌, ◌≤◌, ◌∷◌, Bool, true, false, not, ◌&&◌, None, arith, sym, ◌∙◌}
+use Rattle.sock_buffers.specs.Downward.{Downward}
+use Rattle.sock_buffers.specs.Upward.{Upward}
+use Rattle.tcp_guest.specs.Connection.{Connection, has_gone}
+use Rattle.tcp_guest.specs.Segments.{is_done}
+use Rattle.flow_laws.specs.Settings.{Settings}
+use Rattle.flow_laws.specs.Event.{Accepts, At, Connects, Event, Opens, Story}
+use Rattle.flow_laws.specs.Flow.{opened_at}
+use Rattle.flow_laws.specs.Close.{host_was_ended}
+use Rattle.connection_steps.specs.Holding.{Holds, is_calls}
+use Rattle.connection_steps.specs.Over.{IsOver, IsResting, Runs}
+use Rattle.connection_steps.proofs.Quiet.{holds_later}
+use Rattle.connection_steps.proofs.Seeking.{seeks_on}
+use Rattle.flow_splice.specs.Follows.{Follows, FollowsAt, IsAtRest, IsFree, IsOpen, IsOwing}
+use Rattle.flow_splice.specs.Splice.{Splice, is_in_use, is_open}
+use Rattle.flow_splice.specs.declared.Place.{Place}
+use Rattle.flow_splice.specs.declared.Place.TheVariants.{Empty, InUse, Resting}
+
+-- ---- where it stands
+
+pub open_is : (s : Settings) (f : Splice) (past : Story) (now : ℕ) → is_open f ≡ true → Follows s f past now → IsOpen s f past now
+open_is s f past now is h = by f.place f.shut is h
+  where
+    by : (p : Place) (b : Bool) → (is_in_use p && not b) ≡ true → FollowsAt p b s f past now → IsOpen s f past now
+    by Empty b is h = absurd cc
+    by InUse true is h = absurd cc
+    by InUse false is h = h
+    by (Resting since) b is h = absurd cc
+
+pub open_follows : (s : Settings) (f : Splice) (past : Story) (now : ℕ) → is_open f ≡ true → IsOpen s f past now → Follows s f past now
+open_follows s f past now is h = by f.place f.shut is
+  where
+    by : (p : Place) (b : Bool) → (is_in_use p && not b) ≡ true → FollowsAt p b s f past now
+    by Empty b is = absurd cc
+    by InUse true is = absurd cc
+    by InUse false is = h
+    by (Resting since) b is = absurd cc
+
+-- ---- time passes
+
+pub runs_later : (s : Settings) (past : Story) (now m : ℕ) → now ≤ m → Runs s past now → Runs s past m
+runs_later s past now m on r = record { story = r.story; moment = let low = r.moment in omega (arith, low, on); lawful = r.lawful; dutiful = r.dutiful }
+
+pub over_later : (s : Settings) (c : Connection) (past : Story) (now m : ℕ) → now ≤ m → IsOver s c past now → IsOver s c past m
+over_later s c past now m on h = record { runs = runs_later s past now m on h.runs; closed = h.closed; well = h.well; over = h.over; owes = h.owes; pays = h.pays }
+
+pub resting_later : (s : Settings) (c : Connection) (up : Upward) (down : Downward) (past : Story) (now m since : ℕ) → now ≤ m → IsResting s c up down past now since → IsResting s c up down past m since
+resting_later s c up down past now m since on h = record {
+  over = over_later s c past now m on h.over;
+  at = h.at;
+  begun = h.begun;
+  theirs = h.theirs;
+  out = h.out;
+  shift = h.shift;
+  follows = h.follows;
+  ends = h.ends;
+  next = h.next;
+  ended = h.ended;
+  fin_out = h.fin_out;
+  first = h.first;
+  sent = h.sent;
+  granted = h.granted;
+  prompted = h.prompted;
+  answered = h.answered;
+}
+
+pub open_later : (s : Settings) (f : Splice) (past : Story) (now m : ℕ) → now ≤ m → IsOpen s f past now → IsOpen s f past m
+open_later s f past now m on h = record {
+  holds = holds_later s f.conn f.up f.down past now m on h.holds;
+  mru = h.mru;
+  since = h.since;
+  told = h.told;
+  unfinished = h.unfinished;
+  unsent = h.unsent;
+  seeks = h.seeks;
+}
+
+pub follows_later : (s : Settings) (f : Splice) (past : Story) (now m : ℕ) → now ≤ m → Follows s f past now → Follows s f past m
+follows_later s f past now m on h = by f.place f.shut h
+  where
+    by : (p : Place) (b : Bool) → FollowsAt p b s f past now → FollowsAt p b s f past m
+    by Empty b h = record { over = over_later s f.conn past now m on h.over; owes_none = h.owes_none }
+    by InUse true h = record { over = over_later s f.conn past now m on h.over; owes = h.owes; mru = h.mru; known = h.known }
+    by InUse false h = open_later s f past now m on h
+    by (Resting since) b h = record { rests = resting_later s f.conn f.up f.down past now m since on h.rests; mru = h.mru; known = h.known }
+
+-- ---- an event
+
+pub opened_still : (past : Story) (m : ℕ) (e : Event) → (Opens e → ⊥) → opened_at (At m e ∷ past) ≡ opened_at past
+opened_still past m (Connects ours syn) none = absurd (none tt)
+opened_still past m (Accepts ours) none = absurd (none tt)
+opened_still past m _ none = refl
+
+-- one after which the connection holds, and whether our SYN is to go out is as before
+pub goes_on : (s : Settings) (f : Splice) (c : Connection) (up : Upward) (down : Downward) (told : Bool) (past : Story) (before now : ℕ) (e : Event) → (Opens e → ⊥) → IsOpen s f past before
+    → Holds s c up down (At now e ∷ past) now → host_was_ended (At now e ∷ past) ≡ told → is_done c ≡ false
+    → (f.mac ≡ None → (is_calls c.stage ≡ true) × (has_gone c.sendings ≡ false))
+    → IsOpen s (record f { conn = c; up = up; down = down; told_end = told }) (At now e ∷ past) now
+goes_on s f c up down told past before now e none h holds told_is unfinished unsent = record {
+  holds = holds;
+  mru = h.mru;
+  since = opened_still past now e none ∙ h.since;
+  told = told_is;
+  unfinished = unfinished;
+  unsent = unsent;
+  seeks = λ unknown some. seeks_on now e past f.asked f.ask_at none (h.seeks unknown some);
+}

@@ -1,0 +1,139 @@
+-- The socket is closed.
+use Rattle.std.proofs.Common.{refl, ◌≡◌, ℕ, ◌≤◌, ◌∷◌, [], Bool, true, false, not, ◌&&◌, None, if◌then◌else◌, arith, ap, subst, sym, ◌∙◌}
+use Rattle.tcp_guest.specs.Connection.{Connection, closes_first, has_gone, is_synchronized}
+use Rattle.tcp_guest.specs.Hosts.{numbers_sent, over_by, reset, resets}
+use Rattle.tcp_guest.specs.Segments.{is_done, settled, settling}
+use Rattle.tcp_guest.specs.declared.Change.TheVariants.{Nothing, Finished}
+use Rattle.tcp_guest.specs.declared.Stage.{Stage}
+use Rattle.tcp_guest.specs.declared.Stage.TheVariants as stage
+use Rattle.flow_laws.specs.Settings.{Settings}
+use Rattle.flow_laws.specs.Event.{At, Closes, Story}
+use Rattle.flow_laws.specs.Close.{newest_rst}
+use Rattle.connection_steps.specs.Holding.{Holds, is_calls, is_live}
+use Rattle.connection_steps.specs.Over.{IsOver, IsResting, is_resets}
+use Rattle.connection_steps.proofs.Causes.{done_goes, done_rests, settled_is}
+use Rattle.flow_splice.specs.Hosts.{ends}
+use Rattle.flow_splice.specs.Follows.{Follows, FollowsAt, IsOpen}
+use Rattle.flow_splice.specs.Splice.{Splice, closed, is_in_use, is_open, place_after}
+
+-- a connection that is over and doesn't rest
+pub over_follows : (s : Settings) (f : Splice) (past : Story) (now : ℕ) → IsOver s f.conn past now → (f.conn.stage ≡ stage.Rests → ⊥) → f.mru ≡ s.mru → (is_resets f.conn.stage ≡ true → f.mac ≡ None → ⊥)
+    → Follows s (closed f now) past now
+over_follows s f past now over awake mru known = by f.conn.stage refl
+  where
+    by : (st : Stage) → f.conn.stage ≡ st → FollowsAt (place_after st now) true s (closed f now) past now
+    by stage.Connects at = let not_it = sym (ap is_live at) ∙ over.over in absurd cc
+    by stage.Calls at = let not_it = sym (ap is_live at) ∙ over.over in absurd cc
+    by stage.Answers at = let not_it = sym (ap is_live at) ∙ over.over in absurd cc
+    by stage.Synchronized at = let not_it = sym (ap is_live at) ∙ over.over in absurd cc
+    by stage.Rests at = absurd (awake at)
+    by (stage.Resets seq ack) at = record { over = over; owes = ap is_resets at; mru = mru; known = known (ap is_resets at) }
+    by stage.Gone at = record { over = over; owes_none = ap is_resets at }
+
+-- one that rests
+pub rest_follows : (s : Settings) (f : Splice) (past : Story) (now : ℕ) → IsResting s f.conn f.up f.down past now now → f.mru ≡ s.mru → (f.mac ≡ None → ⊥) → Follows s (closed f now) past now
+rest_follows s f past now rests mru known = subst (λ (st : Stage). FollowsAt (place_after st now) true s (closed f now) past now) (sym rests.at) (record { rests = rests; mru = mru; known = known })
+
+-- a reset is owed to a guest that is known
+reset_awake : (c : Connection) (st : Stage) → over_by st c ≡ stage.Rests → is_live st ≡ true → ⊥
+reset_awake c stage.Connects is live = cc
+reset_awake c stage.Calls is live = by (has_gone c.sendings) is
+  where
+    by : (b : Bool) → (if b then resets (numbers_sent c) 0 else stage.Gone) ≡ stage.Rests → ⊥
+    by true is = cc
+    by false is = cc
+reset_awake c stage.Answers is live = cc
+reset_awake c stage.Synchronized is live = cc
+reset_awake c stage.Rests is live = cc
+reset_awake c (stage.Resets seq ack) is live = cc
+reset_awake c stage.Gone is live = cc
+
+unsent_none : (c : Connection) (st : Stage) → is_calls st ≡ true → has_gone c.sendings ≡ false → is_resets (over_by st c) ≡ false
+unsent_none c stage.Connects calls unsent = absurd cc
+unsent_none c stage.Calls calls unsent = ap (λ (b : Bool). is_resets (if b then resets (numbers_sent c) 0 else stage.Gone)) unsent
+unsent_none c stage.Answers calls unsent = absurd cc
+unsent_none c stage.Synchronized calls unsent = absurd cc
+unsent_none c stage.Rests calls unsent = absurd cc
+unsent_none c (stage.Resets seq ack) calls unsent = absurd cc
+unsent_none c stage.Gone calls unsent = absurd cc
+
+-- the connection is reset
+pub reset_follows : (s : Settings) (f : Splice) (past last : Story) (before now : ℕ) → IsOpen s f past before → IsOver s (reset f.conn) last now → Follows s (closed (record f { conn = reset f.conn }) now) last now
+reset_follows s f past last before now h over =
+    over_follows s (record f { conn = reset f.conn }) last now over (λ is. reset_awake f.conn f.conn.stage is h.holds.opened.live) h.mru
+    (λ resets_is unknown. let two = h.unsent unknown in let not_it = sym resets_is ∙ unsent_none f.conn f.conn.stage two.0 two.1 in cc)
+
+-- ---- both ends passed
+
+synchronized_reached : (st : Stage) → is_synchronized st ≡ true → is_calls st ≡ false
+synchronized_reached stage.Connects is = refl
+synchronized_reached stage.Calls is = absurd cc
+synchronized_reached stage.Answers is = refl
+synchronized_reached stage.Synchronized is = refl
+synchronized_reached stage.Rests is = refl
+synchronized_reached (stage.Resets seq ack) is = refl
+synchronized_reached stage.Gone is = refl
+
+first_of_four : (a b c d : Bool) → (a && b && c && d) ≡ true → a ≡ true
+first_of_four true b c d is = refl
+first_of_four false b c d is = absurd cc
+
+-- with this connection, which makes of itself that it is finished
+pub done_follows : (s : Settings) (f : Splice) (x : Connection) (past : Story) (now : ℕ) (directly known : Bool) → Holds s x f.up f.down past now → is_done x ≡ true → newest_rst past ≡ None → f.mru ≡ s.mru
+    → (f.mac ≡ None → is_calls x.stage ≡ true) → Follows s (closed (record f { conn = settled x }) now) (At now (Closes directly false known) ∷ past) now
+done_follows s f x past now directly known h done no_rst mru unknown =
+    subst (λ (c : Connection). Follows s (closed (record f { conn = c }) now) (At now (Closes directly false known) ∷ past) now)
+    (sym (settled_is s x f.up f.down past now now (omega arith) h known done reached no_rst directly false))
+    (by (closes_first x) refl)
+  where
+    reached : is_calls x.stage ≡ false
+    reached = synchronized_reached x.stage (first_of_four (is_synchronized x.stage) x.host_ended x.fin_acked x.end_acknowledged done)
+
+    by : (b : Bool) → closes_first x ≡ b → Follows s (closed (record f { conn = if b then record x { stage = stage.Rests } else record x { stage = stage.Gone } }) now) (At now (Closes directly false known) ∷ past) now
+    by true first = record {
+      rests = done_rests s x f.up f.down past now now (omega arith) h known done reached no_rst directly false first;
+      mru = mru;
+      known = λ none. let not_it = sym (unknown none) ∙ reached in absurd cc;
+    }
+    by false last = record {
+      over = done_goes s x f.up f.down past now now (omega arith) h known done reached no_rst directly false;
+      owes_none = refl;
+    }
+
+-- what a connection makes of itself is over where it says so
+pub settled_over : (x : Connection) → ends (settling x) ≡ true → is_live (settled x).stage ≡ false
+settled_over x is = by (is_done x) (closes_first x) is
+  where
+    by : (b d : Bool) → ends (if b then Finished else Nothing) ≡ true → is_live (if b then (if d then record x { stage = stage.Rests } else record x { stage = stage.Gone }) else x).stage ≡ false
+    by true true is = refl
+    by true false is = refl
+    by false d is = absurd cc
+
+-- and else it stays as it is
+pub settled_same : (x : Connection) → is_done x ≡ false → settled x ≡ x
+settled_same x is = ap (λ (b : Bool). if b then (if closes_first x then record x { stage = stage.Rests } else record x { stage = stage.Gone }) else x) is
+
+-- a connection that was reset is over
+pub reset_dead : (c : Connection) → is_live (reset c).stage ≡ false
+reset_dead c = by c.stage
+  where
+    by : (st : Stage) → is_live (over_by st c) ≡ false
+    by stage.Connects = refl
+    by stage.Calls = if_gone (has_gone c.sendings)
+      where
+        if_gone : (b : Bool) → is_live (if b then resets (numbers_sent c) 0 else stage.Gone) ≡ false
+        if_gone true = refl
+        if_gone false = refl
+    by stage.Answers = refl
+    by stage.Synchronized = refl
+    by stage.Rests = refl
+    by (stage.Resets seq ack) = refl
+    by stage.Gone = refl
+
+-- what is closed isn't open
+pub shut_is : (f : Splice) (now : ℕ) → is_open (closed f now) ≡ true → ⊥
+shut_is f now is = by (is_in_use (place_after f.conn.stage now)) is
+  where
+    by : (b : Bool) → (b && not true) ≡ true → ⊥
+    by true is = cc
+    by false is = cc

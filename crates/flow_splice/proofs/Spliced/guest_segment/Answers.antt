@@ -1,0 +1,36 @@
+use Rattle.std.proofs.Common.{◌≡◌, ◌&&◌, ℕ, [], Bool, false, refl, ap, subst, sym, ◌∙◌}
+use Rattle.world_face.proofs.Telling.{makes_none}
+use Rattle.tcp_segment.specs.Tcp.{Tcp, tcp_of}
+use Rattle.tcp_guest.specs.Segments.{change_at}
+use Rattle.flow_splice.specs.Guests.{Hears, ends_rest, heard_at_rest, is_unfit}
+use Rattle.flow_splice.specs.Hosts.{IsAsOld}
+use Rattle.flow_splice.specs.Splice.{Splice}
+use Rattle.flow_splice.specs.declared.Place.{Place}
+use Rattle.flow_splice.specs.declared.Place.TheVariants.{Resting}
+use Rattle.flow_splice.proofs.Resting.{at_rest_as_old, hears_at_rest, hears_nothing}
+use Rattle.flow_splice.proofs.Spliced.guest_segment.Goals as goal
+
+pub returns-in-Resting-clause-makes : goal.returns-in-Resting-clause-makes
+returns-in-Resting-clause-makes g c =
+    let f : Splice = c.args.self.now in
+    let tcp : Tcp = tcp_of c.args.seg.now in
+    let since : ℕ = c.in-Resting.since in
+    makes_none _ _ (subst (λ (x : Splice). Hears f x tcp c.args.now []) (sym c.hear_at_rest.ensures.heard) (hears_at_rest f c.args.now since tcp (sym c.place.ensures ∙ c.in-Resting.is)))
+
+pub returns-in-Resting-clause-same : goal.returns-in-Resting-clause-same
+returns-in-Resting-clause-same g c =
+    let f : Splice = c.args.self.now in
+    let tcp : Tcp = tcp_of c.args.seg.now in
+    subst (λ (x : Splice). IsAsOld f x) (sym c.hear_at_rest.ensures.heard) (at_rest_as_old (ends_rest f.conn tcp) f c.in-Resting.since tcp c.args.now)
+
+pub returns-in_default : goal.returns-in_default
+returns-in_default g c =
+    let f : Splice = c.args.self.now in
+    let tcp : Tcp = tcp_of c.args.seg.now in
+    record {
+      makes = makes_none _ _ (hears_nothing f c.args.now tcp (sym c.is_open.ensures ∙ c.if-is_open.false) (λ since at. c.in_default.not-Resting since (c.place.ensures ∙ at)));
+      unfit = sym (ap (λ (b : Bool). b && is_unfit (change_at f.conn f.up f.down tcp c.args.now)) (sym c.is_open.ensures ∙ c.if-is_open.false));
+      same = record { face = refl; mac = refl; since = refl; asked = refl; ask_at = refl; up_size = refl; down_size = refl; mru = refl };
+      up = refl;
+      down = refl;
+    }

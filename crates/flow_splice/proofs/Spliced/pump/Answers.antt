@@ -1,0 +1,61 @@
+use Rattle.std.proofs.Common.{◌≡◌, ◌<◌, ◌^◌, ℕ, [], List, arith, subst, sym, ap, ◌∙◌}
+use Rattle.world_face.specs.Journal.{Entry}
+use Rattle.world_face.proofs.Telling.{makes_as, makes_none}
+use Rattle.stream_netdev.specs.State.{LinkState}
+use Rattle.flow_splice.specs.Sends.{SendsOn, learnt}
+use Rattle.flow_splice.specs.Splice.{Splice}
+use Rattle.tcp_guest.specs.Connection.{Connection}
+use Rattle.flow_splice.specs.Ahead.{IsAhead, IsEarly}
+use Rattle.flow_splice.proofs.Ahead.{follows_waits}
+use Rattle.flow_splice.proofs.Asking.{learn_then}
+use Rattle.flow_splice.proofs.Marking.{sends_none}
+use Rattle.flow_splice.proofs.Spliced.pump.Goals as goal
+
+pub returns-then-blocked-clause-makes : goal.returns-then-blocked-clause-makes
+returns-then-blocked-clause-makes g c =
+    let f : Splice = c.args.self.now in
+    let mid : Splice = c.learn.new.self in
+    let link : LinkState = c.args.link.now in
+    makes_none _ _ (learn_then f mid c.args.mac link link c.args.ident.now c.args.ident.now c.args.now []
+    (subst (λ (x : Splice). SendsOn x mid link link c.args.ident.now c.args.ident.now c.args.now []) c.learn.ensures (sends_none mid link c.args.ident.now c.args.now (omega arith))))
+
+pub returns-in-Some-clause-makes : goal.returns-in-Some-clause-makes
+returns-in-Some-clause-makes g c =
+    let f : Splice = c.args.self.now in
+    let mid : Splice = c.learn.new.self in
+    let new : Splice = c.send_all.new.self in
+    let link : LinkState = c.args.link.now in
+    let next : LinkState = c.send_all.new.link in
+    let first : ℕ = c.args.ident.now in
+    let last : ℕ = c.send_all.new.ident in
+    makes_as _ _ (SendsOn mid new link next first last c.args.now) (SendsOn f new link next first last c.args.now) c.send_all.ensures.makes
+    (λ made sends. learn_then f new c.args.mac link next first last c.args.now made (subst (λ (x : Splice). SendsOn x new link next first last c.args.now made) c.learn.ensures sends))
+
+pub returns-in-None-clause-makes : goal.returns-in-None-clause-makes
+returns-in-None-clause-makes g c =
+    let f : Splice = c.args.self.now in
+    let mid : Splice = c.learn.new.self in
+    let new : Splice = c.seek.new.self in
+    let link : LinkState = c.args.link.now in
+    let next : LinkState = c.seek.new.link in
+    let first : ℕ = c.args.ident.now in
+    makes_as _ _ (λ made. (n : ℕ) → n < 2 ^ 16 → SendsOn mid new link next n n c.args.now made) (SendsOn f new link next first first c.args.now) c.seek.ensures.makes
+    (λ made sends. learn_then f new c.args.mac link next first first c.args.now made (subst (λ (x : Splice). SendsOn x new link next first first c.args.now made) c.learn.ensures (sends first (omega arith))))
+
+pub returns-in-Some-clause-ahead : goal.returns-in-Some-clause-ahead
+returns-in-Some-clause-ahead g c s past before h ahead =
+    let f : Splice = c.args.self.now in
+    let same : c.learn.new.self.conn ≡ f.conn = ap (λ (x : Splice). x.conn) c.learn.ensures in
+    (c.send_all.ensures.early (subst (IsEarly c.args.now) (sym same) (ahead, follows_waits s f past before h))).0
+
+pub returns-in-None-clause-ahead : goal.returns-in-None-clause-ahead
+returns-in-None-clause-ahead g c s past before h ahead =
+    let f : Splice = c.args.self.now in
+    let same : c.learn.new.self.conn ≡ f.conn = ap (λ (x : Splice). x.conn) c.learn.ensures in
+    subst (λ (x : Connection). IsAhead x c.args.now) (sym (c.seek.ensures.conn ∙ same)) ahead
+
+pub returns-then-blocked-clause-ahead : goal.returns-then-blocked-clause-ahead
+returns-then-blocked-clause-ahead g c s past before h ahead =
+    let f : Splice = c.args.self.now in
+    let same : c.learn.new.self.conn ≡ f.conn = ap (λ (x : Splice). x.conn) c.learn.ensures in
+    subst (λ (x : Connection). IsAhead x c.args.now) (sym same) ahead

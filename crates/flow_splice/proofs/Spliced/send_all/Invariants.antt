@@ -1,0 +1,23 @@
+use Rattle.std.proofs.Common.{◌≡◌, ◌^◌, ◌<◌, ℕ, [], false}
+use Rattle.world_face.specs.Tells.{Makes}
+use Rattle.stream_netdev.specs.State.{under_way}
+use Rattle.flow_splice.specs.Ahead.{IsEarly}
+use Rattle.flow_splice.specs.Hosts.{IsAsOld}
+use Rattle.flow_splice.specs.Left.{left}
+use Rattle.flow_splice.specs.Sends.{SendsOn}
+use Rattle.flow_splice.proofs.Spliced.send_all.Given as goal
+
+abbrev pub invariant-loop-what : goal.invariant-loop-what
+invariant-loop-what g l = record {
+  makes : Makes (g.W.World.tells l.fn.world) (g.W.World.tells l.world) (SendsOn l.fn.self l.self l.fn.link l.link l.fn.ident l.ident l.now);
+  tail : l.link.tail ≡ [];
+  free : l.link.blocked ≡ false;
+  as_old : IsAsOld l.fn.self l.self;
+  up : l.self.up ≡ l.fn.self.up;
+  down : l.self.down ≡ l.fn.self.down;
+  same : under_way l.link ≡ under_way l.fn.link;
+  early : IsEarly l.now l.fn.self.conn → IsEarly l.now l.self.conn;
+}
+
+abbrev pub decreases-loop-what : goal.decreases-loop-what
+decreases-loop-what g l = left l.self

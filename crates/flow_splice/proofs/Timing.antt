@@ -1,0 +1,224 @@
+-- Time passes: what was awaited too long, and timers.
+use Rattle.std.proofs.Common.{refl, ◌≡◌, ℕ, ◌+◌, ◌<◌, ◌≤◌, ◌^◌, [], ◌∷◌, ◌++◌, List, Bool, true, false, not, ◌&&◌, ◌||◌, Option, None, Some, is_some, if◌then◌else◌, nat_eq, nat_le, nat_lt, IsTrue, arith, ap, subst, sym, ◌∙◌}
+use Rattle.std.proofs.lemmas.Bool.Decides.{nat_tests}
+use Rattle.retransmit.specs.Resending.{after_expired as resend_expired, due_of as resend_due, is_given_up}
+use Rattle.net_octets.specs.declared.Mac.{Mac}
+use Rattle.tcp_transmit.specs.Timing.{after_expired as transmission_expired}
+use Rattle.flow_steps.specs.Resends.{Seeks}
+use Rattle.tcp_guest.specs.Connection.{Connection, HasBuffers, has_gone, is_opening}
+use Rattle.tcp_guest.specs.Hosts.{reset}
+use Rattle.tcp_guest.specs.Segments.{is_done}
+use Rattle.tcp_guest.specs.Timing.{after_tick, again, change_at_tick, change_expiring, due_by, due_of as conn_due, expired, is_due, is_spent}
+use Rattle.tcp_guest.specs.declared.Change.TheVariants.{Nothing, Finished}
+use Rattle.tcp_guest.specs.declared.Stage.{Stage}
+use Rattle.tcp_guest.specs.declared.Stage.TheVariants as stage
+use Rattle.world_face.specs.Journal.{Close, Entry}
+use Rattle.flow_laws.specs.Settings.{Settings}
+use Rattle.flow_laws.specs.Event.{At, Closes, Story}
+use Rattle.flow_laws.specs.Flow.{is_accepted, is_connecting, opened_at, syn_is_out}
+use Rattle.flow_laws.specs.Close.{connects_too_long, finds_no_guest, gives_up}
+use Rattle.flow_steps.proofs.InTime.{not_found}
+use Rattle.connection_steps.specs.Holding.{Holds, is_calls, is_connects, is_live}
+use Rattle.connection_steps.proofs.Causes.{gives_up_closes, late_closes, unfound_closes}
+use Rattle.connection_steps.proofs.Ticking.{piece_expires, piece_spent, syn_expires, syn_spent}
+use Rattle.connection_steps.proofs.Watching.{opening_is}
+use Rattle.flow_splice.specs.Entries.{AreEvents}
+use Rattle.flow_splice.specs.Follows.{Follows, IsOpen}
+use Rattle.flow_splice.specs.Hosts.{Sees, ends}
+use Rattle.flow_splice.specs.Serves.{GoesOn, Serves, TicksOn}
+use Rattle.flow_splice.specs.Splice.{Splice, closed, is_open}
+use Rattle.flow_splice.specs.Wants.{connect_end, seeks}
+use Rattle.flow_splice.proofs.Opened.{open_follows, open_is, open_later}
+use Rattle.flow_splice.proofs.Shutting.{reset_dead, reset_follows, shut_is}
+
+late_test : (m n : ℕ) → m ≤ n → nat_le m n ≡ true
+late_test m n low = grind (arith, nat_tests)
+
+connects_opening : (st : Stage) → is_connects st ≡ true → is_opening st ≡ true
+connects_opening stage.Connects is = refl
+connects_opening stage.Calls is = absurd cc
+connects_opening stage.Answers is = absurd cc
+connects_opening stage.Synchronized is = absurd cc
+connects_opening stage.Rests is = absurd cc
+connects_opening (stage.Resets seq ack) is = absurd cc
+connects_opening stage.Gone is = absurd cc
+
+module _ (f : Splice) (now : ℕ) (open_yet : is_open f ≡ true) where
+  -- what is closed with a reset
+  shut_by : (s : Settings) (past : Story) (before ident : ℕ) (known : Bool) → IsOpen s f past before → Follows s (closed (record f { conn = reset f.conn }) now) (At now (Closes false false known) ∷ past) now
+      → Serves s (closed (record f { conn = reset f.conn }) now) false known ident now past (Close f.face.number ∷ [])
+  shut_by s past before ident known o h = record { beats = At now (Closes false false known) ∷ []; are = ([], refl, (refl, refl)); follows = h }
+
+  -- the socket didn't connect
+  pub host_late : is_connects f.conn.stage ≡ true → connect_end f ≤ now → GoesOn f (closed (record f { conn = reset f.conn }) now) false now (Close f.face.number ∷ [])
+  host_late connects over s past before ident known on h =
+      let o = open_is s f past before open_yet h in
+      let late : connects_too_long now past ≡ true = both (is_connecting past) (nat_le (opened_at past + 75000) now) (o.holds.opened.connects ∙ connects) (late_test (opened_at past + 75000) now (let since = o.since in omega (arith, since, over))) in
+      shut_by s past before ident known o
+      (reset_follows s f past (At now (Closes false false known) ∷ past) before now o (late_closes s f.conn f.up f.down past before now on o.holds known (connects_opening f.conn.stage connects) late))
+    where
+      both : (a b : Bool) → a ≡ true → b ≡ true → (a && b) ≡ true
+      both a b a_is b_is = rw (a_is, b_is) refl
+
+  -- the guest wasn't found
+  pub guest_missing : seeks f ≡ true → (nat_eq f.asked 9 && nat_le f.ask_at now) ≡ true → TicksOn f (closed (record f { conn = reset f.conn }) now) now (Close f.face.number ∷ [])
+  guest_missing seeking enough s past before ident known on unknown h =
+      let o = open_is s f past before open_yet h in
+      let none = none_known f.mac seeking in
+      let two = o.unsent none in
+      let many = enough_is f.asked f.ask_at enough in
+      let accepted : is_accepted past ≡ true = o.holds.opened.calls two.0 in
+      let silent : syn_is_out past ≡ false = o.holds.opened.out ∙ two.1 in
+      let missing : IsTrue (finds_no_guest known now past) = subst (λ (b : Bool). IsTrue (finds_no_guest b now past)) (sym (unknown none))
+      (not_found past f.ask_at now (subst (λ (n : ℕ). Seeks past n f.ask_at) many.0 (o.seeks none (let is = many.0 in omega (arith, is)))) many.1 accepted silent) in
+      shut_by s past before ident known o
+      (reset_follows s f past (At now (Closes false false known) ∷ past) before now o
+      (unfound_closes s f.conn f.up f.down past before now on o.holds known missing (rw (accepted, silent) refl)))
+    where
+      none_known : (mac : Option Mac) → (not (is_some mac) && nat_lt 0 f.asked) ≡ true → mac ≡ None
+      none_known None is = refl
+      none_known (Some m) is = absurd cc
+
+      enough_is : (n at : ℕ) → (nat_eq n 9 && nat_le at now) ≡ true → (n ≡ 9) × (at ≤ now)
+      enough_is n at is = (grind (arith, nat_tests), grind (arith, nat_tests))
+
+  -- ---- the connection's timer
+
+  -- what is over is reset
+  pub tick_dead : ends (change_at_tick f.conn now) ≡ true → is_live (after_tick f.conn now).stage ≡ false
+  tick_dead is = by (is_due (conn_due f.conn) now) (is_spent f.conn) f.conn.ack_owed is
+    where
+      by : (a b d : Bool) → ends (if a then (if b then (if d then Nothing else Finished) else Nothing) else Nothing) ≡ true
+          → is_live (if a then (if b then (if d then f.conn else reset f.conn) else again f.conn) else f.conn).stage ≡ false
+      by true true true is = absurd cc
+      by true true false is = reset_dead f.conn
+      by true false d is = absurd cc
+      by false b d is = absurd cc
+
+  module _ (buffers : HasBuffers (after_tick f.conn now) f.up f.down) (e : Bool) (ends_is : ends (change_at_tick f.conn now) ≡ e) (new : Splice) (made : List Entry)
+      (sees : Sees e (record f { conn = after_tick f.conn now }) new now made) where
+    module _ (s : Settings) (past : Story) (before ident : ℕ) (known : Bool) (on : before ≤ now) (o : IsOpen s f past before) where
+      later : IsOpen s f past now
+      later = open_later s f past before now on o
+
+      abbrev Result : Type 0
+      Result = Serves s new false known ident now past made
+
+      -- it goes on with this connection
+      stays : (x : Connection) → after_tick f.conn now ≡ x → ends (change_at_tick f.conn now) ≡ false → Holds s x f.up f.down past now → is_done x ≡ false
+          → (f.mac ≡ None → (is_calls x.stage ≡ true) × (has_gone x.sendings ≡ false)) → Result
+      stays x is none h unfinished unsent = by e ends_is sees
+        where
+          by : (b : Bool) → ends (change_at_tick f.conn now) ≡ b → Sees b (record f { conn = after_tick f.conn now }) new now made → Result
+          by true ends_now saw = let not_it = sym none ∙ ends_now in absurd cc
+          by false ends_now saw = record {
+            beats = [];
+            are = subst (λ (es : List Entry). AreEvents s new.face new.mac false known ident now past es []) (sym saw.0) refl;
+            follows = subst (λ (g : Splice). Follows s g past now) (sym saw.1)
+                (subst (λ (c : Connection). Follows s (record f { conn = c }) past now) (sym is)
+                (open_follows s (record f { conn = x }) past now open_yet
+                (record { holds = h; mru = o.mru; since = o.since; told = o.told; unfinished = unfinished; unsent = unsent; seeks = o.seeks })));
+          }
+
+      given_up : after_tick f.conn now ≡ reset f.conn → ends (change_at_tick f.conn now) ≡ true → IsTrue (gives_up now past) → Result
+      given_up is over cause = by e ends_is sees
+        where
+          by : (b : Bool) → ends (change_at_tick f.conn now) ≡ b → Sees b (record f { conn = after_tick f.conn now }) new now made → Result
+          by true ends_now saw = record {
+            beats = At now (Closes false false known) ∷ [];
+            are = subst (λ (es : List Entry). AreEvents s new.face new.mac false known ident now past es (At now (Closes false false known) ∷ [])) (sym saw.0)
+                (subst (λ (g : Splice). AreEvents s g.face g.mac false known ident now past (Close f.face.number ∷ []) (At now (Closes false false known) ∷ [])) (sym saw.1) ([], refl, (refl, refl)));
+            follows = subst (λ (g : Splice). Follows s g (At now (Closes false false known) ∷ past) now) (sym saw.1)
+                (subst (λ (c : Connection). Follows s (closed (record f { conn = c }) now) (At now (Closes false false known) ∷ past) now) (sym is)
+                (reset_follows s f past (At now (Closes false false known) ∷ past) before now o (gives_up_closes s f.conn f.up f.down past before now on o.holds known cause)));
+          }
+          by false ends_now saw = let not_it = sym over ∙ ends_now in absurd cc
+
+      -- by whether it is due, given up, and owes an acknowledgement
+      tick_is : (a b d : Bool) → is_due (conn_due f.conn) now ≡ a → is_spent f.conn ≡ b → f.conn.ack_owed ≡ d
+          → (after_tick f.conn now ≡ (if a then (if b then (if d then f.conn else reset f.conn) else again f.conn) else f.conn))
+          × (change_at_tick f.conn now ≡ (if a then (if b then (if d then Nothing else Finished) else Nothing) else Nothing))
+      tick_is a b d a_is b_is d_is = (rw (a_is, b_is, d_is) refl, rw (a_is, b_is, d_is) refl)
+
+      due_at : (o : Option ℕ) → is_due o now ≡ true → (at : ℕ) × (o ≡ Some at) × (at ≤ now)
+      due_at None is = absurd cc
+      due_at (Some at) is = (at, refl, grind (arith, nat_tests))
+
+      -- the stage tells whose timer it is
+      syn_due : (st : Stage) (at : ℕ) → f.conn.stage ≡ st → is_opening st ≡ true → due_by st f.conn ≡ Some at → resend_due f.conn.syn ≡ Some at
+      syn_due stage.Connects at is opening due = absurd cc
+      syn_due stage.Calls at is opening due = due
+      syn_due stage.Answers at is opening due = due
+      syn_due stage.Synchronized at is opening due = absurd cc
+      syn_due stage.Rests at is opening due = absurd cc
+      syn_due (stage.Resets seq ack) at is opening due = absurd cc
+      syn_due stage.Gone at is opening due = absurd cc
+
+      piece_due : (st : Stage) (at : ℕ) → f.conn.stage ≡ st → is_opening st ≡ false → due_by st f.conn ≡ Some at → resend_due f.conn.transmission.resend ≡ Some at
+      piece_due stage.Connects at is opening due = absurd cc
+      piece_due stage.Calls at is opening due = absurd cc
+      piece_due stage.Answers at is opening due = absurd cc
+      piece_due stage.Synchronized at is opening due = due
+      piece_due stage.Rests at is opening due = absurd cc
+      piece_due (stage.Resets seq ack) at is opening due = absurd cc
+      piece_due stage.Gone at is opening due = absurd cc
+
+      spent_is : (a : Bool) → is_opening f.conn.stage ≡ a → is_spent f.conn ≡ is_given_up (if a then f.conn.syn else f.conn.transmission.resend)
+      spent_is a is = ap (λ (q : Bool). is_given_up (if q then f.conn.syn else f.conn.transmission.resend)) is
+
+      again_is : (a : Bool) → is_opening f.conn.stage ≡ a
+          → again f.conn ≡ (if a then record f.conn { syn = resend_expired f.conn.syn; syn_owed = true } else record f.conn { transmission = transmission_expired f.conn.transmission })
+      again_is a is = ap (λ (q : Bool). if q then record f.conn { syn = resend_expired f.conn.syn; syn_owed = true } else record f.conn { transmission = transmission_expired f.conn.transmission }) is
+
+      has : (x : Connection) → after_tick f.conn now ≡ x → HasBuffers x f.up f.down
+      has x is = subst (λ (c : Connection). HasBuffers c f.up f.down) is buffers
+
+      by_opening : (a : Bool) → is_opening f.conn.stage ≡ a → is_due (conn_due f.conn) now ≡ true → (b d : Bool) → is_spent f.conn ≡ b → f.conn.ack_owed ≡ d → Result
+      by_opening a opening due true true spent owed =
+          let two = tick_is true true true due spent owed in
+          stays f.conn two.0 (ap ends two.1) later.holds o.unfinished o.unsent
+      by_opening true opening due true false spent owed =
+          let two = tick_is true true false due spent owed in
+          let at = due_at (conn_due f.conn) due in
+          given_up two.0 (ap ends two.1) (syn_spent s f.conn f.up f.down past now later.holds at.0 at.2 opening (syn_due f.conn.stage at.0 refl opening at.1) (sym (spent_is true opening) ∙ spent))
+      by_opening false opening due true false spent owed =
+          let two = tick_is true true false due spent owed in
+          let at = due_at (conn_due f.conn) due in
+          given_up two.0 (ap ends two.1) (piece_spent s f.conn f.up f.down past now later.holds at.0 at.2 opening (piece_due f.conn.stage at.0 refl opening at.1) (sym (spent_is false opening) ∙ spent))
+      by_opening true opening due false d spent owed =
+          let two = tick_is true false d due spent owed in
+          let x : Connection = record f.conn { syn = resend_expired f.conn.syn; syn_owed = true } in
+          let is : after_tick f.conn now ≡ x = two.0 ∙ again_is true opening in
+          let at = due_at (conn_due f.conn) due in
+          stays x is (ap ends two.1) (syn_expires s f.conn f.up f.down past now later.holds at.0 at.2 opening (syn_due f.conn.stage at.0 refl opening at.1) (sym (spent_is true opening) ∙ spent) (has x is)) o.unfinished o.unsent
+      by_opening false opening due false d spent owed =
+          let two = tick_is true false d due spent owed in
+          let x : Connection = record f.conn { transmission = transmission_expired f.conn.transmission } in
+          let is : after_tick f.conn now ≡ x = two.0 ∙ again_is false opening in
+          let at = due_at (conn_due f.conn) due in
+          stays x is (ap ends two.1) (piece_expires s f.conn f.up f.down past now later.holds at.0 at.2 opening (piece_due f.conn.stage at.0 refl opening at.1) (sym (spent_is false opening) ∙ spent) (has x is)) o.unfinished o.unsent
+
+      by_due : (a : Bool) → is_due (conn_due f.conn) now ≡ a → Result
+      by_due true due = by_opening (is_opening f.conn.stage) refl due (is_spent f.conn) f.conn.ack_owed refl refl
+      by_due false due =
+          let two = tick_is false (is_spent f.conn) f.conn.ack_owed due refl refl in
+          stays f.conn two.0 (ap ends two.1) later.holds o.unfinished o.unsent
+
+    pub ticks : GoesOn f new false now made
+    ticks s past before ident known on h = by_due s past before ident known on (open_is s f past before open_yet h) (is_due (conn_due f.conn) now) refl
+
+-- a connection that isn't over keeps its stage
+pub tick_stage : (c : Connection) (now : ℕ) → ends (change_at_tick c now) ≡ false → (after_tick c now).stage ≡ c.stage
+tick_stage c now is = by (is_due (conn_due c) now) (is_spent c) c.ack_owed (is_opening c.stage) is
+  where
+    by : (a b d e : Bool) → ends (if a then (if b then (if d then Nothing else Finished) else Nothing) else Nothing) ≡ false
+        → (if a then (if b then (if d then c else reset c) else (if e then record c { syn = resend_expired c.syn; syn_owed = true } else record c { transmission = transmission_expired c.transmission })) else c).stage ≡ c.stage
+    by true true true e is = refl
+    by true true false e is = absurd cc
+    by true false d true is = refl
+    by true false d false is = refl
+    by false b d e is = refl
+
+pub sees_stage : (b : Bool) (f new : Splice) (now : ℕ) (made : List Entry) → ends (change_at_tick f.conn now) ≡ b → Sees b (record f { conn = after_tick f.conn now }) new now made → is_open new ≡ true → new.conn.stage ≡ f.conn.stage
+sees_stage true f new now made is sees yet = absurd (shut_is (record f { conn = after_tick f.conn now }) now (ap is_open (sym sees.1) ∙ yet))
+sees_stage false f new now made is sees yet = ap (λ (x : Splice). x.conn.stage) sees.1 ∙ tick_stage f.conn now is

@@ -1,0 +1,8 @@
+use Rattle.flow_splice.proofs.Promises.{place_is, rest_is}
+use Rattle.flow_splice.proofs.laws.a_place_is_in_use_as_long_as_its_flow_has_its_tuple.Goals as goal
+
+pub returns-clause-in_use : goal.returns-clause-in_use
+returns-clause-in_use c s f past now h = place_is s f past now h
+
+pub returns-clause-rests : goal.returns-clause-rests
+returns-clause-rests c s f past now since h at = rest_is s f past now since h at

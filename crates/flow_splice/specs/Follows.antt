@@ -1,0 +1,56 @@
+-- A flow that is spliced, against its story.
+use Rattle.std.specs.Prelude.{◌≡◌, ℕ, ◌<◌, Bool, true, false, None}
+use Rattle.tcp_guest.specs.Connection.{has_gone}
+use Rattle.tcp_guest.specs.Segments.{is_done}
+use Rattle.flow_laws.specs.Settings.{Settings}
+use Rattle.flow_laws.specs.Event.{Story}
+use Rattle.flow_laws.specs.Flow.{opened_at}
+use Rattle.flow_laws.specs.Close.{host_was_ended}
+use Rattle.flow_steps.specs.Resends.{Seeks}
+use Rattle.connection_steps.specs.Holding.{Holds, is_calls}
+use Rattle.connection_steps.specs.Over.{IsOver, IsResting, is_resets}
+use Rattle.flow_splice.specs.Splice.{Splice}
+use Rattle.flow_splice.specs.declared.Place.{Place}
+use Rattle.flow_splice.specs.declared.Place.TheVariants.{Empty, InUse, Resting}
+
+-- Its socket is open: the connection and its buffers follow the story. As long as the guest's hardware address isn't known our SYN isn't out, and
+-- the address was asked for so often. Not both ends passed.
+pub record IsOpen (s : Settings) (f : Splice) (past : Story) (now : ℕ) : Type 0 where
+  pub holds : Holds s f.conn f.up f.down past now
+  pub mru : f.mru ≡ s.mru
+  pub since : opened_at past ≡ f.since
+  pub told : host_was_ended past ≡ f.told_end
+  pub unfinished : is_done f.conn ≡ false
+  pub unsent : f.mac ≡ None → (is_calls f.conn.stage ≡ true) × (has_gone f.conn.sendings ≡ false)
+  pub seeks : f.mac ≡ None → 0 < f.asked → Seeks past f.asked f.ask_at
+
+-- Its socket was closed, and it owes a guest that it knows a reset.
+pub record IsOwing (s : Settings) (f : Splice) (past : Story) (now : ℕ) : Type 0 where
+  pub over : IsOver s f.conn past now
+  pub owes : is_resets f.conn.stage ≡ true
+  pub mru : f.mru ≡ s.mru
+  pub known : f.mac ≡ None → ⊥
+
+-- Its socket was closed, and it owes none.
+pub record IsFree (s : Settings) (f : Splice) (past : Story) (now : ℕ) : Type 0 where
+  pub over : IsOver s f.conn past now
+  pub owes_none : is_resets f.conn.stage ≡ false
+
+-- It rests, since a moment.
+pub record IsAtRest (s : Settings) (f : Splice) (past : Story) (now since : ℕ) : Type 0 where
+  pub rests : IsResting s f.conn f.up f.down past now since
+  pub mru : f.mru ≡ s.mru
+  pub known : f.mac ≡ None → ⊥
+
+abbrev pub FollowsInUse : Bool → Settings → Splice → Story → ℕ → Type 0
+FollowsInUse false s f past now = IsOpen s f past now
+FollowsInUse true s f past now = IsOwing s f past now
+
+abbrev pub FollowsAt : Place → Bool → Settings → Splice → Story → ℕ → Type 0
+FollowsAt Empty shut s f past now = IsFree s f past now
+FollowsAt InUse shut s f past now = FollowsInUse shut s f past now
+FollowsAt (Resting since) shut s f past now = IsAtRest s f past now since
+
+-- The flow follows its story at a moment.
+abbrev pub Follows : Settings → Splice → Story → ℕ → Type 0
+Follows s f past now = FollowsAt f.place f.shut s f past now

@@ -1,0 +1,73 @@
+-- The frames of a flow.
+use Rattle.std.specs.Prelude.{ℕ, ◌+◌, ◌≤◌, length, List, [], ◌∷◌, Bool, false, not, if◌then◌else◌}
+use Rattle.net_octets.specs.Kinds.{arp_kind, ipv4_kind, tcp_proto}
+use Rattle.net_octets.specs.Octets.{four}
+use Rattle.net_octets.specs.declared.Mac.{Mac}
+use Rattle.arp_table.specs.Arp.{Arp, arp_octets}
+use Rattle.ether_frame.specs.Ether.{ether_octets}
+use Rattle.ipv4_head.specs.Ip.{ip_octets}
+use Rattle.tcp_segment.specs.Tcp.{Tcp, mss_octets, scale_octets, tcp_octets}
+use Rattle.sock_buffers.specs.Downward.{Downward}
+use Rattle.tcp_guest.specs.declared.Head.{Head}
+use Rattle.tcp_guest.specs.declared.Owed.{Owed}
+use Rattle.tcp_guest.specs.declared.Owed.TheVariants.{Syn, SynAck, Data, Ack, Reset}
+use Rattle.flow_laws.specs.Event.{Segment}
+use Rattle.flow_laws.specs.Guest.{is_empty}
+use Rattle.connection_steps.specs.Sending.{carried, mss_in}
+use Rattle.flow_splice.specs.Splice.{Face}
+
+-- our hardware address: 52:55, and then the octets of an address of ours
+abbrev pub our_mac : ℕ → List ℕ
+our_mac addr = 82 ∷ 85 ∷ four addr
+
+abbrev pub bit_if : Bool → ℕ → ℕ
+bit_if b n = if b then n else 0
+
+-- the flags of a segment: PSH where it carries octets (RFC 9293, 3.9.1.2)
+abbrev pub flags_of : Segment → ℕ
+flags_of seg = bit_if seg.fin 1 + bit_if seg.syn 2 + bit_if seg.rst 4 + bit_if (not (is_empty seg.octets)) 8 + bit_if seg.ack 16
+
+-- a segment that goes out to the guest, with its ports
+abbrev pub tcp_out : Face → Segment → Tcp
+tcp_out face seg = record {
+  from_port = face.other.port;
+  to_port = face.guest.port;
+  seq = seg.number;
+  ack = seg.acknowledgement;
+  flags = flags_of seg;
+  window = seg.window;
+  mss = seg.mss;
+  scale = seg.scale;
+  body = seg.octets;
+}
+
+-- the frame of a segment, with an identification, to a hardware address
+abbrev pub segment_frame : Face → Mac → (ident : ℕ) → Segment → List ℕ
+segment_frame face mac ident seg =
+    ether_octets mac.0 (our_mac face.vhost.0) ipv4_kind
+    (ip_octets ident 0 tcp_proto face.other.addr.0 face.guest.addr.0 (tcp_octets face.other.addr.0 face.guest.addr.0 (tcp_out face seg)))
+
+abbrev pub everyone : List ℕ
+everyone = 255 ∷ 255 ∷ 255 ∷ 255 ∷ 255 ∷ 255 ∷ []
+
+abbrev pub nobody : List ℕ
+nobody = 0 ∷ 0 ∷ 0 ∷ 0 ∷ 0 ∷ 0 ∷ []
+
+-- the request for the guest's hardware address (RFC 826), from the virtual host to everyone
+abbrev pub request : Face → Arp
+request face = record { is_reply = false; sender_mac = our_mac face.vhost.0; sender = face.vhost.0; target_mac = nobody; target = face.guest.addr.0 }
+
+abbrev pub request_frame : Face → List ℕ
+request_frame face = ether_octets everyone (our_mac face.vhost.0) arp_kind (arp_octets (request face))
+
+-- what a segment carries is held, and fits a frame
+abbrev pub IsHeld : Downward → Owed → Type 0
+IsHeld down Syn = Unit {0}
+IsHeld down SynAck = Unit {0}
+IsHeld down (Data p) = (down.first ≤ p.place) × (p.place + p.length ≤ down.first + length down.octets) × (p.length ≤ 1460)
+IsHeld down Ack = Unit {0}
+IsHeld down (Reset seq ack) = Unit {0}
+
+-- how many octets the frame has
+abbrev pub frame_length : Head → (mru : ℕ) → Downward → Owed → ℕ
+frame_length h mru down what = 54 + length (mss_octets (mss_in mru what)) + length (scale_octets h.scale) + length (carried down what)

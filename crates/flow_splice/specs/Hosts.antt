@@ -1,0 +1,77 @@
+-- What calls on the host's socket change of a flow.
+use Rattle.std.specs.Prelude.{◌≡◌, ℕ, ◌+◌, List, [], ◌∷◌, ◌++◌, Bool, true, false, ◌||◌}
+use Rattle.sock_buffers.specs.Downward.{Downward}
+use Rattle.tcp_guest.specs.Connection.{Connection}
+use Rattle.tcp_guest.specs.declared.Change.{Change}
+use Rattle.tcp_guest.specs.declared.Change.TheVariants.{Nothing, GuestReset, Finished, Unfit}
+use Rattle.tcp_transmit.specs.Timing.{watched_over}
+use Rattle.world_face.specs.Journal.{Entry, Close, Connected, TcpRead, TcpWrite, TcpEnd}
+use Rattle.world_face.specs.declared.Io.{Io}
+use Rattle.world_face.specs.declared.Io.TheVariants.{Done, End, NotYet, Failed}
+use Rattle.flow_splice.specs.Splice.{Splice, closed}
+
+-- between whom it goes, its guest's hardware address and the sizes stay
+pub record IsAsOld (old new : Splice) : Type 0 where
+  pub face : new.face ≡ old.face
+  pub mac : new.mac ≡ old.mac
+  pub since : new.since ≡ old.since
+  pub asked : new.asked ≡ old.asked
+  pub ask_at : new.ask_at ≡ old.ask_at
+  pub up_size : new.up.size ≡ old.up.size
+  pub down_size : new.down.size ≡ old.down.size
+  pub mru : new.mru ≡ old.mru
+
+-- after octets of the host came
+abbrev pub down_given : Downward → List ℕ → Downward
+down_given down octets = record down { octets = down.octets ++ octets }
+
+abbrev pub conn_given : Connection → Downward → ℕ → Connection
+conn_given c down now = record c { transmission = watched_over c.transmission down now }
+
+abbrev pub given : Splice → List ℕ → ℕ → Splice
+given f octets now = record f { conn = conn_given f.conn (down_given f.down octets) now; down = down_given f.down octets }
+
+-- octets came, or none yet
+abbrev pub gives_octets : Io → Bool
+gives_octets (Done n) = true
+gives_octets End = false
+gives_octets NotYet = true
+gives_octets Failed = false
+
+-- the connection and its buffer after a read
+abbrev pub IsRead : Bool → Connection → Downward → List ℕ → ℕ → Connection → Downward → Type 0
+IsRead true c down octets now new new_down = (new ≡ conn_given c (down_given down octets) now) × (new_down ≡ down_given down octets)
+IsRead false c down octets now new new_down = (new ≡ c) × (new_down ≡ down)
+
+-- the flow
+abbrev pub read_by : Bool → Splice → List ℕ → ℕ → Splice
+read_by true f octets now = given f octets now
+read_by false f octets now = f
+
+-- a change of the connection by which it is over
+abbrev pub ends : Change → Bool
+ends Nothing = false
+ends GuestReset = true
+ends Finished = true
+ends Unfit = false
+
+-- the socket is closed where a change ended the connection
+abbrev pub Sees : Bool → Splice → Splice → ℕ → List Entry → Type 0
+Sees true old new now made = (made ≡ Close old.face.number ∷ []) × (new ≡ closed old now)
+Sees false old new now made = (made ≡ []) × (new ≡ old)
+
+-- a call for a socket that was reported ready for writing: whether it connected, octets, or the end; and for one that was for reading
+abbrev pub is_for_writing : Entry → Bool
+is_for_writing (Connected socket answer) = true
+is_for_writing (TcpWrite socket octets answer) = true
+is_for_writing (TcpEnd socket answer) = true
+is_for_writing _ = false
+
+abbrev pub is_for_reading : Entry → Bool
+is_for_reading (TcpRead socket asked answer octets) = true
+is_for_reading _ = false
+
+-- one of these entries is such a call
+abbrev pub some_is : (Entry → Bool) → List Entry → Bool
+some_is is [] = false
+some_is is (e ∷ made) = is e || some_is is made

@@ -1,0 +1,11 @@
+pub mod Splice
+pub mod Hosts
+pub mod Guests
+pub mod Wants
+pub mod Frames
+pub mod Entries
+pub mod Follows
+pub mod Serves
+pub mod Left
+pub mod Sends
+pub mod Ahead

@@ -1,0 +1,26 @@
+-- What a call makes, and what follows then.
+use Rattle.std.specs.Prelude.{◌≡◌, ℕ, ◌≤◌, List, Bool, false, None, ◌++◌}
+use Rattle.world_face.specs.Journal.{Entry}
+use Rattle.flow_laws.specs.Settings.{Settings}
+use Rattle.flow_laws.specs.Event.{Story}
+use Rattle.flow_splice.specs.Entries.{AreEvents}
+use Rattle.flow_splice.specs.Follows.{Follows}
+use Rattle.flow_splice.specs.Splice.{Splice}
+
+-- After a story the entries that were made are events of the flow, and the flow follows the story with these: each of them was allowed, and as it
+-- must be, after what was before it.
+pub record Serves (s : Settings) (f : Splice) (directly known : Bool) (ident now : ℕ) (past : Story) (made : List Entry) : Type 0 where
+  pub beats : Story
+  pub are : AreEvents s f.face f.mac directly known ident now past made beats
+  pub follows : Follows s f (beats ++ past) now
+
+-- After every story that a flow followed at an earlier moment, whatever the next identification is: no datagram goes out.
+abbrev pub GoesOn : (old new : Splice) → (directly : Bool) → (now : ℕ) → List Entry → Type 0
+GoesOn old new directly now made =
+    (s : Settings) (past : Story) (before ident : ℕ) (known : Bool) → before ≤ now → Follows s old past before → Serves s new directly known ident now past made
+
+-- The same, where the guest's hardware address is known wherever the flow has it.
+abbrev pub TicksOn : (old new : Splice) → (now : ℕ) → List Entry → Type 0
+TicksOn old new now made =
+    (s : Settings) (past : Story) (before ident : ℕ) (known : Bool) → before ≤ now → (old.mac ≡ None → known ≡ false) → Follows s old past before
+    → Serves s new false known ident now past made

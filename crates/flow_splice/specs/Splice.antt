@@ -1,0 +1,91 @@
+-- What a contract sees of a flow that is spliced.
+use Rattle.std.specs.Prelude.{◌≡◌, ℕ, ◌+◌, ◌≤◌, ◌^◌, [], Bool, true, false, ◌&&◌, not, Option}
+use Rattle.net_octets.specs.declared.Endpoint.{Endpoint}
+use Rattle.net_octets.specs.declared.Ip4.{Ip4}
+use Rattle.net_octets.specs.declared.Mac.{Mac}
+use Rattle.sock_buffers.specs.Downward.{Downward, downward}
+use Rattle.sock_buffers.specs.Upward.{Upward, empty}
+use Rattle.tcp_guest.specs.Connection.{Connection, HasBuffers}
+use Rattle.tcp_guest.specs.declared.Stage.{Stage}
+use Rattle.tcp_guest.specs.declared.Stage.TheVariants as stage
+use Rattle.flow_splice.specs.declared.Place.{Place}
+use Rattle.flow_splice.specs.declared.Place.TheVariants.{Empty, InUse, Resting}
+
+-- the number of its socket, and between whom it goes: its guest, the other side, and the virtual host, whose hardware address is ours
+pub record Face : Type 0 where
+  pub guest : Endpoint
+  pub other : Endpoint
+  pub number : ℕ
+  pub vhost : Ip4
+
+-- Where it stands, and whether its socket was closed; its guest's hardware address, where it is known; since when it is open; whether the
+-- host was told the guest's end; how often the guest's hardware address was asked for, and until when that waits for an answer. Further: the
+-- connection and its two buffers, and the most octets of a datagram that comes from the guest.
+pub record Splice : Type 0 where
+  pub place : Place
+  pub shut : Bool
+  pub face : Face
+  pub mac : Option Mac
+  pub since : ℕ
+  pub told_end : Bool
+  pub asked : ℕ
+  pub ask_at : ℕ
+  pub conn : Connection
+  pub up : Upward
+  pub down : Downward
+  pub mru : ℕ
+
+-- what holds of every flow: the buffers are those of its connection, both have one size, up to a mebibyte, and the guest's address is asked for nine times at most; and what
+-- comes may have the two headers
+pub record IsSound (c : Connection) (up : Upward) (down : Downward) (asked mru : ℕ) : Type 0 where
+  pub buffers : HasBuffers c up down
+  pub size : down.size ≡ up.size
+  pub room : up.size ≤ 2 ^ 20
+  pub few : asked ≤ 9
+  pub segments : 40 ≤ mru
+
+-- a place is taken by a flow whose socket is open, or that owes its guest a reset
+abbrev pub is_in_use : Place → Bool
+is_in_use Empty = false
+is_in_use InUse = true
+is_in_use (Resting since) = false
+
+-- a place at which a flow rests
+abbrev pub is_at_rest : Place → Bool
+is_at_rest Empty = false
+is_at_rest InUse = false
+is_at_rest (Resting since) = true
+
+-- its socket is open
+abbrev pub is_open : Splice → Bool
+is_open f = is_in_use f.place && not f.shut
+
+-- where a flow stands that was closed at a moment, by its connection
+abbrev pub place_after : Stage → ℕ → Place
+place_after stage.Connects now = Empty
+place_after stage.Calls now = Empty
+place_after stage.Answers now = Empty
+place_after stage.Synchronized now = Empty
+place_after stage.Rests now = Resting now
+place_after (stage.Resets seq ack) now = InUse
+place_after stage.Gone now = Empty
+
+-- the flow, closed at a moment
+abbrev pub closed : Splice → ℕ → Splice
+closed f now = record f { place = place_after f.conn.stage now; shut = true }
+
+-- a flow that begins
+abbrev pub begun : (now : ℕ) → (guest other : Endpoint) → (number : ℕ) → Ip4 → Option Mac → Connection → Splice → Splice
+begun now guest other number vhost mac c f = record f {
+  place = InUse;
+  shut = false;
+  face = record { guest = guest; other = other; number = number; vhost = vhost };
+  mac = mac;
+  since = now;
+  told_end = false;
+  asked = 0;
+  ask_at = 0;
+  conn = c;
+  up = empty f.up.size;
+  down = downward [] 0 f.down.size;
+}

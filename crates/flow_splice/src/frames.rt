@@ -1,0 +1,346 @@
+// The frames of a flow, written in their places.
+//
+// A frame has the header of Ethernet, that of IPv4 and that of TCP, each where it goes out, and then the octets that the host gave, copied from where they
+// are held. The checksum over the segment is taken in one pass, once all of it is there.
+ghost use Rattle.std.specs.Prelude.{◌≡◌, ℕ, ◌+◌, ◌^◌, ◌<◌, ◌≤◌, ◌++◌, [], length, take, drop};
+ghost use Rattle.net_octets.specs.Kinds.{ipv4_kind, tcp_proto};
+ghost use Rattle.ether_frame.specs.Ether.{ether_octets};
+ghost use Rattle.ipv4_head.specs.Ip.{head_with, summed_head};
+ghost use Rattle.sock_buffers.specs.Downward.{Downward};
+ghost use Rattle.tcp_guest.specs.declared.Head.{Head as Header};
+ghost use Rattle.tcp_segment.specs.Tcp.{head_octets, mss_octets, scale_octets, tcp_length, tcp_octets, tcp_of, words_of as words_by};
+ghost use Rattle.connection_steps.specs.Sending.{carried, mss_in, with_head};
+ghost use Rattle.flow_splice.specs.Frames.{IsHeld, bit_if, flags_of, frame_length, our_mac as our_mac_by, request_frame, segment_frame, tcp_out};
+ghost use Rattle.net_octets.specs.declared.Endpoint.{Endpoint as AnEndpoint};
+
+use arp_table::ArpView;
+use byteorder::{BigEndian, ByteOrder};
+use ether_frame::EtherView;
+use net_octets::{Endpoint, Ip4, Mac, checksum, checksum_after, pseudo};
+use sock_buffers::Down;
+use tcp_guest::{Head, Owed};
+use tcp_segment::{ACK, FIN, PSH, RST, SYN, TcpView};
+
+/// The kind of a frame that carries IPv4 (RFC 894).
+const IPV4: u16 = 0x0800;
+
+/// The kind of a frame that carries ARP (RFC 826).
+const ARP: u16 = 0x0806;
+
+/// The hardware address of everyone.
+const EVERYONE: Mac = Mac([255; 6]);
+
+/// The hardware address of nobody.
+const NOBODY: Mac = Mac([0; 6]);
+
+/// The number of TCP in an IPv4 header.
+const TCP: u8 = 6;
+
+/// The octets of the headers of Ethernet and IPv4.
+const FRONT: usize = 34;
+
+/// The octets of a header of TCP without options.
+const HEAD: usize = 20;
+
+/// Between whom a datagram goes, and which one it is.
+#[derive(Clone, Copy)]
+pub(crate) struct Route {
+    pub(crate) guest: Endpoint,
+    pub(crate) other: Endpoint,
+    pub(crate) vhost: Ip4,
+    pub(crate) mac: Mac,
+    pub(crate) ident: u16,
+}
+
+/// Our hardware address for an address of ours: 52:55, and then its octets.
+fn our_mac(address: Ip4) -> Mac
+    ensures { result.0 ≡ our_mac_by address.0 }
+{
+    let [a, b, c, d] = address.0.to_be_bytes();
+    Mac([0x52, 0x55, a, b, c, d])
+}
+
+/// How many octets of the host a segment carries.
+fn payload(what: &Owed) -> usize
+    ensures length { (down : Downward) → IsHeld down what.now → result ≡ length (carried down what.now) }
+    ensures few { (down : Downward) → IsHeld down what.now → result ≤ 1460 }
+{
+    match what {
+        Owed::Data(piece) => piece.length,
+        Owed::Syn | Owed::SynAck | Owed::Ack | Owed::Reset { .. } => 0,
+    }
+}
+
+/// Copies them.
+fn put_payload(what: &Owed, down: &Down, into: &mut [u8])
+    requires held { IsHeld down.now what.now }
+    requires room { length into.old ≡ length (carried down.now what.now) }
+    ensures { into.new ≡ carried down.now what.now }
+{
+    if let Owed::Data(piece) = what {
+        down.copy_at(piece.place, into);
+    }
+}
+
+/// The flags of a segment: PSH where it carries octets (RFC 9293, 3.9.1.2).
+fn flags(what: &Owed) -> u8
+    ensures { (down : Downward) (h : Header) (mru : ℕ) → IsHeld down what.now → result ≡ flags_of (with_head h mru down what.now) }
+{
+    match what {
+        Owed::Syn => SYN,
+        Owed::SynAck => SYN + ACK,
+        Owed::Data(piece) => ACK + bit_if(piece.fin, FIN) + bit_if(piece.length > 0, PSH),
+        Owed::Ack => ACK,
+        Owed::Reset { .. } => RST + ACK,
+    }
+}
+
+fn bit_if(set: bool, bit: u8) -> u8
+    ensures { result ≡ bit_if set bit }
+{
+    if set { bit } else { 0 }
+}
+
+/// The most octets that a segment may have that comes, where ours is a SYN (RFC 9293, 3.7.1).
+fn mss(what: &Owed, mru: u16) -> Option<u16>
+    requires { 40 ≤ mru }
+    ensures { result ≡ mss_in mru what.now }
+{
+    match what {
+        Owed::Syn | Owed::SynAck => Some(mru - 40),
+        Owed::Data(_) | Owed::Ack | Owed::Reset { .. } => None,
+    }
+}
+
+/// What goes out of a segment, its octets aside.
+fn outline(route: &Route, head: &Head, what: &Owed, mru: u16) -> TcpView<'static>
+    requires { 40 ≤ mru }
+    ensures { (down : Downward) (number : ℕ) → IsHeld down what.now → record (tcp_of result) { body = carried down what.now }
+        ≡ tcp_out (record { guest = route.now.guest; other = route.now.other; number = number; vhost = route.now.vhost }) (with_head head.now mru down what.now) }
+{
+    TcpView {
+        from_port: route.other.port,
+        to_port: route.guest.port,
+        seq: head.seq,
+        ack: head.ack,
+        flags: flags(what),
+        window: head.window,
+        mss: mss(what, mru),
+        scale: head.scale,
+        body: &[],
+    }
+}
+
+/// The octets that options take.
+fn mss_size(mss: Option<u16>) -> usize
+    ensures length { result ≡ length (mss_octets mss) }
+    ensures few { result ≤ 4 }
+{
+    if mss.is_some() { 4 } else { 0 }
+}
+
+fn scale_size(scale: Option<u8>) -> usize
+    ensures length { result ≡ length (scale_octets scale) }
+    ensures few { result ≤ 4 }
+{
+    if scale.is_some() { 4 } else { 0 }
+}
+
+/// The options, with octets of no meaning after them: a pad stands before the window scale.
+fn options(mss: Option<u16>, scale: Option<u8>) -> [u8; 8]
+    ensures { mss_octets mss ++ scale_octets scale
+        ≡ take (length (mss_octets mss) + length (scale_octets scale)) result }
+{
+    let [high, low] = mss.unwrap_or(0).to_be_bytes();
+    let shift = scale.unwrap_or(0);
+    if mss.is_some() {
+        [2, 4, high, low, 1, 3, 3, shift]
+    } else {
+        [1, 3, 3, shift, 0, 0, 0, 0]
+    }
+}
+
+/// The words of four octets that a header takes.
+fn words_of(v: &TcpView<'_>) -> u8
+    ensures words { result ≡ words_by (tcp_of v.now) }
+    ensures few { result < 16 }
+{
+    ((HEAD + mss_size(v.mss) + scale_size(v.scale)) / 4) as u8
+}
+
+/// A header without options, with 0 in the place of the sum.
+fn header(v: &TcpView<'_>) -> [u8; HEAD]
+    ensures { result ≡ head_octets (tcp_of v.now) }
+{
+    let mut head = [0; HEAD];
+    BigEndian::write_u16(&mut head[..2], v.from_port);
+    BigEndian::write_u16(&mut head[2..4], v.to_port);
+    BigEndian::write_u32(&mut head[4..8], v.seq.0);
+    BigEndian::write_u32(&mut head[8..12], v.ack.0);
+    head[12] = words_of(v) * 16;
+    head[13] = v.flags;
+    BigEndian::write_u16(&mut head[14..16], v.window);
+    head
+}
+
+/// Writes a header, its options, and the octets that the segment carries.
+fn put(head: &[u8], options: &[u8], what: &Owed, down: &Down, segment: &mut [u8])
+    requires held { IsHeld down.now what.now }
+    requires room { length segment.old ≡ length head.now + length options.now + length (carried down.now what.now) }
+    ensures { segment.new ≡ head.now ++ options.now ++ carried down.now what.now }
+{
+    let options_end = head.len() + options.len();
+    segment[..head.len()].copy_from_slice(head);
+    segment[head.len()..options_end].copy_from_slice(options);
+    put_payload(what, down, &mut segment[options_end..]);
+}
+
+/// Writes a segment into exactly as many octets as it takes. They are summed once, with 0 in the place of the sum.
+fn write_segment(v: &TcpView<'_>, from: Ip4, to: Ip4, what: &Owed, down: &Down, segment: &mut [u8])
+    requires held { IsHeld down.now what.now }
+    requires size { tcp_length (record (tcp_of v.now) { body = carried down.now what.now }) < 2 ^ 16 }
+    requires room { length segment.old ≡ tcp_length (record (tcp_of v.now) { body = carried down.now what.now }) }
+    ensures { segment.new ≡ tcp_octets from.0 to.0 (record (tcp_of v.now) { body = carried down.now what.now }) }
+{
+    let options = options(v.mss, v.scale);
+    let options_size = mss_size(v.mss) + scale_size(v.scale);
+    put(&header(v), &options[..options_size], what, down, segment);
+    let start = pseudo(from, to, TCP, segment.len() as u16);
+    let sum = checksum_after(start, segment);
+    BigEndian::write_u16(&mut segment[16..18], sum);
+}
+
+/// The header of a datagram with so many octets behind it, with this sum.
+fn ip_header(route: &Route, size: u16, sum: u16) -> [u8; 20]
+    requires { size ≤ 1488 }
+    ensures { result ≡ head_with 64 sum route.now.ident 0 tcp_proto route.now.other.addr.0 route.now.guest.addr.0 size }
+{
+    let (ident, from, to) = (route.ident, route.other.addr.0, route.guest.addr.0);
+    let mut head = [0; 20];
+    head[0] = 0x45;
+    BigEndian::write_u16(&mut head[2..4], 20 + size);
+    BigEndian::write_u16(&mut head[4..6], ident);
+    head[8] = 64;
+    head[9] = TCP;
+    BigEndian::write_u16(&mut head[10..12], sum);
+    BigEndian::write_u32(&mut head[12..16], from);
+    BigEndian::write_u32(&mut head[16..], to);
+    head
+}
+
+/// The same with the sum that holds.
+fn summed_header(route: &Route, size: u16) -> [u8; 20]
+    requires { size ≤ 1488 }
+    ensures { result ≡ summed_head 64 route.now.ident 0 tcp_proto route.now.other.addr.0 route.now.guest.addr.0 size }
+{
+    let sum = checksum(&ip_header(route, size, 0));
+    ip_header(route, size, sum)
+}
+
+/// Writes the header of a frame at the front of `into`.
+fn put_ether(route: &Route, into: &mut [u8])
+    requires { 14 ≤ length into.old }
+    ensures written { into.new ≡ ether_octets route.now.mac.0 (our_mac_by route.now.vhost.0) ipv4_kind [] ++ drop 14 into.old }
+    ensures six { length route.now.mac.0 ≡ 6 }
+{
+    let to = route.mac;
+    let ether = EtherView {
+        to,
+        from: our_mac(route.vhost),
+        kind: IPV4,
+        body: &[],
+    };
+    let Ok(_) = ether_frame::encode(&ether, into) else {
+        unreachable!()
+    };
+}
+
+/// The octets that a segment takes.
+fn segment_size(v: &TcpView<'_>, what: &Owed) -> usize
+    requires { (down : Downward) × IsHeld down what.now }
+    ensures { (down : Downward) → IsHeld down what.now → result ≡ tcp_length (record (tcp_of v.now) { body = carried down what.now }) }
+{
+    HEAD + mss_size(v.mss) + scale_size(v.scale) + payload(what)
+}
+
+/// Writes a frame with a segment of so many octets.
+fn write_at(route: &Route, v: &TcpView<'_>, what: &Owed, down: &Down, size: usize, into: &mut [u8])
+    requires held { IsHeld down.now what.now }
+    requires size { size ≡ tcp_length (record (tcp_of v.now) { body = carried down.now what.now }) }
+    requires fits { size ≤ 1480 }
+    requires room { 1514 ≤ length into.old }
+    ensures written { into.new ≡ ((ether_octets route.now.mac.0 (our_mac_by route.now.vhost.0) ipv4_kind []
+        ++ summed_head 64 route.now.ident 0 tcp_proto route.now.other.addr.0 route.now.guest.addr.0 size)
+        ++ tcp_octets route.now.other.addr.0 route.now.guest.addr.0 (record (tcp_of v.now) { body = carried down.now what.now }))
+        ++ drop (34 + size) into.old }
+    ensures six { length route.now.mac.0 ≡ 6 }
+    ensures room { length into.new ≡ length into.old }
+{
+    put_ether(route, into);
+    into[14..FRONT].copy_from_slice(&summed_header(route, size as u16));
+    write_segment(
+        v,
+        route.other.addr,
+        route.guest.addr,
+        what,
+        down,
+        &mut into[FRONT..FRONT + size],
+    );
+}
+
+/// Writes the frame of a segment at the front of `into`, and answers its length.
+pub(crate) fn write_frame(
+    route: &Route,
+    head: &Head,
+    what: &Owed,
+    mru: u16,
+    down: &Down,
+    into: &mut [u8],
+) -> usize
+    requires held { IsHeld down.now what.now }
+    requires mru { 40 ≤ mru }
+    requires fits { frame_length head.now mru down.now what.now ≤ 1514 }
+    requires room { 1514 ≤ length into.old }
+    ensures frame { (number : ℕ) → take result into.new ≡ segment_frame
+        (record { guest = route.now.guest; other = route.now.other; number = number; vhost = route.now.vhost }) route.now.mac route.now.ident
+        (with_head head.now mru down.now what.now) }
+    ensures short { result ≤ 1514 }
+    ensures room { length into.new ≡ length into.old }
+{
+    let v = outline(route, head, what, mru);
+    let size = segment_size(&v, what);
+    write_at(route, &v, what, down, size, into);
+    FRONT + size
+}
+
+/// Writes the frame of a request for a guest's hardware address (RFC 826) at the front of `into`, and answers its length.
+pub(crate) fn write_request(vhost: Ip4, guest: Ip4, into: &mut [u8]) -> usize
+    requires room { 1514 ≤ length into.old }
+    ensures frame { (other at : AnEndpoint) (number : ℕ) → take result into.new
+        ≡ request_frame (record { guest = record { addr = guest; port = at.port }; other = other; number = number; vhost = vhost }) }
+    ensures short { result ≤ 1514 }
+    ensures room { length into.new ≡ length into.old }
+{
+    let ours = our_mac(vhost);
+    let mut packet = [0; 28];
+    let request = ArpView {
+        reply: false,
+        sender_mac: ours,
+        sender_ip: vhost,
+        target_mac: NOBODY,
+        target_ip: guest,
+    };
+    let Ok(written) = arp_table::encode(&request, &mut packet) else {
+        unreachable!()
+    };
+    let ether = EtherView {
+        to: EVERYONE,
+        from: ours,
+        kind: ARP,
+        body: &packet[..written],
+    };
+    let Ok(length) = ether_frame::encode(&ether, into) else {
+        unreachable!()
+    };
+    length
+}

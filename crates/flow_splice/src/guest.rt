@@ -1,0 +1,140 @@
+// A segment of the guest is taken in.
+ghost use Rattle.std.specs.Prelude.{◌≡◌, ℕ, ◌+◌, ◌^◌, ◌<◌, ◌≤◌, length, true, if◌then◌else◌};
+ghost use Rattle.tcp_guest.specs.Connection.{HasBuffers};
+ghost use Rattle.tcp_guest.specs.Segments.{change_at};
+ghost use Rattle.tcp_receive.specs.Coming.{Comes};
+ghost use Rattle.tcp_segment.specs.Tcp.{tcp_of};
+ghost use Rattle.tcp_transmit.specs.Transmission.{octets_read};
+ghost use Rattle.world_face.specs.Tells.{Makes};
+ghost use Rattle.flow_laws.specs.Flow.{is_ahead};
+
+use crate::{Place, Spliced};
+use seq_space::Seq;
+use tcp_guest::{Change, Owed};
+use tcp_segment::TcpView;
+use world_face::World;
+
+impl Spliced {
+    ghost use Rattle.flow_splice.specs.Guests.{Hears, ends_rest as ends_rest_by, heard, heard_at_rest, is_unfit, renews, turns_away};
+    ghost use Rattle.flow_splice.specs.Hosts.{IsAsOld};
+    ghost use Rattle.flow_splice.specs.Splice.{is_open as is_open_by};
+    ghost use Rattle.flow_splice.specs.declared.Place.TheVariants.{Empty, Resting};
+
+    /// A segment of the guest arrived. Where it resets the connection, or both ends passed with it, the socket is closed. True exactly where it is to be
+    /// answered by a reset, as a segment without a flow. At rest a SYN that is ahead of what is expected leaves the place empty, and so does a reset at the
+    /// next number: the segment is one without a flow then.
+    pub fn guest_segment<W: World>(&mut self, world: &mut W, now: u64, seg: &TcpView<'_>) -> bool
+        requires now { now ≤ 2 ^ 62 }
+        requires body { length seg.now.body.now ≤ 65535 }
+        requires few { self.old.up.written + length seg.now.body.now + 2 ^ 21 < 2 ^ 62 }
+        ensures makes { Makes (W.tells world.old) (W.tells world.new) (Hears self.old self.new (tcp_of seg.now) now) }
+        ensures unfit { result ≡ turns_away self.old (tcp_of seg.now) now }
+        ensures same { IsAsOld self.old self.new }
+        ensures up { self.new.up.written ≡ self.old.up.written }
+        ensures down { octets_read self.new.down ≡ octets_read self.old.down }
+    {
+        if self.is_open() {
+            return self.hear(world, now, seg);
+        }
+        if let Place::Resting(since) = self.place() {
+            self.hear_at_rest(since, now, seg);
+        }
+        false
+    }
+
+    // While its socket is open.
+    fn hear<W: World>(&mut self, world: &mut W, now: u64, seg: &TcpView<'_>) -> bool
+        requires now { now ≤ 2 ^ 62 }
+        requires body { length seg.now.body.now ≤ 65535 }
+        requires few { self.old.up.written + length seg.now.body.now + 2 ^ 21 < 2 ^ 62 }
+        requires open_yet { is_open_by self.old ≡ true }
+        ensures makes { Makes (W.tells world.old) (W.tells world.new) (Hears self.old self.new (tcp_of seg.now) now) }
+        ensures unfit { result ≡ is_unfit (change_at self.old.conn self.old.up self.old.down (tcp_of seg.now) now) }
+        ensures same { IsAsOld self.old self.new }
+        ensures up { self.new.up.written ≡ self.old.up.written }
+        ensures down { octets_read self.new.down ≡ octets_read self.old.down }
+    {
+        let change = self.take_in(now, seg);
+        self.see(world, now, change);
+        change == Change::Unfit
+    }
+
+    // The connection takes it.
+    fn take_in(&mut self, now: u64, seg: &TcpView<'_>) -> Change
+        requires now { now ≤ 2 ^ 62 }
+        requires body { length seg.now.body.now ≤ 65535 }
+        requires few { self.old.up.written + length seg.now.body.now + 2 ^ 21 < 2 ^ 62 }
+        ensures change { result ≡ change_at self.old.conn self.old.up self.old.down (tcp_of seg.now) now }
+        ensures heard { self.new ≡ heard self.old (tcp_of seg.now) now }
+        ensures buffers { HasBuffers self.new.conn self.new.up self.new.down }
+        ensures within { length self.new.up.held ≤ self.new.up.size }
+        ensures comes { Comes self.old.conn.received seg.now.seq.0 seg.now.body.now self.old.up self.new.up }
+        ensures number { seg.now.seq.0 < 2 ^ 32 }
+        ensures acknowledgement { seg.now.ack.0 < 2 ^ 32 }
+        ensures read { octets_read self.new.down ≡ octets_read self.old.down }
+    {
+        let (_number, _acknowledgement) = (seg.seq.0, seg.ack.0);
+        let held = self.up.held();
+        prove!(held <= 1 << 20);
+        let change = self.conn.on_segment(&mut self.up, &mut self.down, now, seg);
+        let held = self.up.held();
+        prove!(held <= 1 << 20);
+        change
+    }
+
+    // ---- at rest
+
+    fn hear_at_rest(&mut self, since: u64, now: u64, seg: &TcpView<'_>)
+        requires now { now ≤ 2 ^ 62 }
+        requires body { length seg.now.body.now ≤ 65535 }
+        requires few { self.old.up.written + length seg.now.body.now + 2 ^ 21 < 2 ^ 62 }
+        ensures heard { self.new ≡ heard_at_rest self.old since (tcp_of seg.now) now }
+        ensures up { self.new.up.written ≡ self.old.up.written }
+        ensures down { octets_read self.new.down ≡ octets_read self.old.down }
+    {
+        if self.ends_rest(seg) {
+            self.leave();
+        } else {
+            self.take_in(now, seg);
+            self.rest(now, since, seg);
+        }
+    }
+
+    // Whether a segment ends the rest.
+    fn ends_rest(&self, seg: &TcpView<'_>) -> bool
+        ensures { result ≡ ends_rest_by self.now.conn (tcp_of seg.now) }
+    {
+        let next = self.conn.head(&self.up, &Owed::Ack).ack;
+        (seg.is_rst() && seg.seq.0 == next.0)
+            || (seg.is_syn() && !seg.is_ack() && !seg.is_rst() && is_ahead(seg.seq, next))
+    }
+
+    pub(crate) fn leave(&mut self)
+        ensures { self.new ≡ record self.old { place = Empty } }
+    {
+        self.place = Place::Empty;
+    }
+
+    // It rests on, or anew.
+    fn rest(&mut self, now: u64, since: u64, seg: &TcpView<'_>)
+        ensures { self.new ≡ record self.old { place = Resting (if renews (tcp_of seg.now) then now else since) } }
+    {
+        let anew = seg.is_fin() && seg.is_ack() && !seg.is_syn() && !seg.is_rst();
+        self.place = Place::Resting(later_if(anew, now, since));
+    }
+}
+
+// The later moment, or the earlier.
+fn later_if(anew: bool, now: u64, since: u64) -> u64
+    ensures { result ≡ (if anew then now else since) }
+{
+    if anew { now } else { since }
+}
+
+// Whether a number is ahead of another, the short way round.
+fn is_ahead(a: Seq, b: Seq) -> bool
+    ensures { result ≡ is_ahead a.0 b.0 }
+{
+    let steps = a.0.wrapping_sub(b.0);
+    0 < steps && steps < 1 << 31
+}

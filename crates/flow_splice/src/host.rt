@@ -1,0 +1,321 @@
+// The calls on the host's socket: whether it connected, what it takes, and what it gives.
+ghost use Rattle.std.specs.Prelude.{◌≡◌, ℕ, ◌+◌, ◌-◌, ◌^◌, ◌<◌, ◌≤◌, List, ◌∷◌, [], length, take, min, nat_lt, true, false};
+ghost use Rattle.sock_buffers.specs.Upward.{Upward};
+ghost use Rattle.tcp_guest.specs.Connection.{HasBuffers};
+ghost use Rattle.tcp_guest.specs.Hosts.{connected_by, host_ended, is_open as is_host_open, reset, write_ended};
+ghost use Rattle.tcp_guest.specs.Segments.{settled, settling};
+ghost use Rattle.tcp_guest.specs.declared.Change.{Change as Changes};
+ghost use Rattle.tcp_transmit.specs.Transmission.{octets_read};
+ghost use Rattle.world_face.specs.Journal.{Connected, TcpRead, TcpWrite, TcpEnd, Close, count_of};
+ghost use Rattle.world_face.specs.Tells.{Answers, Makes};
+ghost use Rattle.connection_steps.specs.Holding.{is_connects, without};
+ghost use Rattle.flow_splice.specs.Hosts.{IsRead, gives_octets};
+
+use crate::{MOST, Spliced};
+use sock_buffers::Down;
+use tcp_guest::{Change, Conn, HostNews};
+use world_face::{Io, Joined, Made, World};
+
+impl Spliced {
+    ghost use Rattle.flow_splice.specs.Splice.{closed, is_open as is_open_by};
+    ghost use Rattle.flow_splice.specs.Serves.{GoesOn};
+    ghost use Rattle.flow_splice.specs.Hosts.{IsAsOld, is_for_reading, is_for_writing, some_is};
+    ghost use Rattle.flow_splice.specs.Wants.{may_end, owes_octets as owes_octets_by, reads, writes};
+
+    /// The host's socket was reported ready, for reading, for writing or for both. It is asked whether it connected, or gets octets or the guest's end;
+    /// and then what it has is read, as far as there is room. Where a call fails, or both ends passed, the socket is closed.
+    pub fn host_ready<W: World>(&mut self, world: &mut W, now: u64, read: bool, write: bool)
+        requires now { now ≤ 2 ^ 62 }
+        requires few { octets_read self.old.down + 16384 < 2 ^ 62 }
+        ensures makes { Makes (W.tells world.old) (W.tells world.new) (GoesOn self.old self.new false now) }
+        ensures same { IsAsOld self.old self.new }
+        ensures up { self.new.up.written ≤ self.old.up.written + 16384 }
+        ensures down { octets_read self.new.down ≤ octets_read self.old.down + 16384 }
+        // A direction that was reported is served.
+        ensures serves_writing { write ≡ true → writes self.old ≡ true
+            → Makes (W.tells world.old) (W.tells world.new) (λ made. some_is is_for_writing made ≡ true) }
+        ensures serves_reading { read ≡ true → write ≡ false → reads self.old ≡ true
+            → Makes (W.tells world.old) (W.tells world.new) (λ made. some_is is_for_reading made ≡ true) }
+    {
+        self.serve_writing(world, now, write);
+        self.serve_reading(world, now, read);
+    }
+
+    // The socket was reported ready for writing, or not.
+    fn serve_writing<W: World>(&mut self, world: &mut W, now: u64, ready: bool)
+        requires now { now ≤ 2 ^ 62 }
+        ensures makes { Makes (W.tells world.old) (W.tells world.new) (GoesOn self.old self.new false now) }
+        ensures same { IsAsOld self.old self.new }
+        ensures up { self.new.up.written ≤ self.old.up.written + 16384 }
+        ensures down { self.new.down ≡ self.old.down }
+        ensures serves { ready ≡ true → writes self.old ≡ true → Makes (W.tells world.old) (W.tells world.new) (λ made. some_is is_for_writing made ≡ true) }
+        ensures idle { ready ≡ false → (self.new ≡ self.old) × (W.tells world.new ≡ W.tells world.old) }
+    {
+        if !ready || !self.is_open() {
+            return;
+        }
+        if self.connects() {
+            self.connect(world, now);
+        } else if self.owes_octets() {
+            self.write(world, now);
+        } else if self.owes_end() {
+            self.end(world, now);
+        }
+    }
+
+    // The socket was reported ready for reading, or not.
+    fn serve_reading<W: World>(&mut self, world: &mut W, now: u64, ready: bool)
+        requires now { now ≤ 2 ^ 62 }
+        requires few { octets_read self.old.down + 16384 < 2 ^ 62 }
+        ensures makes { Makes (W.tells world.old) (W.tells world.new) (GoesOn self.old self.new false now) }
+        ensures same { IsAsOld self.old self.new }
+        ensures up { self.new.up ≡ self.old.up }
+        ensures down { octets_read self.new.down ≤ octets_read self.old.down + 16384 }
+        ensures serves { ready ≡ true → reads self.old ≡ true → Makes (W.tells world.old) (W.tells world.new) (λ made. some_is is_for_reading made ≡ true) }
+    {
+        if ready && self.is_open() && self.may_read() {
+            self.read(world, now);
+        }
+    }
+
+    // ---- whether it connected
+
+    // Asks the socket whether it has connected.
+    fn connect<W: World>(&mut self, world: &mut W, now: u64)
+        requires now { now ≤ 2 ^ 62 }
+        requires open_yet { is_open_by self.old ≡ true }
+        requires connects { is_connects self.old.conn.stage ≡ true }
+        ensures makes { Makes (W.tells world.old) (W.tells world.new) (GoesOn self.old self.new false now) }
+        ensures same { IsAsOld self.old self.new }
+        ensures up { self.new.up ≡ self.old.up }
+        ensures down { self.new.down ≡ self.old.down }
+        ensures serves { Makes (W.tells world.old) (W.tells world.new) (λ made. some_is is_for_writing made ≡ true) }
+    {
+        match self.ask(world) {
+            Joined::Yes => self.join(now),
+            Joined::NotYet => {}
+            Joined::Failed => self.fail(world, now),
+        }
+    }
+
+    fn ask<W: World>(&self, world: &mut W) -> Joined
+        ensures { Answers (W.tells world.old) (W.tells world.new) (Connected self.now.face.number result) }
+    {
+        world.connected(self.number)
+    }
+
+    // It has.
+    fn join(&mut self, now: u64)
+        requires now { now ≤ 2 ^ 62 }
+        ensures change { self.new ≡ record self.old { conn = connected_by self.old.conn.stage self.old.conn } }
+        ensures buffers { HasBuffers self.new.conn self.new.up self.new.down }
+    {
+        self.conn.on_host(HostNews::Connected, now);
+    }
+
+    // ---- a call failed
+
+    // A call on the socket failed: it is closed, and a reset is owed, unless the guest knows of no connection.
+    pub(crate) fn fail<W: World>(&mut self, world: &mut W, now: u64)
+        requires now { now ≤ 2 ^ 62 }
+        ensures closes { Answers (W.tells world.old) (W.tells world.new) (Close self.old.face.number) }
+        ensures change { self.new ≡ closed (record self.old { conn = reset self.old.conn }) now }
+    {
+        self.give_up(now);
+        self.close(world, now);
+    }
+
+    // The connection is over.
+    fn give_up(&mut self, now: u64)
+        requires now { now ≤ 2 ^ 62 }
+        ensures { self.new ≡ record self.old { conn = reset self.old.conn } }
+    {
+        self.conn.on_host(HostNews::Failed, now);
+    }
+
+    // ---- what it takes
+
+    // Offers octets that are held.
+    fn write<W: World>(&mut self, world: &mut W, now: u64)
+        requires now { now ≤ 2 ^ 62 }
+        requires open_yet { is_open_by self.old ≡ true }
+        requires connected { is_connects self.old.conn.stage ≡ false }
+        requires owes { owes_octets_by self.old ≡ true }
+        ensures makes { Makes (W.tells world.old) (W.tells world.new) (GoesOn self.old self.new false now) }
+        ensures same { IsAsOld self.old self.new }
+        ensures up { self.new.up.written ≤ self.old.up.written + 16384 }
+        ensures down { self.new.down ≡ self.old.down }
+        ensures serves { Makes (W.tells world.old) (W.tells world.new) (λ made. some_is is_for_writing made ≡ true) }
+    {
+        match self.offer(world) {
+            Io::Failed => self.fail(world, now),
+            Io::Done(_) | Io::End | Io::NotYet => {}
+        }
+    }
+
+    fn offer<W: World>(&mut self, world: &mut W) -> Io
+        requires some { 0 < length self.old.up.held }
+        ensures offers { Answers (W.tells world.old) (W.tells world.new)
+            (TcpWrite self.old.face.number (take (min 16384 (length self.old.up.held)) self.old.up.held) result) }
+        ensures change { self.new ≡ record self.old { up = without self.old.up (count_of result) } }
+        ensures few { count_of result ≤ min 16384 (length self.old.up.held) }
+        ensures buffers { HasBuffers self.new.conn self.new.up self.new.down }
+    {
+        let count = self.up.front_piece(&mut self.buffer);
+        let answer = world.tcp_write(self.number, &self.buffer[..count]);
+        self.up.written(answer.count());
+        answer
+    }
+
+    // Passes on the guest's end.
+    fn end<W: World>(&mut self, world: &mut W, now: u64)
+        requires now { now ≤ 2 ^ 62 }
+        requires open_yet { is_open_by self.old ≡ true }
+        requires connected { is_connects self.old.conn.stage ≡ false }
+        requires all { owes_octets_by self.old ≡ false }
+        requires ends { may_end self.old ≡ true }
+        ensures makes { Makes (W.tells world.old) (W.tells world.new) (GoesOn self.old self.new false now) }
+        ensures same { IsAsOld self.old self.new }
+        ensures up { self.new.up ≡ self.old.up }
+        ensures down { self.new.down ≡ self.old.down }
+        ensures serves { Makes (W.tells world.old) (W.tells world.new) (λ made. some_is is_for_writing made ≡ true) }
+    {
+        match self.offer_end(world) {
+            Made::Done => {
+                let change = self.mark_ended(now);
+                self.see(world, now, change);
+            }
+            Made::Failed => self.fail(world, now),
+        }
+    }
+
+    fn offer_end<W: World>(&self, world: &mut W) -> Made
+        ensures { Answers (W.tells world.old) (W.tells world.new) (TcpEnd self.now.face.number result) }
+    {
+        world.tcp_end(self.number)
+    }
+
+    // The host was told the guest's end.
+    fn mark_ended(&mut self, now: u64) -> Change
+        requires now { now ≤ 2 ^ 62 }
+        ensures change { result ≡ settling (write_ended self.old.conn) }
+        ensures ended { self.new ≡ record self.old {
+          conn = settled (write_ended self.old.conn);
+          told_end = true;
+        } }
+        ensures buffers { HasBuffers self.new.conn self.new.up self.new.down }
+    {
+        self.told_end = true;
+        self.conn.on_host(HostNews::WriteEnded, now)
+    }
+}
+
+// What it gives.
+impl Spliced {
+    ghost use Rattle.flow_splice.specs.Splice.{is_open as is_open_by};
+    ghost use Rattle.flow_splice.specs.Serves.{GoesOn};
+    ghost use Rattle.flow_splice.specs.Hosts.{IsAsOld, is_for_reading, read_by, some_is};
+    ghost use Rattle.flow_splice.specs.Wants.{may_read as may_read_by};
+
+    // Reads octets, as many as there is room for, 16,384 at most.
+    fn read<W: World>(&mut self, world: &mut W, now: u64)
+        requires now { now ≤ 2 ^ 62 }
+        requires open_yet { is_open_by self.old ≡ true }
+        requires may { may_read_by self.old ≡ true }
+        requires few { octets_read self.old.down + 16384 < 2 ^ 62 }
+        ensures makes { Makes (W.tells world.old) (W.tells world.new) (GoesOn self.old self.new false now) }
+        ensures same { IsAsOld self.old self.new }
+        ensures up { self.new.up ≡ self.old.up }
+        ensures down { octets_read self.new.down ≤ octets_read self.old.down + 16384 }
+        ensures serves { Makes (W.tells world.old) (W.tells world.new) (λ made. some_is is_for_reading made ≡ true) }
+    {
+        match self.ask_octets(world, now) {
+            Io::End => self.end_reading(now),
+            Io::Failed => self.fail(world, now),
+            Io::Done(_) | Io::NotYet => {}
+        }
+    }
+
+    // Asks for them, and takes those that came.
+    fn ask_octets<W: World>(&mut self, world: &mut W, now: u64) -> Io
+        requires now { now ≤ 2 ^ 62 }
+        requires may { may_read_by self.old ≡ true }
+        requires few { octets_read self.old.down + 16384 < 2 ^ 62 }
+        ensures read { (octets : List ℕ) × Answers (W.tells world.old) (W.tells world.new)
+            (TcpRead self.old.face.number (min 16384 (self.old.down.size - length self.old.down.octets)) result octets)
+            × (length octets ≤ min 16384 (self.old.down.size - length self.old.down.octets))
+            × (self.new ≡ read_by (gives_octets result) self.old octets now) }
+        ensures buffers { HasBuffers self.new.conn self.new.up self.new.down }
+        ensures size { self.old.down.size ≡ self.old.up.size }
+    {
+        read_into(
+            world,
+            self.number,
+            &mut self.conn,
+            &mut self.down,
+            &mut self.buffer,
+            now,
+        )
+    }
+
+    // The host ended its stream.
+    fn end_reading(&mut self, now: u64)
+        requires now { now ≤ 2 ^ 62 }
+        ensures change { self.new ≡ record self.old { conn = host_ended self.old.conn now } }
+        ensures buffers { HasBuffers self.new.conn self.new.up self.new.down }
+    {
+        self.conn.on_host(HostNews::Ended, now);
+    }
+}
+
+// Asks a socket for as many octets as there is room for, and takes those that came.
+fn read_into<W: World>(
+    world: &mut W,
+    number: u64,
+    conn: &mut Conn,
+    down: &mut Down,
+    buffer: &mut [u8],
+    now: u64,
+) -> Io
+    requires now { now ≤ 2 ^ 62 }
+    requires feeds { (up : Upward) × HasBuffers conn.old up down.old }
+    requires yet { is_host_open conn.old.transmission.end ≡ true }
+    requires some { 0 < down.old.size - length down.old.octets }
+    requires few { octets_read down.old + 16384 < 2 ^ 62 }
+    requires size { length buffer.old ≡ 16384 }
+    ensures read { (octets : List ℕ) × Answers (W.tells world.old) (W.tells world.new)
+        (TcpRead number (min 16384 (down.old.size - length down.old.octets)) result octets)
+        × (length octets ≤ min 16384 (down.old.size - length down.old.octets))
+        × IsRead (gives_octets result) conn.old down.old octets now conn.new down.new }
+    ensures buffers { (up : Upward) → HasBuffers conn.old up down.old → HasBuffers conn.new up down.new }
+    ensures size { length buffer.new ≡ 16384 }
+{
+    let asked = down.room().min(MOST);
+    let answer = read_part(world, number, buffer, asked);
+    if gives_octets(answer) {
+        conn.more(down, &buffer[..answer.count()], now);
+    }
+    answer
+}
+
+// Reads from a socket into a part of a buffer.
+fn read_part<W: World>(world: &mut W, number: u64, buffer: &mut [u8], asked: usize) -> Io
+    requires some { 0 < asked }
+    requires fits { asked ≤ length buffer.old }
+    ensures read { Answers (W.tells world.old) (W.tells world.new)
+        (TcpRead number asked result (take (count_of result) buffer.new)) }
+    ensures count { count_of result ≤ asked }
+    ensures length { length buffer.new ≡ length buffer.old }
+{
+    world.tcp_read(number, &mut buffer[..asked])
+}
+
+// Whether octets came, or none yet.
+fn gives_octets(answer: Io) -> bool
+    ensures { result ≡ gives_octets answer }
+{
+    match answer {
+        Io::Done(_) | Io::NotYet => true,
+        Io::End | Io::Failed => false,
+    }
+}

@@ -1,0 +1,50 @@
+//! What follows where a flow follows its story. There is no code to run: each function is a law, and its contract is proved though its body is empty.
+ghost use Rattle.std.specs.Prelude.{◌≡◌, ℕ, ◌+◌, ◌<◌, ◌≤◌, ◌++◌, length, Bool, true, false, None, Some};
+ghost use Rattle.flow_laws.specs.Settings.{Settings};
+ghost use Rattle.flow_laws.specs.Event.{Story};
+ghost use Rattle.flow_laws.specs.Guest.{Honest, IsAcknowledged, front, written};
+ghost use Rattle.flow_laws.specs.Flow.{guest};
+ghost use Rattle.flow_laws.specs.Close.{is_in_use as is_in_use_by_law, rests_since};
+ghost use Rattle.flow_laws.specs.Lawful.{IsLawful, IsPrefixOf};
+ghost use Rattle.flow_laws.specs.Dutiful.{IsDutiful, IsSettled, MayWait};
+ghost use Rattle.connection_steps.specs.Holding.{is_connects};
+ghost use Rattle.flow_splice.specs.Ahead.{IsAhead};
+ghost use Rattle.flow_splice.specs.Follows.{Follows};
+ghost use Rattle.flow_splice.specs.Sends.{IsClear};
+ghost use Rattle.flow_splice.specs.Splice.{Splice, is_at_rest, is_in_use, is_open};
+ghost use Rattle.flow_splice.specs.Wants.{connect_end};
+ghost use Rattle.flow_splice.specs.declared.Place.TheVariants.{Resting};
+
+/// All that was done for a flow that follows its story was allowed, and done as it must be.
+pub fn what_a_flow_did_was_lawful()
+    ensures lawful { (s : Settings) (f : Splice) (past : Story) (now : ℕ) → Follows s f past now → IsLawful s past }
+    ensures dutiful { (s : Settings) (f : Splice) (past : Story) (now : ℕ) → Follows s f past now → IsDutiful s past }
+{}
+
+/// Where a pump cleared the flow, and its connection's timer isn't due (as after a tick at this moment, by `Spliced::tick` and `pump`: `ahead`), all holds of it that is to hold whenever the program waits, unless the link is
+/// blocked: all octets, ends and resets that may go out are out, what came is acknowledged, the room is told, and what is under way goes again within a
+/// minute. The guest's hardware address isn't known where the flow doesn't have it.
+pub fn a_flow_that_is_clear_is_settled()
+    ensures { (s : Settings) (f : Splice) (past : Story) (now : ℕ) (known : Bool) → Follows s f past now → IsClear f → (f.mac ≡ None → known ≡ false)
+        → IsAhead f.conn now → IsSettled s past known (is_at_rest f.place) now }
+{}
+
+/// It may be waited at all, where the socket's time to connect isn't over: a flow of which both ends passed is closed.
+pub fn a_flow_may_be_waited_for()
+    ensures { (s : Settings) (f : Splice) (past : Story) (now : ℕ) → Follows s f past now
+        → (is_open f ≡ true → is_connects f.conn.stage ≡ true → now < connect_end f) → MayWait past now }
+{}
+
+/// The octets that are held go on with what the host took: together they begin what an honest guest sent, and all that was acknowledged is among them.
+pub fn held_octets_go_on_with_what_was_written()
+    ensures begins { (s : Settings) (f : Splice) (past : Story) (now : ℕ) → Follows s f past now → is_open f ≡ true → Honest (guest past)
+        → IsPrefixOf (written (guest past) ++ f.up.held) (front (guest past)) }
+    ensures acknowledged { (s : Settings) (f : Splice) (past : Story) (now a : ℕ) → Follows s f past now → is_open f ≡ true → Honest (guest past)
+        → IsAcknowledged (guest past) a → a ≤ length (written (guest past)) + length f.up.held }
+{}
+
+/// A place is in use exactly as long as the flow has its tuple, and rests since the moment of the story.
+pub fn a_place_is_in_use_as_long_as_its_flow_has_its_tuple()
+    ensures in_use { (s : Settings) (f : Splice) (past : Story) (now : ℕ) → Follows s f past now → is_in_use f.place ≡ is_in_use_by_law past }
+    ensures rests { (s : Settings) (f : Splice) (past : Story) (now since : ℕ) → Follows s f past now → f.place ≡ Resting since → rests_since past ≡ Some since }
+{}

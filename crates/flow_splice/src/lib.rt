@@ -1,0 +1,373 @@
+//! One flow: a connection with a guest (`tcp_guest`) and a socket of the host, over any World.
+//!
+//! What the guest sends goes to the socket, and what is read from the socket goes to the guest. A flow connects, where the guest's SYN came and a
+//! socket of the host began to connect, or it was accepted, where a peer came to a listener and its guest is called. Its calls are one socket's alone,
+//! and writes of its own frames on the link. It stands in a place that another flow takes once this one is over.
+//!
+//! What a call makes is said over every story: where the flow followed the story so far, the entries made are events of its story, and the flow follows
+//! it with these (`Follows`, `Serves`). Each event was allowed by the laws of one flow, and was as it must be. Moments are in milliseconds, at most 2^62.
+#![tactic(auto)]
+
+mod frames;
+mod guest;
+mod host;
+pub mod laws;
+mod pump;
+mod time;
+
+ghost use Rattle.std.specs.Prelude.{◌≡◌, ℕ, ◌+◌, ◌-◌, ◌*◌, ◌^◌, ◌<◌, ◌≤◌, List, [], ◌∷◌, ◌++◌, length, take, drop, min, true, false, None, Some, IfOk, IsSome, Bool, ◌&&◌, not};
+ghost use Rattle.world_face.specs.Journal.{Close};
+ghost use Rattle.world_face.specs.Tells.{Answers, Makes};
+ghost use Rattle.sock_buffers.specs.Downward.{downward};
+ghost use Rattle.sock_buffers.specs.Upward.{empty};
+ghost use Rattle.tcp_guest.specs.Connection.{HasBuffers, from_guest, to_guest};
+ghost use Rattle.tcp_segment.specs.Tcp.{Tcp};
+ghost use Rattle.flow_laws.specs.Settings.{Settings};
+ghost use Rattle.flow_laws.specs.Event.{Story, Connects, Accepts, At};
+ghost use Rattle.flow_laws.specs.Windows.{mss};
+ghost use Rattle.connection_steps.specs.Holding.{is_connects, is_live};
+ghost use Rattle.connection_steps.specs.Seen.{segment_of};
+
+use net_octets::{Endpoint, Ip4, Mac, NoMemory};
+use poll_list::{Want, Who};
+use seq_space::Seq;
+use sock_buffers::{Down, Up};
+use std::alloc::Global;
+use std::marker::Model;
+use tcp_guest::{Change, Conn};
+use world_face::World;
+
+/// The most octets that one call on a socket moves.
+const MOST: usize = 16384;
+
+/// How long a socket may take to connect, in milliseconds.
+const CONNECTS_FOR: u64 = 75_000;
+
+/// The endpoint of a place that no flow has.
+const NOWHERE: Endpoint = Endpoint {
+    addr: Ip4(0),
+    port: 0,
+};
+
+/// Where a flow stands.
+#[derive(Clone, Copy, Debug, PartialEq, Eq)]
+pub enum Place {
+    /// No flow has it.
+    Empty,
+    /// Its flow's socket is open, or it owes its guest a reset.
+    InUse,
+    /// Its flow is in TIME-WAIT, with its socket closed, and the rest is counted from this moment.
+    Resting(u64),
+}
+
+/// What a pump came to.
+#[derive(Clone, Copy, Debug, PartialEq, Eq)]
+pub enum Pumped {
+    /// All that the flow owes is out.
+    Clear,
+    /// The link takes no more for now.
+    Blocked,
+    /// The link failed.
+    Failed,
+}
+
+/// One flow, or the place for one. A contract sees a `Splice`.
+#[derive(Drop)]
+pub struct Spliced {
+    pub(crate) place: Place,
+    pub(crate) shut: bool,
+    pub(crate) guest: Endpoint,
+    pub(crate) other: Endpoint,
+    pub(crate) number: u64,
+    pub(crate) vhost: Ip4,
+    pub(crate) mac: Option<Mac>,
+    pub(crate) since: u64,
+    pub(crate) told_end: bool,
+    pub(crate) asked: u8,
+    pub(crate) ask_at: u64,
+    pub(crate) conn: Conn,
+    pub(crate) up: Up,
+    pub(crate) down: Down,
+    pub(crate) mru: u16,
+    pub(crate) buffer: Vec<u8>,
+}
+
+impl Model for Spliced {
+    ghost use Rattle.std.specs.Prelude.{◌≡◌, ◌≤◌, ◌^◌, length};
+    ghost use Rattle.flow_splice.specs.Splice.{Splice, IsSound};
+
+    ghost Value = { Splice };
+
+    ghost view = { λ s. record {
+      place = s.place;
+      shut = s.shut;
+      face = record { guest = s.guest; other = s.other; number = s.number; vhost = s.vhost };
+      mac = s.mac;
+      since = s.since;
+      told_end = s.told_end;
+      asked = s.asked;
+      ask_at = s.ask_at;
+      conn = s.conn;
+      up = s.up;
+      down = s.down;
+      mru = s.mru;
+    } };
+
+    ghost invariant = { λ s. IsSound s.conn s.up s.down s.asked s.mru × (s.since ≤ 2 ^ 62) × (length s.buffer.items ≡ 16384) };
+}
+
+impl Spliced {
+    ghost use Rattle.flow_splice.specs.Follows.{Follows};
+    ghost use Rattle.flow_splice.specs.Splice.{begun};
+    ghost use Rattle.flow_splice.specs.Wants.{due_of, reads, writes};
+    ghost use Rattle.flow_splice.specs.declared.Place.TheVariants.{Empty};
+    ghost use Rattle.poll_list.specs.declared.Who.TheVariants.{Tcp as OnTcp};
+    ghost use Rattle.flow_laws.specs.Dutiful.{MayWaitToWrite, must_wait_to_write, waits_to_read};
+
+    /// The place for a flow, with all the memory that one will ever need: `ring` octets for each direction, from 1 to 1,048,576. `mru` is the longest
+    /// datagram that comes from the guest, from 576 to 9,216 octets.
+    ///
+    /// # Errors
+    /// `NoMemory` where no memory is left.
+    pub fn open(alloc: Global, ring: usize, mru: u16) -> Result<Spliced, NoMemory>
+        requires some { 1 ≤ ring }
+        requires few { ring ≤ 1048576 }
+        requires least { 576 ≤ mru }
+        requires most { mru ≤ 9216 }
+        ensures place { IfOk result (λ f. f.place ≡ Empty) }
+        ensures size { IfOk result (λ f. (f.up.size ≡ ring) × (f.down.size ≡ ring)) }
+        ensures mru { IfOk result (λ f. f.mru ≡ mru) }
+    {
+        let (Ok(up), Ok(down)) = (Up::open(alloc, ring), Down::open(alloc, ring)) else {
+            return Err(NoMemory);
+        };
+        let Ok(buffer) = vec![in alloc; 0; MOST] else {
+            return Err(NoMemory);
+        };
+        Ok(Spliced {
+            place: Place::Empty,
+            shut: true,
+            guest: NOWHERE,
+            other: NOWHERE,
+            number: 0,
+            vhost: Ip4(0),
+            mac: None,
+            since: 0,
+            told_end: false,
+            asked: 0,
+            ask_at: 0,
+            conn: Conn::to_guest(Seq(0), 536, ring as u32, false),
+            up,
+            down,
+            mru,
+            buffer,
+        })
+    }
+
+    /// A flow begins at a moment, in a place that none has: between a guest and another endpoint, on a socket with this number, with a connection that
+    /// is new and has buffers of this place's size. The guest's hardware address is known, where the guest opened the flow.
+    pub fn start(
+        &mut self,
+        now: u64,
+        guest: Endpoint,
+        other: Endpoint,
+        number: u64,
+        vhost: Ip4,
+        mac: Option<Mac>,
+        conn: Conn,
+    )
+        requires now { now ≤ 2 ^ 62 }
+        requires new { HasBuffers conn (empty self.old.up.size) (downward [] 0 self.old.down.size) }
+        requires size { self.old.down.size ≡ self.old.up.size }
+        ensures begins { self.new ≡ begun now guest other number vhost mac conn self.old }
+        // A guest's SYN came, and the socket began to connect.
+        ensures connects { (s : Settings) (syn : Tcp) (ours most : ℕ) → s.scales ≡ true → s.ring ≤ 2 ^ 20 → s.ring ≡ self.old.up.size
+            → s.mru ≡ self.old.mru → IsSome mac → most ≡ mss s (At now (Connects ours (segment_of syn)) ∷ [])
+            → conn ≡ from_guest syn.seq ours most syn.scale s.ring s.congestion
+            → Follows s self.new (At now (Connects ours (segment_of syn)) ∷ []) now }
+        // A peer's connection was accepted, and its guest is called.
+        ensures accepts { (s : Settings) (ours most : ℕ) → s.scales ≡ true → s.ring ≤ 2 ^ 20 → s.ring ≡ self.old.up.size
+            → s.mru ≡ self.old.mru → most ≡ s.mtu - 40 → conn ≡ to_guest ours most s.ring s.congestion
+            → Follows s self.new (At now (Accepts ours) ∷ []) now }
+    {
+        self.up.reset();
+        self.down.reset();
+        self.conn = conn;
+        self.guest = guest;
+        self.other = other;
+        self.number = number;
+        self.vhost = vhost;
+        self.mac = mac;
+        self.since = now;
+        self.told_end = false;
+        self.asked = 0;
+        self.ask_at = 0;
+        self.shut = false;
+        self.place = Place::InUse;
+    }
+
+    /// Where it stands.
+    pub fn place(&self) -> Place
+        ensures { result ≡ self.now.place }
+    {
+        self.place
+    }
+
+    /// The moment at which the flow is to be looked at: the end of the time to connect, that of a wait for the guest's hardware address, or that of the
+    /// connection's timer. `None` exactly where there is none.
+    pub fn due(&self) -> Option<u64>
+        ensures { result ≡ due_of self.now }
+    {
+        if !self.is_open() {
+            None
+        } else if self.connects() {
+            Some(self.connect_end())
+        } else if self.seeks() {
+            Some(self.ask_at)
+        } else {
+            self.conn.due()
+        }
+    }
+
+    /// What is waited for: that the socket has octets, where there is room for them; that it connects or takes octets or the guest's end.
+    pub fn want(&self) -> Want
+        ensures wants { result ≡ record { of = OnTcp self.now.face.number; read = reads self.now; write = writes self.now } }
+        // It is waited for octets exactly where the law says so, and to write where it must be, and only where it may be.
+        ensures reads { (s : Settings) (past : Story) (now : ℕ) → Follows s self.now past now → waits_to_read s past ≡ result.read }
+        ensures must { (s : Settings) (past : Story) (now : ℕ) → Follows s self.now past now → must_wait_to_write past ≡ true → result.write ≡ true }
+        ensures may { (s : Settings) (past : Story) (now : ℕ) → Follows s self.now past now → result.write ≡ true → MayWaitToWrite past }
+    {
+        Want {
+            of: Who::Tcp(self.number),
+            read: self.reads(),
+            write: self.writes(),
+        }
+    }
+
+    /// Copies the octets of the guest that the host didn't take yet to the start of `into`, the oldest first, as many as fit, and answers how many.
+    pub fn held(&self, into: &mut [u8]) -> usize
+        ensures count { result ≡ min (length into.old) (length self.now.up.held) }
+        ensures copied { into.new ≡ take result self.now.up.held ++ drop result into.old }
+    {
+        self.up.front_piece(into)
+    }
+}
+
+// What is read of it.
+impl Spliced {
+    ghost use Rattle.flow_splice.specs.Hosts.{Sees, ends};
+    ghost use Rattle.flow_splice.specs.Splice.{closed, is_open as is_open_by, place_after as place_after_by};
+    ghost use Rattle.flow_splice.specs.Wants.{connect_end as connect_end_by, may_end, may_read as may_read_by, may_write as may_write_by, owes_octets as owes_octets_by, reads as reads_by, seeks as seeks_by, writes as writes_by};
+
+    // Whether its socket is open.
+    pub(crate) fn is_open(&self) -> bool
+        ensures { result ≡ is_open_by self.now }
+    {
+        self.place == Place::InUse && !self.shut
+    }
+
+    // Whether the socket is to connect.
+    pub(crate) fn connects(&self) -> bool
+        ensures { result ≡ is_connects self.now.conn.stage }
+    {
+        self.conn.connecting()
+    }
+
+    // Whether a request for the guest's hardware address waits for its answer.
+    pub(crate) fn seeks(&self) -> bool
+        ensures { result ≡ seeks_by self.now }
+    {
+        self.mac.is_none() && self.asked > 0
+    }
+
+    // The moment at which the socket's time to connect is over.
+    pub(crate) fn connect_end(&self) -> u64
+        ensures { result ≡ connect_end_by self.now }
+    {
+        self.since + CONNECTS_FOR
+    }
+
+    fn reads(&self) -> bool
+        ensures { result ≡ reads_by self.now }
+    {
+        self.is_open() && self.may_read()
+    }
+
+    fn writes(&self) -> bool
+        ensures { result ≡ writes_by self.now }
+    {
+        self.is_open() && self.may_write()
+    }
+
+    // Whether the host may give octets, and there is room for some.
+    pub(crate) fn may_read(&self) -> bool
+        ensures { result ≡ may_read_by self.now }
+    {
+        !self.connects() && self.conn.host_is_open() && self.down.room() > 0
+    }
+
+    // Whether there is something for the host to do: to connect, to take octets or to take the guest's end.
+    pub(crate) fn may_write(&self) -> bool
+        ensures { result ≡ may_write_by self.now }
+    {
+        self.connects() || self.owes_octets() || self.owes_end()
+    }
+
+    // Whether octets of the guest are held that the host is to take.
+    pub(crate) fn owes_octets(&self) -> bool
+        ensures { result ≡ owes_octets_by self.now }
+    {
+        self.up.held() > 0 && !self.told_end
+    }
+
+    // Whether the guest's end was taken, and the host wasn't told.
+    pub(crate) fn owes_end(&self) -> bool
+        ensures { result ≡ may_end self.now }
+    {
+        self.conn.guest_ended() && !self.told_end
+    }
+
+    // Where a flow stands that is closed at this moment.
+    fn place_after(&self, now: u64) -> Place
+        requires over { is_live self.now.conn.stage ≡ false }
+        ensures { result ≡ place_after_by self.now.conn.stage now }
+    {
+        if self.conn.time_wait() {
+            Place::Resting(now)
+        } else if self.conn.owed(&self.up, &self.down).is_some() {
+            Place::InUse
+        } else {
+            Place::Empty
+        }
+    }
+
+    // From now on it stands where its connection says, with its socket closed.
+    fn mark_closed(&mut self, now: u64)
+        requires over { is_live self.old.conn.stage ≡ false }
+        ensures { self.new ≡ closed self.old now }
+    {
+        self.place = self.place_after(now);
+        self.shut = true;
+    }
+
+    // Closes the socket of a connection that is over.
+    pub(crate) fn close<W: World>(&mut self, world: &mut W, now: u64)
+        requires over { is_live self.old.conn.stage ≡ false }
+        ensures closes { Answers (W.tells world.old) (W.tells world.new) (Close self.old.face.number) }
+        ensures change { self.new ≡ closed self.old now }
+    {
+        world.close(self.number);
+        self.mark_closed(now);
+    }
+
+    // Closes the socket where a change of the connection ended it.
+    pub(crate) fn see<W: World>(&mut self, world: &mut W, now: u64, change: Change)
+        requires over { ends change ≡ true → is_live self.old.conn.stage ≡ false }
+        ensures { Makes (W.tells world.old) (W.tells world.new) (Sees (ends change) self.old self.new now) }
+    {
+        match change {
+            Change::GuestReset | Change::Finished => self.close(world, now),
+            Change::Nothing | Change::Unfit => {}
+        }
+    }
+}

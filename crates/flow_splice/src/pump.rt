@@ -1,0 +1,398 @@
+// What a flow owes its guest goes out on the link.
+ghost use Rattle.std.specs.Prelude.{◌≡◌, ℕ, ◌^◌, ◌<◌, ◌≤◌, List, ◌++◌, [], None, Some, length, true, false};
+ghost use Rattle.world_face.specs.Frames.{spelling};
+ghost use Rattle.world_face.specs.Journal.{Entry};
+ghost use Rattle.world_face.specs.Tells.{Makes, Rose};
+ghost use Rattle.stream_netdev.specs.Keeps.{Keeps, Settles, Writes};
+ghost use Rattle.stream_netdev.specs.State.{under_way};
+ghost use Rattle.tcp_guest.specs.Connection.{HasBuffers};
+ghost use Rattle.tcp_guest.specs.Owing.{change_gone, owed_of};
+ghost use Rattle.connection_steps.specs.Sending.{is_rst, segment_out, with_head};
+ghost use Rattle.flow_splice.specs.Sends.{pumped_of};
+ghost use Rattle.flow_splice.specs.Frames.{IsHeld, frame_length, request_frame, segment_frame};
+ghost use Rattle.flow_laws.specs.Settings.{Settings};
+ghost use Rattle.flow_laws.specs.Event.{Story};
+ghost use Rattle.flow_steps.specs.Resends.{least_wait};
+ghost use Rattle.net_octets.specs.declared.Endpoint.{Endpoint};
+
+use crate::frames::{Route, write_frame, write_request};
+use crate::time::REQUESTS;
+use crate::{Place, Pumped, Spliced};
+use net_octets::{Ip4, Mac};
+use sock_buffers::Down;
+use stream_netdev::{Link, Offered};
+use tcp_guest::{Change, Head, Owed};
+use world_face::World;
+
+impl Spliced {
+    ghost use Rattle.flow_splice.specs.Frames.{segment_frame};
+
+    // Offers what is owed, in its frame.
+    fn offer_owed<W: World>(
+        &mut self,
+        world: &mut W,
+        link: &mut Link,
+        what: &Owed,
+        mac: Mac,
+        ident: u16,
+    ) -> Offered
+        requires owed { owed_of self.old.conn self.old.up self.old.down ≡ Some what.now }
+        requires none { link.old.tail ≡ [] }
+        requires free { link.old.blocked ≡ false }
+        ensures makes { Makes (W.tells world.old) (W.tells world.new) (λ made.
+            Writes result (spelling (segment_frame self.old.face mac ident (segment_out self.old.mru self.old.conn self.old.up self.old.down what.now))) made
+            × ((past : List Entry) → Keeps link.old past → Keeps link.new (made ++ past))) }
+        ensures failed { result ≡ Offered.Failed → Rose (W.tells world.old).faults.link (W.tells world.new).faults.link }
+        ensures settles { Settles result link.new }
+        ensures same { under_way link.new ≡ under_way link.old }
+        ensures change { self.new ≡ self.old }
+        ensures buffers { HasBuffers self.old.conn self.old.up self.old.down }
+    {
+        let head = self.conn.head(&self.up, what);
+        let route = Route {
+            guest: self.guest,
+            other: self.other,
+            vhost: self.vhost,
+            mac,
+            ident,
+        };
+        offer_frame(
+            world,
+            link,
+            &route,
+            &head,
+            what,
+            self.mru,
+            &self.down,
+            &mut self.buffer,
+        )
+    }
+}
+
+// Offers the frame of a segment.
+fn offer_frame<W: World>(
+    world: &mut W,
+    link: &mut Link,
+    route: &Route,
+    head: &Head,
+    what: &Owed,
+    mru: u16,
+    down: &Down,
+    buffer: &mut [u8],
+) -> Offered
+    requires held { IsHeld down.now what.now }
+    requires mru { 40 ≤ mru }
+    requires fits { frame_length head.now mru down.now what.now ≤ 1514 }
+    requires room { 1514 ≤ length buffer.old }
+    requires none { link.old.tail ≡ [] }
+    requires free { link.old.blocked ≡ false }
+    ensures makes { (number : ℕ) → Makes (W.tells world.old) (W.tells world.new) (λ made.
+        Writes result (spelling (segment_frame
+        (record { guest = route.now.guest; other = route.now.other; number = number; vhost = route.now.vhost }) route.now.mac route.now.ident
+        (with_head head.now mru down.now what.now))) made
+        × ((past : List Entry) → Keeps link.old past → Keeps link.new (made ++ past))) }
+    ensures failed { result ≡ Offered.Failed → Rose (W.tells world.old).faults.link (W.tells world.new).faults.link }
+    ensures settles { Settles result link.new }
+    ensures same { under_way link.new ≡ under_way link.old }
+    ensures room { length buffer.new ≡ length buffer.old }
+{
+    let length = write_frame(route, head, what, mru, down, buffer);
+    link.offer(world, &buffer[..length])
+}
+
+impl Spliced {
+    ghost use Rattle.flow_splice.specs.Sends.{GoesOut, Marks, ident_if, went_out};
+
+    // Where the link took something of it, it is out: the connection goes on, and where both ends passed its socket is closed.
+    fn mark<W: World>(
+        &mut self,
+        world: &mut W,
+        ident: &mut u16,
+        what: &Owed,
+        offered: Offered,
+        now: u64,
+    )
+        requires now { now ≤ 2 ^ 62 }
+        requires owed { owed_of self.old.conn self.old.up self.old.down ≡ Some what.now }
+        ensures makes { Makes (W.tells world.old) (W.tells world.new) (Marks offered what.now self.old self.new now) }
+        ensures ident { ident.new ≡ ident_if offered ident.old }
+    {
+        match offered {
+            Offered::Taken => {
+                *ident = ident.wrapping_add(1);
+                self.go_out(world, what, now);
+            }
+            Offered::Blocked | Offered::Failed => {}
+        }
+    }
+
+    fn go_out<W: World>(&mut self, world: &mut W, what: &Owed, now: u64)
+        requires now { now ≤ 2 ^ 62 }
+        requires owed { owed_of self.old.conn self.old.up self.old.down ≡ Some what.now }
+        ensures makes { Makes (W.tells world.old) (W.tells world.new) (GoesOut (is_rst what.now) what.now self.old self.new now) }
+    {
+        let change = self.note_sent(what, now);
+        if is_reset(what) {
+            self.leave();
+        } else {
+            self.see(world, now, change);
+        }
+    }
+
+    // The connection knows that it is out.
+    fn note_sent(&mut self, what: &Owed, now: u64) -> Change
+        requires now { now ≤ 2 ^ 62 }
+        requires owed { owed_of self.old.conn self.old.up self.old.down ≡ Some what.now }
+        ensures change { result ≡ change_gone what.now self.old.conn self.old.up now }
+        ensures sent { self.new ≡ went_out self.old what.now now }
+    {
+        self.conn.sent(&self.up, what, now)
+    }
+}
+
+// The pump.
+impl Spliced {
+    ghost use Rattle.flow_splice.specs.Ahead.{IsAhead, IsEarly};
+    ghost use Rattle.flow_splice.specs.Follows.{Follows};
+    ghost use Rattle.flow_splice.specs.Hosts.{IsAsOld};
+    ghost use Rattle.flow_splice.specs.Left.{left};
+    ghost use Rattle.flow_splice.specs.Splice.{is_open as is_open_by};
+    ghost use Rattle.flow_splice.specs.Sends.{IsClear, IsPumped, SendsOn, asked, asks_now, learnt, takes_part};
+    ghost use Rattle.flow_splice.specs.declared.Place.TheVariants.{Empty};
+    ghost use Rattle.flow_splice.specs.declared.Pumped.TheVariants.{Clear, Blocked, Failed};
+
+    /// Sends all that the flow owes, one segment at a time, until the link is blocked. Each datagram that goes out has the number `ident`, which is one more
+    /// then, modulo 2^16. `mac` is the guest's hardware address, where it is known: the flow keeps it. A flow that calls a guest whose address isn't known
+    /// asks for it in place of its SYN. Where both ends passed with what went out the socket is closed.
+    pub fn pump<W: World>(
+        &mut self,
+        world: &mut W,
+        link: &mut Link,
+        ident: &mut u16,
+        mac: Option<Mac>,
+        now: u64,
+    ) -> Pumped
+        requires now { now ≤ 2 ^ 62 }
+        requires tail { link.old.blocked ≡ false → link.old.tail ≡ [] }
+        ensures makes { Makes (W.tells world.old) (W.tells world.new) (SendsOn self.old self.new link.old link.new ident.old ident.new now) }
+        ensures blocked { result ≡ Blocked → link.new.blocked ≡ true }
+        ensures free { result ≡ Clear → (link.new.blocked ≡ false) × (link.new.tail ≡ []) }
+        ensures failed { result ≡ Failed → Rose (W.tells world.old).faults.link (W.tells world.new).faults.link }
+        ensures clear { result ≡ Clear → IsClear self.new }
+        ensures same { under_way link.new ≡ under_way link.old }
+        ensures stays { IsPumped mac self.old self.new }
+        // Where the connection's timer wasn't due, it isn't due then.
+        ensures ahead { (s : Settings) (past : Story) (before : ℕ) → Follows s self.old past before → IsAhead self.old.conn now → IsAhead self.new.conn now }
+    {
+        let _first = *ident;
+        self.learn(mac);
+        if link.blocked() {
+            return Pumped::Blocked;
+        }
+        match self.mac() {
+            Some(mac) => self.send_all(world, link, ident, mac, now),
+            None => self.seek(world, link, now),
+        }
+    }
+
+    // The guest's hardware address is known from now on, where one is told.
+    fn learn(&mut self, mac: Option<Mac>)
+        ensures { self.new ≡ learnt self.old mac }
+    {
+        if mac.is_some() {
+            self.mac = mac;
+        }
+    }
+
+    fn mac(&self) -> Option<Mac>
+        ensures { result ≡ self.now.mac }
+    {
+        self.mac
+    }
+
+    // What it owes, if it has its place.
+    fn owed(&self) -> Option<Owed>
+        ensures { result ≡ takes_part self.now (owed_of self.now.conn self.now.up self.now.down) }
+    {
+        if self.place == Place::Empty {
+            None
+        } else {
+            self.conn.owed(&self.up, &self.down)
+        }
+    }
+
+    // Asks for the guest's hardware address, where it is time to.
+    fn seek<W: World>(&mut self, world: &mut W, link: &mut Link, now: u64) -> Pumped
+        requires now { now ≤ 2 ^ 62 }
+        requires none { link.old.tail ≡ [] }
+        requires free { link.old.blocked ≡ false }
+        requires unknown { self.old.mac ≡ None }
+        ensures makes { Makes (W.tells world.old) (W.tells world.new) (λ made. (first : ℕ) → first < 2 ^ 16 → SendsOn self.old self.new link.old link.new first first now made) }
+        ensures blocked { result ≡ Blocked → link.new.blocked ≡ true }
+        ensures free { result ≡ Clear → (link.new.blocked ≡ false) × (link.new.tail ≡ []) }
+        ensures failed { result ≡ Failed → Rose (W.tells world.old).faults.link (W.tells world.new).faults.link }
+        ensures clear { result ≡ Clear → is_open_by self.new ≡ true → 0 < self.new.asked }
+        ensures same { under_way link.new ≡ under_way link.old }
+        ensures stays { IsPumped None self.old self.new }
+        ensures conn { self.new.conn ≡ self.old.conn }
+    {
+        if !self.asks_now(now) {
+            return Pumped::Clear;
+        }
+        let offered = self.offer_request(world, link);
+        self.mark_asked(offered, now);
+        outcome(offered, link.blocked())
+    }
+
+    // Whether it is time to ask for the guest's hardware address.
+    fn asks_now(&self, now: u64) -> bool
+        ensures { result ≡ asks_now self.now now }
+    {
+        self.is_open() && self.asked < REQUESTS && (self.asked == 0 || self.ask_at <= now)
+    }
+
+    fn offer_request<W: World>(&mut self, world: &mut W, link: &mut Link) -> Offered
+        requires none { link.old.tail ≡ [] }
+        requires free { link.old.blocked ≡ false }
+        ensures makes { Makes (W.tells world.old) (W.tells world.new) (λ made. Writes result (spelling (request_frame self.old.face)) made
+            × ((past : List Entry) → Keeps link.old past → Keeps link.new (made ++ past))) }
+        ensures failed { result ≡ Offered.Failed → Rose (W.tells world.old).faults.link (W.tells world.new).faults.link }
+        ensures settles { Settles result link.new }
+        ensures same { under_way link.new ≡ under_way link.old }
+        ensures change { self.new ≡ self.old }
+    {
+        let (vhost, guest) = (self.vhost, self.guest.addr);
+        offer_arp(world, link, vhost, guest, &mut self.buffer)
+    }
+
+    // Where the link took something of the request, an answer is waited for.
+    fn mark_asked(&mut self, offered: Offered, now: u64)
+        requires now { now ≤ 2 ^ 62 }
+        requires few { self.old.asked < 9 }
+        ensures { self.new ≡ asked offered self.old now }
+    {
+        if offered == Offered::Taken {
+            self.ask_at = now + wait_after(self.asked);
+            self.asked += 1;
+        }
+    }
+
+    // Sends all that is owed to a guest that is known.
+    fn send_all<W: World>(
+        &mut self,
+        world: &mut W,
+        link: &mut Link,
+        ident: &mut u16,
+        mac: Mac,
+        now: u64,
+    ) -> Pumped
+        requires now { now ≤ 2 ^ 62 }
+        requires none { link.old.tail ≡ [] }
+        requires free { link.old.blocked ≡ false }
+        requires mac { self.old.mac ≡ Some mac }
+        ensures makes { Makes (W.tells world.old) (W.tells world.new) (SendsOn self.old self.new link.old link.new ident.old ident.new now) }
+        ensures blocked { result ≡ Blocked → link.new.blocked ≡ true }
+        ensures free { result ≡ Clear → (link.new.blocked ≡ false) × (link.new.tail ≡ []) }
+        ensures failed { result ≡ Failed → Rose (W.tells world.old).faults.link (W.tells world.new).faults.link }
+        ensures clear { result ≡ Clear → takes_part self.new (owed_of self.new.conn self.new.up self.new.down) ≡ None }
+        ensures same { under_way link.new ≡ under_way link.old }
+        ensures as_old { IsAsOld self.old self.new }
+        ensures up { self.new.up ≡ self.old.up }
+        ensures down { self.new.down ≡ self.old.down }
+        ensures early { IsEarly now self.old.conn → IsEarly now self.new.conn }
+    {
+        let _first = *ident;
+        while let Some(what) = self.owed() {
+            match self.send(world, link, ident, &what, mac, now) {
+                Pumped::Clear => {}
+                Pumped::Blocked => return Pumped::Blocked,
+                Pumped::Failed => return Pumped::Failed,
+            }
+        }
+        Pumped::Clear
+    }
+
+    // Sends one segment that is owed.
+    fn send<W: World>(
+        &mut self,
+        world: &mut W,
+        link: &mut Link,
+        ident: &mut u16,
+        what: &Owed,
+        mac: Mac,
+        now: u64,
+    ) -> Pumped
+        requires now { now ≤ 2 ^ 62 }
+        requires none { link.old.tail ≡ [] }
+        requires free { link.old.blocked ≡ false }
+        requires mac { self.old.mac ≡ Some mac }
+        requires owed { takes_part self.old (owed_of self.old.conn self.old.up self.old.down) ≡ Some what.now }
+        ensures makes { Makes (W.tells world.old) (W.tells world.new) (SendsOn self.old self.new link.old link.new ident.old ident.new now) }
+        ensures blocked { result ≡ Blocked → link.new.blocked ≡ true }
+        ensures free { result ≡ Clear → (link.new.blocked ≡ false) × (link.new.tail ≡ []) }
+        ensures failed { result ≡ Failed → Rose (W.tells world.old).faults.link (W.tells world.new).faults.link }
+        ensures less { result ≡ Clear → left self.new < left self.old }
+        ensures same { under_way link.new ≡ under_way link.old }
+        ensures as_old { IsAsOld self.old self.new }
+        ensures up { self.new.up ≡ self.old.up }
+        ensures down { self.new.down ≡ self.old.down }
+        ensures early { IsEarly now self.old.conn → IsEarly now self.new.conn }
+    {
+        let offered = self.offer_owed(world, link, what, mac, *ident);
+        self.mark(world, ident, what, offered, now);
+        outcome(offered, link.blocked())
+    }
+}
+
+// How long an answer is waited for after so many requests and one more: a second, and twice as long each time, up to a minute (RFC 6298, 5).
+fn wait_after(asked: u8) -> u64
+    requires { asked < 9 }
+    ensures exact { result ≡ least_wait asked }
+    ensures few { result ≤ 60000 }
+{
+    (1000u64 << asked).min(60_000)
+}
+
+// Offers the frame of a request for a hardware address.
+fn offer_arp<W: World>(
+    world: &mut W,
+    link: &mut Link,
+    vhost: Ip4,
+    guest: Ip4,
+    buffer: &mut [u8],
+) -> Offered
+    requires room { 1514 ≤ length buffer.old }
+    requires none { link.old.tail ≡ [] }
+    requires free { link.old.blocked ≡ false }
+    ensures makes { (other at : Endpoint) (number : ℕ) → Makes (W.tells world.old) (W.tells world.new) (λ made.
+        Writes result (spelling (request_frame (record { guest = record { addr = guest; port = at.port }; other = other; number = number; vhost = vhost }))) made
+        × ((past : List Entry) → Keeps link.old past → Keeps link.new (made ++ past))) }
+    ensures failed { result ≡ Offered.Failed → Rose (W.tells world.old).faults.link (W.tells world.new).faults.link }
+    ensures settles { Settles result link.new }
+    ensures same { under_way link.new ≡ under_way link.old }
+    ensures room { length buffer.new ≡ length buffer.old }
+{
+    let length = write_request(vhost, guest, buffer);
+    link.offer(world, &buffer[..length])
+}
+
+// Whether it is a reset.
+fn is_reset(what: &Owed) -> bool
+    ensures { result ≡ is_rst what.now }
+{
+    match what {
+        Owed::Reset { .. } => true,
+        Owed::Syn | Owed::SynAck | Owed::Data(_) | Owed::Ack => false,
+    }
+}
+
+// What an offer comes to.
+fn outcome(offered: Offered, blocked: bool) -> Pumped
+    ensures { result ≡ pumped_of offered blocked }
+{
+    match offered {
+        Offered::Taken | Offered::Blocked if blocked => Pumped::Blocked,
+        Offered::Taken | Offered::Blocked => Pumped::Clear,
+        Offered::Failed => Pumped::Failed,
+    }
+}

@@ -1,0 +1,118 @@
+// What time does to a flow.
+ghost use Rattle.std.specs.Prelude.{◌≡◌, ◌^◌, ◌<◌, ◌≤◌, ◌&&◌, ◌⊎◌, ℕ, nat_eq, nat_le, true, false};
+ghost use Rattle.tcp_guest.specs.Connection.{HasBuffers};
+ghost use Rattle.tcp_guest.specs.Hosts.{reset};
+ghost use Rattle.tcp_guest.specs.Timing.{after_tick, change_at_tick};
+ghost use Rattle.world_face.specs.Tells.{Makes};
+ghost use Rattle.flow_laws.specs.Settings.{Settings};
+ghost use Rattle.flow_laws.specs.Event.{Story};
+ghost use Rattle.connection_steps.specs.Holding.{is_connects};
+
+use crate::Spliced;
+use tcp_guest::Change;
+use world_face::World;
+
+/// How often the guest's hardware address is asked for.
+pub(crate) const REQUESTS: u8 = 9;
+
+impl Spliced {
+    ghost use Rattle.flow_splice.specs.Ahead.{IsAhead};
+    ghost use Rattle.flow_splice.specs.Follows.{Follows};
+    ghost use Rattle.flow_splice.specs.Hosts.{IsAsOld};
+    ghost use Rattle.flow_splice.specs.Serves.{GoesOn, TicksOn};
+    ghost use Rattle.flow_splice.specs.Splice.{is_open as is_open_by};
+    ghost use Rattle.flow_splice.specs.Wants.{connect_end as connect_end_by, seeks as seeks_by};
+
+    /// The moment came. A socket that didn't connect in 75,000 ms is closed; so is that of a flow whose guest wasn't found by nine requests and the waits
+    /// after them, and that of one that is given up. Else what the connection's timer makes owed again is owed from now on.
+    pub fn tick<W: World>(&mut self, world: &mut W, now: u64)
+        requires now { now ≤ 2 ^ 62 }
+        ensures makes { Makes (W.tells world.old) (W.tells world.new) (TicksOn self.old self.new now) }
+        ensures same { IsAsOld self.old self.new }
+        ensures up { self.new.up ≡ self.old.up }
+        ensures down { self.new.down ≡ self.old.down }
+        ensures in_time { is_open_by self.new ≡ true → is_connects self.new.conn.stage ≡ true → now < connect_end_by self.new }
+        // What the connection's timer makes owed again is owed again.
+        ensures again { is_open_by self.old ≡ true → is_connects self.old.conn.stage ≡ false → seeks_by self.old ≡ false → is_open_by self.new ≡ true
+            → self.new ≡ record self.old { conn = after_tick self.old.conn now } }
+        // The connection's timer isn't due then, unless an acknowledgement is owed.
+        ensures ahead { (s : Settings) (past : Story) (before : ℕ) → Follows s self.old past before → self.old.conn.ack_owed ≡ false → IsAhead self.new.conn now }
+    {
+        if !self.is_open() {
+            return;
+        }
+        if self.connects() {
+            self.await_host(world, now);
+        } else if self.seeks() {
+            self.await_guest(world, now);
+        } else {
+            self.expire(world, now);
+        }
+    }
+
+    // The socket is to connect.
+    fn await_host<W: World>(&mut self, world: &mut W, now: u64)
+        requires now { now ≤ 2 ^ 62 }
+        requires open_yet { is_open_by self.old ≡ true }
+        requires connects { is_connects self.old.conn.stage ≡ true }
+        ensures makes { Makes (W.tells world.old) (W.tells world.new) (GoesOn self.old self.new false now) }
+        ensures same { IsAsOld self.old self.new }
+        ensures up { self.new.up ≡ self.old.up }
+        ensures down { self.new.down ≡ self.old.down }
+        ensures in_time { is_open_by self.new ≡ true → now < connect_end_by self.new }
+        ensures conn { (self.new.conn ≡ self.old.conn) ⊎ (self.new.conn ≡ reset self.old.conn) }
+    {
+        if self.connect_end() <= now {
+            self.fail(world, now);
+        }
+    }
+
+    // The guest is asked for its hardware address.
+    fn await_guest<W: World>(&mut self, world: &mut W, now: u64)
+        requires now { now ≤ 2 ^ 62 }
+        requires open_yet { is_open_by self.old ≡ true }
+        requires seeks { seeks_by self.old ≡ true }
+        ensures makes { Makes (W.tells world.old) (W.tells world.new) (TicksOn self.old self.new now) }
+        ensures same { IsAsOld self.old self.new }
+        ensures up { self.new.up ≡ self.old.up }
+        ensures down { self.new.down ≡ self.old.down }
+        ensures stage { is_open_by self.new ≡ true → self.new.conn.stage ≡ self.old.conn.stage }
+        ensures conn { (self.new.conn ≡ self.old.conn) ⊎ (self.new.conn ≡ reset self.old.conn) }
+    {
+        if self.has_asked_enough(now) {
+            self.fail(world, now);
+        }
+    }
+
+    // Whether it was asked for nine times, and the last wait is over.
+    fn has_asked_enough(&self, now: u64) -> bool
+        ensures { result ≡ (nat_eq self.now.asked 9 && nat_le self.now.ask_at now) }
+    {
+        self.asked == REQUESTS && self.ask_at <= now
+    }
+
+    // The connection's timer may be due.
+    fn expire<W: World>(&mut self, world: &mut W, now: u64)
+        requires now { now ≤ 2 ^ 62 }
+        requires open_yet { is_open_by self.old ≡ true }
+        ensures makes { Makes (W.tells world.old) (W.tells world.new) (GoesOn self.old self.new false now) }
+        ensures same { IsAsOld self.old self.new }
+        ensures up { self.new.up ≡ self.old.up }
+        ensures down { self.new.down ≡ self.old.down }
+        ensures stage { is_open_by self.new ≡ true → self.new.conn.stage ≡ self.old.conn.stage }
+        ensures again { is_open_by self.new ≡ true → self.new ≡ record self.old { conn = after_tick self.old.conn now } }
+        ensures conn { self.new.conn ≡ after_tick self.old.conn now }
+    {
+        let change = self.tick_connection(now);
+        self.see(world, now, change);
+    }
+
+    fn tick_connection(&mut self, now: u64) -> Change
+        requires now { now ≤ 2 ^ 62 }
+        ensures change { result ≡ change_at_tick self.old.conn now }
+        ensures ticked { self.new ≡ record self.old { conn = after_tick self.old.conn now } }
+        ensures buffers { HasBuffers self.new.conn self.new.up self.new.down }
+    {
+        self.conn.tick(now)
+    }
+}
