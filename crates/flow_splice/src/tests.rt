@@ -69,6 +69,15 @@ lwrite 0000003752540012345652550a000202080045000029000200004006acb7c00002070a000
 lwrite 0000003752540012345652550a000202080045000029000300004006acb6c00002070a00020f00500fa00003d093000003e95018ffff9a45000063 = done 59
 ";
 
+/// There is room for four octets: of five with an end four are taken and not the end, and then an end alone is.
+const A_FULL_RING: &[u8] = b"connected 0 = yes
+lwrite 0000003a52540012345652550a00020208004500002c000000004006acb6c00002070a00020f00500fa00003d090000003e960120004e58f0000020405b4 = done 62
+lwrite 0000003652540012345652550a000202080045000028000100004006acb9c00002070a00020f00500fa00003d091000003ed50100000fd4c0000 = done 58
+lwrite 0000003652540012345652550a000202080045000028000200004006acb8c00002070a00020f00500fa00003d091000003ee50100000fd4b0000 = done 58
+twrite 0 61626364 = done 4
+tend 0 = done
+";
+
 /// A segment of the guest.
 pub(crate) fn said(flags: u8, seq: u32, ack: u32, body: &[u8]) -> TcpView<'_>
     ensures { result.body.now ≡ body.now }
@@ -338,5 +347,47 @@ fn no_more_goes_out_than_the_window_takes(rt: HostRuntime) -> Result<(), Fail> {
         &takes_one(250_003),
     )?;
     assert!(rt; made(rt.alloc(), &world, A_SMALL_WINDOW)?);
+    Ok(())
+}
+
+/// A flow with room for four octets, whose guest's SYN came at the moment 0.
+fn narrow(alloc: Global) -> Result<Spliced, Fail>
+    ensures up { IfOk result (λ flow. flow.up.written ≡ 0) }
+    ensures down { IfOk result (λ flow. octets_read flow.down ≡ 0) }
+{
+    let mut flow = Spliced::open(alloc, 4, 1_500).map_err(|_| "memory")?;
+    let conn = Conn::from_guest(Seq(1_000), Seq(250_000), 1_460, None, 4, false);
+    flow.start(0, GUEST, SERVER, 0, Ip4(0x0a00_0202), Some(MAC), conn);
+    Ok(flow)
+}
+
+#[test]
+fn an_end_needs_no_room(rt: HostRuntime) -> Result<(), Fail> {
+    let mut world = world_of(rt.alloc(), A_FULL_RING)?;
+    let mut link = free_link(rt.alloc())?;
+    let mut ident = 0;
+    let mut flow = narrow(rt.alloc())?;
+    serve(&mut flow, &mut world, 0, false, true);
+    send(&mut flow, &mut world, &mut link, &mut ident, 1)?;
+    hear(
+        &mut flow,
+        &mut world,
+        &mut link,
+        &mut ident,
+        2,
+        &said(ACK + FIN, 1_001, 250_001, b"abcde"),
+    )?;
+    hear(
+        &mut flow,
+        &mut world,
+        &mut link,
+        &mut ident,
+        3,
+        &said(ACK + FIN, 1_005, 250_001, b""),
+    )?;
+    serve(&mut flow, &mut world, 4, false, true);
+    serve(&mut flow, &mut world, 5, false, true);
+    send(&mut flow, &mut world, &mut link, &mut ident, 6)?;
+    assert!(rt; made(rt.alloc(), &world, A_FULL_RING)?);
     Ok(())
 }
