@@ -373,4 +373,6 @@ impl Spliced {
 }
 
 #[cfg(test)]
+mod link_tests;
+#[cfg(test)]
 mod tests;
