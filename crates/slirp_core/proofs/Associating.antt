@@ -40,9 +40,9 @@ module _ (config : Config) (at : Standing) (link : LinkState) where
   sent_on slirp past socket errand among holds NotYet = after_sent config at slirp link past socket errand among holds NotYet refl
   sent_on slirp past socket errand among holds Failed = after_failure config at slirp link past socket errand among holds
 
-  -- a socket was opened for it, or wasn't
+  -- a socket was opened for it at every address, or wasn't
   opened_for : (slirp : SlirpState) (past : List Entry) (errand : Errand) (new : List Association) (reply : Reply) (calls : List Entry)
-      → OpensFor (outbound_of errand) slirp.moment slirp.number slirp.associations new reply calls → HoldsAt config at (NeedsSocket errand) slirp link past
+      → OpensFor 0 (outbound_of errand) slirp.moment slirp.number slirp.associations new reply calls → HoldsAt config at (NeedsSocket errand) slirp link past
       → Holds config at (record slirp { associations = new; pending = told_by slirp errand.datagram reply; number = slirp.number + 1 }) link (calls ++ past)
   opened_for slirp past errand new reply calls (Opens answer made is replies) holds =
       let one = opened (outbound_of errand) slirp.number slirp.moment in
@@ -71,7 +71,7 @@ module _ (config : Config) (at : Standing) (link : LinkState) where
       by false room holds = holds
 
   pub relayed : (slirp : SlirpState) (past : List Entry) (errand : Errand) (next : ℕ) (new : List Association) (reply : Reply) (made : List Entry)
-      → Relays None (outbound_of errand) slirp.moment slirp.number next slirp.associations new reply made → HoldsAt config at (step_for slirp.associations (Some errand)) slirp link past
+      → Relays 0 None (outbound_of errand) slirp.moment slirp.number next slirp.associations new reply made → HoldsAt config at (step_for slirp.associations (Some errand)) slirp link past
       → Holds config at (record slirp { associations = new; pending = told_by slirp errand.datagram reply; number = next }) link (made ++ past)
   relayed slirp past errand next new reply made (ByForward socket for sends is same) holds = cc
   relayed slirp past errand next new reply made (BySocket socket for found sends is same) holds =
@@ -135,23 +135,23 @@ below_room bound (oldest ∷ list) below = by (nat_le most_associations (length 
     by true = below_without bound oldest.number (oldest ∷ list) below
     by false = below
 
-below_opened : (d : Errand) (now number : ℕ) (old new : List Association) (reply : Reply) (calls : List Entry) → OpensFor (outbound_of d) now number old new reply calls → AreBelow number old → AreBelow (number + 1) new
-below_opened d now number old new reply calls (Opens answer made is replies) below =
+below_opened : (bind : ℕ) (d : Errand) (now number : ℕ) (old new : List Association) (reply : Reply) (calls : List Entry) → OpensFor bind (outbound_of d) now number old new reply calls → AreBelow number old → AreBelow (number + 1) new
+below_opened bind d now number old new reply calls (Opens answer made is replies) below =
     subst (AreBelow (number + 1)) (sym is) (below_moved (number + 1) number (sent_from (record { 0 = d.datagram.mac }) now) (λ a. refl) _ (below_last number old (opened (outbound_of d) number now) below refl))
-below_opened d now number old new reply calls (OpensNone made is replies) below = subst (AreBelow (number + 1)) (sym is) (below_up number old below)
+below_opened bind d now number old new reply calls (OpensNone made is replies) below = subst (AreBelow (number + 1)) (sym is) (below_up number old below)
 
-pub below_relayed : (d : Errand) (now number next : ℕ) (old new : List Association) (reply : Reply) (made : List Entry) → Relays None (outbound_of d) now number next old new reply made → AreBelow number old → AreBelow next new
-below_relayed d now number next old new reply made (ByForward socket for sends is same) below = cc
-below_relayed d now number next old new reply made (BySocket socket for found sends is same) below =
+pub below_relayed : (bind : ℕ) (d : Errand) (now number next : ℕ) (old new : List Association) (reply : Reply) (made : List Entry) → Relays bind None (outbound_of d) now number next old new reply made → AreBelow number old → AreBelow next new
+below_relayed bind d now number next old new reply made (ByForward socket for sends is same) below = cc
+below_relayed bind d now number next old new reply made (BySocket socket for found sends is same) below =
     subst (λ n. AreBelow n new) (sym same) (subst (AreBelow number) (sym is) (below_moved number socket (sent_from (record { 0 = d.datagram.mac }) now) (λ a. refl) old below))
-below_relayed d now number next old new reply made (ByNewSocket calls for found room opens is same) below =
-    subst (λ n. AreBelow n new) (sym same) (below_opened d now number (with_room old) new reply calls opens (below_room number old below))
+below_relayed bind d now number next old new reply made (ByNewSocket calls for found room opens is same) below =
+    subst (λ n. AreBelow n new) (sym same) (below_opened bind d now number (with_room old) new reply calls opens (below_room number old below))
 
 -- a number is used at most
-pub counts_up : (d : Errand) (now number next : ℕ) (old new : List Association) (reply : Reply) (made : List Entry) → Relays None (outbound_of d) now number next old new reply made → next ≤ number + 1
-counts_up d now number next old new reply made (ByForward socket for sends is same) = cc
-counts_up d now number next old new reply made (BySocket socket for found sends is same) = omega (arith, same)
-counts_up d now number next old new reply made (ByNewSocket calls for found room opens is same) = omega (arith, same)
+pub counts_up : (bind : ℕ) (d : Errand) (now number next : ℕ) (old new : List Association) (reply : Reply) (made : List Entry) → Relays bind None (outbound_of d) now number next old new reply made → next ≤ number + 1
+counts_up bind d now number next old new reply made (ByForward socket for sends is same) = cc
+counts_up bind d now number next old new reply made (BySocket socket for found sends is same) = omega (arith, same)
+counts_up bind d now number next old new reply made (ByNewSocket calls for found room opens is same) = omega (arith, same)
 
 -- what is left to be sent after a receipt
 below_reply : (bound now socket : ℕ) (list : List Association) (reply : Reply) → AreBelow bound list → AreBelow bound (with_reply reply now socket list)

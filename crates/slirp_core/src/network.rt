@@ -40,10 +40,10 @@ impl Model for Slirp {
 
     ghost Value = { SlirpState };
 
-    ghost view = { λ s. record { config = s.policy; known = s.guests; sent = s.sent; pending = s.outgoing; moment = s.moment; number = s.number; associations = s.associations; parts = s.reasm } };
+    ghost view = { λ s. record { config = s.policy; known = s.guests; sent = s.sent; pending = s.outgoing; moment = s.moment; number = s.number; associations = s.associations.list; parts = s.reasm } };
 
-    // each socket has a number under that of the next one
-    ghost invariant = { λ s. All (λ n. n < s.number) (numbers s.associations) × (s.moment ≤ 2 ^ 62) };
+    // each socket has a number under that of the next one; and sockets are opened at 0.0.0.0, every address of the host
+    ghost invariant = { λ s. All (λ n. n < s.number) (numbers s.associations.list) × (s.moment ≤ 2 ^ 62) × (s.associations.bind ≡ 0) };
 }
 
 impl Slirp {
@@ -85,7 +85,8 @@ impl Slirp {
         Ok(Slirp {
             policy: Policy::new(c),
             guests: ArpTable::new(),
-            associations: Assocs::new(),
+            // from every address of the host: no setting names another yet
+            associations: Assocs::new(Ip4(0)),
             sent: 0,
             outgoing,
             moment: 0,

@@ -4,3 +4,4 @@ pub mod Rows
 pub mod Relays
 pub mod Sending
 pub mod Links
+pub mod State

@@ -2,7 +2,7 @@
 use Rattle.std.specs.Prelude.{◌≡◌, ℕ, ◌+◌, ◌≤◌, ◌<◌, Bool, true, false, nat_le, List, [], ◌∷◌, ◌++◌, length, Option, Some, None, if◌then◌else◌}
 use Rattle.net_octets.specs.declared.Endpoint.{Endpoint}
 use Rattle.net_octets.specs.declared.Mac.{Mac}
-use Rattle.host_policy.specs.Targets.{anywhere}
+use Rattle.host_policy.specs.Addresses.{endpoint}
 use Rattle.host_policy.specs.declared.Reply.{Reply}
 use Rattle.host_policy.specs.declared.Reply.TheVariants.{Nothing, Datagram, Unreachable}
 use Rattle.world_face.specs.Journal.{Entry, Close, UdpOpen, UdpSend, UdpRecv, filled_got}
@@ -48,19 +48,19 @@ abbrev pub with_room : List Association → List Association
 with_room [] = []
 with_room (oldest ∷ list) = if nat_le most_associations (length (oldest ∷ list)) then without oldest.number (oldest ∷ list) else oldest ∷ list
 
--- a socket is opened for a datagram, which is sent on it; or none can be opened
-pub data OpensFor (d : Outbound) (now number : ℕ) (old new : List Association) (reply : Reply) (made : List Entry) : Type 0 where
-  Opens : (answer : Sent) → made ≡ UdpSend number d.to d.body answer ∷ UdpOpen number anywhere MadeDone ∷ []
-      → new ≡ moved_last (sent_from d.mac now) number (old ++ (opened d number now ∷ [])) → reply ≡ told answer → OpensFor d now number old new reply made
-  OpensNone : made ≡ UdpOpen number anywhere MadeFailed ∷ [] → new ≡ old → reply ≡ Unreachable no_network → OpensFor d now number old new reply made
+-- a socket is opened at port 0 of this address for a datagram, which is sent on it; or none can be opened
+pub data OpensFor (bind : ℕ) (d : Outbound) (now number : ℕ) (old new : List Association) (reply : Reply) (made : List Entry) : Type 0 where
+  Opens : (answer : Sent) → made ≡ UdpSend number d.to d.body answer ∷ UdpOpen number (endpoint bind 0) MadeDone ∷ []
+      → new ≡ moved_last (sent_from d.mac now) number (old ++ (opened d number now ∷ [])) → reply ≡ told answer → OpensFor bind d now number old new reply made
+  OpensNone : made ≡ UdpOpen number (endpoint bind 0) MadeFailed ∷ [] → new ≡ old → reply ≡ Unreachable no_network → OpensFor bind d now number old new reply made
 
--- a datagram is sent on the socket of its forward, or on that of its port, or on one that is opened for it
-pub data Relays (forward : Option ℕ) (d : Outbound) (now number next : ℕ) (old new : List Association) (reply : Reply) (made : List Entry) : Type 0 where
-  ByForward : (socket : ℕ) → forward ≡ Some socket → SendsOn socket d reply made → new ≡ old → next ≡ number → Relays forward d now number next old new reply made
+-- a datagram is sent on the socket of its forward, or on that of its port, or on one that is opened for it at this address
+pub data Relays (bind : ℕ) (forward : Option ℕ) (d : Outbound) (now number next : ℕ) (old new : List Association) (reply : Reply) (made : List Entry) : Type 0 where
+  ByForward : (socket : ℕ) → forward ≡ Some socket → SendsOn socket d reply made → new ≡ old → next ≡ number → Relays bind forward d now number next old new reply made
   BySocket : (socket : ℕ) → forward ≡ None → socket_of d.from old ≡ Some socket → SendsOn socket d reply made
-      → new ≡ moved_last (sent_from d.mac now) socket old → next ≡ number → Relays forward d now number next old new reply made
-  ByNewSocket : (calls : List Entry) → forward ≡ None → socket_of d.from old ≡ None → length (with_room old) < most_associations → OpensFor d now number (with_room old) new reply calls
-      → made ≡ calls ++ calls_for_room old → next ≡ number + 1 → Relays forward d now number next old new reply made
+      → new ≡ moved_last (sent_from d.mac now) socket old → next ≡ number → Relays bind forward d now number next old new reply made
+  ByNewSocket : (calls : List Entry) → forward ≡ None → socket_of d.from old ≡ None → length (with_room old) < most_associations → OpensFor bind d now number (with_room old) new reply calls
+      → made ≡ calls ++ calls_for_room old → next ≡ number + 1 → Relays bind forward d now number next old new reply made
 
 -- what a guest gets of what a socket received
 abbrev pub passed : Got → Endpoint → Option Mac → Reply

@@ -14,12 +14,6 @@ use net_octets::{Endpoint, Ip4, Mac};
 use std::marker::Model;
 use world_face::{Got, Made, Sent, World};
 
-/// Every address and port of the host.
-const ANYWHERE: Endpoint = Endpoint {
-    addr: Ip4(0),
-    port: 0,
-};
-
 /// Why a destination can't be reached: the network can't (RFC 792).
 const NO_NETWORK: u8 = 0;
 
@@ -32,22 +26,23 @@ pub struct OutboundView<'a> {
     pub body: &'a [u8],
 }
 
-/// The sockets of at most 512 associations, and the calls on them. Contracts see the list of associations, the longest unused first.
+/// The sockets of at most 512 associations, and the calls on them. Contracts see the address of the host from which their datagrams go out, and the list of
+/// associations, the longest unused first.
 ///
-/// Moments are in milliseconds. Each call says which calls it makes on the World, what becomes of the list, and what it answers. The core draws the numbers
-/// of sockets, and keeps an answer until it is out.
+/// Moments are in milliseconds. Each call says which calls it makes on the World, what becomes of the list, and what it answers; the address stays as it is.
+/// The core draws the numbers of sockets, and keeps an answer until it is out.
 #[derive(Drop)]
 pub struct Assocs {
+    bind: Ip4,
     list: Associations,
 }
 
 impl Model for Assocs {
-    ghost use Rattle.std.specs.Prelude.{List};
-    ghost use Rattle.udp_assoc.specs.declared.assocs.Association.{Association};
+    ghost use Rattle.udp_assoc.specs.State.{AssocsState};
 
-    ghost Value = { List Association };
+    ghost Value = { AssocsState };
 
-    ghost view = { λ s. s.list };
+    ghost view = { λ s. record { bind = s.bind.0; list = s.list } };
 }
 
 impl Assocs {
@@ -58,18 +53,20 @@ impl Assocs {
     ghost use Rattle.net_octets.specs.declared.Endpoint.{Endpoint as AnEndpoint};
     ghost use Rattle.std.specs.Prelude.{ℕ, ◌++◌, ◌∷◌, None};
 
-    /// No socket is open. All room for associations is in the value itself, so nothing is taken later.
-    pub fn new() -> Assocs
-        ensures { result ≡ [] }
+    /// No socket is open. Sockets will be opened at port 0 of this address of the host, where the system chooses the port; 0.0.0.0 is every address. All room
+    /// for associations is in the value itself, so nothing is taken later.
+    pub fn new(bind: Ip4) -> Assocs
+        ensures { result ≡ record { bind = bind.0; list = [] } }
     {
         Assocs {
+            bind,
             list: Associations::new(),
         }
     }
 
     /// Sends a guest's datagram, which came from this hardware address, with a payload of at most 65,507 octets: on the socket of a forward where one is
-    /// given, without an association; else on the socket of its port. Where that has none one is opened with this number, which then counts up; where 512
-    /// are open the longest unused one is closed before. Unreachable with code 0 where no socket can be opened, or the sending fails (RFC 792).
+    /// given, without an association; else on the socket of its port. Where that has none one is opened at the address with this number, which then counts up;
+    /// where 512 are open the longest unused one is closed before. Unreachable with code 0 where no socket can be opened, or the sending fails (RFC 792).
     pub fn guest<W: World>(
         &mut self,
         world: &mut W,
@@ -83,9 +80,10 @@ impl Assocs {
     ) -> Reply
         requires fits { length body.now ≤ most_to_udp }
         requires numbers { number.old + 1 < 2 ^ 64 }
-        requires above { All (λ n. n < number.old) (numbers self.old) }
+        requires above { All (λ n. n < number.old) (numbers self.old.list) }
         ensures relays { Makes (W.tells world.old) (W.tells world.new)
-            (Relays forward (record { from = from; mac = mac; to = to; body = body.now }) now number.old number.new self.old self.new result) }
+            (Relays self.old.bind forward (record { from = from; mac = mac; to = to; body = body.now }) now number.old number.new self.old.list self.new.list result) }
+        ensures bind { self.new.bind ≡ self.old.bind }
     {
         let datagram = OutboundView {
             from,
@@ -109,8 +107,10 @@ impl Assocs {
     ) -> Reply
         requires fits { length datagram.now.body.now ≤ most_to_udp }
         requires numbers { number.old + 1 < 2 ^ 64 }
-        requires above { All (λ n. n < number.old) (numbers self.old) }
-        ensures { Makes (W.tells world.old) (W.tells world.new) (Relays None (outbound_of datagram.now) now number.old number.new self.old self.new result) }
+        requires above { All (λ n. n < number.old) (numbers self.old.list) }
+        ensures relays { Makes (W.tells world.old) (W.tells world.new)
+            (Relays self.old.bind None (outbound_of datagram.now) now number.old number.new self.old.list self.new.list result) }
+        ensures bind { self.new.bind ≡ self.old.bind }
     {
         match self.list.socket_of(datagram.from) {
             Some(socket) => self.send_on(world, now, socket, datagram),
@@ -123,11 +123,11 @@ impl Assocs {
 
     // Where as many sockets are open as may be, the longest unused one gives way.
     fn make_room<W: World>(&mut self, world: &mut W)
-        ensures calls { Makes (W.tells world.old) (W.tells world.new) (λ made. made ≡ calls_for_room self.old) }
-        ensures list { self.new ≡ with_room self.old }
-        ensures room { length self.new < most_associations }
-        ensures fresh { (guest : AnEndpoint) → socket_of guest self.old ≡ None → socket_of guest self.new ≡ None }
-        ensures above { (bound : ℕ) → All (λ n. n < bound) (numbers self.old) → All (λ n. n < bound) (numbers self.new) }
+        ensures calls { Makes (W.tells world.old) (W.tells world.new) (λ made. made ≡ calls_for_room self.old.list) }
+        ensures list { self.new ≡ record self.old { list = with_room self.old.list } }
+        ensures room { length self.new.list < most_associations }
+        ensures fresh { (guest : AnEndpoint) → socket_of guest self.old.list ≡ None → socket_of guest self.new.list ≡ None }
+        ensures above { (bound : ℕ) → All (λ n. n < bound) (numbers self.old.list) → All (λ n. n < bound) (numbers self.new.list) }
     {
         if self.list.is_full() {
             if let Some(oldest) = self.list.oldest() {
@@ -137,7 +137,7 @@ impl Assocs {
         }
     }
 
-    // Opens a socket, and sends the datagram on it.
+    // Opens a socket at the address, and sends the datagram on it.
     fn open_for<W: World>(
         &mut self,
         world: &mut W,
@@ -147,15 +147,20 @@ impl Assocs {
     ) -> Reply
         requires fits { length datagram.now.body.now ≤ most_to_udp }
         requires numbers { number.old + 1 < 2 ^ 64 }
-        requires above { All (λ n. n < number.old) (numbers self.old) }
-        requires room { length self.old < most_associations }
-        requires fresh { socket_of datagram.now.from self.old ≡ None }
-        ensures opens { Makes (W.tells world.old) (W.tells world.new) (OpensFor (outbound_of datagram.now) now number.old self.old self.new result) }
+        requires above { All (λ n. n < number.old) (numbers self.old.list) }
+        requires room { length self.old.list < most_associations }
+        requires fresh { socket_of datagram.now.from self.old.list ≡ None }
+        ensures opens { Makes (W.tells world.old) (W.tells world.new) (OpensFor self.old.bind (outbound_of datagram.now) now number.old self.old.list self.new.list result) }
+        ensures bind { self.new.bind ≡ self.old.bind }
         ensures next { number.new ≡ number.old + 1 }
     {
         let socket = *number;
         *number += 1;
-        match world.udp_open(socket, ANYWHERE) {
+        let at = Endpoint {
+            addr: self.bind,
+            port: 0,
+        };
+        match world.udp_open(socket, at) {
             Made::Done => {
                 self.list.open(Association {
                     number: socket,
@@ -179,7 +184,7 @@ impl Assocs {
     ) -> Reply
         requires { length datagram.now.body.now ≤ most_to_udp }
         ensures sends { Makes (W.tells world.old) (W.tells world.new) (SendsOn socket (outbound_of datagram.now) result) }
-        ensures list { self.new ≡ moved_last (sent_from datagram.now.mac now) socket self.old }
+        ensures list { self.new ≡ record self.old { list = moved_last (sent_from datagram.now.mac now) socket self.old.list } }
     {
         let reply = send(world, socket, datagram);
         self.list.sent(socket, datagram.mac, now);
@@ -197,7 +202,8 @@ impl Assocs {
         into: &mut [u8],
     ) -> Reply
         requires { 0 < length into.old }
-        ensures hears { Makes (W.tells world.old) (W.tells world.new) (Hears forward now s (length into.old) into.new self.old self.new result) }
+        ensures hears { Makes (W.tells world.old) (W.tells world.new) (Hears forward now s (length into.old) into.new self.old.list self.new.list result) }
+        ensures bind { self.new.bind ≡ self.old.bind }
         ensures fits { FitsRoom result (length into.new) }
         ensures room { length into.new ≡ length into.old }
     {
@@ -210,7 +216,8 @@ impl Assocs {
     // Receives a datagram on the socket of an association, which is used by it.
     fn hear<W: World>(&mut self, world: &mut W, now: u64, s: u64, into: &mut [u8]) -> Reply
         requires { 0 < length into.old }
-        ensures hears { Makes (W.tells world.old) (W.tells world.new) (Hears None now s (length into.old) into.new self.old self.new result) }
+        ensures hears { Makes (W.tells world.old) (W.tells world.new) (Hears None now s (length into.old) into.new self.old.list self.new.list result) }
+        ensures bind { self.new.bind ≡ self.old.bind }
         ensures fits { FitsRoom result (length into.new) }
         ensures room { length into.new ≡ length into.old }
     {
@@ -224,7 +231,7 @@ impl Assocs {
 
     // The association of a socket is used where a datagram came.
     fn mark(&mut self, now: u64, s: u64, reply: Reply)
-        ensures { self.new ≡ with_reply reply now s self.old }
+        ensures { self.new ≡ record self.old { list = with_reply reply now s self.old.list } }
     {
         if let Reply::Datagram { .. } = reply {
             self.list.heard(s, now);
@@ -233,14 +240,14 @@ impl Assocs {
 
     /// The k-th open socket by rising number, counted from 0. None exactly where there are no more than k.
     pub fn socket(&self, k: usize) -> Option<u64>
-        ensures { (rising : List ℕ) × IsPermutation (numbers self.now) rising × IsNonDecreasing rising × (result ≡ slice_get rising k) }
+        ensures { (rising : List ℕ) × IsPermutation (numbers self.now.list) rising × IsNonDecreasing rising × (result ≡ slice_get rising k) }
     {
         self.list.rising().get(k).copied()
     }
 
     /// The numbers of all open sockets, the least first.
     pub fn rising(&self) -> &[u64]
-        ensures all { IsPermutation (numbers self.now) result.now }
+        ensures all { IsPermutation (numbers self.now.list) result.now }
         ensures rising { IsNonDecreasing result.now }
         ensures most { length result.now ≤ most_associations }
     {
@@ -249,14 +256,14 @@ impl Assocs {
 
     /// The longest unused association. None exactly where there is none.
     pub fn oldest(&self) -> Option<Association>
-        ensures { result ≡ slice_get self.now 0 }
+        ensures { result ≡ slice_get self.now.list 0 }
     {
         self.list.oldest()
     }
 
     /// The moment at which the idle life of the longest unused association is over, at most 2^64 - 1. None exactly where there is none.
     pub fn next_due(&self) -> Option<u64>
-        ensures { result ≡ option_map (λ a. min (2 ^ 64 - 1) (a.used + idle_life)) (slice_get self.now 0) }
+        ensures { result ≡ option_map (λ a. min (2 ^ 64 - 1) (a.used + idle_life)) (slice_get self.now.list 0) }
     {
         let oldest = self.list.oldest()?;
         Some(oldest.used.saturating_add(IDLE_LIFE))
@@ -264,17 +271,19 @@ impl Assocs {
 
     /// Closes the sockets whose idle life is over, by rising number.
     pub fn tick<W: World>(&mut self, world: &mut W, now: u64)
-        ensures closes { Makes (W.tells world.old) (W.tells world.new) (Ticks now self.old self.new) }
-        ensures none { All (λ a. is_over now a ≡ false) self.new }
+        ensures closes { Makes (W.tells world.old) (W.tells world.new) (Ticks now self.old.list self.new.list) }
+        ensures none { All (λ a. is_over now a ≡ false) self.new.list }
+        ensures bind { self.new.bind ≡ self.old.bind }
     {
         while self.close_idle(world, now) {}
     }
 
     // Closes the socket with the least number of those whose idle life is over, and answers whether there was one.
     fn close_idle<W: World>(&mut self, world: &mut W, now: u64) -> bool
-        ensures closes { Makes (W.tells world.old) (W.tells world.new) (ClosesLeast (is_over now) result self.old self.new) }
-        ensures fewer { result ≡ true → length self.new < length self.old }
-        ensures none { result ≡ false → All (λ a. is_over now a ≡ false) self.new }
+        ensures closes { Makes (W.tells world.old) (W.tells world.new) (ClosesLeast (is_over now) result self.old.list self.new.list) }
+        ensures fewer { result ≡ true → length self.new.list < length self.old.list }
+        ensures none { result ≡ false → All (λ a. is_over now a ≡ false) self.new.list }
+        ensures bind { self.new.bind ≡ self.old.bind }
     {
         let Some(number) = self.list.idle(now) else {
             return false;
@@ -286,8 +295,9 @@ impl Assocs {
 
     /// Closes the socket with the least number, and answers whether there was one.
     pub fn close_first<W: World>(&mut self, world: &mut W) -> bool
-        ensures closes { Makes (W.tells world.old) (W.tells world.new) (ClosesLeast (λ a. true) result self.old self.new) }
-        ensures fewer { result ≡ true → length self.new < length self.old }
+        ensures closes { Makes (W.tells world.old) (W.tells world.new) (ClosesLeast (λ a. true) result self.old.list self.new.list) }
+        ensures fewer { result ≡ true → length self.new.list < length self.old.list }
+        ensures bind { self.new.bind ≡ self.old.bind }
     {
         let Some(number) = self.list.least() else {
             return false;

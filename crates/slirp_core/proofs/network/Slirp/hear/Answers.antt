@@ -12,17 +12,17 @@ pub returns-clause-receives : goal.returns-clause-receives
 returns-clause-receives g c a held =
     let i = c.self.inside in
     let found = ap (λ (s : SlirpState). numbered c.args.number s.associations) c.self.view_is ∙ held in
-    makes_as _ _ _ _ c.host-reply.ensures.hears (λ made hears. receives_on i.moment c.args.number (length c.args.into.now) c.host-reply.new.into i.associations c.host-reply.new.self c.host-reply.result made a found hears)
+    makes_as _ _ _ _ c.host-reply.ensures.hears (λ made hears. receives_on i.moment c.args.number (length c.args.into.now) c.host-reply.new.into i.associations.list c.host-reply.new.self.list c.host-reply.result made a found hears)
 
 pub returns-clause-makes : goal.returns-clause-makes
 returns-clause-makes g c config count wants item items link reported out =
     let i = c.self.inside in
-    let slirp : SlirpState = record { config = i.policy; known = i.guests; sent = i.sent; pending = i.outgoing; moment = i.moment; number = i.number; associations = i.associations; parts = i.reasm } in
+    let slirp : SlirpState = record { config = i.policy; known = i.guests; sent = i.sent; pending = i.outgoing; moment = i.moment; number = i.number; associations = i.associations.list; parts = i.reasm } in
     let none = ap (λ (s : SlirpState). s.pending) c.self.view_is ∙ c.requires.none in
     subst (λ (s : SlirpState). Brings (g.W.World.tells c.args.world.now) (g.W.World.tells c.host-reply.new.world) (Holds config (standing count wants (item ∷ items)) s link) (Holds config (standing count wants items) c.answer_peer.new.self link)) c.self.view_is
     (brings_from c.host-reply.ensures.hears (λ made hears past holds.
     subst (λ (s : SlirpState). Holds config (standing count wants items) s link (made ++ past)) (sym c.answer_peer.ensures)
-    (heard config count wants item items link slirp past c.args.number (length c.args.into.now) c.host-reply.new.into c.host-reply.new.self c.host-reply.result made reported c.requires.room none out hears holds)))
+    (heard config count wants item items link slirp past c.args.number (length c.args.into.now) c.host-reply.new.into c.host-reply.new.self.list c.host-reply.result made reported c.requires.room none out hears holds)))
 
 pub returns-clause-counts : goal.returns-clause-counts
 returns-clause-counts g c = grown _ _ _ c.host-reply.ensures.hears.counted
@@ -31,4 +31,4 @@ pub invariant_of-self : goal.invariant_of-self
 invariant_of-self g c =
     let i = c.self.inside in
     let makes = c.host-reply.ensures.hears in
-    (below_heard i.number i.moment c.args.number (length c.args.into.now) c.host-reply.new.into i.associations c.host-reply.new.self c.host-reply.result makes.made makes.holds c.self.invariant.0, c.self.invariant.1)
+    (below_heard i.number i.moment c.args.number (length c.args.into.now) c.host-reply.new.into i.associations.list c.host-reply.new.self.list c.host-reply.result makes.made makes.holds c.self.invariant.0, c.self.invariant.1, c.host-reply.ensures.bind ∙ c.self.invariant.2)

@@ -3,22 +3,23 @@ use Rattle.world_face.specs.Tells.{Makes}
 use Rattle.world_face.specs.Journal.{Close}
 use Rattle.world_face.proofs.Telling.{makes_none, makes_one}
 use Rattle.udp_assoc.specs.Relays.{ClosesLeast}
+use Rattle.udp_assoc.specs.State.{AssocsState}
 use Rattle.udp_assoc.specs.declared.assocs.Association.{Association}
 use Rattle.udp_assoc.proofs.Yielding.{fewer}
 use Rattle.udp_assoc.proofs.sockets.Assocs.close_first.Goals as goal
 
 pub returns-in_default-clause-closes : goal.returns-in_default-clause-closes
 returns-in_default-clause-closes g c =
-    subst (λ (l : List Association). Makes (g.W.World.tells c.args.world.now) (g.W.World.tells c.args.world.now) (ClosesLeast (λ a. true) false l l)) c.self.view_is
+    subst (λ (s : AssocsState). Makes (g.W.World.tells c.args.world.now) (g.W.World.tells c.args.world.now) (ClosesLeast (λ a. true) false s.list s.list)) c.self.view_is
     (makes_none _ _ (refl, c.in_default.ensures, refl))
 
 pub returns-clause-closes : goal.returns-clause-closes
 returns-clause-closes g c =
-    subst (λ (l : List Association). Makes (g.W.World.tells c.args.world.now) (g.W.World.tells c.close.new.self) (ClosesLeast (λ a. true) true l c.close-2.new.self)) c.self.view_is
+    subst (λ (s : AssocsState). Makes (g.W.World.tells c.args.world.now) (g.W.World.tells c.close.new.self) (ClosesLeast (λ a. true) true s.list c.close-2.new.self)) c.self.view_is
     (makes_one _ _ (Close c.in-Some.number) _ c.close.ensures (λ allowed. (c.in-Some.number, refl, c.in-Some.ensures, c.close-2.ensures)))
 
 pub returns-clause-fewer : goal.returns-clause-fewer
 returns-clause-fewer g c is =
     let list = c.self.inside.list in
     let less = fewer c.in-Some.number (λ a. true) list c.in-Some.ensures.0 in
-    subst (λ (l : List Association). length c.close-2.new.self < length l) c.self.view_is (subst (λ (l : List Association). length l < length list) (sym c.close-2.ensures) less)
+    subst (λ (s : AssocsState). length c.close-2.new.self < length s.list) c.self.view_is (subst (λ (l : List Association). length l < length list) (sym c.close-2.ensures) less)

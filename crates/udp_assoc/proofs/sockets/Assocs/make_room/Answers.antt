@@ -4,6 +4,7 @@ use Rattle.world_face.specs.Journal.{Close}
 use Rattle.world_face.proofs.Telling.{makes_one}
 use Rattle.udp_assoc.specs.Associations.{most_associations, socket_of}
 use Rattle.udp_assoc.specs.Relays.{calls_for_room}
+use Rattle.udp_assoc.specs.State.{AssocsState}
 use Rattle.udp_assoc.specs.declared.assocs.Association.{Association}
 use Rattle.udp_assoc.proofs.Below.{AreBelow, below_without}
 use Rattle.udp_assoc.proofs.Yielding.{few_of_none, fewer_left, gives_way, still_none}
@@ -14,7 +15,7 @@ returns-in-Some-clause-calls g c =
     let list = c.self.inside.list in
     let oldest = c.in-Some.oldest in
     let first = gives_way list oldest c.in-Some.ensures (sym c.is_full.ensures.full ∙ c.if-is_full.true) in
-    subst (λ (l : List Association). Makes (g.W.World.tells c.args.world.now) (g.W.World.tells c.close.new.self) (λ made. made ≡ calls_for_room l)) c.self.view_is
+    subst (λ (s : AssocsState). Makes (g.W.World.tells c.args.world.now) (g.W.World.tells c.close.new.self) (λ made. made ≡ calls_for_room s.list)) c.self.view_is
     (makes_one _ _ (Close oldest.number) _ c.close.ensures (λ allowed. sym first.2))
 
 pub returns-in-Some-clause-room : goal.returns-in-Some-clause-room
@@ -27,12 +28,12 @@ returns-in-Some-clause-room g c =
 pub returns-in-Some-clause-fresh : goal.returns-in-Some-clause-fresh
 returns-in-Some-clause-fresh g c guest none =
     let list = c.self.inside.list in
-    ap (socket_of guest) c.close-in-Some.ensures ∙ still_none guest c.in-Some.oldest.number list (ap (socket_of guest) c.self.view_is ∙ none)
+    ap (socket_of guest) c.close-in-Some.ensures ∙ still_none guest c.in-Some.oldest.number list (ap (λ (s : AssocsState). socket_of guest s.list) c.self.view_is ∙ none)
 
 pub returns-in-Some-clause-above : goal.returns-in-Some-clause-above
 returns-in-Some-clause-above g c bound above =
     let list = c.self.inside.list in
-    subst (AreBelow bound) (sym c.close-in-Some.ensures) (below_without bound c.in-Some.oldest.number list (subst (AreBelow bound) (sym c.self.view_is) above))
+    subst (AreBelow bound) (sym c.close-in-Some.ensures) (below_without bound c.in-Some.oldest.number list (subst (λ (s : AssocsState). AreBelow bound s.list) (sym c.self.view_is) above))
 
 pub returns-in_default-clause-room : goal.returns-in_default-clause-room
-returns-in_default-clause-room g c = subst (λ (l : List Association). length l < 512) c.self.view_is (few_of_none c.self.inside.list c.in_default.ensures)
+returns-in_default-clause-room g c = subst (λ (s : AssocsState). length s.list < 512) c.self.view_is (few_of_none c.self.inside.list c.in_default.ensures)
