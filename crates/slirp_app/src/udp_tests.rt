@@ -1,9 +1,11 @@
 use crate::tests::{BEGINS, gives};
-use host_policy::SlirpConfig;
+use host_policy::{Reply, SlirpConfig};
 use replay::ScriptWorld;
 use serve_loop::{End, Service};
 use std::alloc::Global;
 use std::test::Fail;
+use udp_assoc::Assocs;
+use world_face::{Endpoint, Ip4, Mac, VecSink};
 
 /// Whether this schedule is followed to its end, with status 0.
 fn is_followed(alloc: Global, schedule: &str) -> Result<bool, Fail> {
@@ -36,6 +38,17 @@ const PROHIBITED: &str =
 
 const NO_NETWORK: &str =
     "lwrite 0000004652540012345652550a00020208004500003800000000400162b50a0002020a00020f0300ed4c000000004500001e000100004011acb80a00020fc00002070fa00009000a0000 = done 74\n";
+
+/// Their ends, as endpoints.
+const FROM: Endpoint = Endpoint {
+    addr: Ip4(0x0a00020f),
+    port: 4000,
+};
+
+const TO: Endpoint = Endpoint {
+    addr: Ip4(0xc0000207),
+    port: 9,
+};
 
 const SENT: &str = "uopen 0 0.0.0.0:0 = done\nusend 0 192.0.2.7:9 6869 = done\n";
 
@@ -163,5 +176,20 @@ fn the_513th_port_takes_the_place_of_the_longest_unused(rt: HostRuntime) -> Resu
     let mut service = Service::open(rt.alloc(), &SlirpConfig::usual())?;
     assert_eq!(rt; service.serve(&mut world), End::Done);
     assert!(rt; world.divergence().is_none());
+    Ok(())
+}
+
+#[test]
+fn a_socket_opens_at_the_address_that_was_given(rt: HostRuntime) -> Result<(), Fail> {
+    let schedule = "uopen 0 192.0.2.1:0 = done\nusend 0 192.0.2.7:9 6869 = done\n";
+    let mut world = ScriptWorld::read(rt.alloc(), schedule.as_bytes())?;
+    let mut out = VecSink::open(rt.alloc(), 1_000, None)?;
+    let mut assocs = Assocs::new(Ip4(0xc0000201));
+    let mut number = 0;
+    let mac = Mac([0x52, 0x54, 0x00, 0x12, 0x34, 0x56]);
+    let reply = assocs.guest(&mut world, 5, &mut number, None, FROM, mac, TO, b"hi");
+    assert!(rt; reply == Reply::Nothing);
+    assert!(rt; world.print(&mut out).is_ok());
+    assert_eq!(rt; out.octets(), schedule.as_bytes());
     Ok(())
 }

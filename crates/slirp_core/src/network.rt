@@ -34,7 +34,7 @@ pub struct Slirp {
 }
 
 impl Model for Slirp {
-    ghost use Rattle.std.specs.Prelude.{◌<◌, ◌≤◌, ◌^◌, All};
+    ghost use Rattle.std.specs.Prelude.{◌≡◌, ◌<◌, ◌≤◌, ◌^◌, All};
     ghost use Rattle.udp_assoc.specs.Associations.{numbers};
     ghost use Rattle.slirp_core.specs.State.{SlirpState};
 

@@ -6,7 +6,7 @@ use Rattle.world_face.specs.Tells.{Makes}
 use Rattle.world_face.specs.declared.Made.TheVariants.{Done, Failed}
 use Rattle.world_face.proofs.Telling.{makes_one, makes_then}
 use Rattle.udp_assoc.specs.Associations.{moved_last, sent_from}
-use Rattle.udp_assoc.specs.Relays.{Opens, OpensFor, OpensNone}
+use Rattle.udp_assoc.specs.Relays.{Opens, OpensFor, OpensNone, no_network}
 use Rattle.udp_assoc.specs.Sending.{outbound_of}
 use Rattle.udp_assoc.specs.State.{AssocsState}
 use Rattle.udp_assoc.proofs.sockets.Assocs.open_for.Goals as goal
@@ -24,5 +24,5 @@ returns-in-Done-clause-opens g c =
 
 pub returns-in-Failed-clause-opens : goal.returns-in-Failed-clause-opens
 returns-in-Failed-clause-opens g c =
-    subst (λ (s : AssocsState). Makes (g.W.World.tells c.args.world.now) (g.W.World.tells c.udp_open.new.self) (OpensFor s.bind (outbound_of c.args.datagram.now) c.args.now c.args.number.now s.list s.list (Unreachable 0))) c.self.view_is
+    subst (λ (s : AssocsState). Makes (g.W.World.tells c.args.world.now) (g.W.World.tells c.udp_open.new.self) (OpensFor s.bind (outbound_of c.args.datagram.now) c.args.now c.args.number.now s.list s.list (Unreachable no_network))) c.self.view_is
     (makes_one _ _ (UdpOpen c.args.number.now (endpoint c.self.inside.bind.0 0) Failed) _ c.in-Failed.ensures (λ allowed. OpensNone refl refl refl))
