@@ -36,7 +36,7 @@ pub learn_follows : (s : Settings) (f : Splice) (mac : Option Mac) (past : Story
 learn_follows s f mac past now h = by f.place f.shut h
   where
     by : (p : Place) (b : Bool) → FollowsAt p b s f past now → FollowsAt p b s (learnt f mac) past now
-    by Empty b q = record { over = q.over; owes_none = q.owes_none }
+    by Empty b q = record { over = q.over; owes_none = q.owes_none; rests_none = q.rests_none }
     by InUse true q = record { over = q.over; owes = q.owes; mru = q.mru; known = λ none. q.known (or_none mac f.mac none) }
     by InUse false q = record {
       holds = q.holds;

@@ -1,8 +1,9 @@
--- Two calls, and calls after one.
-use Rattle.std.proofs.Common.{refl, ◌≡◌, List, [], ◌∷◌, ◌++◌, subst, sym}
+-- Two calls, calls after one, and a call among others.
+use Rattle.std.proofs.Common.{refl, ◌≡◌, List, [], ◌∷◌, ◌++◌, Bool, true, false, ◌||◌, subst, sym}
 use Rattle.world_face.specs.Journal.{Allowed, Entry}
 use Rattle.world_face.specs.Tells.{Answers, Makes, Telling}
 use Rattle.world_face.proofs.Telling.{makes_next, makes_one, makes_then}
+use Rattle.flow_splice.specs.Hosts.{some_is}
 
 pub two_calls : (a b c : Telling) (first second : Entry) (Q : List Entry → Type 0) → Answers a b first → Answers b c second → (Allowed first → Allowed second → Q (second ∷ first ∷ [])) → Makes a c Q
 two_calls a b c first second Q one two here =
@@ -13,3 +14,12 @@ pub calls_after : (a b c : Telling) (first : Entry) (P Q : List Entry → Type 0
 calls_after a b c first P Q one more here =
     makes_then a b c (λ made. made ≡ first ∷ []) P Q (makes_one a b first (λ made. made ≡ first ∷ []) one (λ allowed. refl)) more
     (λ some made is holds. subst (λ (es : List Entry). Q (made ++ es)) (sym is) (here made holds))
+
+-- a call of a kind is one of those that were made, whatever is made later
+pub still_is : (is : Entry → Bool) (second first : List Entry) → some_is is first ≡ true → some_is is (second ++ first) ≡ true
+still_is is [] first so = so
+still_is is (e ∷ second) first so = or_last (is e) (some_is is (second ++ first)) (still_is is second first so)
+  where
+    or_last : (a b : Bool) → b ≡ true → (a || b) ≡ true
+    or_last true b so = refl
+    or_last false b so = so

@@ -44,6 +44,7 @@ use Rattle.flow_splice.specs.declared.Place.{Place}
 use Rattle.flow_splice.specs.declared.Place.TheVariants.{Empty, InUse, Resting}
 use Rattle.flow_splice.proofs.Opened.{follows_later, goes_on, open_follows}
 use Rattle.flow_splice.proofs.Sending.{went_has}
+use Rattle.flow_splice.proofs.Restless.{owing_none}
 use Rattle.flow_splice.proofs.Shutting.{done_follows, settled_same}
 
 -- what is offered, and taken or not
@@ -218,7 +219,7 @@ module _ (f : Splice) (now first : ℕ) (what : Owed) (mac : Mac) (known_mac : f
         by_answer lawful dutiful (λ some goes.
         let sent = subst (λ (w : Owed). GoesOut (is_rst w) w f new now made) (sym what_is) goes in
         taken f now first what mac known_mac late small buffers owed used answer allowed s past before known on h some lawful dutiful (record f { conn = record c { stage = stage.Gone }; place = Empty }) new made refl refl sent.0 sent.1
-        (record { over = over_now; owes_none = refl }))
+        (record { over = over_now; owes_none = refl; rests_none = owing_none past (q.over.owes ∙ q.owes) }))
       where
         at : (seq : Seq) × (ack : Seq) × (c.stage ≡ stage.Resets seq ack)
         at = resets_stage c.stage q.owes

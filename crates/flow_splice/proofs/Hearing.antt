@@ -45,6 +45,7 @@ use Rattle.flow_splice.specs.Serves.{Serves}
 use Rattle.flow_splice.specs.Splice.{Splice, closed, is_open}
 use Rattle.flow_splice.proofs.Coming.{heard_dead}
 use Rattle.flow_splice.proofs.Opened.{goes_on, open_follows, open_is}
+use Rattle.flow_splice.proofs.Restless.{called_reset_none, next_reset_none}
 use Rattle.flow_splice.proofs.Shutting.{done_follows, over_follows, settled_same}
 
 module _ (f : Splice) (now : ℕ) (tcp : Tcp) (open_yet : is_open f ≡ true) (late : now ≤ 2 ^ 62) (seq_fits : tcp.seq < 2 ^ 32) (ack_fits : tcp.ack < 2 ^ 32) (few : length tcp.body ≤ 2 ^ 31)
@@ -294,9 +295,9 @@ module _ (f : Splice) (now : ℕ) (tcp : Tcp) (open_yet : is_open f ≡ true) (l
         holds_on x f.up f.down c_is u_is d_is (rests_holds s c f.up f.down past before now tcp on o.holds ack_fits syn_owed ack_owed keeps only calm no_call quiet (has x f.up f.down c_is u_is d_is)) o.unfinished o.unsent
     by_means (waits c_is u_is d_is at none) = holds_on c f.up f.down c_is u_is d_is (waits_on s c f.up f.down past before now tcp on o.holds at none (has c f.up f.down c_is u_is d_is)) o.unfinished o.unsent
     by_means (resets is no_call rst number) =
-        gone is (over_follows s (record f { conn = record c { stage = stage.Gone } }) (At now (Closes true false known) ∷ after) now (next_reset_closes s c f.up f.down past before now on o.holds known seg no_call rst number) (λ at. cc) o.mru (λ owes. absurd cc))
+        gone is (over_follows s (record f { conn = record c { stage = stage.Gone } }) (At now (Closes true false known) ∷ after) now (next_reset_closes s c f.up f.down past before now on o.holds known seg no_call rst number) (λ at. cc) o.mru (λ owes. absurd cc) (λ none. next_reset_none s c f.up f.down past before now known o.holds seg rst no_call number))
     by_means (turns_away is calls rst ack number) =
-        gone is (over_follows s (record f { conn = record c { stage = stage.Gone } }) (At now (Closes true false known) ∷ after) now (called_reset_closes s c f.up f.down past before now on o.holds known seg calls rst ack number) (λ at. cc) o.mru (λ owes. absurd cc))
+        gone is (over_follows s (record f { conn = record c { stage = stage.Gone } }) (At now (Closes true false known) ∷ after) now (called_reset_closes s c f.up f.down past before now on o.holds known seg calls rst ack number) (λ at. cc) o.mru (λ owes. absurd cc) (λ none. called_reset_none s c f.up f.down past before now known o.holds seg rst calls ack number))
     by_means (is_greeted is at out greets_it rst syn number) = greeting is at out greets_it rst syn number
     by_means (is_opened is at out number ack rst syn) = opening_now is at out number ack rst syn
     by_means (is_heard is at ack rst syn) = hearing_now is at ack rst syn

@@ -95,7 +95,7 @@ module _ (f : Splice) (now : ℕ) (open_yet : is_open f ≡ true) where
         record {
           beats = At now (Closes false false known) ∷ At now ConnectFails ∷ [];
           are = (At now ConnectFails ∷ [], ([], refl, (refl, refl)), (refl, refl));
-          follows = reset_follows s f past (At now (Closes false false known) ∷ At now ConnectFails ∷ past) before now o
+          follows = reset_follows s f past (At now ConnectFails ∷ past) before now known o refl
               (refused_closes s f.conn f.up f.down past before now on o.holds known connects (connects_opens f.conn.stage connects).1);
         }
 
@@ -146,7 +146,7 @@ module _ (f : Splice) (now : ℕ) (open_yet : is_open f ≡ true) where
         record {
           beats = At now (Closes false false known) ∷ At now (WriteFails front) ∷ [];
           are = (At now (WriteFails front) ∷ [], ([], refl, (refl, refl)), (refl, refl));
-          follows = reset_follows s f past (At now (Closes false false known) ∷ At now (WriteFails front) ∷ past) before now o
+          follows = reset_follows s f past (At now (WriteFails front) ∷ past) before now known o refl
               (write_fails_closes s f.conn f.up f.down past before now on o.holds known (reached s past before o) (untold s past before o) (min 16384 (length f.up.held)) refl);
         }
 
@@ -190,7 +190,7 @@ module _ (f : Splice) (now : ℕ) (open_yet : is_open f ≡ true) where
         record {
           beats = At now (Closes false false known) ∷ At now EndFails ∷ [];
           are = (At now EndFails ∷ [], ([], refl, (refl, refl)), (refl, refl));
-          follows = reset_follows s f past (At now (Closes false false known) ∷ At now EndFails ∷ past) before now o
+          follows = reset_follows s f past (At now EndFails ∷ past) before now known o refl
               (end_fails_closes s f.conn f.up f.down past before now on o.holds known (got_here s past before o) (unended s past before o) none_held taken);
         }
 
@@ -288,6 +288,6 @@ module _ (f : Splice) (now : ℕ) (open_yet : is_open f ≡ true) where
         record {
           beats = At now (Closes false false known) ∷ At now ReadFails ∷ [];
           are = (At now ReadFails ∷ [], ([], refl, (refl, asks s past before o size, refl)), (refl, refl));
-          follows = reset_follows s f past (At now (Closes false false known) ∷ At now ReadFails ∷ past) before now o
+          follows = reset_follows s f past (At now ReadFails ∷ past) before now known o refl
               (read_fails_closes s f.conn f.up f.down past before now on o.holds known yet);
         }

@@ -1,6 +1,7 @@
 pub mod Opened
 pub mod Calls
 pub mod Events
+pub mod Restless
 pub mod Shutting
 pub mod Hosting
 pub mod Coming

@@ -80,7 +80,7 @@ pub follows_later : (s : Settings) (f : Splice) (past : Story) (now m : ℕ) →
 follows_later s f past now m on h = by f.place f.shut h
   where
     by : (p : Place) (b : Bool) → FollowsAt p b s f past now → FollowsAt p b s f past m
-    by Empty b h = record { over = over_later s f.conn past now m on h.over; owes_none = h.owes_none }
+    by Empty b h = record { over = over_later s f.conn past now m on h.over; owes_none = h.owes_none; rests_none = h.rests_none }
     by InUse true h = record { over = over_later s f.conn past now m on h.over; owes = h.owes; mru = h.mru; known = h.known }
     by InUse false h = open_later s f past now m on h
     by (Resting since) b h = record { rests = resting_later s f.conn f.up f.down past now m since on h.rests; mru = h.mru; known = h.known }

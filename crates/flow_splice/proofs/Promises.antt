@@ -32,6 +32,7 @@ use Rattle.flow_splice.specs.Follows.{Follows, FollowsAt, IsOpen}
 use Rattle.flow_splice.specs.Sends.{IsClear, IsClearBy, takes_part_at}
 use Rattle.flow_splice.specs.Splice.{Splice, is_at_rest, is_in_use, is_open}
 use Rattle.flow_splice.specs.Wants.{connect_end, may_read, may_write, reads, writes}
+use Rattle.flow_splice.proofs.Restless.{open_none, owing_none}
 use Rattle.flow_splice.specs.declared.Place.{Place}
 use Rattle.flow_splice.specs.declared.Place.TheVariants.{Empty, InUse, Resting}
 
@@ -63,6 +64,15 @@ place_is s f past now h = by f.place f.shut h
 
 pub rest_is : (s : Settings) (f : Splice) (past : Story) (now since : ℕ) → Follows s f past now → f.place ≡ Resting since → rests_since past ≡ Some since
 rest_is s f past now since h at = (subst (λ (p : Place). FollowsAt p f.shut s f past now) at h).rests.begun
+
+pub rest_none : (s : Settings) (f : Splice) (past : Story) (now : ℕ) → Follows s f past now → is_at_rest f.place ≡ false → rests_since past ≡ None
+rest_none s f past now h awake = by f.place f.shut h awake
+  where
+    by : (p : Place) (b : Bool) → FollowsAt p b s f past now → is_at_rest p ≡ false → rests_since past ≡ None
+    by Empty b q calm = q.rests_none
+    by InUse true q calm = owing_none past (q.over.owes ∙ q.owes)
+    by InUse false q calm = open_none past q.holds.goes.open_yet
+    by (Resting since) b q calm = absurd cc
 
 -- ---- what is held
 

@@ -27,6 +27,7 @@ use Rattle.flow_splice.specs.Guests.{Hears, ends_rest, heard, heard_at_rest, ren
 use Rattle.flow_splice.specs.Hosts.{IsAsOld}
 use Rattle.flow_splice.specs.Splice.{Splice, is_in_use, is_open}
 use Rattle.flow_splice.proofs.Coming.{heard_as_old}
+use Rattle.flow_splice.proofs.Restless.{arrives_none, ends_none}
 use Rattle.flow_splice.specs.declared.Place.{Place}
 use Rattle.flow_splice.specs.declared.Place.TheVariants.{Empty, InUse, Resting}
 
@@ -91,7 +92,7 @@ pub hears_nothing : (f : Splice) (now : ℕ) (tcp : Tcp) → is_open f ≡ false
 hears_nothing f now tcp shut awake s past before ident known on h = record { beats = []; are = refl; follows = by f.place f.shut refl shut h }
   where
     by : (p : Place) (b : Bool) → f.place ≡ p → (is_in_use p && not b) ≡ false → FollowsAt p b s f past before → FollowsAt p b s f (At now (Arrives (segment_of tcp)) ∷ past) now
-    by Empty b at is q = record { over = over_arrives s f.conn past before now (segment_of tcp) on q.over; owes_none = q.owes_none }
+    by Empty b at is q = record { over = over_arrives s f.conn past before now (segment_of tcp) on q.over; owes_none = q.owes_none; rests_none = arrives_none past now (segment_of tcp) q.rests_none }
     by InUse true at is q = record { over = over_arrives s f.conn past before now (segment_of tcp) on q.over; owes = q.owes; mru = q.mru; known = q.known }
     by InUse false at is q = absurd cc
     by (Resting since) b at is q = absurd (awake since at)
@@ -132,7 +133,11 @@ hears_at_rest f now since tcp at s past before ident known on h =
   where
     by : (b : Bool) → ends_rest f.conn tcp ≡ b → IsAtRest s f past before since
         → Follows s (if b then record f { place = Empty } else record (heard f tcp now) { place = Resting (if renews tcp then now else since) }) (At now (Arrives (segment_of tcp)) ∷ past) now
-    by true is q = record { over = over_arrives s f.conn past before now (segment_of tcp) on q.rests.over; owes_none = ap is_resets q.rests.at }
+    by true is q = record {
+      over = over_arrives s f.conn past before now (segment_of tcp) on q.rests.over;
+      owes_none = ap is_resets q.rests.at;
+      rests_none = ends_none past now (segment_of tcp) (ends_is s f.conn f.up f.down past before since tcp q.rests ∙ is);
+    }
     by false is q =
         let r = rest_arrives s f.conn f.up f.down past before now since tcp on q.rests (ends_is s f.conn f.up f.down past before since tcp q.rests ∙ is) in
         record {

@@ -1,5 +1,8 @@
 -- The socket is closed.
-use Rattle.std.proofs.Common.{refl, ◌≡◌, ℕ, ◌∷◌, Bool, true, false, not, ◌&&◌, None, if◌then◌else◌, arith, ap, subst, sym, ◌∙◌}
+use Rattle.std.proofs.Common.{refl, ◌≡◌, ℕ, ◌∷◌, Bool, true, false, not, ◌&&◌, None, Some, if◌then◌else◌, nat_eq, arith, ap, subst, sym, ◌∙◌}
+use Rattle.std.proofs.lemmas.Bool.Decides.{nat_tests}
+use Rattle.tcp_receive.specs.Received.{next_number}
+use Rattle.tcp_transmit.specs.Transmission.{is_sent}
 use Rattle.tcp_guest.specs.Connection.{Connection, closes_first, has_gone, is_synchronized}
 use Rattle.tcp_guest.specs.Hosts.{numbers_sent, over_by, reset, resets}
 use Rattle.tcp_guest.specs.Segments.{is_done, settled, settling}
@@ -8,18 +11,24 @@ use Rattle.tcp_guest.specs.declared.Stage.{Stage}
 use Rattle.tcp_guest.specs.declared.Stage.TheVariants as stage
 use Rattle.flow_laws.specs.Settings.{Settings}
 use Rattle.flow_laws.specs.Event.{At, Closes, Story}
-use Rattle.flow_laws.specs.Close.{newest_rst}
+use Rattle.flow_laws.specs.Host.{answered}
+use Rattle.flow_laws.specs.Flow.{host}
+use Rattle.flow_laws.specs.Close.{is_done as is_done_by, newest_rst, rests_since}
+use Rattle.flow_steps.proofs.Owing.{no_reset, unanswered_not_done}
+use Rattle.flow_steps.proofs.Rests.{closes_to_rest}
 use Rattle.connection_steps.specs.Holding.{Holds, is_calls, is_live}
 use Rattle.connection_steps.specs.Over.{IsOver, IsResting, is_resets}
+use Rattle.connection_steps.specs.Seen.{part_of}
 use Rattle.connection_steps.proofs.Causes.{done_goes, done_rests, settled_is}
 use Rattle.flow_splice.specs.Hosts.{ends}
 use Rattle.flow_splice.specs.Follows.{Follows, FollowsAt, IsOpen}
 use Rattle.flow_splice.specs.Splice.{Splice, closed, is_in_use, is_open, place_after}
+use Rattle.flow_splice.proofs.Restless.{undone_none}
 
 -- a connection that is over and doesn't rest
 pub over_follows : (s : Settings) (f : Splice) (past : Story) (now : ℕ) → IsOver s f.conn past now → (f.conn.stage ≡ stage.Rests → ⊥) → f.mru ≡ s.mru → (is_resets f.conn.stage ≡ true → f.mac ≡ None → ⊥)
-    → Follows s (closed f now) past now
-over_follows s f past now over awake mru known = by f.conn.stage refl
+    → (is_resets f.conn.stage ≡ false → rests_since past ≡ None) → Follows s (closed f now) past now
+over_follows s f past now over awake mru known restless = by f.conn.stage refl
   where
     by : (st : Stage) → f.conn.stage ≡ st → FollowsAt (place_after st now) true s (closed f now) past now
     by stage.Connects at = let not_it = sym (ap is_live at) ∙ over.over in absurd cc
@@ -28,7 +37,7 @@ over_follows s f past now over awake mru known = by f.conn.stage refl
     by stage.Synchronized at = let not_it = sym (ap is_live at) ∙ over.over in absurd cc
     by stage.Rests at = absurd (awake at)
     by (stage.Resets seq ack) at = record { over = over; owes = ap is_resets at; mru = mru; known = known (ap is_resets at) }
-    by stage.Gone at = record { over = over; owes_none = ap is_resets at }
+    by stage.Gone at = record { over = over; owes_none = ap is_resets at; rests_none = restless (ap is_resets at) }
 
 -- one that rests
 pub rest_follows : (s : Settings) (f : Splice) (past : Story) (now : ℕ) → IsResting s f.conn f.up f.down past now now → f.mru ≡ s.mru → (f.mac ≡ None → ⊥) → Follows s (closed f now) past now
@@ -57,11 +66,23 @@ unsent_none c stage.Rests calls unsent = absurd cc
 unsent_none c (stage.Resets seq ack) calls unsent = absurd cc
 unsent_none c stage.Gone calls unsent = absurd cc
 
--- the connection is reset
-pub reset_follows : (s : Settings) (f : Splice) (past last : Story) (before now : ℕ) → IsOpen s f past before → IsOver s (reset f.conn) last now → Follows s (closed (record f { conn = reset f.conn }) now) last now
-reset_follows s f past last before now h over =
-    over_follows s (record f { conn = reset f.conn }) last now over (λ is. reset_awake f.conn f.conn.stage is h.holds.opened.live) h.mru
+-- our SYN isn't acknowledged where no reset is owed then
+unanswered_by : (c : Connection) (st : Stage) → is_live st ≡ true → is_resets (over_by st c) ≡ false → is_synchronized st ≡ false
+unanswered_by c stage.Connects live none = refl
+unanswered_by c stage.Calls live none = refl
+unanswered_by c stage.Answers live none = refl
+unanswered_by c stage.Synchronized live none = absurd cc
+unanswered_by c stage.Rests live none = absurd cc
+unanswered_by c (stage.Resets seq ack) live none = absurd cc
+unanswered_by c stage.Gone live none = absurd cc
+
+-- the connection is reset, after a story in which our SYN is acknowledged as before
+pub reset_follows : (s : Settings) (f : Splice) (past last : Story) (before now : ℕ) (known : Bool) → IsOpen s f past before → answered (host last) ≡ answered (host past)
+    → IsOver s (reset f.conn) (At now (Closes false false known) ∷ last) now → Follows s (closed (record f { conn = reset f.conn }) now) (At now (Closes false false known) ∷ last) now
+reset_follows s f past last before now known h same over =
+    over_follows s (record f { conn = reset f.conn }) (At now (Closes false false known) ∷ last) now over (λ is. reset_awake f.conn f.conn.stage is h.holds.opened.live) h.mru
     (λ resets_is unknown. let two = h.unsent unknown in let not_it = sym resets_is ∙ unsent_none f.conn f.conn.stage two.0 two.1 in cc)
+    (λ none. undone_none last now false false known (unanswered_not_done last (same ∙ h.holds.opened.answered ∙ unanswered_by f.conn f.conn.stage h.holds.opened.live none)))
 
 -- ---- both ends passed
 
@@ -78,6 +99,12 @@ first_of_four : (a b c d : Bool) → (a && b && c && d) ≡ true → a ≡ true
 first_of_four true b c d is = refl
 first_of_four false b c d is = absurd cc
 
+last_of_four : (a b c d : Bool) → (a && b && c && d) ≡ true → d ≡ true
+last_of_four true true true d is = is
+last_of_four true true false d is = absurd cc
+last_of_four true false c d is = absurd cc
+last_of_four false b c d is = absurd cc
+
 -- with this connection, which makes of itself that it is finished
 pub done_follows : (s : Settings) (f : Splice) (x : Connection) (past : Story) (now : ℕ) (directly known : Bool) → Holds s x f.up f.down past now → is_done x ≡ true → newest_rst past ≡ None → f.mru ≡ s.mru
     → (f.mac ≡ None → is_calls x.stage ≡ true) → Follows s (closed (record f { conn = settled x }) now) (At now (Closes directly false known) ∷ past) now
@@ -89,6 +116,19 @@ done_follows s f x past now directly known h done no_rst mru unknown =
     reached : is_calls x.stage ≡ false
     reached = synchronized_reached x.stage (first_of_four (is_synchronized x.stage) x.host_ended x.fin_acked x.end_acknowledged done)
 
+    equal : (a b : ℕ) → b ≡ a → nat_eq a b ≡ true
+    equal a b is = grind (arith, nat_tests)
+
+    -- the host ended last
+    last_none : (b : Bool) → is_done_by past ≡ b → closes_first x ≡ false → rests_since (At now (Closes directly false known) ∷ past) ≡ None
+    last_none false undone last = undone_none past now directly false known undone
+    last_none true both last =
+        let r = h.receives reached in
+        let taken = (r.sure (last_of_four (is_synchronized x.stage) x.host_ended x.fin_acked x.end_acknowledged done)).1 in
+        let order : closes_first x ≡ x.ours_first = ap (λ (b : Bool). if b then x.ours_first else is_sent x.transmission.end) (equal (next_number x.received) x.acknowledged taken) in
+        closes_to_rest past (part_of x f.up) x.end_acknowledged x.ours_first x.acknowledged now directly false known r.ends both (no_reset past directly no_rst)
+        ∙ ap (λ (b : Bool). if b then Some now else None) (sym order ∙ last)
+
     by : (b : Bool) → closes_first x ≡ b → Follows s (closed (record f { conn = if b then record x { stage = stage.Rests } else record x { stage = stage.Gone } }) now) (At now (Closes directly false known) ∷ past) now
     by true first = record {
       rests = done_rests s x f.up f.down past now now (omega arith) h known done reached no_rst directly false first;
@@ -98,6 +138,7 @@ done_follows s f x past now directly known h done no_rst mru unknown =
     by false last = record {
       over = done_goes s x f.up f.down past now now (omega arith) h known done reached no_rst directly false;
       owes_none = refl;
+      rests_none = last_none (is_done_by past) refl last;
     }
 
 -- what a connection makes of itself is over where it says so

@@ -54,7 +54,7 @@ module _ (f : Splice) (now : ℕ) (open_yet : is_open f ≡ true) where
       let o = open_is s f past before open_yet h in
       let late : connects_too_long now past ≡ true = both (is_connecting past) (nat_le (opened_at past + 75000) now) (o.holds.opened.connects ∙ connects) (late_test (opened_at past + 75000) now (let since = o.since in omega (arith, since, over))) in
       shut_by s past before ident known o
-      (reset_follows s f past (At now (Closes false false known) ∷ past) before now o (late_closes s f.conn f.up f.down past before now on o.holds known (connects_opening f.conn.stage connects) late))
+      (reset_follows s f past past before now known o refl (late_closes s f.conn f.up f.down past before now on o.holds known (connects_opening f.conn.stage connects) late))
     where
       both : (a b : Bool) → a ≡ true → b ≡ true → (a && b) ≡ true
       both a b a_is b_is = rw (a_is, b_is) refl
@@ -71,7 +71,7 @@ module _ (f : Splice) (now : ℕ) (open_yet : is_open f ≡ true) where
       let missing : IsTrue (finds_no_guest known now past) = subst (λ (b : Bool). IsTrue (finds_no_guest b now past)) (sym (unknown none))
       (not_found past f.ask_at now (subst (λ (n : ℕ). Seeks past n f.ask_at) many.0 (o.seeks none (let is = many.0 in omega (arith, is)))) many.1 accepted silent) in
       shut_by s past before ident known o
-      (reset_follows s f past (At now (Closes false false known) ∷ past) before now o
+      (reset_follows s f past past before now known o refl
       (unfound_closes s f.conn f.up f.down past before now on o.holds known missing (rw (accepted, silent) refl)))
     where
       none_known : (mac : Option Mac) → (not (is_some mac) && nat_lt 0 f.asked) ≡ true → mac ≡ None
@@ -129,7 +129,7 @@ module _ (f : Splice) (now : ℕ) (open_yet : is_open f ≡ true) where
                 (subst (λ (g : Splice). AreEvents s g.face g.mac false known ident now past (Close f.face.number ∷ []) (At now (Closes false false known) ∷ [])) (sym saw.1) ([], refl, (refl, refl)));
             follows = subst (λ (g : Splice). Follows s g (At now (Closes false false known) ∷ past) now) (sym saw.1)
                 (subst (λ (c : Connection). Follows s (closed (record f { conn = c }) now) (At now (Closes false false known) ∷ past) now) (sym is)
-                (reset_follows s f past (At now (Closes false false known) ∷ past) before now o (gives_up_closes s f.conn f.up f.down past before now on o.holds known cause)));
+                (reset_follows s f past past before now known o refl (gives_up_closes s f.conn f.up f.down past before now on o.holds known cause)));
           }
           by false ends_now saw = let not_it = sym over ∙ ends_now in absurd cc
 

@@ -5,7 +5,7 @@ use Rattle.tcp_guest.specs.Segments.{is_done}
 use Rattle.flow_laws.specs.Settings.{Settings}
 use Rattle.flow_laws.specs.Event.{Story}
 use Rattle.flow_laws.specs.Flow.{opened_at}
-use Rattle.flow_laws.specs.Close.{host_was_ended}
+use Rattle.flow_laws.specs.Close.{host_was_ended, rests_since}
 use Rattle.flow_steps.specs.Resends.{Seeks}
 use Rattle.connection_steps.specs.Holding.{Holds, is_calls}
 use Rattle.connection_steps.specs.Over.{IsOver, IsResting, is_resets}
@@ -31,10 +31,11 @@ pub record IsOwing (s : Settings) (f : Splice) (past : Story) (now : ℕ) : Type
   pub mru : f.mru ≡ s.mru
   pub known : f.mac ≡ None → ⊥
 
--- Its socket was closed, and it owes none.
+-- Its socket was closed, it owes none, and it doesn't rest: it never did, or a segment ended its rest.
 pub record IsFree (s : Settings) (f : Splice) (past : Story) (now : ℕ) : Type 0 where
   pub over : IsOver s f.conn past now
   pub owes_none : is_resets f.conn.stage ≡ false
+  pub rests_none : rests_since past ≡ None
 
 -- It rests, since a moment.
 pub record IsAtRest (s : Settings) (f : Splice) (past : Story) (now since : ℕ) : Type 0 where

@@ -8,7 +8,7 @@ use Rattle.tcp_transmit.specs.Timing.{watched_over}
 use Rattle.world_face.specs.Journal.{Entry, Close, Connected, TcpRead, TcpWrite, TcpEnd}
 use Rattle.world_face.specs.declared.Io.{Io}
 use Rattle.world_face.specs.declared.Io.TheVariants.{Done, End, NotYet, Failed}
-use Rattle.flow_splice.specs.Splice.{Splice, closed}
+use Rattle.flow_splice.specs.Splice.{Splice, closed, is_open}
 
 -- between whom it goes, its guest's hardware address and the sizes stay
 pub record IsAsOld (old new : Splice) : Type 0 where
@@ -75,3 +75,7 @@ is_for_reading _ = false
 abbrev pub some_is : (Entry → Bool) → List Entry → Bool
 some_is is [] = false
 some_is is (e ∷ made) = is e || some_is is made
+
+-- The guest's end isn't held back: where the socket is open, the end was taken and none of the guest's octets is held, the host was told it.
+abbrev pub PassesEnd : Splice → Type 0
+PassesEnd f = is_open f ≡ true → f.conn.received.ended ≡ true → f.up.held ≡ [] → f.told_end ≡ true

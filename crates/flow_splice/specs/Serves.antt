@@ -19,7 +19,7 @@ abbrev pub GoesOn : (old new : Splice) → (directly : Bool) → (now : ℕ) →
 GoesOn old new directly now made =
     (s : Settings) (past : Story) (before ident : ℕ) (known : Bool) → before ≤ now → Follows s old past before → Serves s new directly known ident now past made
 
--- The same, where the guest's hardware address is known wherever the flow has it.
+-- The same, where the guest's hardware address isn't known unless the flow has it.
 abbrev pub TicksOn : (old new : Splice) → (now : ℕ) → List Entry → Type 0
 TicksOn old new now made =
     (s : Settings) (past : Story) (before ident : ℕ) (known : Bool) → before ≤ now → (old.mac ≡ None → known ≡ false) → Follows s old past before

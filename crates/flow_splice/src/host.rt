@@ -19,11 +19,11 @@ use world_face::{Io, Joined, Made, World};
 impl Spliced {
     ghost use Rattle.flow_splice.specs.Splice.{closed, is_open as is_open_by};
     ghost use Rattle.flow_splice.specs.Serves.{GoesOn};
-    ghost use Rattle.flow_splice.specs.Hosts.{IsAsOld, is_for_reading, is_for_writing, some_is};
+    ghost use Rattle.flow_splice.specs.Hosts.{IsAsOld, PassesEnd, is_for_reading, is_for_writing, some_is};
     ghost use Rattle.flow_splice.specs.Wants.{may_end, owes_octets as owes_octets_by, reads, writes};
 
-    /// The host's socket was reported ready, for reading, for writing or for both. It is asked whether it connected, or gets octets or the guest's end;
-    /// and then what it has is read, as far as there is room. Where a call fails, or both ends passed, the socket is closed.
+    /// The host's socket was reported ready, for reading, for writing or for both. It is asked whether it connected, or gets octets, and the guest's end
+    /// where no octet is left before it; and then what it has is read, as far as there is room. Where a call fails, or both ends passed, the socket is closed.
     pub fn host_ready<W: World>(&mut self, world: &mut W, now: u64, read: bool, write: bool)
         requires now { now ≤ 2 ^ 62 }
         requires few { octets_read self.old.down + 16384 < 2 ^ 62 }
@@ -36,6 +36,8 @@ impl Spliced {
             → Makes (W.tells world.old) (W.tells world.new) (λ made. some_is is_for_writing made ≡ true) }
         ensures serves_reading { read ≡ true → write ≡ false → reads self.old ≡ true
             → Makes (W.tells world.old) (W.tells world.new) (λ made. some_is is_for_reading made ≡ true) }
+        // After a report for writing the guest's end isn't held back in a flow that had connected.
+        ensures passes_end { write ≡ true → is_connects self.old.conn.stage ≡ false → PassesEnd self.new }
     {
         self.serve_writing(world, now, write);
         self.serve_reading(world, now, read);
@@ -50,6 +52,7 @@ impl Spliced {
         ensures down { self.new.down ≡ self.old.down }
         ensures serves { ready ≡ true → writes self.old ≡ true → Makes (W.tells world.old) (W.tells world.new) (λ made. some_is is_for_writing made ≡ true) }
         ensures idle { ready ≡ false → (self.new ≡ self.old) × (W.tells world.new ≡ W.tells world.old) }
+        ensures passes_end { ready ≡ true → is_connects self.old.conn.stage ≡ false → PassesEnd self.new }
     {
         if !ready || !self.is_open() {
             return;
@@ -72,6 +75,7 @@ impl Spliced {
         ensures up { self.new.up ≡ self.old.up }
         ensures down { octets_read self.new.down ≤ octets_read self.old.down + 16384 }
         ensures serves { ready ≡ true → reads self.old ≡ true → Makes (W.tells world.old) (W.tells world.new) (λ made. some_is is_for_reading made ≡ true) }
+        ensures passes_end { PassesEnd self.old → PassesEnd self.new }
     {
         if ready && self.is_open() && self.may_read() {
             self.read(world, now);
@@ -135,7 +139,7 @@ impl Spliced {
 
     // ---- what it takes
 
-    // Offers octets that are held.
+    // Offers octets that are held. Where the host took the last of them, the guest's end follows.
     fn write<W: World>(&mut self, world: &mut W, now: u64)
         requires now { now ≤ 2 ^ 62 }
         requires open_yet { is_open_by self.old ≡ true }
@@ -146,10 +150,11 @@ impl Spliced {
         ensures up { self.new.up.written ≤ self.old.up.written + 16384 }
         ensures down { self.new.down ≡ self.old.down }
         ensures serves { Makes (W.tells world.old) (W.tells world.new) (λ made. some_is is_for_writing made ≡ true) }
+        ensures passes_end { PassesEnd self.new }
     {
         match self.offer(world) {
             Io::Failed => self.fail(world, now),
-            Io::Done(_) | Io::End | Io::NotYet => {}
+            Io::Done(_) | Io::End | Io::NotYet => self.end_after_octets(world, now),
         }
     }
 
@@ -167,6 +172,22 @@ impl Spliced {
         answer
     }
 
+    // Passes on the guest's end, where it was taken and none of its octets is held any more.
+    fn end_after_octets<W: World>(&mut self, world: &mut W, now: u64)
+        requires now { now ≤ 2 ^ 62 }
+        requires open_yet { is_open_by self.old ≡ true }
+        requires connected { is_connects self.old.conn.stage ≡ false }
+        ensures makes { Makes (W.tells world.old) (W.tells world.new) (GoesOn self.old self.new false now) }
+        ensures same { IsAsOld self.old self.new }
+        ensures up { self.new.up ≡ self.old.up }
+        ensures down { self.new.down ≡ self.old.down }
+        ensures passes_end { PassesEnd self.new }
+    {
+        if !self.owes_octets() && self.owes_end() {
+            self.end(world, now);
+        }
+    }
+
     // Passes on the guest's end.
     fn end<W: World>(&mut self, world: &mut W, now: u64)
         requires now { now ≤ 2 ^ 62 }
@@ -179,6 +200,7 @@ impl Spliced {
         ensures up { self.new.up ≡ self.old.up }
         ensures down { self.new.down ≡ self.old.down }
         ensures serves { Makes (W.tells world.old) (W.tells world.new) (λ made. some_is is_for_writing made ≡ true) }
+        ensures passes_end { PassesEnd self.new }
     {
         match self.offer_end(world) {
             Made::Done => {
@@ -214,7 +236,7 @@ impl Spliced {
 impl Spliced {
     ghost use Rattle.flow_splice.specs.Splice.{is_open as is_open_by};
     ghost use Rattle.flow_splice.specs.Serves.{GoesOn};
-    ghost use Rattle.flow_splice.specs.Hosts.{IsAsOld, is_for_reading, read_by, some_is};
+    ghost use Rattle.flow_splice.specs.Hosts.{IsAsOld, PassesEnd, is_for_reading, read_by, some_is};
     ghost use Rattle.flow_splice.specs.Wants.{may_read as may_read_by};
 
     // Reads octets, as many as there is room for, 16,384 at most.
@@ -228,6 +250,7 @@ impl Spliced {
         ensures up { self.new.up ≡ self.old.up }
         ensures down { octets_read self.new.down ≤ octets_read self.old.down + 16384 }
         ensures serves { Makes (W.tells world.old) (W.tells world.new) (λ made. some_is is_for_reading made ≡ true) }
+        ensures passes_end { PassesEnd self.old → PassesEnd self.new }
     {
         match self.ask_octets(world, now) {
             Io::End => self.end_reading(now),

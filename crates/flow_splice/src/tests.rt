@@ -31,7 +31,8 @@ lwrite 0000003852540012345652550a00020208004500002a000200004006acb6c00002070a000
 close 0 = done
 ";
 
-/// The guest sends two octets and its end at once. The host takes one octet, then none, then the other, and only then is told the end. Then it ends too.
+/// The guest sends two octets and its end at once. The host takes one octet, then none, then the other, and is told the end with that one and not before.
+/// Then it ends too.
 const TAKEN_IN_PARTS: &[u8] = b"connected 0 = yes
 lwrite 0000003a52540012345652550a00020208004500002c000000004006acb6c00002070a00020f00500fa00003d090000003e96012ffffe5930000020405b4 = done 62
 lwrite 0000003652540012345652550a000202080045000028000100004006acb9c00002070a00020f00500fa00003d091000003ec5010fffdfd4f0000 = done 58
@@ -42,6 +43,27 @@ tend 0 = done
 tread 0 16384 = end
 lwrite 0000003652540012345652550a000202080045000028000200004006acb8c00002070a00020f00500fa00003d091000003ec5011fffffd4c0000 = done 58
 close 0 = done
+";
+
+/// The guest sends two octets and its end at once. The host takes both, is told the end in the same turn, and then is asked what it has: it ends too.
+const TAKEN_AT_ONCE: &[u8] = b"connected 0 = yes
+lwrite 0000003a52540012345652550a00020208004500002c000000004006acb6c00002070a00020f00500fa00003d090000003e96012ffffe5930000020405b4 = done 62
+lwrite 0000003652540012345652550a000202080045000028000100004006acb9c00002070a00020f00500fa00003d091000003ec5010fffdfd4f0000 = done 58
+twrite 0 6869 = done 2
+tend 0 = done
+tread 0 16384 = end
+lwrite 0000003652540012345652550a000202080045000028000200004006acb8c00002070a00020f00500fa00003d091000003ec5011fffffd4c0000 = done 58
+close 0 = done
+";
+
+/// The host takes two octets, and can't be told the end that came with them. It isn't read then.
+const FAILING_END: &[u8] = b"connected 0 = yes
+lwrite 0000003a52540012345652550a00020208004500002c000000004006acb6c00002070a00020f00500fa00003d090000003e96012ffffe5930000020405b4 = done 62
+lwrite 0000003652540012345652550a000202080045000028000100004006acb9c00002070a00020f00500fa00003d091000003ec5010fffdfd4f0000 = done 58
+twrite 0 6869 = done 2
+tend 0 = fail
+close 0 = done
+lwrite 0000003652540012345652550a000202080045000028000200004006acb8c00002070a00020f00500fa00003d091000003ec50140000fd490000 = done 58
 ";
 
 /// The connection is open when a read of the host fails.
@@ -69,7 +91,7 @@ lwrite 0000003752540012345652550a000202080045000029000200004006acb7c00002070a000
 lwrite 0000003752540012345652550a000202080045000029000300004006acb6c00002070a00020f00500fa00003d093000003e95018ffff9a45000063 = done 59
 ";
 
-/// There is room for four octets: of five with an end four are taken and not the end, and then an end alone is.
+/// There is room for four octets: of five with an end four are taken and not the end, and then an end alone is. Both go on in one turn.
 const A_FULL_RING: &[u8] = b"connected 0 = yes
 lwrite 0000003a52540012345652550a00020208004500002c000000004006acb6c00002070a00020f00500fa00003d090000003e960120004e58f0000020405b4 = done 62
 lwrite 0000003652540012345652550a000202080045000028000100004006acb9c00002070a00020f00500fa00003d091000003ed50100000fd4c0000 = done 58
@@ -228,7 +250,7 @@ fn octets_go_up_and_down(rt: HostRuntime) -> Result<(), Fail> {
 }
 
 #[test]
-fn the_end_goes_on_after_the_last_octet(rt: HostRuntime) -> Result<(), Fail> {
+fn the_end_goes_on_with_the_last_octet(rt: HostRuntime) -> Result<(), Fail> {
     let mut world = world_of(rt.alloc(), TAKEN_IN_PARTS)?;
     let mut link = free_link(rt.alloc())?;
     let mut ident = 0;
@@ -238,21 +260,57 @@ fn the_end_goes_on_after_the_last_octet(rt: HostRuntime) -> Result<(), Fail> {
     serve(&mut flow, &mut world, 4, false, true);
     assert!(rt; writes(&flow));
     serve(&mut flow, &mut world, 5, false, true);
-    assert!(rt; writes(&flow));
-    serve(&mut flow, &mut world, 6, false, true);
     assert!(rt; !writes(&flow));
-    serve(&mut flow, &mut world, 7, true, true);
-    send(&mut flow, &mut world, &mut link, &mut ident, 7)?;
+    serve(&mut flow, &mut world, 6, true, true);
+    send(&mut flow, &mut world, &mut link, &mut ident, 6)?;
     hear(
         &mut flow,
         &mut world,
         &mut link,
         &mut ident,
-        8,
+        7,
         &said(ACK, 1_004, 250_002, b""),
     )?;
     assert!(rt; flow.place() == Place::Empty);
     assert!(rt; made(rt.alloc(), &world, TAKEN_IN_PARTS)?);
+    Ok(())
+}
+
+#[test]
+fn octets_the_end_and_a_read_are_one_turn(rt: HostRuntime) -> Result<(), Fail> {
+    let mut world = world_of(rt.alloc(), TAKEN_AT_ONCE)?;
+    let mut link = free_link(rt.alloc())?;
+    let mut ident = 0;
+    let answer = said(ACK + FIN, 1_001, 250_001, b"hi");
+    let mut flow = open(rt.alloc(), &mut world, &mut link, &mut ident, &answer)?;
+    serve(&mut flow, &mut world, 3, true, true);
+    assert!(rt; !writes(&flow));
+    send(&mut flow, &mut world, &mut link, &mut ident, 3)?;
+    hear(
+        &mut flow,
+        &mut world,
+        &mut link,
+        &mut ident,
+        4,
+        &said(ACK, 1_004, 250_002, b""),
+    )?;
+    assert!(rt; flow.place() == Place::Empty);
+    assert!(rt; made(rt.alloc(), &world, TAKEN_AT_ONCE)?);
+    Ok(())
+}
+
+#[test]
+fn what_a_failing_end_closed_is_not_read(rt: HostRuntime) -> Result<(), Fail> {
+    let mut world = world_of(rt.alloc(), FAILING_END)?;
+    let mut link = free_link(rt.alloc())?;
+    let mut ident = 0;
+    let answer = said(ACK + FIN, 1_001, 250_001, b"hi");
+    let mut flow = open(rt.alloc(), &mut world, &mut link, &mut ident, &answer)?;
+    serve(&mut flow, &mut world, 3, true, true);
+    assert!(rt; flow.place() == Place::InUse);
+    send(&mut flow, &mut world, &mut link, &mut ident, 4)?;
+    assert!(rt; flow.place() == Place::Empty);
+    assert!(rt; made(rt.alloc(), &world, FAILING_END)?);
     Ok(())
 }
 
@@ -386,8 +444,7 @@ fn an_end_needs_no_room(rt: HostRuntime) -> Result<(), Fail> {
         &said(ACK + FIN, 1_005, 250_001, b""),
     )?;
     serve(&mut flow, &mut world, 4, false, true);
-    serve(&mut flow, &mut world, 5, false, true);
-    send(&mut flow, &mut world, &mut link, &mut ident, 6)?;
+    send(&mut flow, &mut world, &mut link, &mut ident, 5)?;
     assert!(rt; made(rt.alloc(), &world, A_FULL_RING)?);
     Ok(())
 }

@@ -25,6 +25,7 @@ impl Spliced {
 
     /// The moment came. A socket that didn't connect in 75,000 ms is closed; so is that of a flow whose guest wasn't found by nine requests and the waits
     /// after them, and that of one that is given up. Else what the connection's timer makes owed again is owed from now on.
+    /// The guest's hardware address isn't known then unless the flow has it: once it is learnt, `pump` is called with it first, also while the link is blocked.
     pub fn tick<W: World>(&mut self, world: &mut W, now: u64)
         requires now { now ≤ 2 ^ 62 }
         ensures makes { Makes (W.tells world.old) (W.tells world.new) (TicksOn self.old self.new now) }

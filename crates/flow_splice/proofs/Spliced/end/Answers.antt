@@ -1,5 +1,5 @@
-use Rattle.std.proofs.Common.{◌≡◌, ◌∷◌, [], ◌++◌, ℕ, List, Bool, true, false, refl, ap, subst, sym, ◌||◌}
-use Rattle.world_face.specs.Journal.{Close, Entry, TcpEnd}
+use Rattle.std.proofs.Common.{◌≡◌, ◌∷◌, [], ℕ, true, false, refl, ap, subst, sym}
+use Rattle.world_face.specs.Journal.{Close, TcpEnd}
 use Rattle.world_face.specs.declared.Made.TheVariants.{Done, Failed}
 use Rattle.tcp_guest.specs.Connection.{HasBuffers}
 use Rattle.tcp_guest.specs.Hosts.{write_ended}
@@ -7,7 +7,7 @@ use Rattle.tcp_guest.specs.Segments.{settled}
 use Rattle.flow_splice.specs.Hosts.{Sees, ends, is_for_writing, some_is}
 use Rattle.flow_splice.specs.Serves.{GoesOn}
 use Rattle.flow_splice.specs.Splice.{Splice}
-use Rattle.flow_splice.proofs.Calls.{calls_after, two_calls}
+use Rattle.flow_splice.proofs.Calls.{calls_after, still_is, two_calls}
 use Rattle.flow_splice.proofs.Hosting.{host_end_fails, host_ends}
 use Rattle.flow_splice.proofs.Spliced.end.Goals as goal
 
@@ -36,16 +36,8 @@ returns-in-Failed-clause-serves g c =
     let f : Splice = c.args.self.now in
     two_calls _ _ _ (TcpEnd f.face.number Failed) (Close f.face.number) (λ made. some_is is_for_writing made ≡ true) c.in-Failed.ensures c.fail.ensures.closes (λ one two. refl)
 
-last_is : (made : List Entry) (n : ℕ) → some_is is_for_writing (made ++ (TcpEnd n Done ∷ [])) ≡ true
-last_is [] n = refl
-last_is (e ∷ made) n = or_last (is_for_writing e) (some_is is_for_writing (made ++ (TcpEnd n Done ∷ []))) (last_is made n)
-  where
-    or_last : (a b : Bool) → b ≡ true → (a || b) ≡ true
-    or_last true b is = refl
-    or_last false b is = is
-
 pub returns-in-Done-clause-serves : goal.returns-in-Done-clause-serves
 returns-in-Done-clause-serves g c =
     let f : Splice = c.args.self.now in
     let marked = c.mark_ended-change in
-    calls_after _ _ _ (TcpEnd f.face.number Done) (Sees (ends marked.result) marked.new.self c.see.new.self c.args.now) (λ made. some_is is_for_writing made ≡ true) c.in-Done.ensures c.see.ensures (λ made sees. last_is made f.face.number)
+    calls_after _ _ _ (TcpEnd f.face.number Done) (Sees (ends marked.result) marked.new.self c.see.new.self c.args.now) (λ made. some_is is_for_writing made ≡ true) c.in-Done.ensures c.see.ensures (λ made sees. still_is is_for_writing made (TcpEnd f.face.number Done ∷ []) refl)

@@ -1,8 +1,8 @@
-use Rattle.std.proofs.Common.{refl, false, true, [], ◌∷◌, ◌++◌, ◌≡◌, ◌||◌, Bool, List}
-use Rattle.world_face.specs.Journal.{Entry}
+use Rattle.std.proofs.Common.{false, true, ◌≡◌}
 use Rattle.world_face.proofs.Telling.{makes_then}
 use Rattle.flow_splice.specs.Hosts.{is_for_writing, some_is}
 use Rattle.flow_splice.specs.Serves.{GoesOn}
+use Rattle.flow_splice.proofs.Calls.{still_is}
 use Rattle.flow_splice.proofs.Events.{goes_then}
 use Rattle.flow_splice.proofs.Spliced.host_ready.Goals as goal
 
@@ -13,14 +13,6 @@ returns-clause-makes g c =
     let new = c.serve_reading.new.self in
     makes_then _ _ _ (GoesOn old mid false c.args.now) (GoesOn mid new false c.args.now) (GoesOn old new false c.args.now) c.serve_writing.ensures.makes c.serve_reading.ensures.makes
     (λ first second one two. goes_then old mid new false c.args.now first second c.serve_reading.ensures.same.face c.serve_reading.ensures.same.mac one two)
-
-still_is : (is : Entry → Bool) (second first : List Entry) → some_is is first ≡ true → some_is is (second ++ first) ≡ true
-still_is is [] first so = so
-still_is is (e ∷ second) first so = or_last (is e) (some_is is (second ++ first)) (still_is is second first so)
-  where
-    or_last : (a b : Bool) → b ≡ true → (a || b) ≡ true
-    or_last true b so = refl
-    or_last false b so = so
 
 pub returns-clause-serves_writing : goal.returns-clause-serves_writing
 returns-clause-serves_writing g c ready may =

@@ -1,16 +1,16 @@
 use Rattle.std.proofs.Common.{◌≡◌, ◌∷◌, [], ℕ, length, take, min, false, refl, arith, ap, subst, sym, ◌∙◌, inl, inr, ◌⊎◌, true}
-use Rattle.world_face.specs.Journal.{Close, TcpWrite, count_of}
+use Rattle.world_face.specs.Journal.{Close, Entry, TcpWrite, count_of}
 use Rattle.world_face.specs.Tells.{Answers}
 use Rattle.world_face.specs.declared.Io.{Io}
 use Rattle.world_face.specs.declared.Io.TheVariants.{Done, End, NotYet, Failed}
-use Rattle.world_face.proofs.Telling.{makes_one}
 use Rattle.tcp_guest.specs.Connection.{HasBuffers}
 use Rattle.tcp_guest.specs.Hosts.{reset}
 use Rattle.connection_steps.specs.Holding.{without}
 use Rattle.sock_buffers.specs.Upward.{Upward}
 use Rattle.flow_splice.specs.Serves.{GoesOn}
 use Rattle.flow_splice.specs.Splice.{Splice, closed}
-use Rattle.flow_splice.proofs.Calls.{two_calls}
+use Rattle.flow_splice.proofs.Calls.{calls_after, still_is, two_calls}
+use Rattle.flow_splice.proofs.Events.{goes_then}
 use Rattle.flow_splice.proofs.Hosting.{host_takes, host_takes_none}
 use Rattle.flow_splice.specs.Hosts.{is_for_writing, some_is}
 use Rattle.flow_splice.proofs.Spliced.write.Goals as goal
@@ -35,21 +35,26 @@ not_failed answer (inl is) failed = let not_it = sym is.1 ∙ failed in cc
 not_failed answer (inr (inl is)) failed = let not_it = sym is ∙ failed in cc
 not_failed answer (inr (inr is)) failed = let not_it = sym is ∙ failed in cc
 
-pub returns-in-Done : goal.returns-in-Done
-returns-in-Done g c =
+pub returns-in-Done-clause-makes : goal.returns-in-Done-clause-makes
+returns-in-Done-clause-makes g c =
     let f : Splice = c.args.self.now in
     let now : ℕ = c.args.now in
+    let mid : Splice = c.offer.new.self in
+    let new : Splice = c.end_after_octets.new.self in
     let answer = c.offer.result in
     let change = c.offer.ensures.change in
-    record {
-      makes = makes_one _ _ (TcpWrite f.face.number (take (min 16384 (length f.up.held)) f.up.held) answer) (GoesOn f c.offer.new.self false now) c.offer.ensures.offers
-          (λ allowed. subst (λ (x : Splice). GoesOn f x false now (TcpWrite f.face.number (take (min 16384 (length f.up.held)) f.up.held) answer ∷ [])) (sym change)
-          (host_takes f now c.requires.open_yet c.requires.owes answer c.offer.ensures.few (subst (λ (x : Splice). HasBuffers x.conn x.up x.down) change c.offer.ensures.buffers) (not_failed answer c.in-Done.is)));
-      serves = makes_one _ _ (TcpWrite f.face.number (take (min 16384 (length f.up.held)) f.up.held) answer) (λ made. some_is is_for_writing made ≡ true) c.offer.ensures.offers (λ allowed. refl);
-      same = rw change (record { face = refl; mac = refl; since = refl; asked = refl; ask_at = refl; up_size = refl; down_size = refl; mru = refl });
-      up = let few = c.offer.ensures.few in rw change (omega (arith, few));
-      down = ap (λ (x : Splice). x.down) change;
-    }
+    let offered : Entry = TcpWrite f.face.number (take (min 16384 (length f.up.held)) f.up.held) answer in
+    let first : GoesOn f mid false now (offered ∷ []) = subst (λ (x : Splice). GoesOn f x false now (offered ∷ [])) (sym change)
+    (host_takes f now c.requires.open_yet c.requires.owes answer c.offer.ensures.few (subst (λ (x : Splice). HasBuffers x.conn x.up x.down) change c.offer.ensures.buffers) (not_failed answer c.in-Done.is)) in
+    calls_after _ _ _ offered (GoesOn mid new false now) (GoesOn f new false now) c.offer.ensures.offers c.end_after_octets.ensures.makes
+    (λ made more. goes_then f mid new false now (offered ∷ []) made c.end_after_octets.ensures.same.face c.end_after_octets.ensures.same.mac first more)
+
+pub returns-in-Done-clause-serves : goal.returns-in-Done-clause-serves
+returns-in-Done-clause-serves g c =
+    let f : Splice = c.args.self.now in
+    let offered : Entry = TcpWrite f.face.number (take (min 16384 (length f.up.held)) f.up.held) c.offer.result in
+    calls_after _ _ _ offered (GoesOn c.offer.new.self c.end_after_octets.new.self false c.args.now) (λ made. some_is is_for_writing made ≡ true) c.offer.ensures.offers c.end_after_octets.ensures.makes
+    (λ made more. still_is is_for_writing made (offered ∷ []) refl)
 
 pub returns-in-Failed-clause-serves : goal.returns-in-Failed-clause-serves
 returns-in-Failed-clause-serves g c =
