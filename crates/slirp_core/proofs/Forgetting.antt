@@ -9,6 +9,7 @@ use Rattle.slirp_laws.specs.Datagrams.{Settled}
 use Rattle.slirp_core.specs.Fragments.{IsHeld}
 use Rattle.slirp_core.specs.Holds.{Begins, Holds, Standing, Stands, Turns}
 use Rattle.slirp_core.specs.State.{SlirpState}
+use Rattle.slirp_core.proofs.Guests.{guests_forget}
 use Rattle.slirp_core.proofs.Waitings.{fragments_dropped}
 
 -- where the turn is stays
@@ -24,11 +25,8 @@ forgets config at slirp new link past same drops holds =
       lawful = holds.lawful;
       keeps = holds.keeps;
       answers = record { sent = holds.answers.sent; pending = holds.answers.pending };
-      guests = record {
-        settings = holds.guests.settings;
-        known = holds.guests.known;
-        fragments = fragments_dropped config slirp (record slirp { parts = new.parts }) past (sym holds.clock.moment) holds.guests.fragments (drops holds.guests.fragments.held holds.guests.fragments.is_held);
-      };
+      guests = guests_forget config slirp (record slirp { parts = new.parts }) past refl
+          (fragments_dropped config slirp (record slirp { parts = new.parts }) past (sym holds.clock.moment) holds.guests.fragments (drops holds.guests.fragments.held holds.guests.fragments.is_held)) holds.guests;
       relayed = record { list = holds.relayed.list; asks = holds.relayed.asks };
       sockets = record { number = holds.sockets.number; rising = holds.sockets.rising; those = holds.sockets.those; kinds = holds.sockets.kinds };
       clock = record { moment = holds.clock.moment; counted = holds.clock.counted };
