@@ -43,9 +43,5 @@ guests_learn config slirp new frame past settings learnt same_config same_known 
 }
 
 -- no entry, but old fragments are given up
-pub guests_forget : (config : Config) (slirp new : SlirpState) (past : List Entry) → (new.config, new.known) ≡ (slirp.config, slirp.known) → OfFragments config new past → OfGuests config slirp past → OfGuests config new past
-guests_forget config slirp new past same fragments is = record {
-  settings = ap (λ (p : Config × List (Ip4 × Mac)). p.0) same ∙ is.settings;
-  known = is.known ∙ sym (ap (λ (p : Config × List (Ip4 × Mac)). p.1) same);
-  fragments = fragments;
-}
+pub guests_forget : (config : Config) (slirp new : SlirpState) (past : List Entry) → new.config ≡ slirp.config → new.known ≡ slirp.known → OfFragments config new past → OfGuests config slirp past → OfGuests config new past
+guests_forget config slirp new past same_config same_known fragments is = record { settings = same_config ∙ is.settings; known = is.known ∙ sym same_known; fragments = fragments }
