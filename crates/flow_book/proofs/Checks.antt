@@ -57,7 +57,7 @@ ends_same a b is =
     let port = numbers_same a.port b.port parts.1 in
     λ i. record { addr = record { 0 = addr i }; port = port i }
 
-closes : (socket : ℕ) (call : Call) → is_close socket call ≡ true → call ≡ CallClose socket
+pub closes : (socket : ℕ) (call : Call) → is_close socket call ≡ true → call ≡ CallClose socket
 closes socket (CallClose s) is = ap CallClose (numbers_same s socket is)
 closes socket CallNow is = cc
 closes socket (CallWait wants timeout) is = cc
@@ -77,7 +77,7 @@ closes socket (CallUdpRecv s asked) is = cc
 closes socket (CallFileLen name) is = cc
 closes socket (CallFileRead name place asked) is = cc
 
-connects : (socket : ℕ) (to : Endpoint) (call : Call) → is_connect socket to call ≡ true → call ≡ CallConnect socket to
+pub connects : (socket : ℕ) (to : Endpoint) (call : Call) → is_connect socket to call ≡ true → call ≡ CallConnect socket to
 connects socket to (CallConnect s t) is =
     let parts = both (s == socket) (same_endpoint t to) is in
     let number = numbers_same s socket parts.0 in

@@ -11,6 +11,7 @@ pub mod Newest
 pub mod Checks
 pub mod Writing
 pub mod TcpRows
+pub mod TcpWraps
 pub mod TcpWrites
 pub mod TcpResets
 pub mod TcpFailures

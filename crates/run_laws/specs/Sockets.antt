@@ -82,3 +82,11 @@ kind_of number (e ∷ past) = kind_by number e (nat_lt 0 (waits past)) (kind_of 
 abbrev pub is_association : Option Kind → Bool
 is_association (Some Association) = true
 is_association _ = false
+
+abbrev pub is_listener : Option Kind → Bool
+is_listener (Some Listener) = true
+is_listener _ = false
+
+abbrev pub is_flow : Option Kind → Bool
+is_flow (Some Flow) = true
+is_flow _ = false

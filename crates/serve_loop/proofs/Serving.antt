@@ -25,16 +25,18 @@ use Rattle.serve_loop.specs.declared.service.End.{End}
 use Rattle.serve_loop.specs.declared.service.End.TheVariants.{TurnsSpent}
 use Rattle.slirp_laws.proofs.Deeds.{asks}
 use Rattle.slirp_core.proofs.Guests.{guests_begin}
+use Rattle.slirp_core.proofs.NoFlows.{flows_stay}
 use Rattle.slirp_core.proofs.Parts.{errand_for}
 
 -- before the first turn
 pub started : (service : ServiceState) (told : ℕ) → IsNew service → Holds service.slirp.config (after 0) (record service.slirp { moment = max (min told (2 ^ 62)) service.slirp.moment }) service.link (Now told ∷ [])
 started service told new = record {
-  lawful = (asks service.slirp.config [] (ap (λ f. unless_due (due_in (Opening 0 f) []) None) new.forwards) refl, tt);
+  lawful = (asks service.slirp.config [] (ap (λ f. unless_due (due_in (Opening 0 f) []) None) new.forwards) refl refl, tt);
   keeps = record { framed = (tt, tt); partly = sym new.input; rest = sym new.output; blocked = sym new.free };
   answers = record { sent = sym new.sent; pending = sym new.pending };
   guests = guests_begin (record service.slirp { moment = max (min told (2 ^ 62)) service.slirp.moment }) (Now told) refl new.known new.parts;
   relayed = record { list = sym new.associations; asks = refl };
+  flows = flows_stay service.slirp.config (Now told) [] tt (record { room = new.flows; unit = new.unit; flows = refl; rests = refl; doomed = refl });
   sockets = record {
     number = sym new.number;
     rising = tt;
@@ -60,6 +62,7 @@ ran config end associations made ended =
         ended = ap (λ p. is_over p || nat_le config.turns (waits made)) over;
         is = refl;
         rests = OverBy ended.why over;
+        flows = ended.ended.flows;
         asks = ended.ended.asks;
         rising = ended.ended.rising;
         those = ended.ended.those;
@@ -85,6 +88,7 @@ spent config count turns service made all is holds = rests holds.stands
         ended = ap (λ q. is_over q || nat_le config.turns (waits made)) at ∙ over;
         is = refl;
         rests = resting;
+        flows = holds.flows;
         asks = errand_for config Settled service.slirp made holds.relayed;
         rising = holds.sockets.rising;
         those = holds.sockets.those;

@@ -24,10 +24,11 @@ use Rattle.run_laws.specs.Moments.{moment, waits}
 use Rattle.slirp_core.specs.Fragments.{IsHeld}
 use Rattle.slirp_core.specs.Waiting.{OfFragments}
 use Rattle.slirp_core.proofs.Waitings.{fragments_stay, fragments_take}
-use Rattle.run_laws.specs.Shape.{Phase, Working, Over, By, due_in, phase, phase_after, unless_over, is_working, may_turn}
+use Rattle.run_laws.specs.Shape.{Phase, Started, Working, Over, By, due_in, phase, phase_after, unless_over, is_working, may_turn}
 use Rattle.run_laws.specs.Sockets.{next_number}
 use Rattle.slirp_laws.specs.Agenda.{agenda, all_wanted, behind, from, is_to_read, reads_on as goes_on_reading, wanted_of}
-use Rattle.slirp_laws.specs.Answers.{Answer, frames_of, identification, is_out, left, left_after}
+use Rattle.run_laws.specs.Packets.{packet_in}
+use Rattle.slirp_laws.specs.Answers.{Answer, frames_of, identification, is_out, left, left_after, owed_for_packet}
 use Rattle.slirp_laws.specs.Datagrams.{Errand, Step, Settled, due_for}
 use Rattle.slirp_laws.specs.Asking.{errand_after, errand_left, step, step_of}
 use Rattle.slirp_laws.specs.Relayed.{associations, step_for}
@@ -37,7 +38,7 @@ use Rattle.stream_netdev.specs.Frames.{ended, Pieces, Reads}
 use Rattle.stream_netdev.specs.Keeps.{Keeps, ReadsFrame, hands, ending_of}
 use Rattle.stream_netdev.specs.State.{LinkState, under_way}
 use Rattle.stream_netdev.specs.declared.Arrived.{Arrived}
-use Rattle.slirp_core.specs.Holds.{Standing, HoldsAt, Holds, InTurn, IsLast, OfSockets, Stands, Turns, Begins, after, standing, Ended, AfterPump}
+use Rattle.slirp_core.specs.Holds.{Standing, HoldsAt, Holds, InTurn, IsLast, OfFlows, OfSockets, Stands, Turns, Begins, after, standing, Ended, AfterPump}
 use Rattle.serve_loop.specs.Turns.{still, EndedAs, AfterTurn}
 use Rattle.slirp_core.specs.Packets.{errand_in, owed_for_frame, with_ether, with_frame}
 use Rattle.slirp_core.specs.Pumps.{is_settled}
@@ -49,17 +50,17 @@ use Rattle.slirp_core.specs.declared.sending.Pumped.{Pumped}
 use Rattle.slirp_core.specs.declared.sending.Pumped.TheVariants.{Clear, Blocked, Failed as PumpFailed}
 use Rattle.slirp_core.proofs.Bridging.{owes_same, sends_same, teaches_same}
 use Rattle.slirp_core.proofs.Guests.{guests_learn, guests_stay}
-use Rattle.slirp_core.proofs.Parts.{asked_for, behind_of, due_is, errand_for, from_of, in_turn, or_second, reads_of, skipped}
+use Rattle.slirp_core.proofs.NoFlows.{ask_nothing, flows_stay, strays_are}
+use Rattle.slirp_core.proofs.Parts.{asked_for, behind_of, due_in_phase, due_is, errand_for, from_of, in_turn, or_second, reads_of, skipped}
 use Rattle.slirp_core.proofs.Sockets.{same}
 
 module _ (config : Config) (count : ℕ) (slirp : SlirpState) (old : LinkState) (past : List Entry) (wants : List Want) (timeout : Option ℕ)
     (few : count < config.turns) (holds : Holds config (after count) slirp old past) where
   -- a wait may begin a turn, the first or a later one
   none_due : Stands config Settled slirp old past → due config past ≡ None
-  none_due (Turns turn) = due_is config past Settled turn.working (asked_for config (after count) Settled slirp old past holds)
+  none_due (Turns turn) = due_is config past Settled turn.working holds.flows (asked_for config (after count) Settled slirp old past holds)
   none_due (Begins unbegun) =
-      ap (λ p. unless_due (due_in p past) (due_for (step config past) (next_number past))) unbegun.started
-      ∙ ap (λ (t : Step). due_for t (next_number past)) (asked_for config (after count) Settled slirp old past holds)
+      due_in_phase config past Started unbegun.started holds.flows ∙ ap (λ (t : Step). due_for t (next_number past)) (asked_for config (after count) Settled slirp old past holds)
 
   turns_on : Stands config Settled slirp old past → may_turn (phase config past) ≡ true
   turns_on (Turns turn) = ap may_turn turn.working
@@ -81,6 +82,7 @@ module _ (config : Config) (count : ℕ) (slirp : SlirpState) (old : LinkState) 
   pub wait_ends_it : (answer : Waited) (ready : List Want) (why : Ending) → wait_ending answer ≡ Some why → Ended config why slirp.associations (Wait wants timeout answer ready ∷ past)
   wait_ends_it answer ready why is = record {
     lawful = waited answer ready;
+    flows = flows_stay config (Wait wants timeout answer ready) past tt holds.flows;
     over = ap (λ o. phase_after (Wait wants timeout answer ready) o (phase config past)) is ∙ ends why holds.stands;
     asks = errand_for config Settled slirp past holds.relayed;
     rising = holds.sockets.rising;
@@ -90,7 +92,7 @@ module _ (config : Config) (count : ℕ) (slirp : SlirpState) (old : LinkState) 
   pub wait_wakes : (ready : List Want) (told : ℕ) (new : LinkState) → under_way new ≡ under_way old → new.tail ≡ old.tail → new.blocked ≡ (if writes TheLink ready then false else old.blocked)
       → Holds config (standing (count + 1) wants ready) (record slirp { moment = max (min told (2 ^ 62)) slirp.moment }) new (Now told ∷ Wait wants timeout Ready ready ∷ past)
   wait_wakes ready told new same_in same_out free = record {
-    lawful = (asks config (Wait wants timeout Ready ready ∷ past) refl holds.open_yet, waited Ready ready);
+    lawful = (asks config (Wait wants timeout Ready ready ∷ past) refl (ask_nothing config (Wait wants timeout Ready ready ∷ past) still_none) holds.open_yet, waited Ready ready);
     keeps = record {
       framed = (tt, (tt, holds.keeps.framed));
       partly = holds.keeps.partly ∙ sym same_in;
@@ -100,12 +102,16 @@ module _ (config : Config) (count : ℕ) (slirp : SlirpState) (old : LinkState) 
     answers = record { sent = holds.answers.sent; pending = holds.answers.pending };
     guests = guests_stay config slirp (record slirp { moment = max (min told (2 ^ 62)) slirp.moment }) (Now told) (Wait wants timeout Ready ready ∷ past) refl refl (guests_stay config slirp slirp (Wait wants timeout Ready ready) past refl refl holds.guests);
     relayed = record { list = holds.relayed.list; asks = holds.relayed.asks };
+    flows = flows_stay config (Now told) (Wait wants timeout Ready ready ∷ past) tt still_none;
     sockets = record { number = holds.sockets.number; rising = holds.sockets.rising; those = holds.sockets.those; kinds = holds.sockets.kinds };
     clock = record { moment = ap (max (min told (2 ^ 62))) holds.clock.moment; counted = ap (λ n. n + 1) holds.clock.counted };
     stands = Turns (record { working = refl; waited = omega arith });
     agenda = ([], refl);
     open_yet = holds.open_yet;
   }
+    where
+      still_none : OfFlows config (Wait wants timeout Ready ready ∷ past)
+      still_none = flows_stay config (Wait wants timeout Ready ready) past tt holds.flows
 
 none : {A : Type 0} (xs : List A) → nat_lt 0 (length xs) ≡ false → xs ≡ []
 none [] is = refl
@@ -145,13 +151,14 @@ record Quiet (config : Config) (count : ℕ) (wants : List Want) (item : Want) (
   clock : moment past ≡ slirp.moment
   fragments : OfFragments config slirp past
   waits : waiting config past ≡ wait
+  flows : OfFlows config past
   sockets : OfSockets slirp past
 
 module _ (config : Config) (count : ℕ) (wants : List Want) (item : Want) (items : List Want) (slirp : SlirpState) (wait : List PartSet) (reads_it : is_to_read TheLink (wanted_of wants item) ≡ true) where
   -- a read may come, that asks for what is missing
   may_read : (asked : ℕ) (past : List Entry) → MayFrame past (CallLinkRead asked) → Quiet config count wants item items slirp wait past → May config past (CallLinkRead asked)
   may_read asked past framed q =
-      reads_on config past asked framed (due_is config past Settled q.turn.working (ap (step_of config past) q.unasked)) (ap is_working q.turn.working)
+      reads_on config past asked framed (due_is config past Settled q.turn.working q.flows (ap (step_of config past) q.unasked)) (ap is_working q.turn.working)
       (reads_of TheLink (wanted_of wants item) (all_wanted wants items) (agenda past) reads_it q.reported)
       (ap (λ t. is_nothing t && is_out (left config past)) q.out ∙ ap is_out q.none) q.open_yet
 
@@ -181,6 +188,7 @@ module _ (config : Config) (count : ℕ) (wants : List Want) (item : Want) (item
           clock = before.clock;
           fragments = fragments_stay config slirp slirp e (made ++ past) frame refl before.fragments;
           waits = ap (λ o. young (moment (made ++ past)) (waits_with config (moment (made ++ past)) o (sets config (made ++ past)))) frame ∙ before.waits;
+          flows = flows_stay config e (made ++ past) tt before.flows;
           sockets = record { number = before.sockets.number; rising = before.sockets.rising; those = before.sockets.those; kinds = before.sockets.kinds };
         },
         (may_read asked (made ++ past) framed.0 before, so_far),
@@ -223,6 +231,7 @@ record AllRead (config : Config) (count : ℕ) (wants items : List Want) (slirp 
   asks : errand_left config all ≡ errand_by config slirp.moment wait (arrived all)
   clock : moment all ≡ slirp.moment
   fragments : (new : SlirpState) → KeepsParts config slirp new (arrived all) → OfFragments config new all
+  flows : OfFlows config all
   sockets : OfSockets slirp all
 
 all_read : (config : Config) (count : ℕ) (wants : List Want) (item : Want) (items : List Want) (slirp : SlirpState) (wait : List PartSet) → is_to_read TheLink (wanted_of wants item) ≡ true
@@ -238,7 +247,7 @@ all_read config count wants item items slirp wait reads_it (LinkRead asked answe
       reported = passed (goes_on_reading answer (partial (made ++ past) ++ octets)) before.reported;
       open_yet = before.open_yet;
       sent_is = before.sent_is;
-      left_is = owes (arrives e (made ++ past)) before.none
+      left_is = owes (arrives e (made ++ past)) (flows_stay config e (made ++ past) tt before.flows) before.none
           ∙ ap (λ i. frames_of config i (owed_by config (moment (made ++ past)) (waiting config (made ++ past)) (arrives e (made ++ past)))) before.sent_is
           ∙ ap (λ n. frames_of config slirp.sent (owed_by config n (waiting config (made ++ past)) (arrives e (made ++ past)))) before.clock
           ∙ ap (λ w. frames_of config slirp.sent (owed_by config slirp.moment w (arrives e (made ++ past)))) before.waits;
@@ -250,6 +259,7 @@ all_read config count wants item items slirp wait reads_it (LinkRead asked answe
           ∙ ap (λ w. errand_by config slirp.moment w (arrives e (made ++ past))) before.waits;
       clock = before.clock;
       fragments = λ new keeps. puts new (arrives e (made ++ past)) refl keeps before.clock before.fragments;
+      flows = flows_stay config e (made ++ past) tt before.flows;
       sockets = record { number = before.sockets.number; rising = before.sockets.rising; those = before.sockets.those; kinds = before.sockets.kinds };
     }
   where
@@ -271,11 +281,14 @@ all_read config count wants item items slirp wait reads_it (LinkRead asked answe
     sets_out None is = is
     sets_out (Some frame) is = sends_same config (moment (made ++ past)) (waiting config (made ++ past)) frame
 
-    owes : (o : Option (List ℕ)) → left config (made ++ past) ≡ []
+    owes : (o : Option (List ℕ)) → OfFlows config (LinkRead asked answer octets ∷ (made ++ past)) → left config (made ++ past) ≡ []
         → left_after config (made ++ past) (happens config (made ++ past) (LinkRead asked answer octets)) (option_map (arrival_of config (moment (made ++ past)) (waiting config (made ++ past))) o) (left config (made ++ past))
         ≡ frames_of config (identification (made ++ past)) (owed_by config (moment (made ++ past)) (waiting config (made ++ past)) o)
-    owes None is = is
-    owes (Some frame) is = ap (frames_of config (identification (made ++ past))) (owes_same config (moment (made ++ past)) (waiting config (made ++ past)) frame)
+    owes None none is = is
+    owes (Some frame) none is =
+        let packet = packet_in config (moment (made ++ past)) (waiting config (made ++ past)) frame in
+        ap (λ (b : Bool). frames_of config (identification (made ++ past)) (owed_for_packet config b packet)) (strays_are config (LinkRead asked answer octets ∷ (made ++ past)) packet none)
+        ∙ ap (frames_of config (identification (made ++ past))) (owes_same config (moment (made ++ past)) (waiting config (made ++ past)) frame)
 
     puts : (new : SlirpState) (o : Option (List ℕ)) → arrives (LinkRead asked answer octets) (made ++ past) ≡ o → KeepsParts config slirp new o → moment (made ++ past) ≡ slirp.moment → OfFragments config slirp (made ++ past)
         → OfFragments config new (LinkRead asked answer octets ∷ (made ++ past))
@@ -313,6 +326,7 @@ module _ (config : Config) (count : ℕ) (wants : List Want) (item : Want) (item
         clock = holds.clock.moment;
         fragments = holds.guests.fragments;
         waits = refl;
+        flows = holds.flows;
         sockets = holds.sockets;
       }) holds.lawful
 
@@ -329,6 +343,7 @@ module _ (config : Config) (count : ℕ) (wants : List Want) (item : Want) (item
         guests = guests_learn config slirp after (hands answer new) (made ++ past) holds.guests.settings
             (all.known_is ∙ ap (λ o. with_frame config o slirp.known) r.1.frame) refl refl (all.fragments after (subst (λ o. KeepsParts config slirp after o) (sym r.1.frame) (kept_as (hands answer new) new_slirp keeps)));
         relayed = record { list = all.list; asks = ap (step_for slirp.associations) (all.asks ∙ ap (errand_by config slirp.moment wait) r.1.frame) };
+        flows = all.flows;
         sockets = record { number = all.sockets.number; rising = all.sockets.rising; those = all.sockets.those; kinds = all.sockets.kinds };
         clock = record { moment = all.clock; counted = all.counted };
         stands = Turns (record { working = all.phase_is ∙ ap over_by (r.1.last ∙ goes_on); waited = all.waited });
@@ -346,6 +361,7 @@ module _ (config : Config) (count : ℕ) (wants : List Want) (item : Want) (item
       let r = read past holds.keeps in
       record {
         lawful = all.lawful;
+        flows = all.flows;
         over = all.phase_is ∙ ap over_by (r.1.last ∙ is);
         asks = all.asks ∙ ap (errand_by config slirp.moment wait) (r.1.frame ∙ none);
         rising = all.sockets.rising;

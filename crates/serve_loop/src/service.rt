@@ -92,6 +92,7 @@ impl Service {
     ghost use Rattle.host_policy.specs.Ranges.{IsSound};
     ghost use Rattle.host_policy.specs.Settings.{settings};
     ghost use Rattle.slirp_laws.specs.Agenda.{wanted_of};
+    ghost use Rattle.slirp_laws.specs.Built.{as_built};
     ghost use Rattle.slirp_laws.specs.Laws.{Finished, Lawful};
     ghost use Rattle.run_laws.specs.Shape.{phase};
     ghost use Rattle.slirp_laws.specs.Served.{Served};
@@ -108,12 +109,13 @@ impl Service {
     ghost use Rattle.udp_assoc.specs.Associations.{numbered};
     ghost use Rattle.udp_assoc.specs.declared.assocs.Association.{Association as AnAssociation};
 
-    /// A network with these settings that has served nothing. It takes all the memory that it will ever need.
+    /// A network with these settings that has served nothing; there is room for no flow of TCP yet. It takes all the memory that it will ever need.
+    #[tactic(auto, using(crate::proofs::Opening::has_room_for_a_unit))]
     pub fn open(alloc: Global, c: &SlirpConfig) -> Result<Service, NoMemory>
         requires sound { IsSound (settings c.now) }
         requires built { IsBuilt (settings c.now) }
         ensures new { IfOk result (λ service. IsNew service) }
-        ensures config { IfOk result (λ service. service.slirp.config ≡ settings c.now) }
+        ensures config { IfOk result (λ service. service.slirp.config ≡ as_built (settings c.now)) }
     {
         let link = Link::open(alloc)?;
         let (Ok(wants), Ok(ready), Ok(payload), Ok(joined)) = (

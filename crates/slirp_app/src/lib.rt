@@ -24,6 +24,8 @@ mod star_tests;
 mod status;
 mod std_sink;
 #[cfg(test)]
+mod tcp_tests;
+#[cfg(test)]
 mod tests;
 #[cfg(test)]
 mod udp_tests;

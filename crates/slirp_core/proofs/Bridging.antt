@@ -19,11 +19,11 @@ use Rattle.run_laws.specs.Fragments.{arrived}
 use Rattle.run_laws.specs.Packets.{Packet, packet_of_ip, ArpPacket, Message, DatagramPacket, Segment, Datagram, datagram_in, datagram_of, may_come, packet_of, pair_by, pair_by_arp, pair_by_ip, pair_in, pair_of, packet_in, unless_unheard, whole_packet}
 use Rattle.slirp_laws.specs.Answers.{Answer, owed_for_arp, owed_for_icmp, owed_for_datagram, owed_for_packet}
 use Rattle.slirp_laws.specs.Datagrams.{Errand, errand_of, errand_by_packet}
-use Rattle.slirp_core.specs.Packets.{errand_in, errand_of_arrived, errand_of_ether, errand_of_ip, owed_for, owed_for_arrived, owed_for_ether, owed_for_frame, owed_for_ip, with_address, with_arp, with_ether, with_frame, with_ip}
+use Rattle.slirp_core.specs.Packets.{errand_in, errand_of_arrived, errand_of_ether, errand_of_ip, owed_for, owed_for_arrived, owed_for_ether, owed_for_frame, owed_for_ip, owed_for_tcp, strays_alone, with_address, with_arp, with_ether, with_frame, with_ip}
 
 -- what a packet that may be none owes and asks for
 abbrev owes : Config → Option Packet → List Answer
-owes config p = owed_for_packet config (unless_unheard p)
+owes config p = owed_for_packet config (strays_alone config (unless_unheard p)) (unless_unheard p)
 
 abbrev sends : Config → Option Packet → Option Errand
 sends config p = errand_by_packet config (unless_unheard p)
@@ -70,7 +70,7 @@ message_sends : (config : Config) (mac : List ℕ) (ip : Ip) (o : Option Icmp) �
 message_sends config mac ip None = refl
 message_sends config mac ip (Some m) = refl
 
-segment_owes : (config : Config) (mac : List ℕ) (ip : Ip) (o : Option Tcp) → owes config (option_map (Segment mac ip) o) ≡ []
+segment_owes : (config : Config) (mac : List ℕ) (ip : Ip) (o : Option Tcp) → owes config (option_map (Segment mac ip) o) ≡ owed_for (owed_for_tcp config mac ip) o
 segment_owes config mac ip None = refl
 segment_owes config mac ip (Some tcp) = refl
 
@@ -89,6 +89,12 @@ record Tests (config : Config) (ip : Ip) (udp icmp tcp guest ours : Bool) : Type
 one_proto : (proto : ℕ) → (proto == 17) ≡ true → (proto == 1) ≡ true → ⊥
 one_proto proto a b = let first : proto ≡ 17 = grind (arith, nat_tests, a) in let second : proto ≡ 1 = grind (arith, nat_tests, b) in omega (arith, first, second)
 
+no_udp_and_tcp : (proto : ℕ) → (proto == 17) ≡ true → (proto == 6) ≡ true → ⊥
+no_udp_and_tcp proto a b = let first : proto ≡ 17 = grind (arith, nat_tests, a) in let second : proto ≡ 6 = grind (arith, nat_tests, b) in omega (arith, first, second)
+
+no_icmp_and_tcp : (proto : ℕ) → (proto == 1) ≡ true → (proto == 6) ≡ true → ⊥
+no_icmp_and_tcp proto a b = let first : proto ≡ 1 = grind (arith, nat_tests, a) in let second : proto ≡ 6 = grind (arith, nat_tests, b) in omega (arith, first, second)
+
 -- what is tested, with the answers in the place of the tests
 abbrev packet_by : Config → List ℕ → Ip → (udp icmp tcp guest : Bool) → Option Packet
 packet_by config mac ip udp icmp tcp guest =
@@ -101,18 +107,22 @@ packet_by config mac ip udp icmp tcp guest =
 abbrev udp_by : Config → List ℕ → Ip → (udp : Bool) → Option Datagram
 udp_by config mac ip udp = if udp then option_and_then (comes config mac ip) (read_udp ip.from ip.to ip.body) else None
 
-abbrev owed_by : Config → List ℕ → Ip → (guest ours icmp udp : Bool) → List Answer
-owed_by config mac ip guest ours icmp udp =
-    if guest && ours && icmp then owed_for (owed_for_icmp mac ip) (read_icmp ip.body) else owed_for (owed_for_datagram config) (udp_by config mac ip udp)
+abbrev owed_by : Config → List ℕ → Ip → (guest ours icmp tcp udp : Bool) → List Answer
+owed_by config mac ip guest ours icmp tcp udp =
+    if guest && ours && icmp then owed_for (owed_for_icmp mac ip) (read_icmp ip.body)
+    else (if guest && tcp then owed_for (owed_for_tcp config mac ip) (read_tcp ip.from ip.to ip.body)
+    else owed_for (owed_for_datagram config) (udp_by config mac ip udp))
 
 owes_by : (config : Config) (mac : List ℕ) (ip : Ip) (udp icmp tcp guest ours : Bool) → Tests config ip udp icmp tcp guest ours
-    → owes config (packet_by config mac ip udp icmp tcp guest) ≡ owed_by config mac ip guest ours icmp udp
+    → owes config (packet_by config mac ip udp icmp tcp guest) ≡ owed_by config mac ip guest ours icmp tcp udp
 owes_by config mac ip true true tcp guest ours t = absurd (one_proto ip.proto t.is_udp t.is_icmp)
-owes_by config mac ip true false tcp true true t = udp_owes config mac ip (read_udp ip.from ip.to ip.body)
-owes_by config mac ip true false tcp true false t = udp_owes config mac ip (read_udp ip.from ip.to ip.body)
-owes_by config mac ip true false tcp false ours t = udp_owes config mac ip (read_udp ip.from ip.to ip.body)
-owes_by config mac ip false true tcp true true t = message_owes config mac ip (read_icmp ip.body) true t.is_to_us
-owes_by config mac ip false true tcp true false t = message_owes config mac ip (read_icmp ip.body) false t.is_to_us
+owes_by config mac ip true false true guest ours t = absurd (no_udp_and_tcp ip.proto t.is_udp t.is_tcp)
+owes_by config mac ip true false false true true t = udp_owes config mac ip (read_udp ip.from ip.to ip.body)
+owes_by config mac ip true false false true false t = udp_owes config mac ip (read_udp ip.from ip.to ip.body)
+owes_by config mac ip true false false false ours t = udp_owes config mac ip (read_udp ip.from ip.to ip.body)
+owes_by config mac ip false true true guest ours t = absurd (no_icmp_and_tcp ip.proto t.is_icmp t.is_tcp)
+owes_by config mac ip false true false true true t = message_owes config mac ip (read_icmp ip.body) true t.is_to_us
+owes_by config mac ip false true false true false t = message_owes config mac ip (read_icmp ip.body) false t.is_to_us
 owes_by config mac ip false false true true true t = segment_owes config mac ip (read_tcp ip.from ip.to ip.body)
 owes_by config mac ip false false true true false t = segment_owes config mac ip (read_tcp ip.from ip.to ip.body)
 owes_by config mac ip false false false true true t = refl
@@ -174,7 +184,8 @@ ether_sends config now waiting (Some ether) = by (ether.kind == arp_kind) (ether
     by false false a i = refl
 
 -- what it owes, what it sends, and whom it makes known
-pub owes_same : (config : Config) (now : ℕ) (waiting : List PartSet) (frame : List ℕ) → owed_for_packet config (packet_in config now waiting frame) ≡ owed_for_frame config now waiting frame
+pub owes_same : (config : Config) (now : ℕ) (waiting : List PartSet) (frame : List ℕ)
+    → owed_for_packet config (strays_alone config (packet_in config now waiting frame)) (packet_in config now waiting frame) ≡ owed_for_frame config now waiting frame
 owes_same config now waiting frame = ether_owes config now waiting (read_ether frame)
 
 pub sends_same : (config : Config) (now : ℕ) (waiting : List PartSet) (frame : List ℕ) → errand_by_packet config (packet_in config now waiting frame) ≡ errand_in config now waiting frame

@@ -25,9 +25,9 @@ forgets config at slirp new link past same drops holds =
       lawful = holds.lawful;
       keeps = holds.keeps;
       answers = record { sent = holds.answers.sent; pending = holds.answers.pending };
-      guests = guests_forget config slirp (record slirp { parts = new.parts }) past refl refl
-          (fragments_dropped config slirp (record slirp { parts = new.parts }) past (sym holds.clock.moment) holds.guests.fragments (drops holds.guests.fragments.held holds.guests.fragments.is_held)) holds.guests;
+      guests = guests_forget config slirp (record slirp { parts = new.parts }) past refl refl (fragments_dropped config slirp (record slirp { parts = new.parts }) past (sym holds.clock.moment) holds.guests.fragments (drops holds.guests.fragments.held holds.guests.fragments.is_held)) holds.guests;
       relayed = record { list = holds.relayed.list; asks = holds.relayed.asks };
+      flows = holds.flows;
       sockets = record { number = holds.sockets.number; rising = holds.sockets.rising; those = holds.sockets.those; kinds = holds.sockets.kinds };
       clock = record { moment = holds.clock.moment; counted = holds.clock.counted };
       stands = stands_so config slirp new.parts link past holds.stands;

@@ -42,6 +42,6 @@ guests_learn config slirp new frame past settings learnt same_config same_known 
   fragments = fragments;
 }
 
--- no entry, but old fragments are given up
+-- no entry, but that old fragments are given up
 pub guests_forget : (config : Config) (slirp new : SlirpState) (past : List Entry) → new.config ≡ slirp.config → new.known ≡ slirp.known → OfFragments config new past → OfGuests config slirp past → OfGuests config new past
 guests_forget config slirp new past same_config same_known fragments is = record { settings = same_config ∙ is.settings; known = is.known ∙ sym same_known; fragments = fragments }

@@ -9,6 +9,7 @@ pub mod Filling
 pub mod Forgetting
 pub mod Guests
 pub mod NextFrames
+pub mod NoFlows
 pub mod Parts
 pub mod Pumping
 pub mod Relaying

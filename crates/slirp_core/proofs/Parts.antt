@@ -3,14 +3,16 @@ use Rattle.std.proofs.Common.{◌≡◌, ℕ, ◌&&◌, ◌||◌, nat_le, Bool, 
 use Rattle.poll_list.specs.Listing.{reads, same_who}
 use Rattle.poll_list.specs.declared.Want.{Want}
 use Rattle.poll_list.specs.declared.Who.{Who}
-use Rattle.world_face.specs.Journal.{Entry, call_of, Close, UdpOpen, UdpSend, UdpRecv}
+use Rattle.world_face.specs.Journal.{Entry, Call, call_of, Close, UdpOpen, UdpSend, UdpRecv}
 use Rattle.world_face.specs.declared.Made.TheVariants.{Done, Failed}
 use Rattle.world_face.specs.Frames.{MayFrame, partial, tail, is_blocked}
 use Rattle.host_policy.specs.Addresses.{Config}
 use Rattle.udp_assoc.specs.Associations.{most_associations, socket_of}
 use Rattle.udp_assoc.specs.declared.assocs.Association.{Association}
+use Rattle.flow_book.specs.Book.{book}
+use Rattle.flow_book.specs.Lots.{due_for_flows}
 use Rattle.run_laws.specs.Happenings.{happens}
-use Rattle.run_laws.specs.Shape.{Working, phase, due_in, opened}
+use Rattle.run_laws.specs.Shape.{Phase, Working, phase, due_in, opened}
 use Rattle.run_laws.specs.Sockets.{next_number}
 use Rattle.slirp_laws.specs.Agenda.{agenda, all_wanted, behind, from, is_to_read}
 use Rattle.slirp_laws.specs.Datagrams.{Errand, Step, Settled, NeedsRoom, NeedsSocket, due_for}
@@ -21,15 +23,26 @@ use Rattle.slirp_laws.proofs.Joining.{joined_step}
 use Rattle.slirp_laws.proofs.Steps.{errand_in}
 use Rattle.stream_netdev.specs.Keeps.{Keeps}
 use Rattle.stream_netdev.specs.State.{LinkState}
-use Rattle.slirp_core.specs.Holds.{Standing, HoldsAt, InTurn, IsLast, OfAnswers, OfClock, OfRelay, OfSockets, Stands, Turns, Begins, Unbegun}
+use Rattle.slirp_core.specs.Holds.{Standing, HoldsAt, InTurn, IsLast, OfAnswers, OfClock, OfFlows, OfRelay, OfSockets, Stands, Turns, Begins, Unbegun}
 use Rattle.slirp_core.specs.State.{SlirpState}
 use Rattle.slirp_core.proofs.Guests.{guests_stay, of_guests}
+use Rattle.slirp_core.proofs.NoFlows.{ask_nothing, flows_stay}
 
 -- ---- which call is due
 
-pub due_is : (config : Config) (past : List Entry) (s : Step) → phase config past ≡ Working → step config past ≡ s → due config past ≡ due_for s (next_number past)
-due_is config past s working asks =
-    ap (λ p. unless_due (due_in p past) (due_for (step config past) (next_number past))) working ∙ ap (λ t. due_for t (next_number past)) asks
+-- by where the run stands; flows ask for none
+pub due_in_phase : (config : Config) (past : List Entry) (p : Phase) → phase config past ≡ p → OfFlows config past → due config past ≡ unless_due (due_in p past) (due_for (step config past) (next_number past))
+due_in_phase config past p is none =
+    ap (λ q. unless_due (due_in q past) (unless_due (due_for (step config past) (next_number past)) (due_for_flows config (book config past) (next_number past)))) is
+    ∙ ap (λ o. unless_due (due_in p past) (unless_due (due_for (step config past) (next_number past)) o)) (ask_nothing config past none)
+    ∙ ap (unless_due (due_in p past)) (unless_none (due_for (step config past) (next_number past)))
+  where
+    unless_none : (o : Option Call) → unless_due o None ≡ o
+    unless_none None = refl
+    unless_none (Some call) = refl
+
+pub due_is : (config : Config) (past : List Entry) (s : Step) → phase config past ≡ Working → OfFlows config past → step config past ≡ s → due config past ≡ due_for s (next_number past)
+due_is config past s working none asks = due_in_phase config past Working working none ∙ ap (λ t. due_for t (next_number past)) asks
 
 -- what the list asks for is what the record says
 pub asked_for : (config : Config) (at : Standing) (s : Step) (slirp : SlirpState) (link : LinkState) (past : List Entry) → HoldsAt config at s slirp link past → step config past ≡ s
@@ -100,6 +113,13 @@ link_stays link (UdpSend socket to octets answer) past on keeps = keeps_by link 
 link_stays link (UdpRecv socket asked answer octets) past on keeps = keeps_by link (UdpRecv socket asked answer octets) past tt refl refl refl keeps
 link_stays link _ past on keeps = absurd on
 
+no_flow_comes : (config : Config) (e : Entry) (past : List Entry) → IsOnSocket e → OfFlows config past → OfFlows config (e ∷ past)
+no_flow_comes config (Close socket) past on none = flows_stay config (Close socket) past tt none
+no_flow_comes config (UdpOpen socket at answer) past on none = flows_stay config (UdpOpen socket at answer) past tt none
+no_flow_comes config (UdpSend socket to octets answer) past on none = flows_stay config (UdpSend socket to octets answer) past tt none
+no_flow_comes config (UdpRecv socket asked answer octets) past on none = flows_stay config (UdpRecv socket asked answer octets) past tt none
+no_flow_comes config _ past on none = absurd on
+
 brings_none : (config : Config) (e : Entry) (past : List Entry) → IsOnSocket e → (happens config past e).came ≡ None
 brings_none config (Close socket) past on = refl
 brings_none config (UdpOpen socket at answer) past on = refl
@@ -133,6 +153,7 @@ after_socket config at after step new_step slirp new link e past on same_guests 
   answers = changes.answers;
   guests = guests_stay config slirp new e past (brings_none config e past on) same_guests holds.guests;
   relayed = changes.relayed;
+  flows = no_flow_comes config e past on holds.flows;
   sockets = changes.sockets;
   clock = clock_stays at after slirp new e past on same_moment same_count holds.clock;
   stands = Turns (still_in_turn config e past on turn);

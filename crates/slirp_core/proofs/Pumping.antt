@@ -6,8 +6,13 @@ use Rattle.world_face.specs.declared.Io.{Io}
 use Rattle.world_face.specs.declared.Io.TheVariants.{Done, End, NotYet, Failed}
 use Rattle.world_face.specs.Frames.{LinkFailed, goes_out, tail, spelling, opens}
 use Rattle.host_policy.specs.Addresses.{Config}
-use Rattle.slirp_laws.specs.Answers.{identification, datagrams_in, datagrams_out, with_datagrams, left, taken, is_beside, is_first, is_out}
+use Rattle.slirp_laws.specs.Answers.{identification, datagrams_in, datagrams_out, with_datagrams, left, taken, is_first, is_out}
+use Rattle.flow_book.specs.Book.{book}
+use Rattle.flow_book.specs.Flows.{Flow}
+use Rattle.flow_book.specs.Laws.{MayWrite, flow_settings}
+use Rattle.run_laws.specs.Moments.{moment}
 use Rattle.slirp_laws.specs.Datagrams.{Settled}
+use Rattle.slirp_laws.specs.Sending.{is_beside}
 use Rattle.slirp_laws.specs.Laws.{Lawful, may_begin}
 use Rattle.run_laws.specs.Shape.{phase, is_working, unless_over}
 use Rattle.run_laws.specs.Sockets.{open_sockets}
@@ -25,6 +30,7 @@ use Rattle.slirp_core.specs.declared.sending.Pumped.{Pumped}
 use Rattle.slirp_laws.specs.Asking.{errand_left}
 use Rattle.slirp_laws.proofs.Deeds.{writes}
 use Rattle.slirp_core.proofs.Guests.{guests_stay, of_guests}
+use Rattle.slirp_core.proofs.NoFlows.{flows_stay, goes_freely}
 use Rattle.slirp_core.proofs.Parts.{asked_for, asks_nothing, due_is, errand_for, in_turn, or_first}
 
 -- what is owed after a write is what the network then has
@@ -35,13 +41,13 @@ record Left (config : Config) (past : List Entry) (octets : List ℕ) (answer : 
 -- after a lawful write in a turn, by its answer
 after_write : (config : Config) (at : Standing) (slirp new_slirp : SlirpState) (old new : LinkState) (past : List Entry) (octets : List ℕ) (answer : Io) (blocked : Bool)
     → Holds config at slirp old past → InTurn config past → Keeps new (LinkWrite octets answer ∷ past) → may_begin config past (tail past) octets ≡ true
-    → Left config past octets answer new_slirp → new_slirp ≡ record slirp { pending = new_slirp.pending; sent = new_slirp.sent }
+    → MayWrite (flow_settings config) (moment past) (book config past).flows (tail past) octets → Left config past octets answer new_slirp → new_slirp ≡ record slirp { pending = new_slirp.pending; sent = new_slirp.sent }
     → AfterPump (pumped_of (offered answer) blocked) config at new_slirp new (LinkWrite octets answer ∷ past)
-after_write config at slirp new_slirp old new past octets answer blocked holds turn keeps may remains same = by_answer answer blocked keeps remains
+after_write config at slirp new_slirp old new past octets answer blocked holds turn keeps may sent remains same = by_answer answer blocked keeps remains
   where
     lawful : (a : Io) → Keeps new (LinkWrite octets a ∷ past) → Lawful config (LinkWrite octets a ∷ past)
     lawful a k = (
-      writes config past octets k.framed.0 (due_is config past Settled turn.working (asked_for config at Settled slirp old past holds)) (ap is_working turn.working) may holds.open_yet,
+      writes config past octets k.framed.0 (due_is config past Settled turn.working holds.flows (asked_for config at Settled slirp old past holds)) (ap is_working turn.working) may holds.open_yet sent,
       holds.lawful,
     )
 
@@ -63,6 +69,7 @@ after_write config at slirp new_slirp old new past octets answer blocked holds t
         list = holds.relayed.list ∙ sym (ap (λ (s : SlirpState). s.associations) same);
         asks = asks_nothing new_slirp.associations (errand_left config past) (errand_for config Settled slirp past holds.relayed);
       };
+      flows = flows_stay config (LinkWrite octets a) past tt holds.flows;
       sockets = sockets a;
       clock = record { moment = holds.clock.moment ∙ sym (ap (λ (s : SlirpState). s.moment) same); counted = holds.clock.counted };
       stands = Turns (record { working = on ∙ turn.working; waited = turn.waited });
@@ -79,6 +86,7 @@ after_write config at slirp new_slirp old new past octets answer blocked holds t
     by_answer NotYet false k l = goes NotYet k refl l
     by_answer Failed b k l = record {
       lawful = lawful Failed k;
+      flows = flows_stay config (LinkWrite octets Failed) past tt holds.flows;
       over = ap (λ p. unless_over p LinkFailed) turn.working;
       asks = errand_for config Settled slirp past holds.relayed;
       rising = holds.sockets.rising;
@@ -96,6 +104,7 @@ after_flush config at slirp old new made past result pumped some (answer, is, wa
     (subst (λ p. AfterPump p config at slirp new (LinkWrite old.tail answer ∷ past)) (sym (comes ∙ ap (λ r. pumped_of r new.blocked) was))
     (after_write config at slirp slirp old new past old.tail answer new.blocked holds (in_turn holds.stands (λ u. some_tail old.tail some u.empty)) k
     (begins (tail past) old.tail some holds.keeps.rest)
+    (goes_on (tail past) old.tail some holds.keeps.rest)
     (remains answer (none_opens answer old.tail (tail past) some holds.keeps.rest)) refl))
   where
     some_tail : (octets : List ℕ) → 0 < length octets → octets ≡ [] → ⊥
@@ -104,6 +113,10 @@ after_flush config at slirp old new made past result pumped some (answer, is, wa
     begins : (t rest : List ℕ) → 0 < length rest → t ≡ rest → may_begin config past t rest ≡ true
     begins [] rest some is = absurd (omega (arith, ap length is))
     begins (x ∷ t) rest some is = refl
+
+    goes_on : (t rest : List ℕ) → 0 < length rest → t ≡ rest → MayWrite (flow_settings config) (moment past) (book config past).flows t rest
+    goes_on [] rest some is = absurd (omega (arith, ap length is))
+    goes_on (x ∷ t) rest some is = tt
 
     none_opens : (a : Io) (rest t : List ℕ) → 0 < length rest → t ≡ rest → opens (LinkWrite rest a) t ≡ None
     none_opens a rest [] some is = absurd (omega (arith, ap length is))
@@ -157,6 +170,7 @@ after_offer config at slirp new_slirp old new made past frame rest result pumped
     (subst (λ p. AfterPump p config at new_slirp new (LinkWrite (spelling frame) answer ∷ past)) (sym (comes ∙ ap (λ r. pumped_of r new.blocked) was))
     (after_write config at slirp new_slirp old new past (spelling frame) answer new.blocked holds (in_turn holds.stands (λ u. cc (sym is_pending ∙ u.nothing))) k
     (ap (λ t. may_begin config past t (spelling frame)) tail_is ∙ or_first (is_first (drop 4 (spelling frame)) (left config past)) (is_out (left config past) && is_beside config past (drop 4 (spelling frame))) first)
+    (subst (λ (t : List ℕ). MayWrite (flow_settings config) (moment past) (book config past).flows t (spelling frame)) (sym tail_is) (goes_freely config past holds.flows (spelling frame) frame rest (spelt frame) holds.lawful only))
     (remains answer only first tail_is new_pending new_sent) same))
   where
     sent_by : (a : Io) → with_datagrams (opens (LinkWrite (spelling frame) a) []) (datagrams_out past) % 2 ^ 16 ≡ sent_after (offered a) (frame ∷ rest) (identification past)

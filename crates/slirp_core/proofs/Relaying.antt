@@ -36,6 +36,7 @@ use Rattle.stream_netdev.specs.State.{LinkState}
 use Rattle.slirp_core.specs.Holds.{Standing, standing, HoldsAt, Holds, InTurn, IsLast}
 use Rattle.slirp_core.specs.Sockets.{IsRising}
 use Rattle.slirp_core.specs.State.{SlirpState}
+use Rattle.slirp_core.proofs.NoFlows.{ask_nothing, closes_freely}
 use Rattle.slirp_core.proofs.Parts.{after_socket, asked_for, asks_nothing, behind_of, due_is, errand_for, in_turn, or_first, or_second, reads_of, still_open}
 use Rattle.slirp_core.proofs.Sockets.{same, among_last, among_without, numbered_among, those_last, those_moved, those_without, idle_among, rising_last, rising_up, rising_without}
 
@@ -134,10 +135,10 @@ module _ (config : Config) (at : Standing) (slirp : SlirpState) (link : LinkStat
     turn = in_turn holds.stands (λ u. cc (u.unasked))
 
     open_due : due config past ≡ Some (CallUdpOpen slirp.number anywhere)
-    open_due = due_is config past (NeedsSocket errand) turn.working (asks (NeedsSocket errand) holds) ∙ ap (λ n. Some (CallUdpOpen n anywhere)) holds.sockets.number
+    open_due = due_is config past (NeedsSocket errand) turn.working holds.flows (asks (NeedsSocket errand) holds) ∙ ap (λ n. Some (CallUdpOpen n anywhere)) holds.sockets.number
 
     may_open : May config past (CallUdpOpen slirp.number anywhere)
-    may_open = opens config past slirp.number anywhere open_due (ap (λ n. slirp.number == n) holds.sockets.number ∙ same slirp.number) holds.open_yet
+    may_open = opens config past slirp.number anywhere open_due (ap (λ n. slirp.number == n) holds.sockets.number ∙ same slirp.number) (ask_nothing config past holds.flows) holds.open_yet
 
     pub after_open : HoldsAt config at (NeedsSending slirp.number errand)
         (record slirp { number = slirp.number + 1; associations = slirp.associations ++ (association slirp.number errand slirp.moment ∷ []) }) link (UdpOpen slirp.number anywhere MadeDone ∷ past)
@@ -190,10 +191,10 @@ module _ (config : Config) (at : Standing) (slirp : SlirpState) (link : LinkStat
     send_turn = in_turn holds.stands (λ u. cc (u.unasked))
 
     send_due : due config past ≡ Some (CallUdpSend socket errand.to errand.datagram.body)
-    send_due = due_is config past (NeedsSending socket errand) send_turn.working (asks (NeedsSending socket errand) holds)
+    send_due = due_is config past (NeedsSending socket errand) send_turn.working holds.flows (asks (NeedsSending socket errand) holds)
 
     may_send : May config past (CallUdpSend socket errand.to errand.datagram.body)
-    may_send = sends config past socket errand.to errand.datagram.body send_due (carried (NeedsSending socket errand) holds socket among) holds.open_yet
+    may_send = sends config past socket errand.to errand.datagram.body send_due (carried (NeedsSending socket errand) holds socket among) (ask_nothing config past holds.flows) holds.open_yet
 
     after_sending : (answer : Sent) (new : SlirpState) → new ≡ record slirp { associations = moved_last (sent_from (record { 0 = errand.datagram.mac }) slirp.moment) socket slirp.associations; pending = new.pending }
         → unless_sent answer (frames_of config (identification past) (told_about config no_network errand.datagram)) (left config past) ≡ new.pending → Holds config at new link (UdpSend socket errand.to errand.datagram.body answer ∷ past)
@@ -247,7 +248,8 @@ module _ (config : Config) (at : Standing) (slirp : SlirpState) (link : LinkStat
       may = closes config past socket may_due (or_first (is_working (phase config past)) (is_over (phase config past)) (ap is_working turn.working))
           (and_both (is_among socket (open_sockets past)) _ here
           (ap (λ (b : Bool). if b then is_least socket (open_sockets past) else parts config past socket || (is_ended config past && is_least socket (open_sockets past))) holds.open_yet
-          ∙ or_first (parts config past socket) (is_ended config past && is_least socket (open_sockets past)) why));
+          ∙ or_first (parts config past socket) (is_ended config past && is_least socket (open_sockets past)) why))
+          (closes_freely config past holds.flows socket);
       answers = record { sent = holds.answers.sent; pending = holds.answers.pending };
       relayed = record { list = ap (without socket) holds.relayed.list; asks = comes };
       sockets = record {
@@ -271,7 +273,7 @@ module _ (config : Config) (at : Standing) (slirp : SlirpState) (link : LinkStat
       let here : is_among socket (open_sockets past) ≡ true = holds.sockets.those socket ∙ ap (λ l. is_among socket (numbers l)) first ∙ ap (λ b. b || is_among socket (numbers others)) (same socket) in
       let left = errand_is step holds in
       parted_from socket step (NeedsSocket errand) holds turn here
-      (this_one config past (CallClose socket) (due_is config past step turn.working (asks step holds)))
+      (this_one config past (CallClose socket) (due_is config past step turn.working holds.flows (asks step holds)))
       (parted step holds socket here (or_first (gives_way socket (asked config past)) (is_unused socket past) (ap (gives_way socket) (asks step holds) ∙ same socket)))
       (ap (step_for (without socket slirp.associations)) left ∙ asks_for_one socket errand slirp.associations room (sym (ap (step_for slirp.associations) left) ∙ holds.relayed.asks))
 
@@ -284,7 +286,7 @@ module _ (config : Config) (at : Standing) (slirp : SlirpState) (link : LinkStat
       let over : is_idle socket (moment past) (associations config past) ≡ true = ap (is_idle socket (moment past)) holds.relayed.list ∙ ap (λ m. is_idle socket m slirp.associations) holds.clock.moment ∙ idle in
       let long = idle_is config past socket (moment past) (associations config past) (joined config past holds.lawful).kept over in
       parted_from socket Settled Settled holds turn here
-      (any_one config past (CallClose socket) (due_is config past Settled turn.working (asks Settled holds)))
+      (any_one config past (CallClose socket) (due_is config past Settled turn.working holds.flows (asks Settled holds)))
       (parted Settled holds socket here (or_second (gives_way socket (asked config past)) (is_unused socket past) (grind (arith, nat_tests, long))))
       (asks_nothing (without socket slirp.associations) (errand_left config past) (errand_is Settled holds))
 
@@ -309,7 +311,7 @@ module _ (config : Config) (count : ℕ) (wants : List Want) (item : Want) (item
   hear_turn = in_turn holds.stands (λ u. cc (sym (ap (numbered socket) u.alone) ∙ is))
 
   may_hear : May config past (CallUdpRecv socket size)
-  may_hear = hears config past socket size (due_is config past Settled hear_turn.working (asks config before slirp link past Settled holds)) (ap is_working hear_turn.working)
+  may_hear = hears config past socket size (due_is config past Settled hear_turn.working holds.flows (asks config before slirp link past Settled holds)) (ap is_working hear_turn.working)
       (carried config before slirp link past Settled holds socket among) whole
       (reads_of (Udp socket) (wanted_of wants item) (all_wanted wants items) (agenda past) reported holds.agenda) (all_out config before slirp link past none out holds) holds.open_yet
 

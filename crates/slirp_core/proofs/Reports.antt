@@ -18,6 +18,7 @@ with_agenda config count wants items other left slirp link past holds last = rec
   answers = holds.answers;
   guests = holds.guests;
   relayed = holds.relayed;
+  flows = holds.flows;
   sockets = holds.sockets;
   clock = record { moment = holds.clock.moment; counted = holds.clock.counted };
   stands = holds.stands;

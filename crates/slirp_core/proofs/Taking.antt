@@ -2,9 +2,9 @@
 use Rattle.std.proofs.Common.{◌≡◌, ℕ, ◌+◌, ◌≤◌, ◌==◌, ◌&&◌, ◌||◌, not, Bool, true, false, List, [], ◌∷◌, length, Option, Some, None, if◌then◌else◌, refl, sym, ◌∙◌, ap, arith, append-nil}
 use Rattle.std.proofs.lemmas.Bool.Decides.{nat_tests}
 use Rattle.std.specs.Option.{option_and_then}
-use Rattle.net_octets.specs.Kinds.{arp_kind, ipv4_kind, icmp_proto, udp_proto}
+use Rattle.net_octets.specs.Kinds.{arp_kind, ipv4_kind, icmp_proto, tcp_proto, udp_proto}
 use Rattle.net_octets.specs.declared.Endpoint.{Endpoint}
-use Rattle.host_policy.specs.Addresses.{Config, address, is_ours, is_guest}
+use Rattle.host_policy.specs.Addresses.{Config, address, endpoint, is_ours, is_guest}
 use Rattle.host_policy.specs.Targets.{shown, is_hidden}
 use Rattle.ether_frame.specs.Ether.{Ether, read_ether}
 use Rattle.arp_table.specs.Arp.{read_arp}
@@ -17,14 +17,21 @@ use Rattle.icmp_echo.specs.declared.IcmpView.TheVariants.{Echo, Unreachable, Oth
 use Rattle.udp_assoc.specs.Udp.{Udp, summed, udp_octets, udp_with, written_sum}
 use Rattle.udp_assoc.proofs.Spelling.{length-udp}
 use Rattle.udp_assoc.specs.declared.assocs.Association.{Association}
-use Rattle.slirp_laws.specs.Answers.{Answer, IpAnswer, our_mac, datagram_frames, fits_datagram, is_untold, told_about, reply_at, frames_of, owed_for_arp, owed_for_icmp, owed_for_datagram}
-use Rattle.slirp_core.specs.Packets.{is_message_to_us, owed_for, owed_for_arrived, owed_for_ip, owed_for_ether, owed_for_frame, reply_to}
+use Rattle.slirp_laws.specs.Answers.{Answer, IpAnswer, our_mac, datagram_frames, fits_datagram, is_untold, told_about, reply_at, frames_of, owed_for_arp, owed_for_icmp, owed_for_datagram, owed_for_segment}
+use Rattle.tcp_segment.specs.Tcp.{Tcp, read_tcp, tcp_length, tcp_octets}
+use Rattle.flow_table.specs.declared.Tuple.{Tuple}
+use Rattle.flow_laws.specs.Event.{Segment}
+use Rattle.flow_book.specs.Lots.{reset_to}
+use Rattle.flow_book.specs.Segments.{from_guest, segment_of}
+use Rattle.slirp_core.specs.Packets.{is_message_to_us, is_segment, is_stray, owed_for, owed_for_arrived, owed_for_ip, owed_for_ether, owed_for_frame, owed_for_tcp, reply_to}
 use Rattle.run_laws.specs.Fragments.{fragment_by, fragment_in, fragment_of}
 use Rattle.run_laws.specs.Packets.{Datagram}
 use Rattle.slirp_core.specs.Packets.{udp_of, errand_of_arrived, errand_of_ip, errand_of_ether, errand_in}
 use Rattle.slirp_laws.specs.Datagrams.{Errand, errand_of}
 use Rattle.slirp_core.specs.Packets.{with_address, with_arp, with_ip, with_ether}
+use Rattle.slirp_core.specs.Outgoing.{segment_octets}
 use Rattle.slirp_core.specs.State.{SlirpState}
+use Rattle.slirp_core.specs.declared.outgoing.Course.{Course}
 use Rattle.slirp_core.proofs.Datagramming.{none_of_others}
 
 -- a frame that carries a packet asks for what the packet does
@@ -81,23 +88,47 @@ no_udp config ip asked udp =
     let one : ip.proto ≡ 1 = message_proto (is_guest config ip.from) (is_ours config ip.to) ip.proto asked in
     omega arith
 
+segment_proto : (a : Bool) (proto : ℕ) → (a && (proto == 6)) ≡ true → proto ≡ 6
+segment_proto a proto is = grind (arith, nat_tests)
+
+pub no_udp_in_segment : (config : Config) (ip : Ip) → is_segment config ip ≡ true → ip.proto ≡ 17 → ⊥
+no_udp_in_segment config ip asked udp =
+    let six : ip.proto ≡ 6 = segment_proto (is_guest config ip.from) ip.proto asked in
+    omega arith
+
 -- what a whole datagram asks for
 module _ (s : SlirpState) (mac : List ℕ) (ip : Ip) where
+  -- by its tests, with these answers
+  abbrev by_tests : (message segment : Bool) (udp : Option Datagram) → SlirpState
+  by_tests message segment udp = record s {
+    pending = frames_of s.config s.sent
+        (if message then owed_for (owed_for_icmp mac ip) (read_icmp ip.body)
+        else (if segment then owed_for (owed_for_tcp s.config mac ip) (read_tcp ip.from ip.to ip.body) else owed_for (owed_for_datagram s.config) udp));
+  }
+
   pub message_to_us : is_message_to_us s.config ip ≡ true → ◌≡◌ {A = SlirpState}
       (record s { pending = frames_of s.config s.sent (owed_for (owed_for_icmp mac ip) (read_icmp ip.body)) })
       (record s { pending = frames_of s.config s.sent (owed_for_ip s.config mac ip) })
-  message_to_us asked =
-      sym (ap (λ (b : Bool). record s { pending = frames_of s.config s.sent (if b then owed_for (owed_for_icmp mac ip) (read_icmp ip.body) else owed_for (owed_for_datagram s.config) (udp_of s.config mac ip)) }) asked)
+  message_to_us asked = sym (ap (λ (b : Bool). by_tests b (is_segment s.config ip) (udp_of s.config mac ip)) asked)
 
-  pub no_message : is_message_to_us s.config ip ≡ false → (d : Option Datagram) → d ≡ udp_of s.config mac ip → ◌≡◌ {A = SlirpState}
+  pub segment_came : is_message_to_us s.config ip ≡ false → is_segment s.config ip ≡ true → ◌≡◌ {A = SlirpState}
+      (record s { pending = frames_of s.config s.sent (owed_for (owed_for_tcp s.config mac ip) (read_tcp ip.from ip.to ip.body)) })
+      (record s { pending = frames_of s.config s.sent (owed_for_ip s.config mac ip) })
+  segment_came asked carries = sym (ap (λ (b : Bool). by_tests b (is_segment s.config ip) (udp_of s.config mac ip)) asked ∙ ap (λ (b : Bool). by_tests false b (udp_of s.config mac ip)) carries)
+
+  pub no_message : is_message_to_us s.config ip ≡ false → is_segment s.config ip ≡ false → (d : Option Datagram) → d ≡ udp_of s.config mac ip → ◌≡◌ {A = SlirpState}
       (record s { pending = frames_of s.config s.sent (owed_for (owed_for_datagram s.config) d) })
       (record s { pending = frames_of s.config s.sent (owed_for_ip s.config mac ip) })
-  no_message asked d udp = sym (
-      ap (λ (b : Bool). record s { pending = frames_of s.config s.sent (if b then owed_for (owed_for_icmp mac ip) (read_icmp ip.body) else owed_for (owed_for_datagram s.config) (udp_of s.config mac ip)) }) asked
-      ∙ ap (λ (o : Option Datagram). record s { pending = frames_of s.config s.sent (owed_for (owed_for_datagram s.config) o) }) (sym udp))
+  no_message asked carries d udp = sym (
+      ap (λ (b : Bool). by_tests b (is_segment s.config ip) (udp_of s.config mac ip)) asked
+      ∙ ap (λ (b : Bool). by_tests false b (udp_of s.config mac ip)) carries
+      ∙ ap (λ (o : Option Datagram). by_tests false false o) (sym udp))
 
   pub no_errand : is_message_to_us s.config ip ≡ true → ◌≡◌ {A = Option Errand} None (errand_of_ip s.config mac ip)
   no_errand asked = ap (option_and_then (errand_of s.config)) (none_of_others s.config mac ip (no_udp s.config ip asked))
+
+  pub no_errand_of_segment : is_segment s.config ip ≡ true → ◌≡◌ {A = Option Errand} None (errand_of_ip s.config mac ip)
+  no_errand_of_segment carries = ap (option_and_then (errand_of s.config)) (none_of_others s.config mac ip (no_udp_in_segment s.config ip carries))
 
 -- the frames of an answer that a datagram can carry
 pub frames_whole : (config : Config) (ident : ℕ) (to : List ℕ) (proto from guest : ℕ) (body : List ℕ) → length body ≤ 65515
@@ -129,6 +160,51 @@ told config ident code d may few =
     let long : length (unreachable_octets code d.quote) ≡ 8 + length d.quote = omega arith in
     frames_whole config ident d.mac icmp_proto config.vhost (address d.from) (unreachable_octets code d.quote) (omega (arith, long))
     ∙ sym (ap (λ (b : Bool). frames_of config ident (if b then [] else IpAnswer d.mac icmp_proto config.vhost (address d.from) (unreachable_octets code d.quote) ∷ [])) may)
+
+-- a reset has a header alone
+reset_short : (from to : ℕ) (tuple : Tuple) (seg : Segment) → length (tcp_octets from to (reset_to tuple seg)) ≡ 20
+reset_short from to tuple seg = by seg.ack refl
+  where
+    by : (b : Bool) → seg.ack ≡ b → length (tcp_octets from to (reset_to tuple seg)) ≡ 20
+    by true is = ap (λ (b : Bool). length (tcp_octets from to (reset_to tuple (record seg { ack = b })))) is ∙ omega arith
+    by false is = ap (λ (b : Bool). length (tcp_octets from to (reset_to tuple (record seg { ack = b })))) is ∙ omega arith
+
+pub reset_small : (mac : List ℕ) (ip : Ip) (tcp reset : Tcp) → reset ≡ reset_to (from_guest mac ip tcp).tuple (segment_of tcp) → tcp_length reset ≤ 65515
+reset_small mac ip tcp reset is = let few : tcp_length reset ≡ 20 = ap tcp_length is ∙ small (from_guest mac ip tcp).tuple (segment_of tcp) in omega (arith, few)
+  where
+    small : (tuple : Tuple) (seg : Segment) → tcp_length (reset_to tuple seg) ≡ 20
+    small tuple seg = by seg.ack refl
+      where
+        by : (b : Bool) → seg.ack ≡ b → tcp_length (reset_to tuple seg) ≡ 20
+        by true is = ap (λ (b : Bool). tcp_length (reset_to tuple (record seg { ack = b }))) is
+        by false is = ap (λ (b : Bool). tcp_length (reset_to tuple (record seg { ack = b }))) is
+
+octets_of : (from to : ℕ) (tcp : Tcp) → segment_octets from to tcp ≡ tcp_octets from to tcp
+unfolding segment_octets
+octets_of from to tcp = refl
+
+-- a segment that strays is answered by a reset, and no other
+pub reset_owed : (config : Config) (ident : ℕ) (mac : List ℕ) (ip : Ip) (tcp reset : Tcp) (course : Course) (frames : List (List ℕ)) → is_stray config (endpoint ip.to tcp.to_port) (segment_of tcp) ≡ true → read_tcp ip.from ip.to ip.body ≡ Some tcp
+    → reset ≡ reset_to (from_guest mac ip tcp).tuple (segment_of tcp)
+    → course ≡ record { to_mac = record { 0 = mac }; from_mac = record { 0 = our_mac config.vhost }; ident = ident; from = record { 0 = ip.to }; to = record { 0 = ip.from }; mtu = config.mtu }
+    → frames ≡ datagram_frames course.mtu course.to_mac.0 course.from_mac.0 course.ident tcp_proto course.from.0 course.to.0 (segment_octets course.from.0 course.to.0 reset)
+    → frames ≡ frames_of config ident (owed_for (owed_for_tcp config mac ip) (read_tcp ip.from ip.to ip.body))
+reset_owed config ident mac ip tcp reset course frames strays read is by put =
+    put ∙ ap (λ (k : Course). datagram_frames k.mtu k.to_mac.0 k.from_mac.0 k.ident tcp_proto k.from.0 k.to.0 (segment_octets k.from.0 k.to.0 reset)) by
+    ∙ by_octets (segment_octets ip.to ip.from reset) (octets_of ip.to ip.from reset ∙ ap (λ (r : Tcp). tcp_octets ip.to ip.from r) is)
+  where
+    by_octets : (octets : List ℕ) → octets ≡ tcp_octets ip.to ip.from (reset_to (from_guest mac ip tcp).tuple (segment_of tcp))
+        → datagram_frames config.mtu mac (our_mac config.vhost) ident tcp_proto ip.to ip.from octets ≡ frames_of config ident (owed_for (owed_for_tcp config mac ip) (read_tcp ip.from ip.to ip.body))
+    by_octets octets same =
+        let few : length octets ≡ 20 = ap length same ∙ reset_short ip.to ip.from (from_guest mac ip tcp).tuple (segment_of tcp) in
+        frames_whole config ident mac tcp_proto ip.to ip.from octets (omega (arith, few))
+        ∙ ap (λ o. frames_of config ident (IpAnswer mac tcp_proto ip.to ip.from o ∷ [])) same
+        ∙ sym (ap (λ (o : Option Tcp). frames_of config ident (owed_for (owed_for_tcp config mac ip) o)) read ∙ ap (λ (b : Bool). frames_of config ident (owed_for_segment b (from_guest mac ip tcp))) strays)
+
+pub none_owed : (config : Config) (ident : ℕ) (mac : List ℕ) (ip : Ip) (tcp : Tcp) → is_stray config (endpoint ip.to tcp.to_port) (segment_of tcp) ≡ false → read_tcp ip.from ip.to ip.body ≡ Some tcp
+    → [] ≡ frames_of config ident (owed_for (owed_for_tcp config mac ip) (read_tcp ip.from ip.to ip.body))
+none_owed config ident mac ip tcp keeps read =
+    sym (ap (λ (o : Option Tcp). frames_of config ident (owed_for (owed_for_tcp config mac ip) o)) read ∙ ap (λ (b : Bool). frames_of config ident (owed_for_segment b (from_guest mac ip tcp))) keeps)
 
 pub both_false : (a b c : Bool) → a ≡ false → (b || c) ≡ false → ((a || b) || c) ≡ false
 both_false a b c p q = ap (λ (x : Bool). (x || b) || c) p ∙ q

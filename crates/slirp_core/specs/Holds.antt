@@ -1,10 +1,11 @@
 -- What the core keeps of the calls made on the World.
-use Rattle.std.specs.Prelude.{◌≡◌, ℕ, ◌<◌, Bool, true, false, List, [], ◌++◌, drop, Some, None}
+use Rattle.std.specs.Prelude.{◌≡◌, ℕ, ◌<◌, ◌≤◌, Bool, true, false, List, [], ◌++◌, drop, Some, None}
 use Rattle.poll_list.specs.declared.Want.{Want}
 use Rattle.world_face.specs.Journal.{Entry}
 use Rattle.world_face.specs.Frames.{Ending, LinkFailed}
 use Rattle.host_policy.specs.Addresses.{Config}
 use Rattle.udp_assoc.specs.declared.assocs.Association.{Association as AnAssociation}
+use Rattle.flow_book.specs.Book.{book}
 use Rattle.run_laws.specs.Guests.{known}
 use Rattle.run_laws.specs.Moments.{moment, waits}
 use Rattle.run_laws.specs.Shape.{Phase, By, Started, Working, Over, phase, is_ended}
@@ -81,6 +82,14 @@ pub record OfGuests (config : Config) (slirp : SlirpState) (past : List Entry) :
   pub known : known config past ≡ slirp.known
   pub fragments : OfFragments config slirp past
 
+-- no flow is or was open, since there is room for none; and a frame has room for a header and a unit of 8 octets
+pub record OfFlows (config : Config) (past : List Entry) : Type 0 where
+  pub room : config.flows ≡ 0
+  pub unit : 28 ≤ config.mtu
+  pub flows : (book config past).flows ≡ []
+  pub rests : (book config past).rests ≡ []
+  pub doomed : (book config past).doomed ≡ None
+
 -- the associations in the order of use, and what the datagram that came last still asks for
 pub record OfRelay (config : Config) (step : Step) (slirp : SlirpState) (past : List Entry) : Type 0 where
   pub list : associations config past ≡ slirp.associations
@@ -93,6 +102,7 @@ pub record HoldsAt (config : Config) (at : Standing) (step : Step) (slirp : Slir
   pub answers : OfAnswers config slirp past
   pub guests : OfGuests config slirp past
   pub relayed : OfRelay config step slirp past
+  pub flows : OfFlows config past
   pub sockets : OfSockets slirp past
   pub clock : OfClock at slirp past
   pub stands : Stands config step slirp link past
@@ -106,6 +116,7 @@ Holds config at slirp link past = HoldsAt config at Settled slirp link past
 -- after an entry that ended the run in this way
 pub record Ended (config : Config) (why : Ending) (associations : List AnAssociation) (past : List Entry) : Type 0 where
   pub lawful : Lawful config past
+  pub flows : OfFlows config past
   pub over : phase config past ≡ Over (By why)
   pub asks : errand_left config past ≡ None
   pub rising : IsRising (next_number past) (open_sockets past)
@@ -147,6 +158,7 @@ pub record Closing (config : Config) (over : Phase) (associations : List AnAssoc
   pub ended : is_ended config past ≡ true
   pub is : over ≡ phase config past
   pub rests : Rests config associations past
+  pub flows : OfFlows config past
   pub asks : errand_left config past ≡ None
   pub rising : IsRising (next_number past) (open_sockets past)
   pub those : AreThoseOf associations (open_sockets past)

@@ -3,6 +3,7 @@ use Rattle.std.specs.Prelude.{ℕ, ◌+◌, ◌%◌, ◌^◌, ◌==◌, List, []
 use Rattle.ipv4_head.specs.Cuts.{cuts_from}
 use Rattle.slirp_laws.specs.Answers.{datagrams_in, part_frame, uncut}
 use Rattle.slirp_core.specs.declared.cutting.Plan.{Plan}
+use Rattle.tcp_segment.specs.Tcp.{Tcp, tcp_octets}
 use Rattle.stream_netdev.specs.declared.Offered.{Offered}
 use Rattle.stream_netdev.specs.declared.Offered.TheVariants.{Taken, Blocked, Failed}
 
@@ -25,3 +26,7 @@ abbrev pub sent_after : Offered → List (List ℕ) → ℕ → ℕ
 sent_after Taken pending sent = sent_with pending sent
 sent_after Blocked pending sent = sent
 sent_after Failed pending sent = sent
+
+-- the octets of a segment, as one word
+unfoldable pub segment_octets : (from to : ℕ) → Tcp → List ℕ
+segment_octets from to tcp = tcp_octets from to tcp

@@ -1,16 +1,19 @@
 // A datagram that is owed to a guest, cut as it goes.
 ghost use Rattle.std.specs.Prelude.{◌≡◌, ℕ, ◌+◌, ◌≤◌, ◌<◌, List, length, take};
-ghost use Rattle.net_octets.specs.Kinds.{icmp_proto, udp_proto};
+ghost use Rattle.net_octets.specs.Kinds.{icmp_proto, tcp_proto, udp_proto};
 ghost use Rattle.ether_frame.specs.Ether.{ether_octets};
 ghost use Rattle.net_octets.specs.Kinds.{ipv4_kind};
 ghost use Rattle.ipv4_head.specs.Cuts.{cut_at, cut_count};
 ghost use Rattle.ipv4_head.specs.Ip.{fragment_of, ip_with};
 ghost use Rattle.icmp_echo.specs.Icmp.{CanWrite, icmp_of, icmp_with, icmp_octets};
 ghost use Rattle.udp_assoc.specs.Udp.{udp_of, udp_octets};
+ghost use Rattle.tcp_segment.specs.Tcp.{tcp_length, tcp_of};
+ghost use Rattle.slirp_core.specs.Outgoing.{segment_octets};
 ghost use Rattle.slirp_laws.specs.Answers.{part_frame, uncut};
 
 use crate::datagrams::UDP;
 use crate::outgoing::{Course, ICMP, IPV4};
+use crate::tcp::TCP;
 use ether_frame::EtherView;
 use icmp_echo::IcmpView;
 use ipv4_head::IpView;
@@ -18,6 +21,7 @@ use ipv4_reasm::cut;
 use net_octets::{Ip4, Mac, NoMemory};
 use std::alloc::Global;
 use std::marker::Model;
+use tcp_segment::TcpView;
 use udp_assoc::UdpView;
 
 /// The greatest length of a datagram's body.
@@ -121,6 +125,18 @@ impl Cutting {
         self.plan = plan_of(course, UDP, size);
     }
 
+    /// From now on the parts of a datagram with a segment of TCP are left, which has at most 65,515 octets with its header.
+    pub fn put_segment(&mut self, course: &Course, segment: &TcpView<'_>)
+        requires least { 28 ≤ course.now.mtu }
+        requires most { course.now.mtu ≤ 1500 }
+        requires size { tcp_length (tcp_of segment.now) ≤ 65515 }
+        ensures { self.new ≡ datagram_frames course.now.mtu course.now.to_mac.0 course.now.from_mac.0 course.now.ident tcp_proto
+            course.now.from.0 course.now.to.0 (segment_octets course.now.from.0 course.now.to.0 (tcp_of segment.now)) }
+    {
+        let size = write_segment(course, segment, &mut self.body);
+        self.plan = plan_of(course, TCP, size);
+    }
+
     /// Cuts the next part and writes its frame, and answers the length of that: 0 exactly where no part is left. `packet` is for writing what the frame carries.
     pub fn write_next(&mut self, frame: &mut [u8], packet: &mut [u8]) -> usize
         requires room { (length frame.old ≡ 1514) × (length packet.old ≡ 1514) }
@@ -191,6 +207,22 @@ fn write_udp(course: &Course, datagram: &UdpView<'_>, body: &mut [u8]) -> usize
     ensures room { length body.new ≡ 65515 }
 {
     let Ok(length) = udp_assoc::encode(datagram, course.from, course.to, body) else {
+        unreachable!()
+    };
+    length
+}
+
+// Writes a segment of TCP, and answers its length.
+#[tactic(auto, unfolding(crate::specs::Outgoing::segment_octets))]
+fn write_segment(course: &Course, segment: &TcpView<'_>, body: &mut [u8]) -> usize
+    requires room { length body.old ≡ 65515 }
+    requires size { tcp_length (tcp_of segment.now) ≤ 65515 }
+    ensures segment { take result body.new ≡ segment_octets course.now.from.0 course.now.to.0 (tcp_of segment.now) }
+    ensures length { result ≡ length (segment_octets course.now.from.0 course.now.to.0 (tcp_of segment.now)) }
+    ensures short { result ≤ 65515 }
+    ensures room { length body.new ≡ 65515 }
+{
+    let Ok(length) = tcp_segment::encode(segment, course.from, course.to, body) else {
         unreachable!()
     };
     length

@@ -9,6 +9,7 @@ mod icmp;
 mod network;
 mod outgoing;
 mod sending;
+mod tcp;
 mod timeouts;
 mod udp;
 mod wants;

@@ -7,6 +7,7 @@ use crate::datagrams::{ErrandView, datagram_in};
 use crate::fragments::{Assembled, Brought, datagram_at};
 use crate::icmp::is_message_to_us;
 use crate::outgoing::{ARP, IPV4, Outgoing};
+use crate::tcp::is_segment;
 use arp_table::ArpTable;
 use host_policy::{Policy, SlirpConfig};
 use ipv4_head::IpView;
@@ -36,11 +37,12 @@ pub struct Slirp {
 impl Model for Slirp {
     ghost use Rattle.std.specs.Prelude.{◌≡◌, ◌<◌, ◌≤◌, ◌^◌, All};
     ghost use Rattle.udp_assoc.specs.Associations.{numbers};
+    ghost use Rattle.slirp_laws.specs.Built.{as_built};
     ghost use Rattle.slirp_core.specs.State.{SlirpState};
 
     ghost Value = { SlirpState };
 
-    ghost view = { λ s. record { config = s.policy; known = s.guests; sent = s.sent; pending = s.outgoing; moment = s.moment; number = s.number; associations = s.associations.list; parts = s.reasm } };
+    ghost view = { λ s. record { config = as_built s.policy; known = s.guests; sent = s.sent; pending = s.outgoing; moment = s.moment; number = s.number; associations = s.associations.list; parts = s.reasm } };
 
     // each socket has a number under that of the next one; and sockets are opened at 0.0.0.0, every address of the host
     ghost invariant = { λ s. All (λ n. n < s.number) (numbers s.associations.list) × (s.moment ≤ 2 ^ 62) × (s.associations.bind ≡ 0) };
@@ -56,6 +58,7 @@ impl Slirp {
     ghost use Rattle.udp_assoc.specs.Associations.{is_over};
     ghost use Rattle.slirp_core.specs.Packets.{with_address, with_ether};
     ghost use Rattle.slirp_laws.specs.Answers.{frames_of};
+    ghost use Rattle.slirp_laws.specs.Built.{as_built};
     ghost use Rattle.slirp_core.specs.Packets.{owed_for_ip, owed_for_frame};
     ghost use Rattle.slirp_core.specs.Packets.{errand_of_ip, errand_in};
     ghost use Rattle.ipv4_head.specs.Sets.{PartSet, young};
@@ -68,10 +71,10 @@ impl Slirp {
     ghost use Rattle.slirp_core.specs.Holds.{Standing, Holds, Closing, AfterClosing, Ran};
     ghost use Rattle.run_laws.specs.Shape.{Phase};
 
-    /// A network in which no guest is known, no socket is open and nothing is owed. It takes all the memory that it will ever need.
+    /// A network in which no guest is known, no socket is open and nothing is owed, with room for no flow of TCP yet. It takes all the memory that it will ever need.
     pub fn new(alloc: Global, c: &SlirpConfig) -> Result<Slirp, NoMemory>
         requires { IsSound (settings c.now) }
-        ensures config { IfOk result (λ slirp. slirp.config ≡ settings c.now) }
+        ensures config { IfOk result (λ slirp. slirp.config ≡ as_built (settings c.now)) }
         ensures known { IfOk result (λ slirp. slirp.known ≡ []) }
         ensures sent { IfOk result (λ slirp. slirp.sent ≡ 0) }
         ensures pending { IfOk result (λ slirp. slirp.pending ≡ []) }
@@ -188,6 +191,10 @@ impl Slirp {
     {
         if is_message_to_us(&self.policy, datagram) {
             self.take_icmp(mac, datagram);
+            return None;
+        }
+        if is_segment(&self.policy, datagram) {
+            self.take_tcp(mac, datagram);
             return None;
         }
         let datagram = datagram_in(&self.policy, mac, octets, datagram)?;

@@ -1,10 +1,12 @@
 // The frames that are owed to a guest and aren't out yet.
 ghost use Rattle.std.specs.Prelude.{◌≡◌, ℕ, ◌≤◌, ◌<◌, List, [], ◌∷◌, length, take};
-ghost use Rattle.net_octets.specs.Kinds.{arp_kind, icmp_proto, udp_proto};
+ghost use Rattle.net_octets.specs.Kinds.{arp_kind, icmp_proto, tcp_proto, udp_proto};
 ghost use Rattle.arp_table.specs.Arp.{arp_of, arp_octets};
 ghost use Rattle.ether_frame.specs.Ether.{ether_octets};
 ghost use Rattle.icmp_echo.specs.Icmp.{CanWrite, icmp_of, icmp_with, icmp_octets};
 ghost use Rattle.udp_assoc.specs.Udp.{udp_of, udp_octets};
+ghost use Rattle.tcp_segment.specs.Tcp.{tcp_length, tcp_of};
+ghost use Rattle.slirp_core.specs.Outgoing.{segment_octets};
 ghost use Rattle.slirp_laws.specs.Answers.{datagrams_in};
 
 use crate::cutting::Cutting;
@@ -15,6 +17,7 @@ use icmp_echo::IcmpView;
 use net_octets::{Ip4, Mac, NoMemory};
 use std::alloc::Global;
 use std::marker::Model;
+use tcp_segment::TcpView;
 use udp_assoc::UdpView;
 
 /// The kind of a frame that carries IPv4 (RFC 894).
@@ -145,6 +148,18 @@ impl Outgoing {
             course.now.from.0 course.now.to.0 (udp_octets course.now.from.0 course.now.to.0 (udp_of datagram.now)) }
     {
         self.cutting.put_udp(course, datagram);
+        self.used = self.cutting.write_next(&mut self.frame, &mut self.packet);
+    }
+
+    /// From now on the frames are those of a datagram with a segment of TCP, which has at most 65,515 octets with its header.
+    pub fn put_segment(&mut self, course: &Course, segment: &TcpView<'_>)
+        requires least { 28 ≤ course.now.mtu }
+        requires most { course.now.mtu ≤ 1500 }
+        requires size { tcp_length (tcp_of segment.now) ≤ 65515 }
+        ensures { self.new ≡ datagram_frames course.now.mtu course.now.to_mac.0 course.now.from_mac.0 course.now.ident tcp_proto
+            course.now.from.0 course.now.to.0 (segment_octets course.now.from.0 course.now.to.0 (tcp_of segment.now)) }
+    {
+        self.cutting.put_segment(course, segment);
         self.used = self.cutting.write_next(&mut self.frame, &mut self.packet);
     }
 }

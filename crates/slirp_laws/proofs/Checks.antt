@@ -1,14 +1,15 @@
 -- What the test passes is lawful.
 use Rattle.std.proofs.Common.{◌≡◌, ℕ, ◌≤◌, ◌==◌, ◌&&◌, not, nat_le, Bool, true, false, List, [], ◌∷◌, drop, length, bytes_eq, MatchOption, Option, Some, None, refl, ap, arith}
 use Rattle.std.proofs.lemmas.Bool.Decides.{nat_tests}
-use Rattle.world_face.specs.Journal.{Entry, Call, call_of, CallNow, CallLinkRead, CallLinkWrite, CallListen, CallClose, CallUdpOpen, CallUdpSend}
+use Rattle.world_face.specs.Journal.{Entry, Call, call_of, CallNow, CallLinkRead, CallLinkWrite, CallConnect, CallListen, CallClose, CallUdpOpen, CallUdpSend}
 use Rattle.world_face.specs.Frames.{missing, partial, spelling, tail, is_blocked, MayOffer, MayFrame}
 use Rattle.world_face.specs.Limits.{most_to_link}
 use Rattle.net_octets.specs.declared.Endpoint.{Endpoint}
 use Rattle.host_policy.specs.Addresses.{Config}
 use Rattle.host_policy.specs.Targets.{same_endpoint}
-use Rattle.slirp_laws.specs.Agenda.{agenda}
-use Rattle.slirp_laws.specs.Check.{may_offer, may_frame, is_now, is_close, is_listen, is_udp_open, is_udp_send, is_call, may_due, may, is_lawful}
+use Rattle.flow_book.specs.Check.{is_close, is_connect, may_flow}
+use Rattle.flow_book.proofs.Checks.{closes, connects, passes as passes_flows}
+use Rattle.slirp_laws.specs.Check.{may_offer, may_frame, is_now, is_listen, is_udp_open, is_udp_send, is_call, may_due, may, is_lawful}
 use Rattle.slirp_laws.specs.Laws.{due, deed_of, has_place, has_socket, is_served, is_answered, goes_on, May, Lawful}
 use Rattle.slirp_laws.proofs.Deeds.{gathered}
 
@@ -61,10 +62,6 @@ this_now : (call : Call) → is_now call ≡ true → call ≡ CallNow
 this_now CallNow is = refl
 this_now _ is = cc
 
-this_close : (socket : ℕ) (call : Call) → is_close socket call ≡ true → call ≡ CallClose socket
-this_close socket (CallClose s) is = ap CallClose (equal s socket is)
-this_close socket _ is = cc
-
 this_listen : (socket : ℕ) (at : Endpoint) (call : Call) → is_listen socket at call ≡ true → call ≡ CallListen socket at
 this_listen socket at (CallListen s a) is =
     let parts = both (s == socket) (same_endpoint a at) is in
@@ -86,7 +83,8 @@ this_udp_send socket to octets _ is = cc
 
 this : (d call : Call) → is_call d call ≡ true → call ≡ d
 this CallNow call is = this_now call is
-this (CallClose socket) call is = this_close socket call is
+this (CallConnect socket to) call is = connects socket to call is
+this (CallClose socket) call is = closes socket call is
 this (CallListen socket at) call is = this_listen socket at call is
 this (CallUdpOpen socket at) call is = this_udp_open socket at call is
 this (CallUdpSend socket to octets) call is = this_udp_send socket to octets call is
@@ -96,21 +94,22 @@ dues : (o : Option Call) (call : Call) → may_due o call ≡ true → MatchOpti
 dues None call is = tt
 dues (Some d) call is = this d call is
 
-seven : (a b c d e f g : Bool) → (a && b && c && d && e && f && g) ≡ true → (a ≡ true) × (b ≡ true) × (c ≡ true) × (d ≡ true) × (e ≡ true) × (f ≡ true) × (g ≡ true)
-seven a b c d e f g is =
-    let g_is = both (a && b && c && d && e && f) g is in
+eight : (a b c d e f g h : Bool) → (a && b && c && d && e && f && g && h) ≡ true → (a ≡ true) × (b ≡ true) × (c ≡ true) × (d ≡ true) × (e ≡ true) × (f ≡ true) × (g ≡ true) × (h ≡ true)
+eight a b c d e f g h is =
+    let h_is = both (a && b && c && d && e && f && g) h is in
+    let g_is = both (a && b && c && d && e && f) g h_is.0 in
     let f_is = both (a && b && c && d && e) f g_is.0 in
     let e_is = both (a && b && c && d) e f_is.0 in
     let d_is = both (a && b && c) d e_is.0 in
     let c_is = both (a && b) c d_is.0 in
     let b_is = both a b c_is.0 in
-    (b_is.0, b_is.1, c_is.1, d_is.1, e_is.1, f_is.1, g_is.1)
+    (b_is.0, b_is.1, c_is.1, d_is.1, e_is.1, f_is.1, g_is.1, h_is.1)
 
 pub passes : (config : Config) (past : List Entry) (call : Call) → may config past call ≡ true → May config past call
 passes config past call is =
-    let p = seven (may_frame past call) (may_due (due config past) call) (has_place config past (deed_of call)) (has_socket config past (deed_of call))
-    (is_served (agenda past) (deed_of call)) (is_answered config past (deed_of call)) (goes_on config past (deed_of call)) is in
-    gathered config past call (frames past call p.0) (dues (due config past) call p.1) p.2 p.3 p.4 p.5 p.6
+    let p = eight (may_frame past call) (may_due (due config past) call) (has_place config past (deed_of call)) (has_socket config past (deed_of call))
+    (is_served past (deed_of call)) (is_answered config past (deed_of call)) (goes_on config past (deed_of call)) (may_flow config past call) is in
+    gathered config past call (frames past call p.0) (dues (due config past) call p.1) p.2 p.3 p.4 p.5 p.6 (passes_flows config past call p.7)
 
 -- a record that passes is lawful
 pub is_sound : (config : Config) (past : List Entry) → is_lawful config past ≡ true → Lawful config past

@@ -8,16 +8,41 @@ use Rattle.world_face.specs.Frames.{MayFrame, tail}
 use Rattle.world_face.specs.Limits.{most_to_udp}
 use Rattle.net_octets.specs.declared.Endpoint.{Endpoint}
 use Rattle.host_policy.specs.Addresses.{Config}
-use Rattle.run_laws.specs.Moments.{waits}
-use Rattle.run_laws.specs.Shape.{is_over, is_working, may_turn, phase}
+use Rattle.run_laws.specs.Shape.{due_in, is_over, is_working, may_turn, phase}
 use Rattle.run_laws.specs.Sockets.{is_among, next_number, open_sockets}
+use Rattle.flow_book.specs.Book.{book}
+use Rattle.flow_book.specs.Laws.{MayFlow, MayTouch, MayWrite, flow_settings}
+use Rattle.flow_book.specs.Lots.{due_for_flows}
+use Rattle.run_laws.specs.Moments.{moment, waits}
 use Rattle.slirp_laws.specs.Agenda.{agenda}
-use Rattle.slirp_laws.specs.Laws.{Deed, May, MayDue, begins_closing, carries, deed_of, due, goes_on, has_place, has_socket, is_all_out, is_answered, is_closing, is_least, is_served, is_shut, may_begin, may_close, parts}
+use Rattle.slirp_laws.specs.Laws.{Deed, May, MayDue, begins_closing, carries, deed_of, due, goes_on, has_place, has_socket, is_all_out, is_answered, is_closing, is_least, is_served, is_shut, may_begin, may_close, parts, unless_due}
+use Rattle.slirp_laws.specs.Asking.{step}
+use Rattle.slirp_laws.specs.Datagrams.{due_for}
 use Rattle.slirp_laws.proofs.Bools.{and_both, same}
 
 pub gathered : (config : Config) (past : List Entry) (call : Call) → MayFrame past call → MayDue config past call → has_place config past (deed_of call) ≡ true → has_socket config past (deed_of call) ≡ true
-    → is_served (agenda past) (deed_of call) ≡ true → is_answered config past (deed_of call) ≡ true → goes_on config past (deed_of call) ≡ true → May config past call
-gathered config past call framed is_due has_place has_socket served answered on = record { framed = framed; due = is_due; place = has_place; socket = has_socket; served = served; answered = answered; goes_on = on }
+    → is_served past (deed_of call) ≡ true → is_answered config past (deed_of call) ≡ true → goes_on config past (deed_of call) ≡ true → MayFlow config past call → May config past call
+gathered config past call framed is_due has_place has_socket served answered on flows = record { framed = framed; due = is_due; place = has_place; socket = has_socket; served = served; answered = answered; goes_on = on; flows = flows }
+
+-- ---- what flows say of it
+
+-- no call is due for a flow
+abbrev pub FlowsAskNothing : Config → List Entry → Type 0
+FlowsAskNothing config past = due_for_flows config (book config past) (next_number past) ≡ None
+
+-- flows ask for no call, and this one touches none
+pub untouched : (config : Config) (past : List Entry) (call : Call) → FlowsAskNothing config past → MayTouch config past call → MayFlow config past call
+untouched config past call nothing touches = record { due = subst (λ o. MatchOption o (Unit {0}) (λ d. call ≡ d)) (sym nothing) tt; touches = touches }
+
+second_none : (first second : Option Call) → unless_due first second ≡ None → second ≡ None
+second_none None second is = is
+second_none (Some call) second is = cc
+
+-- where no call is due none is for a flow
+pub ask_nothing : (config : Config) (past : List Entry) → due config past ≡ None → FlowsAskNothing config past
+ask_nothing config past none =
+    second_none (due_for (step config past) (next_number past)) (due_for_flows config (book config past) (next_number past))
+    (second_none (due_in (phase config past) past) (unless_due (due_for (step config past) (next_number past)) (due_for_flows config (book config past) (next_number past))) none)
 
 -- where a call is due, and where none is
 pub this_one : (config : Config) (past : List Entry) (call : Call) → due config past ≡ Some call → MayDue config past call
@@ -37,47 +62,52 @@ shuts config past = either (not (is_closing config past))
     either false = refl
 
 module _ (config : Config) (past : List Entry) where
+  on_yet : is_closing config past ≡ false → (not (is_closing config past) || false) ≡ true
+  on_yet open_yet = ap (λ (b : Bool). not b || false) open_yet
+
   -- the clock is asked where that is due
-  pub asks : due config past ≡ Some CallNow → is_closing config past ≡ false → May config past CallNow
-  asks is open_yet = gathered config past CallNow tt (this_one config past CallNow is) (some_due config past CallNow is) refl refl refl (ap (λ (b : Bool). not b || false) open_yet)
+  pub asks : due config past ≡ Some CallNow → FlowsAskNothing config past → is_closing config past ≡ false → May config past CallNow
+  asks is nothing open_yet = gathered config past CallNow tt (this_one config past CallNow is) (some_due config past CallNow is) refl refl refl (on_yet open_yet) (untouched config past CallNow nothing tt)
 
   -- a turn begins
   pub waits_now : (wants : List Want) (timeout : Option ℕ) → due config past ≡ None → may_turn (phase config past) ≡ true → nat_lt (waits past) config.turns ≡ true → is_closing config past ≡ false → May config past (CallWait wants timeout)
   waits_now wants timeout none turn few open_yet =
       gathered config past (CallWait wants timeout) tt (any_one config past (CallWait wants timeout) none) (and_both (may_turn (phase config past)) (nat_lt (waits past) config.turns) turn few) refl refl refl
-      (ap (λ (b : Bool). not b || false) open_yet)
+      (on_yet open_yet) (untouched config past (CallWait wants timeout) (ask_nothing config past none) tt)
 
   -- the link is read where the last wait reported it and nothing is left to be sent
   pub reads_on : (asked : ℕ) → MayFrame past (CallLinkRead asked) → due config past ≡ None → is_working (phase config past) ≡ true → reads Link (agenda past) ≡ true → is_all_out config past ≡ true
       → is_closing config past ≡ false → May config past (CallLinkRead asked)
   reads_on asked framed none working reported out open_yet =
-      gathered config past (CallLinkRead asked) framed (any_one config past (CallLinkRead asked) none) working refl reported out (ap (λ (b : Bool). not b || false) open_yet)
+      gathered config past (CallLinkRead asked) framed (any_one config past (CallLinkRead asked) none) working refl reported out (on_yet open_yet) (untouched config past (CallLinkRead asked) (ask_nothing config past none) tt)
 
   -- a frame is written, or goes on
   pub writes : (octets : List ℕ) → MayFrame past (CallLinkWrite octets) → due config past ≡ None → is_working (phase config past) ≡ true → may_begin config past (tail past) octets ≡ true
-      → is_closing config past ≡ false → May config past (CallLinkWrite octets)
-  writes octets framed none working begins open_yet =
-      gathered config past (CallLinkWrite octets) framed (any_one config past (CallLinkWrite octets) none) working refl refl begins (ap (λ (b : Bool). not b || false) open_yet)
+      → is_closing config past ≡ false → MayWrite (flow_settings config) (moment past) (book config past).flows (tail past) octets → May config past (CallLinkWrite octets)
+  writes octets framed none working begins open_yet sent =
+      gathered config past (CallLinkWrite octets) framed (any_one config past (CallLinkWrite octets) none) working refl refl begins (on_yet open_yet) (untouched config past (CallLinkWrite octets) (ask_nothing config past none) sent)
 
   -- a socket is opened with the next number where that is due
-  pub opens : (socket : ℕ) (at : Endpoint) → due config past ≡ Some (CallUdpOpen socket at) → (socket == next_number past) ≡ true → is_closing config past ≡ false → May config past (CallUdpOpen socket at)
-  opens socket at is next open_yet =
-      gathered config past (CallUdpOpen socket at) tt (this_one config past (CallUdpOpen socket at) is) (some_due config past (CallUdpOpen socket at) is) next refl refl (ap (λ (b : Bool). not b || false) open_yet)
+  pub opens : (socket : ℕ) (at : Endpoint) → due config past ≡ Some (CallUdpOpen socket at) → (socket == next_number past) ≡ true → FlowsAskNothing config past → is_closing config past ≡ false → May config past (CallUdpOpen socket at)
+  opens socket at is next nothing open_yet =
+      gathered config past (CallUdpOpen socket at) tt (this_one config past (CallUdpOpen socket at) is) (some_due config past (CallUdpOpen socket at) is) next refl refl (on_yet open_yet) (untouched config past (CallUdpOpen socket at) nothing tt)
 
   -- a datagram is sent where that is due
-  pub sends : (socket : ℕ) (to : Endpoint) (octets : List ℕ) → due config past ≡ Some (CallUdpSend socket to octets) → carries past socket ≡ true → is_closing config past ≡ false
+  pub sends : (socket : ℕ) (to : Endpoint) (octets : List ℕ) → due config past ≡ Some (CallUdpSend socket to octets) → carries past socket ≡ true → FlowsAskNothing config past → is_closing config past ≡ false
       → May config past (CallUdpSend socket to octets)
-  sends socket to octets is on open_yet =
+  sends socket to octets is on nothing open_yet =
       gathered config past (CallUdpSend socket to octets) tt (this_one config past (CallUdpSend socket to octets) is) (some_due config past (CallUdpSend socket to octets) is) on refl refl
-      (ap (λ (b : Bool). not b || false) open_yet)
+      (on_yet open_yet) (untouched config past (CallUdpSend socket to octets) nothing tt)
 
   -- one is asked for where the last wait reported the socket and nothing is left to be sent
   pub hears : (socket asked : ℕ) → due config past ≡ None → is_working (phase config past) ≡ true → carries past socket ≡ true → asked ≡ most_to_udp → reads (Udp socket) (agenda past) ≡ true → is_all_out config past ≡ true
       → is_closing config past ≡ false → May config past (CallUdpRecv socket asked)
   hears socket asked none working on whole reported out open_yet =
       gathered config past (CallUdpRecv socket asked) tt (any_one config past (CallUdpRecv socket asked) none) working
-      (and_both (carries past socket) (asked == most_to_udp) on (ap (λ n. n == most_to_udp) whole ∙ same most_to_udp)) reported out (ap (λ (b : Bool). not b || false) open_yet)
+      (and_both (carries past socket) (asked == most_to_udp) on (ap (λ n. n == most_to_udp) whole ∙ same most_to_udp)) reported out (on_yet open_yet)
+      (untouched config past (CallUdpRecv socket asked) (ask_nothing config past none) tt)
 
   -- a socket is closed
-  pub closes : (socket : ℕ) → MayDue config past (CallClose socket) → (is_working (phase config past) || is_over (phase config past)) ≡ true → may_close config past socket ≡ true → May config past (CallClose socket)
-  closes socket is_due place may = gathered config past (CallClose socket) tt is_due place may refl refl (shuts config past)
+  pub closes : (socket : ℕ) → MayDue config past (CallClose socket) → (is_working (phase config past) || is_over (phase config past)) ≡ true → may_close config past socket ≡ true → MayFlow config past (CallClose socket)
+      → May config past (CallClose socket)
+  closes socket is_due place may flows = gathered config past (CallClose socket) tt is_due place may refl refl (shuts config past) flows

@@ -2,6 +2,8 @@
 use Rattle.std.proofs.Common.{◌≡◌, ℕ, ◌<◌, ◌≤◌, ◌==◌, ◌&&◌, ◌||◌, not, nat_lt, Bool, true, false, List, [], ◌∷◌, ◌++◌, length, filter, Option, Some, None, option_map, if◌then◌else◌, inl, inr, refl, sym, ◌∙◌, ap, subst, arith}
 use Rattle.std.proofs.lemmas.Bool.Decides.{nat_tests}
 use Rattle.world_face.specs.Journal.{Entry, Connect, Listen, Accept, Close, UdpOpen, UdpSend, UdpRecv, call_of}
+use Rattle.world_face.specs.declared.Accepted.{Accepted}
+use Rattle.world_face.specs.declared.Accepted.TheVariants.{From as FromPeer, NotYet as NoPeer, Failed as AcceptFailed}
 use Rattle.world_face.specs.declared.Made.{Made}
 use Rattle.world_face.specs.declared.Made.TheVariants.{Done, Failed}
 use Rattle.world_face.specs.declared.Sent.{Sent}
@@ -13,7 +15,7 @@ use Rattle.udp_assoc.specs.Associations.{heard_at, is_numbered, moved_last, numb
 use Rattle.udp_assoc.specs.declared.assocs.Association.{Association}
 use Rattle.run_laws.specs.Moments.{moment, waits}
 use Rattle.run_laws.specs.Packets.{Datagram}
-use Rattle.run_laws.specs.Sockets.{Listener as OfListener, Kind, datagram_kind, is_among, is_association, kind_of, next_number, open_sockets, with_made}
+use Rattle.run_laws.specs.Sockets.{Flow as OfFlow, Listener as OfListener, Kind, datagram_kind, is_among, is_association, kind_of, next_number, open_sockets, with_made}
 use Rattle.slirp_laws.specs.Asking.{errand_left, step}
 use Rattle.slirp_laws.specs.Datagrams.{Errand, NeedsSocket, NeedsSending}
 use Rattle.slirp_laws.specs.Laws.{May, Lawful, carries}
@@ -22,7 +24,7 @@ use Rattle.slirp_laws.specs.Relayed.{association, associations, step_for, with_o
 use Rattle.slirp_laws.proofs.Bools.{and_false, equal, or_second, same, turned, among_last, among_without}
 use Rattle.slirp_laws.proofs.Finding.{Joined, same_port_socket, same_step}
 use Rattle.slirp_laws.proofs.Longest.{once_open}
-use Rattle.slirp_laws.proofs.OpenSockets.{next_is_new}
+use Rattle.slirp_laws.proofs.OpenSockets.{next_is_new, peer_next}
 use Rattle.slirp_laws.proofs.Phases.{asks_after_waits, opens, sends}
 use Rattle.slirp_laws.proofs.Steps.{Asks, OfErrand, errand_asks, errand_is, unopened}
 use Rattle.slirp_laws.proofs.Uses.{AllBefore, AreKept, AreUnused, InOrder, Kept, NoneOf, Use, all_unused, are_kept_on, in_order_last, in_order_moved, in_order_on, in_order_without, kept_last, kept_moved, kept_without, none_of, use_unused}
@@ -301,9 +303,22 @@ closed_joins config past socket list joined = record {
 
 -- ---- at every moment of a lawful run
 
+-- a peer was accepted, or none came
+peer_joins : (config : Config) (past : List Entry) (listener socket : ℕ) (answer : Accepted) (list : List Association) → is_among socket (open_sockets past) ≡ false → Joined config past list → Joined config (Accept listener socket answer ∷ past) list
+peer_joins config past listener socket (FromPeer peer) list new joined =
+    silent config (Accept listener socket (FromPeer peer)) past list (λ n. refl) (λ n. fresh_other Done n socket (open_sockets past) (Some OfFlow) (kind_of n past) new refl) joined
+peer_joins config past listener socket NoPeer list new joined =
+    silent config (Accept listener socket NoPeer) past list (λ n. refl) (λ n. fresh_other Failed n socket (open_sockets past) (Some OfFlow) (kind_of n past) new refl) joined
+peer_joins config past listener socket AcceptFailed list new joined =
+    silent config (Accept listener socket AcceptFailed) past list (λ n. refl) (λ n. fresh_other Failed n socket (open_sockets past) (Some OfFlow) (kind_of n past) new refl) joined
+
 joins_by : (config : Config) (e : Entry) (past : List Entry) → May config past (call_of e) → Lawful config past → JoinedAt config past → JoinedAt config (e ∷ past)
-joins_by config (Connect socket to answer) past may lawful joined = cc (may.place)
-joins_by config (Accept listener socket answer) past may lawful joined = cc (may.place)
+joins_by config (Connect socket to answer) past may lawful joined =
+    let new : is_among socket (open_sockets past) ≡ false = ap (λ n. is_among n (open_sockets past)) (equal socket (next_number past) may.socket) ∙ next_is_new config past lawful in
+    silent config (Connect socket to answer) past (associations config past) (λ n. refl) (λ n. fresh_other answer n socket (open_sockets past) (Some OfFlow) (kind_of n past) new refl) joined
+joins_by config (Accept listener socket answer) past may lawful joined =
+    let new : is_among socket (open_sockets past) ≡ false = ap (λ n. is_among n (open_sockets past)) (equal socket (next_number past) (peer_next config past listener socket answer may)) ∙ next_is_new config past lawful in
+    peer_joins config past listener socket answer (associations config past) new joined
 joins_by config (Listen socket at answer) past may lawful joined =
     let new : is_among socket (open_sockets past) ≡ false = ap (λ n. is_among n (open_sockets past)) (equal socket (next_number past) may.socket) ∙ next_is_new config past lawful in
     silent config (Listen socket at answer) past (associations config past) (λ n. refl) (λ n. fresh_other answer n socket (open_sockets past) (Some OfListener) (kind_of n past) new refl) joined

@@ -1,11 +1,14 @@
+pub mod Beside
 pub mod Bools
 pub mod Checks
 pub mod CutRows
 pub mod Deeds
 pub mod Finding
+pub mod FlowRows
 pub mod FragmentRows
 pub mod Framing
 pub mod Joining
+pub mod KeepingFlows
 pub mod Longest
 pub mod Numbers
 pub mod OpenSockets
@@ -20,5 +23,6 @@ pub mod Replies
 pub mod Rows
 pub mod Sentences
 pub mod Steps
+pub mod Strays
 pub mod UdpRows
 pub mod Uses

@@ -2,16 +2,18 @@
 use Rattle.std.proofs.Common.{◌≡◌, ℕ, ◌<◌, ◌≤◌, ◌==◌, ◌&&◌, ◌||◌, not, nat_lt, Bool, true, false, List, [], ◌∷◌, ◌++◌, length, filter, find, Option, Some, None, if◌then◌else◌, refl, sym, ◌∙◌, ap, subst, arith}
 use Rattle.std.proofs.lemmas.Bool.Decides.{nat_tests}
 use Rattle.world_face.specs.Journal.{Entry, Connect, Listen, Accept, Close, UdpOpen, call_of}
+use Rattle.world_face.specs.declared.Accepted.{Accepted}
+use Rattle.world_face.specs.declared.Accepted.TheVariants.{From, NotYet as NotYetAccepted, Failed as AcceptFailed}
 use Rattle.world_face.specs.declared.Made.{Made}
 use Rattle.world_face.specs.declared.Made.TheVariants.{Done, Failed}
 use Rattle.net_octets.specs.declared.Endpoint.{Endpoint}
 use Rattle.host_policy.specs.Addresses.{Config, address}
 use Rattle.host_policy.specs.Targets.{same_endpoint}
-use Rattle.run_laws.specs.Sockets.{is_among, is_association, kind_of, next_number, open_sockets, with_made}
+use Rattle.run_laws.specs.Sockets.{is_among, is_association, kind_of, next_number, open_sockets, with_made, with_peer}
 use Rattle.slirp_laws.specs.Laws.{May, Lawful}
 use Rattle.slirp_laws.specs.Ports.{associations_open, earlier, is_port, last_use, longest_unused, longest_unused_of, opened_for, socket_for}
 use Rattle.slirp_laws.proofs.Bools.{and_both, equal, first_of, second_of, or_second, same, turned, among_last, among_without}
-use Rattle.slirp_laws.proofs.OpenSockets.{next_is_new}
+use Rattle.slirp_laws.proofs.OpenSockets.{next_is_new, peer_next}
 
 pub equal_endpoints : (a b : Endpoint) → same_endpoint a b ≡ true → a ≡ b
 equal_endpoints a b is =
@@ -104,9 +106,15 @@ once_made : (answer : Made) (n : ℕ) (ns : List ℕ) → is_among n ns ≡ fals
 once_made Done n ns new once = once_last n ns new once
 once_made Failed n ns new once = once
 
+once_peer : (answer : Accepted) (n : ℕ) (ns : List ℕ) → is_among n ns ≡ false → Once ns → Once (with_peer answer n ns)
+once_peer (From peer) n ns new once = once_last n ns new once
+once_peer NotYetAccepted n ns new once = once
+once_peer AcceptFailed n ns new once = once
+
 once_by : (config : Config) (e : Entry) (past : List Entry) → May config past (call_of e) → is_among (next_number past) (open_sockets past) ≡ false → Once (open_sockets past) → Once (open_sockets (e ∷ past))
-once_by config (Connect socket to answer) past may new once = cc (may.place)
-once_by config (Accept listener socket answer) past may new once = cc (may.place)
+once_by config (Connect socket to answer) past may new once = once_made answer socket (open_sockets past) (ap (λ n. is_among n (open_sockets past)) (equal socket (next_number past) may.socket) ∙ new) once
+once_by config (Accept listener socket answer) past may new once =
+    once_peer answer socket (open_sockets past) (ap (λ n. is_among n (open_sockets past)) (equal socket (next_number past) (peer_next config past listener socket answer may)) ∙ new) once
 once_by config (Listen socket at answer) past may new once = once_made answer socket (open_sockets past) (ap (λ n. is_among n (open_sockets past)) (equal socket (next_number past) may.socket) ∙ new) once
 once_by config (UdpOpen socket at answer) past may new once = once_made answer socket (open_sockets past) (ap (λ n. is_among n (open_sockets past)) (equal socket (next_number past) may.socket) ∙ new) once
 once_by config (Close socket) past may new once = once_if (λ s. not (s == socket)) (open_sockets past) once

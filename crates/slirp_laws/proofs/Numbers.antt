@@ -1,5 +1,5 @@
 -- The identifications of what goes out, and how it is counted.
-use Rattle.std.proofs.Common.{◌≡◌, ℕ, zero, suc, ◌+◌, ◌-◌, ◌*◌, ◌%◌, ◌^◌, ◌<◌, ◌≤◌, List, [], ◌∷◌, length, drop, Some, refl, sym, ◌∙◌, ap, subst, arith}
+use Rattle.std.proofs.Common.{◌⊎◌, inl, inr, ◌≡◌, ℕ, zero, suc, ◌+◌, ◌-◌, ◌*◌, ◌%◌, ◌^◌, ◌<◌, ◌≤◌, List, [], ◌∷◌, length, drop, Some, refl, sym, ◌∙◌, ap, subst, arith}
 use Rattle.world_face.specs.Journal.{Entry}
 use Rattle.world_face.specs.Frames.{goes_out}
 use Rattle.host_policy.specs.Addresses.{Config}
@@ -11,7 +11,8 @@ use Rattle.slirp_laws.specs.Answers.{Answer, ArpAnswer, IpAnswer, datagrams_in, 
 use Rattle.slirp_laws.specs.Laws.{Lawful}
 use Rattle.slirp_laws.specs.Said.{AnswersLast, Carries, identification_with}
 use Rattle.slirp_laws.proofs.Framing.{IsPart, arp_frame, first_counts, later_counts, part_of_frames, place_fits}
-use Rattle.slirp_laws.proofs.Owing.{answers_last, next_left, out_six}
+use Rattle.slirp_laws.proofs.Beside.{beside, no_request, sends_whole}
+use Rattle.slirp_laws.proofs.Owing.{Begins, Next, Beside, first_answers, next_left, out_by, out_six}
 use Rattle.slirp_laws.proofs.Reading.{ReadsBack, SixAnswer, no_arp, reads_part}
 
 pub ident_fits : (k : ℕ) (past : List Entry) → identification_with k past < 2 ^ 16
@@ -56,7 +57,18 @@ numbered : (config : Config) (past : List Entry) (frame : List ℕ) (ip : Ip) �
 numbered config past frame ip fits a c = by_answer config past a.answer a.out frame a.rest ip fits (out_six config past a.answer a.owed) a.is c
 
 pub out_numbered : (config : Config) (e : Entry) (past : List Entry) (frame : List ℕ) (ip : Ip) → 28 ≤ config.mtu → Lawful config (e ∷ past) → goes_out e past ≡ Some frame → Carries frame ip → Numbered past frame ip
-out_numbered config e past frame ip fits lawful out c = numbered config past frame ip fits (answers_last config e past frame fits lawful out) c
+out_numbered config e past frame ip fits lawful out c = by_frame (out_by config e past frame lawful.0 out)
+  where
+    by_frame : Begins config past frame → Numbered past frame ip
+    by_frame (Next first) = numbered config past frame ip fits (first_answers config past frame fits lawful.1 first) c
+    by_frame (Beside nothing is) = elim (beside config past frame nothing is) [
+      | inl f ↦ (let whole = sends_whole config past frame ip f c in
+          record {
+            first = λ at. (whole.ident, whole.begins);
+            later = λ behind. absurd (let front = whole.front in omega (arith, behind, front));
+          })
+      | inr a ↦ absurd (no_request config past frame ip a c)
+    ]
 
 pub left_numbered : (config : Config) (past : List Entry) (frame : List ℕ) (rest : List (List ℕ)) (ip : Ip) → 28 ≤ config.mtu → Lawful config past → left config past ≡ frame ∷ rest → Carries frame ip → Numbered past frame ip
 left_numbered config past frame rest ip fits lawful is c = numbered config past frame ip fits (next_left config past frame rest fits lawful is) c

@@ -1,7 +1,7 @@
 -- What is left to be sent is what is owed for what came last.
 use Rattle.std.proofs.Common.{◌≡◌, ℕ, zero, suc, ◌+◌, ◌-◌, ◌%◌, ◌^◌, ◌<◌, ◌≤◌, ◌==◌, ◌&&◌, ◌||◌, Bool, true, false, List, [], ◌∷◌, drop, length, Option, Some, None, if◌then◌else◌, ◌⊎◌, inl, inr, refl, sym, ◌∙◌, ap, subst, arith}
 use Rattle.std.proofs.lemmas.Bool.Decides.{nat_tests}
-use Rattle.world_face.specs.Journal.{Entry, LinkRead, LinkWrite, UdpOpen, UdpSend, UdpRecv, call_of}
+use Rattle.world_face.specs.Journal.{Entry, LinkRead, LinkWrite, Connect, UdpOpen, UdpSend, UdpRecv, call_of}
 use Rattle.world_face.specs.Frames.{goes_out, opens, tail}
 use Rattle.world_face.specs.declared.Io.{Io}
 use Rattle.world_face.specs.declared.Io.TheVariants.{Done as IoDone, End, NotYet as IoNotYet, Failed as IoFailed}
@@ -20,12 +20,15 @@ use Rattle.run_laws.specs.Moments.{moment, waits}
 use Rattle.run_laws.specs.Packets.{Datagram, Packet, Unheard, ArpPacket, Message, DatagramPacket, Segment}
 use Rattle.run_laws.specs.Shape.{phase}
 use Rattle.run_laws.specs.Sockets.{is_among, next_number}
-use Rattle.slirp_laws.specs.Answers.{Answer, ArpAnswer, IpAnswer, datagrams_in, datagrams_out, with_datagrams, frames_for, frames_of, identification, is_first, is_out, is_untold, left, left_after, no_network, owed_for_fate, owed_for_icmp, owed_for_packet, reply_for, taken, told_about, unsent}
+use Rattle.flow_book.specs.Book.{book}
+use Rattle.flow_book.specs.Segments.{OnTuple, from_guest}
+use Rattle.slirp_laws.specs.Answers.{Answer, ArpAnswer, IpAnswer, datagrams_in, datagrams_out, with_datagrams, frames_for, frames_of, identification, is_first, is_out, is_untold, left, left_after, no_network, owed_for_fate, owed_for_icmp, owed_for_packet, reply_for, reset_for, taken, told_about, unconnected, unsent}
 use Rattle.slirp_laws.specs.Datagrams.{Errand, Fate, Ignored, Refused, GoesTo, fate, Step, Settled, NeedsRoom, NeedsSocket, NeedsSending}
 use Rattle.slirp_laws.specs.Asking.{errand_after, errand_by_call, errand_left, step, step_of}
 use Rattle.slirp_laws.specs.Laws.{May, Lawful, may_begin}
 use Rattle.slirp_laws.specs.Ports.{last_datagram, last_mac, last_port, mac_of, opened_for, or_before}
-use Rattle.slirp_laws.specs.Said.{AnswersLast, IsRest, Occasion, NoOccasion, Came, Heard, Unsent, identification_with, last_occasion, occasion_after, owed_for, unsent_or}
+use Rattle.slirp_laws.specs.Said.{AnswersLast, IsRest, Occasion, NoOccasion, Came, Heard, Unsent, Unconnected, identification_with, last_occasion, occasion_after, owed_for, refused_or, unsent_or}
+use Rattle.slirp_laws.specs.Sending.{is_beside}
 use Rattle.slirp_laws.proofs.Bools.{equal_octets}
 use Rattle.slirp_laws.proofs.Framing.{arp_frame, drop_next, drop_none, first_counts, frames_one, later_counts, part_of_frames}
 use Rattle.slirp_laws.proofs.Joining.{none_early}
@@ -60,12 +63,12 @@ one_fate config d Ignored = omega arith
 one_fate config d Refused = none_if (is_untold config d) _
 one_fate config d (GoesTo to) = omega arith
 
-one_packet : (config : Config) (packet : Packet) → length (owed_for_packet config packet) ≤ 1
-one_packet config Unheard = omega arith
-one_packet config (ArpPacket arp) = one_if _ _
-one_packet config (Message mac ip message) = list_if _ (owed_for_icmp mac ip message) (one_echo mac ip message)
-one_packet config (DatagramPacket d) = one_fate config d (fate config d)
-one_packet config (Segment mac ip tcp) = omega arith
+one_packet : (config : Config) (stray : Bool) (packet : Packet) → length (owed_for_packet config stray packet) ≤ 1
+one_packet config stray Unheard = omega arith
+one_packet config stray (ArpPacket arp) = one_if _ _
+one_packet config stray (Message mac ip message) = list_if _ (owed_for_icmp mac ip message) (one_echo mac ip message)
+one_packet config stray (DatagramPacket d) = one_fate config d (fate config d)
+one_packet config stray (Segment mac ip tcp) = one_if stray (reset_for (from_guest mac ip tcp))
 
 one_reply : (config : Config) (peer : Endpoint) (octets : List ℕ) (port : Option Endpoint) (mac : Option (List ℕ)) → length (reply_for config peer octets port mac) ≤ 1
 one_reply config peer octets (Some guest) (Some mac) = none_if _ _
@@ -74,9 +77,10 @@ one_reply config peer octets None mac = omega arith
 
 pub one_answer : (config : Config) (past : List Entry) (o : Occasion) → length (owed_for config past o) ≤ 1
 one_answer config past NoOccasion = omega arith
-one_answer config past (Came packet) = one_packet config packet
+one_answer config past (Came stray packet) = one_packet config stray packet
 one_answer config past (Heard socket peer octets) = one_reply config peer octets (opened_for config socket past) (mac_of config socket past)
 one_answer config past (Unsent d) = none_if (is_untold config d) _
+one_answer config past (Unconnected on) = omega arith
 
 -- ---- nothing came before the first wait
 
@@ -101,9 +105,10 @@ HeardWell number errand _ = Unit {0}
 
 heard_on : (e : Entry) (past : List Entry) (errand : Option Errand) (o : Occasion) → HeardWell (next_number past) errand o → HeardWell (next_number (e ∷ past)) (errand_by_call e errand) o
 heard_on e past errand NoOccasion is = tt
-heard_on e past errand (Came packet) is = tt
+heard_on e past errand (Came stray packet) is = tt
 heard_on e past errand (Heard socket peer octets) is = (drawn_on e past socket is.0, ap (errand_by_call e) is.1 ∙ none_by_call e)
 heard_on e past errand (Unsent d) is = tt
+heard_on e past errand (Unconnected on) is = tt
 
 not_new : (s socket number : ℕ) → (s == number) ≡ true → socket < number → (s == socket) ≡ false
 not_new s socket number new drawn = grind (arith, nat_tests, new, drawn)
@@ -122,8 +127,9 @@ mac_stays config _ past socket may drawn settled = refl
 
 owed_stays : (config : Config) (e : Entry) (past : List Entry) (o : Occasion) → May config past (call_of e) → HeardWell (next_number past) (errand_left config past) o → owed_for config (e ∷ past) o ≡ owed_for config past o
 owed_stays config e past NoOccasion may well = refl
-owed_stays config e past (Came packet) may well = refl
+owed_stays config e past (Came stray packet) may well = refl
 owed_stays config e past (Unsent d) may well = refl
+owed_stays config e past (Unconnected on) may well = refl
 owed_stays config e past (Heard socket peer octets) may well =
     ap (λ port. reply_for config peer octets port (mac_of config socket (e ∷ past))) (port_stays config e past socket may well.0)
     ∙ ap (reply_for config peer octets (opened_for config socket past)) (mac_stays config e past socket may well.0 well.1)
@@ -159,7 +165,7 @@ unchanged config e past may is = record {
 
 by_read : (config : Config) (asked : ℕ) (answer : Io) (octets : List ℕ) (past : List Entry) (o : Option Arrival) → May config past (call_of (LinkRead asked answer octets)) → OwingAt config past
     → Owing config (LinkRead asked answer octets ∷ past) (left_after config past (happens config past (LinkRead asked answer octets)) o (left config past)) (datagrams_out past)
-    (occasion_after (LinkRead asked answer octets) o (last_datagram config past) (last_occasion config past)) (errand_after config (LinkRead asked answer octets) o (errand_left config past))
+    (occasion_after config (LinkRead asked answer octets) past o (last_occasion config past)) (errand_after config (LinkRead asked answer octets) o (errand_left config past))
 by_read config asked answer octets past None may is = unchanged config (LinkRead asked answer octets) past may is
 by_read config asked answer octets past (Some arrival) may is = record { owed = inr (0, refl); heard = tt }
 
@@ -217,14 +223,25 @@ went config past frames frame fits first is =
           ])
     ]
 
-or_nothing : (a b : Bool) → (a || (b && false)) ≡ true → a ≡ true
-or_nothing true b is = refl
-or_nothing false true is = cc
-or_nothing false false is = cc
+-- a frame begins that is the first that is left, or one beside the answer
+pub data Begins (config : Config) (past : List Entry) (frame : List ℕ) : Type 0 where
+  Next : is_first frame (left config past) ≡ true → Begins config past frame
+  Beside : left config past ≡ [] → is_beside config past frame ≡ true → Begins config past frame
 
-first_left : (config : Config) (past : List Entry) (octets : List ℕ) → tail past ≡ [] → may_begin config past (tail past) octets ≡ true → is_first (drop 4 octets) (left config past) ≡ true
-first_left config past octets clear may =
-    or_nothing (is_first (drop 4 octets) (left config past)) (is_out (left config past)) (subst (λ t. may_begin config past t octets ≡ true) clear may)
+no_frame : (frames : List (List ℕ)) → is_out frames ≡ true → frames ≡ []
+no_frame [] is = refl
+no_frame (frame ∷ frames) is = cc
+
+by_either : (config : Config) (past : List Entry) (frame : List ℕ) (first out beside : Bool) → is_first frame (left config past) ≡ first → is_out (left config past) ≡ out → is_beside config past frame ≡ beside
+    → (first || (out && beside)) ≡ true → Begins config past frame
+by_either config past frame true out beside is over why may = Next is
+by_either config past frame false true true is over why may = Beside (no_frame (left config past) over) why
+by_either config past frame false true false is over why may = cc
+by_either config past frame false false beside is over why may = cc
+
+begins_so : (config : Config) (past : List Entry) (octets : List ℕ) → tail past ≡ [] → may_begin config past (tail past) octets ≡ true → Begins config past (drop 4 octets)
+begins_so config past octets clear may =
+    by_either config past (drop 4 octets) (is_first (drop 4 octets) (left config past)) (is_out (left config past)) (is_beside config past (drop 4 octets)) refl refl refl (subst (λ t. may_begin config past t octets ≡ true) clear may)
 
 owed_later : (config : Config) (e : Entry) (past : List Entry) (frames : List (List ℕ)) (out : ℕ) → May config past (call_of e) → HeardWell (next_number past) (errand_left config past) (last_occasion config past)
     → IsOwed config past frames out (last_occasion config past) → IsOwed config (e ∷ past) frames out (last_occasion config past)
@@ -236,12 +253,18 @@ owed_later config e past frames out may heard is = elim is [
 by_write : (config : Config) (past : List Entry) (octets : List ℕ) (answer : Io) (t : List ℕ) → 28 ≤ config.mtu → tail past ≡ t → May config past (call_of (LinkWrite octets answer)) → OwingAt config past
     → IsOwed config (LinkWrite octets answer ∷ past) (taken (opens (LinkWrite octets answer) t) (left config past)) (with_datagrams (opens (LinkWrite octets answer) t) (datagrams_out past)) (last_occasion config past)
 by_write config past octets answer (x ∷ rest) fits clear may is = (unchanged config (LinkWrite octets answer) past may is).owed
-by_write config past octets (IoDone n) [] fits clear may is =
-    let frame = drop 4 octets in
-    let first = first_left config past octets clear may.answered in
-    let took : (if is_first frame (left config past) then drop 1 (left config past) else left config past) ≡ drop 1 (left config past) = ap (λ (b : Bool). if b then drop 1 (left config past) else left config past) first in
-    subst (λ l. IsOwed config (LinkWrite octets (IoDone n) ∷ past) l (datagrams_in frame + datagrams_out past) (last_occasion config past)) (sym took)
-    (owed_later config (LinkWrite octets (IoDone n)) past (drop 1 (left config past)) (datagrams_in frame + datagrams_out past) may is.heard (went config past (left config past) frame fits first is.owed))
+by_write config past octets (IoDone n) [] fits clear may is = by_frame (begins_so config past octets clear may.answered)
+  where
+    frame : List ℕ
+    frame = drop 4 octets
+
+    by_frame : Begins config past frame
+        → IsOwed config (LinkWrite octets (IoDone n) ∷ past) (if is_first frame (left config past) then drop 1 (left config past) else left config past) (datagrams_in frame + datagrams_out past) (last_occasion config past)
+    by_frame (Next first) =
+        let took : (if is_first frame (left config past) then drop 1 (left config past) else left config past) ≡ drop 1 (left config past) = ap (λ (b : Bool). if b then drop 1 (left config past) else left config past) first in
+        subst (λ l. IsOwed config (LinkWrite octets (IoDone n) ∷ past) l (datagrams_in frame + datagrams_out past) (last_occasion config past)) (sym took)
+        (owed_later config (LinkWrite octets (IoDone n)) past (drop 1 (left config past)) (datagrams_in frame + datagrams_out past) may is.heard (went config past (left config past) frame fits first is.owed))
+    by_frame (Beside none beside) = inl (ap (λ (l : List (List ℕ)). if is_first frame l then drop 1 l else l) none)
 by_write config past octets End [] fits clear may is = (unchanged config (LinkWrite octets End) past may is).owed
 by_write config past octets IoNotYet [] fits clear may is = (unchanged config (LinkWrite octets IoNotYet) past may is).owed
 by_write config past octets IoFailed [] fits clear may is = (unchanged config (LinkWrite octets IoFailed) past may is).owed
@@ -306,9 +329,20 @@ by_hearing config past socket asked (From peer n) octets may lawful is =
 by_hearing config past socket asked GotNotYet octets may lawful is = unchanged config (UdpRecv socket asked GotNotYet octets) past may is
 by_hearing config past socket asked GotFailed octets may lawful is = unchanged config (UdpRecv socket asked GotFailed octets) past may is
 
+-- the host refused a connection at once
+by_connecting : (config : Config) (past : List Entry) (socket : ℕ) (to : Endpoint) (answer : Made) → May config past (call_of (Connect socket to answer)) → OwingAt config past → OwingAt config (Connect socket to answer ∷ past)
+by_connecting config past socket to MadeDone may is = unchanged config (Connect socket to MadeDone) past may is
+by_connecting config past socket to MadeFailed may is = by_came (book config past).came
+  where
+    by_came : (o : Option OnTuple)
+        → Owing config (Connect socket to MadeFailed ∷ past) (unconnected config (identification past) o (left config past)) (datagrams_out past) (refused_or o (last_occasion config past)) (errand_left config past)
+    by_came None = unchanged config (Connect socket to MadeFailed) past may is
+    by_came (Some on) = record { owed = inr (0, refl); heard = tt }
+
 owing_by : (config : Config) (e : Entry) (past : List Entry) → 28 ≤ config.mtu → May config past (call_of e) → Lawful config past → OwingAt config past → OwingAt config (e ∷ past)
 owing_by config (LinkRead asked answer octets) past fits may lawful is = by_read config asked answer octets past (happens config past (LinkRead asked answer octets)).came may is
 owing_by config (LinkWrite octets answer) past fits may lawful is = record { owed = by_write config past octets answer (tail past) fits refl may is; heard = (unchanged config (LinkWrite octets answer) past may is).heard }
+owing_by config (Connect socket to answer) past fits may lawful is = by_connecting config past socket to answer may is
 owing_by config (UdpOpen socket at answer) past fits may lawful is = by_open config past socket at answer may lawful is
 owing_by config (UdpSend socket to octets answer) past fits may lawful is = by_send config past socket to octets answer may is
 owing_by config (UdpRecv socket asked answer octets) past fits may lawful is = by_hearing config past socket asked answer octets may lawful is
@@ -331,18 +365,14 @@ what_is_left config past fits lawful = elim (owing config past fits lawful).owed
 
 -- ---- a frame that goes out
 
--- nothing is left of the frame before
-pub record GoesOut (config : Config) (past : List Entry) (frame : List ℕ) : Type 0 where
-  pub first : is_first frame (left config past) ≡ true
-
-begun : (config : Config) (past : List Entry) (octets : List ℕ) (answer : Io) (t : List ℕ) (frame : List ℕ) → tail past ≡ t → may_begin config past (tail past) octets ≡ true → opens (LinkWrite octets answer) t ≡ Some frame → GoesOut config past frame
+begun : (config : Config) (past : List Entry) (octets : List ℕ) (answer : Io) (t : List ℕ) (frame : List ℕ) → tail past ≡ t → may_begin config past (tail past) octets ≡ true → opens (LinkWrite octets answer) t ≡ Some frame → Begins config past frame
 begun config past octets answer (x ∷ rest) frame clear may is = cc
-begun config past octets (IoDone n) [] frame clear may is = let this : drop 4 octets ≡ frame = cc in record { first = subst (λ f. is_first f (left config past) ≡ true) this (first_left config past octets clear may) }
+begun config past octets (IoDone n) [] frame clear may is = let this : drop 4 octets ≡ frame = cc in subst (Begins config past) this (begins_so config past octets clear may)
 begun config past octets End [] frame clear may is = cc
 begun config past octets IoNotYet [] frame clear may is = cc
 begun config past octets IoFailed [] frame clear may is = cc
 
-pub out_by : (config : Config) (e : Entry) (past : List Entry) (frame : List ℕ) → May config past (call_of e) → goes_out e past ≡ Some frame → GoesOut config past frame
+pub out_by : (config : Config) (e : Entry) (past : List Entry) (frame : List ℕ) → May config past (call_of e) → goes_out e past ≡ Some frame → Begins config past frame
 out_by config (LinkWrite octets answer) past frame may is = begun config past octets answer (tail past) frame refl may.answered is
 out_by config _ past frame may is = cc
 
@@ -354,25 +384,26 @@ next_left config past frame rest fits lawful is = elim (owing config past fits l
       record { answer = o.answer; owed = o.only; out = some.0; rest = rest; is = ap (λ i. drop some.0 (frames_for config i o.answer)) (sym (same_ident some.0 past)) ∙ o.is })
 ]
 
-pub answers_last : (config : Config) (e : Entry) (past : List Entry) (frame : List ℕ) → 28 ≤ config.mtu → Lawful config (e ∷ past) → goes_out e past ≡ Some frame → AnswersLast config past frame
-answers_last config e past frame fits lawful out =
-    let b = begins_with frame (left config past) (out_by config e past frame lawful.0 out).first in
-    next_left config past frame b.0 fits lawful.1 b.1
+pub first_answers : (config : Config) (past : List Entry) (frame : List ℕ) → 28 ≤ config.mtu → Lawful config past → is_first frame (left config past) ≡ true → AnswersLast config past frame
+first_answers config past frame fits lawful first =
+    let b = begins_with frame (left config past) first in
+    next_left config past frame b.0 fits lawful b.1
 
--- and the others stay behind it
-taken_first : (config : Config) (past : List Entry) (octets : List ℕ) (answer : Io) (t : List ℕ) (frame : List ℕ) → tail past ≡ t → May config past (call_of (LinkWrite octets answer)) → opens (LinkWrite octets answer) t ≡ Some frame
+-- and what is left behind it stays
+taken_first : (config : Config) (past : List Entry) (octets : List ℕ) (answer : Io) (t : List ℕ) (frame : List ℕ) → opens (LinkWrite octets answer) t ≡ Some frame → is_first frame (left config past) ≡ true
     → left config past ≡ frame ∷ taken (opens (LinkWrite octets answer) t) (left config past)
-taken_first config past octets answer (x ∷ rest) frame clear may out = cc
-taken_first config past octets (IoDone n) [] frame clear may out =
-    let this : drop 4 octets ≡ frame = cc in
-    let first = first_left config past octets clear may.answered in
-    let b = begins_with (drop 4 octets) (left config past) first in
-    b.1 ∙ ap (λ f. f ∷ b.0) this
-    ∙ ap (λ l. frame ∷ l) (sym (ap (λ (b : Bool). if b then drop 1 (left config past) else left config past) first ∙ ap (drop 1) b.1))
-taken_first config past octets End [] frame clear may out = cc
-taken_first config past octets IoNotYet [] frame clear may out = cc
-taken_first config past octets IoFailed [] frame clear may out = cc
+taken_first config past octets answer t frame out first =
+    let b = begins_with frame (left config past) first in
+    b.1 ∙ ap (λ l. frame ∷ l) (sym (ap (λ o. taken o (left config past)) out ∙ ap (λ (c : Bool). if c then drop 1 (left config past) else left config past) first ∙ ap (drop 1) b.1))
 
-pub others_stay : (config : Config) (e : Entry) (past : List Entry) (frame : List ℕ) → Lawful config (e ∷ past) → goes_out e past ≡ Some frame → left config past ≡ frame ∷ left config (e ∷ past)
-others_stay config (LinkWrite octets answer) past frame lawful out = taken_first config past octets answer (tail past) frame refl lawful.0 out
-others_stay config _ past frame lawful out = cc
+none_taken : (config : Config) (past : List Entry) (o : Option (List ℕ)) → left config past ≡ [] → taken o (left config past) ≡ []
+none_taken config past None none = none
+none_taken config past (Some frame) none = ap (λ (l : List (List ℕ)). if is_first frame l then drop 1 l else l) none
+
+pub others_stay : (config : Config) (e : Entry) (past : List Entry) (frame : List ℕ) → Lawful config (e ∷ past) → goes_out e past ≡ Some frame → is_first frame (left config past) ≡ true → left config past ≡ frame ∷ left config (e ∷ past)
+others_stay config (LinkWrite octets answer) past frame lawful out first = taken_first config past octets answer (tail past) frame out first
+others_stay config _ past frame lawful out first = cc
+
+pub none_stays : (config : Config) (e : Entry) (past : List Entry) (frame : List ℕ) → goes_out e past ≡ Some frame → left config past ≡ [] → left config (e ∷ past) ≡ []
+none_stays config (LinkWrite octets answer) past frame out none = none_taken config past (opens (LinkWrite octets answer) (tail past)) none
+none_stays config _ past frame out none = cc

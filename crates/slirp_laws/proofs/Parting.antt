@@ -8,7 +8,7 @@ use Rattle.world_face.specs.declared.Made.TheVariants.{Done, Failed}
 use Rattle.host_policy.specs.Addresses.{Config}
 use Rattle.run_laws.specs.Moments.{moment, waits}
 use Rattle.run_laws.specs.Shape.{Cause, Phase, Opening, Started, Woken, Working, Over, phase, phase_by, phase_after, opened, may_turn, is_over, is_ended}
-use Rattle.run_laws.specs.Sockets.{Kind, Association as OfAssociation, DnsSocket, Forward as OfForward, Listener, Flow, is_among, kind_of, open_sockets}
+use Rattle.run_laws.specs.Sockets.{Kind, Association as OfAssociation, DnsSocket, Forward as OfForward, Listener, Flow, is_among, is_association, kind_of, open_sockets}
 use Rattle.slirp_laws.specs.Asking.{errand_left, is_full, step, step_of, step_on, yields}
 use Rattle.slirp_laws.specs.Datagrams.{Errand, NeedsSocket}
 use Rattle.slirp_laws.specs.Laws.{May, Lawful, begins_closing, gives_way, is_closing, is_least, is_unused, may_part, parts}
@@ -105,21 +105,21 @@ either config past socket true b way idle is = inr (way_given config past socket
 either config past socket false true way idle is = inl (grind (arith, nat_tests, idle))
 either config past socket false false way idle is = cc
 
-by_kind : (config : Config) (past : List Entry) (socket : ℕ) (k : Option Kind) → may_part config past socket k ≡ true → IsIdle socket past ⊎ IsLongestUnused socket past
-by_kind config past socket (Some OfAssociation) is = either config past socket (gives_way socket (step config past)) (is_unused socket past) refl refl is
-by_kind config past socket None is = cc
-by_kind config past socket (Some DnsSocket) is = cc
-by_kind config past socket (Some OfForward) is = cc
-by_kind config past socket (Some Listener) is = cc
-by_kind config past socket (Some Flow) is = cc
+by_kind : (config : Config) (past : List Entry) (socket : ℕ) (k : Option Kind) → is_association k ≡ true → may_part config past socket k ≡ true → IsIdle socket past ⊎ IsLongestUnused socket past
+by_kind config past socket (Some OfAssociation) guests is = either config past socket (gives_way socket (step config past)) (is_unused socket past) refl refl is
+by_kind config past socket None guests is = cc
+by_kind config past socket (Some DnsSocket) guests is = cc
+by_kind config past socket (Some OfForward) guests is = cc
+by_kind config past socket (Some Listener) guests is = cc
+by_kind config past socket (Some Flow) guests is = cc
 
 parts_where : (closing least parts_ ended : Bool) → (closing ≡ true → ended ≡ true) → ended ≡ false → (if closing then least else parts_ || (ended && least)) ≡ true → parts_ ≡ true
 parts_where true least parts_ ended already running is = let over = already refl in cc
 parts_where false least true ended already running is = refl
 parts_where false least false ended already running is = let over = first_of ended least is in cc
 
-pub parts_for : (config : Config) (past : List Entry) (socket : ℕ) → May config past (CallClose socket) → Lawful config past → is_ended config past ≡ false → IsIdle socket past ⊎ IsLongestUnused socket past
-parts_for config past socket may lawful running =
-    by_kind config past socket (kind_of socket past)
+pub parts_for : (config : Config) (past : List Entry) (socket : ℕ) → May config past (CallClose socket) → Lawful config past → is_ended config past ≡ false → is_association (kind_of socket past) ≡ true → IsIdle socket past ⊎ IsLongestUnused socket past
+parts_for config past socket may lawful running guests =
+    by_kind config past socket (kind_of socket past) guests
     (parts_where (is_closing config past) (is_least socket (open_sockets past)) (parts config past socket) (is_ended config past) (λ closing. closing_ended config past lawful closing) running
     (second_of (is_among socket (open_sockets past)) (if is_closing config past then is_least socket (open_sockets past) else parts config past socket || (is_ended config past && is_least socket (open_sockets past))) may.socket))

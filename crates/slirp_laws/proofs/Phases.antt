@@ -1,6 +1,6 @@
 -- Where a run stands, and which calls are due there.
-use Rattle.std.proofs.Common.{◌≡◌, ℕ, ◌<◌, true, List, [], ◌∷◌, is_some, MatchOption, Option, Some, None, option_map, ◌⊎◌, inl, inr, refl, sym, ap, arith}
-use Rattle.world_face.specs.Journal.{Entry, Call, Now, Wait, LinkRead, Listen, UdpOpen, CallClose, CallListen, CallUdpOpen, CallUdpSend, CallUdpRecv, call_of}
+use Rattle.std.proofs.Common.{◌≡◌, ℕ, ◌<◌, true, List, [], ◌∷◌, is_some, MatchOption, Option, Some, None, option_map, ◌⊎◌, inl, inr, refl, sym, ap, subst, arith}
+use Rattle.world_face.specs.Journal.{Entry, Call, Now, Wait, LinkRead, Listen, UdpOpen, CallClose, CallConnect, CallListen, CallUdpOpen, CallUdpSend, CallUdpRecv, call_of}
 use Rattle.world_face.specs.Frames.{Ending, ending, partial}
 use Rattle.world_face.specs.declared.Made.{Made}
 use Rattle.world_face.specs.declared.Made.TheVariants.{Done, Failed}
@@ -10,6 +10,8 @@ use Rattle.host_policy.specs.declared.Proto.{Proto}
 use Rattle.host_policy.specs.declared.Proto.TheVariants.{Tcp, Udp as ByUdp}
 use Rattle.host_policy.specs.Addresses.{Config}
 use Rattle.host_policy.specs.Targets.{anywhere}
+use Rattle.flow_book.specs.Book.{book}
+use Rattle.flow_book.specs.Lots.{connects_to, due_by, due_for_flows}
 use Rattle.run_laws.specs.Happenings.{Arrival, happens}
 use Rattle.run_laws.specs.Moments.{moment, waits}
 use Rattle.run_laws.specs.Shape.{Phase, Opening, Started, Woken, Working, Over, phase, phase_by, phase_after, opened, clocked, unless_over, due_in, opening_of, is_working}
@@ -174,6 +176,30 @@ sending_by Woken past other socket to octets is = cc
 sending_by Working past other socket to octets is = is
 sending_by (Over cause) past other socket to octets is = closing (first (open_sockets past)) other (CallUdpSend socket to octets) (λ s same. cc) (λ then. then) is
 
+-- for a flow a socket is closed, or one connects
+abbrev pub IsForFlow : Option Call → Type 0
+IsForFlow None = Unit {0}
+IsForFlow (Some (CallClose socket)) = Unit {0}
+IsForFlow (Some (CallConnect socket to)) = Unit {0}
+IsForFlow (Some _) = ⊥
+
+for_flow : (doomed : Option ℕ) (to : Option Endpoint) (number : ℕ) → IsForFlow (due_by doomed to number)
+for_flow (Some socket) to number = tt
+for_flow None None number = tt
+for_flow None (Some to) number = tt
+
+pub for_flows : (config : Config) (past : List Entry) → IsForFlow (due_for_flows config (book config past) (next_number past))
+for_flows config past = for_flow (book config past).doomed (connects_to config (book config past)) (next_number past)
+
+no_send : (o : Option Call) (socket : ℕ) (to : Endpoint) (octets : List ℕ) → IsForFlow o → o ≡ Some (CallUdpSend socket to octets) → ⊥
+no_send o socket to octets is call = subst IsForFlow call is
+
+no_open : (o : Option Call) (socket : ℕ) (at : Endpoint) → IsForFlow o → o ≡ Some (CallUdpOpen socket at) → ⊥
+no_open o socket at is call = subst IsForFlow call is
+
+no_listen : (o : Option Call) (socket : ℕ) (at : Endpoint) → IsForFlow o → o ≡ Some (CallListen socket at) → ⊥
+no_listen o socket at is call = subst IsForFlow call is
+
 -- a datagram is sent where that was asked for
 pub record Sends (step : Step) (socket : ℕ) (to : Endpoint) (octets : List ℕ) : Type 0 where
   pub errand : Errand
@@ -181,16 +207,16 @@ pub record Sends (step : Step) (socket : ℕ) (to : Endpoint) (octets : List ℕ
   pub target : to ≡ errand.to
   pub whole : octets ≡ errand.datagram.body
 
-sends_for : (step : Step) (number socket : ℕ) (to : Endpoint) (octets : List ℕ) → due_for step number ≡ Some (CallUdpSend socket to octets) → Sends step socket to octets
-sends_for Settled number socket to octets is = cc
-sends_for (NeedsRoom oldest errand) number socket to octets is = cc
-sends_for (NeedsSocket errand) number socket to octets is = cc
-sends_for (NeedsSending s errand) number socket to octets is = record { errand = errand; asked = (let same : s ≡ socket = cc in ap (λ n. NeedsSending n errand) same); target = cc; whole = cc }
+sends_for : (step : Step) (other : Option Call) (number socket : ℕ) (to : Endpoint) (octets : List ℕ) → IsForFlow other → unless_due (due_for step number) other ≡ Some (CallUdpSend socket to octets) → Sends step socket to octets
+sends_for Settled other number socket to octets flow is = absurd (no_send other socket to octets flow is)
+sends_for (NeedsRoom oldest errand) other number socket to octets flow is = cc
+sends_for (NeedsSocket errand) other number socket to octets flow is = cc
+sends_for (NeedsSending s errand) other number socket to octets flow is = record { errand = errand; asked = (let same : s ≡ socket = cc in ap (λ n. NeedsSending n errand) same); target = cc; whole = cc }
 
 pub sends : (config : Config) (past : List Entry) (socket : ℕ) (to : Endpoint) (octets : List ℕ) → May config past (CallUdpSend socket to octets) → Sends (step config past) socket to octets
 sends config past socket to octets may =
-    sends_for (step config past) (next_number past) socket to octets
-    (sending_by (phase config past) past (due_for (step config past) (next_number past)) socket to octets
+    sends_for (step config past) (due_for_flows config (book config past) (next_number past)) (next_number past) socket to octets (for_flows config past)
+    (sending_by (phase config past) past (unless_due (due_for (step config past) (next_number past)) (due_for_flows config (book config past) (next_number past))) socket to octets
     (due_call (due config past) (CallUdpSend socket to octets) may.place may.due))
 
 -- a socket for datagrams is opened where that was asked for, or for a forward
@@ -209,52 +235,55 @@ pub record Opens (step : Step) (number socket : ℕ) (at : Endpoint) : Type 0 wh
   pub next : socket ≡ number
   pub anywhere : at ≡ anywhere
 
-opens_for : (step : Step) (number socket : ℕ) (at : Endpoint) → due_for step number ≡ Some (CallUdpOpen socket at) → Opens step number socket at
-opens_for Settled number socket at is = cc
-opens_for (NeedsRoom oldest errand) number socket at is = cc
-opens_for (NeedsSocket errand) number socket at is = record { errand = errand; asked = refl; next = cc; anywhere = cc }
-opens_for (NeedsSending s errand) number socket at is = cc
+opens_for : (step : Step) (other : Option Call) (number socket : ℕ) (at : Endpoint) → IsForFlow other → unless_due (due_for step number) other ≡ Some (CallUdpOpen socket at) → Opens step number socket at
+opens_for Settled other number socket at flow is = absurd (no_open other socket at flow is)
+opens_for (NeedsRoom oldest errand) other number socket at flow is = cc
+opens_for (NeedsSocket errand) other number socket at flow is = record { errand = errand; asked = refl; next = cc; anywhere = cc }
+opens_for (NeedsSending s errand) other number socket at flow is = cc
 
 pub opens : (config : Config) (past : List Entry) (socket : ℕ) (at : Endpoint) → May config past (CallUdpOpen socket at)
     → ((waits past ≡ 0) × (OpensNone (phase config past) → ⊥)) ⊎ Opens (step config past) (next_number past) socket at
 opens config past socket at may =
-    elim (opening_by (phase config past) past (due_for (step config past) (next_number past)) socket at (has_waited config past) (due_call (due config past) (CallUdpOpen socket at) may.place may.due)) [
+    elim (opening_by (phase config past) past (unless_due (due_for (step config past) (next_number past)) (due_for_flows config (book config past) (next_number past))) socket at (has_waited config past)
+    (due_call (due config past) (CallUdpOpen socket at) may.place may.due)) [
       | inl early ↦ inl early
-      | inr asked ↦ inr (opens_for (step config past) (next_number past) socket at asked)
+      | inr asked ↦ inr (opens_for (step config past) (due_for_flows config (book config past) (next_number past)) (next_number past) socket at (for_flows config past) asked)
     ]
 
 -- a listener is opened for a forward alone
-no_listening : (step : Step) (number socket : ℕ) (at : Endpoint) → due_for step number ≡ Some (CallListen socket at) → ⊥
-no_listening Settled number socket at is = cc
-no_listening (NeedsRoom oldest errand) number socket at is = cc
-no_listening (NeedsSocket errand) number socket at is = cc
-no_listening (NeedsSending s errand) number socket at is = cc
+no_listening : (step : Step) (other : Option Call) (number socket : ℕ) (at : Endpoint) → IsForFlow other → unless_due (due_for step number) other ≡ Some (CallListen socket at) → ⊥
+no_listening Settled other number socket at flow is = no_listen other socket at flow is
+no_listening (NeedsRoom oldest errand) other number socket at flow is = cc
+no_listening (NeedsSocket errand) other number socket at flow is = cc
+no_listening (NeedsSending s errand) other number socket at flow is = cc
 
-listening_by : (p : Phase) (past : List Entry) (step : Step) (number socket : ℕ) (at : Endpoint) → OpensNone p → unless_due (due_in p past) (due_for step number) ≡ Some (CallListen socket at) → ⊥
-listening_by (Opening count []) past step number socket at none is = cc
-listening_by (Opening count (forward ∷ forwards)) past step number socket at none is = cc
-listening_by Started past step number socket at none is = no_listening step number socket at is
-listening_by Woken past step number socket at none is = cc
-listening_by Working past step number socket at none is = no_listening step number socket at is
-listening_by (Over cause) past step number socket at none is = closing {A = ⊥} (first (open_sockets past)) (due_for step number) (CallListen socket at) (λ s same. cc) (λ then. no_listening step number socket at then) is
+listening_by : (p : Phase) (past : List Entry) (other : Option Call) (socket : ℕ) (at : Endpoint) → OpensNone p → (other ≡ Some (CallListen socket at) → ⊥) → unless_due (due_in p past) other ≡ Some (CallListen socket at) → ⊥
+listening_by (Opening count []) past other socket at none never is = cc
+listening_by (Opening count (forward ∷ forwards)) past other socket at none never is = cc
+listening_by Started past other socket at none never is = never is
+listening_by Woken past other socket at none never is = cc
+listening_by Working past other socket at none never is = never is
+listening_by (Over cause) past other socket at none never is = closing {A = ⊥} (first (open_sockets past)) other (CallListen socket at) (λ s same. cc) never is
 
 pub listens_never : (config : Config) (past : List Entry) (socket : ℕ) (at : Endpoint) → config.forwards ≡ [] → May config past (CallListen socket at) → ⊥
 listens_never config past socket at none may =
-    listening_by (phase config past) past (step config past) (next_number past) socket at (opens_none config past none) (due_call (due config past) (CallListen socket at) may.place may.due)
+    listening_by (phase config past) past (unless_due (due_for (step config past) (next_number past)) (due_for_flows config (book config past) (next_number past))) socket at (opens_none config past none)
+    (no_listening (step config past) (due_for_flows config (book config past) (next_number past)) (next_number past) socket at (for_flows config past)) (due_call (due config past) (CallListen socket at) may.place may.due)
 
 -- a datagram is received where nothing is asked for
-settled_for : (step : Step) (number : ℕ) (socket asked : ℕ) → MatchOption (due_for step number) (Unit {0}) (λ d. CallUdpRecv socket asked ≡ d) → step ≡ Settled
-settled_for Settled number socket asked is = refl
-settled_for (NeedsRoom oldest errand) number socket asked is = cc
-settled_for (NeedsSocket errand) number socket asked is = cc
-settled_for (NeedsSending s errand) number socket asked is = cc
+settled_for : (step : Step) (other : Option Call) (number : ℕ) (socket asked : ℕ) → MatchOption (unless_due (due_for step number) other) (Unit {0}) (λ d. CallUdpRecv socket asked ≡ d) → step ≡ Settled
+settled_for Settled other number socket asked is = refl
+settled_for (NeedsRoom oldest errand) other number socket asked is = cc
+settled_for (NeedsSocket errand) other number socket asked is = cc
+settled_for (NeedsSending s errand) other number socket asked is = cc
 
-settled_in : (p : Phase) (past : List Entry) (step : Step) (number socket asked : ℕ) → is_working p ≡ true → MatchOption (unless_due (due_in p past) (due_for step number)) (Unit {0}) (λ d. CallUdpRecv socket asked ≡ d) → step ≡ Settled
-settled_in Working past step number socket asked working is = settled_for step number socket asked is
-settled_in (Opening count forwards) past step number socket asked working is = cc
-settled_in Started past step number socket asked working is = cc
-settled_in Woken past step number socket asked working is = cc
-settled_in (Over cause) past step number socket asked working is = cc
+settled_in : (p : Phase) (past : List Entry) (step : Step) (other : Option Call) (number socket asked : ℕ) → is_working p ≡ true → MatchOption (unless_due (due_in p past) (unless_due (due_for step number) other)) (Unit {0}) (λ d. CallUdpRecv socket asked ≡ d)
+    → step ≡ Settled
+settled_in Working past step other number socket asked working is = settled_for step other number socket asked is
+settled_in (Opening count forwards) past step other number socket asked working is = cc
+settled_in Started past step other number socket asked working is = cc
+settled_in Woken past step other number socket asked working is = cc
+settled_in (Over cause) past step other number socket asked working is = cc
 
 pub hears_settled : (config : Config) (past : List Entry) (socket asked : ℕ) → May config past (CallUdpRecv socket asked) → step config past ≡ Settled
-hears_settled config past socket asked may = settled_in (phase config past) past (step config past) (next_number past) socket asked may.place may.due
+hears_settled config past socket asked may = settled_in (phase config past) past (step config past) (due_for_flows config (book config past) (next_number past)) (next_number past) socket asked may.place may.due

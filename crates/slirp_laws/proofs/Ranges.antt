@@ -5,7 +5,7 @@ use Rattle.std.proofs.lemmas.List.{get_or_past}
 use Rattle.std.specs.List.{range_with_len}
 use Rattle.std.proofs.lemmas.List.Elements.{All-append, All-drop, All-get_or, All-map, All-take}
 use Rattle.std.proofs.lemmas.Option.{cond_some}
-use Rattle.world_face.specs.Journal.{Entry, LinkRead, UdpOpen, UdpSend, UdpRecv, AreAllowed, AreOctets, IsEndpoint}
+use Rattle.world_face.specs.Journal.{Entry, LinkRead, Connect, UdpOpen, UdpSend, UdpRecv, AreAllowed, AreOctets, IsEndpoint}
 use Rattle.world_face.specs.Frames.{arrives, is_whole, partial}
 use Rattle.world_face.specs.declared.Made.{Made}
 use Rattle.world_face.specs.declared.Made.TheVariants.{Done as MadeDone, Failed as MadeFailed}
@@ -27,10 +27,12 @@ use Rattle.udp_assoc.specs.Udp.{Udp, is_udp, read_udp}
 use Rattle.tcp_segment.specs.Tcp.{Tcp, read_tcp}
 use Rattle.run_laws.specs.Fragments.{Fragment, arrived, fragment_by, fragment_in, fragment_of, joined_by, key_by, part_by, sets, waiting, with_fragment, with_frame}
 use Rattle.run_laws.specs.Moments.{moment}
+use Rattle.flow_book.specs.Book.{book}
+use Rattle.flow_book.specs.Segments.{OnTuple}
 use Rattle.run_laws.specs.Happenings.{Arrival, arrival_of, happens, datagram_by, datagram_came}
 use Rattle.run_laws.specs.Packets.{Datagram, Packet, Unheard, ArpPacket, Message, DatagramPacket, Segment, datagram_in, datagram_of, may_come, packet_in, packet_of, packet_of_ip, unless_unheard, whole_packet}
 use Rattle.slirp_laws.specs.Ports.{last_datagram, last_port, opened_by, opened_for, or_before}
-use Rattle.slirp_laws.specs.Said.{Occasion, Heard, by_call, by_made, by_sent, last_occasion, occasion_after, unsent_or}
+use Rattle.slirp_laws.specs.Said.{Occasion, Heard, by_call, by_joined, by_made, by_sent, last_occasion, occasion_after, refused_or, unsent_or}
 
 abbrev IsOctet : ℕ → Type 0
 IsOctet octet = octet < 2 ^ 8
@@ -297,18 +299,27 @@ peer_sent SentDone last o before = before
 peer_sent SentNotYet last o before = before
 peer_sent SentFailed last o before = peer_unsent last o before
 
-peer_by : (e : Entry) (past : List Entry) (last : Option Datagram) (o : Occasion) → AreAllowed (e ∷ past) → RangePeer o → RangePeer (by_call e last o)
-peer_by (UdpOpen socket at answer) past last o allowed before = peer_made answer last o before
-peer_by (UdpSend socket to octets answer) past last o allowed before = peer_sent answer last o before
-peer_by (UdpRecv socket asked (From peer n) octets) past last o allowed before = allowed.0.0.1
-peer_by (UdpRecv socket asked GotNotYet octets) past last o allowed before = before
-peer_by (UdpRecv socket asked GotFailed octets) past last o allowed before = before
-peer_by _ past last o allowed before = before
+peer_refused : (on : Option OnTuple) (o : Occasion) → RangePeer o → RangePeer (refused_or on o)
+peer_refused None o before = before
+peer_refused (Some on) o before = tt
 
-peer_after : (e : Entry) (past : List Entry) (came : Option Arrival) (last : Option Datagram) (o : Occasion) → AreAllowed (e ∷ past) → RangePeer o → RangePeer (occasion_after e came last o)
-peer_after e past None last o allowed before = peer_by e past last o allowed before
-peer_after e past (Some arrival) last o allowed before = tt
+peer_joined : (answer : Made) (on : Option OnTuple) (o : Occasion) → RangePeer o → RangePeer (by_joined answer on o)
+peer_joined MadeDone on o before = before
+peer_joined MadeFailed on o before = peer_refused on o before
+
+peer_by : (e : Entry) (past : List Entry) (last : Option Datagram) (on : Option OnTuple) (o : Occasion) → AreAllowed (e ∷ past) → RangePeer o → RangePeer (by_call e last on o)
+peer_by (Connect socket to answer) past last on o allowed before = peer_joined answer on o before
+peer_by (UdpOpen socket at answer) past last on o allowed before = peer_made answer last o before
+peer_by (UdpSend socket to octets answer) past last on o allowed before = peer_sent answer last o before
+peer_by (UdpRecv socket asked (From peer n) octets) past last on o allowed before = allowed.0.0.1
+peer_by (UdpRecv socket asked GotNotYet octets) past last on o allowed before = before
+peer_by (UdpRecv socket asked GotFailed octets) past last on o allowed before = before
+peer_by _ past last on o allowed before = before
+
+peer_after : (config : Config) (e : Entry) (past : List Entry) (came : Option Arrival) (o : Occasion) → AreAllowed (e ∷ past) → RangePeer o → RangePeer (occasion_after config e past came o)
+peer_after config e past None o allowed before = peer_by e past (last_datagram config past) (book config past).came o allowed before
+peer_after config e past (Some arrival) o allowed before = tt
 
 pub range_peer : (config : Config) (past : List Entry) → AreAllowed past → RangePeer (last_occasion config past)
 range_peer config [] allowed = tt
-range_peer config (e ∷ past) allowed = peer_after e past (happens config past e).came (last_datagram config past) (last_occasion config past) allowed (range_peer config past allowed.1)
+range_peer config (e ∷ past) allowed = peer_after config e past (happens config past e).came (last_occasion config past) allowed (range_peer config past allowed.1)

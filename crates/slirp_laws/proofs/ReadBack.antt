@@ -47,7 +47,7 @@ udp_back from to udp f t size =
     ap (read_udp from to) (sym all) ∙ reads_udp from to (take (8 + length udp.body) now) udp written.0
 
 -- a part at the front of a datagram behind which none follows is all of it
-unbroken_is : (more : Bool) (place : ℕ) → (not more && (place == 0)) ≡ true → (more ≡ false) × (place ≡ 0)
+pub unbroken_is : (more : Bool) (place : ℕ) → (not more && (place == 0)) ≡ true → (more ≡ false) × (place ≡ 0)
 unbroken_is true place is = absurd cc
 unbroken_is false place is = (refl, grind (arith, nat_tests, is))
 
@@ -55,7 +55,7 @@ whole_if : (n : ℕ) (b : Bool) (room : ℕ) (body : List ℕ) → n ≡ 0 → b
 whole_if n true room body none is = cc
 whole_if n false room body none is = ap (λ n. drop n body) none
 
-only_cut : (mtu : ℕ) (body : List ℕ) (k : ℕ) → 28 ≤ mtu → k * units_in mtu ≡ 0 → is_before_last mtu (length body) k ≡ false → cut_at mtu (uncut body) k ≡ uncut body
+pub only_cut : (mtu : ℕ) (body : List ℕ) (k : ℕ) → 28 ≤ mtu → k * units_in mtu ≡ 0 → is_before_last mtu (length body) k ≡ false → cut_at mtu (uncut body) k ≡ uncut body
 only_cut mtu body k room front last =
     let start : cut_start mtu k ≡ 0 = omega (arith, front) in
     ap (λ n. record (cut_at mtu (uncut body) k) { place = n }) front

@@ -3,7 +3,7 @@ use Rattle.std.proofs.Common.{◌≡◌, ℕ, ◌+◌, ◌-◌, ◌/◌, ◌%◌
 use Rattle.std.proofs.lemmas.Bool.Decides.{nat_tests}
 use Rattle.std.proofs.lemmas.Nat.{from_be_bytes-to_be_bytes_2}
 use Rattle.std.proofs.lemmas.Option.{cond_some}
-use Rattle.world_face.specs.Journal.{Entry, UdpOpen, UdpSend, UdpRecv}
+use Rattle.world_face.specs.Journal.{Entry, Connect, UdpOpen, UdpSend, UdpRecv}
 use Rattle.world_face.specs.declared.Made.{Made}
 use Rattle.world_face.specs.declared.Made.TheVariants.{Done as MadeDone, Failed as MadeFailed}
 use Rattle.world_face.specs.declared.Sent.{Sent}
@@ -26,13 +26,16 @@ use Rattle.icmp_echo.specs.Icmp.{Icmp, echo, unreachable, other as another, read
 use Rattle.udp_assoc.specs.Udp.{Udp, read_udp}
 use Rattle.tcp_segment.specs.Tcp.{Tcp, read_tcp}
 use Rattle.run_laws.specs.Fragments.{arrived, waiting}
-use Rattle.run_laws.specs.Happenings.{arrival_of, datagram_by, datagram_came}
+use Rattle.run_laws.specs.Happenings.{Arrival, arrival_of, datagram_by, datagram_came, happens}
 use Rattle.run_laws.specs.Moments.{moment}
 use Rattle.run_laws.specs.Packets.{Datagram, Packet, Unheard, ArpPacket, Message, DatagramPacket, Segment, datagram_in, datagram_of, may_come, packet_in, packet_of, packet_of_ip, unless_unheard, whole_packet}
-use Rattle.slirp_laws.specs.Answers.{Answer, ArpAnswer, IpAnswer, arp_reply, is_untold, no_network, part_frame, our_mac, owed_for_fate, owed_for_icmp, owed_for_packet, told_about, reply_for}
+use Rattle.flow_book.specs.Book.{book}
+use Rattle.flow_book.specs.Segments.{OnTuple, from_guest, segment_by, segment_came}
+use Rattle.flow_book.proofs.Newest.{is_newest}
+use Rattle.slirp_laws.specs.Answers.{Answer, ArpAnswer, IpAnswer, arp_reply, is_untold, no_network, part_frame, our_mac, owed_for_fate, owed_for_icmp, owed_for_packet, reset_for, strays, told_about, reply_for}
 use Rattle.slirp_laws.specs.Datagrams.{Fate, Ignored, Refused, GoesTo, fate}
 use Rattle.slirp_laws.specs.Ports.{last_datagram, last_mac, mac_by, mac_of, opened_for, or_before}
-use Rattle.slirp_laws.specs.Said.{Carries, Occasion, NoOccasion, Came, Heard, Unsent, by_call, by_got, by_made, by_sent, last_occasion, occasion_after, owed_for, unsent_or}
+use Rattle.slirp_laws.specs.Said.{Carries, Occasion, NoOccasion, Came, Heard, Unsent, Unconnected, by_call, by_got, by_joined, by_made, by_sent, last_occasion, occasion_after, owed_for, refused_or, unsent_or}
 use Rattle.slirp_laws.proofs.Bools.{first_of}
 use Rattle.slirp_laws.proofs.Framing.{fragment_fits, our_six, place_kept}
 
@@ -100,6 +103,30 @@ six_ether config now sets frame (Some ether) is =
 six_packet : (config : Config) (now : ℕ) (sets : List PartSet) (frame : List ℕ) → SixPacket (packet_in config now sets frame)
 six_packet config now sets frame = six_ether config now sets frame (read_ether frame) refl
 
+-- and so has that of the segment that came last
+abbrev pub SixOn : Option OnTuple → Type 0
+SixOn None = Unit {0}
+SixOn (Some on) = length on.mac ≡ 6
+
+six_segment : (packet : Packet) → SixPacket packet → SixOn (segment_by packet)
+six_segment (Segment mac ip tcp) is = is
+six_segment Unheard is = tt
+six_segment (ArpPacket arp) is = tt
+six_segment (Message mac ip message) is = tt
+six_segment (DatagramPacket d) is = tt
+
+six_arrival : (config : Config) (now : ℕ) (sets : List PartSet) (o : Option (List ℕ)) → SixOn (segment_came (option_map (arrival_of config now sets) o))
+six_arrival config now sets None = tt
+six_arrival config now sets (Some frame) = six_segment (packet_in config now sets frame) (six_packet config now sets frame)
+
+pub six_on : (config : Config) (past : List Entry) → SixOn (book config past).came
+six_on config [] = tt
+six_on config (e ∷ past) = by (book config (e ∷ past)).came refl
+  where
+    by : (o : Option OnTuple) → (book config (e ∷ past)).came ≡ o → SixOn o
+    by None is = tt
+    by (Some on) is = subst SixOn (is_newest on config e past is) (six_arrival config (moment past) (waiting config past) (arrives e past))
+
 abbrev SixDatagram : Option Datagram → Type 0
 SixDatagram None = Unit {0}
 SixDatagram (Some d) = length d.mac ≡ 6
@@ -146,10 +173,16 @@ abbrev pub SixAnswer : Answer → Type 0
 SixAnswer (ArpAnswer to arp) = (length to ≡ 6) × (length arp.sender_mac ≡ 6)
 SixAnswer (IpAnswer to proto from guest body) = length to ≡ 6
 
--- a message, where it isn't a reply to what a peer sent
+-- a message or a segment, where it isn't a reply to what a peer sent
 abbrev pub IsMessage : Answer → Type 0
 IsMessage (ArpAnswer to arp) = Unit {0}
-IsMessage (IpAnswer to proto from guest body) = proto ≡ icmp_proto
+IsMessage (IpAnswer to proto from guest body) = proto ≡ udp_proto → ⊥
+
+no_message : ◌≡◌ {A = ℕ} icmp_proto udp_proto → ⊥
+no_message is = omega (arith, is)
+
+pub no_segment : ◌≡◌ {A = ℕ} tcp_proto udp_proto → ⊥
+no_segment is = omega (arith, is)
 
 abbrev pub AllAnswers : (Answer → Type 0) → List Answer → Type 0
 AllAnswers P [] = Unit {0}
@@ -158,30 +191,30 @@ AllAnswers P (a ∷ answers) = P a × AllAnswers P answers
 abbrev pub IsOurs : Answer → Type 0
 IsOurs a = SixAnswer a × IsMessage a
 
-all_if : (P : Answer → Type 0) (b : Bool) (one other : List Answer) → AllAnswers P one → AllAnswers P other → AllAnswers P (if b then one else other)
+pub all_if : (P : Answer → Type 0) (b : Bool) (one other : List Answer) → AllAnswers P one → AllAnswers P other → AllAnswers P (if b then one else other)
 all_if P true one other is else_ = is
 all_if P false one other is else_ = else_
 
 ours_icmp : (mac : List ℕ) (ip : Ip) (message : Icmp) → length mac ≡ 6 → AllAnswers IsOurs (owed_for_icmp mac ip message)
 ours_icmp mac ip (echo true ident number body) is = tt
-ours_icmp mac ip (echo false ident number body) is = ((is, refl), tt)
+ours_icmp mac ip (echo false ident number body) is = ((is, no_message), tt)
 ours_icmp mac ip (unreachable code quoted) is = tt
 ours_icmp mac ip (another kind code) is = tt
 
 pub ours_told : (config : Config) (code : ℕ) (d : Datagram) → length d.mac ≡ 6 → AllAnswers IsOurs (told_about config code d)
-ours_told config code d is = all_if IsOurs (is_untold config d) [] _ tt ((is, refl), tt)
+ours_told config code d is = all_if IsOurs (is_untold config d) [] _ tt ((is, no_message), tt)
 
 ours_fate : (config : Config) (d : Datagram) (what : Fate) → length d.mac ≡ 6 → AllAnswers IsOurs (owed_for_fate config d what)
 ours_fate config d Ignored is = tt
 ours_fate config d Refused is = ours_told config _ d is
 ours_fate config d (GoesTo to) is = tt
 
-pub ours_packet : (config : Config) (packet : Packet) → SixPacket packet → AllAnswers IsOurs (owed_for_packet config packet)
-ours_packet config Unheard is = tt
-ours_packet config (ArpPacket arp) is = all_if IsOurs (not arp.is_reply && is_ours config arp.target) (arp_reply arp ∷ []) [] (((is, our_six arp.target), tt), tt) tt
-ours_packet config (Message mac ip message) is = all_if IsOurs _ (owed_for_icmp mac ip message) [] (ours_icmp mac ip message is) tt
-ours_packet config (DatagramPacket d) is = ours_fate config d (fate config d) is
-ours_packet config (Segment mac ip tcp) is = tt
+pub ours_packet : (config : Config) (stray : Bool) (packet : Packet) → SixPacket packet → AllAnswers IsOurs (owed_for_packet config stray packet)
+ours_packet config stray Unheard is = tt
+ours_packet config stray (ArpPacket arp) is = all_if IsOurs (not arp.is_reply && is_ours config arp.target) (arp_reply arp ∷ []) [] (((is, our_six arp.target), tt), tt) tt
+ours_packet config stray (Message mac ip message) is = all_if IsOurs _ (owed_for_icmp mac ip message) [] (ours_icmp mac ip message is) tt
+ours_packet config stray (DatagramPacket d) is = ours_fate config d (fate config d) is
+ours_packet config stray (Segment mac ip tcp) is = all_if IsOurs stray (reset_for (from_guest mac ip tcp) ∷ []) [] ((is, no_segment), tt) tt
 
 six_reply : (config : Config) (peer : Endpoint) (octets : List ℕ) (port : Option Endpoint) (mac : Option (List ℕ)) → SixMac mac → AllAnswers SixAnswer (reply_for config peer octets port mac)
 six_reply config peer octets (Some guest) (Some mac) is = all_if SixAnswer (is_hidden config peer) [] _ tt (is, tt)
@@ -189,8 +222,9 @@ six_reply config peer octets (Some guest) None is = tt
 six_reply config peer octets None mac is = tt
 
 abbrev pub SixOccasion : Occasion → Type 0
-SixOccasion (Came packet) = SixPacket packet
+SixOccasion (Came stray packet) = SixPacket packet
 SixOccasion (Unsent d) = length d.mac ≡ 6
+SixOccasion (Unconnected on) = length on.mac ≡ 6
 SixOccasion _ = Unit {0}
 
 six_unsent : (last : Option Datagram) (o : Occasion) → SixDatagram last → SixOccasion o → SixOccasion (unsent_or last o)
@@ -203,9 +237,10 @@ all_six (a ∷ answers) is = (is.0.0, all_six answers is.1)
 
 pub six_owed : (config : Config) (past : List Entry) (o : Occasion) → SixOccasion o → AllAnswers SixAnswer (owed_for config past o)
 six_owed config past NoOccasion is = tt
-six_owed config past (Came packet) is = all_six (owed_for_packet config packet) (ours_packet config packet is)
+six_owed config past (Came stray packet) is = all_six (owed_for_packet config stray packet) (ours_packet config stray packet is)
 six_owed config past (Heard socket peer octets) is = six_reply config peer octets (opened_for config socket past) (mac_of config socket past) (six_mac config socket past)
 six_owed config past (Unsent d) is = all_six (told_about config no_network d) (ours_told config no_network d is)
+six_owed config past (Unconnected on) is = (is, tt)
 
 six_by_made : (answer : Made) (last : Option Datagram) (o : Occasion) → SixDatagram last → SixOccasion o → SixOccasion (by_made answer last o)
 six_by_made MadeDone last o is before = before
@@ -221,20 +256,28 @@ six_by_got (From peer n) socket octets o before = tt
 six_by_got GotNotYet socket octets o before = before
 six_by_got GotFailed socket octets o before = before
 
-six_by_call : (e : Entry) (last : Option Datagram) (o : Occasion) → SixDatagram last → SixOccasion o → SixOccasion (by_call e last o)
-six_by_call (UdpOpen socket at answer) last o is before = six_by_made answer last o is before
-six_by_call (UdpSend socket to octets answer) last o is before = six_by_sent answer last o is before
-six_by_call (UdpRecv socket asked answer octets) last o is before = six_by_got answer socket octets o before
-six_by_call _ last o is before = before
+six_refused : (on : Option OnTuple) (o : Occasion) → SixOn on → SixOccasion o → SixOccasion (refused_or on o)
+six_refused None o is before = before
+six_refused (Some on) o is before = is
 
-six_after : (config : Config) (now : ℕ) (sets : List PartSet) (e : Entry) (frame : Option (List ℕ)) (last : Option Datagram) (o : Occasion) → SixDatagram last → SixOccasion o
-    → SixOccasion (occasion_after e (option_map (arrival_of config now sets) frame) last o)
-six_after config now sets e None last o is before = six_by_call e last o is before
-six_after config now sets e (Some frame) last o is before = six_packet config now sets frame
+six_by_joined : (answer : Made) (on : Option OnTuple) (o : Occasion) → SixOn on → SixOccasion o → SixOccasion (by_joined answer on o)
+six_by_joined MadeDone on o is before = before
+six_by_joined MadeFailed on o is before = six_refused on o is before
+
+six_by_call : (e : Entry) (last : Option Datagram) (on : Option OnTuple) (o : Occasion) → SixDatagram last → SixOn on → SixOccasion o → SixOccasion (by_call e last on o)
+six_by_call (Connect socket to answer) last on o is one before = six_by_joined answer on o one before
+six_by_call (UdpOpen socket at answer) last on o is one before = six_by_made answer last o is before
+six_by_call (UdpSend socket to octets answer) last on o is one before = six_by_sent answer last o is before
+six_by_call (UdpRecv socket asked answer octets) last on o is one before = six_by_got answer socket octets o before
+six_by_call _ last on o is one before = before
+
+six_after : (config : Config) (e : Entry) (past : List Entry) (frame : Option (List ℕ)) (o : Occasion) → SixOccasion o → SixOccasion (occasion_after config e past (option_map (arrival_of config (moment past) (waiting config past)) frame) o)
+six_after config e past None o before = six_by_call e (last_datagram config past) (book config past).came o (six_last config past) (six_on config past) before
+six_after config e past (Some frame) o before = six_packet config (moment past) (waiting config past) frame
 
 pub six_occasion : (config : Config) (past : List Entry) → SixOccasion (last_occasion config past)
 six_occasion config [] = tt
-six_occasion config (e ∷ past) = six_after config (moment past) (waiting config past) e (arrives e past) (last_datagram config past) (last_occasion config past) (six_last config past) (six_occasion config past)
+six_occasion config (e ∷ past) = six_after config e past (arrives e past) (last_occasion config past) (six_occasion config past)
 
 -- ---- what our frames carry
 

@@ -1,5 +1,5 @@
 -- A frame that carries a datagram of UDP is a reply to what a peer sent.
-use Rattle.std.proofs.Common.{◌≡◌, ℕ, ◌+◌, ◌≤◌, ◌||◌, not, nat_le, Bool, true, false, List, [], ◌∷◌, drop, length, Option, Some, None, if◌then◌else◌, refl, sym, ◌∙◌, ap, subst, arith}
+use Rattle.std.proofs.Common.{◌⊎◌, inl, inr, ◌≡◌, ℕ, ◌+◌, ◌≤◌, ◌||◌, not, nat_le, Bool, true, false, List, [], ◌∷◌, drop, length, Option, Some, None, if◌then◌else◌, refl, sym, ◌∙◌, ap, subst, arith}
 use Rattle.std.proofs.lemmas.Bool.Decides.{nat_tests}
 use Rattle.world_face.specs.Journal.{Entry}
 use Rattle.world_face.specs.Frames.{goes_out}
@@ -10,14 +10,15 @@ use Rattle.host_policy.specs.Targets.{is_hidden, shown}
 use Rattle.ipv4_head.specs.Ip.{Ip}
 use Rattle.udp_assoc.specs.Udp.{Udp, summed, udp_octets, udp_with, written_sum}
 use Rattle.udp_assoc.proofs.Spelling.{length-udp}
-use Rattle.slirp_laws.specs.Answers.{Answer, ArpAnswer, IpAnswer, frames_for, no_network, owed_for_packet, reply_for, told_about}
+use Rattle.slirp_laws.specs.Answers.{Answer, ArpAnswer, IpAnswer, frames_for, no_network, owed_for_packet, reply_for, reset_for, told_about}
 use Rattle.slirp_laws.specs.Laws.{Lawful}
 use Rattle.slirp_laws.specs.Ports.{mac_of, opened_for}
-use Rattle.slirp_laws.specs.Said.{Carries, Occasion, NoOccasion, Came, Heard, Unsent, RepliesToItsPort, identification_with, last_occasion, owed_for}
+use Rattle.slirp_laws.specs.Said.{Carries, Occasion, NoOccasion, Came, Heard, Unsent, Unconnected, RepliesToItsPort, identification_with, last_occasion, owed_for}
 use Rattle.slirp_laws.proofs.Framing.{part_of_frames}
 use Rattle.slirp_laws.proofs.Numbers.{carries_no_arp, ident_fits, reads_cut}
-use Rattle.slirp_laws.proofs.Owing.{answers_last, out_six}
-use Rattle.slirp_laws.proofs.Reading.{AllAnswers, IsOurs, SixAnswer, SixOccasion, ours_packet, ours_told, six_occasion}
+use Rattle.slirp_laws.proofs.Beside.{beside, no_request, no_udp}
+use Rattle.slirp_laws.proofs.Owing.{Begins, Next, Beside, first_answers, out_by, out_six}
+use Rattle.slirp_laws.proofs.Reading.{AllAnswers, IsOurs, SixAnswer, SixOccasion, no_segment, ours_packet, ours_told, six_occasion}
 
 -- the datagram of which a frame of an answer is a part
 answer_proto : (config : Config) (past : List Entry) (a : Answer) (k : ℕ) (frame : List ℕ) (rest : List (List ℕ)) (ip : Ip) → 28 ≤ config.mtu → SixAnswer a → IsOurs a → drop k (frames_for config (identification_with k past) a) ≡ frame ∷ rest → Carries frame ip → ip.proto ≡ udp_proto → ⊥
@@ -25,8 +26,7 @@ answer_proto config past (ArpAnswer to arp) k frame rest ip fits six ours is c u
 answer_proto config past (IpAnswer to proto from guest body) k frame rest ip fits six ours is c udp =
     let p = part_of_frames config (identification_with k past) to proto from guest body frame rest k is in
     let r = reads_cut config (identification_with k past) to proto from guest body frame k ip fits (ident_fits k past) six p c in
-    let protos : 17 ≡ 1 = sym udp ∙ r.proto ∙ ours.1 in
-    absurd (omega (arith, protos))
+    ours.1 (sym r.proto ∙ udp)
 
 one_ours : (answers : List Answer) (a : Answer) → answers ≡ a ∷ [] → AllAnswers IsOurs answers → IsOurs a
 one_ours answers a is all = (subst (AllAnswers IsOurs) is all).0
@@ -73,13 +73,22 @@ module _ (config : Config) (past : List Entry) (frame : List ℕ) (a : Answer) (
 
   by_occasion : (o : Occasion) (ip : Ip) → 28 ≤ config.mtu → last_occasion config past ≡ o → owed_for config past o ≡ a ∷ [] → SixAnswer a → Carries frame ip → ip.proto ≡ udp_proto → RepliesToItsPort config past frame
   by_occasion NoOccasion ip fits last owed six c udp = cc
-  by_occasion (Came packet) ip fits last owed six c udp =
-      absurd (answer_proto config past a k frame rest ip fits six (one_ours (owed_for_packet config packet) a owed (ours_packet config packet (subst SixOccasion last (six_occasion config past)))) frame_is c udp)
+  by_occasion (Came stray packet) ip fits last owed six c udp =
+      absurd (answer_proto config past a k frame rest ip fits six (one_ours (owed_for_packet config stray packet) a owed (ours_packet config stray packet (subst SixOccasion last (six_occasion config past)))) frame_is c udp)
   by_occasion (Heard socket peer octets) ip fits last owed six c udp = heard socket peer octets (opened_for config socket past) (mac_of config socket past) last refl refl owed
+  by_occasion (Unconnected on) ip fits last owed six c udp = absurd (answer_proto config past a k frame rest ip fits six (one_ours (reset_for on ∷ []) a owed ((subst SixOccasion last (six_occasion config past), no_segment), tt)) frame_is c udp)
   by_occasion (Unsent d) ip fits last owed six c udp =
       absurd (answer_proto config past a k frame rest ip fits six (one_ours (told_about config no_network d) a owed (ours_told config no_network d (subst SixOccasion last (six_occasion config past)))) frame_is c udp)
 
 pub replies : (config : Config) (e : Entry) (past : List Entry) (frame : List ℕ) (ip : Ip) → 28 ≤ config.mtu → Lawful config (e ∷ past) → goes_out e past ≡ Some frame → Carries frame ip → ip.proto ≡ udp_proto → RepliesToItsPort config past frame
 replies config e past frame ip fits lawful out c udp =
-    let a = answers_last config e past frame fits lawful out in
-    by_occasion config past frame a.answer a.out a.rest a.is (last_occasion config past) ip fits refl a.owed (out_six config past a.answer a.owed) c udp
+    by_frame (out_by config e past frame lawful.0 out)
+  where
+    by_frame : Begins config past frame → RepliesToItsPort config past frame
+    by_frame (Next first) =
+        let a = first_answers config past frame fits lawful.1 first in
+        by_occasion config past frame a.answer a.out a.rest a.is (last_occasion config past) ip fits refl a.owed (out_six config past a.answer a.owed) c udp
+    by_frame (Beside nothing is) = elim (beside config past frame nothing is) [
+      | inl f ↦ absurd (no_udp config past frame ip f c udp)
+      | inr a ↦ absurd (no_request config past frame ip a c)
+    ]

@@ -3,8 +3,8 @@ use Rattle.std.specs.Prelude.{ℕ, ◌&&◌, not, Bool, true, false, List, [], �
 use Rattle.poll_list.specs.Listing.{reads, same_who, writes}
 use Rattle.poll_list.specs.declared.Want.{Want}
 use Rattle.poll_list.specs.declared.Who.{Who}
-use Rattle.poll_list.specs.declared.Who.TheVariants.{Link, Udp}
-use Rattle.world_face.specs.Journal.{Entry, Wait, LinkRead, UdpRecv}
+use Rattle.poll_list.specs.declared.Who.TheVariants.{Link, Listener, Tcp, Udp}
+use Rattle.world_face.specs.Journal.{Entry, Wait, LinkRead, Connected, Accept, TcpRead, TcpWrite, TcpEnd, UdpRecv}
 use Rattle.world_face.specs.Frames.{partial, is_whole}
 use Rattle.world_face.specs.declared.Io.{Io}
 use Rattle.world_face.specs.declared.Io.TheVariants.{Done, End, NotYet, Failed}
@@ -29,6 +29,22 @@ abbrev pub behind : Who → List Want → List Want
 behind who [] = []
 behind who (item ∷ items) = if is_to_read who item then items else behind who items
 
+-- The items from the first one on that is this one's for writing, which is served by that; it stays in front, since it may be for reading, too.
+abbrev pub is_to_write : Who → Want → Bool
+is_to_write who item = same_who who item.of && item.write
+
+abbrev pub written : Who → List Want → List Want
+written who [] = []
+written who (item ∷ items) = if is_to_write who item then record { of = item.of; read = item.read; write = false } ∷ items else written who items
+
+-- a connection is ended for the report for which it was written to, if that was in front
+abbrev pub was_written_for : ℕ → List Want → Bool
+was_written_for socket [] = false
+was_written_for socket (item ∷ items) = same_who (Tcp socket) item.of && not item.write
+
+abbrev pub ended : ℕ → List Want → List Want
+ended socket agenda = if was_written_for socket agenda then agenda else written (Tcp socket) agenda
+
 -- a read of the link goes on until the frame is whole or nothing comes
 abbrev pub reads_on : Io → List ℕ → Bool
 reads_on (Done n) octets = not (is_whole octets)
@@ -40,6 +56,11 @@ reads_on Failed octets = false
 abbrev pub agenda_after : Entry → List ℕ → List Want → List Want
 agenda_after (Wait wants timeout answer ready) so_far agenda = all_wanted wants ready
 agenda_after (LinkRead asked answer octets) so_far agenda = if reads_on answer (so_far ++ octets) then from Link agenda else behind Link agenda
+agenda_after (Accept listener socket answer) so_far agenda = behind (Listener listener) agenda
+agenda_after (Connected socket answer) so_far agenda = written (Tcp socket) agenda
+agenda_after (TcpWrite socket octets answer) so_far agenda = written (Tcp socket) agenda
+agenda_after (TcpEnd socket answer) so_far agenda = ended socket agenda
+agenda_after (TcpRead socket asked answer octets) so_far agenda = behind (Tcp socket) agenda
 agenda_after (UdpRecv socket asked answer octets) so_far agenda = behind (Udp socket) agenda
 agenda_after _ so_far agenda = agenda
 

@@ -1,7 +1,7 @@
 -- What is owed to a guest for the frame or datagram that came last, and what of it isn't out yet.
 use Rattle.std.specs.Prelude.{◌≡◌, ℕ, ◌+◌, ◌%◌, ◌^◌, ◌==◌, ◌&&◌, ◌||◌, not, nat_le, Bool, true, false, List, [], ◌∷◌, ◌++◌, drop, length, map, bytes_eq, Option, Some, None, if◌then◌else◌}
 use Rattle.world_face.specs.Frames.{goes_out}
-use Rattle.world_face.specs.Journal.{Entry, LinkWrite, UdpOpen, UdpSend, UdpRecv}
+use Rattle.world_face.specs.Journal.{Entry, LinkWrite, Connect, UdpOpen, UdpSend, UdpRecv}
 use Rattle.world_face.specs.declared.Made.{Made}
 use Rattle.world_face.specs.declared.Made.TheVariants.{Done as MadeDone, Failed as MadeFailed}
 use Rattle.world_face.specs.declared.Sent.{Sent}
@@ -9,7 +9,7 @@ use Rattle.world_face.specs.declared.Sent.TheVariants.{Done as SentDone, NotYet 
 use Rattle.world_face.specs.declared.Got.{Got}
 use Rattle.world_face.specs.declared.Got.TheVariants.{From, NotYet as GotNotYet, Failed as GotFailed}
 use Rattle.net_octets.specs.declared.Endpoint.{Endpoint}
-use Rattle.net_octets.specs.Kinds.{arp_kind, ipv4_kind, icmp_proto, udp_proto}
+use Rattle.net_octets.specs.Kinds.{arp_kind, ipv4_kind, icmp_proto, tcp_proto, udp_proto}
 use Rattle.net_octets.specs.Octets.{two_at, four}
 use Rattle.host_policy.specs.Addresses.{Config, address, last_address, is_ours, is_guest}
 use Rattle.host_policy.specs.Targets.{is_group_or_reserved, shown, is_hidden}
@@ -20,6 +20,11 @@ use Rattle.ipv4_head.specs.Ip.{Ip, fragment_of, ip_octets}
 use Rattle.ipv4_head.specs.Sets.{Part}
 use Rattle.icmp_echo.specs.Icmp.{Icmp, echo, unreachable, other, echo_octets, unreachable_octets}
 use Rattle.udp_assoc.specs.Udp.{udp_octets}
+use Rattle.tcp_segment.specs.Tcp.{tcp_octets}
+use Rattle.flow_book.specs.Book.{book}
+use Rattle.flow_book.specs.Flows.{Book}
+use Rattle.flow_book.specs.Lots.{is_reset, reset_to}
+use Rattle.flow_book.specs.Segments.{OnTuple, from_guest}
 use Rattle.run_laws.specs.Happenings.{Arrival, Happening, happens}
 use Rattle.run_laws.specs.Packets.{Packet, Unheard, ArpPacket, Message, DatagramPacket, Segment, Datagram}
 use Rattle.slirp_laws.specs.Asking.{step}
@@ -76,13 +81,26 @@ owed_for_fate config d (GoesTo to) = []
 abbrev pub owed_for_datagram : Config → Datagram → List Answer
 owed_for_datagram config d = owed_for_fate config d (fate config d)
 
+-- a reset, from the end to which the segment went, to the hardware address from which it came (RFC 9293, 3.10.7.1)
+abbrev pub reset_for : OnTuple → Answer
+reset_for on = IpAnswer on.mac tcp_proto (address on.tuple.other) (address on.tuple.guest) (tcp_octets (address on.tuple.other) (address on.tuple.guest) (reset_to on.tuple on.segment))
+
+-- a segment is no flow's, or takes another SYN for the one that went out
+abbrev pub strays : Config → Book → Packet → Bool
+strays config b (Segment mac ip tcp) = is_reset config b (from_guest mac ip tcp)
+strays config b _ = false
+
+-- one that strays is answered by a reset
+abbrev pub owed_for_segment : Bool → OnTuple → List Answer
+owed_for_segment stray on = if stray then reset_for on ∷ [] else []
+
 -- what a packet of the guests owes
-abbrev pub owed_for_packet : Config → Packet → List Answer
-owed_for_packet config Unheard = []
-owed_for_packet config (ArpPacket arp) = owed_for_arp config arp
-owed_for_packet config (Message mac ip message) = owed_for_message config mac ip message
-owed_for_packet config (DatagramPacket d) = owed_for_datagram config d
-owed_for_packet config (Segment mac ip tcp) = []
+abbrev pub owed_for_packet : Config → (stray : Bool) → Packet → List Answer
+owed_for_packet config stray Unheard = []
+owed_for_packet config stray (ArpPacket arp) = owed_for_arp config arp
+owed_for_packet config stray (Message mac ip message) = owed_for_message config mac ip message
+owed_for_packet config stray (DatagramPacket d) = owed_for_datagram config d
+owed_for_packet config stray (Segment mac ip tcp) = owed_for_segment stray (from_guest mac ip tcp)
 
 -- What a peer's datagram owes: its payload, whole, to the port of a guest for which the socket was opened, at the hardware address from which that port spoke last. Nothing where the peer isn't shown.
 abbrev pub reply_at : Config → Endpoint → List ℕ → Endpoint → List ℕ → List Answer
@@ -152,6 +170,11 @@ unsent config ident (NeedsRoom oldest errand) left = left
 unsent config ident (NeedsSocket errand) left = frames_of config ident (told_about config no_network errand.datagram)
 unsent config ident (NeedsSending socket errand) left = frames_of config ident (told_about config no_network errand.datagram)
 
+-- a guest whose connection the host refused at once gets a reset (RFC 9293, 3.10.7.1)
+abbrev pub unconnected : Config → ℕ → Option OnTuple → List (List ℕ) → List (List ℕ)
+unconnected config ident None left = left
+unconnected config ident (Some on) left = frames_of config ident (reset_for on ∷ [])
+
 abbrev pub unless_made : Made → List (List ℕ) → List (List ℕ) → List (List ℕ)
 unless_made MadeDone told left = left
 unless_made MadeFailed told left = told
@@ -173,6 +196,7 @@ taken (Some frame) left = if is_first frame left then drop 1 left else left
 
 abbrev pub left_by_call : Config → List Entry → Happening → Entry → List (List ℕ) → List (List ℕ)
 left_by_call config past h (LinkWrite octets answer) left = taken h.went left
+left_by_call config past h (Connect socket to answer) left = unless_made answer (unconnected config (identification past) (book config past).came left) left
 left_by_call config past h (UdpOpen socket at answer) left = unless_made answer (unsent config (identification past) (step config past) left) left
 left_by_call config past h (UdpSend socket to octets answer) left = unless_sent answer (unsent config (identification past) (step config past) left) left
 left_by_call config past h (UdpRecv socket asked answer octets) left = left_by_got config past socket answer octets left
@@ -181,20 +205,13 @@ left_by_call config past h _ left = left
 -- the frames that are owed for the frame or datagram that came last and aren't out; a datagram has the identification that was the next one when it came to be owed
 abbrev pub left_after : Config → List Entry → Happening → Option Arrival → List (List ℕ) → List (List ℕ)
 left_after config past h None left = left_by_call config past h h.call left
-left_after config past h (Some arrival) left = frames_of config (identification past) (owed_for_packet config arrival.packet)
+left_after config past h (Some arrival) left = frames_of config (identification past) (owed_for_packet config (strays config (book config (h.call ∷ past)) arrival.packet) arrival.packet)
 
 abbrev pub left : Config → List Entry → List (List ℕ)
 left config [] = []
 left config (e ∷ past) = left_after config past (happens config past e) (happens config past e).came (left config past)
 
--- what else may go out, where nothing is left of the answer to what came last: nothing yet
-abbrev pub is_beside : Config → List Entry → List ℕ → Bool
-is_beside config past frame = false
-
+-- nothing is left
 abbrev pub is_out : List (List ℕ) → Bool
 is_out [] = true
 is_out (frame ∷ frames) = false
-
--- A frame may go out that is the next one of the answer to what came last, or that has another reason where nothing is left of that answer.
-abbrev pub is_explained : Config → List Entry → List ℕ → Bool
-is_explained config past frame = is_first frame (left config past) || (is_out (left config past) && is_beside config past frame)

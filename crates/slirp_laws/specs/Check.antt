@@ -6,7 +6,7 @@ use Rattle.world_face.specs.Limits.{most_to_link}
 use Rattle.net_octets.specs.declared.Endpoint.{Endpoint}
 use Rattle.host_policy.specs.Addresses.{Config}
 use Rattle.host_policy.specs.Targets.{same_endpoint}
-use Rattle.slirp_laws.specs.Agenda.{agenda}
+use Rattle.flow_book.specs.Check.{is_close, is_connect, may_flow}
 use Rattle.slirp_laws.specs.Laws.{due, deed_of, has_place, has_socket, is_served, is_answered, goes_on}
 
 -- framing
@@ -24,10 +24,6 @@ abbrev pub is_now : Call → Bool
 is_now CallNow = true
 is_now _ = false
 
-abbrev pub is_close : ℕ → Call → Bool
-is_close socket (CallClose s) = s == socket
-is_close socket _ = false
-
 abbrev pub is_listen : ℕ → Endpoint → Call → Bool
 is_listen socket at (CallListen s a) = (s == socket) && same_endpoint a at
 is_listen socket at _ = false
@@ -42,6 +38,7 @@ is_udp_send socket to octets _ = false
 
 abbrev pub is_call : Call → Call → Bool
 is_call CallNow call = is_now call
+is_call (CallConnect socket to) call = is_connect socket to call
 is_call (CallClose socket) call = is_close socket call
 is_call (CallListen socket at) call = is_listen socket at call
 is_call (CallUdpOpen socket at) call = is_udp_open socket at call
@@ -56,7 +53,8 @@ may_due (Some d) call = is_call d call
 abbrev pub may : Config → List Entry → Call → Bool
 may config past call =
     may_frame past call && may_due (due config past) call && has_place config past (deed_of call) && has_socket config past (deed_of call)
-    && is_served (agenda past) (deed_of call) && is_answered config past (deed_of call) && goes_on config past (deed_of call)
+    && is_served past (deed_of call) && is_answered config past (deed_of call) && goes_on config past (deed_of call)
+    && may_flow config past call
 
 -- every call could follow its past
 abbrev pub is_lawful : Config → List Entry → Bool

@@ -1,24 +1,30 @@
 -- What call may follow what past.
 use Rattle.std.specs.Prelude.{◌≡◌, ℕ, ◌+◌, ◌==◌, ◌&&◌, ◌||◌, not, nat_le, nat_lt, Bool, true, false, is_some, List, [], ◌∷◌, drop, slice_index, MatchOption, Option, Some, None, if◌then◌else◌}
-use Rattle.poll_list.specs.Listing.{reads}
+use Rattle.poll_list.specs.Listing.{reads, writes}
 use Rattle.poll_list.specs.declared.Want.{Want}
-use Rattle.poll_list.specs.declared.Who.TheVariants.{Link, Udp}
+use Rattle.poll_list.specs.declared.Who.TheVariants.{Link, Listener as AListener, Tcp, Udp}
 use Rattle.net_octets.specs.declared.Endpoint.{Endpoint}
-use Rattle.world_face.specs.Journal.{Entry, Call, Follows, Close, CallNow, CallWait, CallLinkOpen, CallLinkRead, CallLinkWrite, CallConnect, CallConnected, CallListen, CallAccept, CallTcpRead, CallTcpWrite, CallTcpEnd, CallClose, CallUdpOpen, CallUdpSend, CallUdpRecv, CallFileLen, CallFileRead}
+use Rattle.world_face.specs.Journal.{Entry, Call, Follows, Close, TcpWrite, CallNow, CallWait, CallLinkOpen, CallLinkRead, CallLinkWrite, CallConnect, CallConnected, CallListen, CallAccept, CallTcpRead, CallTcpWrite, CallTcpEnd, CallClose, CallUdpOpen, CallUdpSend, CallUdpRecv, CallFileLen, CallFileRead}
 use Rattle.world_face.specs.Frames.{MayFrame, tail}
 use Rattle.world_face.specs.Limits.{most_to_udp}
 use Rattle.host_policy.specs.Addresses.{Config}
 use Rattle.udp_assoc.specs.Associations.{idle_life}
 use Rattle.run_laws.specs.Moments.{moment, waits}
 use Rattle.run_laws.specs.Shape.{phase, may_turn, is_working, is_over, is_ended, due_in}
-use Rattle.run_laws.specs.Sockets.{Kind, Association, DnsSocket, Forward, Listener, Flow, is_among, is_association, kind_of, next_number, open_sockets}
+use Rattle.run_laws.specs.Sockets.{Kind, Association, DnsSocket, Forward, Listener, Flow, is_among, is_association, is_flow, is_listener, kind_of, next_number, open_sockets}
+use Rattle.flow_laws.specs.Close.{is_done, host_failed, finds_no_guest, follows_reset, gives_up, connects_too_long, newest_rst}
+use Rattle.flow_book.specs.Book.{book, scene}
+use Rattle.flow_book.specs.Flows.{Flow as AFlow, Book, Scene, comes_directly, flow_of, guest_is_known, is_it, used}
+use Rattle.flow_book.specs.Laws.{MayFlow}
+use Rattle.flow_book.specs.Lots.{due_for_flows}
 use Rattle.slirp_laws.specs.Agenda.{agenda}
-use Rattle.slirp_laws.specs.Answers.{is_explained, is_out, left}
+use Rattle.slirp_laws.specs.Answers.{is_out, left}
 use Rattle.slirp_laws.specs.Asking.{step}
 use Rattle.slirp_laws.specs.Datagrams.{Step, Settled, NeedsRoom, NeedsSocket, NeedsSending, due_for}
 use Rattle.slirp_laws.specs.Ports.{used_at}
+use Rattle.slirp_laws.specs.Sending.{is_explained}
 
--- What a call does: it asks the clock, waits, reads of the link or writes to it, opens a socket, sends a datagram on one, asks for one, or closes a socket. What isn't built yet doesn't come.
+-- What a call does: it asks the clock, waits, reads of the link or writes to it; opens a socket, sends a datagram on one, asks for one; connects to the host, accepts a peer, asks whether a connection is there, writes to it, ends that, reads from it; or closes a socket. Files aren't read yet, and the link isn't opened by these calls.
 pub data Deed : Type 0 where
   Asks : Deed
   Waits : Deed
@@ -27,6 +33,12 @@ pub data Deed : Type 0 where
   Opens : (socket : ℕ) → Deed
   Sends : (socket : ℕ) → Deed
   Hears : (socket asked : ℕ) → Deed
+  Connects : (socket : ℕ) → Deed
+  Accepts : (listener socket : ℕ) → Deed
+  Looks : (socket : ℕ) → Deed
+  Gives : (socket : ℕ) → Deed
+  Ends : (socket : ℕ) → Deed
+  Takes : (socket : ℕ) → Deed
   Shuts : (socket : ℕ) → Deed
   Unbuilt : Deed
 
@@ -36,13 +48,13 @@ deed_of (CallWait wants timeout) = Waits
 deed_of (CallLinkOpen at) = Unbuilt
 deed_of (CallLinkRead asked) = Reads
 deed_of (CallLinkWrite octets) = Writes octets
-deed_of (CallConnect socket to) = Unbuilt
-deed_of (CallConnected socket) = Unbuilt
+deed_of (CallConnect socket to) = Connects socket
+deed_of (CallConnected socket) = Looks socket
 deed_of (CallListen socket at) = Opens socket
-deed_of (CallAccept listener socket) = Unbuilt
-deed_of (CallTcpRead socket asked) = Unbuilt
-deed_of (CallTcpWrite socket octets) = Unbuilt
-deed_of (CallTcpEnd socket) = Unbuilt
+deed_of (CallAccept listener socket) = Accepts listener socket
+deed_of (CallTcpRead socket asked) = Takes socket
+deed_of (CallTcpWrite socket octets) = Gives socket
+deed_of (CallTcpEnd socket) = Ends socket
 deed_of (CallClose socket) = Shuts socket
 deed_of (CallUdpOpen socket at) = Opens socket
 deed_of (CallUdpSend socket to octets) = Sends socket
@@ -50,19 +62,19 @@ deed_of (CallUdpRecv socket asked) = Hears socket asked
 deed_of (CallFileLen name) = Unbuilt
 deed_of (CallFileRead name place asked) = Unbuilt
 
--- the call that must come next, if one must: by where the run stands, else for the datagram that came last
+-- the call that must come next, if one must: by where the run stands, else for the datagram that came last, else for a flow
 abbrev pub unless_due : Option Call → Option Call → Option Call
 unless_due None other = other
 unless_due (Some call) other = Some call
 
 abbrev pub due : Config → List Entry → Option Call
-due config past = unless_due (due_in (phase config past) past) (due_for (step config past) (next_number past))
+due config past = unless_due (due_in (phase config past) past) (unless_due (due_for (step config past) (next_number past)) (due_for_flows config (book config past) (next_number past)))
 
 -- Where a call is due, it is the one that comes.
 abbrev pub MayDue : Config → List Entry → Call → Type 0
 MayDue config past call = MatchOption (due config past) (Unit {0}) (λ d. call ≡ d)
 
--- The shape of a run. The clock is asked, sockets are opened and datagrams are sent only where that is due. A turn begins with a wait, of which there are only so many; the other calls come after it.
+-- The shape of a run. The clock is asked, sockets are opened, connect, and send datagrams only where that is due. A turn begins with a wait, of which there are only so many; the other calls come after it.
 abbrev pub has_place : Config → List Entry → Deed → Bool
 has_place config past Asks = is_some (due config past)
 has_place config past Waits = may_turn (phase config past) && nat_lt (waits past) config.turns
@@ -71,6 +83,12 @@ has_place config past (Writes octets) = is_working (phase config past)
 has_place config past (Opens socket) = is_some (due config past)
 has_place config past (Sends socket) = is_some (due config past)
 has_place config past (Hears socket asked) = is_working (phase config past)
+has_place config past (Connects socket) = is_some (due config past)
+has_place config past (Accepts listener socket) = is_working (phase config past)
+has_place config past (Looks socket) = is_working (phase config past)
+has_place config past (Gives socket) = is_working (phase config past)
+has_place config past (Ends socket) = is_working (phase config past)
+has_place config past (Takes socket) = is_working (phase config past)
 has_place config past (Shuts socket) = is_working (phase config past) || is_over (phase config past)
 has_place config past Unbuilt = false
 
@@ -85,14 +103,25 @@ gives_way socket (NeedsSending number errand) = false
 abbrev pub is_unused : ℕ → List Entry → Bool
 is_unused socket past = nat_le (used_at socket past + idle_life) (moment past)
 
--- Why a socket may be closed before the end, by its kind: an association gives way as the longest unused, or its idle life is over.
+-- A flow has a cause of its own to be closed: both ends passed, a call on its socket failed, its guest isn't found or acknowledges nothing, the host doesn't connect, or the guest's reset came directly before. A peer that was refused has no flow.
+abbrev pub may_leave : Scene → Book → ℕ → Option AFlow → Bool
+may_leave at b socket None = is_it socket b.doomed
+may_leave at b socket (Some f) =
+    is_done f.story || host_failed f.story || finds_no_guest (guest_is_known at f) at.moment f.story
+    || (not (follows_reset (comes_directly b.came f) f.story) && (gives_up at.moment f.story || connects_too_long at.moment f.story))
+    || (comes_directly b.came f && is_some (newest_rst f.story))
+
+abbrev pub leaves : Config → List Entry → ℕ → Bool
+leaves config past socket = may_leave (scene config past) (book config past) socket (flow_of socket (book config past).flows)
+
+-- Why a socket may be closed before the end, by its kind: an association gives way as the longest unused, or its idle life is over; a flow has its cause.
 abbrev pub may_part : Config → List Entry → ℕ → Option Kind → Bool
 may_part config past socket None = false
 may_part config past socket (Some Association) = gives_way socket (step config past) || is_unused socket past
 may_part config past socket (Some DnsSocket) = false
 may_part config past socket (Some Forward) = false
 may_part config past socket (Some Listener) = false
-may_part config past socket (Some Flow) = false
+may_part config past socket (Some Flow) = leaves config past socket
 
 abbrev pub parts : Config → List Entry → ℕ → Bool
 parts config past socket = may_part config past socket (kind_of socket past)
@@ -122,6 +151,13 @@ may_close config past socket =
 abbrev pub carries : List Entry → ℕ → Bool
 carries past socket = is_among socket (open_sockets past) && is_association (kind_of socket past)
 
+-- an open connection; a port of the host that is given to a guest, while there is room for a flow more
+abbrev pub joins : List Entry → ℕ → Bool
+joins past socket = is_among socket (open_sockets past) && is_flow (kind_of socket past)
+
+abbrev pub takes_peers : Config → List Entry → ℕ → Bool
+takes_peers config past listener = is_among listener (open_sockets past) && is_listener (kind_of listener past) && nat_lt (used (book config past).flows) config.flows
+
 -- Numbers of sockets are drawn upward; calls on sockets are on such as are open, and of their kind.
 abbrev pub has_socket : Config → List Entry → Deed → Bool
 has_socket config past Asks = true
@@ -131,20 +167,38 @@ has_socket config past (Writes octets) = true
 has_socket config past (Opens socket) = socket == next_number past
 has_socket config past (Sends socket) = carries past socket
 has_socket config past (Hears socket asked) = carries past socket && (asked == most_to_udp)
+has_socket config past (Connects socket) = socket == next_number past
+has_socket config past (Accepts listener socket) = takes_peers config past listener && (socket == next_number past)
+has_socket config past (Looks socket) = joins past socket
+has_socket config past (Gives socket) = joins past socket
+has_socket config past (Ends socket) = joins past socket
+has_socket config past (Takes socket) = joins past socket
 has_socket config past (Shuts socket) = may_close config past socket
 has_socket config past Unbuilt = false
 
--- Frames and datagrams are read only where the last wait wanted and reported it, in the order of its list, and once for each report.
-abbrev pub is_served : List Want → Deed → Bool
-is_served agenda Asks = true
-is_served agenda Waits = true
-is_served agenda Reads = reads Link agenda
-is_served agenda (Writes octets) = true
-is_served agenda (Opens socket) = true
-is_served agenda (Sends socket) = true
-is_served agenda (Hears socket asked) = reads (Udp socket) agenda
-is_served agenda (Shuts socket) = true
-is_served agenda Unbuilt = true
+-- the newest call wrote to this connection
+abbrev pub has_just_written : ℕ → List Entry → Bool
+has_just_written socket [] = false
+has_just_written socket (TcpWrite s octets answer ∷ past) = s == socket
+has_just_written socket (_ ∷ past) = false
+
+-- Frames and datagrams are read, peers accepted, and connections asked, written to and read only where the last wait wanted and reported it, in the order of its list, and once for each report. A connection is ended for a report, or directly after what was written for one.
+abbrev pub is_served : List Entry → Deed → Bool
+is_served past Asks = true
+is_served past Waits = true
+is_served past Reads = reads Link (agenda past)
+is_served past (Writes octets) = true
+is_served past (Opens socket) = true
+is_served past (Sends socket) = true
+is_served past (Hears socket asked) = reads (Udp socket) (agenda past)
+is_served past (Connects socket) = true
+is_served past (Accepts listener socket) = reads (AListener listener) (agenda past)
+is_served past (Looks socket) = writes (Tcp socket) (agenda past)
+is_served past (Gives socket) = writes (Tcp socket) (agenda past)
+is_served past (Ends socket) = writes (Tcp socket) (agenda past) || has_just_written socket past
+is_served past (Takes socket) = reads (Tcp socket) (agenda past)
+is_served past (Shuts socket) = true
+is_served past Unbuilt = true
 
 -- nothing is left of the frame before, nor of the answer to what came last
 abbrev pub is_nothing : List ℕ → Bool
@@ -168,6 +222,12 @@ is_answered config past (Writes octets) = may_begin config past (tail past) octe
 is_answered config past (Opens socket) = true
 is_answered config past (Sends socket) = true
 is_answered config past (Hears socket asked) = is_all_out config past
+is_answered config past (Connects socket) = true
+is_answered config past (Accepts listener socket) = true
+is_answered config past (Looks socket) = true
+is_answered config past (Gives socket) = true
+is_answered config past (Ends socket) = true
+is_answered config past (Takes socket) = true
 is_answered config past (Shuts socket) = true
 is_answered config past Unbuilt = true
 
@@ -185,9 +245,10 @@ pub record May (config : Config) (past : List Entry) (call : Call) : Type 0 wher
   pub due : MayDue config past call
   pub place : has_place config past (deed_of call) ≡ true
   pub socket : has_socket config past (deed_of call) ≡ true
-  pub served : is_served (agenda past) (deed_of call) ≡ true
+  pub served : is_served past (deed_of call) ≡ true
   pub answered : is_answered config past (deed_of call) ≡ true
   pub goes_on : goes_on config past (deed_of call) ≡ true
+  pub flows : MayFlow config past call
 
 -- every call was one that may follow its past
 abbrev pub Lawful : Config → List Entry → Type 0

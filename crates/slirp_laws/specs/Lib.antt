@@ -1,10 +1,12 @@
 pub mod Agenda
 pub mod Answers
 pub mod Asking
+pub mod Built
 pub mod Check
 pub mod Datagrams
 pub mod Laws
 pub mod Ports
 pub mod Relayed
 pub mod Said
+pub mod Sending
 pub mod Served

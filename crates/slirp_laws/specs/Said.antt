@@ -1,6 +1,6 @@
 -- What the laws come to, in the words of guests, their ports and their datagrams.
-use Rattle.std.specs.Prelude.{◌≡◌, ℕ, zero, suc, ◌+◌, ◌-◌, ◌%◌, ◌^◌, ◌<◌, ◌≤◌, ◌||◌, not, nat_le, true, false, List, [], ◌∷◌, drop, length, Option, Some, None, if◌then◌else◌}
-use Rattle.world_face.specs.Journal.{Entry, UdpOpen, UdpSend, UdpRecv}
+use Rattle.std.specs.Prelude.{◌≡◌, ℕ, zero, suc, ◌+◌, ◌-◌, ◌%◌, ◌^◌, ◌<◌, ◌≤◌, ◌||◌, not, nat_le, Bool, true, false, List, [], ◌∷◌, drop, length, Option, Some, None, if◌then◌else◌}
+use Rattle.world_face.specs.Journal.{Entry, Connect, UdpOpen, UdpSend, UdpRecv}
 use Rattle.world_face.specs.declared.Made.{Made}
 use Rattle.world_face.specs.declared.Made.TheVariants.{Done as MadeDone, Failed as MadeFailed}
 use Rattle.world_face.specs.declared.Sent.{Sent}
@@ -18,12 +18,16 @@ use Rattle.ipv4_head.specs.Ip.{Ip, read_ip}
 use Rattle.udp_assoc.specs.Associations.{idle_life, most_associations}
 use Rattle.udp_assoc.specs.declared.assocs.Association.{Association}
 use Rattle.udp_assoc.specs.Udp.{Udp, udp_octets}
+use Rattle.flow_book.specs.Book.{book}
+use Rattle.flow_book.specs.Flows.{Flow, is_strange, owner}
+use Rattle.flow_book.specs.Segments.{OnTuple, asked_in, segment_in}
 use Rattle.run_laws.specs.Happenings.{Arrival, happens}
 use Rattle.run_laws.specs.Moments.{moment}
 use Rattle.run_laws.specs.Packets.{Datagram, Packet}
 use Rattle.run_laws.specs.Sockets.{is_among}
-use Rattle.slirp_laws.specs.Answers.{Answer, IpAnswer, datagrams_out, frames_for, frames_of, identification, no_network, owed_for_packet, reply_for, told_about}
+use Rattle.slirp_laws.specs.Answers.{Answer, IpAnswer, datagrams_out, frames_for, frames_of, identification, left, no_network, owed_for_packet, reply_for, reset_for, strays, told_about}
 use Rattle.slirp_laws.specs.Ports.{associations_open, last_datagram, last_use, mac_of, opened_for, used_at}
+use Rattle.slirp_laws.specs.Sending.{is_well_sent, may_ask}
 
 -- A datagram that is sent is the payload, whole, of the one that came last; it goes where that one may go, on a socket that was opened for the port from which it came.
 pub record SendsWhatCame (config : Config) (past : List Entry) (socket : ℕ) (to : Endpoint) (octets : List ℕ) : Type 0 where
@@ -42,12 +46,13 @@ pub record IsLongestUnused (socket : ℕ) (past : List Entry) : Type 0 where
 abbrev pub IsIdle : ℕ → List Entry → Type 0
 IsIdle socket past = used_at socket past + idle_life ≤ moment past
 
--- What came last that an answer may be owed for: a packet of the guests; or a peer's datagram, on a socket; or word that the datagram of a guest that came last could get no socket, or couldn't be sent.
+-- What came last that an answer may be owed for: a packet of the guests, a segment among them that is no flow's or not; or a peer's datagram, on a socket; or word that the datagram of a guest that came last could get no socket, or couldn't be sent; or that the host refused the connection for which the segment asked that came last.
 pub data Occasion : Type 0 where
   NoOccasion : Occasion
-  Came : Packet → Occasion
+  Came : (stray : Bool) → Packet → Occasion
   Heard : (socket : ℕ) (peer : Endpoint) (octets : List ℕ) → Occasion
   Unsent : Datagram → Occasion
+  Unconnected : OnTuple → Occasion
 
 abbrev pub unsent_or : Option Datagram → Occasion → Occasion
 unsent_or None before = before
@@ -67,26 +72,36 @@ by_got (From peer n) socket octets before = Heard socket peer octets
 by_got GotNotYet socket octets before = before
 by_got GotFailed socket octets before = before
 
-abbrev pub by_call : Entry → Option Datagram → Occasion → Occasion
-by_call (UdpOpen socket at answer) last before = by_made answer last before
-by_call (UdpSend socket to octets answer) last before = by_sent answer last before
-by_call (UdpRecv socket asked answer octets) last before = by_got answer socket octets before
-by_call _ last before = before
+abbrev pub refused_or : Option OnTuple → Occasion → Occasion
+refused_or None before = before
+refused_or (Some on) before = Unconnected on
 
-abbrev pub occasion_after : Entry → Option Arrival → Option Datagram → Occasion → Occasion
-occasion_after e None last before = by_call e last before
-occasion_after e (Some arrival) last before = Came arrival.packet
+abbrev pub by_joined : Made → Option OnTuple → Occasion → Occasion
+by_joined MadeDone on before = before
+by_joined MadeFailed on before = refused_or on before
+
+abbrev pub by_call : Entry → Option Datagram → Option OnTuple → Occasion → Occasion
+by_call (Connect socket to answer) last on before = by_joined answer on before
+by_call (UdpOpen socket at answer) last on before = by_made answer last before
+by_call (UdpSend socket to octets answer) last on before = by_sent answer last before
+by_call (UdpRecv socket asked answer octets) last on before = by_got answer socket octets before
+by_call _ last on before = before
+
+abbrev pub occasion_after : Config → Entry → List Entry → Option Arrival → Occasion → Occasion
+occasion_after config e past None before = by_call e (last_datagram config past) (book config past).came before
+occasion_after config e past (Some arrival) before = Came (strays config (book config (e ∷ past)) arrival.packet) arrival.packet
 
 abbrev pub last_occasion : Config → List Entry → Occasion
 last_occasion config [] = NoOccasion
-last_occasion config (e ∷ past) = occasion_after e (happens config past e).came (last_datagram config past) (last_occasion config past)
+last_occasion config (e ∷ past) = occasion_after config e past (happens config past e).came (last_occasion config past)
 
 -- what is owed for it
 abbrev pub owed_for : Config → List Entry → Occasion → List Answer
 owed_for config past NoOccasion = []
-owed_for config past (Came packet) = owed_for_packet config packet
+owed_for config past (Came stray packet) = owed_for_packet config stray packet
 owed_for config past (Heard socket peer octets) = reply_for config peer octets (opened_for config socket past) (mac_of config socket past)
 owed_for config past (Unsent d) = told_about config no_network d
+owed_for config past (Unconnected on) = reset_for on ∷ []
 
 -- the identification of an answer of which so many frames are out: where none is it is the next one, and later that of the datagram that began last
 abbrev pub identification_with : ℕ → List Entry → ℕ
@@ -105,6 +120,23 @@ pub record AnswersLast (config : Config) (past : List Entry) (frame : List ℕ) 
   pub out : ℕ
   pub rest : List (List ℕ)
   pub is : drop out (frames_for config (identification_with out past) answer) ≡ frame ∷ rest
+
+-- A frame is a flow's own: nothing is left of the answer to what came last; the frame carries a segment between the two ends of the flow, which was opened last on these, and answers no stray segment; it is written as that of a whole datagram is, with the next identification, and goes to a hardware address from which the flow's guest was learnt.
+pub record IsOfFlow (config : Config) (past : List Entry) (frame : List ℕ) : Type 0 where
+  pub nothing : left config past ≡ []
+  pub on : OnTuple
+  pub carried : segment_in frame ≡ Some on
+  pub flow : Flow
+  pub owner : owner on.tuple (book config past).flows ≡ Some flow
+  pub own : is_strange on.segment flow ≡ false
+  pub sent : is_well_sent config past frame on ≡ true
+
+-- A frame asks for the hardware address of a guest for which a flow was accepted, and nothing is left of the answer to what came last.
+pub record AsksForGuest (config : Config) (past : List Entry) (frame : List ℕ) : Type 0 where
+  pub nothing : left config past ≡ []
+  pub guest : ℕ
+  pub asked : asked_in frame ≡ Some guest
+  pub may : may_ask config past frame (Some guest) ≡ true
 
 -- what a frame carries, as it is read: a datagram of IPv4 (RFC 894; RFC 791, 3.1)
 pub record Carries (frame : List ℕ) (ip : Ip) : Type 0 where

@@ -2,6 +2,7 @@ use Rattle.std.proofs.Common.{◌≡◌, List, [], ◌∷◌, ◌++◌, length, 
 use Rattle.world_face.specs.Tells.{Brings}
 use Rattle.world_face.proofs.Telling.{brings_from, makes_as}
 use Rattle.udp_assoc.specs.Associations.{numbered}
+use Rattle.slirp_laws.specs.Built.{as_built}
 use Rattle.slirp_core.specs.Holds.{Holds, standing}
 use Rattle.slirp_core.specs.State.{SlirpState}
 use Rattle.slirp_core.proofs.Associating.{below_heard, heard, receives_on}
@@ -17,7 +18,7 @@ returns-clause-receives g c a held =
 pub returns-clause-makes : goal.returns-clause-makes
 returns-clause-makes g c config count wants item items link reported out =
     let i = c.self.inside in
-    let slirp : SlirpState = record { config = i.policy; known = i.guests; sent = i.sent; pending = i.outgoing; moment = i.moment; number = i.number; associations = i.associations.list; parts = i.reasm } in
+    let slirp : SlirpState = record { config = as_built i.policy; known = i.guests; sent = i.sent; pending = i.outgoing; moment = i.moment; number = i.number; associations = i.associations.list; parts = i.reasm } in
     let none = ap (λ (s : SlirpState). s.pending) c.self.view_is ∙ c.requires.none in
     subst (λ (s : SlirpState). Brings (g.W.World.tells c.args.world.now) (g.W.World.tells c.host-reply.new.world) (Holds config (standing count wants (item ∷ items)) s link) (Holds config (standing count wants items) c.answer_peer.new.self link)) c.self.view_is
     (brings_from c.host-reply.ensures.hears (λ made hears past holds.

@@ -3,6 +3,7 @@ use Rattle.ether_frame.specs.Ether.{ether_of, read_ether}
 use Rattle.ipv4_head.specs.Sets.{PartSet, young}
 use Rattle.run_laws.specs.Fragments.{fragment_in, with_fragment}
 use Rattle.slirp_laws.specs.Answers.{frames_of}
+use Rattle.slirp_laws.specs.Built.{as_built}
 use Rattle.slirp_core.specs.Fragments.{IsHeld, brought_errand, taken_on}
 use Rattle.slirp_core.specs.Packets.{errand_in, owed_for_frame, with_ether}
 use Rattle.slirp_core.specs.State.{SlirpState}
@@ -12,7 +13,7 @@ use Rattle.slirp_core.proofs.network.Slirp.input.Goals as goal
 pub returns-then-ether-eq-IPV4-clause-errand : goal.returns-then-ether-eq-IPV4-clause-errand
 returns-then-ether-eq-IPV4-clause-errand c =
     let i = c.self.inside in
-    let slirp : SlirpState = record { config = i.policy; known = i.guests; sent = i.sent; pending = i.outgoing; moment = i.moment; number = i.number; associations = i.associations.list; parts = i.reasm } in
+    let slirp : SlirpState = record { config = as_built i.policy; known = i.guests; sent = i.sent; pending = i.outgoing; moment = i.moment; number = i.number; associations = i.associations.list; parts = i.reasm } in
     let frame = c.args.frame.now in
     subst (λ (s : SlirpState). (held : List PartSet) → IsHeld s.parts held → brought_errand s.config c.take_ip.result c.take_ip.new.room ≡ errand_in s.config s.moment (young s.moment held) frame) c.self.view_is
     (λ held h. (c.take_ip.ensures.arrives held h).errand ∙ errand_of_packet slirp c.take_ip.new.self.parts (young slirp.moment held) frame (ether_of c.in-Ok.ether) c.in-Ok.ensures.fields c.if-ether-eq-IPV4.true)
@@ -20,7 +21,7 @@ returns-then-ether-eq-IPV4-clause-errand c =
 pub returns-then-ether-eq-IPV4-clause-changes : goal.returns-then-ether-eq-IPV4-clause-changes
 returns-then-ether-eq-IPV4-clause-changes c =
     let i = c.self.inside in
-    let slirp : SlirpState = record { config = i.policy; known = i.guests; sent = i.sent; pending = i.outgoing; moment = i.moment; number = i.number; associations = i.associations.list; parts = i.reasm } in
+    let slirp : SlirpState = record { config = as_built i.policy; known = i.guests; sent = i.sent; pending = i.outgoing; moment = i.moment; number = i.number; associations = i.associations.list; parts = i.reasm } in
     let frame = c.args.frame.now in
     let new = c.take_ip.new.self in
     subst (λ (s : SlirpState). (held : List PartSet) → IsHeld s.parts held → taken_on new c.take_ip.result c.take_ip.new.room ≡ record s {
@@ -33,7 +34,7 @@ returns-then-ether-eq-IPV4-clause-changes c =
 pub returns-then-ether-eq-IPV4-clause-parts : goal.returns-then-ether-eq-IPV4-clause-parts
 returns-then-ether-eq-IPV4-clause-parts c =
     let i = c.self.inside in
-    let slirp : SlirpState = record { config = i.policy; known = i.guests; sent = i.sent; pending = i.outgoing; moment = i.moment; number = i.number; associations = i.associations.list; parts = i.reasm } in
+    let slirp : SlirpState = record { config = as_built i.policy; known = i.guests; sent = i.sent; pending = i.outgoing; moment = i.moment; number = i.number; associations = i.associations.list; parts = i.reasm } in
     let frame = c.args.frame.now in
     let new = c.take_ip.new.self in
     subst (λ (s : SlirpState). (held : List PartSet) → IsHeld s.parts held → IsHeld new.parts (with_fragment s.moment (fragment_in s.config frame) held)) c.self.view_is

@@ -3,6 +3,7 @@ use Rattle.world_face.specs.Tells.{Brings}
 use Rattle.world_face.proofs.Telling.{brings_from}
 use Rattle.udp_assoc.specs.Relays.{Relays}
 use Rattle.slirp_laws.specs.Relayed.{step_for}
+use Rattle.slirp_laws.specs.Built.{as_built}
 use Rattle.slirp_core.specs.Datagrams.{errand_of}
 use Rattle.slirp_core.specs.Holds.{HoldsAt, Holds}
 use Rattle.slirp_core.specs.Replies.{outbound_of, told_by}
@@ -14,7 +15,7 @@ use Rattle.slirp_core.proofs.network.Slirp.relay.Goals as goal
 pub returns-clause-makes : goal.returns-clause-makes
 returns-clause-makes g c config at link =
     let i = c.self.inside in
-    let slirp : SlirpState = record { config = i.policy; known = i.guests; sent = i.sent; pending = i.outgoing; moment = i.moment; number = i.number; associations = i.associations.list; parts = i.reasm } in
+    let slirp : SlirpState = record { config = as_built i.policy; known = i.guests; sent = i.sent; pending = i.outgoing; moment = i.moment; number = i.number; associations = i.associations.list; parts = i.reasm } in
     let errand = errand_of c.args.errand.now in
     subst (λ (s : SlirpState). Brings (g.W.World.tells c.args.world.now) (g.W.World.tells c.guest-reply.new.world) (HoldsAt config at (step_for s.associations (Some errand)) s link) (Holds config at c.tell.new.self link)) c.self.view_is
     (brings_from c.guest-reply.ensures.relays (λ made relays past holds.

@@ -1,10 +1,10 @@
 use Rattle.std.proofs.Common.{◌≡◌, true, false, Some, sym, ◌∙◌, ap}
 use Rattle.ipv4_head.specs.Ip.{ip_of}
 use Rattle.host_policy.specs.Addresses.{Config}
-use Rattle.slirp_core.specs.Packets.{is_message_to_us, udp_of}
+use Rattle.slirp_core.specs.Packets.{is_message_to_us, is_segment, udp_of}
 use Rattle.slirp_core.specs.Datagrams.{datagram_of}
 use Rattle.slirp_core.specs.State.{SlirpState}
-use Rattle.slirp_core.proofs.Taking.{message_to_us, no_message, no_errand}
+use Rattle.slirp_core.proofs.Taking.{message_to_us, no_message, no_errand, no_errand_of_segment, segment_came}
 use Rattle.slirp_core.proofs.network.Slirp.take_datagram.Goals as goal
 
 pub returns-then-is_message_to_us-clause-errand : goal.returns-then-is_message_to_us-clause-errand
@@ -28,4 +28,20 @@ returns-clause-changes c =
     let policy = ap (λ (s : SlirpState). s.config) c.self.view_is in
     let asked : is_message_to_us c.args.self.now.config ip ≡ false = ap (λ (k : Config). is_message_to_us k ip) (sym policy) ∙ sym c.is_message_to_us.ensures ∙ c.if-is_message_to_us.false in
     let udp : Some d ≡ udp_of c.args.self.now.config c.args.mac.0 ip = c.in_ok-datagram.ensures.datagram ∙ ap (λ (k : Config). udp_of k c.args.mac.0 ip) policy in
-    c.take_udp.ensures.changes ∙ no_message c.args.self.now c.args.mac.0 ip asked (Some d) udp
+    let carries : is_segment c.args.self.now.config ip ≡ false = ap (λ (k : Config). is_segment k ip) (sym policy) ∙ sym c.is_segment.ensures ∙ c.if-is_segment.false in
+    c.take_udp.ensures.changes ∙ no_message c.args.self.now c.args.mac.0 ip asked carries (Some d) udp
+
+pub returns-then-is_segment-clause-errand : goal.returns-then-is_segment-clause-errand
+returns-then-is_segment-clause-errand c =
+    let ip = ip_of c.args.datagram.now in
+    let policy = ap (λ (s : SlirpState). s.config) c.self.view_is in
+    let carries : is_segment c.args.self.now.config ip ≡ true = ap (λ (k : Config). is_segment k ip) (sym policy) ∙ sym c.is_segment.ensures ∙ c.if-is_segment.true in
+    no_errand_of_segment c.args.self.now c.args.mac.0 ip carries
+
+pub returns-then-is_segment-clause-changes : goal.returns-then-is_segment-clause-changes
+returns-then-is_segment-clause-changes c =
+    let ip = ip_of c.args.datagram.now in
+    let policy = ap (λ (s : SlirpState). s.config) c.self.view_is in
+    let asked : is_message_to_us c.args.self.now.config ip ≡ false = ap (λ (k : Config). is_message_to_us k ip) (sym policy) ∙ sym c.is_message_to_us.ensures ∙ c.if-is_message_to_us.false in
+    let carries : is_segment c.args.self.now.config ip ≡ true = ap (λ (k : Config). is_segment k ip) (sym policy) ∙ sym c.is_segment.ensures ∙ c.if-is_segment.true in
+    c.take_tcp.ensures ∙ segment_came c.args.self.now c.args.mac.0 ip asked carries
