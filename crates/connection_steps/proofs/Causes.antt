@@ -17,7 +17,7 @@ use Rattle.tcp_guest.specs.declared.Stage.TheVariants as stage
 use Rattle.flow_laws.specs.Settings.{Settings}
 use Rattle.flow_laws.specs.Event.{Arrives, Closes, ConnectFails, WriteFails, ReadFails, EndFails, At, Event, Opens, Segment, Story}
 use Rattle.flow_laws.specs.Host.{answered, got_end}
-use Rattle.flow_laws.specs.Flow.{guest, host, is_accepted, is_closed, next_number as number_after, our_number, syn_is_out}
+use Rattle.flow_laws.specs.Flow.{guest, host, is_accepted, is_closed, next_number as number_after, our_number, syn_is_out, their_number}
 use Rattle.flow_laws.specs.Close.{connects_too_long, finds_no_guest, follows_reset, gives_up, host_failed, host_was_ended, is_done, newest_rst, our_fin_is_acked, owes_reset}
 use Rattle.flow_laws.specs.Lawful.{Act, AskConnected, EndHost, HasCause, May, Read, Write, act_of}
 use Rattle.flow_laws.specs.Dutiful.{Must, OffersEnough}
@@ -50,7 +50,7 @@ module _ (s : Settings) (c : Connection) (up : Upward) (down : Downward) (past :
 
   -- ---- what was awaited too long
 
-  late_cause : IsTrue (gives_up m past || connects_too_long m past) → HasCause false false known m past
+  pub late_cause : IsTrue (gives_up m past || connects_too_long m past) → HasCause false false known m past
   late_cause late = inr (inl late)
 
   -- nothing of what went out nine times was acknowledged
@@ -71,33 +71,36 @@ module _ (s : Settings) (c : Connection) (up : Upward) (down : Downward) (past :
       (late_owes past m false false known (or_second (gives_up m past) (connects_too_long m past) is) refl refl (unanswered_not_done past (unanswered opening)))
 
   -- the guest wasn't found
+  pub unfound_cause : IsTrue (finds_no_guest known m past) → HasCause false false known m past
+  unfound_cause is = inl (or_second (is_done past || false || host_failed past) (finds_no_guest known m past) is)
+
   pub unfound_closes : IsTrue (finds_no_guest known m past) → (is_accepted past && not (syn_is_out past)) ≡ true → IsOver s (reset c) (At m (Closes false false known) ∷ past) m
   unfound_closes is silent =
       resets_over s c up down past now m h past refl refl refl h.gives.keeps false false known
-      (closes s past now m false false known runs on h.goes.open_yet (inl (or_second (is_done past || false || host_failed past) (finds_no_guest known m past) is)))
+      (closes s past now m false false known runs on h.goes.open_yet (unfound_cause is))
       (λ no_silence. let not_it = sym silent ∙ no_silence in absurd cc)
 
   -- ---- a call on the socket failed
 
-  failed_cause : (last : Story) → host_failed last ≡ true → HasCause false false known m last
-  failed_cause last is = inl (or_first (is_done last || false || host_failed last) (finds_no_guest known m last) (or_second (is_done last || false) (host_failed last) is))
+  pub failed_cause : (at_end : Bool) (last : Story) → host_failed last ≡ true → HasCause false at_end known m last
+  failed_cause at_end last is = inl (or_first (is_done last || at_end || host_failed last) (finds_no_guest known m last) (or_second (is_done last || at_end) (host_failed last) is))
 
-  fails : (e : Event) (act : Act) → (Opens e → ⊥) → act_of e ≡ Some act → May s past m act → Must s past m act → is_closed (At m e ∷ past) ≡ false → host_failed (At m e ∷ past) ≡ true
-      → Runs s (At m (Closes false false known) ∷ At m e ∷ past) m
-  fails e act opens_none is may must open_yet failed =
-      closes s (At m e ∷ past) m m false false known (runs_on s past now m e act runs on opens_none is may must) (omega arith) open_yet (failed_cause (At m e ∷ past) failed)
+  fails : (at_end : Bool) (e : Event) (act : Act) → (Opens e → ⊥) → act_of e ≡ Some act → May s past m act → Must s past m act → is_closed (At m e ∷ past) ≡ false → host_failed (At m e ∷ past) ≡ true
+      → Runs s (At m (Closes false at_end known) ∷ At m e ∷ past) m
+  fails at_end e act opens_none is may must open_yet failed =
+      closes s (At m e ∷ past) m m false at_end known (runs_on s past now m e act runs on opens_none is may must) (omega arith) open_yet (failed_cause at_end (At m e ∷ past) failed)
 
-  pub refused_closes : is_connects c.stage ≡ true → is_opening c.stage ≡ true → IsOver s (reset c) (At m (Closes false false known) ∷ At m ConnectFails ∷ past) m
-  refused_closes connects opening =
-      resets_over s c up down past now m h (At m ConnectFails ∷ past) refl refl refl h.gives.keeps false false known
-      (fails ConnectFails AskConnected (λ none. none) refl (may_ask s past m h.goes.well h.goes.open_yet) (must_ask s past m h.goes.free) h.goes.open_yet refl)
-      (failed_owes (At m ConnectFails ∷ past) m false false known refl (unanswered_not_done (At m ConnectFails ∷ past) (unanswered opening)))
+  pub refused_closes : (at_end : Bool) → is_connects c.stage ≡ true → is_opening c.stage ≡ true → IsOver s (reset c) (At m (Closes false at_end known) ∷ At m ConnectFails ∷ past) m
+  refused_closes at_end connects opening =
+      resets_over s c up down past now m h (At m ConnectFails ∷ past) refl refl refl h.gives.keeps false at_end known
+      (fails at_end ConnectFails AskConnected (λ none. none) refl (may_ask s past m h.goes.well h.goes.open_yet) (must_ask s past m h.goes.free) h.goes.open_yet refl)
+      (failed_owes (At m ConnectFails ∷ past) m false at_end known refl (unanswered_not_done (At m ConnectFails ∷ past) (unanswered opening)))
 
-  pub read_fails_closes : is_open c.transmission.end ≡ true → IsOver s (reset c) (At m (Closes false false known) ∷ At m ReadFails ∷ past) m
-  read_fails_closes yet =
-      resets_over s c up down past now m h (At m ReadFails ∷ past) refl refl refl h.gives.keeps false false known
-      (fails ReadFails Read (λ none. none) refl (may_read s past m none_ended h.goes.well h.goes.open_yet) (must_read s past m h.goes.free) h.goes.open_yet refl)
-      (failed_owes (At m ReadFails ∷ past) m false false known refl (unacked_not_done (At m ReadFails ∷ past) not_acked))
+  pub read_fails_closes : (at_end : Bool) → is_open c.transmission.end ≡ true → IsOver s (reset c) (At m (Closes false at_end known) ∷ At m ReadFails ∷ past) m
+  read_fails_closes at_end yet =
+      resets_over s c up down past now m h (At m ReadFails ∷ past) refl refl refl h.gives.keeps false at_end known
+      (fails at_end ReadFails Read (λ none. none) refl (may_read s past m none_ended h.goes.well h.goes.open_yet) (must_read s past m h.goes.free) h.goes.open_yet refl)
+      (failed_owes (At m ReadFails ∷ past) m false at_end known refl (unacked_not_done (At m ReadFails ∷ past) not_acked))
     where
       none_ended : got_end (host past) ≡ false
       none_ended = sym h.gives.keeps.ended ∙ ap not yet
@@ -120,20 +123,20 @@ module _ (s : Settings) (c : Connection) (up : Upward) (down : Downward) (past :
     not_ended : host_was_ended past ≡ false
     not_ended = (h.receives reached).host_ended ∙ untold
 
-    pub write_fails_closes : (k : ℕ) → k ≡ min 16384 (length up.held) → IsOver s (reset c) (At m (Closes false false known) ∷ At m (WriteFails (take k up.held)) ∷ past) m
-    write_fails_closes k all =
+    pub write_fails_closes : (at_end : Bool) → (k : ℕ) → k ≡ min 16384 (length up.held) → IsOver s (reset c) (At m (Closes false at_end known) ∷ At m (WriteFails (take k up.held)) ∷ past) m
+    write_fails_closes at_end k all =
         let w = wrote s.ring (part_of c up) (guest past) k 0 (omega arith) (omega (arith, all)) (h.receives reached).follows in
         let enough : OffersEnough past (take k up.held) = subst (λ (j : ℕ). OffersEnough past (take j up.held)) (sym all) (offers s past (part_of c up) (h.receives reached).follows) in
-        resets_over s c up down past now m h (At m (WriteFails (take k up.held)) ∷ past) refl refl refl h.gives.keeps false false known
-        (fails (WriteFails (take k up.held)) (Write (take k up.held)) (λ none. none) refl (may_write s past m (take k up.held) w.1 w.2 h.goes.well h.goes.open_yet) (must_write s past m (take k up.held) enough h.goes.free) h.goes.open_yet refl)
-        (failed_owes (At m (WriteFails (take k up.held)) ∷ past) m false false known refl (unended_not_done (At m (WriteFails (take k up.held)) ∷ past) not_ended))
+        resets_over s c up down past now m h (At m (WriteFails (take k up.held)) ∷ past) refl refl refl h.gives.keeps false at_end known
+        (fails at_end (WriteFails (take k up.held)) (Write (take k up.held)) (λ none. none) refl (may_write s past m (take k up.held) w.1 w.2 h.goes.well h.goes.open_yet) (must_write s past m (take k up.held) enough h.goes.free) h.goes.open_yet refl)
+        (failed_owes (At m (WriteFails (take k up.held)) ∷ past) m false at_end known refl (unended_not_done (At m (WriteFails (take k up.held)) ∷ past) not_ended))
 
-    pub end_fails_closes : up.held ≡ [] → c.received.ended ≡ true → IsOver s (reset c) (At m (Closes false false known) ∷ At m EndFails ∷ past) m
-    end_fails_closes none ended =
+    pub end_fails_closes : (at_end : Bool) → up.held ≡ [] → c.received.ended ≡ true → IsOver s (reset c) (At m (Closes false at_end known) ∷ At m EndFails ∷ past) m
+    end_fails_closes at_end none ended =
         let t = told_the_end s.ring (part_of c up) (guest past) none ended untold (h.receives reached).follows in
-        resets_over s c up down past now m h (At m EndFails ∷ past) refl refl refl h.gives.keeps false false known
-        (fails EndFails EndHost (λ none. none) refl (may_end s past m (t.1, t.2) h.goes.well h.goes.open_yet) (must_end s past m h.goes.free) h.goes.open_yet refl)
-        (failed_owes (At m EndFails ∷ past) m false false known refl (unended_not_done (At m EndFails ∷ past) not_ended))
+        resets_over s c up down past now m h (At m EndFails ∷ past) refl refl refl h.gives.keeps false at_end known
+        (fails at_end EndFails EndHost (λ none. none) refl (may_end s past m (t.1, t.2) h.goes.well h.goes.open_yet) (must_end s past m h.goes.free) h.goes.open_yet refl)
+        (failed_owes (At m EndFails ∷ past) m false at_end known refl (unended_not_done (At m EndFails ∷ past) not_ended))
 
   -- ---- both ends passed
 
@@ -154,8 +157,11 @@ module _ (s : Settings) (c : Connection) (up : Upward) (down : Downward) (past :
     is_done_now : IsTrue (is_done past)
     is_done_now = done_is past (part_of c up) c.end_acknowledged c.ours_first c.acknowledged (h.receives reached).ends ((h.receives reached).host_ended ∙ four.1) fin_now four.3
 
+    pub done_cause : HasCause directly ended known m past
+    done_cause = inl (or_first (is_done past || ended || host_failed past) (finds_no_guest known m past) (or_first (is_done past || ended) (host_failed past) (or_first (is_done past) ended is_done_now)))
+
     done_runs : Runs s (At m (Closes directly ended known) ∷ past) m
-    done_runs = closes s past now m directly ended known runs on h.goes.open_yet (inl (or_first (is_done past || ended || host_failed past) (finds_no_guest known m past) (or_first (is_done past || ended) (host_failed past) (or_first (is_done past) ended is_done_now))))
+    done_runs = closes s past now m directly ended known runs on h.goes.open_yet done_cause
 
     equal : (a b : ℕ) → b ≡ a → nat_eq a b ≡ true
     equal a b is = grind (arith, nat_tests)
@@ -225,35 +231,44 @@ module _ (s : Settings) (c : Connection) (up : Upward) (down : Downward) (past :
     dutiful = (h.goes.free, h.goes.dutiful);
   }
 
-  reset_over : (seg : Segment) → HasCause true false known m (At m (Arrives seg) ∷ past) → follows_reset true (At m (Arrives seg) ∷ past) ≡ true
-      → IsOver s (record c { stage = stage.Gone }) (At m (Closes true false known) ∷ At m (Arrives seg) ∷ past) m
-  reset_over seg cause fatal = record {
-    runs = closes s (At m (Arrives seg) ∷ past) m m true false known (came seg) (omega arith) h.goes.open_yet cause;
+  reset_over : (at_end : Bool) (seg : Segment) → HasCause true at_end known m (At m (Arrives seg) ∷ past) → follows_reset true (At m (Arrives seg) ∷ past) ≡ true
+      → IsOver s (record c { stage = stage.Gone }) (At m (Closes true at_end known) ∷ At m (Arrives seg) ∷ past) m
+  reset_over at_end seg cause fatal = record {
+    runs = closes s (At m (Arrives seg) ∷ past) m m true at_end known (came seg) (omega arith) h.goes.open_yet cause;
     closed = refl;
     well = refl;
     over = refl;
-    owes = reset_owes_none (At m (Arrives seg) ∷ past) m true false known fatal;
+    owes = reset_owes_none (At m (Arrives seg) ∷ past) m true at_end known fatal;
     pays = λ seq ack is. absurd cc;
   }
 
   -- at the number that is expected next
-  pub next_reset_closes : (seg : Segment) → is_calls c.stage ≡ false → seg.rst ≡ true → seg.number ≡ next_number c.received
-      → IsOver s (record c { stage = stage.Gone }) (At m (Closes true false known) ∷ At m (Arrives seg) ∷ past) m
-  next_reset_closes seg reached rst number =
+  pub next_reset_cause : (at_end : Bool) (seg : Segment) → is_calls c.stage ≡ false → seg.rst ≡ true → seg.number ≡ next_number c.received → HasCause true at_end known m (At m (Arrives seg) ∷ past)
+  next_reset_cause at_end seg reached rst number =
+      reset_closes s m past seg rst (part_of c up) at_end known m (h.opened.theirs ∙ ap (λ (b : Bool). if b then None else Some c.received.first) reached) (h.receives reached).follows number
+
+  pub next_reset_closes : (at_end : Bool) (seg : Segment) → is_calls c.stage ≡ false → seg.rst ≡ true → seg.number ≡ next_number c.received
+      → IsOver s (record c { stage = stage.Gone }) (At m (Closes true at_end known) ∷ At m (Arrives seg) ∷ past) m
+  next_reset_closes at_end seg reached rst number =
       let r = h.receives reached in
       let theirs = h.opened.theirs ∙ ap (λ (b : Bool). if b then None else Some c.received.first) reached in
-      reset_over seg (reset_closes s m past seg rst (part_of c up) false known m theirs r.follows number)
+      reset_over at_end seg (next_reset_cause at_end seg reached rst number)
       (reset_is_fatal s m past seg rst (part_of c up) c.acknowledged theirs r.ends.at r.current number)
 
   -- or, of a guest that is called, where it acknowledges our SYN
-  pub called_reset_closes : (seg : Segment) → is_calls c.stage ≡ true → seg.rst ≡ true → seg.ack ≡ true → seg.acknowledgement ≡ number_of c.ours 0
-      → IsOver s (record c { stage = stage.Gone }) (At m (Closes true false known) ∷ At m (Arrives seg) ∷ past) m
-  called_reset_closes seg calls rst ack number =
-      let unknown = h.opened.theirs ∙ ap (λ (b : Bool). if b then None else Some c.received.first) calls in
-      reset_over seg (reset_turns_away s m past seg rst false known m unknown ack after_ours) (turning_away_is_fatal s m past seg rst unknown ack after_ours)
-    where
-      after_ours : seg.acknowledgement ≡ number_after (our_number past)
-      after_ours = number ∙ ap (λ (n : ℕ). n % 2 ^ 32) (let more : c.ours + 1 + 0 ≡ c.ours + 1 = omega arith in more) ∙ ap (λ (f : ℕ). number_after f) (sym h.opened.ours)
+  unknown_yet : is_calls c.stage ≡ true → their_number past ≡ None
+  unknown_yet calls = h.opened.theirs ∙ ap (λ (b : Bool). if b then None else Some c.received.first) calls
+
+  after_ours : (seg : Segment) → seg.acknowledgement ≡ number_of c.ours 0 → seg.acknowledgement ≡ number_after (our_number past)
+  after_ours seg number = number ∙ ap (λ (n : ℕ). n % 2 ^ 32) (let more : c.ours + 1 + 0 ≡ c.ours + 1 = omega arith in more) ∙ ap (λ (f : ℕ). number_after f) (sym h.opened.ours)
+
+  pub called_reset_cause : (at_end : Bool) (seg : Segment) → is_calls c.stage ≡ true → seg.rst ≡ true → seg.ack ≡ true → seg.acknowledgement ≡ number_of c.ours 0 → HasCause true at_end known m (At m (Arrives seg) ∷ past)
+  called_reset_cause at_end seg calls rst ack number = reset_turns_away s m past seg rst at_end known m (unknown_yet calls) ack (after_ours seg number)
+
+  pub called_reset_closes : (at_end : Bool) (seg : Segment) → is_calls c.stage ≡ true → seg.rst ≡ true → seg.ack ≡ true → seg.acknowledgement ≡ number_of c.ours 0
+      → IsOver s (record c { stage = stage.Gone }) (At m (Closes true at_end known) ∷ At m (Arrives seg) ∷ past) m
+  called_reset_closes at_end seg calls rst ack number =
+      reset_over at_end seg (called_reset_cause at_end seg calls rst ack number) (turning_away_is_fatal s m past seg rst (unknown_yet calls) ack (after_ours seg number))
 
   -- ---- the run is over
 

@@ -50,7 +50,7 @@ learn_follows s f mac past now h = by f.place f.shut h
     by (Resting since) b q = record { rests = q.rests; mru = q.mru; known = λ none. q.known (or_none mac f.mac none) }
 
 pub learn_then : (f new : Splice) (mac : Option Mac) (link next : LinkState) (first last now : ℕ) (made : List Entry) → SendsOn (learnt f mac) new link next first last now made → SendsOn f new link next first last now made
-learn_then f new mac link next first last now made sends = ((λ s past before known on h. sends.0 s past before known on (learn_follows s f mac past before h)), sends.1)
+learn_then f new mac link next first last now made sends = ((λ s past before ended known on h. sends.0 s past before ended known on (learn_follows s f mac past before h)), sends.1)
 
 -- ---- it is asked for
 
@@ -78,12 +78,12 @@ module _ (f : Splice) (now : ℕ) (unknown : f.mac ≡ None) (asks : asks_now f 
   stays : first ≡ (first + 0) % 2 ^ 16
   stays = omega (arith, small)
 
-  module _ (s : Settings) (past : Story) (before : ℕ) (known : Bool) (on : before ≤ now) (h : Follows s f past before) where
+  module _ (s : Settings) (past : Story) (before : ℕ) (ended known : Bool) (on : before ≤ now) (h : Follows s f past before) where
     o : IsOpen s f past before
     o = open_is s f past before parts.0 h
 
     abbrev Result : Type 0
-    Result = (serves : Serves s new false known first now past (LinkWrite octets answer ∷ [])) × (first ≡ ident_after first serves.beats)
+    Result = (serves : Serves s new false ended known first now past (LinkWrite octets answer ∷ [])) × (first ≡ ident_after first serves.beats)
 
     seeks_now : (n at : ℕ) → f.asked ≡ n → (nat_eq n 0 || nat_le f.ask_at now) ≡ true → Seeks (At now AsksAddress ∷ past) (n + 1) (now + least_wait n)
     seeks_now zero at is due = asks_first past now (least_wait 0) (let opened = first_opened past o.holds.goes.story in let moment = o.holds.goes.moment in omega (arith, opened, moment, on)) (omega arith)
@@ -96,7 +96,7 @@ module _ (f : Splice) (now : ℕ) (unknown : f.mac ≡ None) (asks : asks_now f 
     taken some is = (
       record {
         beats = At now AsksAddress ∷ [];
-        are = subst (λ (g : Splice). AreEvents s g.face g.mac false known first now past (LinkWrite octets answer ∷ []) (At now AsksAddress ∷ [])) (sym is) (
+        are = subst (λ (g : Splice). AreEvents s g.face g.mac false ended known first now past (LinkWrite octets answer ∷ []) (At now AsksAddress ∷ [])) (sym is) (
           [],
           refl,
           inr (
@@ -128,7 +128,7 @@ module _ (f : Splice) (now : ℕ) (unknown : f.mac ≡ None) (asks : asks_now f 
     untaken none is = (
       record {
         beats = [];
-        are = subst (λ (g : Splice). AreEvents s g.face g.mac false known first now past (LinkWrite octets answer ∷ []) []) (sym is) (
+        are = subst (λ (g : Splice). AreEvents s g.face g.mac false ended known first now past (LinkWrite octets answer ∷ []) []) (sym is) (
           [],
           refl,
           inr (
@@ -156,4 +156,4 @@ module _ (f : Splice) (now : ℕ) (unknown : f.mac ≡ None) (asks : asks_now f 
     by IoFailed is = untaken (ap count_of is) (new_is ∙ ap (λ (r : Offered). asked r f now) (result_is ∙ ap offered is))
 
   pub requests : Sends f new first first now (LinkWrite octets answer ∷ [])
-  requests s past before known on h = by s past before known on h answer refl
+  requests s past before ended known on h = by s past before ended known on h answer refl

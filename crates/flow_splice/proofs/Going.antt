@@ -25,7 +25,7 @@ use Rattle.tcp_guest.specs.declared.Stage.{Stage}
 use Rattle.tcp_guest.specs.declared.Stage.TheVariants as stage
 use Rattle.flow_laws.specs.Settings.{Settings}
 use Rattle.flow_laws.specs.Event.{At, Closes, Departs, Segment, Story}
-use Rattle.flow_laws.specs.Lawful.{IsLawful}
+use Rattle.flow_laws.specs.Lawful.{HasCause, IsLawful}
 use Rattle.flow_laws.specs.Dutiful.{IsDutiful}
 use Rattle.connection_steps.specs.Holding.{Holds, is_live}
 use Rattle.connection_steps.specs.Over.{IsOver, IsResting, is_resets}
@@ -35,7 +35,7 @@ use Rattle.connection_steps.proofs.Owing.{reset_goes}
 use Rattle.connection_steps.proofs.Resting.{ack_goes}
 use Rattle.flow_splice.specs.Entries.{AreEvents, ident_after, went}
 use Rattle.flow_splice.specs.Follows.{Follows, FollowsAt, IsAtRest, IsOpen, IsOwing}
-use Rattle.flow_splice.specs.Frames.{segment_frame}
+use Rattle.flow_splice.specs.Frames.{IsSized, segment_frame}
 use Rattle.flow_splice.specs.Hosts.{Sees, ends}
 use Rattle.flow_splice.specs.Sends.{GoesOut, Marks, Sends, ident_if, went_out}
 use Rattle.flow_splice.specs.Serves.{Serves}
@@ -45,41 +45,45 @@ use Rattle.flow_splice.specs.declared.Place.TheVariants.{Empty, InUse, Resting}
 use Rattle.flow_splice.proofs.Opened.{follows_later, goes_on, open_follows}
 use Rattle.flow_splice.proofs.Sending.{went_has}
 use Rattle.flow_splice.proofs.Restless.{owing_none}
-use Rattle.flow_splice.proofs.Shutting.{done_follows, settled_same}
+use Rattle.flow_splice.proofs.Shutting.{done_follows, finished_cause, settled_same}
 
 -- what is offered, and taken or not
-module _ (f : Splice) (now first : ℕ) (what : Owed) (mac : Mac) (known_mac : f.mac ≡ Some mac) (late : now ≤ 2 ^ 62) (small : first < 2 ^ 16) (buffers : HasBuffers f.conn f.up f.down) (owed : owed_of f.conn f.up f.down ≡ Some what) (used : f.place ≡ Empty → ⊥) where
+module _ (f : Splice) (now first : ℕ) (what : Owed) (mac : Mac) (known_mac : f.mac ≡ Some mac) (late : now ≤ 2 ^ 62) (small : first < 2 ^ 16) (buffers : HasBuffers f.conn f.up f.down) (owed : owed_of f.conn f.up f.down ≡ Some what) (used : f.place ≡ Empty → ⊥)
+    (sized : IsSized f.face mac first (segment_out f.mru f.conn f.up f.down what)) where
   abbrev seg : Segment
   seg = segment_out f.mru f.conn f.up f.down what
 
   abbrev octets : List ℕ
   octets = spelling (segment_frame f.face mac first seg)
 
+  stays : first ≡ (first + 0) % 2 ^ 16
+  stays = omega (arith, small)
+
   nobody : f.mac ≡ None → ⊥
   nobody none = let not_it = sym known_mac ∙ none in cc
 
-  module _ (answer : Io) (allowed : Allowed (LinkWrite octets answer)) (s : Settings) (past : Story) (before : ℕ) (known : Bool) (on : before ≤ now) (h : Follows s f past before) where
+  module _ (answer : Io) (allowed : Allowed (LinkWrite octets answer)) (s : Settings) (past : Story) (before : ℕ) (ended known : Bool) (on : before ≤ now) (h : Follows s f past before) where
     abbrev out : Story
     out = At now (Departs seg) ∷ past
 
     -- what was made where nothing of it was taken, or something
-    offers : (x : Splice) → x.face ≡ f.face → x.mac ≡ f.mac → IsLawful s out → IsDutiful s out → (beats : Story) → beats ≡ went answer now (Departs seg) [] → AreEvents s x.face x.mac false known first now past (LinkWrite octets answer ∷ []) beats
+    offers : (x : Splice) → x.face ≡ f.face → x.mac ≡ f.mac → IsLawful s out → IsDutiful s out → (beats : Story) → beats ≡ went answer now (Departs seg) [] → AreEvents s x.face x.mac false ended known first now past (LinkWrite octets answer ∷ []) beats
     offers x same_face same_mac lawful dutiful beats is =
-        subst (λ face. AreEvents s face x.mac false known first now past (LinkWrite octets answer ∷ []) beats) (sym same_face)
-        (subst (λ (m : Option Mac). AreEvents s f.face m false known first now past (LinkWrite octets answer ∷ []) beats) (sym same_mac)
-        ([], refl, inl (seg, record { to = mac; known = known_mac; frame = ap (λ (n : ℕ). spelling (segment_frame f.face mac n seg)) (let same : first ≡ (first + 0) % 2 ^ 16 = omega (arith, small) in same); may = lawful.0; must = dutiful.0 }, is)))
+        subst (λ face. AreEvents s face x.mac false ended known first now past (LinkWrite octets answer ∷ []) beats) (sym same_face)
+        (subst (λ (m : Option Mac). AreEvents s f.face m false ended known first now past (LinkWrite octets answer ∷ []) beats) (sym same_mac)
+        ([], refl, inl (seg, record { to = mac; known = known_mac; frame = ap (λ (n : ℕ). spelling (segment_frame f.face mac n seg)) stays; may = lawful.0; must = dutiful.0; sized = subst (λ (n : ℕ). IsSized f.face mac n seg) stays sized }, is)))
 
     -- it wasn't taken
     untaken : IsLawful s out → IsDutiful s out → count_of answer ≡ 0 → (new : Splice) (made : List Entry) → made ≡ [] → new ≡ f
-        → (serves : Serves s new false known first now past (made ++ (LinkWrite octets answer ∷ []))) × (first ≡ ident_after first serves.beats)
+        → (serves : Serves s new false ended known first now past (made ++ (LinkWrite octets answer ∷ []))) × (first ≡ ident_after first serves.beats)
     untaken lawful dutiful none new made made_is new_is = (
       record {
         beats = [];
-        are = subst (λ (es : List Entry). AreEvents s new.face new.mac false known first now past (es ++ (LinkWrite octets answer ∷ [])) []) (sym made_is)
+        are = subst (λ (es : List Entry). AreEvents s new.face new.mac false ended known first now past (es ++ (LinkWrite octets answer ∷ [])) []) (sym made_is)
             (offers new (ap (λ (x : Splice). x.face) new_is) (ap (λ (x : Splice). x.mac) new_is) lawful dutiful [] (sym (ap (λ (n : ℕ). if nat_lt 0 n then At now (Departs seg) ∷ [] else []) none)));
         follows = subst (λ (x : Splice). Follows s x past now) (sym new_is) (follows_later s f past before now on h);
       },
-      (let same : first ≡ (first + 0) % 2 ^ 16 = omega (arith, small) in same),
+      stays,
     )
 
     module _ (some : nat_lt 0 (count_of answer) ≡ true) where
@@ -88,11 +92,11 @@ module _ (f : Splice) (now first : ℕ) (what : Owed) (mac : Mac) (known_mac : f
 
       -- it was, and nothing else was made
       taken : IsLawful s out → IsDutiful s out → (x new : Splice) (made : List Entry) → x.face ≡ f.face → x.mac ≡ f.mac → made ≡ [] → new ≡ x → Follows s x out now
-          → (serves : Serves s new false known first now past (made ++ (LinkWrite octets answer ∷ []))) × ((first + 1) % 2 ^ 16 ≡ ident_after first serves.beats)
+          → (serves : Serves s new false ended known first now past (made ++ (LinkWrite octets answer ∷ []))) × ((first + 1) % 2 ^ 16 ≡ ident_after first serves.beats)
       taken lawful dutiful x new made face_is mac_is made_is new_is q = (
         record {
           beats = At now (Departs seg) ∷ [];
-          are = subst (λ (es : List Entry). AreEvents s new.face new.mac false known first now past (es ++ (LinkWrite octets answer ∷ [])) (At now (Departs seg) ∷ [])) (sym made_is)
+          are = subst (λ (es : List Entry). AreEvents s new.face new.mac false ended known first now past (es ++ (LinkWrite octets answer ∷ [])) (At now (Departs seg) ∷ [])) (sym made_is)
               (offers new (ap (λ (y : Splice). y.face) new_is ∙ face_is) (ap (λ (y : Splice). y.mac) new_is ∙ mac_is) lawful dutiful (At now (Departs seg) ∷ []) taken_is);
           follows = subst (λ (y : Splice). Follows s y out now) (sym new_is) q;
         },
@@ -100,17 +104,17 @@ module _ (f : Splice) (now first : ℕ) (what : Owed) (mac : Mac) (known_mac : f
       )
 
       -- it was, and the socket was closed then
-      taken_last : IsLawful s out → IsDutiful s out → (x new : Splice) (made : List Entry) → x.face ≡ f.face → x.mac ≡ f.mac → made ≡ Close f.face.number ∷ [] → new ≡ x → Follows s x (At now (Closes false false known) ∷ out) now
-          → (serves : Serves s new false known first now past (made ++ (LinkWrite octets answer ∷ []))) × ((first + 1) % 2 ^ 16 ≡ ident_after first serves.beats)
-      taken_last lawful dutiful x new made face_is mac_is made_is new_is q = (
+      taken_last : IsLawful s out → IsDutiful s out → (x new : Splice) (made : List Entry) → x.face ≡ f.face → x.mac ≡ f.mac → made ≡ Close f.face.number ∷ [] → new ≡ x → HasCause false false known now out → Follows s x (At now (Closes false ended known) ∷ out) now
+          → (serves : Serves s new false ended known first now past (made ++ (LinkWrite octets answer ∷ []))) × ((first + 1) % 2 ^ 16 ≡ ident_after first serves.beats)
+      taken_last lawful dutiful x new made face_is mac_is made_is new_is cause q = (
         record {
-          beats = At now (Closes false false known) ∷ At now (Departs seg) ∷ [];
-          are = subst (λ (es : List Entry). AreEvents s new.face new.mac false known first now past (es ++ (LinkWrite octets answer ∷ [])) (At now (Closes false false known) ∷ At now (Departs seg) ∷ [])) (sym made_is) (
+          beats = At now (Closes false ended known) ∷ At now (Departs seg) ∷ [];
+          are = subst (λ (es : List Entry). AreEvents s new.face new.mac false ended known first now past (es ++ (LinkWrite octets answer ∷ [])) (At now (Closes false ended known) ∷ At now (Departs seg) ∷ [])) (sym made_is) (
             At now (Departs seg) ∷ [],
             offers new (ap (λ (y : Splice). y.face) new_is ∙ face_is) (ap (λ (y : Splice). y.mac) new_is ∙ mac_is) lawful dutiful (At now (Departs seg) ∷ []) taken_is,
-            (sym (ap (λ (y : Splice). y.face.number) new_is ∙ ap (λ face. face.number) face_is), refl),
+            (sym (ap (λ (y : Splice). y.face.number) new_is ∙ ap (λ face. face.number) face_is), refl, cause),
           );
-          follows = subst (λ (y : Splice). Follows s y (At now (Closes false false known) ∷ out) now) (sym new_is) q;
+          follows = subst (λ (y : Splice). Follows s y (At now (Closes false ended known) ∷ out) now) (sym new_is) q;
         },
         (let same : (first + 1) % 2 ^ 16 ≡ (first + (0 + 1)) % 2 ^ 16 = omega arith in same),
       )
@@ -152,7 +156,7 @@ ack_is true what is = (refl, cc)
 ack_is false what is = absurd cc
 
 module _ (f : Splice) (now first : ℕ) (what : Owed) (mac : Mac) (known_mac : f.mac ≡ Some mac) (late : now ≤ 2 ^ 62) (small : first < 2 ^ 16) (buffers : HasBuffers f.conn f.up f.down) (owed : owed_of f.conn f.up f.down ≡ Some what) (used : f.place ≡ Empty → ⊥)
-    (result : Offered) (answer : Io) (result_is : result ≡ offered answer) (allowed : Allowed (LinkWrite (spelling (segment_frame f.face mac first (segment_out f.mru f.conn f.up f.down what))) answer))
+    (sized : IsSized f.face mac first (segment_out f.mru f.conn f.up f.down what)) (result : Offered) (answer : Io) (result_is : result ≡ offered answer) (allowed : Allowed (LinkWrite (spelling (segment_frame f.face mac first (segment_out f.mru f.conn f.up f.down what))) answer))
     (new : Splice) (made : List Entry) (marks : Marks result what f new now made) where
   abbrev c : Connection
   c = f.conn
@@ -160,18 +164,18 @@ module _ (f : Splice) (now first : ℕ) (what : Owed) (mac : Mac) (known_mac : f
   abbrev frame : List ℕ
   frame = spelling (segment_frame f.face mac first (segment_out f.mru f.conn f.up f.down what))
 
-  module _ (s : Settings) (past : Story) (before : ℕ) (known : Bool) (on : before ≤ now) (h : Follows s f past before) where
+  module _ (s : Settings) (past : Story) (before : ℕ) (ended known : Bool) (on : before ≤ now) (h : Follows s f past before) where
     abbrev gone_out : Story
     gone_out = At now (Departs (segment_out f.mru c f.up f.down what)) ∷ past
 
     abbrev Result : ℕ → Type 0
-    Result last = (serves : Serves s new false known first now past (made ++ (LinkWrite frame answer ∷ []))) × (last ≡ ident_after first serves.beats)
+    Result last = (serves : Serves s new false ended known first now past (made ++ (LinkWrite frame answer ∷ []))) × (last ≡ ident_after first serves.beats)
 
     by_answer : IsLawful s gone_out → IsDutiful s gone_out → (nat_lt 0 (count_of answer) ≡ true → GoesOut (is_rst what) what f new now made → Result ((first + 1) % 2 ^ 16)) → Result (ident_if result first)
     by_answer lawful dutiful goes = by answer refl
       where
         none : count_of answer ≡ 0 → (made ≡ []) × (new ≡ f) → Result first
-        none zero same = untaken f now first what mac known_mac late small buffers owed used answer allowed s past before known on h lawful dutiful zero new made same.0 same.1
+        none zero same = untaken f now first what mac known_mac late small buffers owed used sized answer allowed s past before ended known on h lawful dutiful zero new made same.0 same.1
 
         by : (a : Io) → answer ≡ a → Result (ident_if result first)
         by (Done n) is =
@@ -204,11 +208,12 @@ module _ (f : Splice) (now first : ℕ) (what : Owed) (mac : Mac) (known_mac : f
         by_done : nat_lt 0 (count_of answer) ≡ true → (b : Bool) → is_done (gone what c f.up now) ≡ b → Sees (ends (settling (gone what c f.up now))) (went_out f what now) new now made → Result ((first + 1) % 2 ^ 16)
         by_done some true done sees =
             let shut = subst (λ (b : Bool). Sees (ends (if b then Finished else Nothing)) (went_out f what now) new now made) done sees in
-            taken_last f now first what mac known_mac late small buffers owed used answer allowed s past before known on h some x_holds.goes.lawful x_holds.goes.dutiful (closed (went_out f what now) now) new made refl refl shut.0 shut.1
-            (done_follows s f (gone what c f.up now) gone_out now false known x_holds done refl o.mru (λ none. absurd (no_mac none)))
+            taken_last f now first what mac known_mac late small buffers owed used sized answer allowed s past before ended known on h some x_holds.goes.lawful x_holds.goes.dutiful (closed (went_out f what now) now) new made refl refl shut.0 shut.1
+            (finished_cause s f (gone what c f.up now) gone_out now false known x_holds done refl)
+            (done_follows s f (gone what c f.up now) gone_out now false ended known x_holds done refl o.mru (λ none. absurd (no_mac none)))
         by_done some false unfinished sees =
             let stays = subst (λ (b : Bool). Sees (ends (if b then Finished else Nothing)) (went_out f what now) new now made) unfinished sees in
-            taken f now first what mac known_mac late small buffers owed used answer allowed s past before known on h some x_holds.goes.lawful x_holds.goes.dutiful (went_out f what now) new made refl refl stays.0 stays.1
+            taken f now first what mac known_mac late small buffers owed used sized answer allowed s past before ended known on h some x_holds.goes.lawful x_holds.goes.dutiful (went_out f what now) new made refl refl stays.0 stays.1
             (subst (λ (y : Connection). Follows s (record f { conn = y }) gone_out now) (sym (settled_same (gone what c f.up now) unfinished))
             (open_follows s (record f { conn = gone what c f.up now }) gone_out now open_yet
             (goes_on s f (gone what c f.up now) f.up f.down f.told_end past before now (Departs (segment_out f.mru c f.up f.down what)) (λ none. none) o x_holds o.told unfinished (λ none. absurd (no_mac none)))))
@@ -218,7 +223,7 @@ module _ (f : Splice) (now first : ℕ) (what : Owed) (mac : Mac) (known_mac : f
     sends_reset q =
         by_answer lawful dutiful (λ some goes.
         let sent = subst (λ (w : Owed). GoesOut (is_rst w) w f new now made) (sym what_is) goes in
-        taken f now first what mac known_mac late small buffers owed used answer allowed s past before known on h some lawful dutiful (record f { conn = record c { stage = stage.Gone }; place = Empty }) new made refl refl sent.0 sent.1
+        taken f now first what mac known_mac late small buffers owed used sized answer allowed s past before ended known on h some lawful dutiful (record f { conn = record c { stage = stage.Gone }; place = Empty }) new made refl refl sent.0 sent.1
         (record { over = over_now; owes_none = refl; rests_none = owing_none past (q.over.owes ∙ q.owes) }))
       where
         at : (seq : Seq) × (ack : Seq) × (c.stage ≡ stage.Resets seq ack)
@@ -245,7 +250,7 @@ module _ (f : Splice) (now first : ℕ) (what : Owed) (mac : Mac) (known_mac : f
         by_answer rests_now.over.runs.lawful rests_now.over.runs.dutiful (λ some goes.
         let sent = subst (λ (w : Owed). GoesOut (is_rst w) w f new now made) (sym two.1) goes in
         let stays = subst (λ (b : Bool). Sees (ends (if b then Finished else Nothing)) (went_out f Ack now) new now made) unfinished sent in
-        taken f now first what mac known_mac late small buffers owed used answer allowed s past before known on h some rests_now.over.runs.lawful rests_now.over.runs.dutiful (went_out f Ack now) new made refl refl stays.0 stays.1
+        taken f now first what mac known_mac late small buffers owed used sized answer allowed s past before ended known on h some rests_now.over.runs.lawful rests_now.over.runs.dutiful (went_out f Ack now) new made refl refl stays.0 stays.1
         (subst (λ (p : Place). FollowsAt p f.shut s (went_out f Ack now) gone_out now) (sym at)
         (record {
           rests = subst (λ (y : Connection). IsResting s y f.up f.down gone_out now since) (sym (settled_same (told c f.up (our_shift c)) unfinished)) rests_now;
@@ -275,4 +280,4 @@ module _ (f : Splice) (now first : ℕ) (what : Owed) (mac : Mac) (known_mac : f
         by (Resting since) b at shut q = sends_ack since at q
 
   pub sends : Sends f new first (ident_if result first) now (made ++ (LinkWrite frame answer ∷ []))
-  sends s past before known on h = all s past before known on h
+  sends s past before ended known on h = all s past before ended known on h

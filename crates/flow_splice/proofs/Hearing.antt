@@ -22,6 +22,7 @@ use Rattle.tcp_guest.specs.declared.Verdict.{Verdict}
 use Rattle.tcp_guest.specs.declared.Verdict.TheVariants.{Resets, Greets, Heeded}
 use Rattle.world_face.specs.Journal.{Close, Entry}
 use Rattle.flow_laws.specs.Settings.{Settings}
+use Rattle.flow_laws.specs.Lawful.{HasCause}
 use Rattle.flow_laws.specs.Event.{Arrives, At, Closes, Segment, Story}
 use Rattle.flow_laws.specs.Flow.{greets, host}
 use Rattle.flow_laws.specs.Host.{our_place}
@@ -30,7 +31,7 @@ use Rattle.flow_steps.proofs.SendSteps.{place_of_number}
 use Rattle.connection_steps.specs.Holding.{Holds, is_calls}
 use Rattle.connection_steps.specs.Seen.{outward_of, segment_of}
 use Rattle.connection_steps.proofs.Arriving.{Means, is_greeted, is_heard, is_opened, means, resets, rests, rests_holds, turns_away, waits}
-use Rattle.connection_steps.proofs.Causes.{called_reset_closes, next_reset_closes}
+use Rattle.connection_steps.proofs.Causes.{called_reset_cause, called_reset_closes, next_reset_cause, next_reset_closes}
 use Rattle.connection_steps.proofs.Confirming.{place_same}
 use Rattle.connection_steps.proofs.Departing.{unsettled}
 use Rattle.connection_steps.proofs.Greeting.{waits_on}
@@ -46,13 +47,13 @@ use Rattle.flow_splice.specs.Splice.{Splice, closed, is_open}
 use Rattle.flow_splice.proofs.Coming.{heard_dead}
 use Rattle.flow_splice.proofs.Opened.{goes_on, open_follows, open_is}
 use Rattle.flow_splice.proofs.Restless.{called_reset_none, next_reset_none}
-use Rattle.flow_splice.proofs.Shutting.{done_follows, over_follows, settled_same}
+use Rattle.flow_splice.proofs.Shutting.{done_follows, finished_cause, over_follows, settled_same}
 
 module _ (f : Splice) (now : ℕ) (tcp : Tcp) (open_yet : is_open f ≡ true) (late : now ≤ 2 ^ 62) (seq_fits : tcp.seq < 2 ^ 32) (ack_fits : tcp.ack < 2 ^ 32) (few : length tcp.body ≤ 2 ^ 31)
     (buffers : HasBuffers (heard f tcp now).conn (heard f tcp now).up (heard f tcp now).down) (within : length (heard f tcp now).up.held ≤ (heard f tcp now).up.size)
     (comes : Comes f.conn.received tcp.seq tcp.body f.up (heard f tcp now).up)
     (b : Bool) (ends_is : ends (change_at f.conn f.up f.down tcp now) ≡ b) (new : Splice) (made : List Entry) (sees : Sees b (heard f tcp now) new now made) where
-  module _ (s : Settings) (past : Story) (before ident : ℕ) (known : Bool) (on : before ≤ now) (o : IsOpen s f past before) where
+  module _ (s : Settings) (past : Story) (before ident : ℕ) (ended known : Bool) (on : before ≤ now) (o : IsOpen s f past before) where
     abbrev c : Connection
     c = f.conn
 
@@ -63,7 +64,7 @@ module _ (f : Splice) (now : ℕ) (tcp : Tcp) (open_yet : is_open f ≡ true) (l
     after = At now (Arrives seg) ∷ past
 
     abbrev Result : Type 0
-    Result = Serves s new true known ident now after made
+    Result = Serves s new true ended known ident now after made
 
     -- ---- what was made, by whether its socket is open then
 
@@ -74,19 +75,19 @@ module _ (f : Splice) (now : ℕ) (tcp : Tcp) (open_yet : is_open f ≡ true) (l
         by true is saw = let not_it = sym h.holds.opened.live ∙ heard_dead f.conn f.up f.down tcp now is in absurd cc
         by false is saw = record {
           beats = [];
-          are = subst (λ (es : List Entry). AreEvents s new.face new.mac true known ident now after es []) (sym saw.0) refl;
+          are = subst (λ (es : List Entry). AreEvents s new.face new.mac true ended known ident now after es []) (sym saw.0) refl;
           follows = subst (λ (g : Splice). Follows s g after now) (sym saw.1) (open_follows s (heard f tcp now) after now open_yet h);
         }
 
-    shuts : ends (change_at f.conn f.up f.down tcp now) ≡ true → Follows s (closed (heard f tcp now) now) (At now (Closes true false known) ∷ after) now → Result
-    shuts over h = by b ends_is sees
+    shuts : ends (change_at f.conn f.up f.down tcp now) ≡ true → HasCause true false known now after → Follows s (closed (heard f tcp now) now) (At now (Closes true ended known) ∷ after) now → Result
+    shuts over cause h = by b ends_is sees
       where
         by : (e : Bool) → ends (change_at f.conn f.up f.down tcp now) ≡ e → Sees e (heard f tcp now) new now made → Result
         by true is saw = record {
-          beats = At now (Closes true false known) ∷ [];
-          are = subst (λ (es : List Entry). AreEvents s new.face new.mac true known ident now after es (At now (Closes true false known) ∷ [])) (sym saw.0)
-              (subst (λ (g : Splice). AreEvents s g.face g.mac true known ident now after (Close f.face.number ∷ []) (At now (Closes true false known) ∷ [])) (sym saw.1) ([], refl, (refl, refl)));
-          follows = subst (λ (g : Splice). Follows s g (At now (Closes true false known) ∷ after) now) (sym saw.1) h;
+          beats = At now (Closes true ended known) ∷ [];
+          are = subst (λ (es : List Entry). AreEvents s new.face new.mac true ended known ident now after es (At now (Closes true ended known) ∷ [])) (sym saw.0)
+              (subst (λ (g : Splice). AreEvents s g.face g.mac true ended known ident now after (Close f.face.number ∷ []) (At now (Closes true ended known) ∷ [])) (sym saw.1) ([], refl, (refl, refl, cause)));
+          follows = subst (λ (g : Splice). Follows s g (At now (Closes true ended known) ∷ after) now) (sym saw.1) h;
         }
         by false is saw = let not_it = sym over ∙ is in absurd cc
 
@@ -107,11 +108,11 @@ module _ (f : Splice) (now : ℕ) (tcp : Tcp) (open_yet : is_open f ≡ true) (l
           stays (as_heard (λ (g : Splice). IsOpen s g after now) (goes_on s f x u d f.told_end past before now (Arrives seg) (λ none. none) o h o.told unfinished unsent))
 
     -- the connection is gone
-    gone : verdict_of c f.up tcp ≡ Resets → Follows s (closed (record f { conn = record c { stage = stage.Gone } }) now) (At now (Closes true false known) ∷ after) now → Result
-    gone is h =
-        shuts (ap (λ (v : Verdict). ends (change_by v c f.up f.down tcp now)) is)
+    gone : verdict_of c f.up tcp ≡ Resets → HasCause true false known now after → Follows s (closed (record f { conn = record c { stage = stage.Gone } }) now) (At now (Closes true ended known) ∷ after) now → Result
+    gone is cause h =
+        shuts (ap (λ (v : Verdict). ends (change_by v c f.up f.down tcp now)) is) cause
         (as_heard (record c { stage = stage.Gone }) f.up f.down (ap (λ (v : Verdict). conn_by v c f.up f.down tcp now) is) (ap (λ (v : Verdict). up_by v c f.up f.down tcp) is) (ap (λ (v : Verdict). down_by v c f.down tcp) is)
-        (λ (g : Splice). Follows s (closed g now) (At now (Closes true false known) ∷ after) now) h)
+        (λ (g : Splice). Follows s (closed g now) (At now (Closes true ended known) ∷ after) now) h)
 
     -- ---- one that is heeded, by what the connection makes of itself then
 
@@ -123,8 +124,9 @@ module _ (f : Splice) (now : ℕ) (tcp : Tcp) (open_yet : is_open f ≡ true) (l
           by : (e : Bool) → is_done x ≡ e → Result
           by true done =
               shuts (ap ends change_is ∙ ap (λ (e : Bool). ends (if e then Finished else Nothing)) done)
-              (as_heard (settled x) u d c_is u_is d_is (λ (g : Splice). Follows s (closed g now) (At now (Closes true false known) ∷ after) now)
-              (done_follows s (record f { up = u; down = d }) x after now true known h done (ap (λ (e : Bool). if e then Some seg else None) rst) o.mru (λ none. (unsent none).0)))
+              (finished_cause s (record f { up = u; down = d }) x after now true known h done (ap (λ (e : Bool). if e then Some seg else None) rst))
+              (as_heard (settled x) u d c_is u_is d_is (λ (g : Splice). Follows s (closed g now) (At now (Closes true ended known) ∷ after) now)
+              (done_follows s (record f { up = u; down = d }) x after now true ended known h done (ap (λ (e : Bool). if e then Some seg else None) rst) o.mru (λ none. (unsent none).0)))
           by false unfinished = holds_on x u d (c_is ∙ settled_same x unfinished) u_is d_is h unfinished unsent
 
     -- ---- the acknowledgement of our SYN isn't of what was never sent
@@ -295,14 +297,16 @@ module _ (f : Splice) (now : ℕ) (tcp : Tcp) (open_yet : is_open f ≡ true) (l
         holds_on x f.up f.down c_is u_is d_is (rests_holds s c f.up f.down past before now tcp on o.holds ack_fits syn_owed ack_owed keeps only calm no_call quiet (has x f.up f.down c_is u_is d_is)) o.unfinished o.unsent
     by_means (waits c_is u_is d_is at none) = holds_on c f.up f.down c_is u_is d_is (waits_on s c f.up f.down past before now tcp on o.holds at none (has c f.up f.down c_is u_is d_is)) o.unfinished o.unsent
     by_means (resets is no_call rst number) =
-        gone is (over_follows s (record f { conn = record c { stage = stage.Gone } }) (At now (Closes true false known) ∷ after) now (next_reset_closes s c f.up f.down past before now on o.holds known seg no_call rst number) (λ at. cc) o.mru (λ owes. absurd cc) (λ none. next_reset_none s c f.up f.down past before now known o.holds seg rst no_call number))
+        gone is (next_reset_cause s c f.up f.down past before now on o.holds known false seg no_call rst number)
+        (over_follows s (record f { conn = record c { stage = stage.Gone } }) (At now (Closes true ended known) ∷ after) now (next_reset_closes s c f.up f.down past before now on o.holds known ended seg no_call rst number) (λ at. cc) o.mru (λ owes. absurd cc) (λ none. next_reset_none s c f.up f.down past before now known o.holds seg rst no_call number))
     by_means (turns_away is calls rst ack number) =
-        gone is (over_follows s (record f { conn = record c { stage = stage.Gone } }) (At now (Closes true false known) ∷ after) now (called_reset_closes s c f.up f.down past before now on o.holds known seg calls rst ack number) (λ at. cc) o.mru (λ owes. absurd cc) (λ none. called_reset_none s c f.up f.down past before now known o.holds seg rst calls ack number))
+        gone is (called_reset_cause s c f.up f.down past before now on o.holds known false seg calls rst ack number)
+        (over_follows s (record f { conn = record c { stage = stage.Gone } }) (At now (Closes true ended known) ∷ after) now (called_reset_closes s c f.up f.down past before now on o.holds known ended seg calls rst ack number) (λ at. cc) o.mru (λ owes. absurd cc) (λ none. called_reset_none s c f.up f.down past before now known o.holds seg rst calls ack number))
     by_means (is_greeted is at out greets_it rst syn number) = greeting is at out greets_it rst syn number
     by_means (is_opened is at out number ack rst syn) = opening_now is at out number ack rst syn
     by_means (is_heard is at ack rst syn) = hearing_now is at ack rst syn
 
   pub hears : Hears f new tcp now made
-  hears s past before ident known on h =
+  hears s past before ident ended known on h =
       let o = open_is s f past before open_yet h in
-      by_means s past before ident known on o (means s f.conn f.up f.down past before now tcp on o.holds ack_fits)
+      by_means s past before ident ended known on o (means s f.conn f.up f.down past before now tcp on o.holds ack_fits)

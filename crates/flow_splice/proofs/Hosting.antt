@@ -18,7 +18,7 @@ use Rattle.flow_laws.specs.Event.{At, Closes, Connected as HostConnected, Connec
 use Rattle.flow_laws.specs.Dutiful.{read_size}
 use Rattle.connection_steps.specs.Holding.{Holds, is_calls, is_connects, without}
 use Rattle.connection_steps.proofs.Asking.{connects_now, connects_yet}
-use Rattle.connection_steps.proofs.Causes.{end_fails_closes, read_fails_closes, refused_closes, write_fails_closes}
+use Rattle.connection_steps.proofs.Causes.{end_fails_closes, failed_cause, read_fails_closes, refused_closes, write_fails_closes}
 use Rattle.connection_steps.proofs.Departing.{unsettled}
 use Rattle.connection_steps.proofs.Reading.{reads, reads_end, unsent_end}
 use Rattle.connection_steps.proofs.Wanting.{asks_for_all_room}
@@ -29,7 +29,7 @@ use Rattle.flow_splice.specs.Serves.{GoesOn}
 use Rattle.flow_splice.specs.Splice.{Splice, closed, is_open}
 use Rattle.flow_splice.specs.Wants.{may_end, may_read, owes_octets}
 use Rattle.flow_splice.proofs.Opened.{goes_on, open_follows, open_is}
-use Rattle.flow_splice.proofs.Shutting.{done_follows, reset_follows, settled_same}
+use Rattle.flow_splice.proofs.Shutting.{done_follows, finished_cause, reset_follows, settled_same}
 
 connects_opens : (st : Stage) → is_connects st ≡ true → (st ≡ stage.Connects) × (is_opening st ≡ true) × (is_calls st ≡ false)
 connects_opens stage.Connects is = (refl, refl, refl)
@@ -63,7 +63,7 @@ module _ (f : Splice) (now : ℕ) (open_yet : is_open f ≡ true) where
 
   module _ (connects : is_connects f.conn.stage ≡ true) where
     pub host_connected : HasBuffers (connected_by f.conn.stage f.conn) f.up f.down → GoesOn f (record f { conn = connected_by f.conn.stage f.conn }) false now (Connected f.face.number Yes ∷ [])
-    host_connected buffers s past before ident known on h =
+    host_connected buffers s past before ident ended known on h =
         let o = open_is s f past before open_yet h in
         let at = (connects_opens f.conn.stage connects).0 in
         let next : Connection = record f.conn { stage = stage.Answers; syn_owed = true } in
@@ -79,7 +79,7 @@ module _ (f : Splice) (now : ℕ) (open_yet : is_open f ≡ true) where
         }
 
     pub host_not_yet : GoesOn f f false now (Connected f.face.number NotJoined ∷ [])
-    host_not_yet s past before ident known on h =
+    host_not_yet s past before ident ended known on h =
         let o = open_is s f past before open_yet h in
         record {
           beats = At now ConnectsYet ∷ [];
@@ -90,13 +90,13 @@ module _ (f : Splice) (now : ℕ) (open_yet : is_open f ≡ true) where
         }
 
     pub host_refused : GoesOn f (closed (record f { conn = reset f.conn }) now) false now (Close f.face.number ∷ Connected f.face.number JoinFailed ∷ [])
-    host_refused s past before ident known on h =
+    host_refused s past before ident ended known on h =
         let o = open_is s f past before open_yet h in
         record {
-          beats = At now (Closes false false known) ∷ At now ConnectFails ∷ [];
-          are = (At now ConnectFails ∷ [], ([], refl, (refl, refl)), (refl, refl));
-          follows = reset_follows s f past (At now ConnectFails ∷ past) before now known o refl
-              (refused_closes s f.conn f.up f.down past before now on o.holds known connects (connects_opens f.conn.stage connects).1);
+          beats = At now (Closes false ended known) ∷ At now ConnectFails ∷ [];
+          are = (At now ConnectFails ∷ [], ([], refl, (refl, refl)), (refl, refl, failed_cause s f.conn f.up f.down past before now on o.holds known false (At now ConnectFails ∷ past) refl));
+          follows = reset_follows s f past (At now ConnectFails ∷ past) before now ended known o refl
+              (refused_closes s f.conn f.up f.down past before now on o.holds known ended connects (connects_opens f.conn.stage connects).1);
         }
 
   -- ---- octets are offered
@@ -132,22 +132,22 @@ module _ (f : Splice) (now : ℕ) (open_yet : is_open f ≡ true) where
 
     pub host_takes : (answer : Io) → count_of answer ≤ min 16384 (length f.up.held) → HasBuffers f.conn (without f.up (count_of answer)) f.down → (answer ≡ Failed → ⊥)
         → GoesOn f (record f { up = without f.up (count_of answer) }) false now (TcpWrite f.face.number front answer ∷ [])
-    host_takes (Done n) few buffers well s past before ident known on h =
+    host_takes (Done n) few buffers well s past before ident ended known on h =
         record { beats = At now (Writes front n) ∷ []; are = ([], refl, (refl, refl)); follows = takes n few buffers s past before on (open_is s f past before open_yet h) }
-    host_takes End few buffers well s past before ident known on h =
+    host_takes End few buffers well s past before ident ended known on h =
         record { beats = At now (Writes front 0) ∷ []; are = ([], refl, (refl, refl)); follows = takes 0 few buffers s past before on (open_is s f past before open_yet h) }
-    host_takes NotYet few buffers well s past before ident known on h =
+    host_takes NotYet few buffers well s past before ident ended known on h =
         record { beats = At now (Writes front 0) ∷ []; are = ([], refl, (refl, refl)); follows = takes 0 few buffers s past before on (open_is s f past before open_yet h) }
-    host_takes Failed few buffers well s past before ident known on h = absurd (well refl)
+    host_takes Failed few buffers well s past before ident ended known on h = absurd (well refl)
 
     pub host_takes_none : GoesOn f (closed (record f { conn = reset f.conn }) now) false now (Close f.face.number ∷ TcpWrite f.face.number front Failed ∷ [])
-    host_takes_none s past before ident known on h =
+    host_takes_none s past before ident ended known on h =
         let o = open_is s f past before open_yet h in
         record {
-          beats = At now (Closes false false known) ∷ At now (WriteFails front) ∷ [];
-          are = (At now (WriteFails front) ∷ [], ([], refl, (refl, refl)), (refl, refl));
-          follows = reset_follows s f past (At now (WriteFails front) ∷ past) before now known o refl
-              (write_fails_closes s f.conn f.up f.down past before now on o.holds known (reached s past before o) (untold s past before o) (min 16384 (length f.up.held)) refl);
+          beats = At now (Closes false ended known) ∷ At now (WriteFails front) ∷ [];
+          are = (At now (WriteFails front) ∷ [], ([], refl, (refl, refl)), (refl, refl, failed_cause s f.conn f.up f.down past before now on o.holds known false (At now (WriteFails front) ∷ past) refl));
+          follows = reset_follows s f past (At now (WriteFails front) ∷ past) before now ended known o refl
+              (write_fails_closes s f.conn f.up f.down past before now on o.holds known (reached s past before o) (untold s past before o) ended (min 16384 (length f.up.held)) refl);
         }
 
   -- ---- the guest's end is passed on
@@ -185,46 +185,46 @@ module _ (f : Splice) (now : ℕ) (open_yet : is_open f ≡ true) where
     unended s past at o = sym (o.holds.receives (got_here s past at o)).host_ended ∙ o.told ∙ not_told
 
     pub host_end_fails : GoesOn f (closed (record f { conn = reset f.conn }) now) false now (Close f.face.number ∷ TcpEnd f.face.number MadeFailed ∷ [])
-    host_end_fails s past before ident known on h =
+    host_end_fails s past before ident ended known on h =
         let o = open_is s f past before open_yet h in
         record {
-          beats = At now (Closes false false known) ∷ At now EndFails ∷ [];
-          are = (At now EndFails ∷ [], ([], refl, (refl, refl)), (refl, refl));
-          follows = reset_follows s f past (At now EndFails ∷ past) before now known o refl
-              (end_fails_closes s f.conn f.up f.down past before now on o.holds known (got_here s past before o) (unended s past before o) none_held taken);
+          beats = At now (Closes false ended known) ∷ At now EndFails ∷ [];
+          are = (At now EndFails ∷ [], ([], refl, (refl, refl)), (refl, refl, failed_cause s f.conn f.up f.down past before now on o.holds known false (At now EndFails ∷ past) refl));
+          follows = reset_follows s f past (At now EndFails ∷ past) before now ended known o refl
+              (end_fails_closes s f.conn f.up f.down past before now on o.holds known (got_here s past before o) (unended s past before o) ended none_held taken);
         }
 
     -- it was told: either both ends passed with that, or not
-    abbrev ended : Connection
-    ended = write_ended f.conn
+    abbrev told : Connection
+    told = write_ended f.conn
 
-    ends_holds : HasBuffers (settled ended) f.up f.down → (s : Settings) (past : Story) (before : ℕ) → before ≤ now → IsOpen s f past before → Holds s ended f.up f.down (At now EndsHost ∷ past) now
+    ends_holds : HasBuffers (settled told) f.up f.down → (s : Settings) (past : Story) (before : ℕ) → before ≤ now → IsOpen s f past before → Holds s told f.up f.down (At now EndsHost ∷ past) now
     ends_holds buffers s past before on o =
-        ends_host s f.conn f.up f.down past before now on (got_here s past before o) none_held taken (unended s past before o) (unsettled ended f.up f.down buffers) o.holds
+        ends_host s f.conn f.up f.down past before now on (got_here s past before o) none_held taken (unended s past before o) (unsettled told f.up f.down buffers) o.holds
 
-    pub host_ends : HasBuffers (settled ended) f.up f.down → (b : Bool) → ends_by (settling ended) ≡ b → (new : Splice) (made : List Entry)
-        → Sees b (record f { conn = settled ended; told_end = true }) new now made → GoesOn f new false now (made ++ (TcpEnd f.face.number MadeDone ∷ []))
+    pub host_ends : HasBuffers (settled told) f.up f.down → (b : Bool) → ends_by (settling told) ≡ b → (new : Splice) (made : List Entry)
+        → Sees b (record f { conn = settled told; told_end = true }) new now made → GoesOn f new false now (made ++ (TcpEnd f.face.number MadeDone ∷ []))
     host_ends buffers true finished new made sees =
         subst (λ (g : Splice). GoesOn f g false now (made ++ (TcpEnd f.face.number MadeDone ∷ []))) (sym sees.1)
-        (subst (λ (es : List Entry). GoesOn f (closed (record f { conn = settled ended; told_end = true }) now) false now (es ++ (TcpEnd f.face.number MadeDone ∷ []))) (sym sees.0)
-        (λ s past before ident known on h.
+        (subst (λ (es : List Entry). GoesOn f (closed (record f { conn = settled told; told_end = true }) now) false now (es ++ (TcpEnd f.face.number MadeDone ∷ []))) (sym sees.0)
+        (λ s past before ident over known on h.
         let o = open_is s f past before open_yet h in
         record {
-          beats = At now (Closes false false known) ∷ At now EndsHost ∷ [];
-          are = (At now EndsHost ∷ [], ([], refl, (refl, refl)), (refl, refl));
-          follows = done_follows s (record f { told_end = true }) ended (At now EndsHost ∷ past) now false known (ends_holds buffers s past before on o) (is_finished ended finished) refl o.mru (λ unknown. (o.unsent unknown).0);
+          beats = At now (Closes false over known) ∷ At now EndsHost ∷ [];
+          are = (At now EndsHost ∷ [], ([], refl, (refl, refl)), (refl, refl, finished_cause s (record f { told_end = true }) told (At now EndsHost ∷ past) now false known (ends_holds buffers s past before on o) (is_finished told finished) refl));
+          follows = done_follows s (record f { told_end = true }) told (At now EndsHost ∷ past) now false over known (ends_holds buffers s past before on o) (is_finished told finished) refl o.mru (λ unknown. (o.unsent unknown).0);
         }))
     host_ends buffers false unfinished new made sees =
         subst (λ (g : Splice). GoesOn f g false now (made ++ (TcpEnd f.face.number MadeDone ∷ []))) (sym sees.1)
-        (subst (λ (es : List Entry). GoesOn f (record f { conn = settled ended; told_end = true }) false now (es ++ (TcpEnd f.face.number MadeDone ∷ []))) (sym sees.0)
-        (subst (λ (c : Connection). GoesOn f (record f { conn = c; told_end = true }) false now (TcpEnd f.face.number MadeDone ∷ [])) (sym (settled_same ended (is_unfinished ended unfinished)))
-        (λ s past before ident known on h.
+        (subst (λ (es : List Entry). GoesOn f (record f { conn = settled told; told_end = true }) false now (es ++ (TcpEnd f.face.number MadeDone ∷ []))) (sym sees.0)
+        (subst (λ (c : Connection). GoesOn f (record f { conn = c; told_end = true }) false now (TcpEnd f.face.number MadeDone ∷ [])) (sym (settled_same told (is_unfinished told unfinished)))
+        (λ s past before ident over known on h.
         let o = open_is s f past before open_yet h in
         record {
           beats = At now EndsHost ∷ [];
           are = ([], refl, (refl, refl));
-          follows = open_follows s (record f { conn = ended; told_end = true }) (At now EndsHost ∷ past) now open_yet
-              (goes_on s f ended f.up f.down true past before now EndsHost (λ none. none) o (ends_holds buffers s past before on o) refl (is_unfinished ended unfinished) o.unsent);
+          follows = open_follows s (record f { conn = told; told_end = true }) (At now EndsHost ∷ past) now open_yet
+              (goes_on s f told f.up f.down true past before now EndsHost (λ none. none) o (ends_holds buffers s past before on o) refl (is_unfinished told unfinished) o.unsent);
         })))
 
   -- ---- octets are read
@@ -257,18 +257,18 @@ module _ (f : Splice) (now : ℕ) (open_yet : is_open f ≡ true) where
 
     pub host_gives : (answer : Io) (octets : List ℕ) → gives_octets answer ≡ true → f.down.size ≡ f.up.size → length octets ≤ asked → HasBuffers (given f octets now).conn f.up (given f octets now).down
         → GoesOn f (given f octets now) false now (TcpRead f.face.number asked answer octets ∷ [])
-    host_gives (Done n) octets done size few buffers s past before ident known on h =
+    host_gives (Done n) octets done size few buffers s past before ident ended known on h =
         let o = open_is s f past before open_yet h in
         record { beats = At now (Reads octets) ∷ []; are = ([], refl, (refl, asks s past before o size, refl)); follows = read_follows octets size few buffers s past before on o }
-    host_gives End octets done size few buffers s past before ident known on h = absurd cc
-    host_gives NotYet octets done size few buffers s past before ident known on h =
+    host_gives End octets done size few buffers s past before ident ended known on h = absurd cc
+    host_gives NotYet octets done size few buffers s past before ident ended known on h =
         let o = open_is s f past before open_yet h in
         record { beats = At now (Reads octets) ∷ []; are = ([], refl, (refl, asks s past before o size, refl)); follows = read_follows octets size few buffers s past before on o }
-    host_gives Failed octets done size few buffers s past before ident known on h = absurd cc
+    host_gives Failed octets done size few buffers s past before ident ended known on h = absurd cc
 
     -- the host ended its stream
     pub host_gives_end : (octets : List ℕ) → f.down.size ≡ f.up.size → HasBuffers (host_ended f.conn now) f.up f.down → GoesOn f (record f { conn = host_ended f.conn now }) false now (TcpRead f.face.number asked End octets ∷ [])
-    host_gives_end octets size buffers s past before ident known on h =
+    host_gives_end octets size buffers s past before ident ended known on h =
         let o = open_is s f past before open_yet h in
         let next : Connection = record f.conn { transmission = watched (unsent_end s f.conn f.up f.down past before now on o.holds yet) true now } in
         let is : host_ended f.conn now ≡ next = ap (λ (b : Bool). if b then next else f.conn) yet in
@@ -283,11 +283,11 @@ module _ (f : Splice) (now : ℕ) (open_yet : is_open f ≡ true) where
 
     -- the read failed
     pub host_gives_none : (octets : List ℕ) → f.down.size ≡ f.up.size → GoesOn f (closed (record f { conn = reset f.conn }) now) false now (Close f.face.number ∷ TcpRead f.face.number asked Failed octets ∷ [])
-    host_gives_none octets size s past before ident known on h =
+    host_gives_none octets size s past before ident ended known on h =
         let o = open_is s f past before open_yet h in
         record {
-          beats = At now (Closes false false known) ∷ At now ReadFails ∷ [];
-          are = (At now ReadFails ∷ [], ([], refl, (refl, asks s past before o size, refl)), (refl, refl));
-          follows = reset_follows s f past (At now ReadFails ∷ past) before now known o refl
-              (read_fails_closes s f.conn f.up f.down past before now on o.holds known yet);
+          beats = At now (Closes false ended known) ∷ At now ReadFails ∷ [];
+          are = (At now ReadFails ∷ [], ([], refl, (refl, asks s past before o size, refl)), (refl, refl, failed_cause s f.conn f.up f.down past before now on o.holds known false (At now ReadFails ∷ past) refl));
+          follows = reset_follows s f past (At now ReadFails ∷ past) before now ended known o refl
+              (read_fails_closes s f.conn f.up f.down past before now on o.holds known ended yet);
         }

@@ -15,3 +15,5 @@ pub mod Marking
 pub mod Asking
 pub mod Promises
 pub mod Ahead
+pub mod Shaping
+pub mod Sizing

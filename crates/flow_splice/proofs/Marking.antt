@@ -92,19 +92,19 @@ makes_allowed a b P m = record { made = m.made; same = m.same; allowed = m.allow
 
 pub sends_none : (f : Splice) (link : LinkState) (ident now : ℕ) → ident < 2 ^ 16 → SendsOn f f link link ident ident now []
 sends_none f link ident now small =
-    ((λ s past before known on h. (record { beats = []; are = refl; follows = follows_later s f past before now on h }, (let same : ident ≡ (ident + 0) % 2 ^ 16 = omega (arith, small) in same))), λ past k. k)
+    ((λ s past before ended known on h. (record { beats = []; are = refl; follows = follows_later s f past before now on h }, (let same : ident ≡ (ident + 0) % 2 ^ 16 = omega (arith, small) in same))), λ past k. k)
 
 pub sends_then : (old mid new : Splice) (one two three : LinkState) (first second third now : ℕ) (before made : List Entry) → new.face ≡ mid.face → new.mac ≡ mid.mac
     → SendsOn old mid one two first second now before → SendsOn mid new two three second third now made → SendsOn old new one three first third now (made ++ before)
 sends_then old mid new one two three first second third now before made same_face same_mac a b = (
-  (λ s past at known on h.
-      let x = a.0 s past at known on h in
-      let y = b.0 s (x.0.beats ++ past) now known (omega arith) x.0.follows in (
+  (λ s past at ended known on h.
+      let x = a.0 s past at ended known on h in
+      let y = b.0 s (x.0.beats ++ past) now ended known (omega arith) x.0.follows in (
         record {
           beats = y.0.beats ++ x.0.beats;
-          are = events_then s new.face new.mac false known first now past x.0.beats before made y.0.beats
-              (subst (λ (face : Face). AreEvents s face new.mac false known first now past before x.0.beats) (sym same_face) (subst (λ (mac : Option Mac). AreEvents s mid.face mac false known first now past before x.0.beats) (sym same_mac) x.0.are))
-              (subst (λ (n : ℕ). AreEvents s new.face new.mac false known n now (x.0.beats ++ past) made y.0.beats) x.1 y.0.are);
+          are = events_then s new.face new.mac false ended known first now past x.0.beats before made y.0.beats
+              (subst (λ (face : Face). AreEvents s face new.mac false ended known first now past before x.0.beats) (sym same_face) (subst (λ (mac : Option Mac). AreEvents s mid.face mac false ended known first now past before x.0.beats) (sym same_mac) x.0.are))
+              (subst (λ (n : ℕ). AreEvents s new.face new.mac false ended known n now (x.0.beats ++ past) made y.0.beats) x.1 y.0.are);
           follows = subst (λ (q : Story). Follows s new q now) (sym (append_assoc y.0.beats x.0.beats past)) y.0.follows;
         },
         y.1 ∙ ap (λ (n : ℕ). ident_after n y.0.beats) x.1 ∙ ident_both first y.0.beats x.0.beats,

@@ -89,7 +89,7 @@ module _ (s : Settings) (c : Connection) (past : Story) (now m : ℕ) (seg : Seg
 -- ---- a flow that owes a reset, or nothing
 
 pub hears_nothing : (f : Splice) (now : ℕ) (tcp : Tcp) → is_open f ≡ false → ((since : ℕ) → f.place ≡ Resting since → ⊥) → Hears f f tcp now []
-hears_nothing f now tcp shut awake s past before ident known on h = record { beats = []; are = refl; follows = by f.place f.shut refl shut h }
+hears_nothing f now tcp shut awake s past before ident ended known on h = record { beats = []; are = refl; follows = by f.place f.shut refl shut h }
   where
     by : (p : Place) (b : Bool) → f.place ≡ p → (is_in_use p && not b) ≡ false → FollowsAt p b s f past before → FollowsAt p b s f (At now (Arrives (segment_of tcp)) ∷ past) now
     by Empty b at is q = record { over = over_arrives s f.conn past before now (segment_of tcp) on q.over; owes_none = q.owes_none; rests_none = arrives_none past now (segment_of tcp) q.rests_none }
@@ -127,7 +127,7 @@ resting_with s c up u down d past now since is h = record {
 }
 
 pub hears_at_rest : (f : Splice) (now since : ℕ) (tcp : Tcp) → f.place ≡ Resting since → Hears f (heard_at_rest f since tcp now) tcp now []
-hears_at_rest f now since tcp at s past before ident known on h =
+hears_at_rest f now since tcp at s past before ident ended known on h =
     let q : IsAtRest s f past before since = subst (λ (p : Place). FollowsAt p f.shut s f past before) at h in
     record { beats = []; are = refl; follows = by (ends_rest f.conn tcp) refl q }
   where

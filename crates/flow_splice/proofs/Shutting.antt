@@ -13,13 +13,14 @@ use Rattle.flow_laws.specs.Settings.{Settings}
 use Rattle.flow_laws.specs.Event.{At, Closes, Story}
 use Rattle.flow_laws.specs.Host.{answered}
 use Rattle.flow_laws.specs.Flow.{host}
+use Rattle.flow_laws.specs.Lawful.{HasCause}
 use Rattle.flow_laws.specs.Close.{is_done as is_done_by, newest_rst, rests_since}
 use Rattle.flow_steps.proofs.Owing.{no_reset, unanswered_not_done}
 use Rattle.flow_steps.proofs.Rests.{closes_to_rest}
 use Rattle.connection_steps.specs.Holding.{Holds, is_calls, is_live}
 use Rattle.connection_steps.specs.Over.{IsOver, IsResting, is_resets}
 use Rattle.connection_steps.specs.Seen.{part_of}
-use Rattle.connection_steps.proofs.Causes.{done_goes, done_rests, settled_is}
+use Rattle.connection_steps.proofs.Causes.{done_cause, done_goes, done_rests, settled_is}
 use Rattle.flow_splice.specs.Hosts.{ends}
 use Rattle.flow_splice.specs.Follows.{Follows, FollowsAt, IsOpen}
 use Rattle.flow_splice.specs.Splice.{Splice, closed, is_in_use, is_open, place_after}
@@ -77,12 +78,12 @@ unanswered_by c (stage.Resets seq ack) live none = absurd cc
 unanswered_by c stage.Gone live none = absurd cc
 
 -- the connection is reset, after a story in which our SYN is acknowledged as before
-pub reset_follows : (s : Settings) (f : Splice) (past last : Story) (before now : ℕ) (known : Bool) → IsOpen s f past before → answered (host last) ≡ answered (host past)
-    → IsOver s (reset f.conn) (At now (Closes false false known) ∷ last) now → Follows s (closed (record f { conn = reset f.conn }) now) (At now (Closes false false known) ∷ last) now
-reset_follows s f past last before now known h same over =
-    over_follows s (record f { conn = reset f.conn }) (At now (Closes false false known) ∷ last) now over (λ is. reset_awake f.conn f.conn.stage is h.holds.opened.live) h.mru
+pub reset_follows : (s : Settings) (f : Splice) (past last : Story) (before now : ℕ) (ended known : Bool) → IsOpen s f past before → answered (host last) ≡ answered (host past)
+    → IsOver s (reset f.conn) (At now (Closes false ended known) ∷ last) now → Follows s (closed (record f { conn = reset f.conn }) now) (At now (Closes false ended known) ∷ last) now
+reset_follows s f past last before now ended known h same over =
+    over_follows s (record f { conn = reset f.conn }) (At now (Closes false ended known) ∷ last) now over (λ is. reset_awake f.conn f.conn.stage is h.holds.opened.live) h.mru
     (λ resets_is unknown. let two = h.unsent unknown in let not_it = sym resets_is ∙ unsent_none f.conn f.conn.stage two.0 two.1 in cc)
-    (λ none. undone_none last now false false known (unanswered_not_done last (same ∙ h.holds.opened.answered ∙ unanswered_by f.conn f.conn.stage h.holds.opened.live none)))
+    (λ none. undone_none last now false ended known (unanswered_not_done last (same ∙ h.holds.opened.answered ∙ unanswered_by f.conn f.conn.stage h.holds.opened.live none)))
 
 -- ---- both ends passed
 
@@ -106,11 +107,11 @@ last_of_four true false c d is = absurd cc
 last_of_four false b c d is = absurd cc
 
 -- with this connection, which makes of itself that it is finished
-pub done_follows : (s : Settings) (f : Splice) (x : Connection) (past : Story) (now : ℕ) (directly known : Bool) → Holds s x f.up f.down past now → is_done x ≡ true → newest_rst past ≡ None → f.mru ≡ s.mru
-    → (f.mac ≡ None → is_calls x.stage ≡ true) → Follows s (closed (record f { conn = settled x }) now) (At now (Closes directly false known) ∷ past) now
-done_follows s f x past now directly known h done no_rst mru unknown =
-    subst (λ (c : Connection). Follows s (closed (record f { conn = c }) now) (At now (Closes directly false known) ∷ past) now)
-    (sym (settled_is s x f.up f.down past now now (omega arith) h known done reached no_rst directly false))
+pub done_follows : (s : Settings) (f : Splice) (x : Connection) (past : Story) (now : ℕ) (directly ended known : Bool) → Holds s x f.up f.down past now → is_done x ≡ true → newest_rst past ≡ None → f.mru ≡ s.mru
+    → (f.mac ≡ None → is_calls x.stage ≡ true) → Follows s (closed (record f { conn = settled x }) now) (At now (Closes directly ended known) ∷ past) now
+done_follows s f x past now directly ended known h done no_rst mru unknown =
+    subst (λ (c : Connection). Follows s (closed (record f { conn = c }) now) (At now (Closes directly ended known) ∷ past) now)
+    (sym (settled_is s x f.up f.down past now now (omega arith) h known done reached no_rst directly ended))
     (by (closes_first x) refl)
   where
     reached : is_calls x.stage ≡ false
@@ -120,26 +121,31 @@ done_follows s f x past now directly known h done no_rst mru unknown =
     equal a b is = grind (arith, nat_tests)
 
     -- the host ended last
-    last_none : (b : Bool) → is_done_by past ≡ b → closes_first x ≡ false → rests_since (At now (Closes directly false known) ∷ past) ≡ None
-    last_none false undone last = undone_none past now directly false known undone
+    last_none : (b : Bool) → is_done_by past ≡ b → closes_first x ≡ false → rests_since (At now (Closes directly ended known) ∷ past) ≡ None
+    last_none false undone last = undone_none past now directly ended known undone
     last_none true both last =
         let r = h.receives reached in
         let taken = (r.sure (last_of_four (is_synchronized x.stage) x.host_ended x.fin_acked x.end_acknowledged done)).1 in
         let order : closes_first x ≡ x.ours_first = ap (λ (b : Bool). if b then x.ours_first else is_sent x.transmission.end) (equal (next_number x.received) x.acknowledged taken) in
-        closes_to_rest past (part_of x f.up) x.end_acknowledged x.ours_first x.acknowledged now directly false known r.ends both (no_reset past directly no_rst)
+        closes_to_rest past (part_of x f.up) x.end_acknowledged x.ours_first x.acknowledged now directly ended known r.ends both (no_reset past directly no_rst)
         ∙ ap (λ (b : Bool). if b then Some now else None) (sym order ∙ last)
 
-    by : (b : Bool) → closes_first x ≡ b → Follows s (closed (record f { conn = if b then record x { stage = stage.Rests } else record x { stage = stage.Gone } }) now) (At now (Closes directly false known) ∷ past) now
+    by : (b : Bool) → closes_first x ≡ b → Follows s (closed (record f { conn = if b then record x { stage = stage.Rests } else record x { stage = stage.Gone } }) now) (At now (Closes directly ended known) ∷ past) now
     by true first = record {
-      rests = done_rests s x f.up f.down past now now (omega arith) h known done reached no_rst directly false first;
+      rests = done_rests s x f.up f.down past now now (omega arith) h known done reached no_rst directly ended first;
       mru = mru;
       known = λ none. let not_it = sym (unknown none) ∙ reached in absurd cc;
     }
     by false last = record {
-      over = done_goes s x f.up f.down past now now (omega arith) h known done reached no_rst directly false;
+      over = done_goes s x f.up f.down past now now (omega arith) h known done reached no_rst directly ended;
       owes_none = refl;
       rests_none = last_none (is_done_by past) refl last;
     }
+
+-- and then both ends passed, which is a cause whether the run is over or not
+pub finished_cause : (s : Settings) (f : Splice) (x : Connection) (past : Story) (now : ℕ) (directly known : Bool) → Holds s x f.up f.down past now → is_done x ≡ true → newest_rst past ≡ None → HasCause directly false known now past
+finished_cause s f x past now directly known h done no_rst =
+    done_cause s x f.up f.down past now now (omega arith) h known done (synchronized_reached x.stage (first_of_four (is_synchronized x.stage) x.host_ended x.fin_acked x.end_acknowledged done)) no_rst directly false
 
 -- what a connection makes of itself is over where it says so
 pub settled_over : (x : Connection) → ends (settling x) ≡ true → is_live (settled x).stage ≡ false

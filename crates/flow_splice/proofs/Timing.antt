@@ -1,5 +1,5 @@
 -- Time passes: what was awaited too long, and timers.
-use Rattle.std.proofs.Common.{refl, ◌≡◌, ℕ, ◌+◌, ◌≤◌, [], ◌∷◌, List, Bool, true, false, not, ◌&&◌, Option, None, Some, is_some, if◌then◌else◌, nat_eq, nat_le, nat_lt, IsTrue, arith, ap, subst, sym, ◌∙◌}
+use Rattle.std.proofs.Common.{◌||◌, refl, ◌≡◌, ℕ, ◌+◌, ◌≤◌, [], ◌∷◌, List, Bool, true, false, not, ◌&&◌, Option, None, Some, is_some, if◌then◌else◌, nat_eq, nat_le, nat_lt, IsTrue, arith, ap, subst, sym, ◌∙◌}
 use Rattle.std.proofs.lemmas.Bool.Decides.{nat_tests}
 use Rattle.retransmit.specs.Resending.{after_expired as resend_expired, due_of as resend_due, is_given_up}
 use Rattle.net_octets.specs.declared.Mac.{Mac}
@@ -14,17 +14,18 @@ use Rattle.tcp_guest.specs.declared.Stage.{Stage}
 use Rattle.tcp_guest.specs.declared.Stage.TheVariants as stage
 use Rattle.world_face.specs.Journal.{Close, Entry}
 use Rattle.flow_laws.specs.Settings.{Settings}
+use Rattle.flow_laws.specs.Lawful.{HasCause}
 use Rattle.flow_laws.specs.Event.{At, Closes, Story}
 use Rattle.flow_laws.specs.Flow.{is_accepted, is_connecting, opened_at, syn_is_out}
 use Rattle.flow_laws.specs.Close.{connects_too_long, finds_no_guest, gives_up}
 use Rattle.flow_steps.proofs.InTime.{not_found}
 use Rattle.connection_steps.specs.Holding.{Holds, is_calls, is_connects, is_live}
-use Rattle.connection_steps.proofs.Causes.{gives_up_closes, late_closes, unfound_closes}
+use Rattle.connection_steps.proofs.Causes.{gives_up_closes, late_cause, late_closes, unfound_cause, unfound_closes}
 use Rattle.connection_steps.proofs.Ticking.{piece_expires, piece_spent, syn_expires, syn_spent}
 use Rattle.flow_splice.specs.Entries.{AreEvents}
 use Rattle.flow_splice.specs.Follows.{Follows, IsOpen}
 use Rattle.flow_splice.specs.Hosts.{Sees, ends}
-use Rattle.flow_splice.specs.Serves.{GoesOn, Serves, TicksOn}
+use Rattle.flow_splice.specs.Serves.{GoesOnYet, Serves, TicksOn}
 use Rattle.flow_splice.specs.Splice.{Splice, closed, is_open}
 use Rattle.flow_splice.specs.Wants.{connect_end, seeks}
 use Rattle.flow_splice.proofs.Opened.{open_follows, open_is, open_later}
@@ -43,18 +44,26 @@ connects_opening (stage.Resets seq ack) is = absurd cc
 connects_opening stage.Gone is = absurd cc
 
 module _ (f : Splice) (now : ℕ) (open_yet : is_open f ≡ true) where
+  or_true : (b : Bool) → (b || true) ≡ true
+  or_true true = refl
+  or_true false = refl
+
+  or_left : (a b : Bool) → a ≡ true → (a || b) ≡ true
+  or_left true b is = refl
+  or_left false b is = cc
+
   -- what is closed with a reset
-  shut_by : (s : Settings) (past : Story) (before ident : ℕ) (known : Bool) → IsOpen s f past before → Follows s (closed (record f { conn = reset f.conn }) now) (At now (Closes false false known) ∷ past) now
-      → Serves s (closed (record f { conn = reset f.conn }) now) false known ident now past (Close f.face.number ∷ [])
-  shut_by s past before ident known o h = record { beats = At now (Closes false false known) ∷ []; are = ([], refl, (refl, refl)); follows = h }
+  shut_by : (s : Settings) (past : Story) (before ident : ℕ) (known : Bool) → IsOpen s f past before → HasCause false false known now past → Follows s (closed (record f { conn = reset f.conn }) now) (At now (Closes false false known) ∷ past) now
+      → Serves s (closed (record f { conn = reset f.conn }) now) false false known ident now past (Close f.face.number ∷ [])
+  shut_by s past before ident known o cause h = record { beats = At now (Closes false false known) ∷ []; are = ([], refl, (refl, refl, cause)); follows = h }
 
   -- the socket didn't connect
-  pub host_late : is_connects f.conn.stage ≡ true → connect_end f ≤ now → GoesOn f (closed (record f { conn = reset f.conn }) now) false now (Close f.face.number ∷ [])
+  pub host_late : is_connects f.conn.stage ≡ true → connect_end f ≤ now → GoesOnYet f (closed (record f { conn = reset f.conn }) now) false now (Close f.face.number ∷ [])
   host_late connects over s past before ident known on h =
       let o = open_is s f past before open_yet h in
       let late : connects_too_long now past ≡ true = both (is_connecting past) (nat_le (opened_at past + 75000) now) (o.holds.opened.connects ∙ connects) (late_test (opened_at past + 75000) now (let since = o.since in omega (arith, since, over))) in
-      shut_by s past before ident known o
-      (reset_follows s f past past before now known o refl (late_closes s f.conn f.up f.down past before now on o.holds known (connects_opening f.conn.stage connects) late))
+      shut_by s past before ident known o (late_cause s f.conn f.up f.down past before now on o.holds known (rw late (or_true (gives_up now past))))
+      (reset_follows s f past past before now false known o refl (late_closes s f.conn f.up f.down past before now on o.holds known (connects_opening f.conn.stage connects) late))
     where
       both : (a b : Bool) → a ≡ true → b ≡ true → (a && b) ≡ true
       both a b a_is b_is = rw (a_is, b_is) refl
@@ -70,8 +79,8 @@ module _ (f : Splice) (now : ℕ) (open_yet : is_open f ≡ true) where
       let silent : syn_is_out past ≡ false = o.holds.opened.out ∙ two.1 in
       let missing : IsTrue (finds_no_guest known now past) = subst (λ (b : Bool). IsTrue (finds_no_guest b now past)) (sym (unknown none))
       (not_found past f.ask_at now (subst (λ (n : ℕ). Seeks past n f.ask_at) many.0 (o.seeks none (let is = many.0 in omega (arith, is)))) many.1 accepted silent) in
-      shut_by s past before ident known o
-      (reset_follows s f past past before now known o refl
+      shut_by s past before ident known o (unfound_cause s f.conn f.up f.down past before now on o.holds known missing)
+      (reset_follows s f past past before now false known o refl
       (unfound_closes s f.conn f.up f.down past before now on o.holds known missing (rw (accepted, silent) refl)))
     where
       none_known : (mac : Option Mac) → (not (is_some mac) && nat_lt 0 f.asked) ≡ true → mac ≡ None
@@ -101,7 +110,7 @@ module _ (f : Splice) (now : ℕ) (open_yet : is_open f ≡ true) where
       later = open_later s f past before now on o
 
       abbrev Result : Type 0
-      Result = Serves s new false known ident now past made
+      Result = Serves s new false false known ident now past made
 
       -- it goes on with this connection
       stays : (x : Connection) → after_tick f.conn now ≡ x → ends (change_at_tick f.conn now) ≡ false → Holds s x f.up f.down past now → is_done x ≡ false
@@ -112,7 +121,7 @@ module _ (f : Splice) (now : ℕ) (open_yet : is_open f ≡ true) where
           by true ends_now saw = let not_it = sym none ∙ ends_now in absurd cc
           by false ends_now saw = record {
             beats = [];
-            are = subst (λ (es : List Entry). AreEvents s new.face new.mac false known ident now past es []) (sym saw.0) refl;
+            are = subst (λ (es : List Entry). AreEvents s new.face new.mac false false known ident now past es []) (sym saw.0) refl;
             follows = subst (λ (g : Splice). Follows s g past now) (sym saw.1)
                 (subst (λ (c : Connection). Follows s (record f { conn = c }) past now) (sym is)
                 (open_follows s (record f { conn = x }) past now open_yet
@@ -125,11 +134,11 @@ module _ (f : Splice) (now : ℕ) (open_yet : is_open f ≡ true) where
           by : (b : Bool) → ends (change_at_tick f.conn now) ≡ b → Sees b (record f { conn = after_tick f.conn now }) new now made → Result
           by true ends_now saw = record {
             beats = At now (Closes false false known) ∷ [];
-            are = subst (λ (es : List Entry). AreEvents s new.face new.mac false known ident now past es (At now (Closes false false known) ∷ [])) (sym saw.0)
-                (subst (λ (g : Splice). AreEvents s g.face g.mac false known ident now past (Close f.face.number ∷ []) (At now (Closes false false known) ∷ [])) (sym saw.1) ([], refl, (refl, refl)));
+            are = subst (λ (es : List Entry). AreEvents s new.face new.mac false false known ident now past es (At now (Closes false false known) ∷ [])) (sym saw.0)
+                (subst (λ (g : Splice). AreEvents s g.face g.mac false false known ident now past (Close f.face.number ∷ []) (At now (Closes false false known) ∷ [])) (sym saw.1) ([], refl, (refl, refl, late_cause s f.conn f.up f.down past before now on o.holds known (or_left (gives_up now past) (connects_too_long now past) cause))));
             follows = subst (λ (g : Splice). Follows s g (At now (Closes false false known) ∷ past) now) (sym saw.1)
                 (subst (λ (c : Connection). Follows s (closed (record f { conn = c }) now) (At now (Closes false false known) ∷ past) now) (sym is)
-                (reset_follows s f past past before now known o refl (gives_up_closes s f.conn f.up f.down past before now on o.holds known cause)));
+                (reset_follows s f past past before now false known o refl (gives_up_closes s f.conn f.up f.down past before now on o.holds known cause)));
           }
           by false ends_now saw = let not_it = sym over ∙ ends_now in absurd cc
 
@@ -203,7 +212,7 @@ module _ (f : Splice) (now : ℕ) (open_yet : is_open f ≡ true) where
           let two = tick_is false (is_spent f.conn) f.conn.ack_owed due refl refl in
           stays f.conn two.0 (ap ends two.1) later.holds o.unfinished o.unsent
 
-    pub ticks : GoesOn f new false now made
+    pub ticks : GoesOnYet f new false now made
     ticks s past before ident known on h = by_due s past before ident known on (open_is s f past before open_yet h) (is_due (conn_due f.conn) now) refl
 
 -- a connection that isn't over keeps its stage

@@ -12,9 +12,9 @@ use Rattle.world_face.specs.declared.Made.TheVariants.{Done as MadeDone, Failed 
 use Rattle.flow_laws.specs.Settings.{Settings}
 use Rattle.flow_laws.specs.Event.{Segment, Event, Departs, Connected as HostConnected, ConnectsYet, ConnectFails, Writes, WriteFails, Reads, ReadsEnd, ReadFails, EndsHost, EndFails, AsksAddress, Closes, At, Story}
 use Rattle.flow_laws.specs.Flow.{is_accepted, is_closed, syn_is_out}
-use Rattle.flow_laws.specs.Lawful.{May, Send}
+use Rattle.flow_laws.specs.Lawful.{HasCause, May, Send}
 use Rattle.flow_laws.specs.Dutiful.{Must, read_size}
-use Rattle.flow_splice.specs.Frames.{request_frame, segment_frame}
+use Rattle.flow_splice.specs.Frames.{IsSized, request_frame, segment_frame}
 use Rattle.flow_splice.specs.Splice.{Face}
 
 -- ---- what an answer is
@@ -56,13 +56,14 @@ ident_after ident beats = (ident + datagrams beats) % 2 ^ 16
 
 -- ---- what is offered to the link, after such a story
 
--- a segment, which may be sent, and as it must be
+-- a segment, which may be sent, and as it must be, with fields of their sizes
 pub record OffersSegment (s : Settings) (face : Face) (mac : Option Mac) (ident now : ℕ) (past : Story) (octets : List ℕ) (seg : Segment) : Type 0 where
   pub to : Mac
   pub known : mac ≡ Some to
   pub frame : octets ≡ spelling (segment_frame face to ident seg)
   pub may : May s past now (Send seg)
   pub must : Must s past now (Send seg)
+  pub sized : IsSized face to ident seg
 
 -- a request for the hardware address of a guest that is called and isn't known
 pub record OffersRequest (face : Face) (mac : Option Mac) (past : Story) (octets : List ℕ) : Type 0 where
@@ -75,21 +76,23 @@ pub record OffersRequest (face : Face) (mac : Option Mac) (past : Story) (octets
 -- ---- entries and events
 
 -- The entry makes of the events so far these, in a flow with this face and hardware address, after a story. `directly`: a close comes directly
--- after a segment of the flow arrived; `known`: the guest's hardware address is.
-abbrev pub Adds : Settings → Face → Option Mac → (directly known : Bool) → (ident now : ℕ) → Story → Entry → (rest beats : Story) → Type 0
-Adds s face mac directly known ident now past (LinkWrite octets answer) rest beats =
+-- after a segment of the flow arrived; `ended`: the run is over, and of the open sockets this is the first; `known`: the guest's hardware address is.
+-- A close has its cause, whether the run is over or not.
+abbrev pub Adds : Settings → Face → Option Mac → (directly ended known : Bool) → (ident now : ℕ) → Story → Entry → (rest beats : Story) → Type 0
+Adds s face mac directly ended known ident now past (LinkWrite octets answer) rest beats =
     ((seg : Segment) × OffersSegment s face mac (ident_after ident rest) now (rest ++ past) octets seg × (beats ≡ went answer now (Departs seg) rest))
     ⊎ (OffersRequest face mac (rest ++ past) octets × (beats ≡ went answer now AsksAddress rest))
-Adds s face mac directly known ident now past (Connected socket answer) rest beats = (socket ≡ face.number) × (beats ≡ At now (joined answer) ∷ rest)
-Adds s face mac directly known ident now past (TcpRead socket asked answer octets) rest beats =
+Adds s face mac directly ended known ident now past (Connected socket answer) rest beats = (socket ≡ face.number) × (beats ≡ At now (joined answer) ∷ rest)
+Adds s face mac directly ended known ident now past (TcpRead socket asked answer octets) rest beats =
     (socket ≡ face.number) × (asked ≡ read_size s (rest ++ past)) × (beats ≡ At now (was_read answer octets) ∷ rest)
-Adds s face mac directly known ident now past (TcpWrite socket octets answer) rest beats = (socket ≡ face.number) × (beats ≡ At now (was_written octets answer) ∷ rest)
-Adds s face mac directly known ident now past (TcpEnd socket answer) rest beats = (socket ≡ face.number) × (beats ≡ At now (was_ended answer) ∷ rest)
-Adds s face mac directly known ident now past (Close socket) rest beats = (socket ≡ face.number) × (beats ≡ At now (Closes directly false known) ∷ rest)
-Adds s face mac directly known ident now past _ rest beats = ⊥
+Adds s face mac directly ended known ident now past (TcpWrite socket octets answer) rest beats = (socket ≡ face.number) × (beats ≡ At now (was_written octets answer) ∷ rest)
+Adds s face mac directly ended known ident now past (TcpEnd socket answer) rest beats = (socket ≡ face.number) × (beats ≡ At now (was_ended answer) ∷ rest)
+Adds s face mac directly ended known ident now past (Close socket) rest beats =
+    (socket ≡ face.number) × (beats ≡ At now (Closes directly ended known) ∷ rest) × HasCause directly false known now (rest ++ past)
+Adds s face mac directly ended known ident now past _ rest beats = ⊥
 
 -- The entries that were made are these events of the flow, both newest first: each entry is one, but a write of which the link took nothing.
-abbrev pub AreEvents : Settings → Face → Option Mac → (directly known : Bool) → (ident now : ℕ) → Story → List Entry → Story → Type 0
-AreEvents s face mac directly known ident now past [] beats = beats ≡ []
-AreEvents s face mac directly known ident now past (e ∷ made) beats =
-    (rest : Story) × AreEvents s face mac directly known ident now past made rest × Adds s face mac directly known ident now past e rest beats
+abbrev pub AreEvents : Settings → Face → Option Mac → (directly ended known : Bool) → (ident now : ℕ) → Story → List Entry → Story → Type 0
+AreEvents s face mac directly ended known ident now past [] beats = beats ≡ []
+AreEvents s face mac directly ended known ident now past (e ∷ made) beats =
+    (rest : Story) × AreEvents s face mac directly ended known ident now past made rest × Adds s face mac directly ended known ident now past e rest beats

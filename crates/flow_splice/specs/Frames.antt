@@ -1,5 +1,5 @@
 -- The frames of a flow.
-use Rattle.std.specs.Prelude.{ℕ, ◌+◌, ◌≤◌, length, List, [], ◌∷◌, Bool, false, not, if◌then◌else◌}
+use Rattle.std.specs.Prelude.{◌≡◌, ℕ, ◌+◌, ◌^◌, ◌<◌, ◌≤◌, length, List, [], ◌∷◌, Bool, false, not, IfSome, if◌then◌else◌}
 use Rattle.net_octets.specs.Kinds.{arp_kind, ipv4_kind, tcp_proto}
 use Rattle.net_octets.specs.Octets.{four}
 use Rattle.net_octets.specs.declared.Mac.{Mac}
@@ -59,6 +59,20 @@ request face = record { is_reply = false; sender_mac = our_mac face.vhost.0; sen
 
 abbrev pub request_frame : Face → List ℕ
 request_frame face = ether_octets everyone (our_mac face.vhost.0) arp_kind (arp_octets (request face))
+
+-- addresses have 32 bits, ports and identifications 16, hardware addresses six octets; and so have the fields of a segment their sizes, which carries no more than a frame has room for
+pub record IsSized (face : Face) (to : Mac) (ident : ℕ) (seg : Segment) : Type 0 where
+  pub guest : face.guest.addr.0 < 2 ^ 32
+  pub guest_port : face.guest.port < 2 ^ 16
+  pub other : face.other.addr.0 < 2 ^ 32
+  pub other_port : face.other.port < 2 ^ 16
+  pub to_six : length to.0 ≡ 6
+  pub ident_fits : ident < 2 ^ 16
+  pub number : seg.number < 2 ^ 32
+  pub acknowledgement : seg.acknowledgement < 2 ^ 32
+  pub window : seg.window < 2 ^ 16
+  pub mss : IfSome seg.mss (λ (m : ℕ). m < 2 ^ 16)
+  pub few : length seg.octets ≤ 1460
 
 -- what a segment carries is held, and fits a frame
 abbrev pub IsHeld : Downward → Owed → Type 0

@@ -53,5 +53,5 @@ heard_at_rest f since tcp now =
 -- After every story that a flow followed, and the arrival of a segment: that what was made then are events of the flow, which follows the story.
 abbrev pub Hears : (old new : Splice) → Tcp → (now : ℕ) → List Entry → Type 0
 Hears old new tcp now made =
-    (s : Settings) (past : Story) (before ident : ℕ) (known : Bool) → before ≤ now → Follows s old past before
-    → Serves s new true known ident now (At now (Arrives (segment_of tcp)) ∷ past) made
+    (s : Settings) (past : Story) (before ident : ℕ) (ended known : Bool) → before ≤ now → Follows s old past before
+    → Serves s new true ended known ident now (At now (Arrives (segment_of tcp)) ∷ past) made

@@ -9,3 +9,4 @@ pub mod Serves
 pub mod Left
 pub mod Sends
 pub mod Ahead
+pub mod Shapes

@@ -9,18 +9,23 @@ use Rattle.flow_splice.specs.Splice.{Splice}
 
 -- After a story the entries that were made are events of the flow, and the flow follows the story with these: each of them was allowed, and as it
 -- must be, after what was before it.
-pub record Serves (s : Settings) (f : Splice) (directly known : Bool) (ident now : ℕ) (past : Story) (made : List Entry) : Type 0 where
+pub record Serves (s : Settings) (f : Splice) (directly ended known : Bool) (ident now : ℕ) (past : Story) (made : List Entry) : Type 0 where
   pub beats : Story
-  pub are : AreEvents s f.face f.mac directly known ident now past made beats
+  pub are : AreEvents s f.face f.mac directly ended known ident now past made beats
   pub follows : Follows s f (beats ++ past) now
 
 -- After every story that a flow followed at an earlier moment, whatever the next identification is: no datagram goes out.
 abbrev pub GoesOn : (old new : Splice) → (directly : Bool) → (now : ℕ) → List Entry → Type 0
 GoesOn old new directly now made =
-    (s : Settings) (past : Story) (before ident : ℕ) (known : Bool) → before ≤ now → Follows s old past before → Serves s new directly known ident now past made
+    (s : Settings) (past : Story) (before ident : ℕ) (ended known : Bool) → before ≤ now → Follows s old past before → Serves s new directly ended known ident now past made
 
--- The same, where the guest's hardware address isn't known unless the flow has it.
+-- The same while the run isn't over.
+abbrev pub GoesOnYet : (old new : Splice) → (directly : Bool) → (now : ℕ) → List Entry → Type 0
+GoesOnYet old new directly now made =
+    (s : Settings) (past : Story) (before ident : ℕ) (known : Bool) → before ≤ now → Follows s old past before → Serves s new directly false known ident now past made
+
+-- And where the guest's hardware address isn't known unless the flow has it.
 abbrev pub TicksOn : (old new : Splice) → (now : ℕ) → List Entry → Type 0
 TicksOn old new now made =
     (s : Settings) (past : Story) (before ident : ℕ) (known : Bool) → before ≤ now → (old.mac ≡ None → known ≡ false) → Follows s old past before
-    → Serves s new false known ident now past made
+    → Serves s new false false known ident now past made

@@ -10,7 +10,7 @@ ghost use Rattle.sock_buffers.specs.Downward.{Downward};
 ghost use Rattle.tcp_guest.specs.declared.Head.{Head as Header};
 ghost use Rattle.tcp_segment.specs.Tcp.{head_octets, mss_octets, scale_octets, tcp_length, tcp_octets, tcp_of, words_of as words_by};
 ghost use Rattle.connection_steps.specs.Sending.{carried, mss_in, with_head};
-ghost use Rattle.flow_splice.specs.Frames.{IsHeld, bit_if, flags_of, frame_length, our_mac as our_mac_by, request_frame, segment_frame, tcp_out};
+ghost use Rattle.flow_splice.specs.Frames.{IsHeld, IsSized, bit_if, flags_of, frame_length, our_mac as our_mac_by, request_frame, segment_frame, tcp_out};
 ghost use Rattle.net_octets.specs.declared.Endpoint.{Endpoint as AnEndpoint};
 
 use arp_table::ArpView;
@@ -306,7 +306,13 @@ pub(crate) fn write_frame(
         (with_head head.now mru down.now what.now) }
     ensures short { result ≤ 1514 }
     ensures room { length into.new ≡ length into.old }
+    ensures sized { (number : ℕ) → IsSized (record { guest = route.now.guest; other = route.now.other; number = number; vhost = route.now.vhost })
+        route.now.mac route.now.ident (with_head head.now mru down.now what.now) }
 {
+    // Read here, so that their ranges are known.
+    let (_ident, _from, _to) = (route.ident, route.other.addr.0, route.guest.addr.0);
+    let (_from_port, _to_port) = (route.other.port, route.guest.port);
+    let (_seq, _ack, _window) = (head.seq.0, head.ack.0, head.window);
     let v = outline(route, head, what, mru);
     let size = segment_size(&v, what);
     write_at(route, &v, what, down, size, into);

@@ -17,17 +17,18 @@ use world_face::World;
 impl Spliced {
     ghost use Rattle.flow_splice.specs.Guests.{Hears, ends_rest as ends_rest_by, heard, heard_at_rest, is_unfit, renews, turns_away};
     ghost use Rattle.flow_splice.specs.Hosts.{IsAsOld};
+    ghost use Rattle.flow_splice.specs.Shapes.{is_at_most_a_close};
     ghost use Rattle.flow_splice.specs.Splice.{is_open as is_open_by};
     ghost use Rattle.flow_splice.specs.declared.Place.TheVariants.{Empty, Resting};
 
     /// A segment of the guest arrived. Where it resets the connection, or both ends passed with it, the socket is closed. True exactly where it is to be
     /// answered by a reset, as a segment without a flow. At rest a SYN that is ahead of what is expected leaves the place empty, and so does a reset at the
-    /// next number: the segment is one without a flow then.
+    /// next number: the segment is one without a flow then. No call is made but a close.
     pub fn guest_segment<W: World>(&mut self, world: &mut W, now: u64, seg: &TcpView<'_>) -> bool
         requires now { now ≤ 2 ^ 62 }
         requires body { length seg.now.body.now ≤ 65535 }
         requires few { self.old.up.written + length seg.now.body.now + 2 ^ 21 < 2 ^ 62 }
-        ensures makes { Makes (W.tells world.old) (W.tells world.new) (Hears self.old self.new (tcp_of seg.now) now) }
+        ensures makes { Makes (W.tells world.old) (W.tells world.new) (λ made. Hears self.old self.new (tcp_of seg.now) now made × (is_at_most_a_close made ≡ true)) }
         ensures unfit { result ≡ turns_away self.old (tcp_of seg.now) now }
         ensures same { IsAsOld self.old self.new }
         ensures up { self.new.up.written ≡ self.old.up.written }
@@ -48,7 +49,7 @@ impl Spliced {
         requires body { length seg.now.body.now ≤ 65535 }
         requires few { self.old.up.written + length seg.now.body.now + 2 ^ 21 < 2 ^ 62 }
         requires open_yet { is_open_by self.old ≡ true }
-        ensures makes { Makes (W.tells world.old) (W.tells world.new) (Hears self.old self.new (tcp_of seg.now) now) }
+        ensures makes { Makes (W.tells world.old) (W.tells world.new) (λ made. Hears self.old self.new (tcp_of seg.now) now made × (is_at_most_a_close made ≡ true)) }
         ensures unfit { result ≡ is_unfit (change_at self.old.conn self.old.up self.old.down (tcp_of seg.now) now) }
         ensures same { IsAsOld self.old self.new }
         ensures up { self.new.up.written ≡ self.old.up.written }

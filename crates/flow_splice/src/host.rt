@@ -20,14 +20,16 @@ impl Spliced {
     ghost use Rattle.flow_splice.specs.Splice.{closed, is_open as is_open_by};
     ghost use Rattle.flow_splice.specs.Serves.{GoesOn};
     ghost use Rattle.flow_splice.specs.Hosts.{IsAsOld, PassesEnd, is_for_reading, is_for_writing, some_is};
+    ghost use Rattle.flow_splice.specs.Shapes.{IsHostWork, is_ending, is_reading, is_writing};
     ghost use Rattle.flow_splice.specs.Wants.{may_end, owes_octets as owes_octets_by, reads, writes};
 
     /// The host's socket was reported ready, for reading, for writing or for both. It is asked whether it connected, or gets octets, and the guest's end
     /// where no octet is left before it; and then what it has is read, as far as there is room. Where a call fails, or both ends passed, the socket is closed.
+    /// A direction that wasn't reported isn't served.
     pub fn host_ready<W: World>(&mut self, world: &mut W, now: u64, read: bool, write: bool)
         requires now { now ≤ 2 ^ 62 }
         requires few { octets_read self.old.down + 16384 < 2 ^ 62 }
-        ensures makes { Makes (W.tells world.old) (W.tells world.new) (GoesOn self.old self.new false now) }
+        ensures makes { Makes (W.tells world.old) (W.tells world.new) (λ made. GoesOn self.old self.new false now made × IsHostWork read write made) }
         ensures same { IsAsOld self.old self.new }
         ensures up { self.new.up.written ≤ self.old.up.written + 16384 }
         ensures down { octets_read self.new.down ≤ octets_read self.old.down + 16384 }
@@ -46,7 +48,7 @@ impl Spliced {
     // The socket was reported ready for writing, or not.
     fn serve_writing<W: World>(&mut self, world: &mut W, now: u64, ready: bool)
         requires now { now ≤ 2 ^ 62 }
-        ensures makes { Makes (W.tells world.old) (W.tells world.new) (GoesOn self.old self.new false now) }
+        ensures makes { Makes (W.tells world.old) (W.tells world.new) (λ made. GoesOn self.old self.new false now made × (is_writing made ≡ true) × (ready ≡ false → made ≡ [])) }
         ensures same { IsAsOld self.old self.new }
         ensures up { self.new.up.written ≤ self.old.up.written + 16384 }
         ensures down { self.new.down ≡ self.old.down }
@@ -70,7 +72,7 @@ impl Spliced {
     fn serve_reading<W: World>(&mut self, world: &mut W, now: u64, ready: bool)
         requires now { now ≤ 2 ^ 62 }
         requires few { octets_read self.old.down + 16384 < 2 ^ 62 }
-        ensures makes { Makes (W.tells world.old) (W.tells world.new) (GoesOn self.old self.new false now) }
+        ensures makes { Makes (W.tells world.old) (W.tells world.new) (λ made. GoesOn self.old self.new false now made × (is_reading made ≡ true) × (ready ≡ false → made ≡ [])) }
         ensures same { IsAsOld self.old self.new }
         ensures up { self.new.up ≡ self.old.up }
         ensures down { octets_read self.new.down ≤ octets_read self.old.down + 16384 }
@@ -89,7 +91,7 @@ impl Spliced {
         requires now { now ≤ 2 ^ 62 }
         requires open_yet { is_open_by self.old ≡ true }
         requires connects { is_connects self.old.conn.stage ≡ true }
-        ensures makes { Makes (W.tells world.old) (W.tells world.new) (GoesOn self.old self.new false now) }
+        ensures makes { Makes (W.tells world.old) (W.tells world.new) (λ made. GoesOn self.old self.new false now made × (is_writing made ≡ true)) }
         ensures same { IsAsOld self.old self.new }
         ensures up { self.new.up ≡ self.old.up }
         ensures down { self.new.down ≡ self.old.down }
@@ -145,7 +147,7 @@ impl Spliced {
         requires open_yet { is_open_by self.old ≡ true }
         requires connected { is_connects self.old.conn.stage ≡ false }
         requires owes { owes_octets_by self.old ≡ true }
-        ensures makes { Makes (W.tells world.old) (W.tells world.new) (GoesOn self.old self.new false now) }
+        ensures makes { Makes (W.tells world.old) (W.tells world.new) (λ made. GoesOn self.old self.new false now made × (is_writing made ≡ true)) }
         ensures same { IsAsOld self.old self.new }
         ensures up { self.new.up.written ≤ self.old.up.written + 16384 }
         ensures down { self.new.down ≡ self.old.down }
@@ -177,7 +179,7 @@ impl Spliced {
         requires now { now ≤ 2 ^ 62 }
         requires open_yet { is_open_by self.old ≡ true }
         requires connected { is_connects self.old.conn.stage ≡ false }
-        ensures makes { Makes (W.tells world.old) (W.tells world.new) (GoesOn self.old self.new false now) }
+        ensures makes { Makes (W.tells world.old) (W.tells world.new) (λ made. GoesOn self.old self.new false now made × (is_ending made ≡ true)) }
         ensures same { IsAsOld self.old self.new }
         ensures up { self.new.up ≡ self.old.up }
         ensures down { self.new.down ≡ self.old.down }
@@ -195,7 +197,7 @@ impl Spliced {
         requires connected { is_connects self.old.conn.stage ≡ false }
         requires all { owes_octets_by self.old ≡ false }
         requires ends { may_end self.old ≡ true }
-        ensures makes { Makes (W.tells world.old) (W.tells world.new) (GoesOn self.old self.new false now) }
+        ensures makes { Makes (W.tells world.old) (W.tells world.new) (λ made. GoesOn self.old self.new false now made × (is_ending made ≡ true)) }
         ensures same { IsAsOld self.old self.new }
         ensures up { self.new.up ≡ self.old.up }
         ensures down { self.new.down ≡ self.old.down }
@@ -237,6 +239,7 @@ impl Spliced {
     ghost use Rattle.flow_splice.specs.Splice.{is_open as is_open_by};
     ghost use Rattle.flow_splice.specs.Serves.{GoesOn};
     ghost use Rattle.flow_splice.specs.Hosts.{IsAsOld, PassesEnd, is_for_reading, read_by, some_is};
+    ghost use Rattle.flow_splice.specs.Shapes.{is_reading};
     ghost use Rattle.flow_splice.specs.Wants.{may_read as may_read_by};
 
     // Reads octets, as many as there is room for, 16,384 at most.
@@ -245,7 +248,7 @@ impl Spliced {
         requires open_yet { is_open_by self.old ≡ true }
         requires may { may_read_by self.old ≡ true }
         requires few { octets_read self.old.down + 16384 < 2 ^ 62 }
-        ensures makes { Makes (W.tells world.old) (W.tells world.new) (GoesOn self.old self.new false now) }
+        ensures makes { Makes (W.tells world.old) (W.tells world.new) (λ made. GoesOn self.old self.new false now made × (is_reading made ≡ true)) }
         ensures same { IsAsOld self.old self.new }
         ensures up { self.new.up ≡ self.old.up }
         ensures down { octets_read self.new.down ≤ octets_read self.old.down + 16384 }

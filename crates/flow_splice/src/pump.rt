@@ -9,7 +9,7 @@ ghost use Rattle.tcp_guest.specs.Connection.{HasBuffers};
 ghost use Rattle.tcp_guest.specs.Owing.{change_gone, owed_of};
 ghost use Rattle.connection_steps.specs.Sending.{is_rst, segment_out, with_head};
 ghost use Rattle.flow_splice.specs.Sends.{pumped_of};
-ghost use Rattle.flow_splice.specs.Frames.{IsHeld, frame_length, request_frame, segment_frame};
+ghost use Rattle.flow_splice.specs.Frames.{IsHeld, IsSized, frame_length, request_frame, segment_frame};
 ghost use Rattle.flow_laws.specs.Settings.{Settings};
 ghost use Rattle.flow_laws.specs.Event.{Story};
 ghost use Rattle.flow_steps.specs.Resends.{least_wait};
@@ -47,6 +47,7 @@ impl Spliced {
         ensures same { under_way link.new ≡ under_way link.old }
         ensures change { self.new ≡ self.old }
         ensures buffers { HasBuffers self.old.conn self.old.up self.old.down }
+        ensures sized { IsSized self.old.face mac ident (segment_out self.old.mru self.old.conn self.old.up self.old.down what.now) }
     {
         let head = self.conn.head(&self.up, what);
         let route = Route {
@@ -95,6 +96,8 @@ fn offer_frame<W: World>(
     ensures settles { Settles result link.new }
     ensures same { under_way link.new ≡ under_way link.old }
     ensures room { length buffer.new ≡ length buffer.old }
+    ensures sized { (number : ℕ) → IsSized (record { guest = route.now.guest; other = route.now.other; number = number; vhost = route.now.vhost })
+        route.now.mac route.now.ident (with_head head.now mru down.now what.now) }
 {
     let length = write_frame(route, head, what, mru, down, buffer);
     link.offer(world, &buffer[..length])
@@ -156,6 +159,7 @@ impl Spliced {
     ghost use Rattle.flow_splice.specs.Follows.{Follows};
     ghost use Rattle.flow_splice.specs.Hosts.{IsAsOld};
     ghost use Rattle.flow_splice.specs.Left.{left};
+    ghost use Rattle.flow_splice.specs.Shapes.{IsPumpWork};
     ghost use Rattle.flow_splice.specs.Splice.{is_open as is_open_by};
     ghost use Rattle.flow_splice.specs.Sends.{IsClear, IsPumped, SendsOn, asked, asks_now, learnt, takes_part};
     ghost use Rattle.flow_splice.specs.declared.Place.TheVariants.{Empty};
@@ -163,7 +167,8 @@ impl Spliced {
 
     /// Sends all that the flow owes, one segment at a time, until the link is blocked. Each datagram that goes out has the number `ident`, which is one more
     /// then, modulo 2^16. `mac` is the guest's hardware address, where it is known: the flow keeps it. A flow that calls a guest whose address isn't known
-    /// asks for it in place of its SYN. Where both ends passed with what went out the socket is closed.
+    /// asks for it in place of its SYN. Where both ends passed with what went out the socket is closed. No other call is made: it only writes on the link, and
+    /// failed exactly where its last write did.
     pub fn pump<W: World>(
         &mut self,
         world: &mut W,
@@ -174,7 +179,7 @@ impl Spliced {
     ) -> Pumped
         requires now { now ≤ 2 ^ 62 }
         requires tail { link.old.blocked ≡ false → link.old.tail ≡ [] }
-        ensures makes { Makes (W.tells world.old) (W.tells world.new) (SendsOn self.old self.new link.old link.new ident.old ident.new now) }
+        ensures makes { Makes (W.tells world.old) (W.tells world.new) (λ made. SendsOn self.old self.new link.old link.new ident.old ident.new now made × IsPumpWork result made) }
         ensures blocked { result ≡ Blocked → link.new.blocked ≡ true }
         ensures free { result ≡ Clear → (link.new.blocked ≡ false) × (link.new.tail ≡ []) }
         ensures failed { result ≡ Failed → Rose (W.tells world.old).faults.link (W.tells world.new).faults.link }
@@ -227,7 +232,8 @@ impl Spliced {
         requires none { link.old.tail ≡ [] }
         requires free { link.old.blocked ≡ false }
         requires unknown { self.old.mac ≡ None }
-        ensures makes { Makes (W.tells world.old) (W.tells world.new) (λ made. (first : ℕ) → first < 2 ^ 16 → SendsOn self.old self.new link.old link.new first first now made) }
+        ensures makes { Makes (W.tells world.old) (W.tells world.new) (λ made.
+            ((first : ℕ) → first < 2 ^ 16 → SendsOn self.old self.new link.old link.new first first now made) × IsPumpWork result made) }
         ensures blocked { result ≡ Blocked → link.new.blocked ≡ true }
         ensures free { result ≡ Clear → (link.new.blocked ≡ false) × (link.new.tail ≡ []) }
         ensures failed { result ≡ Failed → Rose (W.tells world.old).faults.link (W.tells world.new).faults.link }
@@ -290,7 +296,7 @@ impl Spliced {
         requires none { link.old.tail ≡ [] }
         requires free { link.old.blocked ≡ false }
         requires mac { self.old.mac ≡ Some mac }
-        ensures makes { Makes (W.tells world.old) (W.tells world.new) (SendsOn self.old self.new link.old link.new ident.old ident.new now) }
+        ensures makes { Makes (W.tells world.old) (W.tells world.new) (λ made. SendsOn self.old self.new link.old link.new ident.old ident.new now made × IsPumpWork result made) }
         ensures blocked { result ≡ Blocked → link.new.blocked ≡ true }
         ensures free { result ≡ Clear → (link.new.blocked ≡ false) × (link.new.tail ≡ []) }
         ensures failed { result ≡ Failed → Rose (W.tells world.old).faults.link (W.tells world.new).faults.link }
@@ -327,7 +333,7 @@ impl Spliced {
         requires free { link.old.blocked ≡ false }
         requires mac { self.old.mac ≡ Some mac }
         requires owed { takes_part self.old (owed_of self.old.conn self.old.up self.old.down) ≡ Some what.now }
-        ensures makes { Makes (W.tells world.old) (W.tells world.new) (SendsOn self.old self.new link.old link.new ident.old ident.new now) }
+        ensures makes { Makes (W.tells world.old) (W.tells world.new) (λ made. SendsOn self.old self.new link.old link.new ident.old ident.new now made × IsPumpWork result made) }
         ensures blocked { result ≡ Blocked → link.new.blocked ≡ true }
         ensures free { result ≡ Clear → (link.new.blocked ≡ false) × (link.new.tail ≡ []) }
         ensures failed { result ≡ Failed → Rose (W.tells world.old).faults.link (W.tells world.new).faults.link }

@@ -19,16 +19,18 @@ impl Spliced {
     ghost use Rattle.flow_splice.specs.Ahead.{IsAhead};
     ghost use Rattle.flow_splice.specs.Follows.{Follows};
     ghost use Rattle.flow_splice.specs.Hosts.{IsAsOld};
-    ghost use Rattle.flow_splice.specs.Serves.{GoesOn, TicksOn};
+    ghost use Rattle.flow_splice.specs.Serves.{GoesOnYet, TicksOn};
+    ghost use Rattle.flow_splice.specs.Shapes.{is_at_most_a_close};
     ghost use Rattle.flow_splice.specs.Splice.{is_open as is_open_by};
     ghost use Rattle.flow_splice.specs.Wants.{connect_end as connect_end_by, seeks as seeks_by};
 
     /// The moment came. A socket that didn't connect in 75,000 ms is closed; so is that of a flow whose guest wasn't found by nine requests and the waits
     /// after them, and that of one that is given up. Else what the connection's timer makes owed again is owed from now on.
     /// The guest's hardware address isn't known then unless the flow has it: once it is learnt, `pump` is called with it first, also while the link is blocked.
+    /// No call is made but a close.
     pub fn tick<W: World>(&mut self, world: &mut W, now: u64)
         requires now { now ≤ 2 ^ 62 }
-        ensures makes { Makes (W.tells world.old) (W.tells world.new) (TicksOn self.old self.new now) }
+        ensures makes { Makes (W.tells world.old) (W.tells world.new) (λ made. TicksOn self.old self.new now made × (is_at_most_a_close made ≡ true)) }
         ensures same { IsAsOld self.old self.new }
         ensures up { self.new.up ≡ self.old.up }
         ensures down { self.new.down ≡ self.old.down }
@@ -56,7 +58,7 @@ impl Spliced {
         requires now { now ≤ 2 ^ 62 }
         requires open_yet { is_open_by self.old ≡ true }
         requires connects { is_connects self.old.conn.stage ≡ true }
-        ensures makes { Makes (W.tells world.old) (W.tells world.new) (GoesOn self.old self.new false now) }
+        ensures makes { Makes (W.tells world.old) (W.tells world.new) (λ made. GoesOnYet self.old self.new false now made × (is_at_most_a_close made ≡ true)) }
         ensures same { IsAsOld self.old self.new }
         ensures up { self.new.up ≡ self.old.up }
         ensures down { self.new.down ≡ self.old.down }
@@ -73,7 +75,7 @@ impl Spliced {
         requires now { now ≤ 2 ^ 62 }
         requires open_yet { is_open_by self.old ≡ true }
         requires seeks { seeks_by self.old ≡ true }
-        ensures makes { Makes (W.tells world.old) (W.tells world.new) (TicksOn self.old self.new now) }
+        ensures makes { Makes (W.tells world.old) (W.tells world.new) (λ made. TicksOn self.old self.new now made × (is_at_most_a_close made ≡ true)) }
         ensures same { IsAsOld self.old self.new }
         ensures up { self.new.up ≡ self.old.up }
         ensures down { self.new.down ≡ self.old.down }
@@ -96,7 +98,7 @@ impl Spliced {
     fn expire<W: World>(&mut self, world: &mut W, now: u64)
         requires now { now ≤ 2 ^ 62 }
         requires open_yet { is_open_by self.old ≡ true }
-        ensures makes { Makes (W.tells world.old) (W.tells world.new) (GoesOn self.old self.new false now) }
+        ensures makes { Makes (W.tells world.old) (W.tells world.new) (λ made. GoesOnYet self.old self.new false now made × (is_at_most_a_close made ≡ true)) }
         ensures same { IsAsOld self.old self.new }
         ensures up { self.new.up ≡ self.old.up }
         ensures down { self.new.down ≡ self.old.down }

@@ -14,20 +14,23 @@ pub returns-in-Yes-clause-makes : goal.returns-in-Yes-clause-makes
 returns-in-Yes-clause-makes g c =
     let f = c.args.self.now in
     let change = c.join.ensures.change in
-    makes_one _ _ (Connected f.face.number Yes) (GoesOn f c.join.new.self false c.args.now) c.in-Yes.ensures
-    (λ allowed. subst (λ (x : Splice). GoesOn f x false c.args.now (Connected f.face.number Yes ∷ [])) (sym change)
-    (host_connected f c.args.now c.requires.open_yet c.requires.connects (subst (λ (x : Splice). HasBuffers x.conn x.up x.down) change c.join.ensures.buffers)))
+    makes_one _ _ (Connected f.face.number Yes) _ c.in-Yes.ensures
+    (λ allowed. (
+      subst (λ (x : Splice). GoesOn f x false c.args.now (Connected f.face.number Yes ∷ [])) (sym change)
+          (host_connected f c.args.now c.requires.open_yet c.requires.connects (subst (λ (x : Splice). HasBuffers x.conn x.up x.down) change c.join.ensures.buffers)),
+      refl,
+    ))
 
 pub returns-in-NotYet-clause-makes : goal.returns-in-NotYet-clause-makes
 returns-in-NotYet-clause-makes g c =
     let f = c.args.self.now in
-    makes_one _ _ (Connected f.face.number NotYet) (GoesOn f f false c.args.now) c.in-NotYet.ensures (λ allowed. host_not_yet f c.args.now c.requires.open_yet c.requires.connects)
+    makes_one _ _ (Connected f.face.number NotYet) _ c.in-NotYet.ensures (λ allowed. (host_not_yet f c.args.now c.requires.open_yet c.requires.connects, refl))
 
 pub returns-in-Failed-clause-makes : goal.returns-in-Failed-clause-makes
 returns-in-Failed-clause-makes g c =
     let f = c.args.self.now in
-    two_calls _ _ _ (Connected f.face.number Failed) (Close f.face.number) (GoesOn f c.fail.new.self false c.args.now) c.in-Failed.ensures c.fail.ensures.closes
-    (λ one two. subst (λ (x : Splice). GoesOn f x false c.args.now (Close f.face.number ∷ Connected f.face.number Failed ∷ [])) (sym c.fail.ensures.change) (host_refused f c.args.now c.requires.open_yet c.requires.connects))
+    two_calls _ _ _ (Connected f.face.number Failed) (Close f.face.number) _ c.in-Failed.ensures c.fail.ensures.closes
+    (λ one two. (subst (λ (x : Splice). GoesOn f x false c.args.now (Close f.face.number ∷ Connected f.face.number Failed ∷ [])) (sym c.fail.ensures.change) (host_refused f c.args.now c.requires.open_yet c.requires.connects), refl))
 
 pub returns-in-Yes-clause-serves : goal.returns-in-Yes-clause-serves
 returns-in-Yes-clause-serves g c = makes_one _ _ (Connected c.args.self.now.face.number Yes) (λ made. some_is is_for_writing made ≡ true) c.in-Yes.ensures (λ allowed. refl)

@@ -9,15 +9,19 @@ use Rattle.flow_splice.specs.Serves.{GoesOn}
 use Rattle.flow_splice.specs.Splice.{Splice}
 use Rattle.flow_splice.proofs.Calls.{calls_after, still_is, two_calls}
 use Rattle.flow_splice.proofs.Hosting.{host_end_fails, host_ends}
+use Rattle.flow_splice.proofs.Shaping.{sees_ending}
 use Rattle.flow_splice.proofs.Spliced.end.Goals as goal
 
 pub returns-in-Failed-clause-makes : goal.returns-in-Failed-clause-makes
 returns-in-Failed-clause-makes g c =
     let f : Splice = c.args.self.now in
     let now : ℕ = c.args.now in
-    two_calls _ _ _ (TcpEnd f.face.number Failed) (Close f.face.number) (GoesOn f c.fail.new.self false now) c.in-Failed.ensures c.fail.ensures.closes
-    (λ one two. subst (λ (x : Splice). GoesOn f x false now (Close f.face.number ∷ TcpEnd f.face.number Failed ∷ [])) (sym c.fail.ensures.change)
-    (host_end_fails f now c.requires.open_yet c.requires.all c.requires.ends))
+    two_calls _ _ _ (TcpEnd f.face.number Failed) (Close f.face.number) _ c.in-Failed.ensures c.fail.ensures.closes
+    (λ one two. (
+      subst (λ (x : Splice). GoesOn f x false now (Close f.face.number ∷ TcpEnd f.face.number Failed ∷ [])) (sym c.fail.ensures.change)
+          (host_end_fails f now c.requires.open_yet c.requires.all c.requires.ends),
+      refl,
+    ))
 
 pub returns-in-Done-clause-makes : goal.returns-in-Done-clause-makes
 returns-in-Done-clause-makes g c =
@@ -26,10 +30,12 @@ returns-in-Done-clause-makes g c =
     let marked = c.mark_ended-change in
     let ended : Splice = record f { conn = settled (write_ended f.conn); told_end = true } in
     let is : marked.new.self ≡ ended = marked.ensures.ended in
-    calls_after _ _ _ (TcpEnd f.face.number Done) (Sees (ends marked.result) marked.new.self c.see.new.self now) (GoesOn f c.see.new.self false now) c.in-Done.ensures c.see.ensures
-    (λ made sees.
-    host_ends f now c.requires.open_yet c.requires.all c.requires.ends (subst (λ (x : Splice). HasBuffers x.conn x.up x.down) is marked.ensures.buffers)
-    (ends marked.result) (sym (ap ends marked.ensures.change)) c.see.new.self made (subst (λ (x : Splice). Sees (ends marked.result) x c.see.new.self now made) is sees))
+    calls_after _ _ _ (TcpEnd f.face.number Done) (Sees (ends marked.result) marked.new.self c.see.new.self now) _ c.in-Done.ensures c.see.ensures
+    (λ made sees. (
+      host_ends f now c.requires.open_yet c.requires.all c.requires.ends (subst (λ (x : Splice). HasBuffers x.conn x.up x.down) is marked.ensures.buffers)
+          (ends marked.result) (sym (ap ends marked.ensures.change)) c.see.new.self made (subst (λ (x : Splice). Sees (ends marked.result) x c.see.new.self now made) is sees),
+      sees_ending (ends marked.result) marked.new.self c.see.new.self now made f.face.number Done sees,
+    ))
 
 pub returns-in-Failed-clause-serves : goal.returns-in-Failed-clause-serves
 returns-in-Failed-clause-serves g c =

@@ -4,8 +4,8 @@ use Rattle.tcp_guest.specs.Connection.{HasBuffers}
 use Rattle.tcp_guest.specs.Timing.{after_tick}
 use Rattle.connection_steps.specs.Holding.{is_live}
 use Rattle.flow_splice.specs.Hosts.{Sees, ends}
-use Rattle.flow_splice.specs.Serves.{GoesOn}
 use Rattle.flow_splice.specs.Splice.{Splice}
+use Rattle.flow_splice.proofs.Shaping.{sees_at_most}
 use Rattle.flow_splice.proofs.Timing.{sees_stage, tick_dead, ticks}
 use Rattle.flow_splice.proofs.Spliced.expire.Goals as goal
 
@@ -21,10 +21,12 @@ returns-clause-makes g c =
     let now : ℕ = c.args.now in
     let ticked = c.tick_connection-change in
     let is : ticked.new.self ≡ record f { conn = after_tick f.conn now } = ticked.ensures.ticked in
-    makes_as _ _ (Sees (ends ticked.result) ticked.new.self c.see.new.self now) (GoesOn f c.see.new.self false now) c.see.ensures
-    (λ made sees.
-    ticks f now c.requires.open_yet (subst (λ (x : Splice). HasBuffers x.conn x.up x.down) is ticked.ensures.buffers) (ends ticked.result) (sym (ap ends ticked.ensures.change)) c.see.new.self made
-    (subst (λ (x : Splice). Sees (ends ticked.result) x c.see.new.self now made) is sees))
+    makes_as _ _ (Sees (ends ticked.result) ticked.new.self c.see.new.self now) _ c.see.ensures
+    (λ made sees. (
+      ticks f now c.requires.open_yet (subst (λ (x : Splice). HasBuffers x.conn x.up x.down) is ticked.ensures.buffers) (ends ticked.result) (sym (ap ends ticked.ensures.change)) c.see.new.self made
+          (subst (λ (x : Splice). Sees (ends ticked.result) x c.see.new.self now made) is sees),
+      sees_at_most (ends ticked.result) ticked.new.self c.see.new.self now made sees,
+    ))
 
 pub returns-clause-stage : goal.returns-clause-stage
 returns-clause-stage g c yet =

@@ -13,7 +13,7 @@ returns-in-Resting-clause-makes g c =
     let f : Splice = c.args.self.now in
     let tcp : Tcp = tcp_of c.args.seg.now in
     let since : ℕ = c.in-Resting.since in
-    makes_none _ _ (subst (λ (x : Splice). Hears f x tcp c.args.now []) (sym c.hear_at_rest.ensures.heard) (hears_at_rest f c.args.now since tcp (sym c.place.ensures ∙ c.in-Resting.is)))
+    makes_none _ _ (subst (λ (x : Splice). Hears f x tcp c.args.now []) (sym c.hear_at_rest.ensures.heard) (hears_at_rest f c.args.now since tcp (sym c.place.ensures ∙ c.in-Resting.is)), refl)
 
 pub returns-in-Resting-clause-same : goal.returns-in-Resting-clause-same
 returns-in-Resting-clause-same g c =
@@ -26,7 +26,7 @@ returns-in_default g c =
     let f : Splice = c.args.self.now in
     let tcp : Tcp = tcp_of c.args.seg.now in
     record {
-      makes = makes_none _ _ (hears_nothing f c.args.now tcp (sym c.is_open.ensures ∙ c.if-is_open.false) (λ since at. c.in_default.not-Resting since (c.place.ensures ∙ at)));
+      makes = makes_none _ _ (hears_nothing f c.args.now tcp (sym c.is_open.ensures ∙ c.if-is_open.false) (λ since at. c.in_default.not-Resting since (c.place.ensures ∙ at)), refl);
       unfit = sym (ap (λ (b : Bool). b && is_unfit (change_at f.conn f.up f.down tcp c.args.now)) (sym c.is_open.ensures ∙ c.if-is_open.false));
       same = record { face = refl; mac = refl; since = refl; asked = refl; ask_at = refl; up_size = refl; down_size = refl; mru = refl };
       up = refl;

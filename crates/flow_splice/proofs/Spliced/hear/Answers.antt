@@ -5,11 +5,12 @@ use Rattle.tcp_receive.specs.Coming.{Comes}
 use Rattle.tcp_segment.specs.Tcp.{Tcp, tcp_of}
 use Rattle.tcp_guest.specs.Connection.{HasBuffers}
 use Rattle.connection_steps.specs.Holding.{is_live}
-use Rattle.flow_splice.specs.Guests.{Hears, heard}
+use Rattle.flow_splice.specs.Guests.{heard}
 use Rattle.flow_splice.specs.Hosts.{IsAsOld, Sees, ends}
 use Rattle.flow_splice.specs.Splice.{Splice}
 use Rattle.flow_splice.proofs.Coming.{as_old_then, heard_as_old, heard_dead, heard_written, sees_as_old, sees_up}
 use Rattle.flow_splice.proofs.Hearing.{hears}
+use Rattle.flow_splice.proofs.Shaping.{sees_at_most}
 use Rattle.flow_splice.proofs.Spliced.hear.Goals as goal
 
 pub see-requires : goal.see-requires
@@ -26,12 +27,14 @@ returns-clause-makes g c =
     let took = c.take_in-change in
     let is : took.new.self ≡ heard f tcp now = took.ensures.heard in
     let body = c.requires.body in
-    makes_as _ _ (Sees (ends took.result) took.new.self c.see.new.self now) (Hears f c.see.new.self tcp now) c.see.ensures
-    (λ made sees.
-    hears f now tcp c.requires.open_yet c.requires.now took.ensures.number took.ensures.acknowledgement (omega (arith, body))
-    (subst (λ (x : Splice). HasBuffers x.conn x.up x.down) is took.ensures.buffers) (subst (λ (x : Splice). length x.up.held ≤ x.up.size) is took.ensures.within)
-    (subst (λ (x : Splice). Comes f.conn.received tcp.seq tcp.body f.up x.up) is took.ensures.comes)
-    (ends took.result) (sym (ap ends took.ensures.change)) c.see.new.self made (subst (λ (x : Splice). Sees (ends took.result) x c.see.new.self now made) is sees))
+    makes_as _ _ (Sees (ends took.result) took.new.self c.see.new.self now) _ c.see.ensures
+    (λ made sees. (
+      hears f now tcp c.requires.open_yet c.requires.now took.ensures.number took.ensures.acknowledgement (omega (arith, body))
+          (subst (λ (x : Splice). HasBuffers x.conn x.up x.down) is took.ensures.buffers) (subst (λ (x : Splice). length x.up.held ≤ x.up.size) is took.ensures.within)
+          (subst (λ (x : Splice). Comes f.conn.received tcp.seq tcp.body f.up x.up) is took.ensures.comes)
+          (ends took.result) (sym (ap ends took.ensures.change)) c.see.new.self made (subst (λ (x : Splice). Sees (ends took.result) x c.see.new.self now made) is sees),
+      sees_at_most (ends took.result) took.new.self c.see.new.self now made sees,
+    ))
 
 pub returns-clause-same : goal.returns-clause-same
 returns-clause-same g c =

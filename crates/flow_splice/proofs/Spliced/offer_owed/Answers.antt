@@ -8,7 +8,7 @@ use Rattle.tcp_guest.specs.Owing.{owed_of}
 use Rattle.tcp_guest.specs.declared.Owed.{Owed}
 use Rattle.tcp_guest.specs.declared.Head.{Head}
 use Rattle.connection_steps.specs.Sending.{segment_out, with_head}
-use Rattle.flow_splice.specs.Frames.{segment_frame}
+use Rattle.flow_splice.specs.Frames.{IsSized, segment_frame}
 use Rattle.flow_splice.specs.Splice.{Splice}
 use Rattle.flow_splice.proofs.Sending.{fits_of, held_of}
 use Rattle.flow_splice.proofs.Spliced.offer_owed.Goals as goal
@@ -41,3 +41,11 @@ returns-clause-makes g c =
 
 pub returns-clause-buffers : goal.returns-clause-buffers
 returns-clause-buffers g c = subst (λ (f : Splice). HasBuffers f.conn f.up f.down) c.self.view_is c.self.invariant.0.buffers
+
+pub returns-clause-sized : goal.returns-clause-sized
+returns-clause-sized g c =
+    let i = c.self.inside in
+    let what : Owed = c.args.what.now in
+    subst (λ (f : Splice). IsSized f.face c.args.mac c.args.ident (segment_out f.mru f.conn f.up f.down what)) c.self.view_is
+    (subst (λ (h : Head). IsSized (record { guest = i.guest; other = i.other; number = i.number; vhost = i.vhost }) c.args.mac c.args.ident (with_head h i.mru i.down what))
+    c.head-head.ensures (c.offer_frame.ensures.sized i.number))

@@ -1,4 +1,4 @@
-use Rattle.std.proofs.Common.{◌≡◌, ◌<◌, ◌^◌, ℕ, [], arith, subst, sym, ap, ◌∙◌}
+use Rattle.std.proofs.Common.{◌≡◌, ℕ, [], refl, arith, subst, sym, ap, ◌∙◌}
 use Rattle.world_face.proofs.Telling.{makes_as, makes_none}
 use Rattle.stream_netdev.specs.State.{LinkState}
 use Rattle.flow_splice.specs.Sends.{SendsOn}
@@ -15,31 +15,32 @@ returns-then-blocked-clause-makes g c =
     let f : Splice = c.args.self.now in
     let mid : Splice = c.learn.new.self in
     let link : LinkState = c.args.link.now in
-    makes_none _ _ (learn_then f mid c.args.mac link link c.args.ident.now c.args.ident.now c.args.now []
-    (subst (λ (x : Splice). SendsOn x mid link link c.args.ident.now c.args.ident.now c.args.now []) c.learn.ensures (sends_none mid link c.args.ident.now c.args.now (omega arith))))
+    makes_none _ _ (
+      learn_then f mid c.args.mac link link c.args.ident.now c.args.ident.now c.args.now []
+          (subst (λ (x : Splice). SendsOn x mid link link c.args.ident.now c.args.ident.now c.args.now []) c.learn.ensures (sends_none mid link c.args.ident.now c.args.now (omega arith))),
+      refl,
+    )
 
 pub returns-in-Some-clause-makes : goal.returns-in-Some-clause-makes
 returns-in-Some-clause-makes g c =
     let f : Splice = c.args.self.now in
-    let mid : Splice = c.learn.new.self in
     let new : Splice = c.send_all.new.self in
     let link : LinkState = c.args.link.now in
     let next : LinkState = c.send_all.new.link in
     let first : ℕ = c.args.ident.now in
     let last : ℕ = c.send_all.new.ident in
-    makes_as _ _ (SendsOn mid new link next first last c.args.now) (SendsOn f new link next first last c.args.now) c.send_all.ensures.makes
-    (λ made sends. learn_then f new c.args.mac link next first last c.args.now made (subst (λ (x : Splice). SendsOn x new link next first last c.args.now made) c.learn.ensures sends))
+    makes_as _ _ _ _ c.send_all.ensures.makes
+    (λ made sends. (learn_then f new c.args.mac link next first last c.args.now made (subst (λ (x : Splice). SendsOn x new link next first last c.args.now made) c.learn.ensures sends.0), sends.1))
 
 pub returns-in-None-clause-makes : goal.returns-in-None-clause-makes
 returns-in-None-clause-makes g c =
     let f : Splice = c.args.self.now in
-    let mid : Splice = c.learn.new.self in
     let new : Splice = c.seek.new.self in
     let link : LinkState = c.args.link.now in
     let next : LinkState = c.seek.new.link in
     let first : ℕ = c.args.ident.now in
-    makes_as _ _ (λ made. (n : ℕ) → n < 2 ^ 16 → SendsOn mid new link next n n c.args.now made) (SendsOn f new link next first first c.args.now) c.seek.ensures.makes
-    (λ made sends. learn_then f new c.args.mac link next first first c.args.now made (subst (λ (x : Splice). SendsOn x new link next first first c.args.now made) c.learn.ensures (sends first (omega arith))))
+    makes_as _ _ _ _ c.seek.ensures.makes
+    (λ made sends. (learn_then f new c.args.mac link next first first c.args.now made (subst (λ (x : Splice). SendsOn x new link next first first c.args.now made) c.learn.ensures (sends.0 first (omega arith))), sends.1))
 
 pub returns-in-Some-clause-ahead : goal.returns-in-Some-clause-ahead
 returns-in-Some-clause-ahead g c s past before h ahead =

@@ -23,9 +23,12 @@ returns-in-End-clause-makes g c =
     let same : c.ask_octets.new.self ≡ f = read.3 ∙ ap (λ (answer : Io). read_by (gives_octets answer) f octets now) c.in-End.is in
     let change : c.end_reading.new.self ≡ record f { conn = host_ended f.conn now } = c.end_reading.ensures.change ∙ ap (λ (x : Splice). record x { conn = host_ended x.conn now }) same in
     let answers = subst (λ (answer : Io). Answers (g.W.World.tells c.args.world.now) (g.W.World.tells c.ask_octets.new.world) (TcpRead f.face.number asked answer octets)) c.in-End.is read.1 in
-    makes_one _ _ (TcpRead f.face.number asked End octets) (GoesOn f c.end_reading.new.self false now) answers
-    (λ allowed. subst (λ (x : Splice). GoesOn f x false now (TcpRead f.face.number asked End octets ∷ [])) (sym change)
-    (host_gives_end f now c.requires.open_yet c.requires.may octets c.ask_octets.ensures.size (subst (λ (x : Splice). HasBuffers x.conn x.up x.down) change c.end_reading.ensures.buffers)))
+    makes_one _ _ (TcpRead f.face.number asked End octets) _ answers
+    (λ allowed. (
+      subst (λ (x : Splice). GoesOn f x false now (TcpRead f.face.number asked End octets ∷ [])) (sym change)
+          (host_gives_end f now c.requires.open_yet c.requires.may octets c.ask_octets.ensures.size (subst (λ (x : Splice). HasBuffers x.conn x.up x.down) change c.end_reading.ensures.buffers)),
+      refl,
+    ))
 
 pub returns-in-Failed-clause-makes : goal.returns-in-Failed-clause-makes
 returns-in-Failed-clause-makes g c =
@@ -38,9 +41,12 @@ returns-in-Failed-clause-makes g c =
     let shut : c.fail.new.self ≡ closed (record f { conn = reset f.conn }) now = c.fail.ensures.change ∙ ap (λ (x : Splice). closed (record x { conn = reset x.conn }) now) same in
     let answers = subst (λ (answer : Io). Answers (g.W.World.tells c.args.world.now) (g.W.World.tells c.ask_octets.new.world) (TcpRead f.face.number asked answer octets)) c.in-Failed.is read.1 in
     let closes = subst (λ (x : Splice). Answers (g.W.World.tells c.ask_octets.new.world) (g.W.World.tells c.fail.new.world) (Close x.face.number)) same c.fail.ensures.closes in
-    two_calls _ _ _ (TcpRead f.face.number asked Failed octets) (Close f.face.number) (GoesOn f c.fail.new.self false now) answers closes
-    (λ one two. subst (λ (x : Splice). GoesOn f x false now (Close f.face.number ∷ TcpRead f.face.number asked Failed octets ∷ [])) (sym shut)
-    (host_gives_none f now c.requires.open_yet c.requires.may octets c.ask_octets.ensures.size))
+    two_calls _ _ _ (TcpRead f.face.number asked Failed octets) (Close f.face.number) _ answers closes
+    (λ one two. (
+      subst (λ (x : Splice). GoesOn f x false now (Close f.face.number ∷ TcpRead f.face.number asked Failed octets ∷ [])) (sym shut)
+          (host_gives_none f now c.requires.open_yet c.requires.may octets c.ask_octets.ensures.size),
+      refl,
+    ))
 
 gives : (answer : Io) → ((n : ℕ) × (answer ≡ Done n)) ⊎ (answer ≡ NotYet) → gives_octets answer ≡ true
 gives answer (inl is) = ap gives_octets is.1
@@ -56,9 +62,12 @@ returns-in-Done-clause-makes g c =
     let answer : Io = c.ask_octets.result in
     let gave : gives_octets answer ≡ true = gives answer c.in-Done.is in
     let change : c.ask_octets.new.self ≡ given f octets now = read.3 ∙ ap (λ (b : Bool). read_by b f octets now) gave in
-    makes_one _ _ (TcpRead f.face.number asked answer octets) (GoesOn f c.ask_octets.new.self false now) read.1
-    (λ allowed. subst (λ (x : Splice). GoesOn f x false now (TcpRead f.face.number asked answer octets ∷ [])) (sym change)
-    (host_gives f now c.requires.open_yet c.requires.may answer octets gave c.ask_octets.ensures.size read.2 (subst (λ (x : Splice). HasBuffers x.conn x.up x.down) change c.ask_octets.ensures.buffers)))
+    makes_one _ _ (TcpRead f.face.number asked answer octets) _ read.1
+    (λ allowed. (
+      subst (λ (x : Splice). GoesOn f x false now (TcpRead f.face.number asked answer octets ∷ [])) (sym change)
+          (host_gives f now c.requires.open_yet c.requires.may answer octets gave c.ask_octets.ensures.size read.2 (subst (λ (x : Splice). HasBuffers x.conn x.up x.down) change c.ask_octets.ensures.buffers)),
+      refl,
+    ))
 
 pub returns-in-End-clause-serves : goal.returns-in-End-clause-serves
 returns-in-End-clause-serves g c =

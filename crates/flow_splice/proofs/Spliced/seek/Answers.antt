@@ -1,18 +1,21 @@
-use Rattle.std.proofs.Common.{◌≡◌, ◌<◌, ◌^◌, ℕ, ◌++◌, List, subst, sym, ap, ◌∙◌}
+use Rattle.std.proofs.Common.{◌≡◌, ◌<◌, ◌^◌, ℕ, [], ◌∷◌, ◌++◌, List, refl, subst, sym, ap, ◌∙◌}
 use Rattle.world_face.specs.Frames.{spelling}
-use Rattle.world_face.specs.Journal.{AreAllowed, Entry}
+use Rattle.world_face.specs.Journal.{AreAllowed, Entry, LinkWrite}
 use Rattle.world_face.proofs.Telling.{makes_as, makes_none}
 use Rattle.stream_netdev.specs.Keeps.{Keeps, Writes}
 use Rattle.stream_netdev.specs.State.{LinkState}
 use Rattle.flow_splice.specs.Frames.{request_frame}
 use Rattle.flow_splice.specs.Sends.{Sends, SendsOn, asked}
+use Rattle.flow_splice.specs.Shapes.{IsPumpWork}
 use Rattle.flow_splice.specs.Splice.{Splice}
+use Rattle.flow_splice.specs.declared.Pumped.{Pumped}
 use Rattle.flow_splice.proofs.Asking.{requests}
 use Rattle.flow_splice.proofs.Marking.{makes_allowed, sends_none}
+use Rattle.flow_splice.proofs.Shaping.{request_works}
 use Rattle.flow_splice.proofs.Spliced.seek.Goals as goal
 
 pub returns-then-not-asks_now-clause-makes : goal.returns-then-not-asks_now-clause-makes
-returns-then-not-asks_now-clause-makes g c = makes_none _ _ (λ first small. sends_none c.args.self.now c.args.link.now first c.args.now small)
+returns-then-not-asks_now-clause-makes g c = makes_none _ _ ((λ first small. sends_none c.args.self.now c.args.link.now first c.args.now small), refl)
 
 pub returns-clause-makes : goal.returns-clause-makes
 returns-clause-makes g c =
@@ -24,9 +27,14 @@ returns-clause-makes g c =
     let new_link : LinkState = offer.new.link in
     let is : new ≡ asked offer.result f now = c.mark_asked.ensures ∙ ap (λ (x : Splice). asked offer.result x now) offer.ensures.change in
     makes_as _ _ (λ made. (Writes offer.result (spelling (request_frame f.face)) made × ((past : List Entry) → Keeps old_link past → Keeps new_link (made ++ past))) × AreAllowed made)
-    (λ made. (first : ℕ) → first < 2 ^ 16 → SendsOn f new old_link new_link first first now made) (makes_allowed _ _ _ offer.ensures.makes)
-    (λ made wrote first small.
+    _ (makes_allowed _ _ _ offer.ensures.makes)
+    (λ made wrote.
     let writes = wrote.0.0 in
     let allowed = subst AreAllowed writes.1 wrote.1 in
-    let flow = requests f now c.requires.unknown (sym c.asks_now.ensures ∙ c.if-not-asks_now.false) offer.result writes.0 writes.2 allowed.0 new is first small in
-    (subst (λ (es : List Entry). Sends f new first first now es) (sym writes.1) flow, wrote.0.1))
+    let flow : (first : ℕ) → first < 2 ^ 16 → SendsOn f new old_link new_link first first now made = λ first small. (
+      subst (λ (es : List Entry). Sends f new first first now es) (sym writes.1)
+          (requests f now c.requires.unknown (sym c.asks_now.ensures ∙ c.if-not-asks_now.false) offer.result writes.0 writes.2 allowed.0 new is first small),
+      wrote.0.1,
+    ) in
+    let works = request_works offer.result writes.0 c.blocked.result (spelling (request_frame f.face)) writes.2 in
+    (flow, subst (λ (es : List Entry). IsPumpWork c.outcome.result es) (sym writes.1) (subst (λ (p : Pumped). IsPumpWork p (LinkWrite (spelling (request_frame f.face)) writes.0 ∷ [])) (sym c.outcome.ensures) works)))

@@ -10,14 +10,17 @@ use Rattle.tcp_guest.specs.Owing.{owed_of}
 use Rattle.tcp_guest.specs.declared.Owed.{Owed}
 use Rattle.connection_steps.specs.Sending.{segment_out}
 use Rattle.flow_splice.specs.Frames.{segment_frame}
-use Rattle.flow_splice.specs.Sends.{Marks, Sends, SendsOn, pumped_of, takes_part_at}
+use Rattle.flow_splice.specs.Sends.{Marks, Sends, pumped_of, takes_part_at}
+use Rattle.flow_splice.specs.Shapes.{IsPumpWork}
 use Rattle.flow_splice.specs.Splice.{Splice}
 use Rattle.flow_splice.specs.declared.Place.{Place}
 use Rattle.flow_splice.specs.declared.Place.TheVariants.{Empty, InUse, Resting}
+use Rattle.flow_splice.specs.declared.Pumped.{Pumped}
 use Rattle.flow_splice.specs.declared.Pumped.TheVariants.{Clear, Blocked as PumpBlocked}
 use Rattle.flow_splice.proofs.Ahead.{marks_early}
 use Rattle.flow_splice.proofs.Going.{sends}
 use Rattle.flow_splice.proofs.Marking.{closes_keep, makes_allowed, marks_less, marks_stay}
+use Rattle.flow_splice.proofs.Shaping.{marks_work}
 use Rattle.flow_splice.proofs.Spliced.send.Goals as goal
 
 used_is : (p : Place) (o : Option Owed) (what : Owed) → takes_part_at p o ≡ Some what → (p ≡ Empty → ⊥) × (o ≡ Some what)
@@ -38,16 +41,20 @@ returns-clause-makes g c =
     let new_link : LinkState = offer.new.link in
     let frame : List ℕ = spelling (segment_frame f.face c.args.mac first (segment_out f.mru f.conn f.up f.down what)) in
     let two = used_is f.place (owed_of f.conn f.up f.down) what c.requires.owed in
-    makes_then _ _ _ (λ made. (Writes result frame made × ((past : List Entry) → Keeps old_link past → Keeps new_link (made ++ past))) × AreAllowed made) (Marks result what offer.new.self new now) (SendsOn f new old_link new_link first c.mark.new.ident now)
+    makes_then _ _ _ (λ made. (Writes result frame made × ((past : List Entry) → Keeps old_link past → Keeps new_link (made ++ past))) × AreAllowed made) (Marks result what offer.new.self new now) _
     (makes_allowed _ _ _ offer.ensures.makes) c.mark.ensures.makes
     (λ some made wrote marked.
     let writes = wrote.0.0 in
     let marks = subst (λ (x : Splice). Marks result what x new now made) offer.ensures.change marked in
     let allowed = subst AreAllowed writes.1 wrote.1 in
-    let flow = sends f now first what c.args.mac c.requires.mac c.requires.now (omega arith) offer.ensures.buffers two.1 two.0 result writes.0 writes.2 allowed.0 new made marks in
-    let stays = marks_stay result what f new now made marks in (
-      subst (λ (es : List Entry). Sends f new first c.mark.new.ident now (made ++ es)) (sym writes.1) (subst (λ (n : ℕ). Sends f new first n now (made ++ (LinkWrite frame writes.0 ∷ []))) (sym c.mark.ensures.ident) flow),
-      λ past k. subst (λ (es : List Entry). Keeps new_link es) (sym (append_assoc made some past)) (closes_keep new_link (some ++ past) made stays.closes (wrote.0.1 past k)),
+    let flow = sends f now first what c.args.mac c.requires.mac c.requires.now (omega arith) offer.ensures.buffers two.1 two.0 offer.ensures.sized result writes.0 writes.2 allowed.0 new made marks in
+    let stays = marks_stay result what f new now made marks in
+    let works : IsPumpWork (pumped_of result c.blocked.result) (made ++ some) = subst (λ (es : List Entry). IsPumpWork (pumped_of result c.blocked.result) (made ++ es)) (sym writes.1) (marks_work result writes.0 c.blocked.result frame what f new now made writes.2 marks) in (
+      (
+        subst (λ (es : List Entry). Sends f new first c.mark.new.ident now (made ++ es)) (sym writes.1) (subst (λ (n : ℕ). Sends f new first n now (made ++ (LinkWrite frame writes.0 ∷ []))) (sym c.mark.ensures.ident) flow),
+        λ past k. subst (λ (es : List Entry). Keeps new_link es) (sym (append_assoc made some past)) (closes_keep new_link (some ++ past) made stays.closes (wrote.0.1 past k)),
+      ),
+      subst (λ (p : Pumped). IsPumpWork p (made ++ some)) (sym c.outcome.ensures) works,
     ))
 
 taken_only : (o : Offered) (link : LinkState) → Settles o link → pumped_of o link.blocked ≡ Clear → o ≡ Taken

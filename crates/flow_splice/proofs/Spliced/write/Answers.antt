@@ -12,6 +12,7 @@ use Rattle.flow_splice.specs.Splice.{Splice, closed}
 use Rattle.flow_splice.proofs.Calls.{calls_after, still_is, two_calls}
 use Rattle.flow_splice.proofs.Events.{goes_then}
 use Rattle.flow_splice.proofs.Hosting.{host_takes, host_takes_none}
+use Rattle.flow_splice.proofs.Shaping.{gives_ending}
 use Rattle.flow_splice.specs.Hosts.{is_for_writing, some_is}
 use Rattle.flow_splice.proofs.Spliced.write.Goals as goal
 
@@ -27,8 +28,8 @@ returns-in-Failed-clause-makes g c =
     let shut : c.fail.new.self ≡ closed (record f { conn = reset f.conn }) now = c.fail.ensures.change ∙ ap (λ (x : Splice). closed (record x { conn = reset x.conn }) now) same in
     let offers = subst (λ (answer : Io). Answers (g.W.World.tells c.args.world.now) (g.W.World.tells c.offer.new.world) (TcpWrite f.face.number front answer)) c.in-Failed.is c.offer.ensures.offers in
     let closes = subst (λ (x : Splice). Answers (g.W.World.tells c.offer.new.world) (g.W.World.tells c.fail.new.world) (Close x.face.number)) same c.fail.ensures.closes in
-    two_calls _ _ _ (TcpWrite f.face.number front Failed) (Close f.face.number) (GoesOn f c.fail.new.self false now) offers closes
-    (λ one two. subst (λ (x : Splice). GoesOn f x false now (Close f.face.number ∷ TcpWrite f.face.number front Failed ∷ [])) (sym shut) (host_takes_none f now c.requires.open_yet c.requires.owes))
+    two_calls _ _ _ (TcpWrite f.face.number front Failed) (Close f.face.number) _ offers closes
+    (λ one two. (subst (λ (x : Splice). GoesOn f x false now (Close f.face.number ∷ TcpWrite f.face.number front Failed ∷ [])) (sym shut) (host_takes_none f now c.requires.open_yet c.requires.owes), refl))
 
 not_failed : (answer : Io) → ((n : ℕ) × (answer ≡ Done n)) ⊎ ((answer ≡ End) ⊎ (answer ≡ NotYet)) → answer ≡ Failed → ⊥
 not_failed answer (inl is) failed = let not_it = sym is.1 ∙ failed in cc
@@ -46,14 +47,17 @@ returns-in-Done-clause-makes g c =
     let offered : Entry = TcpWrite f.face.number (take (min 16384 (length f.up.held)) f.up.held) answer in
     let first : GoesOn f mid false now (offered ∷ []) = subst (λ (x : Splice). GoesOn f x false now (offered ∷ [])) (sym change)
     (host_takes f now c.requires.open_yet c.requires.owes answer c.offer.ensures.few (subst (λ (x : Splice). HasBuffers x.conn x.up x.down) change c.offer.ensures.buffers) (not_failed answer c.in-Done.is)) in
-    calls_after _ _ _ offered (GoesOn mid new false now) (GoesOn f new false now) c.offer.ensures.offers c.end_after_octets.ensures.makes
-    (λ made more. goes_then f mid new false now (offered ∷ []) made c.end_after_octets.ensures.same.face c.end_after_octets.ensures.same.mac first more)
+    calls_after _ _ _ offered _ _ c.offer.ensures.offers c.end_after_octets.ensures.makes
+    (λ made more. (
+      goes_then f mid new false now (offered ∷ []) made c.end_after_octets.ensures.same.face c.end_after_octets.ensures.same.mac first more.0,
+      gives_ending made f.face.number (take (min 16384 (length f.up.held)) f.up.held) answer more.1,
+    ))
 
 pub returns-in-Done-clause-serves : goal.returns-in-Done-clause-serves
 returns-in-Done-clause-serves g c =
     let f : Splice = c.args.self.now in
     let offered : Entry = TcpWrite f.face.number (take (min 16384 (length f.up.held)) f.up.held) c.offer.result in
-    calls_after _ _ _ offered (GoesOn c.offer.new.self c.end_after_octets.new.self false c.args.now) (λ made. some_is is_for_writing made ≡ true) c.offer.ensures.offers c.end_after_octets.ensures.makes
+    calls_after _ _ _ offered _ (λ made. some_is is_for_writing made ≡ true) c.offer.ensures.offers c.end_after_octets.ensures.makes
     (λ made more. still_is is_for_writing made (offered ∷ []) refl)
 
 pub returns-in-Failed-clause-serves : goal.returns-in-Failed-clause-serves

@@ -10,6 +10,7 @@ use Rattle.sock_buffers.specs.Downward.{Downward}
 use Rattle.connection_steps.specs.Sending.{carried, with_head}
 use Rattle.flow_splice.specs.Frames.{our_mac, tcp_out}
 use Rattle.flow_splice.specs.Splice.{Face}
+use Rattle.flow_splice.proofs.Sizing.{carries_few, mss_fits}
 use Rattle.flow_splice.proofs.frames.write_frame.Goals as goal
 
 -- how long a segment is
@@ -70,3 +71,18 @@ returns-clause-short c =
     let same = few tcp (tcp_out face (with_head c.args.head.now c.args.mru down c.args.what.now)) (c.outline-v.ensures down 0 c.requires.held) in
     let fits = c.requires.fits in
     omega (arith, size_is, same, fits)
+
+pub returns-clause-sized : goal.returns-clause-sized
+returns-clause-sized c number = record {
+  guest = omega arith;
+  guest_port = omega arith;
+  other = omega arith;
+  other_port = omega arith;
+  to_six = c.write_at.ensures.six;
+  ident_fits = omega arith;
+  number = omega arith;
+  acknowledgement = omega arith;
+  window = omega arith;
+  mss = mss_fits c.args.mru c.args.what.now (omega arith);
+  few = carries_few c.args.down.now c.args.what.now c.requires.held;
+}

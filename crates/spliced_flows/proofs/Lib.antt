@@ -1,0 +1,14 @@
+pub mod Calling
+pub mod Hosting
+pub mod Coming
+pub mod ReadBack
+pub mod Writing
+pub mod Pumping
+pub mod Settling
+pub mod Joined
+pub mod Known
+pub mod Looking
+pub mod Others
+pub mod Pumped
+pub mod Sockets
+pub mod Strayed

@@ -1,0 +1,59 @@
+-- Where a run stands between two calls of one flow.
+use Rattle.std.specs.Prelude.{◌≡◌, ℕ, Bool, true, false, List, [], ◌∷◌, ◌++◌, Option, Some, None, option_map, if◌then◌else◌}
+use Rattle.poll_list.specs.declared.Want.{Want}
+use Rattle.world_face.specs.Journal.{Entry, Call, CallClose}
+use Rattle.host_policy.specs.Addresses.{Config}
+use Rattle.run_laws.specs.Shape.{Working, phase}
+use Rattle.run_laws.specs.Sockets.{next_number}
+use Rattle.flow_laws.specs.Event.{Story}
+use Rattle.flow_laws.specs.Close.{host_failed}
+use Rattle.flow_laws.specs.Flow.{is_closed}
+use Rattle.flow_book.specs.Book.{book, rest}
+use Rattle.flow_book.specs.Flows.{Flow, Rest, flow_of, owner}
+use Rattle.flow_book.specs.Lots.{due_for_flows}
+use Rattle.slirp_laws.specs.Asking.{errand_left}
+use Rattle.slirp_laws.specs.Laws.{is_closing, joins}
+use Rattle.flow_table.specs.declared.Slot.{Slot}
+use Rattle.flow_table.specs.declared.Slot.TheVariants.{Free as FreeSlot, InUse as SlotInUse, Resting as SlotResting}
+use Rattle.flow_table.specs.declared.Tuple.{Tuple}
+use Rattle.flow_splice.specs.Splice.{Face}
+use Rattle.flow_splice.specs.declared.Place.{Place}
+use Rattle.flow_splice.specs.declared.Place.TheVariants.{Empty, InUse, Resting}
+
+-- it is in a turn; no datagram asks for a call, and the closing hasn't begun
+pub record InWork (config : Config) (past : List Entry) : Type 0 where
+  pub working : phase config past ≡ Working
+  pub errand : errand_left config past ≡ None
+  pub open_yet : is_closing config past ≡ false
+
+-- after a call on its socket that failed a flow asks for the close, and else for nothing
+abbrev pub close_if : Bool → ℕ → Option Call
+close_if failed socket = if failed then Some (CallClose socket) else None
+
+-- The flow of a socket, between these two ends. No other was opened later on them; its socket is open unless it was closed; and no other flow asks for a call.
+pub record HasFlow (config : Config) (face : Face) (f : Flow) (past : List Entry) : Type 0 where
+  pub found : flow_of face.number (book config past).flows ≡ Some f
+  pub guest : f.tuple.guest ≡ face.guest
+  pub other : f.tuple.other ≡ face.other
+  pub owned : option_map (λ (g : Flow). g.number) (owner f.tuple (book config past).flows) ≡ Some face.number
+  pub socket : is_closed f.story ≡ false → joins past face.number ≡ true
+  pub due : due_for_flows config (book config past) (next_number past) ≡ close_if (host_failed f.story) face.number
+
+-- a flow that came to rest is the last of those that rest
+abbrev pub with_rest : Option ℕ → ℕ → List Rest → List Rest
+with_rest None number rests = rests
+with_rest (Some since) number rests = rests ++ rest number since ∷ []
+
+-- the slot at a place of a flow between two ends
+abbrev pub slot_at : Place → Tuple → Slot
+slot_at Empty t = FreeSlot
+slot_at InUse t = SlotInUse t
+slot_at (Resting since) t = SlotResting t since
+
+-- the flow with these events more
+abbrev pub with_beats : Flow → Story → Flow
+with_beats f beats = record { number = f.number; tuple = f.tuple; story = beats ++ f.story }
+
+-- these are the last of those
+abbrev pub IsLast : List Want → List Want → Type 0
+IsLast items all = (before : List Want) × (all ≡ before ++ items)
