@@ -5,6 +5,7 @@ pub mod ReadBack
 pub mod Writing
 pub mod Pumping
 pub mod Settling
+pub mod Heard
 pub mod Joined
 pub mod Known
 pub mod Looking
@@ -12,3 +13,8 @@ pub mod Others
 pub mod Pumped
 pub mod Sockets
 pub mod Strayed
+pub mod Within
+pub mod Resets
+pub mod Meanwhile
+pub mod Strange
+pub mod OutOfRange

@@ -70,7 +70,7 @@ among_rests n (r ∷ rests) is = by (r.number == n) (turned r.number n) is (amon
     by false same is go_on b_is = ap (λ c. c || is_among n (map (λ (x : Rest). x.number) rests)) (same ∙ sym b_is) ∙ go_on is
 
 -- and one among the rests is found there
-rests_any : (r : Rest) (rests : List Rest) → Contains rests r → list_any (λ (x : Rest). x.number == r.number) rests ≡ true
+pub rests_any : (r : Rest) (rests : List Rest) → Contains rests r → list_any (λ (x : Rest). x.number == r.number) rests ≡ true
 rests_any r [] (i, below, at) = absurd (omega (arith, below))
 rests_any r (x ∷ rests) (zero, below, at) = let one : x ≡ r = cc in ap (λ (y : Rest). (y.number == r.number) || list_any (λ (z : Rest). z.number == r.number) rests) one ∙ ap (λ b. b || list_any (λ (z : Rest). z.number == r.number) rests) (is_number r.number)
 rests_any r (x ∷ rests) (suc i, below, at) = or_true (x.number == r.number) (list_any (λ (z : Rest). z.number == r.number) rests) (rests_any r rests (i, omega (arith, below), at))
