@@ -492,6 +492,10 @@ module _ (config : Config) (face : Face) (mac : Option Mac) (f : Flow) (past : L
     pub counted : identification (made ++ past) ≡ identification past
     pub next : next_number (made ++ past) ≡ next_number past
     pub taught : taught config (made ++ past) ≡ taught config past
+    pub rests : is_closed f.story ≡ false → (book config (made ++ past)).rests ≡ with_rest (rests_since (beats ++ f.story)) face.number (book config past).rests
+    pub rests_on : is_closed f.story ≡ true → (book config (made ++ past)).rests ≡ (book config past).rests
+    pub rests_still : is_closed f.story ≡ true → rests_since (beats ++ f.story) ≡ rests_since f.story
+    pub since : is_closed f.story ≡ false → (m : ℕ) → rests_since (beats ++ f.story) ≡ Some m → m ≡ now
 
   -- the calls so far, and what is left of the reports
   record Facing (Left : List Want → Type 0) (made : List Entry) (beats : Story) : Type 0 where
@@ -516,6 +520,10 @@ module _ (config : Config) (face : Face) (mac : Option Mac) (f : Flow) (past : L
         counted = called.counted;
         next = called.next;
         taught = called.taught;
+        rests = called.rests;
+        rests_on = called.rests_on;
+        rests_still = called.rests_still;
+        since = called.since;
       }
 
   -- this report is there, for writing too; is there; and is there, and octets were written for the one in front

@@ -11,6 +11,7 @@ pub mod Known
 pub mod Looking
 pub mod Others
 pub mod Pumped
+pub mod Reported
 pub mod Sockets
 pub mod Strayed
 pub mod Within
