@@ -13,6 +13,7 @@ pub mod Others
 pub mod Pumped
 pub mod Reported
 pub mod Sockets
+pub mod Ending
 pub mod Strayed
 pub mod Within
 pub mod Resets
