@@ -46,12 +46,7 @@ use Rattle.spliced_flows.proofs.Looking.{rests_any}
 use Rattle.spliced_flows.proofs.Pumped.{Called, CoreHolds, Following, as_many, core_called, core_has, mac_of, state_at}
 use Rattle.spliced_flows.proofs.Settling.{Seated, number_of, seats_kept}
 use Rattle.spliced_flows.proofs.Writing.{ends_of, owner_is}
-
-some_same : {X : Type 0} (x y : X) → Some x ≡ Some y → x ≡ y
-some_same x y is = cc
-
-none_some : {X : Type 0} {x : X} → None ≡ Some x → ⊥
-none_some is = cc
+use Rattle.spliced_flows.proofs.Options.{none_some, some_same}
 
 -- a flow that follows its story has no call that failed last
 pub follows_well : (config : Config) (now : ℕ) (q : Splice) (story : Story) → Following config now q story → host_failed story ≡ false

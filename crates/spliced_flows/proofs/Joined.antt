@@ -37,9 +37,7 @@ use Rattle.spliced_flows.proofs.Calling.{due_is}
 use Rattle.spliced_flows.proofs.Looking.{none_rests}
 use Rattle.spliced_flows.proofs.Pumped.{CoreHolds, Following, mac_of}
 use Rattle.spliced_flows.proofs.Settling.{number_of}
-
-some_same : {X : Type 0} (x y : X) → Some x ≡ Some y → x ≡ y
-some_same x y is = cc
+use Rattle.spliced_flows.proofs.Options.{some_same}
 
 -- the state after a flow more, in a slot
 abbrev pub state_with : FlowsState Splice → (k : ℕ) → Tuple → Splice → FlowsState Splice

@@ -1,3 +1,4 @@
+pub mod Options
 pub mod Calling
 pub mod Hosting
 pub mod Coming

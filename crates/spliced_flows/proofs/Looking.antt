@@ -15,12 +15,7 @@ use Rattle.flow_book.specs.Segments.{same_tuple}
 use Rattle.core_flows.specs.Seats.{IsSlotOf, Seats, number_at, number_in, rests_at}
 use Rattle.core_flows.proofs.Only.{found_by}
 use Rattle.core_flows.proofs.Opening.{tuples_same}
-
-some_same : {X : Type 0} (x y : X) → Some x ≡ Some y → x ≡ y
-some_same x y is = cc
-
-none_some : {X : Type 0} {x : X} → None ≡ Some x → ⊥
-none_some is = cc
+use Rattle.spliced_flows.proofs.Options.{none_some, some_same}
 
 is_number : (n : ℕ) → (n == n) ≡ true
 is_number n = grind (arith, nat_tests)

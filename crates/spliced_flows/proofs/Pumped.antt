@@ -48,6 +48,7 @@ use Rattle.spliced_flows.proofs.Pumping.{Sent, differ_in, sends}
 use Rattle.spliced_flows.proofs.Settling.{Seated, number_of, seated_from_use, settled_at_rest, settled_from_use}
 use Rattle.spliced_flows.proofs.Sockets.{open_has_socket}
 use Rattle.spliced_flows.proofs.Writing.{ends_of}
+use Rattle.spliced_flows.proofs.Options.{none_some, some_same}
 
 abbrev pub mac_of : Splice → Option Mac
 mac_of p = p.mac
@@ -67,9 +68,6 @@ seated_at (Rests since) table parts k t q = record { table = table; parts = set 
 
 abbrev pub state_at : FlowsState Splice → (k : ℕ) → Tuple → Splice → Splice → FlowsState Splice
 state_at state k t p q = record { table = (seated_at p.place state.table state.parts k t q).table; parts = (seated_at p.place state.table state.parts k t q).parts; opened = state.opened }
-
-some_same : {X : Type 0} (x y : X) → Some x ≡ Some y → x ≡ y
-some_same x y is = cc
 
 -- a rest that begins now is young
 young_now : (now number : ℕ) → is_young now (rest number now) ≡ true
@@ -94,9 +92,6 @@ pub record Called (config : Config) (face : Face) (f : Flow) (past : List Entry)
 closed_by : (b o : Bool) → (not b || o) ≡ false → b ≡ true
 closed_by true o is = refl
 closed_by false o is = cc
-
-none_some : {X : Type 0} {x : X} → None ≡ Some x → ⊥
-none_some is = cc
 
 module _ (config : Config) (state : FlowsState Splice) (past : List Entry) (now : ℕ) (aged : Bool) (task : Option Call) (holds : CoreHolds config now aged task state past) (moment_is : moment past ≡ now) (lawful : Lawful config past)
     (k : ℕ) (p q : Splice) (t : Tuple) (f : Flow) (at : slice_get state.parts k ≡ Some (Some p)) (slot : slice_get state.table.slots k ≡ Some (slot_at p.place t)) (same : q.face ≡ p.face)

@@ -24,6 +24,7 @@ use Rattle.flow_splice.specs.declared.Place.{Place}
 use Rattle.flow_splice.specs.declared.Place.TheVariants.{Empty, InUse as At, Resting as Rests}
 use Rattle.flow_splice.proofs.Promises.{place_is, rest_is, rest_none}
 use Rattle.spliced_flows.specs.Stands.{with_rest}
+use Rattle.spliced_flows.proofs.Options.{some_same}
 
 same_used : (new_used old_used : ℕ) (o n : Option Flow) → new_used + one_if (uses o) ≡ old_used + one_if (uses n) → uses o ≡ false → uses n ≡ false → new_used ≡ old_used
 same_used new_used old_used o n is was now =
@@ -32,9 +33,6 @@ same_used new_used old_used o n is was now =
 
 slot_unused : (rests : List Rest) (f g : Flow) (t : Tuple) (since : ℕ) → g.number ≡ f.number → g.tuple ≡ f.tuple → is_in_use g.story ≡ false → IsSlotOf rests f (Resting t since) → IsSlotOf rests g (Resting t since)
 slot_unused rests f g t since number tuple unused is = (tuple ∙ is.0, subst (λ n. Contains rests (rest n since)) (sym number) is.1, unused)
-
-some_same : {X : Type 0} (x y : X) → Some x ≡ Some y → x ≡ y
-some_same x y is = cc
 
 module _ {P : Type 0} (number : P → ℕ) (Follows : P → Story → Type 0) (table : Flows) (parts : List (Option P)) (next : ℕ) (old new : List Flow) (rests : List Rest) where
   -- The flow of a slot rests, and rests on: what was sent changed nothing of that.

@@ -67,19 +67,11 @@ use Rattle.core_flows.proofs.Holding.{taught_on}
 use Rattle.spliced_flows.proofs.Meanwhile.{IsMeanwhile, is_apart, is_free, meanwhile, quiet_owes, strange_sends, told_same, unused_free}
 use Rattle.spliced_flows.proofs.Resets.{Answering, HasEnds, IsFor, answered, left_answers, owed_is}
 use Rattle.spliced_flows.proofs.Within.{AreEnds}
+use Rattle.spliced_flows.proofs.Options.{none_some, some_same, true_false}
 
 -- ---- why a reset is owed
 
 -- constructors differ
-true_false : true ≡ false → ⊥
-true_false is = cc
-
-none_some : {X : Type 0} {x : X} → None ≡ Some x → ⊥
-none_some is = cc
-
-some_same : {X : Type 0} (x y : X) → Some x ≡ Some y → x ≡ y
-some_same x y is = cc
-
 -- a segment that acknowledges another SYN than ours has ACK
 mistaken_ack : (seg : Segment) (o : Option Flow) → is_mistaken seg o ≡ true → seg.ack ≡ true
 mistaken_ack seg None is = cc

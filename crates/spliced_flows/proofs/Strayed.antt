@@ -32,6 +32,7 @@ use Rattle.spliced_flows.proofs.Looking.{none_rests, none_used, owner_has, slot_
 use Rattle.spliced_flows.proofs.Others.{seats_apart}
 use Rattle.spliced_flows.proofs.Pumped.{CoreHolds, Following, as_many}
 use Rattle.spliced_flows.proofs.Settling.{number_of}
+use Rattle.spliced_flows.proofs.Options.{none_some, some_same}
 
 -- what becomes of a segment without a flow, where there is room for one more or not
 abbrev pub lot_without : Config → (room : Bool) → OnTuple → Lot
@@ -56,9 +57,6 @@ used_alike new_used old_used o n is same =
     let before : new_used + one_if (uses o) ≡ old_used + one_if (uses o) = is ∙ ap (λ b. old_used + one_if b) same in
     omega (arith, before)
 
-some_same : {X : Type 0} (x y : X) → Some x ≡ Some y → x ≡ y
-some_same x y is = cc
-
 -- numbers and tuples stay as they were
 ids_told : (t : Tuple) (change : Flow → Flow) → ((g : Flow) → (change g).number ≡ g.number) → ((g : Flow) → (change g).tuple ≡ g.tuple) → (flows : List Flow) → ids (tell (is_on t) change flows) ≡ ids flows
 ids_told t change numbers tuples [] = refl
@@ -77,9 +75,6 @@ owner_told t change keeps (g ∷ flows) f is = by (is_on t g) refl is (owner_tol
         → owner t (if b then change g ∷ flows else g ∷ tell (is_on t) change flows) ≡ Some (change f)
     by true on is go_on = let one : g ≡ f = cc in ap (λ u. cond (same_tuple u t) (Some (change g)) (owner t flows)) (keeps g) ∙ ap (λ b. cond b (Some (change g)) (owner t flows)) on ∙ ap (λ h. Some (change h)) one
     by false off is go_on = ap (λ b. cond b (Some g) (owner t (tell (is_on t) change flows))) off ∙ go_on is
-
-none_some : {X : Type 0} {x : X} → None ≡ Some x → ⊥
-none_some is = cc
 
 module _ (config : Config) (state : FlowsState Splice) (past : List Entry) (now : ℕ) (task : Option Call) (holds : CoreHolds config now false task state past) (sizes : length state.parts ≡ length state.table.slots)
     (e : Entry) (on : OnTuple) (comes : doing config past e ≡ Comes on) (none : NoneHas state.table.slots on.tuple) (next_is : next_number (e ∷ past) ≡ next_number past) where
