@@ -44,41 +44,48 @@ or_second : (a b : Bool) → b ≡ true → IsTrue (a || b)
 or_second true b is = refl
 or_second false b is = is
 
+not_and : (a b : Bool) → a ≡ false → IsTrue b → IsTrue (not a && b)
+not_and true b none is = absurd cc
+not_and false b none is = is
+
 module _ (s : Settings) (c : Connection) (up : Upward) (down : Downward) (past : Story) (now m : ℕ) (on : now ≤ m) (h : Holds s c up down past now) (known : Bool) where
   runs : Runs s past now
   runs = runs_of s past now h.goes
 
-  -- ---- what was awaited too long
-
-  pub late_cause : IsTrue (gives_up m past || connects_too_long m past) → HasCause false false known m past
-  late_cause late = inr (inl late)
-
-  -- nothing of what went out nine times was acknowledged
-  pub gives_up_closes : IsTrue (gives_up m past) → IsOver s (reset c) (At m (Closes false false known) ∷ past) m
-  gives_up_closes is =
-      resets_over s c up down past now m h past refl refl refl h.gives.keeps false false known
-      (closes s past now m false false known runs on h.goes.open_yet (late_cause (or_first (gives_up m past) (connects_too_long m past) is)))
-      (late_owes past m false false known (or_first (gives_up m past) (connects_too_long m past) is) refl refl (given_up_not_done s past m h.goes.lawful is))
-
   unanswered : is_opening c.stage ≡ true → answered (host past) ≡ false
   unanswered opening = h.opened.answered ∙ opening_is c.stage h.opened.live opening
 
-  -- the host didn't connect in time
-  pub late_closes : is_opening c.stage ≡ true → IsTrue (connects_too_long m past) → IsOver s (reset c) (At m (Closes false false known) ∷ past) m
-  late_closes opening is =
-      resets_over s c up down past now m h past refl refl refl h.gives.keeps false false known
-      (closes s past now m false false known runs on h.goes.open_yet (late_cause (or_second (gives_up m past) (connects_too_long m past) is)))
-      (late_owes past m false false known (or_second (gives_up m past) (connects_too_long m past) is) refl refl (unanswered_not_done past (unanswered opening)))
+  -- ---- what was awaited too long
 
-  -- the guest wasn't found
-  pub unfound_cause : IsTrue (finds_no_guest known m past) → HasCause false false known m past
-  unfound_cause is = inl (or_second (is_done past || false || host_failed past) (finds_no_guest known m past) is)
+  module _ (directly : Bool) where
+    -- The close doesn't come directly after a reset that was fatal.
+    module _ (calm : follows_reset directly past ≡ false) where
+      pub late_cause : IsTrue (gives_up m past || connects_too_long m past) → HasCause directly false known m past
+      late_cause late = inr (inl (not_and (follows_reset directly past) (gives_up m past || connects_too_long m past) calm late))
 
-  pub unfound_closes : IsTrue (finds_no_guest known m past) → (is_accepted past && not (syn_is_out past)) ≡ true → IsOver s (reset c) (At m (Closes false false known) ∷ past) m
-  unfound_closes is silent =
-      resets_over s c up down past now m h past refl refl refl h.gives.keeps false false known
-      (closes s past now m false false known runs on h.goes.open_yet (unfound_cause is))
-      (λ no_silence. let not_it = sym silent ∙ no_silence in absurd cc)
+      -- nothing of what went out nine times was acknowledged
+      pub gives_up_closes : IsTrue (gives_up m past) → IsOver s (reset c) (At m (Closes directly false known) ∷ past) m
+      gives_up_closes is =
+          resets_over s c up down past now m h past refl refl refl h.gives.keeps directly false known
+          (closes s past now m directly false known runs on h.goes.open_yet (late_cause (or_first (gives_up m past) (connects_too_long m past) is)))
+          (late_owes past m directly false known (or_first (gives_up m past) (connects_too_long m past) is) calm refl (given_up_not_done s past m h.goes.lawful is))
+
+      -- the host didn't connect in time
+      pub late_closes : is_opening c.stage ≡ true → IsTrue (connects_too_long m past) → IsOver s (reset c) (At m (Closes directly false known) ∷ past) m
+      late_closes opening is =
+          resets_over s c up down past now m h past refl refl refl h.gives.keeps directly false known
+          (closes s past now m directly false known runs on h.goes.open_yet (late_cause (or_second (gives_up m past) (connects_too_long m past) is)))
+          (late_owes past m directly false known (or_second (gives_up m past) (connects_too_long m past) is) calm refl (unanswered_not_done past (unanswered opening)))
+
+    -- the guest wasn't found, whatever came before the close
+    pub unfound_cause : IsTrue (finds_no_guest known m past) → HasCause directly false known m past
+    unfound_cause is = inl (or_second (is_done past || false || host_failed past) (finds_no_guest known m past) is)
+
+    pub unfound_closes : IsTrue (finds_no_guest known m past) → (is_accepted past && not (syn_is_out past)) ≡ true → IsOver s (reset c) (At m (Closes directly false known) ∷ past) m
+    unfound_closes is silent =
+        resets_over s c up down past now m h past refl refl refl h.gives.keeps directly false known
+        (closes s past now m directly false known runs on h.goes.open_yet (unfound_cause is))
+        (λ no_silence. let not_it = sym silent ∙ no_silence in absurd cc)
 
   -- ---- a call on the socket failed
 

@@ -46,6 +46,7 @@ learn_follows s f mac past now h = by f.place f.shut h
       unfinished = q.unfinished;
       unsent = λ none. q.unsent (or_none mac f.mac none);
       seeks = λ none some. q.seeks (or_none mac f.mac none) some;
+      calm = q.calm;
     }
     by (Resting since) b q = record { rests = q.rests; mru = q.mru; known = λ none. q.known (or_none mac f.mac none) }
 
@@ -119,6 +120,7 @@ module _ (f : Splice) (now : ℕ) (unknown : f.mac ≡ None) (asks : asks_now f 
               unfinished = o.unfinished;
               unsent = o.unsent;
               seeks = λ none more. seeks_now f.asked f.ask_at refl parts.2;
+              calm = λ unowed. refl;
             }));
       },
       stays,

@@ -79,8 +79,8 @@ goes_then old mid new directly now before made same_face same_mac first second s
     }
 
 -- what goes on whatever is known goes on
-pub ticks_as : (old new : Splice) (now : ℕ) (made : List Entry) → GoesOnYet old new false now made → TicksOn old new now made
-ticks_as old new now made goes s past before ident known on unknown h = goes s past before ident known on h
+pub ticks_as : (old new : Splice) (now : ℕ) (made : List Entry) → GoesOnYet old new now made → TicksOn old new now made
+ticks_as old new now made goes s past before ident directly known on unknown h = goes s past before ident directly known on h
 
-pub goes_yet : (old new : Splice) (directly : Bool) (now : ℕ) (made : List Entry) → GoesOn old new directly now made → GoesOnYet old new directly now made
-goes_yet old new directly now made goes s past before ident known on h = goes s past before ident false known on h
+pub none_yet : (f : Splice) (now : ℕ) → GoesOnYet f f now []
+none_yet f now s past before ident directly known on h = goes_none f directly now s past before ident false known on h

@@ -24,6 +24,7 @@ use Rattle.world_face.specs.Journal.{Close, Entry}
 use Rattle.flow_laws.specs.Settings.{Settings}
 use Rattle.flow_laws.specs.Lawful.{HasCause}
 use Rattle.flow_laws.specs.Event.{Arrives, At, Closes, Segment, Story}
+use Rattle.flow_laws.specs.Close.{follows_reset}
 use Rattle.flow_laws.specs.Flow.{greets, host}
 use Rattle.flow_laws.specs.Host.{our_place}
 use Rattle.flow_steps.specs.Sends.{Keeps}
@@ -44,6 +45,7 @@ use Rattle.flow_splice.specs.Guests.{Hears, heard}
 use Rattle.flow_splice.specs.Hosts.{Sees, ends}
 use Rattle.flow_splice.specs.Serves.{Serves}
 use Rattle.flow_splice.specs.Splice.{Splice, closed, is_open}
+use Rattle.flow_splice.proofs.Calm.{apart_calm, called_calm, plain_calm, waits_unturned}
 use Rattle.flow_splice.proofs.Coming.{heard_dead}
 use Rattle.flow_splice.proofs.Opened.{goes_on, open_follows, open_is}
 use Rattle.flow_splice.proofs.Restless.{called_reset_none, next_reset_none}
@@ -103,9 +105,9 @@ module _ (f : Splice) (now : ℕ) (tcp : Tcp) (open_yet : is_open f ≡ true) (l
           (subst (λ (v : Upward). P (record f { conn = x; up = v; down = down_after_segment c f.up f.down tcp })) (sym u_is)
           (subst (λ (w : Downward). P (record f { conn = x; up = u; down = w })) (sym d_is) p))
 
-      holds_on : Holds s x u d after now → is_done x ≡ false → (f.mac ≡ None → (is_calls x.stage ≡ true) × (has_gone x.sendings ≡ false)) → Result
-      holds_on h unfinished unsent =
-          stays (as_heard (λ (g : Splice). IsOpen s g after now) (goes_on s f x u d f.told_end past before now (Arrives seg) (λ none. none) o h o.told unfinished unsent))
+      holds_on : Holds s x u d after now → is_done x ≡ false → (f.mac ≡ None → (is_calls x.stage ≡ true) × (has_gone x.sendings ≡ false)) → (x.ack_owed ≡ false → follows_reset true after ≡ false) → Result
+      holds_on h unfinished unsent calm =
+          stays (as_heard (λ (g : Splice). IsOpen s g after now) (goes_on s f x u d f.told_end past before now (Arrives seg) (λ none. none) o h o.told unfinished unsent calm))
 
     -- the connection is gone
     gone : verdict_of c f.up tcp ≡ Resets → HasCause true false known now after → Follows s (closed (record f { conn = record c { stage = stage.Gone } }) now) (At now (Closes true ended known) ∷ after) now → Result
@@ -127,7 +129,7 @@ module _ (f : Splice) (now : ℕ) (tcp : Tcp) (open_yet : is_open f ≡ true) (l
               (finished_cause s (record f { up = u; down = d }) x after now true known h done (ap (λ (e : Bool). if e then Some seg else None) rst))
               (as_heard (settled x) u d c_is u_is d_is (λ (g : Splice). Follows s (closed g now) (At now (Closes true ended known) ∷ after) now)
               (done_follows s (record f { up = u; down = d }) x after now true ended known h done (ap (λ (e : Bool). if e then Some seg else None) rst) o.mru (λ none. (unsent none).0)))
-          by false unfinished = holds_on x u d (c_is ∙ settled_same x unfinished) u_is d_is h unfinished unsent
+          by false unfinished = holds_on x u d (c_is ∙ settled_same x unfinished) u_is d_is h unfinished unsent (λ unowed. plain_calm past now seg rst)
 
     -- ---- the acknowledgement of our SYN isn't of what was never sent
 
@@ -189,14 +191,14 @@ module _ (f : Splice) (now : ℕ) (tcp : Tcp) (open_yet : is_open f ≡ true) (l
             let d_is : down_after_segment c f.up f.down tcp ≡ d = ap (λ (v : Verdict). down_by v c f.down tcp) is ∙ ap (λ (e : Bool). if e then d else f.down) ack in
             holds_on x f.up d c_is u_is d_is
             (greets_and_opens s c f.up f.down past before now tcp on late o.holds at out greets_it rst syn ack (number ack) (has x f.up d c_is u_is d_is))
-            (unfinished x (o.holds.awaits calls).host_ended) (λ none. absurd (known_now none))
+            (unfinished x (o.holds.awaits calls).host_ended) (λ none. absurd (known_now none)) (λ unowed. plain_calm past now seg rst)
         by false ack =
             let c_is : after_segment c f.up f.down tcp now ≡ greeted c tcp = ap (λ (v : Verdict). conn_by v c f.up f.down tcp now) is ∙ ap (λ (e : Bool). if e then acknowledged (established (greeted c tcp)) f.down tcp tcp.window false now else greeted c tcp) ack in
             let u_is = ap (λ (v : Verdict). up_by v c f.up f.down tcp) is in
             let d_is : down_after_segment c f.up f.down tcp ≡ f.down = ap (λ (v : Verdict). down_by v c f.down tcp) is ∙ ap (λ (e : Bool). if e then without (octets_acked (seen_of (established (greeted c tcp)).transmission f.down tcp.ack)) f.down else f.down) ack in
             holds_on (greeted c tcp) f.up f.down c_is u_is d_is
             (greets_alone s c f.up f.down past before now tcp on late o.holds at out greets_it rst syn ack (has (greeted c tcp) f.up f.down c_is u_is d_is))
-            (unfinished (greeted c tcp) (o.holds.awaits calls).host_ended) (λ none. absurd (known_now none))
+            (unfinished (greeted c tcp) (o.holds.awaits calls).host_ended) (λ none. absurd (known_now none)) (λ unowed. plain_calm past now seg rst)
 
     opening_now : verdict_of c f.up tcp ≡ Heeded → c.stage ≡ stage.Answers → has_gone c.sendings ≡ true → tcp.ack ≡ number_of c.ours 0 → seg.ack ≡ true → seg.rst ≡ false → seg.syn ≡ false → Result
     opening_now is at out number ack rst syn =
@@ -270,7 +272,7 @@ module _ (f : Splice) (now : ℕ) (tcp : Tcp) (open_yet : is_open f ≡ true) (l
             holds_on x f.up (without (octets_acked (seen_of c.transmission f.down tcp.ack)) f.down) c_is u_is d_is
             (heeds_none s c f.up f.down past before now tcp on late o.holds no_call late_stage sync ack rst syn far (has x f.up (without (octets_acked (seen_of c.transmission f.down tcp.ack)) f.down) c_is u_is d_is))
             (ap (λ (p : Bool). is_synchronized c.stage && c.host_ended && p && c.end_acknowledged) (or_none c.fin_acked (is_fin_too (seen_of c.transmission f.down tcp.ack)) (fin_none (seen_of c.transmission f.down tcp.ack) far)) ∙ o.unfinished)
-            (λ none. absurd (known_now none))
+            (λ none. absurd (known_now none)) (λ unowed. plain_calm past now seg rst)
         by false near =
             let x : Connection = arrived (acknowledged c f.down tcp (window_in c tcp) (is_bare tcp) now) f.up tcp in
             let u : Upward = up_after c.received tcp.seq tcp.body f.up in
@@ -295,7 +297,9 @@ module _ (f : Splice) (now : ℕ) (tcp : Tcp) (open_yet : is_open f ≡ true) (l
     by_means (rests syn_owed ack_owed c_is u_is d_is keeps only calm no_call quiet) =
         let x : Connection = record c { syn_owed = syn_owed; ack_owed = ack_owed } in
         holds_on x f.up f.down c_is u_is d_is (rests_holds s c f.up f.down past before now tcp on o.holds ack_fits syn_owed ack_owed keeps only calm no_call quiet (has x f.up f.down c_is u_is d_is)) o.unfinished o.unsent
+        (λ unowed. apart_calm s c f.up f.down past before now o.holds seg no_call quiet.apart (only unowed))
     by_means (waits c_is u_is d_is at none) = holds_on c f.up f.down c_is u_is d_is (waits_on s c f.up f.down past before now tcp on o.holds at none (has c f.up f.down c_is u_is d_is)) o.unfinished o.unsent
+        (λ unowed. called_calm s c f.up f.down past before now o.holds seg (ap (λ (st : Stage). is_calls st) at) (λ rst. waits_unturned c f.up f.down tcp now at c_is rst))
     by_means (resets is no_call rst number) =
         gone is (next_reset_cause s c f.up f.down past before now on o.holds known false seg no_call rst number)
         (over_follows s (record f { conn = record c { stage = stage.Gone } }) (At now (Closes true ended known) ∷ after) now (next_reset_closes s c f.up f.down past before now on o.holds known ended seg no_call rst number) (λ at. cc) o.mru (λ owes. absurd cc) (λ none. next_reset_none s c f.up f.down past before now known o.holds seg rst no_call number))

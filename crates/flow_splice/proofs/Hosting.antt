@@ -75,7 +75,7 @@ module _ (f : Splice) (now : ℕ) (open_yet : is_open f ≡ true) where
               (subst (λ (c : Connection). IsOpen s (record f { conn = c }) (At now HostConnected ∷ past) now) (sym is)
               (goes_on s f next f.up f.down f.told_end past before now HostConnected (λ none. none) o
               (connects_now s f.conn f.up f.down past before now on at (subst (λ (c : Connection). HasBuffers c f.up f.down) is buffers) o.holds) o.told (opening_not_done next refl)
-              (λ unknown. let two = o.unsent unknown in let not_it = sym two.0 ∙ (connects_opens f.conn.stage connects).2 in absurd cc)));
+              (λ unknown. let two = o.unsent unknown in let not_it = sym two.0 ∙ (connects_opens f.conn.stage connects).2 in absurd cc) (λ unowed. refl)));
         }
 
     pub host_not_yet : GoesOn f f false now (Connected f.face.number NotJoined ∷ [])
@@ -86,7 +86,7 @@ module _ (f : Splice) (now : ℕ) (open_yet : is_open f ≡ true) where
           are = ([], refl, (refl, refl));
           follows = open_follows s f (At now ConnectsYet ∷ past) now open_yet
               (goes_on s f f.conn f.up f.down f.told_end past before now ConnectsYet (λ none. none) o
-              (connects_yet s f.conn f.up f.down past before now on o.holds) o.told o.unfinished o.unsent);
+              (connects_yet s f.conn f.up f.down past before now on o.holds) o.told o.unfinished o.unsent (λ unowed. refl));
         }
 
     pub host_refused : GoesOn f (closed (record f { conn = reset f.conn }) now) false now (Close f.face.number ∷ Connected f.face.number JoinFailed ∷ [])
@@ -95,7 +95,7 @@ module _ (f : Splice) (now : ℕ) (open_yet : is_open f ≡ true) where
         record {
           beats = At now (Closes false ended known) ∷ At now ConnectFails ∷ [];
           are = (At now ConnectFails ∷ [], ([], refl, (refl, refl)), (refl, refl, failed_cause s f.conn f.up f.down past before now on o.holds known false (At now ConnectFails ∷ past) refl));
-          follows = reset_follows s f past (At now ConnectFails ∷ past) before now ended known o refl
+          follows = reset_follows s f past (At now ConnectFails ∷ past) before now false ended known o refl
               (refused_closes s f.conn f.up f.down past before now on o.holds known ended connects (connects_opens f.conn.stage connects).1);
         }
 
@@ -128,7 +128,7 @@ module _ (f : Splice) (now : ℕ) (open_yet : is_open f ≡ true) where
     takes n few buffers s past before on o =
         open_follows s (record f { up = without f.up n }) (At now (Writes front n) ∷ past) now open_yet
         (goes_on s f f.conn (without f.up n) f.down f.told_end past before now (Writes front n) (λ none. none) o
-        (writes s f.conn f.up f.down past before now on (reached s past before o) (min 16384 (length f.up.held)) n few refl buffers o.holds) o.told o.unfinished o.unsent)
+        (writes s f.conn f.up f.down past before now on (reached s past before o) (min 16384 (length f.up.held)) n few refl buffers o.holds) o.told o.unfinished o.unsent (λ unowed. refl))
 
     pub host_takes : (answer : Io) → count_of answer ≤ min 16384 (length f.up.held) → HasBuffers f.conn (without f.up (count_of answer)) f.down → (answer ≡ Failed → ⊥)
         → GoesOn f (record f { up = without f.up (count_of answer) }) false now (TcpWrite f.face.number front answer ∷ [])
@@ -146,7 +146,7 @@ module _ (f : Splice) (now : ℕ) (open_yet : is_open f ≡ true) where
         record {
           beats = At now (Closes false ended known) ∷ At now (WriteFails front) ∷ [];
           are = (At now (WriteFails front) ∷ [], ([], refl, (refl, refl)), (refl, refl, failed_cause s f.conn f.up f.down past before now on o.holds known false (At now (WriteFails front) ∷ past) refl));
-          follows = reset_follows s f past (At now (WriteFails front) ∷ past) before now ended known o refl
+          follows = reset_follows s f past (At now (WriteFails front) ∷ past) before now false ended known o refl
               (write_fails_closes s f.conn f.up f.down past before now on o.holds known (reached s past before o) (untold s past before o) ended (min 16384 (length f.up.held)) refl);
         }
 
@@ -190,7 +190,7 @@ module _ (f : Splice) (now : ℕ) (open_yet : is_open f ≡ true) where
         record {
           beats = At now (Closes false ended known) ∷ At now EndFails ∷ [];
           are = (At now EndFails ∷ [], ([], refl, (refl, refl)), (refl, refl, failed_cause s f.conn f.up f.down past before now on o.holds known false (At now EndFails ∷ past) refl));
-          follows = reset_follows s f past (At now EndFails ∷ past) before now ended known o refl
+          follows = reset_follows s f past (At now EndFails ∷ past) before now false ended known o refl
               (end_fails_closes s f.conn f.up f.down past before now on o.holds known (got_here s past before o) (unended s past before o) ended none_held taken);
         }
 
@@ -224,7 +224,7 @@ module _ (f : Splice) (now : ℕ) (open_yet : is_open f ≡ true) where
           beats = At now EndsHost ∷ [];
           are = ([], refl, (refl, refl));
           follows = open_follows s (record f { conn = told; told_end = true }) (At now EndsHost ∷ past) now open_yet
-              (goes_on s f told f.up f.down true past before now EndsHost (λ none. none) o (ends_holds buffers s past before on o) refl (is_unfinished told unfinished) o.unsent);
+              (goes_on s f told f.up f.down true past before now EndsHost (λ none. none) o (ends_holds buffers s past before on o) refl (is_unfinished told unfinished) o.unsent (λ unowed. refl));
         })))
 
   -- ---- octets are read
@@ -253,7 +253,7 @@ module _ (f : Splice) (now : ℕ) (open_yet : is_open f ≡ true) where
         open_follows s next (At now (Reads octets) ∷ past) now open_yet
         (goes_on s f next.conn f.up next.down f.told_end past before now (Reads octets) (λ none. none) o
         (reads s f.conn f.up f.down past before now on o.holds yet octets (let long = length-append f.down.octets octets in let within = o.holds.within in let ring = size ∙ o.holds.buffers.size ∙ o.holds.suits.ring in omega (arith, long, ring, few, within)) buffers)
-        o.told o.unfinished o.unsent)
+        o.told o.unfinished o.unsent (λ unowed. refl))
 
     pub host_gives : (answer : Io) (octets : List ℕ) → gives_octets answer ≡ true → f.down.size ≡ f.up.size → length octets ≤ asked → HasBuffers (given f octets now).conn f.up (given f octets now).down
         → GoesOn f (given f octets now) false now (TcpRead f.face.number asked answer octets ∷ [])
@@ -278,7 +278,7 @@ module _ (f : Splice) (now : ℕ) (open_yet : is_open f ≡ true) where
           follows = subst (λ (c : Connection). Follows s (record f { conn = c }) (At now ReadsEnd ∷ past) now) (sym is)
               (open_follows s (record f { conn = next }) (At now ReadsEnd ∷ past) now open_yet
               (goes_on s f next f.up f.down f.told_end past before now ReadsEnd (λ none. none) o
-              (reads_end s f.conn f.up f.down past before now on o.holds yet (subst (λ (c : Connection). HasBuffers c f.up f.down) is buffers)) o.told o.unfinished o.unsent));
+              (reads_end s f.conn f.up f.down past before now on o.holds yet (subst (λ (c : Connection). HasBuffers c f.up f.down) is buffers)) o.told o.unfinished o.unsent (λ unowed. refl)));
         }
 
     -- the read failed
@@ -288,6 +288,6 @@ module _ (f : Splice) (now : ℕ) (open_yet : is_open f ≡ true) where
         record {
           beats = At now (Closes false ended known) ∷ At now ReadFails ∷ [];
           are = (At now ReadFails ∷ [], ([], refl, (refl, asks s past before o size, refl)), (refl, refl, failed_cause s f.conn f.up f.down past before now on o.holds known false (At now ReadFails ∷ past) refl));
-          follows = reset_follows s f past (At now ReadFails ∷ past) before now ended known o refl
+          follows = reset_follows s f past (At now ReadFails ∷ past) before now false ended known o refl
               (read_fails_closes s f.conn f.up f.down past before now on o.holds known ended yet);
         }

@@ -1,3 +1,4 @@
+pub mod Calm
 pub mod Opened
 pub mod Calls
 pub mod Events

@@ -1,5 +1,5 @@
 -- What an offer changes, and offers one after another.
-use Rattle.std.proofs.Common.{refl, ◌≡◌, ℕ, ◌+◌, ◌<◌, ◌^◌, ◌%◌, [], ◌∷◌, ◌++◌, List, Bool, true, false, Option, Some, append_assoc, arith, ap, subst, sym, ◌∙◌, inl, inr, ◌⊎◌}
+use Rattle.std.proofs.Common.{refl, ◌≡◌, ℕ, ◌+◌, ◌<◌, ◌^◌, ◌%◌, ◌&&◌, not, [], ◌∷◌, ◌++◌, List, Bool, true, false, Option, Some, append_assoc, arith, ap, subst, sym, ◌∙◌, inl, inr, ◌⊎◌}
 use Rattle.net_octets.specs.declared.Mac.{Mac}
 use Rattle.sock_buffers.specs.Downward.{Downward}
 use Rattle.sock_buffers.specs.Upward.{Upward}
@@ -19,7 +19,7 @@ use Rattle.flow_splice.specs.Follows.{Follows}
 use Rattle.flow_splice.specs.Hosts.{IsAsOld, Sees, ends}
 use Rattle.flow_splice.specs.Left.{left}
 use Rattle.flow_splice.specs.Sends.{GoesOut, Marks, SendsOn, went_out}
-use Rattle.flow_splice.specs.Splice.{Face, Splice, closed}
+use Rattle.flow_splice.specs.Splice.{Face, Splice, closed, is_in_use, is_open}
 use Rattle.flow_splice.proofs.Events.{events_then, ident_both}
 use Rattle.flow_splice.proofs.Lessening.{less}
 use Rattle.flow_splice.proofs.Opened.{follows_later}
@@ -29,14 +29,20 @@ pub record Stays (old new : Splice) (made : List Entry) : Type 0 where
   pub up : new.up ≡ old.up
   pub down : new.down ≡ old.down
   pub closes : (made ≡ []) ⊎ ((n : ℕ) × (made ≡ Close n ∷ []))
+  pub shut : is_open old ≡ false → is_open new ≡ false
 
-same_of : (f x new : Splice) (made : List Entry) → IsAsOld f x → x.up ≡ f.up → x.down ≡ f.down → new ≡ x → (made ≡ []) ⊎ ((n : ℕ) × (made ≡ Close n ∷ [])) → Stays f new made
-same_of f x new made as_old up down is closes = record {
+same_of : (f x new : Splice) (made : List Entry) → IsAsOld f x → x.up ≡ f.up → x.down ≡ f.down → new ≡ x → (made ≡ []) ⊎ ((n : ℕ) × (made ≡ Close n ∷ [])) → (is_open f ≡ false → is_open x ≡ false) → Stays f new made
+same_of f x new made as_old up down is closes shut = record {
   as_old = subst (λ (y : Splice). IsAsOld f y) (sym is) as_old;
   up = ap (λ (y : Splice). y.up) is ∙ up;
   down = ap (λ (y : Splice). y.down) is ∙ down;
   closes = closes;
+  shut = λ is_shut. ap is_open is ∙ shut is_shut;
 }
+
+never_both : (b : Bool) → (b && false) ≡ false
+never_both true = refl
+never_both false = refl
 
 as_it_is : (f : Splice) → IsAsOld f f
 as_it_is f = record { face = refl; mac = refl; since = refl; asked = refl; ask_at = refl; up_size = refl; down_size = refl; mru = refl }
@@ -45,16 +51,18 @@ out_stays : (b : Bool) (what : Owed) (f new : Splice) (now : ℕ) (made : List E
 out_stays true what f new now made is =
     same_of f (record (went_out f what now) { place = new.place }) new made (record { face = refl; mac = refl; since = refl; asked = refl; ask_at = refl; up_size = refl; down_size = refl; mru = refl }) refl refl
     (is.1 ∙ ap (λ p. record (went_out f what now) { place = p }) (sym (ap (λ (y : Splice). y.place) is.1))) (inl is.0)
+    (λ is_shut. ap (λ p. is_in_use p && not f.shut) (ap (λ (y : Splice). y.place) is.1))
 out_stays false what f new now made is = by (ends (change_gone what f.conn f.up now)) is
   where
     by : (e : Bool) → Sees e (went_out f what now) new now made → Stays f new made
     by true sees = same_of f (closed (went_out f what now) now) new made (record { face = refl; mac = refl; since = refl; asked = refl; ask_at = refl; up_size = refl; down_size = refl; mru = refl }) refl refl sees.1 (inr (f.face.number, sees.0))
-    by false sees = same_of f (went_out f what now) new made (record { face = refl; mac = refl; since = refl; asked = refl; ask_at = refl; up_size = refl; down_size = refl; mru = refl }) refl refl sees.1 (inl sees.0)
+        (λ is_shut. never_both (is_in_use (closed (went_out f what now) now).place))
+    by false sees = same_of f (went_out f what now) new made (record { face = refl; mac = refl; since = refl; asked = refl; ask_at = refl; up_size = refl; down_size = refl; mru = refl }) refl refl sees.1 (inl sees.0) (λ is_shut. is_shut)
 
 pub marks_stay : (o : Offered) (what : Owed) (f new : Splice) (now : ℕ) (made : List Entry) → Marks o what f new now made → Stays f new made
 marks_stay Taken what f new now made marks = out_stays (is_rst what) what f new now made marks
-marks_stay Blocked what f new now made marks = same_of f f new made (as_it_is f) refl refl marks.1 (inl marks.0)
-marks_stay Failed what f new now made marks = same_of f f new made (as_it_is f) refl refl marks.1 (inl marks.0)
+marks_stay Blocked what f new now made marks = same_of f f new made (as_it_is f) refl refl marks.1 (inl marks.0) (λ is_shut. is_shut)
+marks_stay Failed what f new now made marks = same_of f f new made (as_it_is f) refl refl marks.1 (inl marks.0) (λ is_shut. is_shut)
 
 -- less is left where it went out
 left_of : (x new : Splice) → new.conn ≡ x.conn → new.up ≡ x.up → new.down ≡ x.down → left new ≡ left x

@@ -7,7 +7,7 @@ use Rattle.tcp_guest.specs.Segments.{is_done}
 use Rattle.flow_laws.specs.Settings.{Settings}
 use Rattle.flow_laws.specs.Event.{Accepts, At, Connects, Event, Opens, Story}
 use Rattle.flow_laws.specs.Flow.{opened_at}
-use Rattle.flow_laws.specs.Close.{host_was_ended}
+use Rattle.flow_laws.specs.Close.{follows_reset, host_was_ended}
 use Rattle.connection_steps.specs.Holding.{Holds, is_calls}
 use Rattle.connection_steps.specs.Over.{IsOver, IsResting, Runs}
 use Rattle.connection_steps.proofs.Quiet.{holds_later}
@@ -74,6 +74,7 @@ open_later s f past now m on h = record {
   unfinished = h.unfinished;
   unsent = h.unsent;
   seeks = h.seeks;
+  calm = h.calm;
 }
 
 pub follows_later : (s : Settings) (f : Splice) (past : Story) (now m : ℕ) → now ≤ m → Follows s f past now → Follows s f past m
@@ -95,9 +96,9 @@ opened_still past m _ none = refl
 -- one after which the connection holds, and whether our SYN is to go out is as before
 pub goes_on : (s : Settings) (f : Splice) (c : Connection) (up : Upward) (down : Downward) (told : Bool) (past : Story) (before now : ℕ) (e : Event) → (Opens e → ⊥) → IsOpen s f past before
     → Holds s c up down (At now e ∷ past) now → host_was_ended (At now e ∷ past) ≡ told → is_done c ≡ false
-    → (f.mac ≡ None → (is_calls c.stage ≡ true) × (has_gone c.sendings ≡ false))
+    → (f.mac ≡ None → (is_calls c.stage ≡ true) × (has_gone c.sendings ≡ false)) → (c.ack_owed ≡ false → follows_reset true (At now e ∷ past) ≡ false)
     → IsOpen s (record f { conn = c; up = up; down = down; told_end = told }) (At now e ∷ past) now
-goes_on s f c up down told past before now e none h holds told_is unfinished unsent = record {
+goes_on s f c up down told past before now e none h holds told_is unfinished unsent calm = record {
   holds = holds;
   mru = h.mru;
   since = opened_still past now e none ∙ h.since;
@@ -105,4 +106,5 @@ goes_on s f c up down told past before now e none h holds told_is unfinished uns
   unfinished = unfinished;
   unsent = unsent;
   seeks = λ unknown some. seeks_on now e past f.asked f.ask_at none (h.seeks unknown some);
+  calm = calm;
 }

@@ -78,12 +78,12 @@ unanswered_by c (stage.Resets seq ack) live none = absurd cc
 unanswered_by c stage.Gone live none = absurd cc
 
 -- the connection is reset, after a story in which our SYN is acknowledged as before
-pub reset_follows : (s : Settings) (f : Splice) (past last : Story) (before now : ℕ) (ended known : Bool) → IsOpen s f past before → answered (host last) ≡ answered (host past)
-    → IsOver s (reset f.conn) (At now (Closes false ended known) ∷ last) now → Follows s (closed (record f { conn = reset f.conn }) now) (At now (Closes false ended known) ∷ last) now
-reset_follows s f past last before now ended known h same over =
-    over_follows s (record f { conn = reset f.conn }) (At now (Closes false ended known) ∷ last) now over (λ is. reset_awake f.conn f.conn.stage is h.holds.opened.live) h.mru
+pub reset_follows : (s : Settings) (f : Splice) (past last : Story) (before now : ℕ) (directly ended known : Bool) → IsOpen s f past before → answered (host last) ≡ answered (host past)
+    → IsOver s (reset f.conn) (At now (Closes directly ended known) ∷ last) now → Follows s (closed (record f { conn = reset f.conn }) now) (At now (Closes directly ended known) ∷ last) now
+reset_follows s f past last before now directly ended known h same over =
+    over_follows s (record f { conn = reset f.conn }) (At now (Closes directly ended known) ∷ last) now over (λ is. reset_awake f.conn f.conn.stage is h.holds.opened.live) h.mru
     (λ resets_is unknown. let two = h.unsent unknown in let not_it = sym resets_is ∙ unsent_none f.conn f.conn.stage two.0 two.1 in cc)
-    (λ none. undone_none last now false ended known (unanswered_not_done last (same ∙ h.holds.opened.answered ∙ unanswered_by f.conn f.conn.stage h.holds.opened.live none)))
+    (λ none. undone_none last now directly ended known (unanswered_not_done last (same ∙ h.holds.opened.answered ∙ unanswered_by f.conn f.conn.stage h.holds.opened.live none)))
 
 -- ---- both ends passed
 

@@ -1,8 +1,6 @@
 -- The fields of a segment that goes out have their sizes.
-use Rattle.std.proofs.Common.{refl, ◌≡◌, ℕ, ◌-◌, ◌<◌, ◌≤◌, ◌^◌, length, drop, IfSome, Option, length-take, arith}
-use Rattle.net_octets.specs.declared.Mac.{Mac}
+use Rattle.std.proofs.Common.{ℕ, ◌-◌, ◌<◌, ◌≤◌, ◌^◌, length, drop, IfSome, length-take, arith}
 use Rattle.sock_buffers.specs.Downward.{Downward}
-use Rattle.tcp_guest.specs.declared.Head.{Head}
 use Rattle.tcp_guest.specs.declared.Owed.{Owed}
 use Rattle.tcp_guest.specs.declared.Owed.TheVariants.{Syn, SynAck, Data, Ack, Reset}
 use Rattle.connection_steps.specs.Sending.{carried, mss_in}

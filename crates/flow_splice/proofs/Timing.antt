@@ -17,7 +17,7 @@ use Rattle.flow_laws.specs.Settings.{Settings}
 use Rattle.flow_laws.specs.Lawful.{HasCause}
 use Rattle.flow_laws.specs.Event.{At, Closes, Story}
 use Rattle.flow_laws.specs.Flow.{is_accepted, is_connecting, opened_at, syn_is_out}
-use Rattle.flow_laws.specs.Close.{connects_too_long, finds_no_guest, gives_up}
+use Rattle.flow_laws.specs.Close.{connects_too_long, finds_no_guest, follows_reset, gives_up}
 use Rattle.flow_steps.proofs.InTime.{not_found}
 use Rattle.connection_steps.specs.Holding.{Holds, is_calls, is_connects, is_live}
 use Rattle.connection_steps.proofs.Causes.{gives_up_closes, late_cause, late_closes, unfound_cause, unfound_closes}
@@ -28,6 +28,7 @@ use Rattle.flow_splice.specs.Hosts.{Sees, ends}
 use Rattle.flow_splice.specs.Serves.{GoesOnYet, Serves, TicksOn}
 use Rattle.flow_splice.specs.Splice.{Splice, closed, is_open}
 use Rattle.flow_splice.specs.Wants.{connect_end, seeks}
+use Rattle.flow_splice.proofs.Calm.{calm_either}
 use Rattle.flow_splice.proofs.Opened.{open_follows, open_is, open_later}
 use Rattle.flow_splice.proofs.Shutting.{reset_dead, reset_follows, shut_is}
 
@@ -53,24 +54,25 @@ module _ (f : Splice) (now : ℕ) (open_yet : is_open f ≡ true) where
   or_left false b is = cc
 
   -- what is closed with a reset
-  shut_by : (s : Settings) (past : Story) (before ident : ℕ) (known : Bool) → IsOpen s f past before → HasCause false false known now past → Follows s (closed (record f { conn = reset f.conn }) now) (At now (Closes false false known) ∷ past) now
-      → Serves s (closed (record f { conn = reset f.conn }) now) false false known ident now past (Close f.face.number ∷ [])
-  shut_by s past before ident known o cause h = record { beats = At now (Closes false false known) ∷ []; are = ([], refl, (refl, refl, cause)); follows = h }
+  shut_by : (s : Settings) (past : Story) (before ident : ℕ) (directly known : Bool) → IsOpen s f past before → HasCause directly false known now past
+      → Follows s (closed (record f { conn = reset f.conn }) now) (At now (Closes directly false known) ∷ past) now → Serves s (closed (record f { conn = reset f.conn }) now) directly false known ident now past (Close f.face.number ∷ [])
+  shut_by s past before ident directly known o cause h = record { beats = At now (Closes directly false known) ∷ []; are = ([], refl, (refl, refl, cause)); follows = h }
 
   -- the socket didn't connect
-  pub host_late : is_connects f.conn.stage ≡ true → connect_end f ≤ now → GoesOnYet f (closed (record f { conn = reset f.conn }) now) false now (Close f.face.number ∷ [])
-  host_late connects over s past before ident known on h =
+  pub host_late : is_connects f.conn.stage ≡ true → connect_end f ≤ now → GoesOnYet f (closed (record f { conn = reset f.conn }) now) now (Close f.face.number ∷ [])
+  host_late connects over s past before ident directly known on h =
       let o = open_is s f past before open_yet h in
       let late : connects_too_long now past ≡ true = both (is_connecting past) (nat_le (opened_at past + 75000) now) (o.holds.opened.connects ∙ connects) (late_test (opened_at past + 75000) now (let since = o.since in omega (arith, since, over))) in
-      shut_by s past before ident known o (late_cause s f.conn f.up f.down past before now on o.holds known (rw late (or_true (gives_up now past))))
-      (reset_follows s f past past before now false known o refl (late_closes s f.conn f.up f.down past before now on o.holds known (connects_opening f.conn.stage connects) late))
+      let calm = calm_either past directly (o.calm (o.holds.opened.quiet connects)) in
+      shut_by s past before ident directly known o (late_cause s f.conn f.up f.down past before now on o.holds known directly calm (rw late (or_true (gives_up now past))))
+      (reset_follows s f past past before now directly false known o refl (late_closes s f.conn f.up f.down past before now on o.holds known directly calm (connects_opening f.conn.stage connects) late))
     where
       both : (a b : Bool) → a ≡ true → b ≡ true → (a && b) ≡ true
       both a b a_is b_is = rw (a_is, b_is) refl
 
   -- the guest wasn't found
   pub guest_missing : seeks f ≡ true → (nat_eq f.asked 9 && nat_le f.ask_at now) ≡ true → TicksOn f (closed (record f { conn = reset f.conn }) now) now (Close f.face.number ∷ [])
-  guest_missing seeking enough s past before ident known on unknown h =
+  guest_missing seeking enough s past before ident directly known on unknown h =
       let o = open_is s f past before open_yet h in
       let none = none_known f.mac seeking in
       let two = o.unsent none in
@@ -79,9 +81,9 @@ module _ (f : Splice) (now : ℕ) (open_yet : is_open f ≡ true) where
       let silent : syn_is_out past ≡ false = o.holds.opened.out ∙ two.1 in
       let missing : IsTrue (finds_no_guest known now past) = subst (λ (b : Bool). IsTrue (finds_no_guest b now past)) (sym (unknown none))
       (not_found past f.ask_at now (subst (λ (n : ℕ). Seeks past n f.ask_at) many.0 (o.seeks none (let is = many.0 in omega (arith, is)))) many.1 accepted silent) in
-      shut_by s past before ident known o (unfound_cause s f.conn f.up f.down past before now on o.holds known missing)
-      (reset_follows s f past past before now false known o refl
-      (unfound_closes s f.conn f.up f.down past before now on o.holds known missing (rw (accepted, silent) refl)))
+      shut_by s past before ident directly known o (unfound_cause s f.conn f.up f.down past before now on o.holds known directly missing)
+      (reset_follows s f past past before now directly false known o refl
+      (unfound_closes s f.conn f.up f.down past before now on o.holds known directly missing (rw (accepted, silent) refl)))
     where
       none_known : (mac : Option Mac) → (not (is_some mac) && nat_lt 0 f.asked) ≡ true → mac ≡ None
       none_known None is = refl
@@ -105,40 +107,44 @@ module _ (f : Splice) (now : ℕ) (open_yet : is_open f ≡ true) where
 
   module _ (buffers : HasBuffers (after_tick f.conn now) f.up f.down) (e : Bool) (ends_is : ends (change_at_tick f.conn now) ≡ e) (new : Splice) (made : List Entry)
       (sees : Sees e (record f { conn = after_tick f.conn now }) new now made) where
-    module _ (s : Settings) (past : Story) (before ident : ℕ) (known : Bool) (on : before ≤ now) (o : IsOpen s f past before) where
+    module _ (s : Settings) (past : Story) (before ident : ℕ) (directly known : Bool) (on : before ≤ now) (o : IsOpen s f past before) where
       later : IsOpen s f past now
       later = open_later s f past before now on o
 
       abbrev Result : Type 0
-      Result = Serves s new false false known ident now past made
+      Result = Serves s new directly false known ident now past made
 
       -- it goes on with this connection
       stays : (x : Connection) → after_tick f.conn now ≡ x → ends (change_at_tick f.conn now) ≡ false → Holds s x f.up f.down past now → is_done x ≡ false
-          → (f.mac ≡ None → (is_calls x.stage ≡ true) × (has_gone x.sendings ≡ false)) → Result
-      stays x is none h unfinished unsent = by e ends_is sees
+          → (f.mac ≡ None → (is_calls x.stage ≡ true) × (has_gone x.sendings ≡ false)) → (x.ack_owed ≡ false → follows_reset true past ≡ false) → Result
+      stays x is none h unfinished unsent calm = by e ends_is sees
         where
           by : (b : Bool) → ends (change_at_tick f.conn now) ≡ b → Sees b (record f { conn = after_tick f.conn now }) new now made → Result
           by true ends_now saw = let not_it = sym none ∙ ends_now in absurd cc
           by false ends_now saw = record {
             beats = [];
-            are = subst (λ (es : List Entry). AreEvents s new.face new.mac false false known ident now past es []) (sym saw.0) refl;
+            are = subst (λ (es : List Entry). AreEvents s new.face new.mac directly false known ident now past es []) (sym saw.0) refl;
             follows = subst (λ (g : Splice). Follows s g past now) (sym saw.1)
                 (subst (λ (c : Connection). Follows s (record f { conn = c }) past now) (sym is)
                 (open_follows s (record f { conn = x }) past now open_yet
-                (record { holds = h; mru = o.mru; since = o.since; told = o.told; unfinished = unfinished; unsent = unsent; seeks = o.seeks })));
+                (record { holds = h; mru = o.mru; since = o.since; told = o.told; unfinished = unfinished; unsent = unsent; seeks = o.seeks; calm = calm })));
           }
 
-      given_up : after_tick f.conn now ≡ reset f.conn → ends (change_at_tick f.conn now) ≡ true → IsTrue (gives_up now past) → Result
-      given_up is over cause = by e ends_is sees
+      -- it is given up, while no acknowledgement is owed
+      given_up : after_tick f.conn now ≡ reset f.conn → ends (change_at_tick f.conn now) ≡ true → IsTrue (gives_up now past) → f.conn.ack_owed ≡ false → Result
+      given_up is over cause unowed = by e ends_is sees
         where
+          calm : follows_reset directly past ≡ false
+          calm = calm_either past directly (o.calm unowed)
+
           by : (b : Bool) → ends (change_at_tick f.conn now) ≡ b → Sees b (record f { conn = after_tick f.conn now }) new now made → Result
           by true ends_now saw = record {
-            beats = At now (Closes false false known) ∷ [];
-            are = subst (λ (es : List Entry). AreEvents s new.face new.mac false false known ident now past es (At now (Closes false false known) ∷ [])) (sym saw.0)
-                (subst (λ (g : Splice). AreEvents s g.face g.mac false false known ident now past (Close f.face.number ∷ []) (At now (Closes false false known) ∷ [])) (sym saw.1) ([], refl, (refl, refl, late_cause s f.conn f.up f.down past before now on o.holds known (or_left (gives_up now past) (connects_too_long now past) cause))));
-            follows = subst (λ (g : Splice). Follows s g (At now (Closes false false known) ∷ past) now) (sym saw.1)
-                (subst (λ (c : Connection). Follows s (closed (record f { conn = c }) now) (At now (Closes false false known) ∷ past) now) (sym is)
-                (reset_follows s f past past before now false known o refl (gives_up_closes s f.conn f.up f.down past before now on o.holds known cause)));
+            beats = At now (Closes directly false known) ∷ [];
+            are = subst (λ (es : List Entry). AreEvents s new.face new.mac directly false known ident now past es (At now (Closes directly false known) ∷ [])) (sym saw.0)
+                (subst (λ (g : Splice). AreEvents s g.face g.mac directly false known ident now past (Close f.face.number ∷ []) (At now (Closes directly false known) ∷ [])) (sym saw.1) ([], refl, (refl, refl, late_cause s f.conn f.up f.down past before now on o.holds known directly calm (or_left (gives_up now past) (connects_too_long now past) cause))));
+            follows = subst (λ (g : Splice). Follows s g (At now (Closes directly false known) ∷ past) now) (sym saw.1)
+                (subst (λ (c : Connection). Follows s (closed (record f { conn = c }) now) (At now (Closes directly false known) ∷ past) now) (sym is)
+                (reset_follows s f past past before now directly false known o refl (gives_up_closes s f.conn f.up f.down past before now on o.holds known directly calm cause)));
           }
           by false ends_now saw = let not_it = sym over ∙ ends_now in absurd cc
 
@@ -184,36 +190,36 @@ module _ (f : Splice) (now : ℕ) (open_yet : is_open f ≡ true) where
       by_opening : (a : Bool) → is_opening f.conn.stage ≡ a → is_due (conn_due f.conn) now ≡ true → (b d : Bool) → is_spent f.conn ≡ b → f.conn.ack_owed ≡ d → Result
       by_opening a opening due true true spent owed =
           let two = tick_is true true true due spent owed in
-          stays f.conn two.0 (ap ends two.1) later.holds o.unfinished o.unsent
+          stays f.conn two.0 (ap ends two.1) later.holds o.unfinished o.unsent o.calm
       by_opening true opening due true false spent owed =
           let two = tick_is true true false due spent owed in
           let at = due_at (conn_due f.conn) due in
-          given_up two.0 (ap ends two.1) (syn_spent s f.conn f.up f.down past now later.holds at.0 at.2 opening (syn_due f.conn.stage at.0 refl opening at.1) (sym (spent_is true opening) ∙ spent))
+          given_up two.0 (ap ends two.1) (syn_spent s f.conn f.up f.down past now later.holds at.0 at.2 opening (syn_due f.conn.stage at.0 refl opening at.1) (sym (spent_is true opening) ∙ spent)) owed
       by_opening false opening due true false spent owed =
           let two = tick_is true true false due spent owed in
           let at = due_at (conn_due f.conn) due in
-          given_up two.0 (ap ends two.1) (piece_spent s f.conn f.up f.down past now later.holds at.0 at.2 opening (piece_due f.conn.stage at.0 refl opening at.1) (sym (spent_is false opening) ∙ spent))
+          given_up two.0 (ap ends two.1) (piece_spent s f.conn f.up f.down past now later.holds at.0 at.2 opening (piece_due f.conn.stage at.0 refl opening at.1) (sym (spent_is false opening) ∙ spent)) owed
       by_opening true opening due false d spent owed =
           let two = tick_is true false d due spent owed in
           let x : Connection = record f.conn { syn = resend_expired f.conn.syn; syn_owed = true } in
           let is : after_tick f.conn now ≡ x = two.0 ∙ again_is true opening in
           let at = due_at (conn_due f.conn) due in
-          stays x is (ap ends two.1) (syn_expires s f.conn f.up f.down past now later.holds at.0 at.2 opening (syn_due f.conn.stage at.0 refl opening at.1) (sym (spent_is true opening) ∙ spent) (has x is)) o.unfinished o.unsent
+          stays x is (ap ends two.1) (syn_expires s f.conn f.up f.down past now later.holds at.0 at.2 opening (syn_due f.conn.stage at.0 refl opening at.1) (sym (spent_is true opening) ∙ spent) (has x is)) o.unfinished o.unsent o.calm
       by_opening false opening due false d spent owed =
           let two = tick_is true false d due spent owed in
           let x : Connection = record f.conn { transmission = transmission_expired f.conn.transmission } in
           let is : after_tick f.conn now ≡ x = two.0 ∙ again_is false opening in
           let at = due_at (conn_due f.conn) due in
-          stays x is (ap ends two.1) (piece_expires s f.conn f.up f.down past now later.holds at.0 at.2 opening (piece_due f.conn.stage at.0 refl opening at.1) (sym (spent_is false opening) ∙ spent) (has x is)) o.unfinished o.unsent
+          stays x is (ap ends two.1) (piece_expires s f.conn f.up f.down past now later.holds at.0 at.2 opening (piece_due f.conn.stage at.0 refl opening at.1) (sym (spent_is false opening) ∙ spent) (has x is)) o.unfinished o.unsent o.calm
 
       by_due : (a : Bool) → is_due (conn_due f.conn) now ≡ a → Result
       by_due true due = by_opening (is_opening f.conn.stage) refl due (is_spent f.conn) f.conn.ack_owed refl refl
       by_due false due =
           let two = tick_is false (is_spent f.conn) f.conn.ack_owed due refl refl in
-          stays f.conn two.0 (ap ends two.1) later.holds o.unfinished o.unsent
+          stays f.conn two.0 (ap ends two.1) later.holds o.unfinished o.unsent o.calm
 
-    pub ticks : GoesOnYet f new false now made
-    ticks s past before ident known on h = by_due s past before ident known on (open_is s f past before open_yet h) (is_due (conn_due f.conn) now) refl
+    pub ticks : GoesOnYet f new now made
+    ticks s past before ident directly known on h = by_due s past before ident directly known on (open_is s f past before open_yet h) (is_due (conn_due f.conn) now) refl
 
 -- a connection that isn't over keeps its stage
 pub tick_stage : (c : Connection) (now : ℕ) → ends (change_at_tick c now) ≡ false → (after_tick c now).stage ≡ c.stage

@@ -5,7 +5,7 @@ use Rattle.tcp_guest.specs.Segments.{is_done}
 use Rattle.flow_laws.specs.Settings.{Settings}
 use Rattle.flow_laws.specs.Event.{Story}
 use Rattle.flow_laws.specs.Flow.{opened_at}
-use Rattle.flow_laws.specs.Close.{host_was_ended, rests_since}
+use Rattle.flow_laws.specs.Close.{follows_reset, host_was_ended, rests_since}
 use Rattle.flow_steps.specs.Resends.{Seeks}
 use Rattle.connection_steps.specs.Holding.{Holds, is_calls}
 use Rattle.connection_steps.specs.Over.{IsOver, IsResting, is_resets}
@@ -14,7 +14,8 @@ use Rattle.flow_splice.specs.declared.Place.{Place}
 use Rattle.flow_splice.specs.declared.Place.TheVariants.{Empty, InUse, Resting}
 
 -- Its socket is open: the connection and its buffers follow the story. As long as the guest's hardware address isn't known our SYN isn't out, and
--- the address was asked for so often. Not both ends passed.
+-- the address was asked for so often. Not both ends passed. Where no acknowledgement is owed, a close that came next wouldn't follow a reset of the
+-- guest that was fatal.
 pub record IsOpen (s : Settings) (f : Splice) (past : Story) (now : ℕ) : Type 0 where
   pub holds : Holds s f.conn f.up f.down past now
   pub mru : f.mru ≡ s.mru
@@ -23,6 +24,7 @@ pub record IsOpen (s : Settings) (f : Splice) (past : Story) (now : ℕ) : Type 
   pub unfinished : is_done f.conn ≡ false
   pub unsent : f.mac ≡ None → (is_calls f.conn.stage ≡ true) × (has_gone f.conn.sendings ≡ false)
   pub seeks : f.mac ≡ None → 0 < f.asked → Seeks past f.asked f.ask_at
+  pub calm : f.conn.ack_owed ≡ false → follows_reset true past ≡ false
 
 -- Its socket was closed, and it owes a guest that it knows a reset.
 pub record IsOwing (s : Settings) (f : Splice) (past : Story) (now : ℕ) : Type 0 where

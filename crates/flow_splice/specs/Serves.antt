@@ -19,13 +19,13 @@ abbrev pub GoesOn : (old new : Splice) → (directly : Bool) → (now : ℕ) →
 GoesOn old new directly now made =
     (s : Settings) (past : Story) (before ident : ℕ) (ended known : Bool) → before ≤ now → Follows s old past before → Serves s new directly ended known ident now past made
 
--- The same while the run isn't over.
-abbrev pub GoesOnYet : (old new : Splice) → (directly : Bool) → (now : ℕ) → List Entry → Type 0
-GoesOnYet old new directly now made =
-    (s : Settings) (past : Story) (before ident : ℕ) (known : Bool) → before ≤ now → Follows s old past before → Serves s new directly false known ident now past made
+-- The same while the run isn't over, whether or not what was made comes directly after the arrival of a segment of this flow.
+abbrev pub GoesOnYet : (old new : Splice) → (now : ℕ) → List Entry → Type 0
+GoesOnYet old new now made =
+    (s : Settings) (past : Story) (before ident : ℕ) (directly known : Bool) → before ≤ now → Follows s old past before → Serves s new directly false known ident now past made
 
 -- And where the guest's hardware address isn't known unless the flow has it.
 abbrev pub TicksOn : (old new : Splice) → (now : ℕ) → List Entry → Type 0
 TicksOn old new now made =
-    (s : Settings) (past : Story) (before ident : ℕ) (known : Bool) → before ≤ now → (old.mac ≡ None → known ≡ false) → Follows s old past before
-    → Serves s new false false known ident now past made
+    (s : Settings) (past : Story) (before ident : ℕ) (directly known : Bool) → before ≤ now → (old.mac ≡ None → known ≡ false) → Follows s old past before
+    → Serves s new directly false known ident now past made

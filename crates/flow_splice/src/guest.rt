@@ -1,5 +1,5 @@
 // A segment of the guest is taken in.
-ghost use Rattle.std.specs.Prelude.{◌≡◌, ℕ, ◌+◌, ◌^◌, ◌<◌, ◌≤◌, length, true, if◌then◌else◌};
+ghost use Rattle.std.specs.Prelude.{◌≡◌, ℕ, ◌+◌, ◌^◌, ◌<◌, ◌≤◌, length, true, false, if◌then◌else◌};
 ghost use Rattle.tcp_guest.specs.Connection.{HasBuffers};
 ghost use Rattle.tcp_guest.specs.Segments.{change_at};
 ghost use Rattle.tcp_receive.specs.Coming.{Comes};
@@ -18,7 +18,7 @@ impl Spliced {
     ghost use Rattle.flow_splice.specs.Guests.{Hears, ends_rest as ends_rest_by, heard, heard_at_rest, is_unfit, renews, turns_away};
     ghost use Rattle.flow_splice.specs.Hosts.{IsAsOld};
     ghost use Rattle.flow_splice.specs.Shapes.{is_at_most_a_close};
-    ghost use Rattle.flow_splice.specs.Splice.{is_open as is_open_by};
+    ghost use Rattle.flow_splice.specs.Splice.{is_at_rest, is_open as is_open_by};
     ghost use Rattle.flow_splice.specs.declared.Place.TheVariants.{Empty, Resting};
 
     /// A segment of the guest arrived. Where it resets the connection, or both ends passed with it, the socket is closed. True exactly where it is to be
@@ -33,6 +33,9 @@ impl Spliced {
         ensures same { IsAsOld self.old self.new }
         ensures up { self.new.up.written ≡ self.old.up.written }
         ensures down { octets_read self.new.down ≡ octets_read self.old.down }
+        ensures rests { (since : ℕ) → self.old.place ≡ Resting since → self.new ≡ heard_at_rest self.old since (tcp_of seg.now) now }
+        ensures closed { is_open_by self.old ≡ false → is_at_rest self.old.place ≡ false → self.new ≡ self.old }
+        ensures quiet { is_open_by self.old ≡ false → W.tells world.new ≡ W.tells world.old }
     {
         if self.is_open() {
             return self.hear(world, now, seg);
@@ -110,7 +113,8 @@ impl Spliced {
             || (seg.is_syn() && !seg.is_ack() && !seg.is_rst() && is_ahead(seg.seq, next))
     }
 
-    pub(crate) fn leave(&mut self)
+    /// From now on no flow has the place: its rest is over, or its reset is out.
+    pub fn leave(&mut self)
         ensures { self.new ≡ record self.old { place = Empty } }
     {
         self.place = Place::Empty;

@@ -40,6 +40,7 @@ impl Spliced {
             → Makes (W.tells world.old) (W.tells world.new) (λ made. some_is is_for_reading made ≡ true) }
         // After a report for writing the guest's end isn't held back in a flow that had connected.
         ensures passes_end { write ≡ true → is_connects self.old.conn.stage ≡ false → PassesEnd self.new }
+        ensures closed { is_open_by self.old ≡ false → self.new ≡ self.old }
     {
         self.serve_writing(world, now, write);
         self.serve_reading(world, now, read);
@@ -55,6 +56,7 @@ impl Spliced {
         ensures serves { ready ≡ true → writes self.old ≡ true → Makes (W.tells world.old) (W.tells world.new) (λ made. some_is is_for_writing made ≡ true) }
         ensures idle { ready ≡ false → (self.new ≡ self.old) × (W.tells world.new ≡ W.tells world.old) }
         ensures passes_end { ready ≡ true → is_connects self.old.conn.stage ≡ false → PassesEnd self.new }
+        ensures closed { is_open_by self.old ≡ false → self.new ≡ self.old }
     {
         if !ready || !self.is_open() {
             return;
@@ -78,6 +80,7 @@ impl Spliced {
         ensures down { octets_read self.new.down ≤ octets_read self.old.down + 16384 }
         ensures serves { ready ≡ true → reads self.old ≡ true → Makes (W.tells world.old) (W.tells world.new) (λ made. some_is is_for_reading made ≡ true) }
         ensures passes_end { PassesEnd self.old → PassesEnd self.new }
+        ensures closed { is_open_by self.old ≡ false → self.new ≡ self.old }
     {
         if ready && self.is_open() && self.may_read() {
             self.read(world, now);

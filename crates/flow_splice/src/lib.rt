@@ -118,7 +118,7 @@ impl Model for Spliced {
 
 impl Spliced {
     ghost use Rattle.flow_splice.specs.Follows.{Follows};
-    ghost use Rattle.flow_splice.specs.Splice.{begun};
+    ghost use Rattle.flow_splice.specs.Splice.{begun, is_open as is_open_by};
     ghost use Rattle.flow_splice.specs.Wants.{due_of, reads, writes};
     ghost use Rattle.flow_splice.specs.declared.Place.TheVariants.{Empty};
     ghost use Rattle.poll_list.specs.declared.Who.TheVariants.{Tcp as OnTcp};
@@ -213,6 +213,27 @@ impl Spliced {
         self.place
     }
 
+    /// Whether its socket is open.
+    pub fn is_open(&self) -> bool
+        ensures { result ≡ is_open_by self.now }
+    {
+        self.place == Place::InUse && !self.shut
+    }
+
+    /// The number of its socket, or of the one that it had.
+    pub fn number(&self) -> u64
+        ensures { result ≡ self.now.face.number }
+    {
+        self.number
+    }
+
+    /// Its guest's end.
+    pub fn guest(&self) -> Endpoint
+        ensures { result ≡ self.now.face.guest }
+    {
+        self.guest
+    }
+
     /// The moment at which the flow is to be looked at: the end of the time to connect, that of a wait for the guest's hardware address, or that of the
     /// connection's timer. `None` exactly where there is none.
     pub fn due(&self) -> Option<u64>
@@ -256,15 +277,8 @@ impl Spliced {
 // What is read of it.
 impl Spliced {
     ghost use Rattle.flow_splice.specs.Hosts.{Sees, ends};
-    ghost use Rattle.flow_splice.specs.Splice.{closed, is_open as is_open_by, place_after as place_after_by};
+    ghost use Rattle.flow_splice.specs.Splice.{closed, place_after as place_after_by};
     ghost use Rattle.flow_splice.specs.Wants.{connect_end as connect_end_by, may_end, may_read as may_read_by, may_write as may_write_by, owes_octets as owes_octets_by, reads as reads_by, seeks as seeks_by, writes as writes_by};
-
-    // Whether its socket is open.
-    pub(crate) fn is_open(&self) -> bool
-        ensures { result ≡ is_open_by self.now }
-    {
-        self.place == Place::InUse && !self.shut
-    }
 
     // Whether the socket is to connect.
     pub(crate) fn connects(&self) -> bool

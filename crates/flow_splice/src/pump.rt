@@ -186,6 +186,7 @@ impl Spliced {
         ensures clear { result ≡ Clear → IsClear self.new }
         ensures same { under_way link.new ≡ under_way link.old }
         ensures stays { IsPumped mac self.old self.new }
+        ensures closed { is_open_by self.old ≡ false → is_open_by self.new ≡ false }
         // Where the connection's timer wasn't due, it isn't due then.
         ensures ahead { (s : Settings) (past : Story) (before : ℕ) → Follows s self.old past before → IsAhead self.old.conn now → IsAhead self.new.conn now }
     {
@@ -240,6 +241,7 @@ impl Spliced {
         ensures clear { result ≡ Clear → is_open_by self.new ≡ true → 0 < self.new.asked }
         ensures same { under_way link.new ≡ under_way link.old }
         ensures stays { IsPumped None self.old self.new }
+        ensures closed { is_open_by self.old ≡ false → is_open_by self.new ≡ false }
         ensures conn { self.new.conn ≡ self.old.conn }
     {
         if !self.asks_now(now) {
@@ -305,6 +307,7 @@ impl Spliced {
         ensures as_old { IsAsOld self.old self.new }
         ensures up { self.new.up ≡ self.old.up }
         ensures down { self.new.down ≡ self.old.down }
+        ensures closed { is_open_by self.old ≡ false → is_open_by self.new ≡ false }
         ensures early { IsEarly now self.old.conn → IsEarly now self.new.conn }
     {
         let _first = *ident;
@@ -342,6 +345,7 @@ impl Spliced {
         ensures as_old { IsAsOld self.old self.new }
         ensures up { self.new.up ≡ self.old.up }
         ensures down { self.new.down ≡ self.old.down }
+        ensures closed { is_open_by self.old ≡ false → is_open_by self.new ≡ false }
         ensures early { IsEarly now self.old.conn → IsEarly now self.new.conn }
     {
         let offered = self.offer_owed(world, link, what, mac, *ident);

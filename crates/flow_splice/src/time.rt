@@ -27,7 +27,8 @@ impl Spliced {
     /// The moment came. A socket that didn't connect in 75,000 ms is closed; so is that of a flow whose guest wasn't found by nine requests and the waits
     /// after them, and that of one that is given up. Else what the connection's timer makes owed again is owed from now on.
     /// The guest's hardware address isn't known then unless the flow has it: once it is learnt, `pump` is called with it first, also while the link is blocked.
-    /// No call is made but a close.
+    /// No call is made but a close. The moment may come directly after a segment of this flow, where that was the last of the turn before and nothing was owed
+    /// for it.
     pub fn tick<W: World>(&mut self, world: &mut W, now: u64)
         requires now { now ≤ 2 ^ 62 }
         ensures makes { Makes (W.tells world.old) (W.tells world.new) (λ made. TicksOn self.old self.new now made × (is_at_most_a_close made ≡ true)) }
@@ -40,6 +41,7 @@ impl Spliced {
             → self.new ≡ record self.old { conn = after_tick self.old.conn now } }
         // The connection's timer isn't due then, unless an acknowledgement is owed.
         ensures ahead { (s : Settings) (past : Story) (before : ℕ) → Follows s self.old past before → self.old.conn.ack_owed ≡ false → IsAhead self.new.conn now }
+        ensures closed { is_open_by self.old ≡ false → self.new ≡ self.old }
     {
         if !self.is_open() {
             return;
@@ -58,7 +60,7 @@ impl Spliced {
         requires now { now ≤ 2 ^ 62 }
         requires open_yet { is_open_by self.old ≡ true }
         requires connects { is_connects self.old.conn.stage ≡ true }
-        ensures makes { Makes (W.tells world.old) (W.tells world.new) (λ made. GoesOnYet self.old self.new false now made × (is_at_most_a_close made ≡ true)) }
+        ensures makes { Makes (W.tells world.old) (W.tells world.new) (λ made. GoesOnYet self.old self.new now made × (is_at_most_a_close made ≡ true)) }
         ensures same { IsAsOld self.old self.new }
         ensures up { self.new.up ≡ self.old.up }
         ensures down { self.new.down ≡ self.old.down }
@@ -98,7 +100,7 @@ impl Spliced {
     fn expire<W: World>(&mut self, world: &mut W, now: u64)
         requires now { now ≤ 2 ^ 62 }
         requires open_yet { is_open_by self.old ≡ true }
-        ensures makes { Makes (W.tells world.old) (W.tells world.new) (λ made. GoesOnYet self.old self.new false now made × (is_at_most_a_close made ≡ true)) }
+        ensures makes { Makes (W.tells world.old) (W.tells world.new) (λ made. GoesOnYet self.old self.new now made × (is_at_most_a_close made ≡ true)) }
         ensures same { IsAsOld self.old self.new }
         ensures up { self.new.up ≡ self.old.up }
         ensures down { self.new.down ≡ self.old.down }

@@ -1,10 +1,10 @@
-use Rattle.std.proofs.Common.{◌∷◌, [], ℕ, false, refl, ap, subst, sym, ◌∙◌}
+use Rattle.std.proofs.Common.{◌∷◌, [], ℕ, refl, ap, subst, sym, ◌∙◌}
 use Rattle.world_face.specs.Journal.{Close}
 use Rattle.world_face.proofs.Telling.{makes_none, makes_one}
 use Rattle.tcp_guest.specs.Hosts.{reset}
 use Rattle.flow_splice.specs.Serves.{TicksOn}
 use Rattle.flow_splice.specs.Splice.{Splice, is_open}
-use Rattle.flow_splice.proofs.Events.{goes_none, goes_yet, ticks_as}
+use Rattle.flow_splice.proofs.Events.{none_yet, ticks_as}
 use Rattle.flow_splice.proofs.Shutting.{shut_is}
 use Rattle.flow_splice.proofs.Timing.{guest_missing}
 use Rattle.flow_splice.proofs.Spliced.await_guest.Goals as goal
@@ -21,7 +21,7 @@ returns-then-has_asked_enough-clause-makes g c =
     ))
 
 pub returns-else-has_asked_enough-clause-makes : goal.returns-else-has_asked_enough-clause-makes
-returns-else-has_asked_enough-clause-makes g c = makes_none _ _ (ticks_as c.args.self.now c.args.self.now c.args.now [] (goes_yet c.args.self.now c.args.self.now false c.args.now [] (goes_none c.args.self.now false c.args.now)), refl)
+returns-else-has_asked_enough-clause-makes g c = makes_none _ _ (ticks_as c.args.self.now c.args.self.now c.args.now [] (none_yet c.args.self.now c.args.now), refl)
 
 pub returns-then-has_asked_enough-clause-stage : goal.returns-then-has_asked_enough-clause-stage
 returns-then-has_asked_enough-clause-stage g c yet = let f : Splice = c.args.self.now in absurd (shut_is (record f { conn = reset f.conn }) c.args.now (ap is_open (sym c.fail.ensures.change) ∙ yet))

@@ -1,4 +1,4 @@
-use Rattle.std.proofs.Common.{◌≡◌, ℕ, false, ap, subst, sym, ◌∙◌}
+use Rattle.std.proofs.Common.{◌≡◌, ℕ, ap, subst, sym, ◌∙◌}
 use Rattle.world_face.proofs.Telling.{makes_as}
 use Rattle.tcp_guest.specs.Connection.{HasBuffers}
 use Rattle.tcp_guest.specs.Timing.{after_tick}

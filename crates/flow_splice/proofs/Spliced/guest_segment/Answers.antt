@@ -31,4 +31,7 @@ returns-in_default g c =
       same = record { face = refl; mac = refl; since = refl; asked = refl; ask_at = refl; up_size = refl; down_size = refl; mru = refl };
       up = refl;
       down = refl;
+      rests = λ since at. absurd (c.in_default.not-Resting since (c.place.ensures ∙ at));
+      closed = λ shut awake. refl;
+      quiet = λ shut. refl;
     }

@@ -2,7 +2,7 @@ use Rattle.std.proofs.Common.{◌≡◌, ℕ, [], refl, arith, subst, sym, ap, �
 use Rattle.world_face.proofs.Telling.{makes_as, makes_none}
 use Rattle.stream_netdev.specs.State.{LinkState}
 use Rattle.flow_splice.specs.Sends.{SendsOn}
-use Rattle.flow_splice.specs.Splice.{Splice}
+use Rattle.flow_splice.specs.Splice.{Splice, is_open}
 use Rattle.tcp_guest.specs.Connection.{Connection}
 use Rattle.flow_splice.specs.Ahead.{IsAhead, IsEarly}
 use Rattle.flow_splice.proofs.Ahead.{follows_waits}
@@ -59,3 +59,12 @@ returns-then-blocked-clause-ahead g c s past before h ahead =
     let f : Splice = c.args.self.now in
     let same : c.learn.new.self.conn ≡ f.conn = ap (λ (x : Splice). x.conn) c.learn.ensures in
     subst (λ (x : Connection). IsAhead x c.args.now) (sym same) ahead
+
+pub returns-in-Some-clause-closed : goal.returns-in-Some-clause-closed
+returns-in-Some-clause-closed g c shut = c.send_all.ensures.closed (ap is_open c.learn.ensures ∙ shut)
+
+pub returns-in-None-clause-closed : goal.returns-in-None-clause-closed
+returns-in-None-clause-closed g c shut = c.seek.ensures.closed (ap is_open c.learn.ensures ∙ shut)
+
+pub returns-then-blocked-clause-closed : goal.returns-then-blocked-clause-closed
+returns-then-blocked-clause-closed g c shut = ap is_open c.learn.ensures ∙ shut

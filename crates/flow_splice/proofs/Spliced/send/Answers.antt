@@ -96,3 +96,9 @@ returns-clause-early g c early =
     let offer = c.offer_owed-offered in
     marks_early offer.result c.args.what.now c.args.self.now c.mark.new.self c.args.now c.mark.ensures.makes.made offer.ensures.buffers
     (subst (λ (x : Splice). Marks offer.result c.args.what.now x c.mark.new.self c.args.now c.mark.ensures.makes.made) offer.ensures.change c.mark.ensures.makes.holds) early
+
+pub returns-clause-closed : goal.returns-clause-closed
+returns-clause-closed g c =
+    let offer = c.offer_owed-offered in
+    (marks_stay offer.result c.args.what.now c.args.self.now c.mark.new.self c.args.now c.mark.ensures.makes.made
+    (subst (λ (x : Splice). Marks offer.result c.args.what.now x c.mark.new.self c.args.now c.mark.ensures.makes.made) offer.ensures.change c.mark.ensures.makes.holds)).shut

@@ -18,6 +18,7 @@ loop-what-init g c = record {
   up = refl;
   down = refl;
   same = refl;
+  closed = λ shut. shut;
   early = λ early. early;
 }
 
@@ -40,6 +41,7 @@ loop-what-preserved g c =
       up = c.send.ensures.up ∙ kept.up;
       down = c.send.ensures.down ∙ kept.down;
       same = c.send.ensures.same ∙ kept.same;
+      closed = λ shut. c.send.ensures.closed (kept.closed shut);
       early = λ early. c.send.ensures.early (kept.early early);
     }
 
@@ -70,3 +72,9 @@ returns-in-Blocked-clause-early g c early = c.send.ensures.early (c.loop-what.in
 
 pub returns-in-Failed-clause-early : goal.returns-in-Failed-clause-early
 returns-in-Failed-clause-early g c early = c.send.ensures.early (c.loop-what.invariant.early early)
+
+pub returns-in-Blocked-clause-closed : goal.returns-in-Blocked-clause-closed
+returns-in-Blocked-clause-closed g c shut = c.send.ensures.closed (c.loop-what.invariant.closed shut)
+
+pub returns-in-Failed-clause-closed : goal.returns-in-Failed-clause-closed
+returns-in-Failed-clause-closed g c shut = c.send.ensures.closed (c.loop-what.invariant.closed shut)

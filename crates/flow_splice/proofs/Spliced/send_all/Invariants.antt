@@ -6,6 +6,7 @@ use Rattle.flow_splice.specs.Hosts.{IsAsOld}
 use Rattle.flow_splice.specs.Left.{left}
 use Rattle.flow_splice.specs.Sends.{SendsOn}
 use Rattle.flow_splice.specs.Shapes.{are_sending}
+use Rattle.flow_splice.specs.Splice.{is_open}
 use Rattle.flow_splice.proofs.Spliced.send_all.Given as goal
 
 abbrev pub invariant-loop-what : goal.invariant-loop-what
@@ -17,6 +18,7 @@ invariant-loop-what g l = record {
   up : l.self.up ≡ l.fn.self.up;
   down : l.self.down ≡ l.fn.self.down;
   same : under_way l.link ≡ under_way l.fn.link;
+  closed : is_open l.fn.self ≡ false → is_open l.self ≡ false;
   early : IsEarly l.now l.fn.self.conn → IsEarly l.now l.self.conn;
 }
 

@@ -1,17 +1,17 @@
-use Rattle.std.proofs.Common.{◌≡◌, [], ℕ, false, refl, subst, sym, ◌∙◌, ◌⊎◌, inl, inr}
+use Rattle.std.proofs.Common.{◌≡◌, [], ℕ, refl, subst, sym, ◌∙◌, ◌⊎◌, inl, inr}
 use Rattle.tcp_guest.specs.Connection.{Connection}
 use Rattle.tcp_guest.specs.Hosts.{reset}
 use Rattle.world_face.proofs.Telling.{makes_as, makes_none}
 use Rattle.flow_splice.specs.Splice.{Splice}
 use Rattle.flow_splice.specs.Ahead.{IsAhead}
 use Rattle.flow_splice.proofs.Ahead.{connects_ahead, dead_ahead, seeking_ahead, shut_ahead, tick_ahead}
-use Rattle.flow_splice.proofs.Events.{goes_none, goes_yet, ticks_as}
+use Rattle.flow_splice.proofs.Events.{none_yet, ticks_as}
 use Rattle.flow_splice.proofs.Opened.{open_is}
 use Rattle.flow_splice.proofs.Shutting.{reset_dead}
 use Rattle.flow_splice.proofs.Spliced.tick.Goals as goal
 
 pub returns-then-not-is_open-clause-makes : goal.returns-then-not-is_open-clause-makes
-returns-then-not-is_open-clause-makes g c = makes_none _ _ (ticks_as c.args.self.now c.args.self.now c.args.now [] (goes_yet c.args.self.now c.args.self.now false c.args.now [] (goes_none c.args.self.now false c.args.now)), refl)
+returns-then-not-is_open-clause-makes g c = makes_none _ _ (ticks_as c.args.self.now c.args.self.now c.args.now [] (none_yet c.args.self.now c.args.now), refl)
 
 pub returns-then-connects-clause-makes : goal.returns-then-connects-clause-makes
 returns-then-connects-clause-makes g c =
