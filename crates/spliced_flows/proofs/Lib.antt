@@ -19,5 +19,6 @@ pub mod Strayed
 pub mod Within
 pub mod Resets
 pub mod Meanwhile
+pub mod Mistaken
 pub mod Strange
 pub mod OutOfRange

@@ -36,7 +36,7 @@ part_of number (Some (Some p)) n is = (p, refl, cc)
 
 -- a number that a row of options gives is given by one of them
 module _ (F : ℕ → Option ℕ) where
-  given : (n : ℕ) (xs : List ℕ) → is_among n (filter_map F xs) ≡ true → (j : ℕ) × (F j ≡ Some n)
+  pub given : (n : ℕ) (xs : List ℕ) → is_among n (filter_map F xs) ≡ true → (j : ℕ) × (F j ≡ Some n)
   given n [] is = absurd cc
   given n (x ∷ xs) is = by_option (F x) refl is (given n xs)
     where
@@ -52,7 +52,7 @@ module _ (F : ℕ → Option ℕ) where
       by_option (Some m) gives is rest = by_test m (n == m) refl gives is rest
 
 -- a flow that rests has its number among those of the rests
-among_rests : (n : ℕ) (rests : List Rest) → list_any (λ (r : Rest). r.number == n) rests ≡ true → is_among n (map (λ (r : Rest). r.number) rests) ≡ true
+pub among_rests : (n : ℕ) (rests : List Rest) → list_any (λ (r : Rest). r.number == n) rests ≡ true → is_among n (map (λ (r : Rest). r.number) rests) ≡ true
 among_rests n [] is = cc
 among_rests n (r ∷ rests) is = by (r.number == n) (turned r.number n) is (among_rests n rests) refl
   where

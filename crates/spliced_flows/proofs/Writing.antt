@@ -7,7 +7,6 @@ use Rattle.world_face.specs.declared.Io.{Io}
 use Rattle.world_face.specs.declared.Io.TheVariants.{Done, End, NotYet, Failed}
 use Rattle.net_octets.specs.declared.Mac.{Mac}
 use Rattle.host_policy.specs.Addresses.{Config, address}
-use Rattle.flow_table.specs.declared.Tuple.{Tuple}
 use Rattle.run_laws.specs.Moments.{moment}
 use Rattle.run_laws.specs.Shape.{is_working}
 use Rattle.run_laws.specs.Sockets.{next_number}
@@ -33,13 +32,11 @@ use Rattle.slirp_laws.specs.Sending.{ip_in, is_beside, is_explained, is_own, is_
 use Rattle.slirp_laws.proofs.Bools.{and_both}
 use Rattle.slirp_laws.proofs.Deeds.{writes}
 use Rattle.flow_splice.specs.Splice.{Face}
+use Rattle.spliced_flows.specs.Core.{ends_of}
 use Rattle.spliced_flows.specs.Stands.{HasFlow, InWork, close_if}
 use Rattle.spliced_flows.proofs.Calling.{due_is}
 
 -- the two ends of a face
-abbrev pub ends_of : Face → Tuple
-ends_of face = record { guest = face.guest; other = face.other }
-
 abbrev pub on_ends : Face → Mac → Segment → OnTuple
 on_ends face to seg = record { mac = to.0; tuple = ends_of face; segment = seg }
 

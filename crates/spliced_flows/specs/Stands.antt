@@ -1,5 +1,5 @@
 -- Where a run stands between two calls of one flow.
-use Rattle.std.specs.Prelude.{◌≡◌, ℕ, Bool, true, false, List, [], ◌∷◌, ◌++◌, Option, Some, None, option_map, if◌then◌else◌}
+use Rattle.std.specs.Prelude.{◌≡◌, ℕ, Bool, true, false, List, [], ◌∷◌, ◌++◌, Option, Some, None, option_map, ◌||◌, if◌then◌else◌}
 use Rattle.poll_list.specs.declared.Want.{Want}
 use Rattle.world_face.specs.Journal.{Entry, Call, CallClose}
 use Rattle.host_policy.specs.Addresses.{Config}
@@ -10,7 +10,10 @@ use Rattle.flow_laws.specs.Close.{host_failed}
 use Rattle.flow_laws.specs.Flow.{is_closed}
 use Rattle.flow_book.specs.Book.{book, rest}
 use Rattle.flow_book.specs.Flows.{Flow, Rest, flow_of, owner}
-use Rattle.flow_book.specs.Lots.{due_for_flows}
+use Rattle.flow_book.specs.Lots.{Lot, Dropped, Strange, due_for_flows, is_opening, is_to_many, lot_by}
+use Rattle.flow_book.specs.Segments.{OnTuple}
+use Rattle.host_policy.specs.Targets.{target}
+use Rattle.host_policy.specs.declared.Proto.TheVariants.{Tcp as OverTcp}
 use Rattle.slirp_laws.specs.Asking.{errand_left}
 use Rattle.slirp_laws.specs.Laws.{is_closing, joins}
 use Rattle.flow_table.specs.declared.Slot.{Slot}
@@ -57,3 +60,9 @@ with_beats f beats = record { number = f.number; tuple = f.tuple; story = beats 
 -- these are the last of those
 abbrev pub IsLast : List Want → List Want → Type 0
 IsLast items all = (before : List Want) × (all ≡ before ++ items)
+
+-- what becomes of a segment without a flow, where there is room for one more or not
+abbrev pub lot_without : Config → (room : Bool) → OnTuple → Lot
+lot_without config room on =
+    if on.segment.rst || is_to_many config on.tuple.other then Dropped
+    else (if is_opening on.segment then lot_by (target config OverTcp on.tuple.other) room else Strange)
