@@ -1,0 +1,15 @@
+pub mod Beginning
+pub mod Changing
+pub mod Following
+pub mod Hearing
+pub mod Joining
+pub mod Keeping
+pub mod Lists
+pub mod Looking
+pub mod Opening
+pub mod Reporting
+pub mod Resting
+pub mod Seated
+pub mod Sending
+pub mod Ticking
+pub mod Wanting

@@ -1,0 +1,18 @@
+use Rattle.std.proofs.Common.{◌≡◌, List, false, None}
+use Rattle.world_face.specs.Journal.{Entry}
+use Rattle.host_policy.specs.Addresses.{Config}
+use Rattle.run_laws.specs.Moments.{moment}
+use Rattle.spliced_flows.specs.Core.{CoreHolds}
+use Rattle.tcp_flows.specs.Kept.{with_flows}
+use Rattle.tcp_flows.specs.Runs.{Ending}
+use Rattle.tcp_flows.proofs.Resting.{parts_left}
+use Rattle.tcp_flows.proofs.flows.TcpFlows.end_rests.Given as goal
+
+abbrev pub invariant-loop-slot : goal.invariant-loop-slot
+invariant-loop-slot l = record {
+  ends : (config : Config) (past : List Entry) → moment past ≡ l.now → CoreHolds config l.now false None l.fn.self.flows past → Ending config l.now l.self past;
+  same : l.self ≡ with_flows l.self.flows l.self.owing l.fn.self;
+}
+
+abbrev pub decreases-loop-slot : goal.decreases-loop-slot
+decreases-loop-slot l = parts_left l.self.flows.parts

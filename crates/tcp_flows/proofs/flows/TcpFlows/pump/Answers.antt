@@ -1,0 +1,59 @@
+use Rattle.std.proofs.Common.{refl, ◌<◌, ap, sym, ◌∙◌, subst}
+use Rattle.world_face.proofs.Telling.{makes_none, makes_then}
+use Rattle.flow_splice.specs.declared.Pumped.{Pumped}
+use Rattle.flow_splice.specs.declared.Pumped.TheVariants.{Clear, Blocked, Failed}
+use Rattle.tcp_flows.specs.Kept.{Kept, with_flows}
+use Rattle.tcp_flows.specs.Runs.{Pumps}
+use Rattle.tcp_flows.proofs.Sending.{marked, marked_less, pumps_none, pumps_then}
+use Rattle.tcp_flows.proofs.flows.TcpFlows.pump.Goals as goal
+
+pub loop-slot-init : goal.loop-slot-init
+loop-slot-init g c = record {
+  makes = makes_none _ _ (pumps_none c.args.now c.args.self.now c.args.link.now c.args.ident.now);
+  tail = c.requires.none;
+  free = c.requires.free;
+  same_link = refl;
+  same = refl;
+}
+
+pub loop-slot-smaller : goal.loop-slot-smaller
+loop-slot-smaller g c =
+    let old : Kept = c.loop-slot.self in
+    let mark = c.in-Some.ensures.mark in
+    subst (λ owing. marked owing < marked old.owing) (sym (c.pump_slot.ensures.mark c.in-Clear.is)) (marked_less old.owing c.in-Some.slot mark.0 mark.1)
+
+pub loop-slot-preserved : goal.loop-slot-preserved
+loop-slot-preserved g c =
+    let old : Kept = c.args.self.now in
+    let mid : Kept = c.loop-slot.self in
+    let new : Kept = c.pump_slot.new.self in
+    let kept = c.loop-slot.invariant in
+    let free = c.pump_slot.ensures.free c.in-Clear.is in
+    record {
+      makes = makes_then _ _ _ _ _ _ kept.makes c.pump_slot.ensures.makes
+          (λ first second some more.
+          pumps_then c.args.now old mid new c.args.link.now c.loop-slot.link c.pump_slot.new.link c.args.ident.now c.loop-slot.ident c.pump_slot.new.ident Clear first second some
+          (subst (λ (x : Pumped). Pumps c.args.now mid new c.loop-slot.link c.pump_slot.new.link c.loop-slot.ident c.pump_slot.new.ident x second) c.in-Clear.is more));
+      tail = free.1;
+      free = free.0;
+      same_link = c.pump_slot.ensures.same_link ∙ kept.same_link;
+      same = c.pump_slot.ensures.same ∙ ap (with_flows new.flows new.owing) kept.same;
+    }
+
+pub returns-in-Blocked-clause-makes : goal.returns-in-Blocked-clause-makes
+returns-in-Blocked-clause-makes g c =
+    let mid : Kept = c.loop-slot.self in
+    let new : Kept = c.pump_slot.new.self in
+    makes_then _ _ _ _ _ _ c.loop-slot.invariant.makes c.pump_slot.ensures.makes
+    (λ first second some more.
+    pumps_then c.args.now c.args.self.now mid new c.args.link.now c.loop-slot.link c.pump_slot.new.link c.args.ident.now c.loop-slot.ident c.pump_slot.new.ident Blocked first second some
+    (subst (λ (x : Pumped). Pumps c.args.now mid new c.loop-slot.link c.pump_slot.new.link c.loop-slot.ident c.pump_slot.new.ident x second) c.in-Blocked.is more))
+
+pub returns-in-Failed-clause-makes : goal.returns-in-Failed-clause-makes
+returns-in-Failed-clause-makes g c =
+    let mid : Kept = c.loop-slot.self in
+    let new : Kept = c.pump_slot.new.self in
+    makes_then _ _ _ _ _ _ c.loop-slot.invariant.makes c.pump_slot.ensures.makes
+    (λ first second some more.
+    pumps_then c.args.now c.args.self.now mid new c.args.link.now c.loop-slot.link c.pump_slot.new.link c.args.ident.now c.loop-slot.ident c.pump_slot.new.ident Failed first second some
+    (subst (λ (x : Pumped). Pumps c.args.now mid new c.loop-slot.link c.pump_slot.new.link c.loop-slot.ident c.pump_slot.new.ident x second) c.in-Failed.is more))

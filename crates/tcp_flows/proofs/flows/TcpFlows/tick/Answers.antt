@@ -1,0 +1,9 @@
+use Rattle.world_face.proofs.Telling.{makes_as}
+use Rattle.tcp_flows.specs.Runs.{ClosesRising}
+use Rattle.tcp_flows.proofs.Reporting.{ends_then_ticks}
+use Rattle.tcp_flows.proofs.flows.TcpFlows.tick.Goals as goal
+
+pub returns-clause-makes : goal.returns-clause-makes
+returns-clause-makes g c =
+    makes_as _ _ _ _ c.tick_due.ensures.makes
+    (λ made ticks. ends_then_ticks ClosesRising c.args.now c.args.self.now c.end_rests.new.self c.tick_due.new.self made c.end_rests.ensures.rests c.end_rests.ensures.same ticks)

@@ -1,0 +1,143 @@
+// What the host reports of sockets, and what time does.
+ghost use Rattle.std.specs.Prelude.{◌≡◌, ℕ, ◌+◌, ◌^◌, ◌<◌, ◌≤◌, List, slice_get, slice_set, true, false, Some, None};
+ghost use Rattle.flow_splice.specs.Splice.{Splice, is_open as is_open_by};
+ghost use Rattle.world_face.specs.Tells.{Makes};
+
+use crate::flows::TcpFlows;
+use crate::rows::{Before, LONGEST_REST};
+use world_face::World;
+
+impl TcpFlows {
+    ghost use Rattle.connection_steps.specs.Holding.{is_connects};
+    ghost use Rattle.flow_splice.specs.Wants.{connect_end};
+    ghost use Rattle.flow_splice.specs.Shapes.{IsHostWork};
+    ghost use Rattle.spliced_flows.specs.Core.{number_of};
+    ghost use Rattle.tcp_flows.specs.Reading.{IsOpenAt, NoneOpen};
+    ghost use Rattle.tcp_flows.specs.Kept.{part_of, with_flows};
+    ghost use Rattle.tcp_flows.specs.Runs.{ClosesOne, ClosesRising, Ending, Reports, RestsEnd, Ticks};
+    ghost use Rattle.host_policy.specs.Addresses.{Config};
+    ghost use Rattle.world_face.specs.Journal.{Entry};
+    ghost use Rattle.flow_splice.specs.Splice.{is_at_rest};
+    ghost use Rattle.flow_splice.specs.declared.Place.TheVariants.{Resting};
+
+    /// The socket with this number was reported ready, for reading, for writing or for both: its flow is told, once a turn. Nothing is called where no flow's
+    /// open socket has the number.
+    pub fn host_ready<W: World>(
+        &mut self,
+        world: &mut W,
+        now: u64,
+        number: u64,
+        read: bool,
+        write: bool,
+    )
+        requires now { now ≤ 2 ^ 62 }
+        ensures makes { Makes (W.tells world.old) (W.tells world.new) (λ made. Reports now number read write self.old self.new made × IsHostWork read write made) }
+        ensures none { NoneOpen number self.old.flows.parts → (self.new ≡ self.old) × (W.tells world.new ≡ W.tells world.old) }
+        ensures turn { self.new.turn ≡ self.old.turn }
+    {
+        if let Some(slot) = self.rows.sockets.slot_of(number) {
+            self.report(world, now, slot, read, write);
+        }
+    }
+
+    // The flow of a slot is told, once a turn.
+    fn report<W: World>(&mut self, world: &mut W, now: u64, slot: usize, read: bool, write: bool)
+        requires now { now ≤ 2 ^ 62 }
+        requires slot { (p : Splice) × IsOpenAt self.old.flows.parts slot p }
+        ensures makes { (p : Splice) → IsOpenAt self.old.flows.parts slot p
+            → Makes (W.tells world.old) (W.tells world.new) (λ made. Reports now (number_of p) read write self.old self.new made × IsHostWork read write made) }
+        ensures turn { self.new.turn ≡ self.old.turn }
+    {
+        if self.served[slot] == self.turn {
+            return;
+        }
+        self.served[slot] = self.turn;
+        let part = &mut self.parts[slot];
+        let before = Before::of(part);
+        part.host_ready(world, now, read, write);
+        self.rows.follow(slot, &before, false, part);
+    }
+
+    /// The moment is this one: each rest whose time is over ends, and each flow that is due is told, by rising number of its socket. No call is made but closes.
+    pub fn tick<W: World>(&mut self, world: &mut W, now: u64)
+        requires now { now ≤ 2 ^ 62 }
+        ensures makes { Makes (W.tells world.old) (W.tells world.new) (Ticks now false ClosesRising self.old self.new) }
+        ensures connects { (k : ℕ) (p : Splice) → IsOpenAt self.new.flows.parts k p → is_connects p.conn.stage ≡ true → now < connect_end p }
+        ensures turn { self.new.turn ≡ self.old.turn }
+    {
+        self.end_rests(now);
+        self.tick_due(world, now);
+    }
+
+    // Each rest whose time is over ends.
+    fn end_rests(&mut self, now: u64)
+        requires now { now ≤ 2 ^ 62 }
+        ensures rests { RestsEnd now self.old self.new }
+        ensures same { self.new ≡ with_flows self.new.flows self.new.owing self.old }
+    {
+        let Some(since) = now.checked_sub(LONGEST_REST) else {
+            return;
+        };
+        while let Some(slot) = self.next_rested(since) {
+            self.end_rest(slot);
+        }
+    }
+
+    // The rest of a slot is over.
+    fn end_rest(&mut self, slot: usize)
+        requires slot { (p : Splice) × (slice_get self.old.flows.parts slot ≡ Some (Some p)) × (is_at_rest p.place ≡ true) }
+        ensures ends { (config : Config) (now since : ℕ) (p : Splice) (past : List Entry) → slice_get self.old.flows.parts slot ≡ Some (Some p) → p.place ≡ Resting since → since + 60000 ≤ now
+            → Ending config now self.old past → Ending config now self.new past }
+        ensures parts { self.new.flows.parts ≡ slice_set self.old.flows.parts slot None }
+        ensures same { self.new ≡ with_flows self.new.flows self.new.owing self.old }
+    {
+        let part = &mut self.parts[slot];
+        let before = Before::of(part);
+        part.leave();
+        self.rows.follow(slot, &before, false, part);
+    }
+
+    // Each flow that is due is told, by rising number of its socket.
+    fn tick_due<W: World>(&mut self, world: &mut W, now: u64)
+        requires now { now ≤ 2 ^ 62 }
+        ensures makes { Makes (W.tells world.old) (W.tells world.new) (Ticks now true ClosesRising self.old self.new) }
+        ensures connects { (k : ℕ) (p : Splice) → IsOpenAt self.new.flows.parts k p → is_connects p.conn.stage ≡ true → now < connect_end p }
+        ensures same { self.new ≡ with_flows self.new.flows self.new.owing self.old }
+    {
+        let mut last = None;
+        while let Some(socket) = self.next_open(last) {
+            self.tick_slot(world, now, socket.slot);
+            last = Some(socket.number);
+        }
+    }
+
+    // The flow of a slot is told where it is due.
+    fn tick_slot<W: World>(&mut self, world: &mut W, now: u64, slot: usize)
+        requires now { now ≤ 2 ^ 62 }
+        requires slot { (p : Splice) × IsOpenAt self.old.flows.parts slot p }
+        ensures makes { (p : Splice) → IsOpenAt self.old.flows.parts slot p
+            → Makes (W.tells world.old) (W.tells world.new) (Ticks now true (ClosesOne (number_of p)) self.old self.new) }
+        ensures parts { (p : Splice) → IsOpenAt self.old.flows.parts slot p → (q : Splice) × (number_of q ≡ number_of p) × (self.new.flows.parts ≡ slice_set self.old.flows.parts slot (part_of q))
+            × (is_open_by q ≡ true → is_connects q.conn.stage ≡ true → now < connect_end q) }
+        ensures same { self.new ≡ with_flows self.new.flows self.new.owing self.old }
+    {
+        if !is_due(self.parts[slot].due(), now) {
+            return;
+        }
+        let part = &mut self.parts[slot];
+        let before = Before::of(part);
+        part.tick(world, now);
+        self.rows.follow(slot, &before, false, part);
+    }
+}
+
+// Whether a moment has come.
+fn is_due(due: Option<u64>, now: u64) -> bool
+    ensures yes { result ≡ true → (at : ℕ) × (due ≡ Some at) × (at ≤ now) }
+    ensures no { result ≡ false → (at : ℕ) → due ≡ Some at → now < at }
+{
+    match due {
+        Some(at) => at <= now,
+        None => false,
+    }
+}
