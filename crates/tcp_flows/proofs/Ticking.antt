@@ -1,5 +1,5 @@
 -- Flows are told the time one after another, by rising number.
-use Rattle.std.proofs.Common.{refl, ◌≡◌, ℕ, zero, suc, ◌+◌, ◌<◌, ◌≤◌, ◌==◌, ◌&&◌, nat_lt, Bool, true, false, List, [], ◌∷◌, ◌++◌, set, Some, None, Option, slice_get, ◌⊎◌, inl, inr, ap, sym, ◌∙◌, subst, arith}
+use Rattle.std.proofs.Common.{refl, ◌≡◌, ℕ, zero, suc, ◌+◌, ◌<◌, ◌≤◌, ◌==◌, ◌&&◌, nat_lt, Bool, true, false, List, [], ◌∷◌, ◌++◌, set, Some, None, Option, IfSome, IfNone, slice_get, ◌⊎◌, inl, inr, ap, sym, ◌∙◌, subst, arith}
 use Rattle.std.proofs.lemmas.Bool.Decides.{nat_tests}
 use Rattle.world_face.specs.Journal.{Close, Entry}
 use Rattle.connection_steps.specs.Holding.{is_connects}
@@ -7,13 +7,13 @@ use Rattle.core_flows.specs.Only.{one_if}
 use Rattle.core_flows.proofs.Seats.{differ, same_or_not}
 use Rattle.core_flows.proofs.Tables.{get_set_other, get_set_same}
 use Rattle.flow_splice.specs.Splice.{Splice, is_open}
-use Rattle.flow_splice.specs.Wants.{connect_end}
+use Rattle.flow_splice.specs.Wants.{connect_end, due_of}
 use Rattle.spliced_flows.specs.Core.{number_of}
 use Rattle.spliced_flows.proofs.Options.{some_same}
 use Rattle.tcp_flows.specs.Kept.{part_of}
-use Rattle.tcp_flows.specs.Reading.{IsAbove, IsNextOpen, IsOpenAt, NoneIsAbove}
+use Rattle.tcp_flows.specs.Reading.{IsAbove, IsDue, IsNextOpen, IsOpenAt, NoneDue, NoneIsAbove, time_at, time_of}
 use Rattle.tcp_flows.specs.Runs.{ClosesBelow, ClosesOne, ClosesRising}
-use Rattle.tcp_flows.proofs.Keeping.{part_back}
+use Rattle.tcp_flows.proofs.Keeping.{open_used, part_back}
 
 -- ---- the closes
 
@@ -117,6 +117,10 @@ seen_is q r is = sym (part_back q.place q r is)
 
 -- ---- the time to connect
 
+-- when an open flow is to be looked at
+time_open : (p : Splice) → is_open p ≡ true → time_of p ≡ due_of p
+time_open p open_yet = ap (λ at. time_at at (due_of p)) (open_used p open_yet)
+
 abbrev pub IsUpTo : Option ℕ → ℕ → Type 0
 IsUpTo None n = ⊥
 IsUpTo (Some last) n = n ≤ last
@@ -152,6 +156,15 @@ early_next now last parts n k next q number in_time early j r open_at up_to conn
             by_test : (b : Bool) → nat_lt last m ≡ b → (m ≤ last) ⊎ (last < m)
             by_test true is = inr (grind (arith, nat_tests, is))
             by_test false is = inl (grind (arith, nat_tests, is))
+
+-- where nothing is due yet, no open flow is
+pub none_due : (parts : List (Option Splice)) (now : ℕ) (first : Option ℕ) → IfSome first (IsDue parts) → IfNone first (NoneDue parts) → ((at : ℕ) → first ≡ Some at → now < at)
+    → (k : ℕ) (p : Splice) → IsOpenAt parts k p → (at : ℕ) → due_of p ≡ Some at → now < at
+none_due parts now None some none late k p open_at at due = cc (sym (none k p open_at.here) ∙ time_open p open_at.open_yet ∙ due)
+none_due parts now (Some first) some none late k p open_at at due =
+    let least = some.earliest k p at open_at.here (time_open p open_at.open_yet ∙ due) in
+    let first_late = late first refl in
+    omega (arith, least, first_late)
 
 -- and so have all, once there is no next one
 pub early_all : (now : ℕ) (last : Option ℕ) (parts : List (Option Splice)) → NoneIsAbove last parts → AreEarly now last parts → (k : ℕ) (p : Splice) → IsOpenAt parts k p → is_connects p.conn.stage ≡ true → now < connect_end p

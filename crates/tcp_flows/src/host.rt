@@ -97,13 +97,16 @@ impl TcpFlows {
         self.rows.follow(slot, &before, false, part);
     }
 
-    // Each flow that is due is told, by rising number of its socket.
+    // Each flow that is due is told, by rising number of its socket. None is looked at where none is due.
     fn tick_due<W: World>(&mut self, world: &mut W, now: u64)
         requires now { now ≤ 2 ^ 62 }
         ensures makes { Makes (W.tells world.old) (W.tells world.new) (Ticks now true ClosesRising self.old self.new) }
         ensures connects { (k : ℕ) (p : Splice) → IsOpenAt self.new.flows.parts k p → is_connects p.conn.stage ≡ true → now < connect_end p }
         ensures same { self.new ≡ with_flows self.new.flows self.new.owing self.old }
     {
+        if !is_due(self.due(), now) {
+            return;
+        }
         let mut last = None;
         while let Some(socket) = self.next_open(last) {
             self.tick_slot(world, now, socket.slot);

@@ -4,9 +4,17 @@ use Rattle.tcp_flows.specs.Kept.{Kept, part_of, with_flows}
 use Rattle.tcp_flows.specs.Runs.{ClosesOne, ClosesRising}
 use Rattle.tcp_flows.specs.Reading.{IsAbove}
 use Rattle.spliced_flows.specs.Core.{number_of}
+use Rattle.tcp_flows.proofs.Keeping.{stays_early}
 use Rattle.tcp_flows.proofs.Reporting.{nothing_ticked, ticks_as, ticks_then}
-use Rattle.tcp_flows.proofs.Ticking.{AreEarly, ClosesUpTo, closes_all, closes_next, count_above, early_all, early_next, less_above, seen_is}
+use Rattle.tcp_flows.proofs.Ticking.{AreEarly, ClosesUpTo, closes_all, closes_next, count_above, early_all, early_next, less_above, none_due, seen_is}
 use Rattle.tcp_flows.proofs.flows.TcpFlows.tick_due.Goals as goal
+
+pub returns-then-not-is_due-clause-makes : goal.returns-then-not-is_due-clause-makes
+returns-then-not-is_due-clause-makes g c = makes_none _ _ (nothing_ticked c.args.now ClosesRising c.args.self.now tt)
+
+pub returns-then-not-is_due-clause-connects : goal.returns-then-not-is_due-clause-connects
+returns-then-not-is_due-clause-connects g c k p open_at connects =
+    stays_early p c.args.now open_at.open_yet connects (none_due c.args.self.now.flows.parts c.args.now c.due.result c.due.ensures.due c.due.ensures.none (c.is_due.ensures.no c.if-not-is_due.true) k p open_at)
 
 pub loop-socket-init : goal.loop-socket-init
 loop-socket-init g c = record {
