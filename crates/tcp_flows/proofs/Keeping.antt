@@ -201,10 +201,13 @@ rest_since p rests = by p.place refl rests
     by (Resting since) at is = (since, at)
 
 -- one that rests may leave its place
-pub leave_moves : (p : Splice) → is_at_rest p.place ≡ true → Moves false p (record p { place = Empty })
-leave_moves p rests =
-    let since = rest_since p rests in
-    record { face = refl; shut = λ shut. refl; place = subst (λ x. MovesAt false x Empty) (sym since.1) tt }
+pub leave_moves : (p : Splice) → Moves false p (record p { place = Empty })
+leave_moves p = record { face = refl; shut = λ shut. refl; place = leaves p.place }
+  where
+    leaves : (x : Place) → MovesAt false x Empty
+    leaves Empty = refl
+    leaves InUse = tt
+    leaves (Resting since) = tt
 
 -- one in use goes on as it will, but doesn't open
 pub used_moves : (p q : Splice) → p.place ≡ InUse → q.face ≡ p.face → (is_open p ≡ false → q ≡ p) → Moves false p q

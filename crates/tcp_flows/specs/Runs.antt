@@ -1,5 +1,5 @@
 -- What the calls for flows are in the record of a run.
-use Rattle.std.specs.Prelude.{◌≡◌, ℕ, ◌<◌, Bool, true, false, List, [], ◌∷◌, ◌++◌, ◌⊎◌, filter, length, nat_lt, slice_get, Contains, Option, Some, None}
+use Rattle.std.specs.Prelude.{◌≡◌, ℕ, ◌<◌, Bool, true, false, List, [], ◌∷◌, ◌++◌, ◌⊎◌, filter, length, nat_lt, slice_get, slice_set, Contains, Option, Some, None}
 use Rattle.poll_list.specs.declared.Want.{Want}
 use Rattle.poll_list.specs.declared.Who.TheVariants.{Tcp as OnTcp}
 use Rattle.world_face.specs.Journal.{Entry, Call, CallConnect, Close, Connect}
@@ -32,6 +32,7 @@ use Rattle.flow_splice.specs.Splice.{Splice}
 use Rattle.spliced_flows.specs.Core.{CoreHolds, Following, mac_of, number_of}
 use Rattle.spliced_flows.specs.Stands.{InWork, IsLast, lot_without}
 use Rattle.tcp_flows.specs.Kept.{IsFor, Kept}
+use Rattle.tcp_flows.specs.Reading.{IsNextOpen, NoneIsAbove}
 use Rattle.tcp_flows.specs.declared.guest.Heard.{Heard}
 use Rattle.tcp_flows.specs.declared.guest.Heard.TheVariants.{Taken, Strange, Alone}
 
@@ -106,6 +107,13 @@ RestsEnd now old new = (config : Config) (past : List Entry) → moment past ≡
 -- a flow was told the time: its socket is closed, or nothing is called
 abbrev pub ClosesOne : ℕ → List Entry → Type 0
 ClosesOne n made = (made ≡ []) ⊎ (made ≡ Close n ∷ [])
+
+-- ---- at the end
+
+-- The open socket with the least number is closed, and its flow leaves its slot; or none is open, and nothing is called.
+abbrev pub ClosesFirst : Bool → (old new : List (Option Splice)) → List Entry → Type 0
+ClosesFirst true old new made = (n : ℕ) × (k : ℕ) × IsNextOpen None n k old × (new ≡ slice_set old k None) × (made ≡ Close n ∷ [])
+ClosesFirst false old new made = NoneIsAbove None old × (new ≡ old) × (made ≡ [])
 
 -- ---- what goes out
 

@@ -14,10 +14,9 @@ impl TcpFlows {
     ghost use Rattle.spliced_flows.specs.Core.{number_of};
     ghost use Rattle.tcp_flows.specs.Reading.{IsOpenAt, NoneOpen};
     ghost use Rattle.tcp_flows.specs.Kept.{part_of, with_flows};
-    ghost use Rattle.tcp_flows.specs.Runs.{ClosesOne, ClosesRising, Ending, Reports, RestsEnd, Ticks};
+    ghost use Rattle.tcp_flows.specs.Runs.{ClosesFirst, ClosesOne, ClosesRising, Ending, Reports, RestsEnd, Ticks};
     ghost use Rattle.host_policy.specs.Addresses.{Config};
     ghost use Rattle.world_face.specs.Journal.{Entry};
-    ghost use Rattle.flow_splice.specs.Splice.{is_at_rest};
     ghost use Rattle.flow_splice.specs.declared.Place.TheVariants.{Resting};
 
     /// The socket with this number was reported ready, for reading, for writing or for both: its flow is told, once a turn. Nothing is called where no flow's
@@ -79,13 +78,13 @@ impl TcpFlows {
             return;
         };
         while let Some(slot) = self.next_rested(since) {
-            self.end_rest(slot);
+            self.leave_slot(slot);
         }
     }
 
-    // The rest of a slot is over.
-    fn end_rest(&mut self, slot: usize)
-        requires slot { (p : Splice) × (slice_get self.old.flows.parts slot ≡ Some (Some p)) × (is_at_rest p.place ≡ true) }
+    // The flow of a slot leaves it: its rest is over, or the run.
+    fn leave_slot(&mut self, slot: usize)
+        requires slot { (p : Splice) × (slice_get self.old.flows.parts slot ≡ Some (Some p)) }
         ensures ends { (config : Config) (now since : ℕ) (p : Splice) (past : List Entry) → slice_get self.old.flows.parts slot ≡ Some (Some p) → p.place ≡ Resting since → since + 60000 ≤ now
             → Ending config now self.old past → Ending config now self.new past }
         ensures parts { self.new.flows.parts ≡ slice_set self.old.flows.parts slot None }
@@ -131,6 +130,20 @@ impl TcpFlows {
         let before = Before::of(part);
         part.tick(world, now);
         self.rows.follow(slot, &before, false, part);
+    }
+
+    /// The run is over: the open socket with the least number is closed, and its flow leaves its slot. Whether one was open.
+    pub fn close_first<W: World>(&mut self, world: &mut W) -> bool
+        ensures closes { Makes (W.tells world.old) (W.tells world.new) (ClosesFirst result self.old.flows.parts self.new.flows.parts) }
+        ensures none { result ≡ false → (self.new ≡ self.old) × (W.tells world.new ≡ W.tells world.old) }
+        ensures same { self.new ≡ with_flows self.new.flows self.new.owing self.old }
+    {
+        let Some(socket) = self.next_open(None) else {
+            return false;
+        };
+        world.close(socket.number);
+        self.leave_slot(socket.slot);
+        true
     }
 }
 

@@ -19,7 +19,7 @@ loop-slot-init c = record {
 pub loop-slot-smaller : goal.loop-slot-smaller
 loop-slot-smaller c =
     let rested = c.in-Some-next_rested.ensures.rested in
-    subst (λ parts. parts_left parts < parts_left c.loop-slot.self.flows.parts) (sym c.end_rest.ensures.parts) (one_less c.loop-slot.self.flows.parts c.in-Some-next_rested.slot rested.0 rested.2)
+    subst (λ parts. parts_left parts < parts_left c.loop-slot.self.flows.parts) (sym c.leave_slot.ensures.parts) (one_less c.loop-slot.self.flows.parts c.in-Some-next_rested.slot rested.0 rested.2)
 
 pub loop-slot-preserved : goal.loop-slot-preserved
 loop-slot-preserved c =
@@ -28,8 +28,8 @@ loop-slot-preserved c =
     let past_end = rested.4 in
     let minus = c.in-Some.ensures in
     record {
-      ends = λ config past at holds. c.end_rest.ensures.ends config c.args.now rested.1 rested.0 past rested.2 rested.3 (omega (arith, past_end, minus.0, minus.1)) (kept.ends config past at holds);
-      same = c.end_rest.ensures.same ∙ ap (λ (s : Kept). with_flows c.end_rest.new.self.flows c.end_rest.new.self.owing s) kept.same;
+      ends = λ config past at holds. c.leave_slot.ensures.ends config c.args.now rested.1 rested.0 past rested.2 rested.3 (omega (arith, past_end, minus.0, minus.1)) (kept.ends config past at holds);
+      same = c.leave_slot.ensures.same ∙ ap (λ (s : Kept). with_flows c.leave_slot.new.self.flows c.leave_slot.new.self.owing s) kept.same;
     }
 
 pub returns-clause-rests : goal.returns-clause-rests

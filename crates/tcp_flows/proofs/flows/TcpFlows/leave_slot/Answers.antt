@@ -2,7 +2,7 @@ use Rattle.std.proofs.Common.{◌≡◌, map, set, slice_get, Some, None, false,
 use Rattle.std.proofs.lemmas.List.{length-set, map-set}
 use Rattle.std.proofs.lemmas.Option.{slice_get_within}
 use Rattle.tcp_transmit.specs.Transmission.{octets_read}
-use Rattle.flow_splice.specs.Splice.{Splice, is_at_rest, is_open}
+use Rattle.flow_splice.specs.Splice.{Splice, is_open}
 use Rattle.flow_splice.specs.declared.Place.TheVariants.{Empty}
 use Rattle.flow_table.specs.Slots.{AreKept, flows}
 use Rattle.flow_table.specs.declared.Slot.TheVariants.{Free, Resting as SlotResting}
@@ -11,9 +11,9 @@ use Rattle.spliced_flows.specs.Stands.{slot_at}
 use Rattle.tcp_flows.specs.Kept.{Kept, part_at, part_of}
 use Rattle.tcp_flows.specs.Rows.{Moves, table_at}
 use Rattle.tcp_flows.proofs.Following.{has_tuple}
-use Rattle.tcp_flows.proofs.Keeping.{leave_moves, ours_then, raw_here, read_here, rest_placed, served_same, slot_raw}
+use Rattle.tcp_flows.proofs.Keeping.{leave_moves, ours_then, raw_here, raw_placed, read_here, served_same, slot_raw}
 use Rattle.tcp_flows.proofs.Resting.{ending_goes}
-use Rattle.tcp_flows.proofs.flows.TcpFlows.end_rest.Goals as goal
+use Rattle.tcp_flows.proofs.flows.TcpFlows.leave_slot.Goals as goal
 
 pub index_mut-part-requires : goal.index_mut-part-requires
 index_mut-part-requires c =
@@ -29,7 +29,7 @@ follow-requires-clause-some c =
     let parts = c.self.inside.parts.items in
     let raw = raw_here parts c.args.slot o.0 (ap (λ (s : Kept). slice_get s.flows.parts c.args.slot) c.self.view_is ∙ o.1) in
     let is = read_here parts c.args.slot o.0 c.index_mut-part.result.now raw c.index_mut-part.ensures.value in
-    λ empty. rest_placed o.0 o.2 (sym (ap (λ (x : Splice). x.place) is) ∙ sym c.of-before.ensures.place ∙ empty)
+    λ empty. raw_placed parts c.args.slot o.0 (ap (λ (s : Kept). slice_get s.flows.parts c.args.slot) c.self.view_is ∙ o.1) (sym (ap (λ (x : Splice). x.place) is) ∙ sym c.of-before.ensures.place ∙ empty)
 
 pub follow-requires-clause-rows : goal.follow-requires-clause-rows
 follow-requires-clause-rows c =
@@ -38,7 +38,7 @@ follow-requires-clause-rows c =
     let raw = raw_here parts c.args.slot o.0 (ap (λ (s : Kept). slice_get s.flows.parts c.args.slot) c.self.view_is ∙ o.1) in
     let is = read_here parts c.args.slot o.0 c.index_mut-part.result.now raw c.index_mut-part.ensures.value in
     let q_is = c.leave.ensures ∙ ap (λ (x : Splice). record x { place = Empty }) is in
-    (parts, o.0, raw, c.of-before.ensures.place ∙ ap (λ (x : Splice). x.place) is, c.of-before.ensures.open ∙ ap is_open is, subst (Moves false o.0) (sym q_is) (leave_moves o.0 o.2), c.self.invariant.0)
+    (parts, o.0, raw, c.of-before.ensures.place ∙ ap (λ (x : Splice). x.place) is, c.of-before.ensures.open ∙ ap is_open is, subst (Moves false o.0) (sym q_is) (leave_moves o.0), c.self.invariant.0)
 
 pub invariant_of-self : goal.invariant_of-self
 invariant_of-self c =
@@ -48,8 +48,8 @@ invariant_of-self c =
     let is = read_here parts c.args.slot o.0 c.index_mut-part.result.now raw c.index_mut-part.ensures.value in
     let q : Splice = c.leave.new.self in
     let q_is = c.leave.ensures ∙ ap (λ (x : Splice). record x { place = Empty }) is in
-    let some = rest_placed o.0 o.2 in (
-      c.follow.ensures.rows parts o.0 raw (c.of-before.ensures.place ∙ ap (λ (x : Splice). x.place) is) (c.of-before.ensures.open ∙ ap is_open is) (subst (Moves false o.0) (sym q_is) (leave_moves o.0 o.2)) c.self.invariant.0,
+    let some = raw_placed parts c.args.slot o.0 (ap (λ (s : Kept). slice_get s.flows.parts c.args.slot) c.self.view_is ∙ o.1) in (
+      c.follow.ensures.rows parts o.0 raw (c.of-before.ensures.place ∙ ap (λ (x : Splice). x.place) is) (c.of-before.ensures.open ∙ ap is_open is) (subst (Moves false o.0) (sym q_is) (leave_moves o.0)) c.self.invariant.0,
       c.follow.ensures.room ∙ c.self.invariant.1 ∙ sym (length-set parts c.args.slot q),
       ours_then c.self.inside.sizes.ring c.self.inside.sizes.mru c.self.inside.sizes.vhost.0 parts c.self.invariant.2 c.args.slot o.0 raw q some
           (ap (λ (x : Splice). x.up.size) q_is) (ap (λ (x : Splice). x.down.size) q_is) (ap (λ (x : Splice). x.mru) q_is) (ap (λ (x : Splice). x.mac) q_is) (ap (λ (x : Splice). x.face) q_is),
@@ -74,11 +74,10 @@ returns-clause-ends c config now since p past here place over ending =
     let raw = raw_here parts c.args.slot p (ap (λ (s : Kept). slice_get s.flows.parts c.args.slot) view ∙ here) in
     let is = read_here parts c.args.slot p c.index_mut-part.result.now raw c.index_mut-part.ensures.value in
     let q : Splice = c.leave.new.self in
-    let rests = ap is_at_rest place in
     let q_is = c.leave.ensures ∙ ap (λ (x : Splice). record x { place = Empty }) is in
-    let moves = subst (Moves false p) (sym q_is) (leave_moves p rests) in
+    let moves = subst (Moves false p) (sym q_is) (leave_moves p) in
     let slot = slot_raw table parts c.self.invariant.0.slots_are c.args.slot p raw in
-    let has = has_tuple false table c.args.slot p q moves (rest_placed p rests) slot in
+    let has = has_tuple false table c.args.slot p q moves (raw_placed parts c.args.slot p (ap (λ (s : Kept). slice_get s.flows.parts c.args.slot) view ∙ here)) slot in
     let table_then =
     c.follow.ensures.table (ends_of p.face) has
     ∙ (λ i. table_at false ((c.of-before.ensures.place ∙ ap (λ (x : Splice). x.place) is ∙ place) i) (ap (λ (x : Splice). x.place) q_is i) c.args.slot (ends_of p.face) table) in
