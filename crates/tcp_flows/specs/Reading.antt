@@ -8,6 +8,7 @@ use Rattle.flow_splice.specs.Wants.{due_of, reads, writes}
 use Rattle.flow_splice.specs.declared.Place.{Place}
 use Rattle.flow_splice.specs.declared.Place.TheVariants.{Empty, InUse, Resting}
 use Rattle.spliced_flows.specs.Core.{number_of}
+use Rattle.tcp_flows.specs.Kept.{Kept}
 
 -- the flow in a slot, its socket open
 pub record IsOpenAt (parts : List (Option Splice)) (k : ℕ) (p : Splice) : Type 0 where
@@ -17,6 +18,12 @@ pub record IsOpenAt (parts : List (Option Splice)) (k : ℕ) (p : Splice) : Type
 -- no flow's open socket has this number
 abbrev pub NoneOpen : ℕ → List (Option Splice) → Type 0
 NoneOpen n parts = (k : ℕ) (p : Splice) → IsOpenAt parts k p → number_of p ≡ n → ⊥
+
+-- the flow with this open socket, in this slot, which wasn't served in this turn
+pub record IsUnserved (kept : Kept) (n k : ℕ) (p : Splice) : Type 0 where
+  pub at : IsOpenAt kept.flows.parts k p
+  pub number : number_of p ≡ n
+  pub unserved : slice_get kept.served k ≡ Some kept.turn → ⊥
 
 -- one has, of which this holds
 abbrev pub HasSocket : ℕ → List (Option Splice) → (Splice → Type 0) → Type 0

@@ -120,7 +120,8 @@ impl TcpFlows {
     /// A turn begins: each socket may be served once more. There are at most 2^45 turns.
     pub fn begin_turn(&mut self)
         requires { self.old.turn < 2 ^ 45 }
-        ensures { self.new ≡ record self.old { turn = self.old.turn + 1 } }
+        ensures turn { self.new ≡ record self.old { turn = self.old.turn + 1 } }
+        ensures unserved { (k : ℕ) → slice_get self.new.served k ≡ Some self.new.turn → ⊥ }
     {
         self.turn += 1;
     }

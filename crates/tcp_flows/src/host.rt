@@ -9,10 +9,11 @@ use world_face::World;
 
 impl TcpFlows {
     ghost use Rattle.connection_steps.specs.Holding.{is_connects};
-    ghost use Rattle.flow_splice.specs.Wants.{connect_end};
+    ghost use Rattle.flow_splice.specs.Hosts.{PassesEnd, is_for_reading, is_for_writing, some_is};
+    ghost use Rattle.flow_splice.specs.Wants.{connect_end, reads, writes};
     ghost use Rattle.flow_splice.specs.Shapes.{IsHostWork};
     ghost use Rattle.spliced_flows.specs.Core.{number_of};
-    ghost use Rattle.tcp_flows.specs.Reading.{IsOpenAt, NoneOpen};
+    ghost use Rattle.tcp_flows.specs.Reading.{IsOpenAt, IsUnserved, NoneOpen};
     ghost use Rattle.tcp_flows.specs.Kept.{part_of, with_flows};
     ghost use Rattle.tcp_flows.specs.Runs.{ClosesFirst, ClosesOne, ClosesRising, Ending, Reports, RestsEnd, Ticks};
     ghost use Rattle.host_policy.specs.Addresses.{Config};
@@ -32,6 +33,14 @@ impl TcpFlows {
         requires now { now ≤ 2 ^ 62 }
         ensures makes { Makes (W.tells world.old) (W.tells world.new) (λ made. Reports now number read write self.old self.new made × IsHostWork read write made) }
         ensures none { NoneOpen number self.old.flows.parts → (self.new ≡ self.old) × (W.tells world.new ≡ W.tells world.old) }
+        // A direction that was reported is served, if the socket wasn't served in this turn.
+        ensures serves_writing { (k : ℕ) (p : Splice) → IsUnserved self.old number k p → write ≡ true → writes p ≡ true
+            → Makes (W.tells world.old) (W.tells world.new) (λ made. some_is is_for_writing made ≡ true) }
+        ensures serves_reading { (k : ℕ) (p : Splice) → IsUnserved self.old number k p → read ≡ true → write ≡ false → reads p ≡ true
+            → Makes (W.tells world.old) (W.tells world.new) (λ made. some_is is_for_reading made ≡ true) }
+        // After a report for writing the guest's end isn't held back in a flow that had connected.
+        ensures passes_end { (k : ℕ) (p q : Splice) → IsUnserved self.old number k p → write ≡ true → is_connects p.conn.stage ≡ false → IsOpenAt self.new.flows.parts k q → PassesEnd q }
+        ensures served { (k : ℕ) (p : Splice) → IsOpenAt self.old.flows.parts k p → number_of p ≡ number → self.new.served ≡ slice_set self.old.served k self.old.turn }
         ensures turn { self.new.turn ≡ self.old.turn }
     {
         if let Some(slot) = self.rows.sockets.slot_of(number) {
@@ -45,6 +54,12 @@ impl TcpFlows {
         requires slot { (p : Splice) × IsOpenAt self.old.flows.parts slot p }
         ensures makes { (p : Splice) → IsOpenAt self.old.flows.parts slot p
             → Makes (W.tells world.old) (W.tells world.new) (λ made. Reports now (number_of p) read write self.old self.new made × IsHostWork read write made) }
+        ensures serves_writing { (p : Splice) → IsUnserved self.old (number_of p) slot p → write ≡ true → writes p ≡ true
+            → Makes (W.tells world.old) (W.tells world.new) (λ made. some_is is_for_writing made ≡ true) }
+        ensures serves_reading { (p : Splice) → IsUnserved self.old (number_of p) slot p → read ≡ true → write ≡ false → reads p ≡ true
+            → Makes (W.tells world.old) (W.tells world.new) (λ made. some_is is_for_reading made ≡ true) }
+        ensures passes_end { (p q : Splice) → IsUnserved self.old (number_of p) slot p → write ≡ true → is_connects p.conn.stage ≡ false → IsOpenAt self.new.flows.parts slot q → PassesEnd q }
+        ensures served { self.new.served ≡ slice_set self.old.served slot self.old.turn }
         ensures turn { self.new.turn ≡ self.old.turn }
     {
         if self.served[slot] == self.turn {

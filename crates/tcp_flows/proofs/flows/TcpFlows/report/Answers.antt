@@ -1,20 +1,60 @@
-use Rattle.std.proofs.Common.{refl, ◌+◌, ◌<◌, ◌≤◌, set, false, arith, ap, sym, ◌∙◌, subst}
+use Rattle.std.proofs.Common.{refl, ◌≡◌, ℕ, ◌+◌, ◌<◌, ◌≤◌, set, slice_get, Some, true, false, arith, ap, sym, ◌∙◌, subst}
 use Rattle.std.proofs.lemmas.List.{length-set}
-use Rattle.std.proofs.lemmas.Option.{get_or_from_slice_get, slice_get_within}
+use Rattle.std.proofs.lemmas.Option.{get_or_from_slice_get, slice_get-get_or, slice_get_within}
 use Rattle.world_face.proofs.Telling.{makes_as, makes_none}
-use Rattle.flow_splice.specs.Hosts.{IsAsOld}
+use Rattle.connection_steps.specs.Holding.{is_connects}
+use Rattle.core_flows.proofs.Tables.{get_set_same}
+use Rattle.flow_splice.specs.Hosts.{IsAsOld, PassesEnd}
 use Rattle.flow_splice.specs.Serves.{GoesOn}
 use Rattle.flow_splice.specs.Splice.{Splice, is_open}
+use Rattle.flow_splice.specs.Wants.{reads, writes}
 use Rattle.tcp_transmit.specs.Transmission.{octets_read}
 use Rattle.spliced_flows.specs.Core.{ends_of}
 use Rattle.tcp_flows.specs.Kept.{Kept}
 use Rattle.tcp_flows.proofs.Following.{has_tuple}
 use Rattle.tcp_flows.proofs.Keeping.{flows_as, may_read, open_moves, open_used, ours_as_old, placed, raw_open, read_here, served_now, served_within, settings_as, slot_raw, table_is}
+use Rattle.tcp_flows.proofs.Lists.{set_same}
 use Rattle.tcp_flows.proofs.Reporting.{no_work, nothing_reported, reports_of}
 use Rattle.tcp_flows.proofs.flows.TcpFlows.report.Goals as goal
 
 pub returns-then-index-self-clause-makes : goal.returns-then-index-self-clause-makes
 returns-then-index-self-clause-makes g c p here = makes_none _ _ (nothing_reported c.args.now p.face.number c.args.read c.args.write c.args.self.now, no_work c.args.read c.args.write)
+
+pub returns-then-index-self-clause-serves_writing : goal.returns-then-index-self-clause-serves_writing
+returns-then-index-self-clause-serves_writing g c p u write waits =
+    let o = c.requires.slot in
+    let served = c.self.inside.served.items in
+    let w = served_within c.self.inside.turn served c.self.inside.parts.items c.self.invariant.3 c.args.slot o.0 (raw_open c.self.inside.parts.items c.args.slot o.0 _ (ap (λ (s : Kept). s.flows.parts) c.self.view_is) o.1) in
+    let is_at : slice_get served c.args.slot ≡ Some c.self.inside.turn = slice_get-get_or served c.args.slot c.index.result.now w ∙ ap Some (sym c.index.ensures ∙ c.if-index-self.true) in
+    let now_at = ap (λ (s : Kept). slice_get s.served c.args.slot) (sym c.self.view_is) ∙ is_at ∙ ap (λ (s : Kept). Some s.turn) c.self.view_is in
+    absurd (u.unserved now_at)
+
+pub returns-then-index-self-clause-serves_reading : goal.returns-then-index-self-clause-serves_reading
+returns-then-index-self-clause-serves_reading g c p u read write waits =
+    let o = c.requires.slot in
+    let served = c.self.inside.served.items in
+    let w = served_within c.self.inside.turn served c.self.inside.parts.items c.self.invariant.3 c.args.slot o.0 (raw_open c.self.inside.parts.items c.args.slot o.0 _ (ap (λ (s : Kept). s.flows.parts) c.self.view_is) o.1) in
+    let is_at : slice_get served c.args.slot ≡ Some c.self.inside.turn = slice_get-get_or served c.args.slot c.index.result.now w ∙ ap Some (sym c.index.ensures ∙ c.if-index-self.true) in
+    let now_at = ap (λ (s : Kept). slice_get s.served c.args.slot) (sym c.self.view_is) ∙ is_at ∙ ap (λ (s : Kept). Some s.turn) c.self.view_is in
+    absurd (u.unserved now_at)
+
+pub returns-then-index-self-clause-passes_end : goal.returns-then-index-self-clause-passes_end
+returns-then-index-self-clause-passes_end g c p q u write connects open_at =
+    let o = c.requires.slot in
+    let served = c.self.inside.served.items in
+    let w = served_within c.self.inside.turn served c.self.inside.parts.items c.self.invariant.3 c.args.slot o.0 (raw_open c.self.inside.parts.items c.args.slot o.0 _ (ap (λ (s : Kept). s.flows.parts) c.self.view_is) o.1) in
+    let is_at : slice_get served c.args.slot ≡ Some c.self.inside.turn = slice_get-get_or served c.args.slot c.index.result.now w ∙ ap Some (sym c.index.ensures ∙ c.if-index-self.true) in
+    let now_at = ap (λ (s : Kept). slice_get s.served c.args.slot) (sym c.self.view_is) ∙ is_at ∙ ap (λ (s : Kept). Some s.turn) c.self.view_is in
+    absurd (u.unserved now_at)
+
+pub returns-then-index-self-clause-served : goal.returns-then-index-self-clause-served
+returns-then-index-self-clause-served g c =
+    let o = c.requires.slot in
+    let served = c.self.inside.served.items in
+    let w = served_within c.self.inside.turn served c.self.inside.parts.items c.self.invariant.3 c.args.slot o.0 (raw_open c.self.inside.parts.items c.args.slot o.0 _ (ap (λ (s : Kept). s.flows.parts) c.self.view_is) o.1) in
+    let is_at : slice_get served c.args.slot ≡ Some c.self.inside.turn = slice_get-get_or served c.args.slot c.index.result.now w ∙ ap Some (sym c.index.ensures ∙ c.if-index-self.true) in
+    let now_at = ap (λ (s : Kept). slice_get s.served c.args.slot) (sym c.self.view_is) ∙ is_at ∙ ap (λ (s : Kept). Some s.turn) c.self.view_is in
+    sym (set_same c.args.self.now.served c.args.slot c.args.self.now.turn now_at)
 
 pub index_mut-requires : goal.index_mut-requires
 index_mut-requires g c =
@@ -100,3 +140,26 @@ returns-clause-makes g c p here =
           (subst (λ (x : Splice). GoesOn x q false c.args.now made) is goes.0) goes.1,
       goes.1,
     ))
+
+pub returns-clause-serves_writing : goal.returns-clause-serves_writing
+returns-clause-serves_writing g c p u write waits =
+    let parts = c.self.inside.parts.items in
+    let raw = raw_open parts c.args.slot p _ (ap (λ (s : Kept). s.flows.parts) c.self.view_is) u.at in
+    let is = read_here parts c.args.slot p c.index_mut-part.result.now raw c.index_mut-part.ensures.value in
+    c.host_ready.ensures.serves_writing write (ap writes is ∙ waits)
+
+pub returns-clause-serves_reading : goal.returns-clause-serves_reading
+returns-clause-serves_reading g c p u read write waits =
+    let parts = c.self.inside.parts.items in
+    let raw = raw_open parts c.args.slot p _ (ap (λ (s : Kept). s.flows.parts) c.self.view_is) u.at in
+    let is = read_here parts c.args.slot p c.index_mut-part.result.now raw c.index_mut-part.ensures.value in
+    c.host_ready.ensures.serves_reading read write (ap reads is ∙ waits)
+
+pub returns-clause-passes_end : goal.returns-clause-passes_end
+returns-clause-passes_end g c p q u write connects open_at =
+    let parts = c.self.inside.parts.items in
+    let raw = raw_open parts c.args.slot p _ (ap (λ (s : Kept). s.flows.parts) c.self.view_is) u.at in
+    let is = read_here parts c.args.slot p c.index_mut-part.result.now raw c.index_mut-part.ensures.value in
+    let then : Splice = c.host_ready.new.self in
+    let same : q ≡ then = get_set_same parts c.args.slot p then q raw (raw_open (set parts c.args.slot then) c.args.slot q _ refl open_at) in
+    subst PassesEnd (sym same) (c.host_ready.ensures.passes_end write (ap (λ (x : Splice). is_connects x.conn.stage) is ∙ connects))
