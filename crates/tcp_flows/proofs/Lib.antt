@@ -11,5 +11,6 @@ pub mod Reporting
 pub mod Resting
 pub mod Seated
 pub mod Sending
+pub mod Ticked
 pub mod Ticking
 pub mod Wanting

@@ -129,6 +129,15 @@ IsUpTo (Some last) n = n ≤ last
 abbrev pub AreEarly : (now : ℕ) → Option ℕ → List (Option Splice) → Type 0
 AreEarly now last parts = (k : ℕ) (p : Splice) → IsOpenAt parts k p → IsUpTo last (number_of p) → is_connects p.conn.stage ≡ true → now < connect_end p
 
+-- a number is up to the last one, or above it
+pub up_or_above : (o : Option ℕ) (m : ℕ) → IsUpTo o m ⊎ IsAbove o m
+up_or_above None m = inr tt
+up_or_above (Some last) m = by_test (nat_lt last m) refl
+  where
+    by_test : (b : Bool) → nat_lt last m ≡ b → (m ≤ last) ⊎ (last < m)
+    by_test true is = inr (grind (arith, nat_tests, is))
+    by_test false is = inl (grind (arith, nat_tests, is))
+
 pub early_next : (now : ℕ) (last : Option ℕ) (parts : List (Option Splice)) (n k : ℕ) (next : IsNextOpen last n k parts) (q : Splice) → number_of q ≡ number_of next.part
     → (is_open q ≡ true → is_connects q.conn.stage ≡ true → now < connect_end q) → AreEarly now last parts → AreEarly now (Some n) (set parts k (part_of q))
 early_next now last parts n k next q number in_time early j r open_at up_to connects = elim (same_or_not j k) [
@@ -148,14 +157,6 @@ early_next now last parts n k next q number in_time early j r open_at up_to conn
           let same : number_of r ≡ n = omega (arith, least, up_to) in
           absurd (differ j k other (next.only j r was same))
     ]
-      where
-        up_or_above : (o : Option ℕ) (m : ℕ) → IsUpTo o m ⊎ IsAbove o m
-        up_or_above None m = inr tt
-        up_or_above (Some last) m = by_test (nat_lt last m) refl
-          where
-            by_test : (b : Bool) → nat_lt last m ≡ b → (m ≤ last) ⊎ (last < m)
-            by_test true is = inr (grind (arith, nat_tests, is))
-            by_test false is = inl (grind (arith, nat_tests, is))
 
 -- where nothing is due yet, no open flow is
 pub none_due : (parts : List (Option Splice)) (now : ℕ) (first : Option ℕ) → IfSome first (IsDue parts) → IfNone first (NoneDue parts) → ((at : ℕ) → first ≡ Some at → now < at)

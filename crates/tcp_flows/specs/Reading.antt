@@ -1,10 +1,12 @@
 -- What is read of the flows of a network.
-use Rattle.std.specs.Prelude.{◌≡◌, ℕ, ◌+◌, ◌-◌, ◌^◌, ◌<◌, ◌≤◌, min, Bool, true, ◌||◌, List, [], ◌∷◌, slice_get, Contains, Option, Some, None, if◌then◌else◌}
+use Rattle.std.specs.Prelude.{◌≡◌, ℕ, ◌+◌, ◌-◌, ◌^◌, ◌<◌, ◌≤◌, min, Bool, true, false, ◌||◌, List, [], ◌∷◌, slice_get, Contains, Option, Some, None, if◌then◌else◌}
 use Rattle.poll_list.specs.declared.Want.{Want}
 use Rattle.poll_list.specs.declared.Who.TheVariants.{Tcp as OnTcp}
+use Rattle.tcp_guest.specs.Timing.{after_tick}
+use Rattle.connection_steps.specs.Holding.{is_connects}
 use Rattle.flow_splice.specs.Sends.{IsClear}
 use Rattle.flow_splice.specs.Splice.{Splice, is_open}
-use Rattle.flow_splice.specs.Wants.{due_of, reads, writes}
+use Rattle.flow_splice.specs.Wants.{due_of, reads, seeks, writes}
 use Rattle.flow_splice.specs.declared.Place.{Place}
 use Rattle.flow_splice.specs.declared.Place.TheVariants.{Empty, InUse, Resting}
 use Rattle.spliced_flows.specs.Core.{number_of}
@@ -85,6 +87,10 @@ pub record AreWantsOf (parts : List (Option Splice)) (wants : List Want) : Type 
 -- the list with the want of a flow, if something is waited for
 abbrev pub wanted : Splice → List Want
 wanted p = if is_wanted p then want_of p ∷ [] else []
+
+-- An open flow was told the time, and is open yet: once it has connected and knows its guest, what its connection's timer makes owed again is owed.
+abbrev pub IsTicked : (now : ℕ) → (p q : Splice) → Type 0
+IsTicked now p q = is_connects p.conn.stage ≡ false → seeks p ≡ false → q ≡ record p { conn = after_tick p.conn now }
 
 -- ---- one after another
 

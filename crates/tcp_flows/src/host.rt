@@ -13,7 +13,7 @@ impl TcpFlows {
     ghost use Rattle.flow_splice.specs.Wants.{connect_end, reads, writes};
     ghost use Rattle.flow_splice.specs.Shapes.{IsHostWork};
     ghost use Rattle.spliced_flows.specs.Core.{number_of};
-    ghost use Rattle.tcp_flows.specs.Reading.{IsOpenAt, IsUnserved, NoneOpen};
+    ghost use Rattle.tcp_flows.specs.Reading.{IsOpenAt, IsTicked, IsUnserved, NoneOpen};
     ghost use Rattle.tcp_flows.specs.Kept.{part_of, with_flows};
     ghost use Rattle.tcp_flows.specs.Runs.{ClosesFirst, ClosesOne, ClosesRising, Ending, Reports, RestsEnd, Ticks};
     ghost use Rattle.host_policy.specs.Addresses.{Config};
@@ -77,6 +77,7 @@ impl TcpFlows {
         requires now { now ≤ 2 ^ 62 }
         ensures makes { Makes (W.tells world.old) (W.tells world.new) (Ticks now false ClosesRising self.old self.new) }
         ensures connects { (k : ℕ) (p : Splice) → IsOpenAt self.new.flows.parts k p → is_connects p.conn.stage ≡ true → now < connect_end p }
+        ensures ticked { (k : ℕ) (p q : Splice) → IsOpenAt self.old.flows.parts k p → IsOpenAt self.new.flows.parts k q → IsTicked now p q }
         ensures turn { self.new.turn ≡ self.old.turn }
     {
         self.end_rests(now);
@@ -87,6 +88,7 @@ impl TcpFlows {
     fn end_rests(&mut self, now: u64)
         requires now { now ≤ 2 ^ 62 }
         ensures rests { RestsEnd now self.old self.new }
+        ensures keeps_open { (k : ℕ) (p : Splice) → IsOpenAt self.old.flows.parts k p → IsOpenAt self.new.flows.parts k p }
         ensures same { self.new ≡ with_flows self.new.flows self.new.owing self.old }
     {
         let Some(since) = now.checked_sub(LONGEST_REST) else {
@@ -116,6 +118,7 @@ impl TcpFlows {
         requires now { now ≤ 2 ^ 62 }
         ensures makes { Makes (W.tells world.old) (W.tells world.new) (Ticks now true ClosesRising self.old self.new) }
         ensures connects { (k : ℕ) (p : Splice) → IsOpenAt self.new.flows.parts k p → is_connects p.conn.stage ≡ true → now < connect_end p }
+        ensures ticked { (k : ℕ) (p q : Splice) → IsOpenAt self.old.flows.parts k p → IsOpenAt self.new.flows.parts k q → IsTicked now p q }
         ensures same { self.new ≡ with_flows self.new.flows self.new.owing self.old }
     {
         if !is_due(self.due(), now) {
@@ -136,6 +139,7 @@ impl TcpFlows {
             → Makes (W.tells world.old) (W.tells world.new) (Ticks now true (ClosesOne (number_of p)) self.old self.new) }
         ensures parts { (p : Splice) → IsOpenAt self.old.flows.parts slot p → (q : Splice) × (number_of q ≡ number_of p) × (self.new.flows.parts ≡ slice_set self.old.flows.parts slot (part_of q))
             × (is_open_by q ≡ true → is_connects q.conn.stage ≡ true → now < connect_end q) }
+        ensures ticked { (p q : Splice) → IsOpenAt self.old.flows.parts slot p → IsOpenAt self.new.flows.parts slot q → IsTicked now p q }
         ensures same { self.new ≡ with_flows self.new.flows self.new.owing self.old }
     {
         if !is_due(self.parts[slot].due(), now) {

@@ -1,5 +1,7 @@
 use Rattle.std.proofs.Common.{refl, ◌≤◌, ◌<◌, ℕ, ap, sym, ◌∙◌, subst, arith}
 use Rattle.tcp_flows.specs.Kept.{Kept, with_flows}
+use Rattle.tcp_flows.specs.Reading.{IsOpenAt}
+use Rattle.tcp_flows.proofs.Ticked.{open_left}
 use Rattle.tcp_flows.proofs.Resting.{ending_begins, ending_ends, none_over, one_less, parts_left}
 use Rattle.tcp_flows.proofs.flows.TcpFlows.end_rests.Goals as goal
 
@@ -13,6 +15,7 @@ returns-in_default-clause-rests c config past at holds = none_over config c.args
 pub loop-slot-init : goal.loop-slot-init
 loop-slot-init c = record {
   ends = λ config past at holds. ending_begins config c.args.now c.args.self.now past holds;
+  keeps_open = λ k p open_at. open_at;
   same = refl;
 }
 
@@ -29,6 +32,8 @@ loop-slot-preserved c =
     let minus = c.in-Some.ensures in
     record {
       ends = λ config past at holds. c.leave_slot.ensures.ends config c.args.now rested.1 rested.0 past rested.2 rested.3 (omega (arith, past_end, minus.0, minus.1)) (kept.ends config past at holds);
+      keeps_open = λ k p open_at. subst (λ parts. IsOpenAt parts k p) (sym c.leave_slot.ensures.parts)
+          (open_left c.loop-slot.self.flows.parts c.in-Some-next_rested.slot rested.0 rested.1 rested.2 rested.3 k p (kept.keeps_open k p open_at));
       same = c.leave_slot.ensures.same ∙ ap (λ (s : Kept). with_flows c.leave_slot.new.self.flows c.leave_slot.new.self.owing s) kept.same;
     }
 
@@ -37,3 +42,9 @@ returns-clause-rests c config past at holds =
     let minus = c.in-Some.ensures in
     ending_ends config c.args.now c.loop-slot.self past at c.in_default-next_rested.ensures.kept
     (λ k t since slot. let later = c.in_default-next_rested.ensures.slots k since t slot in omega (arith, later, minus.0, minus.1)) (c.loop-slot.invariant.ends config past at holds)
+
+pub returns-clause-keeps_open : goal.returns-clause-keeps_open
+returns-clause-keeps_open c = c.loop-slot.invariant.keeps_open
+
+pub returns-in_default-clause-keeps_open : goal.returns-in_default-clause-keeps_open
+returns-in_default-clause-keeps_open c k p open_at = open_at

@@ -7,3 +7,6 @@ pub returns-clause-makes : goal.returns-clause-makes
 returns-clause-makes g c =
     makes_as _ _ _ _ c.tick_due.ensures.makes
     (λ made ticks. ends_then_ticks ClosesRising c.args.now c.args.self.now c.end_rests.new.self c.tick_due.new.self made c.end_rests.ensures.rests c.end_rests.ensures.same ticks)
+
+pub returns-clause-ticked : goal.returns-clause-ticked
+returns-clause-ticked g c k p q was is = c.tick_due.ensures.ticked k p q (c.end_rests.ensures.keeps_open k p was) is

@@ -2,10 +2,11 @@ use Rattle.std.proofs.Common.{refl, ◌<◌, ℕ, Some, None, true, set, ap, sym
 use Rattle.world_face.proofs.Telling.{makes_as, makes_none, makes_then}
 use Rattle.tcp_flows.specs.Kept.{Kept, part_of, with_flows}
 use Rattle.tcp_flows.specs.Runs.{ClosesOne, ClosesRising}
-use Rattle.tcp_flows.specs.Reading.{IsAbove}
+use Rattle.tcp_flows.specs.Reading.{IsAbove, IsOpenAt, IsTicked}
 use Rattle.spliced_flows.specs.Core.{number_of}
 use Rattle.tcp_flows.proofs.Keeping.{stays_early}
 use Rattle.tcp_flows.proofs.Reporting.{nothing_ticked, ticks_as, ticks_then}
+use Rattle.tcp_flows.proofs.Ticked.{AreTold, open_same, ticked_late, told_all, told_next, told_none}
 use Rattle.tcp_flows.proofs.Ticking.{AreEarly, ClosesUpTo, closes_all, closes_next, count_above, early_all, early_next, less_above, none_due, seen_is}
 use Rattle.tcp_flows.proofs.flows.TcpFlows.tick_due.Goals as goal
 
@@ -16,10 +17,17 @@ pub returns-then-not-is_due-clause-connects : goal.returns-then-not-is_due-claus
 returns-then-not-is_due-clause-connects g c k p open_at connects =
     stays_early p c.args.now open_at.open_yet connects (none_due c.args.self.now.flows.parts c.args.now c.due.result c.due.ensures.due c.due.ensures.none (c.is_due.ensures.no c.if-not-is_due.true) k p open_at)
 
+pub returns-then-not-is_due-clause-ticked : goal.returns-then-not-is_due-clause-ticked
+returns-then-not-is_due-clause-ticked g c k p q was is =
+    let parts = c.args.self.now.flows.parts in
+    subst (IsTicked c.args.now p) (sym (open_same parts k p q was is))
+    (ticked_late c.args.now p was.open_yet (none_due parts c.args.now c.due.result c.due.ensures.due c.due.ensures.none (c.is_due.ensures.no c.if-not-is_due.true) k p was))
+
 pub loop-socket-init : goal.loop-socket-init
 loop-socket-init g c = record {
   makes = makes_none _ _ (nothing_ticked c.args.now (ClosesUpTo None) c.args.self.now refl);
   early = λ k p open_at none. absurd none;
+  told = told_none c.args.now c.args.self.now.flows.parts;
   same = refl;
 }
 
@@ -43,6 +51,9 @@ loop-socket-preserved g c =
           (λ first second a b. ticks_then c.args.now true (ClosesUpTo c.loop-socket.last) (ClosesOne (number_of next.part)) (ClosesUpTo (Some n)) c.args.self.now c.loop-socket.self c.tick_slot.new.self first second a b
           (λ before one. closes_next c.loop-socket.last n next.above first second before (subst (λ m. ClosesOne m second) next.number one)));
       early = subst (λ parts. AreEarly c.args.now (Some n) parts) (sym then.2) (early_next c.args.now c.loop-socket.last c.loop-socket.self.flows.parts n c.in-Some.socket.slot next then.0 then.1 then.3 kept.early);
+      told = subst (λ parts. AreTold c.args.now (Some n) c.args.self.now.flows.parts parts) (sym then.2)
+          (told_next c.args.now c.loop-socket.last c.args.self.now.flows.parts c.loop-socket.self.flows.parts n c.in-Some.socket.slot next then.0 then.1
+          (λ q open_at. c.tick_slot.ensures.ticked next.part q next.at (subst (λ parts. IsOpenAt parts c.in-Some.socket.slot q) (sym then.2) open_at)) kept.told);
       same = c.tick_slot.ensures.same ∙ ap (λ (s : Kept). with_flows c.tick_slot.new.self.flows c.tick_slot.new.self.owing s) kept.same;
     }
 
@@ -56,3 +67,6 @@ returns-clause-connects g c = early_all c.args.now c.loop-socket.last c.loop-soc
 
 pub returns-clause-same : goal.returns-clause-same
 returns-clause-same g c = c.loop-socket.invariant.same
+
+pub returns-clause-ticked : goal.returns-clause-ticked
+returns-clause-ticked g c = told_all c.args.now c.loop-socket.last c.args.self.now.flows.parts c.loop-socket.self.flows.parts c.in_default.ensures.none c.loop-socket.invariant.told

@@ -1,20 +1,25 @@
-use Rattle.std.proofs.Common.{refl, set, Some, inl, false, arith, ap, sym, ◌∙◌, subst}
+use Rattle.std.proofs.Common.{refl, ◌≡◌, set, Some, inl, false, arith, ap, sym, ◌∙◌, subst}
 use Rattle.std.proofs.lemmas.List.{length-set, map-set}
 use Rattle.std.proofs.lemmas.Option.{slice_get_within}
 use Rattle.world_face.proofs.Telling.{makes_as, makes_none}
 use Rattle.flow_splice.specs.Hosts.{IsAsOld}
 use Rattle.flow_splice.specs.Serves.{TicksOn}
 use Rattle.flow_splice.specs.Splice.{Face, Splice, is_open}
-use Rattle.flow_splice.specs.Wants.{due_of}
+use Rattle.flow_splice.specs.Wants.{due_of, seeks}
+use Rattle.tcp_guest.specs.Timing.{after_tick}
+use Rattle.connection_steps.specs.Holding.{is_connects}
+use Rattle.core_flows.proofs.Tables.{get_set_same}
 use Rattle.tcp_transmit.specs.Transmission.{octets_read}
 use Rattle.spliced_flows.specs.Core.{ends_of}
 use Rattle.tcp_flows.specs.Kept.{Kept, part_of}
+use Rattle.tcp_flows.specs.Reading.{IsTicked}
 use Rattle.tcp_flows.specs.Runs.{ClosesOne}
 use Rattle.tcp_flows.proofs.Following.{has_tuple}
 use Rattle.tcp_flows.proofs.Keeping.{flows_as, open_moves, open_used, ours_as_old, placed, raw_open, read_here, served_same, settings_as, slot_raw, stays_early, table_is}
 use Rattle.tcp_flows.proofs.Lists.{set_same}
 use Rattle.tcp_flows.proofs.Seated.{part_is}
 use Rattle.tcp_flows.proofs.Reporting.{nothing_ticked, ticks_of}
+use Rattle.tcp_flows.proofs.Ticked.{open_same, ticked_late}
 use Rattle.tcp_flows.proofs.flows.TcpFlows.tick_slot.Goals as goal
 
 pub index-requires : goal.index-requires
@@ -36,6 +41,14 @@ returns-then-not-is_due-clause-parts g c p here =
       sym (set_same c.args.self.now.flows.parts c.args.slot (part_of p) (here.here ∙ ap Some (sym (part_is p (placed p here.open_yet))))),
       λ open_yet connects. stays_early p c.args.now open_yet connects (λ at due. c.is_due.ensures.no c.if-not-is_due.true at (c.due.ensures ∙ ap due_of is ∙ due)),
     )
+
+pub returns-then-not-is_due-clause-ticked : goal.returns-then-not-is_due-clause-ticked
+returns-then-not-is_due-clause-ticked g c p q was is =
+    let parts = c.self.inside.parts.items in
+    let raw = raw_open parts c.args.slot p _ (ap (λ (s : Kept). s.flows.parts) c.self.view_is) was in
+    let read = read_here parts c.args.slot p c.index.result.now raw c.index.ensures in
+    subst (IsTicked c.args.now p) (sym (open_same c.args.self.now.flows.parts c.args.slot p q was is))
+    (ticked_late c.args.now p was.open_yet (λ at due. c.is_due.ensures.no c.if-not-is_due.true at (c.due.ensures ∙ ap due_of read ∙ due)))
 
 pub index_mut-part-requires : goal.index_mut-part-requires
 index_mut-part-requires g c =
@@ -110,3 +123,14 @@ returns-clause-parts g c p here =
     let is = read_here parts c.args.slot p c.index_mut-part.result.now raw c.index_mut-part.ensures.value in
     let q : Splice = c.tick.new.self in
     (q, ap (λ (x : Face). x.number) (c.tick.ensures.same.face ∙ ap (λ (x : Splice). x.face) is), map-set part_of parts c.args.slot q ∙ ap (λ (s : Kept). set s.flows.parts c.args.slot (part_of q)) c.self.view_is, c.tick.ensures.in_time)
+
+pub returns-clause-ticked : goal.returns-clause-ticked
+returns-clause-ticked g c p q was is connects knows =
+    let parts = c.self.inside.parts.items in
+    let raw = raw_open parts c.args.slot p _ (ap (λ (s : Kept). s.flows.parts) c.self.view_is) was in
+    let read = read_here parts c.args.slot p c.index_mut-part.result.now raw c.index_mut-part.ensures.value in
+    let then : Splice = c.tick.new.self in
+    let same : q ≡ then = get_set_same parts c.args.slot p then q raw (raw_open (set parts c.args.slot then) c.args.slot q _ refl is) in
+    same
+    ∙ c.tick.ensures.again (ap is_open read ∙ was.open_yet) (ap (λ (x : Splice). is_connects x.conn.stage) read ∙ connects) (ap seeks read ∙ knows) (ap is_open (sym same) ∙ is.open_yet)
+    ∙ ap (λ (x : Splice). record x { conn = after_tick x.conn c.args.now }) read
