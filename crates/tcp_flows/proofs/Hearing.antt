@@ -39,20 +39,24 @@ use Rattle.flow_splice.specs.Splice.{Face, Splice, is_in_use}
 use Rattle.tcp_guest.specs.Segments.{change_at}
 use Rattle.flow_splice.specs.declared.Place.{Place}
 use Rattle.flow_splice.specs.declared.Place.TheVariants.{Empty, InUse, Resting}
+use Rattle.slirp_laws.specs.Agenda.{agenda}
 use Rattle.spliced_flows.specs.Core.{CoreHolds, Following, ends_of, number_of}
 use Rattle.spliced_flows.specs.Stands.{lot_without, slot_at}
+use Rattle.spliced_flows.proofs.Coming.{same_reports}
 use Rattle.spliced_flows.proofs.Heard.{core_heard, core_rested, rested_at, then_called}
 use Rattle.spliced_flows.proofs.Hosting.{Called}
 use Rattle.spliced_flows.proofs.Looking.{among_rests, given, none_rests, none_used, slot_rests}
 use Rattle.spliced_flows.proofs.Mistaken.{mistaken_is}
 use Rattle.spliced_flows.proofs.Options.{none_some, some_same}
+use Rattle.spliced_flows.proofs.Pumping.{differ_in}
 use Rattle.spliced_flows.proofs.Settling.{Seated}
 use Rattle.spliced_flows.proofs.Strayed.{core_strayed, owner_told}
 use Rattle.tcp_flows.specs.Kept.{IsFor, Kept, flows_of, part_at, part_of, slot_of}
 use Rattle.tcp_flows.specs.Rows.{table_at}
-use Rattle.tcp_flows.specs.Runs.{Between, Brings, HasLot, Hears, IsHeard, Leaves}
+use Rattle.tcp_flows.specs.Runs.{Between, Brings, HasLot, Hears, IsHeard, Leaves, LeavesOthers}
 use Rattle.tcp_flows.specs.declared.guest.Heard.{Heard}
 use Rattle.tcp_flows.specs.declared.guest.Heard.TheVariants.{Alone, Strange, Taken}
+use Rattle.tcp_flows.proofs.Beside.{calls_beside, carries_none, leaves_none}
 use Rattle.tcp_flows.proofs.Lists.{get_map, got_map}
 use Rattle.tcp_flows.proofs.Resting.{giver}
 use Rattle.tcp_flows.proofs.Seated.{ends, flow, followed, once, part_here, slot_here, slot_is, state_then, was}
@@ -233,6 +237,17 @@ module _ (config : Config) (now : ℕ) (table : Flows) (parts : List Splice) (op
         not_so : InUse ≡ Resting since → ⊥
         not_so is = cc
 
+    found_then : flow_of (number_of p) (book config (e ∷ past)).flows ≡ Some told
+    found_then =
+        subst (λ n. flow_of n (book config (e ∷ past)).flows ≡ Some told) (number_of_found (number_of p) (book config past).flows f was_is)
+        (found_by (is_on on.tuple) (book config (e ∷ past)).flows told (differ_in config (e ∷ past) brings.lawful) owner_then)
+
+    -- the calls leave what isn't the flow's
+    beside : LeavesOthers config (e ∷ past) made
+    beside =
+        calls_beside config (flow_settings config) p.face q.mac true is_ended_here is_known 0 now beat made (e ∷ past) serves.beats are done.lawful
+        (carries_none config (e ∷ past) (number_of p) told brings.lawful found_then)
+
     -- the core's relation goes on
     pub heard_in_use : Between config now false None new (made ++ e ∷ past) × Leaves config (e ∷ past) made
     heard_in_use = (
@@ -245,8 +260,12 @@ module _ (config : Config) (now : ℕ) (table : Flows) (parts : List Splice) (op
         work = done.work;
         at = done.at;
       },
-      record { left = done.left; tail = done.tail; blocked = done.blocked; counted = done.counted; next = done.next; taught = done.taught },
+      record { left = done.left; tail = done.tail; blocked = done.blocked; counted = done.counted; next = done.next; taught = done.taught; others = beside },
     )
+
+    -- no report is taken
+    pub reports_in_use : agenda (made ++ e ∷ past) ≡ agenda (e ∷ past)
+    reports_in_use = same_reports config p.face q.mac told (e ∷ past) 0 now true is_ended_here is_known made few
 
     pub lot_in_use : lot config (book config (e ∷ past)) on ≡ OfFlow
     lot_in_use = lot_used config (book config (e ∷ past)) on (ap uses owner_then ∙ in_use)
@@ -308,9 +327,6 @@ module _ (config : Config) (now : ℕ) (table : Flows) (parts : List Splice) (op
 
     rested_between : Between config now false due new (e ∷ past)
     rested_between = record { holds = rested_holds; settings = settings brings.settings; lawful = brings.lawful; work = brings.work; at = brings.at }
-
-    pub nothing_left : Leaves config (e ∷ past) []
-    nothing_left = record { left = refl; tail = refl; blocked = refl; counted = refl; next = refl; taught = refl }
 
     sizes_then : length new.flows.parts ≡ length new.flows.table.slots
     sizes_then = by (q.place) (renews tcp) refl
@@ -375,18 +391,21 @@ module _ (now : ℕ) (table : Flows) (parts : List Splice) (opened : ℕ) (old n
   pub hears_used : p.place ≡ InUse → new.flows ≡ flows_of (table_at false p.place q.place k (ends_of p.face) table) (set parts k q) opened → (made : List Entry) → HearsOne p q tcp now made → is_at_most_a_close made ≡ true
       → (heard : Heard) → heard ≡ (if turns_away p tcp now then Strange else Taken) → Hears now old new (ends_of p.face) tcp heard made
   hears_used used_place new_is made hears few heard is config e past on brings =
-      subst (λ h. IsHeard h config now new on (e ∷ past) made × HasLot h config new on (e ∷ past) × Leaves config (e ∷ past) made) (sym is)
+      subst (λ h. IsHeard h config now new on (e ∷ past) made × HasLot h config new on (e ∷ past) × Leaves config (e ∷ past) made × (agenda (made ++ e ∷ past) ≡ agenda (e ∷ past))) (sym is)
       (by (turns_away p tcp now) (reset_in_use config now table parts opened old new old_is slots_are kept k p q at some (settings config) as_old tcp small e past on brings used_place new_is made hears few))
     where
       done : Between config now false None new (made ++ e ∷ past) × Leaves config (e ∷ past) made
       done = heard_in_use config now table parts opened old new old_is slots_are kept k p q at some (settings config) as_old tcp small e past on brings used_place new_is made hears few
 
+      reports : agenda (made ++ e ∷ past) ≡ agenda (e ∷ past)
+      reports = reports_in_use config now table parts opened old new old_is slots_are kept k p q at some (settings config) as_old tcp small e past on brings used_place new_is made hears few
+
       its : lot config (book config (e ∷ past)) on ≡ OfFlow
       its = lot_in_use config now table parts opened old new old_is slots_are kept k p q at some (settings config) as_old tcp small e past on brings used_place new_is made hears few
 
-      by : (b : Bool) → is_reset config (book config (e ∷ past)) on ≡ b → IsHeard (if b then Strange else Taken) config now new on (e ∷ past) made × HasLot (if b then Strange else Taken) config new on (e ∷ past) × Leaves config (e ∷ past) made
-      by true reset = (done.0, (its, reset), done.1)
-      by false reset = (done.0, (its, reset), done.1)
+      by : (b : Bool) → is_reset config (book config (e ∷ past)) on ≡ b → IsHeard (if b then Strange else Taken) config now new on (e ∷ past) made × HasLot (if b then Strange else Taken) config new on (e ∷ past) × Leaves config (e ∷ past) made × (agenda (made ++ e ∷ past) ≡ agenda (e ∷ past))
+      by true reset = (done.0, (its, reset), done.1, reports)
+      by false reset = (done.0, (its, reset), done.1, reports)
 
   -- the flow at rest takes it
   module _ (since : ℕ) (at_rest : p.place ≡ Resting since) (is : q ≡ heard_at_rest p since tcp now) (new_is : new.flows ≡ flows_of (table_at (renews tcp) p.place q.place k (ends_of p.face) table) (set parts k q) opened) where
@@ -394,16 +413,16 @@ module _ (now : ℕ) (table : Flows) (parts : List Splice) (opened : ℕ) (old n
     hears_rested heard left stayed config e past on brings = by q.place refl
       where
         leaves : Leaves config (e ∷ past) []
-        leaves = record { left = refl; tail = refl; blocked = refl; counted = refl; next = refl; taught = refl }
+        leaves = leaves_none config (e ∷ past)
 
-        by : (y : Place) → q.place ≡ y → IsHeard heard config now new on (e ∷ past) [] × HasLot heard config new on (e ∷ past) × Leaves config (e ∷ past) []
+        by : (y : Place) → q.place ≡ y → IsHeard heard config now new on (e ∷ past) [] × HasLot heard config new on (e ∷ past) × Leaves config (e ∷ past) [] × (agenda (e ∷ past) ≡ agenda (e ∷ past))
         by Empty gone =
             let out = heard_out config now table parts opened old new old_is slots_are kept k p q at some (settings config) as_old tcp small e past on brings since at_rest is new_is gone in
-            subst (λ h. IsHeard h config now new on (e ∷ past) [] × HasLot h config new on (e ∷ past) × Leaves config (e ∷ past) []) (sym (left gone)) (out.0, out.1, leaves)
+            subst (λ h. IsHeard h config now new on (e ∷ past) [] × HasLot h config new on (e ∷ past) × Leaves config (e ∷ past) [] × (agenda (e ∷ past) ≡ agenda (e ∷ past))) (sym (left gone)) (out.0, out.1, leaves, refl)
         by InUse used = absurd (not_used config now table parts opened old new old_is slots_are kept k p q at some (settings config) as_old tcp small e past on brings since at_rest is new_is used)
         by (Resting m) rests =
             let on_it = heard_on config now table parts opened old new old_is slots_are kept k p q at some (settings config) as_old tcp small e past on brings since at_rest is new_is m rests in
-            subst (λ h. IsHeard h config now new on (e ∷ past) [] × HasLot h config new on (e ∷ past) × Leaves config (e ∷ past) []) (sym (stayed (λ empty. cc (sym rests ∙ empty)))) (on_it.0, on_it.1, leaves)
+            subst (λ h. IsHeard h config now new on (e ∷ past) [] × HasLot h config new on (e ∷ past) × Leaves config (e ∷ past) [] × (agenda (e ∷ past) ≡ agenda (e ∷ past))) (sym (stayed (λ empty. cc (sym rests ∙ empty)))) (on_it.0, on_it.1, leaves, refl)
 
 -- where a flow that rested left, no slot has its ends
 pub none_after : (table : Flows) (parts : List Splice) → table.slots ≡ map slot_of parts → AreKept table.slots table.turns → (k : ℕ) (p q : Splice) → slice_get parts k ≡ Some p → (since : ℕ) → p.place ≡ Resting since → q.place ≡ Empty → (again : Bool)
@@ -421,7 +440,8 @@ strayed now kept tuple tcp none sizes config e past on brings =
     let holds = core_strayed config kept.flows past now None brings.holds sizes e on brings.comes none_on brings.next in (
       (refl, record { holds = holds; settings = brings.settings; lawful = brings.lawful; work = brings.work; at = brings.at }),
       lot_alone config now (due_for_flows config (book config (e ∷ past)) (next_number (e ∷ past))) kept.flows (e ∷ past) on holds sizes none_on,
-      record { left = refl; tail = refl; blocked = refl; counted = refl; next = refl; taught = refl },
+      leaves_none config (e ∷ past),
+      refl,
     )
 
 -- one that is alone then has left its place

@@ -1,4 +1,5 @@
 pub mod Beginning
+pub mod Beside
 pub mod Changing
 pub mod Following
 pub mod Hearing
@@ -11,6 +12,7 @@ pub mod Reporting
 pub mod Resting
 pub mod Seated
 pub mod Sending
+pub mod Staying
 pub mod Ticked
 pub mod Ticking
 pub mod Wanting

@@ -4,9 +4,6 @@ use Rattle.std.specs.Prelude.{Contains}
 use Rattle.poll_list.specs.declared.Want.{Want}
 use Rattle.poll_list.specs.declared.Who.TheVariants.{Tcp as OnTcp}
 use Rattle.world_face.specs.Journal.{Close, Entry}
-use Rattle.world_face.specs.Frames.{is_blocked, tail}
-use Rattle.run_laws.specs.Sockets.{next_number}
-use Rattle.slirp_laws.specs.Answers.{identification, left}
 use Rattle.core_flows.specs.Only.{AreOf}
 use Rattle.run_laws.specs.Shape.{is_ended}
 use Rattle.run_laws.specs.Sockets.{first, open_sockets}
@@ -14,10 +11,12 @@ use Rattle.core_flows.specs.Seats.{Once}
 use Rattle.net_octets.specs.declared.Mac.{Mac}
 use Rattle.host_policy.specs.Addresses.{Config}
 use Rattle.flow_table.specs.Slots.{AreKept, Flows}
+use Rattle.flow_laws.specs.Event.{Story}
 use Rattle.flow_book.specs.Book.{book, scene}
 use Rattle.flow_book.specs.Flows.{Flow, comes_directly, comes_last, flow_of, guest_is_known, is_it}
 use Rattle.flow_book.specs.Laws.{flow_settings}
 use Rattle.slirp_laws.specs.Agenda.{agenda}
+use Rattle.slirp_laws.specs.Laws.{Lawful}
 use Rattle.flow_splice.specs.Entries.{AreEvents}
 use Rattle.flow_splice.specs.Hosts.{IsAsOld}
 use Rattle.flow_splice.specs.Serves.{GoesOn, Serves, TicksOn}
@@ -33,7 +32,8 @@ use Rattle.spliced_flows.proofs.Reported.{core_reported, core_ticked, told, tick
 use Rattle.spliced_flows.proofs.Coming.{same_reports}
 use Rattle.tcp_flows.specs.Kept.{IsFor, Kept, flows_of, slot_of, with_flows}
 use Rattle.tcp_flows.specs.Rows.{table_at}
-use Rattle.tcp_flows.specs.Runs.{AfterReport, AfterTick, Between, ClosesOne, Reports, RestsEnd, Ticks}
+use Rattle.tcp_flows.specs.Runs.{AfterReport, AfterTick, Between, ClosesOne, LeavesOthers, Reports, RestsEnd, Ticks}
+use Rattle.tcp_flows.proofs.Beside.{calls_beside, carries_none, leaves_none, leaves_then}
 use Rattle.tcp_flows.proofs.Seated.{ends, flow, followed, learnt_here, once, part_here, slot_here, state_then, was}
 
 module _ (config : Config) (now : ℕ) (aged : Bool) (table : Flows) (parts : List Splice) (opened : ℕ) (old new : Kept) (old_is : old.flows ≡ flows_of table parts opened) (past : List Entry) (between : Between config now aged None old past)
@@ -85,6 +85,11 @@ module _ (config : Config) (now : ℕ) (aged : Bool) (table : Flows) (parts : Li
   then_holds made is =
       subst (λ s. CoreHolds config now aged None s (made ++ past)) (sym (new_is ∙ state_then config now aged None table parts opened past holds slots_are kept k p at some q rests_on)) is
 
+  -- the calls leave what isn't the flow's
+  beside : (directly : Bool) (made : List Entry) (beats : Story) → AreEvents (flow_settings config) p.face q.mac directly is_ended_here is_known 0 now f.story made beats → Lawful config (made ++ past) → LeavesOthers config past made
+  beside directly made beats are lawful =
+      calls_beside config (flow_settings config) p.face q.mac directly is_ended_here is_known 0 now f.story made past beats are lawful (carries_none config past (number_of p) f between.lawful was_is)
+
   -- ---- a report
 
   module _ (made : List Entry) (serves : Serves (flow_settings config) q false is_ended_here is_known 0 now f.story made) (read write : Bool) (items : List Want)
@@ -109,7 +114,7 @@ module _ (config : Config) (now : ℕ) (aged : Bool) (table : Flows) (parts : Li
         work = heard.work;
         at = heard.at;
       };
-      leaves = record { left = heard.left; tail = heard.tail; blocked = heard.blocked; counted = heard.counted; next = heard.next; taught = heard.taught };
+      leaves = record { left = heard.left; tail = heard.tail; blocked = heard.blocked; counted = heard.counted; next = heard.next; taught = heard.taught; others = beside false made serves.beats reports heard.lawful };
       agenda = heard.agenda;
     }
 
@@ -159,7 +164,7 @@ module _ (config : Config) (now : ℕ) (aged : Bool) (table : Flows) (parts : Li
         work = timed.work;
         at = timed.at;
       };
-      leaves = record { left = timed.left; tail = timed.tail; blocked = timed.blocked; counted = timed.counted; next = timed.next; taught = timed.taught };
+      leaves = record { left = timed.left; tail = timed.tail; blocked = timed.blocked; counted = timed.counted; next = timed.next; taught = timed.taught; others = beside is_direct made serves.beats times timed.lawful };
       agenda = same_reports config p.face q.mac f past 0 now is_direct is_ended_here is_known made few;
       ended = still_on made few;
     }
@@ -180,7 +185,7 @@ no_work read write = record { reading = []; writing = []; is = refl; writes = re
 pub nothing_reported : (now n : ℕ) (read write : Bool) (kept : Kept) → Reports now n read write kept kept []
 nothing_reported now n read write kept config aged past items between reported = record {
   between = between;
-  leaves = record { left = refl; tail = refl; blocked = refl; counted = refl; next = refl; taught = refl };
+  leaves = leaves_none config past;
   agenda = skipped (record { of = OnTcp n; read = read; write = write }) items (agenda past) reported;
 }
 
@@ -214,7 +219,7 @@ pub nothing_ticked : (now : ℕ) (Closes : List Entry → Type 0) (kept : Kept) 
 nothing_ticked now Closes kept none config past yet between = (
   record {
     between = between;
-    leaves = record { left = refl; tail = refl; blocked = refl; counted = refl; next = refl; taught = refl };
+    leaves = leaves_none config past;
     agenda = refl;
     ended = refl;
   },
@@ -230,14 +235,7 @@ ticks_then now aged One Two Both old mid new first second one two both config pa
     let lists : (second ++ first) ++ past ≡ second ++ (first ++ past) = append_assoc second first past in (
       record {
         between = subst (Between config now true None new) (sym lists) b.0.between;
-        leaves = record {
-          left = ap (left config) lists ∙ b.0.leaves.left ∙ a.0.leaves.left;
-          tail = ap tail lists ∙ b.0.leaves.tail ∙ a.0.leaves.tail;
-          blocked = ap is_blocked lists ∙ b.0.leaves.blocked ∙ a.0.leaves.blocked;
-          counted = ap identification lists ∙ b.0.leaves.counted ∙ a.0.leaves.counted;
-          next = ap next_number lists ∙ b.0.leaves.next ∙ a.0.leaves.next;
-          taught = ap (taught config) lists ∙ b.0.leaves.taught ∙ a.0.leaves.taught;
-        };
+        leaves = leaves_then config past first second a.0.leaves b.0.leaves;
         agenda = ap agenda lists ∙ b.0.agenda ∙ a.0.agenda;
         ended = ap (is_ended config) lists ∙ b.0.ended ∙ a.0.ended;
       },

@@ -1,12 +1,13 @@
 -- A flow sent what it owed, in a run: how the pump of a slot uses what is proved of the core.
-use Rattle.std.proofs.Common.{refl, ◌≡◌, ℕ, zero, suc, ◌+◌, ◌<◌, Bool, true, false, List, [], ◌∷◌, ◌++◌, get_or, length, map, set, Some, None, Option, slice_get, ◌⊎◌, inl, inr, ap, sym, ◌∙◌, subst, append_assoc, arith}
+use Rattle.std.proofs.Common.{refl, ◌≡◌, ℕ, zero, suc, ◌+◌, ◌<◌, Bool, true, false, List, [], ◌∷◌, ◌++◌, filter, get_or, length, map, set, Some, None, Option, slice_get, ◌⊎◌, inl, inr, ap, sym, ◌∙◌, subst, append_assoc, arith, if◌then◌else◌}
 use Rattle.std.specs.Prelude.{Contains}
 use Rattle.std.specs.List.{list_any}
 use Rattle.net_octets.specs.declared.Mac.{Mac}
-use Rattle.world_face.specs.Journal.{AreAllowed, Entry, Follows as AreFollowing, LinkWrite}
-use Rattle.world_face.specs.Frames.{MayFrame, is_blocked, tail}
+use Rattle.world_face.specs.Journal.{AreAllowed, Close, Entry, Follows as AreFollowing, LinkWrite}
+use Rattle.world_face.specs.Frames.{MayFrame, is_blocked, opens, tail}
 use Rattle.world_face.specs.declared.Io.TheVariants.{Failed as IoFailed}
 use Rattle.host_policy.specs.Addresses.{Config, address}
+use Rattle.run_laws.specs.Moments.{moment}
 use Rattle.run_laws.specs.Sockets.{next_number}
 use Rattle.flow_table.specs.Slots.{AreKept, Flows}
 use Rattle.flow_table.specs.declared.Tuple.{Tuple}
@@ -15,10 +16,14 @@ use Rattle.flow_laws.specs.Close.{is_in_use, rests_since}
 use Rattle.flow_laws.specs.Event.{Story}
 use Rattle.flow_laws.specs.Flow.{is_closed}
 use Rattle.flow_laws.specs.Lawful.{IsLawful}
-use Rattle.flow_book.specs.Book.{book, scene}
-use Rattle.flow_book.specs.Flows.{Flow, comes_last, flow_of, guest_is_known}
+use Rattle.flow_book.specs.Book.{book, is_young, scene}
+use Rattle.flow_book.specs.Doings.{Nothing, doing, doing_by}
+use Rattle.flow_book.specs.Flows.{Flow, Rest, comes_last, flow_of, guest_is_known}
 use Rattle.flow_book.specs.Laws.{flow_settings}
 use Rattle.flow_book.specs.Taught.{is_pair, taught}
+use Rattle.slirp_laws.specs.Agenda.{agenda}
+use Rattle.slirp_laws.specs.Laws.{Lawful}
+use Rattle.slirp_laws.proofs.Bools.{first_of, second_of}
 use Rattle.core_flows.specs.Seats.{Once}
 use Rattle.core_flows.proofs.Seats.{differ, same_or_not}
 use Rattle.core_flows.proofs.Tables.{get_set_at, get_set_other, get_set_same}
@@ -28,22 +33,24 @@ use Rattle.flow_splice.specs.Entries.{AreEvents, ident_after}
 use Rattle.flow_splice.specs.Follows.{FollowsAt}
 use Rattle.flow_splice.specs.Sends.{IsClear, IsPumped, SendsOn}
 use Rattle.flow_splice.specs.Serves.{Serves}
-use Rattle.flow_splice.specs.Shapes.{IsPumpWork, are_sending}
+use Rattle.flow_splice.specs.Shapes.{IsPumpWork, are_sending, is_sending, is_write}
 use Rattle.flow_splice.specs.Splice.{Face, Splice, is_at_rest, is_in_use as is_used_at, is_open}
 use Rattle.flow_splice.specs.declared.Place.{Place}
 use Rattle.flow_splice.specs.declared.Place.TheVariants.{Empty, InUse, Resting}
 use Rattle.flow_splice.specs.declared.Pumped.{Pumped}
 use Rattle.flow_splice.specs.declared.Pumped.TheVariants.{Clear, Blocked, Failed}
 use Rattle.flow_splice.proofs.Promises.{lawful_is, place_is, rest_is, rest_none}
-use Rattle.spliced_flows.specs.Core.{CoreHolds, Following, ends_of, number_of}
+use Rattle.spliced_flows.specs.Core.{CoreHolds, Following, ends_of, mac_of, number_of}
 use Rattle.spliced_flows.specs.Stands.{close_if, slot_at}
 use Rattle.spliced_flows.proofs.Known.{end_is_learnt}
 use Rattle.spliced_flows.proofs.Options.{none_some, some_same}
+use Rattle.spliced_flows.proofs.Others.{holds_quiet}
 use Rattle.spliced_flows.proofs.Pumped.{core_pumped, pump_begins, pump_sent, state_at}
-use Rattle.spliced_flows.proofs.Pumping.{Broke, Sent, breaks}
+use Rattle.spliced_flows.proofs.Pumping.{Broke, Sent, breaks, rests_written}
 use Rattle.tcp_flows.specs.Kept.{IsFor, Kept, flows_of, part_of, slot_of}
 use Rattle.tcp_flows.specs.Rows.{AreMarked, AreOurs, AreServed, IsMarked, Moves, MovesAt, table_at}
-use Rattle.tcp_flows.specs.Runs.{AfterPump, Pumps, Sendable}
+use Rattle.tcp_flows.specs.Runs.{AfterPump, LeavesOthers, Pumps, Sendable}
+use Rattle.tcp_flows.proofs.Beside.{beside_none, beside_then, calls_beside, carries_none}
 use Rattle.tcp_flows.proofs.Following.{clear_empty}
 use Rattle.tcp_flows.proofs.Keeping.{ours_then, raw_here, raw_placed, read_here, served_same}
 use Rattle.tcp_flows.proofs.Lists.{has_place}
@@ -150,6 +157,29 @@ unmarked parts owing k p q at fit clear are j r here = elim (same_or_not j k) [
 
 -- ---- the record of a run
 
+-- writes on the link and closes take no report
+reports_stay : (made past : List Entry) → are_sending made ≡ true → agenda (made ++ past) ≡ agenda past
+reports_stay [] past is = refl
+reports_stay (e ∷ []) past is = by e is
+  where
+    by : (e : Entry) → is_write e ≡ true → agenda (e ∷ past) ≡ agenda past
+    by (LinkWrite octets answer) is = refl
+    by _ is = absurd cc
+reports_stay (e ∷ d ∷ made) past is = by e (first_of (is_sending e) (are_sending (d ∷ made)) is) ∙ reports_stay (d ∷ made) past (second_of (is_sending e) (are_sending (d ∷ made)) is)
+  where
+    by : (e : Entry) → is_sending e ≡ true → agenda (e ∷ d ∷ made ++ past) ≡ agenda (d ∷ made ++ past)
+    by (LinkWrite octets answer) is = refl
+    by (Close socket) is = refl
+    by _ is = absurd cc
+
+-- a write that failed is nothing to flows
+nothing_goes : (config : Config) (octets : List ℕ) (past : List Entry) → doing config past (LinkWrite octets IoFailed) ≡ Nothing
+nothing_goes config octets past = by (tail past)
+  where
+    by : (left : List ℕ) → doing_by None (opens (LinkWrite octets IoFailed) left) (LinkWrite octets IoFailed) ≡ Nothing
+    by [] = refl
+    by (x ∷ left) = refl
+
 module _ (config : Config) (now : ℕ) (aged : Bool) (table : Flows) (parts : List Splice) (opened : ℕ) (old new : Kept) (old_is : old.flows ≡ flows_of table parts opened) (past : List Entry) (link next : LinkState) (none : link.tail ≡ []) (first last : ℕ)
     (sendable : Sendable config now aged old link first past) (slots_are : table.slots ≡ map slot_of parts) (kept : AreKept table.slots table.turns) (k : ℕ) (p mid q : Splice) (at : slice_get parts k ≡ Some p) (some : p.place ≡ Empty → ⊥)
     (known_guest : p.mac ≡ None → ⊥) (behind : p.face.vhost.0 ≡ old.vhost) (stays : IsPumped None p mid) (stayed : IsStayed p.place mid q)
@@ -225,18 +255,18 @@ module _ (config : Config) (now : ℕ) (aged : Bool) (table : Flows) (parts : Li
       pump_begins config (flows_of table parts opened) past now aged holds sendable.between.at sendable.between.lawful sendable.between.work k p mid (ends_of p.face) f here_is slot_is ends_are stays.face was_is once_is vhost_is
       to (stays.mac_is ∙ mac_was) taught_is learnt_is sendable.nothing clear_is first sendable.counted
 
-  -- ---- the link took it, or is blocked
+  -- ---- of the calls of which none failed
 
-  module _ (sending : are_sending made ≡ true) where
-    sent : Sent config p.face to f past first now ended known made beats
+  module _ (es : List Entry) (sending : are_sending es ≡ true) (allowed_of : AreAllowed es) (events_of : AreEvents (flow_settings config) p.face (Some to) false ended known first now f.story es beats) (framed_of : AreFollowing MayFrame (es ++ past)) where
+    sent : Sent config p.face to f past first now ended known es beats
     sent =
         pump_sent config (flows_of table parts opened) past now aged holds sendable.between.at sendable.between.lawful sendable.between.work k p mid (ends_of p.face) f here_is slot_is ends_are stays.face was_is once_is vhost_is
-        to (stays.mac_is ∙ mac_was) taught_is learnt_is sendable.nothing clear_is first sendable.counted made beats sending allowed events serves.follows framed
+        to (stays.mac_is ∙ mac_was) taught_is learnt_is sendable.nothing clear_is first sendable.counted es beats sending allowed_of events_of serves.follows framed_of
 
-    holds_mid : CoreHolds config now aged None (state_at (flows_of table parts opened) k (ends_of p.face) p mid) (made ++ past)
+    holds_mid : CoreHolds config now aged None (state_at (flows_of table parts opened) k (ends_of p.face) p mid) (es ++ past)
     holds_mid =
         core_pumped config (flows_of table parts opened) past now aged holds sendable.between.at sendable.between.lawful sendable.between.work k p mid (ends_of p.face) f here_is slot_is ends_are stays.face was_is once_is vhost_is
-        to (stays.mac_is ∙ mac_was) taught_is learnt_is sendable.nothing clear_is first sendable.counted made beats sending allowed events serves.follows framed
+        to (stays.mac_is ∙ mac_was) taught_is learnt_is sendable.nothing clear_is first sendable.counted es beats sending allowed_of events_of serves.follows framed_of
 
     -- one that rested rests on
     rests_yet : (since : ℕ) → p.place ≡ Resting since → rests_since f.story ≡ Some since → is_closed f.story ≡ true → (x : Place) → mid.place ≡ x → mid.place ≡ Resting since
@@ -264,19 +294,25 @@ module _ (config : Config) (now : ℕ) (aged : Bool) (table : Flows) (parts : Li
     new_mid : new.flows ≡ flows_of (table_at false p.place mid.place k (ends_of p.face) table) (set parts k mid) opened
     new_mid = subst (λ (x : Splice). new.flows ≡ flows_of (table_at false p.place x.place k (ends_of p.face) table) (set parts k x) opened) same new_is
 
-    holds_then : CoreHolds config now aged None new.flows (made ++ past)
+    holds_then : CoreHolds config now aged None new.flows (es ++ past)
     holds_then =
-        subst (λ s. CoreHolds config now aged None s (made ++ past)) (sym (new_mid ∙ state_then config now aged None table parts opened past holds slots_are kept k p at some mid rests_on)) holds_mid
+        subst (λ s. CoreHolds config now aged None s (es ++ past)) (sym (new_mid ∙ state_then config now aged None table parts opened past holds slots_are kept k p at some mid rests_on)) holds_mid
+
+  -- ---- the link took it, or is blocked
+
+  module _ (sending : are_sending made ≡ true) where
+    abbrev taken : Sent config p.face to f past first now ended known made beats
+    taken = sent made sending allowed events framed
 
     last_is : last ≡ ident_after first beats
     last_is = (sends.0 (flow_settings config) f.story now ended known (omega arith) follows_yet).1
 
     went_on : Sendable config now aged new next last (made ++ past)
     went_on = record {
-      between = record { holds = holds_then; settings = settings sendable.between.settings; lawful = sent.lawful; work = sent.work; at = sent.at };
+      between = record { holds = holds_then made sending allowed events framed; settings = settings sendable.between.settings; lawful = taken.lawful; work = taken.work; at = taken.at };
       keeps = sends.1 past sendable.keeps;
-      nothing = sent.left;
-      counted = sent.counted ∙ sym last_is;
+      nothing = taken.left;
+      counted = taken.counted ∙ sym last_is;
     }
 
   -- ---- the link failed
@@ -286,18 +322,41 @@ module _ (config : Config) (now : ℕ) (aged : Bool) (table : Flows) (parts : Li
       breaks config p.face to f past first now ended known vhost_is octets before beats begins sending (subst AreAllowed is allowed)
       (subst (λ (es : List Entry). AreEvents (flow_settings config) p.face (Some to) false ended known first now f.story es beats) is events) lawful_then (subst (λ (es : List Entry). AreFollowing MayFrame (es ++ past)) is framed)
 
+  -- the calls leave what isn't the flow's
+  beside : Lawful config (made ++ past) → LeavesOthers config past made
+  beside lawful =
+      calls_beside config (flow_settings config) p.face (Some to) false ended known first now f.story made past beats events lawful (carries_none config past (number_of p) f sendable.between.lawful was_is)
+
   abbrev Then : Pumped → List Entry → Type 0
-  Then result es = AfterPump result config now aged new next last (es ++ past) × (next_number (es ++ past) ≡ next_number past)
+  Then result es = AfterPump result config now aged new next last (es ++ past) × (next_number (es ++ past) ≡ next_number past) × LeavesOthers config past es × (agenda (es ++ past) ≡ agenda past)
+
+  -- the last write took nothing
+  events_before : (octets : List ℕ) (before : List Entry) → AreEvents (flow_settings config) p.face (Some to) false ended known first now f.story (LinkWrite octets IoFailed ∷ before) beats → AreEvents (flow_settings config) p.face (Some to) false ended known first now f.story before beats
+  events_before octets before (rest, are, inl (seg, offers, is)) = subst (AreEvents (flow_settings config) p.face (Some to) false ended known first now f.story before) (sym is) are
+  events_before octets before (rest, are, inr (request, is)) = subst (AreEvents (flow_settings config) p.face (Some to) false ended known first now f.story before) (sym is) are
+
+  holds_failed : (octets : List ℕ) (before : List Entry) → made ≡ LinkWrite octets IoFailed ∷ before → are_sending before ≡ true → CoreHolds config now aged None new.flows (LinkWrite octets IoFailed ∷ before ++ past)
+  holds_failed octets before is sending =
+      let holds_before =
+      holds_then before sending (subst AreAllowed is allowed).1
+      (events_before octets before (subst (λ (es : List Entry). AreEvents (flow_settings config) p.face (Some to) false ended known first now f.story es beats) is events)) (subst (λ (es : List Entry). AreFollowing MayFrame (es ++ past)) is framed).1 in
+      holds_quiet number_of mac_of (Following config now) (Following config now) config new.flows (before ++ past) (LinkWrite octets IoFailed) aged None (nothing_goes config octets (before ++ past)) (omega arith)
+      (ap (λ (l : List Rest). if aged then filter (is_young (moment (before ++ past))) l else l) (rests_written config octets IoFailed (before ++ past))) (λ r story is. is) holds_before
 
   broken : (octets : List ℕ) (before : List Entry) → made ≡ LinkWrite octets IoFailed ∷ before → are_sending before ≡ true → Then Failed made
   broken octets before is sending =
       let over = broke octets before is sending in
-      subst (Then Failed) (sym is) (record { lawful = over.lawful; over = over.over; asks = over.has.due ∙ ap (λ b. close_if b (number_of p)) over.sent.well }, over.sent.next)
+      subst (Then Failed) (sym is) (
+        record { holds = holds_failed octets before is sending; lawful = over.lawful; over = over.over; asks = over.has.due ∙ ap (λ b. close_if b (number_of p)) over.sent.well },
+        over.sent.next,
+        subst (LeavesOthers config past) is (beside (subst (λ (es : List Entry). Lawful config (es ++ past)) (sym is) over.lawful)),
+        reports_stay before past sending,
+      )
 
   -- The pump of a slot goes on with the record of a run, and no number of a socket was given.
   pub pump_after : (result : Pumped) → IsPumpWork result made → Then result made
-  pump_after Clear works = (went_on works, (sent works).next)
-  pump_after Blocked works = (went_on works, (sent works).next)
+  pump_after Clear works = (went_on works, (taken works).next, beside (taken works).lawful, reports_stay made past works)
+  pump_after Blocked works = (went_on works, (taken works).next, beside (taken works).lawful, reports_stay made past works)
   pump_after Failed works = broken works.0 works.1 works.2 works.3
 
 -- ---- for every run
@@ -312,7 +371,7 @@ pumps_of now table parts opened old new old_is link next none first last slots_a
 
 -- nothing was sent
 pub pumps_none : (now : ℕ) (kept : Kept) (link : LinkState) (ident : ℕ) → Pumps now kept kept link link ident ident Clear []
-pumps_none now kept link ident config aged past sendable = (sendable, refl)
+pumps_none now kept link ident config aged past sendable = (sendable, refl, beside_none config past, refl)
 
 -- one pump after another
 pub pumps_then : (now : ℕ) (old mid new : Kept) (one two three : LinkState) (first second third : ℕ) (result : Pumped) (before made : List Entry) → Pumps now old mid one two first second Clear before
@@ -320,7 +379,9 @@ pub pumps_then : (now : ℕ) (old mid new : Kept) (one two three : LinkState) (f
 pumps_then now old mid new one two three first second third result before made some more config aged past sendable =
     let had = some config aged past sendable in
     let has = more config aged (before ++ past) had.0 in
-    subst (λ (es : List Entry). AfterPump result config now aged new three third es × (next_number es ≡ next_number past)) (sym (append_assoc made before past)) (has.0, has.1 ∙ had.1)
+    let went =
+    subst (λ (es : List Entry). AfterPump result config now aged new three third es × (next_number es ≡ next_number past)) (sym (append_assoc made before past)) (has.0, has.1 ∙ had.1) in
+    (went.0, went.1, beside_then config past before made had.2 has.2, ap agenda (append_assoc made before past) ∙ has.3 ∙ had.3)
 
 -- ---- how many may owe something
 

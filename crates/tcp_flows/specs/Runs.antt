@@ -3,7 +3,7 @@ use Rattle.std.specs.Prelude.{◌≡◌, ℕ, ◌<◌, Bool, true, false, List, 
 use Rattle.poll_list.specs.declared.Want.{Want}
 use Rattle.poll_list.specs.declared.Who.TheVariants.{Tcp as OnTcp}
 use Rattle.world_face.specs.Journal.{Entry, Call, CallConnect, Close, Connect}
-use Rattle.world_face.specs.Frames.{LinkFailed, is_blocked, tail}
+use Rattle.world_face.specs.Frames.{LinkFailed, is_blocked, partial, tail}
 use Rattle.world_face.specs.declared.Made.TheVariants.{Done}
 use Rattle.net_octets.specs.declared.Endpoint.{Endpoint}
 use Rattle.net_octets.specs.declared.Mac.{Mac}
@@ -16,12 +16,17 @@ use Rattle.flow_book.specs.Flows.{Flow, Rest, flow_of}
 use Rattle.flow_book.specs.Lots.{due_for_flows, is_reset, lot, OfFlow}
 use Rattle.flow_book.specs.Segments.{OnTuple}
 use Rattle.flow_book.specs.Taught.{taught}
-use Rattle.run_laws.specs.Moments.{moment}
+use Rattle.run_laws.specs.Fragments.{sets}
+use Rattle.run_laws.specs.Guests.{known}
+use Rattle.run_laws.specs.Moments.{moment, waits}
 use Rattle.run_laws.specs.Shape.{By, Over, is_ended, phase}
-use Rattle.run_laws.specs.Sockets.{next_number}
+use Rattle.run_laws.specs.Sockets.{is_among, kind_of, next_number, open_sockets}
 use Rattle.slirp_laws.specs.Agenda.{agenda}
 use Rattle.slirp_laws.specs.Answers.{identification, left}
+use Rattle.slirp_laws.specs.Asking.{errand_left}
 use Rattle.slirp_laws.specs.Laws.{Lawful, joins}
+use Rattle.slirp_laws.specs.Relayed.{associations}
+use Rattle.slirp_laws.specs.Said.{last_occasion}
 use Rattle.connection_steps.specs.Seen.{segment_of}
 use Rattle.stream_netdev.specs.Keeps.{Keeps}
 use Rattle.stream_netdev.specs.State.{LinkState}
@@ -32,7 +37,7 @@ use Rattle.flow_splice.specs.Splice.{Splice}
 use Rattle.spliced_flows.specs.Core.{CoreHolds, Following, mac_of, number_of}
 use Rattle.spliced_flows.specs.Stands.{InWork, IsLast, lot_without}
 use Rattle.tcp_flows.specs.Kept.{IsFor, Kept}
-use Rattle.tcp_flows.specs.Reading.{IsNextOpen, NoneIsAbove}
+use Rattle.tcp_flows.specs.Reading.{IsNextOpen, NoneInSlots, NoneIsAbove}
 use Rattle.tcp_flows.specs.declared.guest.Heard.{Heard}
 use Rattle.tcp_flows.specs.declared.guest.Heard.TheVariants.{Taken, Strange, Alone}
 
@@ -45,6 +50,19 @@ pub record Between (config : Config) (now : ℕ) (aged : Bool) (task : Option Ca
   pub work : InWork config past
   pub at : moment past ≡ now
 
+-- What calls for flows leave of what isn't theirs: what a datagram asks for, the associations, the guests, the fragments that wait, what was read of a
+-- frame, how often the run waited, and what came last that an answer may be owed for. No socket is opened, and each is of the kind that it was.
+pub record LeavesOthers (config : Config) (past made : List Entry) : Type 0 where
+  pub errand : errand_left config (made ++ past) ≡ errand_left config past
+  pub list : associations config (made ++ past) ≡ associations config past
+  pub known : known config (made ++ past) ≡ known config past
+  pub sets : sets config (made ++ past) ≡ sets config past
+  pub partly : partial (made ++ past) ≡ partial past
+  pub waits : waits (made ++ past) ≡ waits past
+  pub kinds : (n : ℕ) → kind_of n (made ++ past) ≡ kind_of n past
+  pub opens : (n : ℕ) → is_among n (open_sockets (made ++ past)) ≡ true → is_among n (open_sockets past) ≡ true
+  pub occasion : last_occasion config (made ++ past) ≡ last_occasion config past
+
 -- What calls on sockets leave of the record as it was.
 pub record Leaves (config : Config) (past made : List Entry) : Type 0 where
   pub left : left config (made ++ past) ≡ left config past
@@ -53,6 +71,7 @@ pub record Leaves (config : Config) (past made : List Entry) : Type 0 where
   pub counted : identification (made ++ past) ≡ identification past
   pub next : next_number (made ++ past) ≡ next_number past
   pub taught : taught config (made ++ past) ≡ taught config past
+  pub others : LeavesOthers config past made
 
 -- ---- what the host reported of a socket
 
@@ -91,6 +110,10 @@ abbrev pub Ticks : (now : ℕ) → (aged : Bool) → (Closes : List Entry → Ty
 Ticks now aged Closes old new made =
     (config : Config) (past : List Entry) → is_ended config past ≡ false → Between config now aged None old past → AfterTick config now true new past made × Closes made
 
+-- where no slot has a flow nothing is called, and nothing changes
+abbrev pub IsIdle : (old new : Kept) → List Entry → Type 0
+IsIdle old new made = NoneInSlots old.flows.parts → (new ≡ old) × (made ≡ [])
+
 -- Some of the rests that are over have ended: the slots stand for the flows of the record, of which these rest.
 pub record Ending (config : Config) (now : ℕ) (kept : Kept) (past : List Entry) : Type 0 where
   pub rests : List Rest
@@ -124,8 +147,9 @@ pub record Sendable (config : Config) (now : ℕ) (aged : Bool) (kept : Kept) (l
   pub nothing : left config past ≡ []
   pub counted : identification past ≡ ident
 
--- the link failed: the run is over
-pub record Broken (config : Config) (past : List Entry) : Type 0 where
+-- the link failed: the run is over, and the slots stand for the flows of its record yet
+pub record Broken (config : Config) (now : ℕ) (aged : Bool) (kept : Kept) (past : List Entry) : Type 0 where
+  pub holds : CoreHolds config now aged None kept.flows past
   pub lawful : Lawful config past
   pub over : phase config past ≡ Over (By LinkFailed)
   pub asks : due_for_flows config (book config past) (next_number past) ≡ None
@@ -133,12 +157,16 @@ pub record Broken (config : Config) (past : List Entry) : Type 0 where
 abbrev pub AfterPump : Pumped → (config : Config) → (now : ℕ) → (aged : Bool) → Kept → LinkState → (ident : ℕ) → List Entry → Type 0
 AfterPump Clear config now aged kept link ident past = Sendable config now aged kept link ident past
 AfterPump Blocked config now aged kept link ident past = Sendable config now aged kept link ident past
-AfterPump Failed config now aged kept link ident past = Broken config past
+AfterPump Failed config now aged kept link ident past = Broken config now aged kept past
 
 abbrev pub Pumps : (now : ℕ) → (old new : Kept) → (link next : LinkState) → (first last : ℕ) → Pumped → List Entry → Type 0
 Pumps now old new link next first last result made =
     (config : Config) (aged : Bool) (past : List Entry) → Sendable config now aged old link first past
-    → AfterPump result config now aged new next last (made ++ past) × (next_number (made ++ past) ≡ next_number past)
+    → AfterPump result config now aged new next last (made ++ past) × (next_number (made ++ past) ≡ next_number past) × LeavesOthers config past made × (agenda (made ++ past) ≡ agenda past)
+
+-- where no slot has a flow a pump calls nothing, changes nothing and answers Clear
+abbrev pub IsIdlePump : (old new : Kept) → (link next : LinkState) → (first last : ℕ) → Pumped → List Entry → Type 0
+IsIdlePump old new link next first last result made = NoneInSlots old.flows.parts → (new ≡ old) × (made ≡ []) × (result ≡ Clear) × (next ≡ link) × (last ≡ first)
 
 -- ---- a segment of a guest
 
@@ -172,7 +200,7 @@ HasLot Alone config new on past = lot config (book config past) on ≡ lot_witho
 abbrev pub Hears : (now : ℕ) → (old new : Kept) → Tuple → Tcp → Heard → List Entry → Type 0
 Hears now old new ends tcp heard made =
     (config : Config) (e : Entry) (past : List Entry) (on : OnTuple) → Brings config now old ends tcp on e past
-    → IsHeard heard config now new on (e ∷ past) made × HasLot heard config new on (e ∷ past) × Leaves config (e ∷ past) made
+    → IsHeard heard config now new on (e ∷ past) made × HasLot heard config new on (e ∷ past) × Leaves config (e ∷ past) made × (agenda (made ++ e ∷ past) ≡ agenda (e ∷ past))
 
 -- ---- a flow begins
 

@@ -13,9 +13,9 @@ impl TcpFlows {
     ghost use Rattle.flow_splice.specs.Wants.{connect_end, reads, writes};
     ghost use Rattle.flow_splice.specs.Shapes.{IsHostWork};
     ghost use Rattle.spliced_flows.specs.Core.{number_of};
-    ghost use Rattle.tcp_flows.specs.Reading.{IsOpenAt, IsTicked, IsUnserved, NoneOpen};
+    ghost use Rattle.tcp_flows.specs.Reading.{IsOpenAt, IsTicked, IsUnserved, NoneInSlots, NoneOpen, Stays};
     ghost use Rattle.tcp_flows.specs.Kept.{part_of, with_flows};
-    ghost use Rattle.tcp_flows.specs.Runs.{ClosesFirst, ClosesOne, ClosesRising, Ending, Reports, RestsEnd, Ticks};
+    ghost use Rattle.tcp_flows.specs.Runs.{ClosesFirst, ClosesOne, ClosesRising, Ending, IsIdle, Reports, RestsEnd, Ticks};
     ghost use Rattle.host_policy.specs.Addresses.{Config};
     ghost use Rattle.world_face.specs.Journal.{Entry};
     ghost use Rattle.flow_splice.specs.declared.Place.TheVariants.{Resting};
@@ -41,6 +41,7 @@ impl TcpFlows {
         // After a report for writing the guest's end isn't held back in a flow that had connected.
         ensures passes_end { (k : ℕ) (p q : Splice) → IsUnserved self.old number k p → write ≡ true → is_connects p.conn.stage ≡ false → IsOpenAt self.new.flows.parts k q → PassesEnd q }
         ensures served { (k : ℕ) (p : Splice) → IsOpenAt self.old.flows.parts k p → number_of p ≡ number → self.new.served ≡ slice_set self.old.served k self.old.turn }
+        ensures stays { Stays self.old self.new }
         ensures turn { self.new.turn ≡ self.old.turn }
     {
         if let Some(slot) = self.rows.sockets.slot_of(number) {
@@ -60,6 +61,7 @@ impl TcpFlows {
             → Makes (W.tells world.old) (W.tells world.new) (λ made. some_is is_for_reading made ≡ true) }
         ensures passes_end { (p q : Splice) → IsUnserved self.old (number_of p) slot p → write ≡ true → is_connects p.conn.stage ≡ false → IsOpenAt self.new.flows.parts slot q → PassesEnd q }
         ensures served { self.new.served ≡ slice_set self.old.served slot self.old.turn }
+        ensures stays { Stays self.old self.new }
         ensures turn { self.new.turn ≡ self.old.turn }
     {
         if self.served[slot] == self.turn {
@@ -75,9 +77,10 @@ impl TcpFlows {
     /// The moment is this one: each rest whose time is over ends, and each flow that is due is told, by rising number of its socket. No call is made but closes.
     pub fn tick<W: World>(&mut self, world: &mut W, now: u64)
         requires now { now ≤ 2 ^ 62 }
-        ensures makes { Makes (W.tells world.old) (W.tells world.new) (Ticks now false ClosesRising self.old self.new) }
+        ensures makes { Makes (W.tells world.old) (W.tells world.new) (λ made. Ticks now false ClosesRising self.old self.new made × IsIdle self.old self.new made) }
         ensures connects { (k : ℕ) (p : Splice) → IsOpenAt self.new.flows.parts k p → is_connects p.conn.stage ≡ true → now < connect_end p }
         ensures ticked { (k : ℕ) (p q : Splice) → IsOpenAt self.old.flows.parts k p → IsOpenAt self.new.flows.parts k q → IsTicked now p q }
+        ensures stays { Stays self.old self.new }
         ensures turn { self.new.turn ≡ self.old.turn }
     {
         self.end_rests(now);
@@ -89,6 +92,8 @@ impl TcpFlows {
         requires now { now ≤ 2 ^ 62 }
         ensures rests { RestsEnd now self.old self.new }
         ensures keeps_open { (k : ℕ) (p : Splice) → IsOpenAt self.old.flows.parts k p → IsOpenAt self.new.flows.parts k p }
+        ensures idle { NoneInSlots self.old.flows.parts → self.new ≡ self.old }
+        ensures stays { Stays self.old self.new }
         ensures same { self.new ≡ with_flows self.new.flows self.new.owing self.old }
     {
         let Some(since) = now.checked_sub(LONGEST_REST) else {
@@ -105,6 +110,7 @@ impl TcpFlows {
         ensures ends { (config : Config) (now since : ℕ) (p : Splice) (past : List Entry) → slice_get self.old.flows.parts slot ≡ Some (Some p) → p.place ≡ Resting since → since + 60000 ≤ now
             → Ending config now self.old past → Ending config now self.new past }
         ensures parts { self.new.flows.parts ≡ slice_set self.old.flows.parts slot None }
+        ensures stays { Stays self.old self.new }
         ensures same { self.new ≡ with_flows self.new.flows self.new.owing self.old }
     {
         let part = &mut self.parts[slot];
@@ -116,9 +122,10 @@ impl TcpFlows {
     // Each flow that is due is told, by rising number of its socket. None is looked at where none is due.
     fn tick_due<W: World>(&mut self, world: &mut W, now: u64)
         requires now { now ≤ 2 ^ 62 }
-        ensures makes { Makes (W.tells world.old) (W.tells world.new) (Ticks now true ClosesRising self.old self.new) }
+        ensures makes { Makes (W.tells world.old) (W.tells world.new) (λ made. Ticks now true ClosesRising self.old self.new made × IsIdle self.old self.new made) }
         ensures connects { (k : ℕ) (p : Splice) → IsOpenAt self.new.flows.parts k p → is_connects p.conn.stage ≡ true → now < connect_end p }
         ensures ticked { (k : ℕ) (p q : Splice) → IsOpenAt self.old.flows.parts k p → IsOpenAt self.new.flows.parts k q → IsTicked now p q }
+        ensures stays { Stays self.old self.new }
         ensures same { self.new ≡ with_flows self.new.flows self.new.owing self.old }
     {
         if !is_due(self.due(), now) {
@@ -140,6 +147,7 @@ impl TcpFlows {
         ensures parts { (p : Splice) → IsOpenAt self.old.flows.parts slot p → (q : Splice) × (number_of q ≡ number_of p) × (self.new.flows.parts ≡ slice_set self.old.flows.parts slot (part_of q))
             × (is_open_by q ≡ true → is_connects q.conn.stage ≡ true → now < connect_end q) }
         ensures ticked { (p q : Splice) → IsOpenAt self.old.flows.parts slot p → IsOpenAt self.new.flows.parts slot q → IsTicked now p q }
+        ensures stays { Stays self.old self.new }
         ensures same { self.new ≡ with_flows self.new.flows self.new.owing self.old }
     {
         if !is_due(self.parts[slot].due(), now) {
@@ -155,6 +163,7 @@ impl TcpFlows {
     pub fn close_first<W: World>(&mut self, world: &mut W) -> bool
         ensures closes { Makes (W.tells world.old) (W.tells world.new) (ClosesFirst result self.old.flows.parts self.new.flows.parts) }
         ensures none { result ≡ false → (self.new ≡ self.old) × (W.tells world.new ≡ W.tells world.old) }
+        ensures stays { Stays self.old self.new }
         ensures same { self.new ≡ with_flows self.new.flows self.new.owing self.old }
     {
         let Some(socket) = self.next_open(None) else {

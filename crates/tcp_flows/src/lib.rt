@@ -12,3 +12,6 @@ mod rows;
 
 pub use flows::{Sizes, TcpFlows};
 pub use guest::Heard;
+
+#[cfg(test)]
+mod tests;

@@ -14,8 +14,8 @@ use world_face::World;
 impl TcpFlows {
     ghost use Rattle.flow_splice.specs.declared.Pumped.TheVariants.{Clear, Blocked, Failed};
     ghost use Rattle.tcp_flows.specs.Kept.{with_flows};
-    ghost use Rattle.tcp_flows.specs.Reading.{AllClear};
-    ghost use Rattle.tcp_flows.specs.Runs.{Pumps};
+    ghost use Rattle.tcp_flows.specs.Reading.{AllClear, Stays};
+    ghost use Rattle.tcp_flows.specs.Runs.{IsIdlePump, Pumps};
 
     /// Sends all that the flows owe, by rising number, until the link is blocked. Each datagram that goes out has the number `ident`, which is one more then,
     /// modulo 2^16. Only flows that may owe something are looked at.
@@ -29,11 +29,13 @@ impl TcpFlows {
         requires now { now ≤ 2 ^ 62 }
         requires none { link.old.tail ≡ [] }
         requires free { link.old.blocked ≡ false }
-        ensures makes { Makes (W.tells world.old) (W.tells world.new) (Pumps now self.old self.new link.old link.new ident.old ident.new result) }
+        ensures makes { Makes (W.tells world.old) (W.tells world.new) (λ made. Pumps now self.old self.new link.old link.new ident.old ident.new result made
+            × IsIdlePump self.old self.new link.old link.new ident.old ident.new result made) }
         ensures blocked { result ≡ Blocked → link.new.blocked ≡ true }
         ensures free { result ≡ Clear → (link.new.blocked ≡ false) × (link.new.tail ≡ []) }
         ensures failed { result ≡ Failed → Rose (W.tells world.old).faults.link (W.tells world.new).faults.link }
         ensures clear { result ≡ Clear → AllClear self.new.flows.parts }
+        ensures stays { Stays self.old self.new }
         ensures same_link { under_way link.new ≡ under_way link.old }
         ensures same { self.new ≡ with_flows self.new.flows self.new.owing self.old }
     {
@@ -65,6 +67,7 @@ impl TcpFlows {
         ensures free { result ≡ Clear → (link.new.blocked ≡ false) × (link.new.tail ≡ []) }
         ensures failed { result ≡ Failed → Rose (W.tells world.old).faults.link (W.tells world.new).faults.link }
         ensures mark { result ≡ Clear → self.new.owing ≡ slice_set self.old.owing slot None }
+        ensures stays { Stays self.old self.new }
         ensures same_link { under_way link.new ≡ under_way link.old }
         ensures same { self.new ≡ with_flows self.new.flows self.new.owing self.old }
     {

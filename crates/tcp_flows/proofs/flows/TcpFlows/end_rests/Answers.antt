@@ -1,8 +1,9 @@
-use Rattle.std.proofs.Common.{refl, ◌≤◌, ◌<◌, ℕ, ap, sym, ◌∙◌, subst, arith}
+use Rattle.std.proofs.Common.{refl, ◌≤◌, ◌<◌, ℕ, slice_get, ap, sym, ◌∙◌, subst, arith}
 use Rattle.tcp_flows.specs.Kept.{Kept, with_flows}
 use Rattle.tcp_flows.specs.Reading.{IsOpenAt}
 use Rattle.tcp_flows.proofs.Ticked.{open_left}
 use Rattle.tcp_flows.proofs.Resting.{ending_begins, ending_ends, none_over, one_less, parts_left}
+use Rattle.tcp_flows.proofs.Staying.{stays_same, stays_then}
 use Rattle.tcp_flows.proofs.flows.TcpFlows.end_rests.Goals as goal
 
 -- below one that it isn't at or above
@@ -16,6 +17,8 @@ pub loop-slot-init : goal.loop-slot-init
 loop-slot-init c = record {
   ends = λ config past at holds. ending_begins config c.args.now c.args.self.now past holds;
   keeps_open = λ k p open_at. open_at;
+  idle = λ none. refl;
+  stays = stays_same c.args.self.now;
   same = refl;
 }
 
@@ -34,6 +37,8 @@ loop-slot-preserved c =
       ends = λ config past at holds. c.leave_slot.ensures.ends config c.args.now rested.1 rested.0 past rested.2 rested.3 (omega (arith, past_end, minus.0, minus.1)) (kept.ends config past at holds);
       keeps_open = λ k p open_at. subst (λ parts. IsOpenAt parts k p) (sym c.leave_slot.ensures.parts)
           (open_left c.loop-slot.self.flows.parts c.in-Some-next_rested.slot rested.0 rested.1 rested.2 rested.3 k p (kept.keeps_open k p open_at));
+      idle = λ none. absurd (none c.in-Some-next_rested.slot rested.0 (sym (ap (λ (s : Kept). slice_get s.flows.parts c.in-Some-next_rested.slot) (kept.idle none)) ∙ rested.2));
+      stays = stays_then c.args.self.now c.loop-slot.self c.leave_slot.new.self kept.stays c.leave_slot.ensures.stays;
       same = c.leave_slot.ensures.same ∙ ap (λ (s : Kept). with_flows c.leave_slot.new.self.flows c.leave_slot.new.self.owing s) kept.same;
     }
 
@@ -48,3 +53,15 @@ returns-clause-keeps_open c = c.loop-slot.invariant.keeps_open
 
 pub returns-in_default-clause-keeps_open : goal.returns-in_default-clause-keeps_open
 returns-in_default-clause-keeps_open c k p open_at = open_at
+
+pub returns-clause-idle : goal.returns-clause-idle
+returns-clause-idle c = c.loop-slot.invariant.idle
+
+pub returns-in_default-clause-idle : goal.returns-in_default-clause-idle
+returns-in_default-clause-idle c none = refl
+
+pub returns-clause-stays : goal.returns-clause-stays
+returns-clause-stays c = c.loop-slot.invariant.stays
+
+pub returns-in_default-clause-stays : goal.returns-in_default-clause-stays
+returns-in_default-clause-stays c = stays_same c.args.self.now

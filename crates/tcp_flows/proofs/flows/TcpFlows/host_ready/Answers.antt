@@ -12,6 +12,7 @@ use Rattle.tcp_flows.specs.Runs.{Reports}
 use Rattle.tcp_flows.proofs.Keeping.{raw_open, seen_open}
 use Rattle.tcp_flows.proofs.Looking.{none_open}
 use Rattle.tcp_flows.proofs.Reporting.{no_work, nothing_reported}
+use Rattle.tcp_flows.proofs.Staying.{stays_same}
 use Rattle.tcp_flows.proofs.flows.TcpFlows.host_ready.Goals as goal
 
 -- the slot that is found is that of the flow
@@ -96,3 +97,6 @@ pub returns-in_default-clause-served : goal.returns-in_default-clause-served
 returns-in_default-clause-served g c k p open_at number =
     let none = none_open c.self.inside.parts.items _ c.self.invariant.0.sockets_are c.args.number (sym c.in_default.ensures.slot) in
     absurd (subst (λ (s : Kept). NoneOpen c.args.number s.flows.parts) c.self.view_is none k p open_at number)
+
+pub returns-in_default-clause-stays : goal.returns-in_default-clause-stays
+returns-in_default-clause-stays g c = stays_same c.args.self.now

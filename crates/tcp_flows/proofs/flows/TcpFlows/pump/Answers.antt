@@ -5,13 +5,15 @@ use Rattle.flow_splice.specs.declared.Pumped.TheVariants.{Clear, Blocked, Failed
 use Rattle.tcp_flows.specs.Kept.{Kept, with_flows}
 use Rattle.tcp_flows.specs.Runs.{Pumps}
 use Rattle.tcp_flows.proofs.Sending.{marked, marked_less, pumps_none, pumps_then}
+use Rattle.tcp_flows.proofs.Staying.{none_yet, stays_same, stays_then}
 use Rattle.tcp_flows.proofs.flows.TcpFlows.pump.Goals as goal
 
 pub loop-slot-init : goal.loop-slot-init
 loop-slot-init g c = record {
-  makes = makes_none _ _ (pumps_none c.args.now c.args.self.now c.args.link.now c.args.ident.now);
+  makes = makes_none _ _ (pumps_none c.args.now c.args.self.now c.args.link.now c.args.ident.now, λ none. (refl, refl, refl, refl, refl));
   tail = c.requires.none;
   free = c.requires.free;
+  stays = stays_same c.args.self.now;
   same_link = refl;
   same = refl;
 }
@@ -31,11 +33,14 @@ loop-slot-preserved g c =
     let free = c.pump_slot.ensures.free c.in-Clear.is in
     record {
       makes = makes_then _ _ _ _ _ _ kept.makes c.pump_slot.ensures.makes
-          (λ first second some more.
-          pumps_then c.args.now old mid new c.args.link.now c.loop-slot.link c.pump_slot.new.link c.args.ident.now c.loop-slot.ident c.pump_slot.new.ident Clear first second some
-          (subst (λ (x : Pumped). Pumps c.args.now mid new c.loop-slot.link c.pump_slot.new.link c.loop-slot.ident c.pump_slot.new.ident x second) c.in-Clear.is more));
+          (λ first second some more. (
+            pumps_then c.args.now old mid new c.args.link.now c.loop-slot.link c.pump_slot.new.link c.args.ident.now c.loop-slot.ident c.pump_slot.new.ident Clear first second some.0
+                (subst (λ (x : Pumped). Pumps c.args.now mid new c.loop-slot.link c.pump_slot.new.link c.loop-slot.ident c.pump_slot.new.ident x second) c.in-Clear.is more),
+            λ none. absurd (none_yet old mid c.in-Some.slot c.in-Some.ensures.some none (some.1 none).0),
+          ));
       tail = free.1;
       free = free.0;
+      stays = stays_then old mid new kept.stays c.pump_slot.ensures.stays;
       same_link = c.pump_slot.ensures.same_link ∙ kept.same_link;
       same = c.pump_slot.ensures.same ∙ ap (with_flows new.flows new.owing) kept.same;
     }
@@ -45,15 +50,28 @@ returns-in-Blocked-clause-makes g c =
     let mid : Kept = c.loop-slot.self in
     let new : Kept = c.pump_slot.new.self in
     makes_then _ _ _ _ _ _ c.loop-slot.invariant.makes c.pump_slot.ensures.makes
-    (λ first second some more.
-    pumps_then c.args.now c.args.self.now mid new c.args.link.now c.loop-slot.link c.pump_slot.new.link c.args.ident.now c.loop-slot.ident c.pump_slot.new.ident Blocked first second some
-    (subst (λ (x : Pumped). Pumps c.args.now mid new c.loop-slot.link c.pump_slot.new.link c.loop-slot.ident c.pump_slot.new.ident x second) c.in-Blocked.is more))
+    (λ first second some more. (
+      pumps_then c.args.now c.args.self.now mid new c.args.link.now c.loop-slot.link c.pump_slot.new.link c.args.ident.now c.loop-slot.ident c.pump_slot.new.ident Blocked first second some.0
+          (subst (λ (x : Pumped). Pumps c.args.now mid new c.loop-slot.link c.pump_slot.new.link c.loop-slot.ident c.pump_slot.new.ident x second) c.in-Blocked.is more),
+      λ none. absurd (none_yet c.args.self.now mid c.in-Some.slot c.in-Some.ensures.some none (some.1 none).0),
+    ))
 
 pub returns-in-Failed-clause-makes : goal.returns-in-Failed-clause-makes
 returns-in-Failed-clause-makes g c =
     let mid : Kept = c.loop-slot.self in
     let new : Kept = c.pump_slot.new.self in
     makes_then _ _ _ _ _ _ c.loop-slot.invariant.makes c.pump_slot.ensures.makes
-    (λ first second some more.
-    pumps_then c.args.now c.args.self.now mid new c.args.link.now c.loop-slot.link c.pump_slot.new.link c.args.ident.now c.loop-slot.ident c.pump_slot.new.ident Failed first second some
-    (subst (λ (x : Pumped). Pumps c.args.now mid new c.loop-slot.link c.pump_slot.new.link c.loop-slot.ident c.pump_slot.new.ident x second) c.in-Failed.is more))
+    (λ first second some more. (
+      pumps_then c.args.now c.args.self.now mid new c.args.link.now c.loop-slot.link c.pump_slot.new.link c.args.ident.now c.loop-slot.ident c.pump_slot.new.ident Failed first second some.0
+          (subst (λ (x : Pumped). Pumps c.args.now mid new c.loop-slot.link c.pump_slot.new.link c.loop-slot.ident c.pump_slot.new.ident x second) c.in-Failed.is more),
+      λ none. absurd (none_yet c.args.self.now mid c.in-Some.slot c.in-Some.ensures.some none (some.1 none).0),
+    ))
+
+pub returns-clause-stays : goal.returns-clause-stays
+returns-clause-stays g c = c.loop-slot.invariant.stays
+
+pub returns-in-Blocked-clause-stays : goal.returns-in-Blocked-clause-stays
+returns-in-Blocked-clause-stays g c = stays_then c.args.self.now c.loop-slot.self c.pump_slot.new.self c.loop-slot.invariant.stays c.pump_slot.ensures.stays
+
+pub returns-in-Failed-clause-stays : goal.returns-in-Failed-clause-stays
+returns-in-Failed-clause-stays g c = stays_then c.args.self.now c.loop-slot.self c.pump_slot.new.self c.loop-slot.invariant.stays c.pump_slot.ensures.stays

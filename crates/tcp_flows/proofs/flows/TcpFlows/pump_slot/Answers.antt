@@ -12,6 +12,7 @@ use Rattle.tcp_flows.specs.Rows.{AreRows}
 use Rattle.tcp_flows.proofs.Following.{has_tuple}
 use Rattle.tcp_flows.proofs.Keeping.{flows_as, read_here, settings_as, slot_raw, table_is}
 use Rattle.tcp_flows.proofs.Sending.{pumped_ours, pumped_served, pumping_of, pumps_of, stayed_clear, unmarked}
+use Rattle.tcp_flows.proofs.Staying.{stays_set}
 use Rattle.tcp_flows.proofs.flows.TcpFlows.pump_slot.Goals as goal
 
 pub follow-requires-clause-some : goal.follow-requires-clause-some
@@ -131,3 +132,23 @@ returns-else-eq-clause-makes g c =
     c.self.invariant.0.slots_are c.self.invariant.0.kept c.args.slot p mid q is.at is.some (ours.known is.some) (ours.vhost is.some ∙ ap (λ (s : Kept). s.vhost) view) is.pumped is.stayed
     (flows_as table_then (set parts c.args.slot q) c.self.inside.opened) (λ config. settings_as view refl) c.pump-pumped.result made
     (subst (λ (x : Splice). SendsOn x mid c.args.link.now c.pump-pumped.new.link c.args.ident.now c.pump-pumped.new.ident c.args.now made) read goes.0.0) goes.0.1 goes.1)
+
+pub returns-then-eq-clause-stays : goal.returns-then-eq-clause-stays
+returns-then-eq-clause-stays g c =
+    let parts = c.self.inside.parts.items in
+    let p : Splice = c.requires.slot.0 in
+    let q : Splice = c.stay.new.part in
+    let is = pumping_of parts c.args.slot _ p c.pump-pumped.new.self q c.index_mut-part.result.now c.of-before.result.place c.of-before.result.is_open
+    (ap (λ (s : Kept). s.flows.parts) c.self.view_is) c.requires.slot.1 c.index_mut-part.ensures.value c.of-before.ensures.place c.of-before.ensures.open c.pump-pumped.ensures.stays c.pump-pumped.ensures.closed
+    c.stay.ensures.rests c.stay.ensures.left c.stay.ensures.others c.stay.ensures.change in
+    stays_set c.args.self.now _ parts c.args.slot p q (ap (λ (s : Kept). s.flows.parts) c.self.view_is) is.at is.some is.moves.face refl (ap (λ (s : Kept). s.flows.opened) c.self.view_is)
+
+pub returns-else-eq-clause-stays : goal.returns-else-eq-clause-stays
+returns-else-eq-clause-stays g c =
+    let parts = c.self.inside.parts.items in
+    let p : Splice = c.requires.slot.0 in
+    let q : Splice = c.stay.new.part in
+    let is = pumping_of parts c.args.slot _ p c.pump-pumped.new.self q c.index_mut-part.result.now c.of-before.result.place c.of-before.result.is_open
+    (ap (λ (s : Kept). s.flows.parts) c.self.view_is) c.requires.slot.1 c.index_mut-part.ensures.value c.of-before.ensures.place c.of-before.ensures.open c.pump-pumped.ensures.stays c.pump-pumped.ensures.closed
+    c.stay.ensures.rests c.stay.ensures.left c.stay.ensures.others c.stay.ensures.change in
+    stays_set c.args.self.now _ parts c.args.slot p q (ap (λ (s : Kept). s.flows.parts) c.self.view_is) is.at is.some is.moves.face refl (ap (λ (s : Kept). s.flows.opened) c.self.view_is)

@@ -15,6 +15,7 @@ use Rattle.tcp_flows.proofs.Following.{has_tuple}
 use Rattle.tcp_flows.proofs.Keeping.{flows_as, may_read, open_moves, open_used, ours_as_old, placed, raw_open, read_here, served_now, served_within, settings_as, slot_raw, table_is}
 use Rattle.tcp_flows.proofs.Lists.{set_same}
 use Rattle.tcp_flows.proofs.Reporting.{no_work, nothing_reported, reports_of}
+use Rattle.tcp_flows.proofs.Staying.{stays_same, stays_set}
 use Rattle.tcp_flows.proofs.flows.TcpFlows.report.Goals as goal
 
 pub returns-then-index-self-clause-makes : goal.returns-then-index-self-clause-makes
@@ -163,3 +164,15 @@ returns-clause-passes_end g c p q u write connects open_at =
     let then : Splice = c.host_ready.new.self in
     let same : q ≡ then = get_set_same parts c.args.slot p then q raw (raw_open (set parts c.args.slot then) c.args.slot q _ refl open_at) in
     subst PassesEnd (sym same) (c.host_ready.ensures.passes_end write (ap (λ (x : Splice). is_connects x.conn.stage) is ∙ connects))
+
+pub returns-then-index-self-clause-stays : goal.returns-then-index-self-clause-stays
+returns-then-index-self-clause-stays g c = stays_same c.args.self.now
+
+pub returns-clause-stays : goal.returns-clause-stays
+returns-clause-stays g c =
+    let o = c.requires.slot in
+    let parts = c.self.inside.parts.items in
+    let raw = raw_open parts c.args.slot o.0 _ (ap (λ (s : Kept). s.flows.parts) c.self.view_is) o.1 in
+    let is = read_here parts c.args.slot o.0 c.index_mut-part.result.now raw c.index_mut-part.ensures.value in
+    stays_set c.args.self.now _ parts c.args.slot o.0 c.host_ready.new.self (ap (λ (s : Kept). s.flows.parts) c.self.view_is) raw (placed o.0 o.1.open_yet) (c.host_ready.ensures.same.face ∙ ap (λ (x : Splice). x.face) is) refl
+    (ap (λ (s : Kept). s.flows.opened) c.self.view_is)

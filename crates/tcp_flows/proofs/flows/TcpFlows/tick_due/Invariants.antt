@@ -1,6 +1,7 @@
 use Rattle.std.proofs.Common.{◌≡◌, true}
 use Rattle.world_face.specs.Tells.{Makes}
 use Rattle.tcp_flows.specs.Kept.{with_flows}
+use Rattle.tcp_flows.specs.Reading.{Stays}
 use Rattle.tcp_flows.specs.Runs.{Ticks}
 use Rattle.tcp_flows.proofs.Ticked.{AreTold}
 use Rattle.tcp_flows.proofs.Ticking.{AreEarly, ClosesUpTo, count_above}
@@ -11,6 +12,7 @@ invariant-loop-socket g l = record {
   makes : Makes (g.W.World.tells l.fn.world) (g.W.World.tells l.world) (Ticks l.now true (ClosesUpTo l.last) l.fn.self l.self);
   early : AreEarly l.now l.last l.self.flows.parts;
   told : AreTold l.now l.last l.fn.self.flows.parts l.self.flows.parts;
+  stays : Stays l.fn.self l.self;
   same : l.self ≡ with_flows l.self.flows l.self.owing l.fn.self;
 }
 

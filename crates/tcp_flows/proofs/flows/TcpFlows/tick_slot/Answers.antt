@@ -20,6 +20,7 @@ use Rattle.tcp_flows.proofs.Lists.{set_same}
 use Rattle.tcp_flows.proofs.Seated.{part_is}
 use Rattle.tcp_flows.proofs.Reporting.{nothing_ticked, ticks_of}
 use Rattle.tcp_flows.proofs.Ticked.{open_same, ticked_late}
+use Rattle.tcp_flows.proofs.Staying.{stays_same, stays_set}
 use Rattle.tcp_flows.proofs.flows.TcpFlows.tick_slot.Goals as goal
 
 pub index-requires : goal.index-requires
@@ -134,3 +135,15 @@ returns-clause-ticked g c p q was is connects knows =
     same
     ∙ c.tick.ensures.again (ap is_open read ∙ was.open_yet) (ap (λ (x : Splice). is_connects x.conn.stage) read ∙ connects) (ap seeks read ∙ knows) (ap is_open (sym same) ∙ is.open_yet)
     ∙ ap (λ (x : Splice). record x { conn = after_tick x.conn c.args.now }) read
+
+pub returns-then-not-is_due-clause-stays : goal.returns-then-not-is_due-clause-stays
+returns-then-not-is_due-clause-stays g c = stays_same c.args.self.now
+
+pub returns-clause-stays : goal.returns-clause-stays
+returns-clause-stays g c =
+    let o = c.requires.slot in
+    let parts = c.self.inside.parts.items in
+    let raw = raw_open parts c.args.slot o.0 _ (ap (λ (s : Kept). s.flows.parts) c.self.view_is) o.1 in
+    let is = read_here parts c.args.slot o.0 c.index_mut-part.result.now raw c.index_mut-part.ensures.value in
+    stays_set c.args.self.now _ parts c.args.slot o.0 c.tick.new.self (ap (λ (s : Kept). s.flows.parts) c.self.view_is) raw (placed o.0 o.1.open_yet) (c.tick.ensures.same.face ∙ ap (λ (x : Splice). x.face) is) refl
+    (ap (λ (s : Kept). s.flows.opened) c.self.view_is)
