@@ -1,0 +1,12 @@
+pub mod Flows
+pub mod Parts
+pub mod Open
+pub mod Relaying
+pub mod Associating
+pub mod Answering
+pub mod Waiting
+pub mod Reading
+pub mod Called
+pub mod Hearing
+pub mod Closing
+pub mod Starting
