@@ -6,8 +6,9 @@ use Rattle.ipv4_head.specs.Sets.{PartSet, young}
 use Rattle.run_laws.specs.Fragments.{fragment_in, with_fragment}
 use Rattle.slirp_laws.specs.Answers.{frames_of}
 use Rattle.slirp_laws.specs.Datagrams.{Errand}
-use Rattle.slirp_core.specs.Fragments.{IsHeld, brought_errand, taken_on}
+use Rattle.slirp_core.specs.Fragments.{IsHeld, brought_errand, brought_segment, taken_on}
 use Rattle.slirp_core.specs.Packets.{errand_in, owed_for_frame, with_ether}
+use Rattle.slirp_core.specs.Segments.{Coming, segment_in}
 use Rattle.slirp_core.specs.State.{SlirpState}
 use Rattle.slirp_core.specs.declared.fragments.Brought.{Brought}
 
@@ -16,6 +17,11 @@ module _ (slirp mid new : SlirpState) (frame : List ℕ) (brought : Brought) (ro
       → ((held : List PartSet) → IsHeld slirp.parts held → brought_errand slirp.config brought room ≡ errand_in slirp.config slirp.moment (young slirp.moment held) frame)
       → (held : List PartSet) → IsHeld slirp.parts held → errand ≡ errand_in slirp.config slirp.moment (young slirp.moment held) frame
   sends_then errand settings is brings held h = is ∙ ap (brought_errand mid.config brought) same ∙ ap (λ (k : Config). brought_errand k brought room) settings ∙ brings held h
+
+  pub segment_then : (segment : Option Coming) → mid.config ≡ slirp.config → segment ≡ brought_segment mid.config brought octets
+      → ((held : List PartSet) → IsHeld slirp.parts held → brought_segment slirp.config brought room ≡ segment_in slirp.config slirp.moment (young slirp.moment held) frame)
+      → (held : List PartSet) → IsHeld slirp.parts held → segment ≡ segment_in slirp.config slirp.moment (young slirp.moment held) frame
+  segment_then segment settings is brings held h = is ∙ ap (brought_segment mid.config brought) same ∙ ap (λ (k : Config). brought_segment k brought room) settings ∙ brings held h
 
   pub owes_then : new ≡ taken_on mid brought octets → new.parts ≡ mid.parts
       → ((held : List PartSet) → IsHeld slirp.parts held → taken_on mid brought room ≡ record slirp {

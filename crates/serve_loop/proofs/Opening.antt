@@ -1,9 +1,9 @@
 -- A service that is opened.
-use Rattle.std.proofs.Common.{ℕ, ◌≤◌, nat_le, ◌&&◌, IsTrue, arith}
+use Rattle.std.proofs.Common.{ℕ, ◌≤◌, ◌^◌, nat_le, ◌&&◌, IsTrue, arith}
 use Rattle.std.proofs.lemmas.Bool.Decides.{nat_tests}
 use Rattle.host_policy.specs.Addresses.{Config}
-use Rattle.host_policy.specs.Ranges.{IsSound, in_range}
-use Rattle.host_policy.specs.declared.config.Field.TheVariants.{IfMtu}
+use Rattle.host_policy.specs.Ranges.{IsSound}
+use Rattle.host_policy.specs.declared.config.Field.TheVariants.{IfMtu, Turns}
 
 -- a frame has room for a header and a unit of 8 octets
 pub has_room_for_a_unit : (config : Config) → IsSound config → 28 ≤ config.mtu
@@ -11,3 +11,10 @@ has_room_for_a_unit config sound = enough config.mtu (sound.each IfMtu)
   where
     enough : (mtu : ℕ) → IsTrue (nat_le 576 mtu && nat_le mtu 1500) → 28 ≤ mtu
     enough mtu is = grind (arith, nat_tests, is)
+
+-- there are at most 2^44 turns
+pub has_few_turns : (config : Config) → IsSound config → config.turns ≤ 2 ^ 44
+has_few_turns config sound = few config.turns (sound.each Turns)
+  where
+    few : (turns : ℕ) → IsTrue (nat_le 1 turns && nat_le turns 17592186044416) → turns ≤ 2 ^ 44
+    few turns is = grind (arith, nat_tests, is)

@@ -1,8 +1,9 @@
 -- A service, and one that has served nothing.
-use Rattle.std.specs.Prelude.{◌≡◌, ◌≤◌, List, [], false, None}
+use Rattle.std.specs.Prelude.{◌≡◌, ◌^◌, ◌≤◌, List, [], false, None}
 use Rattle.host_policy.specs.Addresses.{Config}
 use Rattle.poll_list.specs.declared.Want.{Want}
 use Rattle.stream_netdev.specs.State.{LinkState, under_way}
+use Rattle.slirp_core.specs.Numbers.{flows_for}
 use Rattle.slirp_core.specs.State.{SlirpState}
 
 -- what contracts see of a service: its network, its link, and what the last wait wanted and reported
@@ -21,11 +22,12 @@ pub record IsBuilt (config : Config) : Type 0 where
   pub outbound : config.outbound ≡ None
   pub control : config.control ≡ None
 
--- nothing was read or written, no datagram was sent, no guest is known, no socket is open, no moment was told, nothing is owed and no fragment waits; no port of the host is given to a guest yet, there is room for no flow yet, and a frame has room for a header and a unit of 8 octets
+-- nothing was read or written, no datagram was sent, no guest is known, no socket is open, no moment was told, nothing is owed and no fragment waits; there is room for as many flows as the settings say, and none of them was used; no port of the host is given to a guest yet, a frame has room for a header and a unit of 8 octets, and there are at most 2^44 turns
 pub record IsNew (service : ServiceState) : Type 0 where
   pub forwards : service.slirp.config.forwards ≡ []
-  pub flows : service.slirp.config.flows ≡ 0
+  pub flows : service.slirp.flows ≡ flows_for service.slirp.config
   pub unit : 28 ≤ service.slirp.config.mtu
+  pub turns : service.slirp.config.turns ≤ 2 ^ 44
   pub known : service.slirp.known ≡ []
   pub sent : service.slirp.sent ≡ 0
   pub pending : service.slirp.pending ≡ []

@@ -1,5 +1,5 @@
 -- What a turn, and each part of it, comes to.
-use Rattle.std.specs.Prelude.{◌≡◌, ℕ, ◌&&◌, not, Bool, List}
+use Rattle.std.specs.Prelude.{◌≡◌, ℕ, ◌&&◌, not, Bool, false, List, Option}
 use Rattle.poll_list.specs.Listing.{same_who}
 use Rattle.poll_list.specs.declared.Want.{Want}
 use Rattle.poll_list.specs.declared.Who.TheVariants.{Link}
@@ -7,10 +7,11 @@ use Rattle.world_face.specs.Journal.{Entry}
 use Rattle.world_face.specs.Frames.{Ending, Stopped, WaitFailed}
 use Rattle.host_policy.specs.Addresses.{Config}
 use Rattle.udp_assoc.specs.declared.assocs.Association.{Association as AnAssociation}
+use Rattle.flow_splice.specs.Splice.{Splice}
 use Rattle.run_laws.specs.Shape.{phase}
 use Rattle.stream_netdev.specs.Keeps.{ReadsOn}
 use Rattle.stream_netdev.specs.State.{LinkState, under_way}
-use Rattle.slirp_core.specs.Holds.{Standing, standing, Holds, Ended, Closing}
+use Rattle.slirp_core.specs.Holds.{Standing, standing, flowing, Holds, Ended, Closing}
 use Rattle.slirp_core.specs.State.{SlirpState}
 use Rattle.serve_loop.specs.Ends.{end_by, end_of}
 use Rattle.serve_loop.specs.declared.service.End.{End}
@@ -26,21 +27,25 @@ is_read_now to_read item = to_read && same_who Link item.of && item.read
 abbrev pub still : Bool → Want → Bool
 still to_read item = to_read && not (same_who Link item.of && item.read)
 
+-- What the network and its link have is what the calls made so far left; before a wait the rests of flows that are over have ended, too.
+abbrev pub HoldsNow : Config → Standing → Bool → SlirpState → LinkState → List Entry → Type 0
+HoldsNow config at aged slirp link past = Holds config at slirp (flowing aged slirp.flows) link past
+
 -- after a wait with these wants, and the call of the clock that follows it
 abbrev pub AfterSleep : Slept → Config → ℕ → List Want → List Want → SlirpState → LinkState → List Entry → Type 0
-AfterSleep Ready config count wants ready slirp link past = Holds config (standing count wants ready) slirp link past
-AfterSleep SleptStopped config count wants ready slirp link past = Ended config Stopped slirp.associations past
-AfterSleep SleepFailed config count wants ready slirp link past = Ended config WaitFailed slirp.associations past
+AfterSleep Ready config count wants ready slirp link past = HoldsNow config (standing count wants ready) false slirp link past
+AfterSleep SleptStopped config count wants ready slirp link past = Ended config Stopped slirp.associations slirp.flows.flows.parts past
+AfterSleep SleepFailed config count wants ready slirp link past = Ended config WaitFailed slirp.associations slirp.flows.flows.parts past
 
 -- after a turn, or a part of one
-pub record EndedAs (config : Config) (end : End) (associations : List AnAssociation) (past : List Entry) : Type 0 where
+pub record EndedAs (config : Config) (end : End) (associations : List AnAssociation) (parts : List (Option Splice)) (past : List Entry) : Type 0 where
   pub why : Ending
-  pub ended : Ended config why associations past
+  pub ended : Ended config why associations parts past
   pub is : end ≡ end_by why
 
-abbrev pub AfterTurn : Turn → Config → Standing → SlirpState → LinkState → List Entry → Type 0
-AfterTurn Again config at slirp link past = Holds config at slirp link past
-AfterTurn (TurnEnded end) config at slirp link past = EndedAs config end slirp.associations past
+abbrev pub AfterTurn : Turn → Config → Standing → Bool → SlirpState → LinkState → List Entry → Type 0
+AfterTurn Again config at aged slirp link past = HoldsNow config at aged slirp link past
+AfterTurn (TurnEnded end) config at aged slirp link past = EndedAs config end slirp.associations slirp.flows.flows.parts past
 
 -- and then the link can be read
 abbrev pub GoesOnAfter : Turn → LinkState → Type 0
@@ -48,6 +53,6 @@ GoesOnAfter Again link = ReadsOn (under_way link)
 GoesOnAfter (TurnEnded end) link = Unit {0}
 
 -- a run that has this end; only its sockets are to be closed
-pub record Closes (config : Config) (end : End) (associations : List AnAssociation) (past : List Entry) : Type 0 where
-  pub closing : Closing config (phase config past) associations past
+pub record Closes (config : Config) (end : End) (associations : List AnAssociation) (parts : List (Option Splice)) (past : List Entry) : Type 0 where
+  pub closing : Closing config (phase config past) associations parts past
   pub is : end ≡ end_of config (phase config past)

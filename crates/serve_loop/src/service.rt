@@ -1,22 +1,24 @@
 // The loop of turns.
 //
-// A run begins with the moment (`start`), then goes by turns until one ends it (`serve`). A turn closes what has been idle too long, sends what is owed,
-// and waits for what it wants; then it asks for the moment and serves what was reported, in the order of the list: a frame is read and taken in, or a
-// peer's datagram is received, and after each what is owed for it is sent. Nothing is read while something is left to be sent. At the end every
-// socket is closed, by rising number.
-ghost use Rattle.std.specs.Prelude.{◌≡◌, ◌&&◌, true, false, if◌then◌else◌};
+// A run begins with the moment (`start`), then goes by turns until one ends it (`serve`). A turn tells the flows of TCP the time, closes what has been
+// idle too long, sends what is owed, and waits for what it wants; then it asks for the moment and serves what was reported, in the order of the list: a
+// frame is read and taken in, a peer's datagram is received, or a flow's socket is served, writing before reading, and after each what is owed for it is
+// sent. A frame or a datagram is read only while nothing is left to be sent. At the end every socket is closed, by rising number.
+ghost use Rattle.std.specs.Prelude.{◌≡◌, ◌&&◌, ◌++◌, List, true, false, IfSome, if◌then◌else◌};
 ghost use Rattle.slirp_laws.specs.Agenda.{is_to_read};
 ghost use Rattle.slirp_core.specs.Holds.{Standing};
 ghost use Rattle.serve_loop.specs.Turns.{still, is_read_now};
 ghost use Rattle.poll_list.specs.Listing.{reads, writes};
 ghost use Rattle.serve_loop.specs.Ends.{turn_of};
-ghost use Rattle.poll_list.specs.declared.Who.TheVariants.{Link as TheLink, Udp};
+ghost use Rattle.poll_list.specs.declared.Who.TheVariants.{Link as TheLink, Udp, Tcp};
+ghost use Rattle.slirp_laws.specs.Agenda.{wanted_of};
+ghost use Rattle.slirp_core.specs.Pumps.{TcpOnce};
 ghost use Rattle.poll_list.specs.declared.Want.{Want as AnItem};
 
 use host_policy::SlirpConfig;
 use net_octets::NoMemory;
 use poll_list::{ReadyList, Want, Who};
-use slirp_core::{LONGEST_ASSEMBLED, Pumped, Slirp, TurnWants};
+use slirp_core::{LONGEST_ASSEMBLED, Pumped, Slirp, Task, TurnWants};
 use std::alloc::Global;
 use std::marker::Model;
 use stream_netdev::{Arrived, Link};
@@ -77,22 +79,22 @@ pub struct Service {
 impl Model for Service {
     ghost use Rattle.std.specs.Prelude.{◌≡◌, length};
     ghost use Rattle.serve_loop.specs.Served.{ServiceState};
+    ghost use Rattle.slirp_core.specs.Pumps.{TcpOnce};
 
     ghost Value = { ServiceState };
 
     ghost view = { λ s. record { slirp = s.slirp; link = s.link; wants = s.wants.items; ready = s.ready.items } };
 
-    ghost invariant = { λ s. (s.turns ≡ s.slirp.config.turns) × (s.wants.capacity ≡ 5155) × (s.ready.capacity ≡ 5155) × (length s.payload.items ≡ 65507) × (length s.joined.items ≡ 65575) };
+    // no flow's socket is waited for twice
+    ghost invariant = { λ s. (s.turns ≡ s.slirp.config.turns) × (s.wants.capacity ≡ 5155) × (s.ready.capacity ≡ 5155) × (length s.payload.items ≡ 65507) × (length s.joined.items ≡ 65575) × TcpOnce s.wants.items };
 }
 
 impl Service {
-    ghost use Rattle.std.specs.Prelude.{ℕ, ◌+◌, ◌<◌, ◌≤◌, ◌^◌, List, [], ◌∷◌, drop, length, if◌then◌else◌, IfOk};
+    ghost use Rattle.std.specs.Prelude.{ℕ, ◌+◌, ◌<◌, ◌≤◌, ◌^◌, [], ◌∷◌, Bool, drop, length, if◌then◌else◌, IfOk};
     ghost use Rattle.world_face.specs.Tells.{Makes, Brings, Rose};
     ghost use Rattle.host_policy.specs.Addresses.{Config};
     ghost use Rattle.host_policy.specs.Ranges.{IsSound};
     ghost use Rattle.host_policy.specs.Settings.{settings};
-    ghost use Rattle.slirp_laws.specs.Agenda.{wanted_of};
-    ghost use Rattle.slirp_laws.specs.Built.{as_built};
     ghost use Rattle.slirp_laws.specs.Laws.{Finished, Lawful};
     ghost use Rattle.run_laws.specs.Shape.{phase};
     ghost use Rattle.slirp_laws.specs.Served.{Served};
@@ -100,8 +102,8 @@ impl Service {
     ghost use Rattle.stream_netdev.specs.State.{under_way};
     ghost use Rattle.serve_loop.specs.Ends.{end_of, IsCounted};
     ghost use Rattle.slirp_core.specs.Counts.{AreGrown};
-    ghost use Rattle.slirp_core.specs.Holds.{Holds, after, standing};
-    ghost use Rattle.serve_loop.specs.Turns.{AfterSleep, AfterTurn, Closes, GoesOnAfter};
+    ghost use Rattle.slirp_core.specs.Holds.{after, standing};
+    ghost use Rattle.serve_loop.specs.Turns.{AfterSleep, AfterTurn, Closes, GoesOnAfter, HoldsNow};
     ghost use Rattle.slirp_core.specs.Pumps.{is_settled};
     ghost use Rattle.serve_loop.specs.Served.{IsBuilt, IsNew};
     ghost use Rattle.slirp_core.specs.Hearing.{Receives};
@@ -109,13 +111,13 @@ impl Service {
     ghost use Rattle.udp_assoc.specs.Associations.{numbered};
     ghost use Rattle.udp_assoc.specs.declared.assocs.Association.{Association as AnAssociation};
 
-    /// A network with these settings that has served nothing; there is room for no flow of TCP yet. It takes all the memory that it will ever need.
-    #[tactic(auto, using(crate::proofs::Opening::has_room_for_a_unit))]
+    /// A network with these settings that has served nothing. It takes all the memory that it will ever need.
+    #[tactic(auto, using(crate::proofs::Opening::has_room_for_a_unit, crate::proofs::Opening::has_few_turns))]
     pub fn open(alloc: Global, c: &SlirpConfig) -> Result<Service, NoMemory>
         requires sound { IsSound (settings c.now) }
         requires built { IsBuilt (settings c.now) }
         ensures new { IfOk result (λ service. IsNew service) }
-        ensures config { IfOk result (λ service. service.slirp.config ≡ as_built (settings c.now)) }
+        ensures config { IfOk result (λ service. service.slirp.config ≡ settings c.now) }
     {
         let link = Link::open(alloc)?;
         let (Ok(wants), Ok(ready), Ok(payload), Ok(joined)) = (
@@ -157,7 +159,7 @@ impl Service {
     // Takes turns until the run ends.
     fn run<W: World>(&mut self, world: &mut W) -> End
         requires { IsNew self.old }
-        ensures makes { Makes (W.tells world.old) (W.tells world.new) (Closes self.old.slirp.config result self.new.slirp.associations) }
+        ensures makes { Makes (W.tells world.old) (W.tells world.new) (Closes self.old.slirp.config result self.new.slirp.associations self.new.slirp.flows.flows.parts) }
         ensures faults { IsCounted (Turn.Ended result) (W.tells world.old).faults (W.tells world.new).faults }
         ensures config { self.new.slirp.config ≡ self.old.slirp.config }
     {
@@ -175,10 +177,11 @@ impl Service {
     /// Begins a run of a network that has served nothing: the moment is asked for.
     pub fn start<W: World>(&mut self, world: &mut W) -> Turn
         requires { IsNew self.old }
-        ensures makes { Makes (W.tells world.old) (W.tells world.new) (Holds self.old.slirp.config (after 0) self.new.slirp self.new.link) }
+        ensures makes { Makes (W.tells world.old) (W.tells world.new) (HoldsNow self.old.slirp.config (after 0) false self.new.slirp self.new.link) }
         ensures on { ReadsOn (under_way self.new.link) }
         ensures config { self.new.slirp.config ≡ self.old.slirp.config }
         ensures number { self.new.slirp.number ≡ 0 }
+        ensures turns { self.new.slirp.flows.turn ≡ 0 }
         ensures again { result ≡ Turn.Again }
     {
         let told = world.now();
@@ -186,17 +189,19 @@ impl Service {
         Turn::Again
     }
 
-    /// One turn: sockets that were idle for long are closed and what is owed is sent, then it waits, then what the wait reported is served, with what is then owed. A turn opens at most one socket, and needs a number for it under 2^64.
+    /// One turn: the flows are told the time, sockets that were idle for long are closed and what is owed is sent, then it waits, then what the wait reported is served, with what is then owed. A turn opens at most one socket, and needs a number for it under 2^64. There are at most 2^45 turns.
     pub fn turn<W: World>(&mut self, world: &mut W) -> Turn
         requires on { ReadsOn (under_way self.old.link) }
         requires number { self.old.slirp.number + 1 < 2 ^ 64 }
+        requires turns { self.old.slirp.flows.turn < 2 ^ 45 }
         ensures makes { (config : Config) (count : ℕ) → count < config.turns → Brings (W.tells world.old) (W.tells world.new)
-            (Holds config (after count) self.old.slirp self.old.link) (AfterTurn result config (after (count + 1)) self.new.slirp self.new.link) }
+            (HoldsNow config (after count) false self.old.slirp self.old.link) (AfterTurn result config (after (count + 1)) false self.new.slirp self.new.link) }
         // Where it ended by a fault the count of the link's, or of the waits', rose.
         ensures faults { IsCounted result (W.tells world.old).faults (W.tells world.new).faults }
         ensures on { GoesOnAfter result self.new.link }
         ensures config { self.new.slirp.config ≡ self.old.slirp.config }
         ensures number { self.new.slirp.number ≤ self.old.slirp.number + 1 }
+        ensures turns { self.new.slirp.flows.turn ≤ self.old.slirp.flows.turn + 1 }
     {
         self.slirp.tick(world);
         match self.pump(world) {
@@ -210,11 +215,12 @@ impl Service {
         requires on { ReadsOn (under_way self.old.link) }
         requires number { self.old.slirp.number + 1 < 2 ^ 64 }
         ensures makes { (config : Config) (count : ℕ) → count < config.turns → Brings (W.tells world.old) (W.tells world.new)
-            (Holds config (after count) self.old.slirp self.old.link) (AfterTurn result config (after (count + 1)) self.new.slirp self.new.link) }
+            (HoldsNow config (after count) true self.old.slirp self.old.link) (AfterTurn result config (after (count + 1)) false self.new.slirp self.new.link) }
         ensures faults { IsCounted result (W.tells world.old).faults (W.tells world.new).faults }
         ensures on { GoesOnAfter result self.new.link }
         ensures config { self.new.slirp.config ≡ self.old.slirp.config }
         ensures number { self.new.slirp.number ≤ self.old.slirp.number + 1 }
+        ensures turns { self.new.slirp.flows.turn ≡ self.old.slirp.flows.turn }
     {
         match self.sleep(world) {
             Slept::Ready => self.work(world),
@@ -226,12 +232,13 @@ impl Service {
     // Waits, and asks for the moment where it was woken.
     fn sleep<W: World>(&mut self, world: &mut W) -> Slept
         ensures makes { (config : Config) (count : ℕ) → count < config.turns → Brings (W.tells world.old) (W.tells world.new)
-            (Holds config (after count) self.old.slirp self.old.link) (AfterSleep result config (count + 1) self.new.wants self.new.ready self.new.slirp self.new.link) }
+            (HoldsNow config (after count) true self.old.slirp self.old.link) (AfterSleep result config (count + 1) self.new.wants self.new.ready self.new.slirp self.new.link) }
         ensures counts { AreGrown (W.tells world.old).faults (W.tells world.new).faults }
         ensures failed { result ≡ Slept.Failed → Rose (W.tells world.old).faults.wait (W.tells world.new).faults.wait }
         ensures on { under_way self.new.link ≡ under_way self.old.link }
         ensures config { self.new.slirp.config ≡ self.old.slirp.config }
         ensures number { self.new.slirp.number ≡ self.old.slirp.number }
+        ensures turns { self.new.slirp.flows.turn ≡ self.old.slirp.flows.turn }
     {
         let timeout = self.slirp.pollfds_fill(&self.link, &mut self.wants);
         match world.wait(self.wants.list(), timeout, &mut self.ready) {
@@ -251,11 +258,12 @@ impl Service {
         requires on { ReadsOn (under_way self.old.link) }
         requires number { self.old.slirp.number + 1 < 2 ^ 64 }
         ensures makes { (config : Config) (count : ℕ) → Brings (W.tells world.old) (W.tells world.new)
-            (Holds config (standing count self.old.wants self.old.ready) self.old.slirp self.old.link) (AfterTurn result config (after count) self.new.slirp self.new.link) }
+            (HoldsNow config (standing count self.old.wants self.old.ready) false self.old.slirp self.old.link) (AfterTurn result config (after count) false self.new.slirp self.new.link) }
         ensures faults { IsCounted result (W.tells world.old).faults (W.tells world.new).faults }
         ensures on { GoesOnAfter result self.new.link }
         ensures config { self.new.slirp.config ≡ self.old.slirp.config }
         ensures number { self.new.slirp.number ≤ self.old.slirp.number + 1 }
+        ensures turns { self.new.slirp.flows.turn ≡ self.old.slirp.flows.turn }
     {
         let mut to_read = self.may_read();
         for place in 0..self.ready.items().len() {
@@ -288,11 +296,12 @@ impl Service {
         requires on { ReadsOn (under_way self.old.link) }
         requires number { to_read ≡ true → self.old.slirp.number + 1 < 2 ^ 64 }
         ensures makes { (config : Config) (count : ℕ) (items : List AnItem) → (to_read ≡ true → reads TheLink self.old.wants ≡ true) → Brings (W.tells world.old) (W.tells world.new)
-            (Holds config (standing count self.old.wants (item.now ∷ items)) self.old.slirp self.old.link) (AfterTurn result config (standing count self.old.wants items) self.new.slirp self.new.link) }
+            (HoldsNow config (standing count self.old.wants (item.now ∷ items)) false self.old.slirp self.old.link) (AfterTurn result config (standing count self.old.wants items) false self.new.slirp self.new.link) }
         ensures faults { IsCounted result (W.tells world.old).faults (W.tells world.new).faults }
         ensures on { GoesOnAfter result self.new.link }
         ensures config { self.new.slirp.config ≡ self.old.slirp.config }
         ensures number { self.new.slirp.number ≤ self.old.slirp.number + (if is_read_now to_read item.now then 1 else 0) }
+        ensures turns { self.new.slirp.flows.turn ≡ self.old.slirp.flows.turn }
         ensures reports { (self.new.wants ≡ self.old.wants) × (self.new.ready ≡ self.old.ready) }
     {
         match self.serve_item(world, item, to_read) {
@@ -301,60 +310,96 @@ impl Service {
         }
     }
 
-    // Serves an item of what a wait reported: the link where a frame is still to be read, or a socket that was waited for.
+    // Serves an item of what a wait reported: the link where a frame is still to be read, or a socket, in the directions that were waited for.
     fn serve_item<W: World>(&mut self, world: &mut W, item: &Want, to_read: bool) -> Turn
         requires on { ReadsOn (under_way self.old.link) }
         requires number { to_read ≡ true → self.old.slirp.number + 1 < 2 ^ 64 }
         ensures makes { (config : Config) (count : ℕ) (items : List AnItem) → (to_read ≡ true → reads TheLink self.old.wants ≡ true) → Brings (W.tells world.old) (W.tells world.new)
-            (Holds config (standing count self.old.wants (item.now ∷ items)) self.old.slirp self.old.link) (AfterTurn result config (standing count self.old.wants items) self.new.slirp self.new.link) }
+            (HoldsNow config (standing count self.old.wants (item.now ∷ items)) false self.old.slirp self.old.link) (AfterTurn result config (standing count self.old.wants items) false self.new.slirp self.new.link) }
         ensures faults { IsCounted result (W.tells world.old).faults (W.tells world.new).faults }
         ensures on { GoesOnAfter result self.new.link }
         ensures config { self.new.slirp.config ≡ self.old.slirp.config }
         ensures number { self.new.slirp.number ≤ self.old.slirp.number + (if is_read_now to_read item.now then 1 else 0) }
+        ensures turns { self.new.slirp.flows.turn ≡ self.old.slirp.flows.turn }
         ensures reports { (self.new.wants ≡ self.old.wants) × (self.new.ready ≡ self.old.ready) }
     {
-        if !item.read {
-            return Turn::Again;
-        }
         match item.of {
             Who::Link => {
-                if to_read {
+                if is_read_now(to_read, item) {
                     self.receive(world)
                 } else {
                     Turn::Again
                 }
             }
             Who::Udp(number) => {
-                if self.waits_for(number) {
+                if self.waits_for(number, item) {
                     self.hear(world, number);
                 }
                 Turn::Again
             }
-            Who::Listener(_) | Who::Tcp(_) => Turn::Again,
+            Who::Tcp(number) => {
+                self.serve_flow(world, number, item);
+                Turn::Again
+            }
+            Who::Listener(_) => Turn::Again,
         }
     }
 
-    // Whether datagrams on this socket were waited for. What is waited for stands by rising numbers, the link before all sockets.
-    fn waits_for(&self, number: u64) -> bool
-        ensures { result ≡ true → reads (Udp number) self.now.wants ≡ true }
+    // Serves the flow of a socket, in the directions that were waited for.
+    fn serve_flow<W: World>(&mut self, world: &mut W, number: u64, item: &Want)
+        requires { item.now.of ≡ Tcp number }
+        ensures makes { (config : Config) (count : ℕ) (items : List AnItem) → Brings (W.tells world.old) (W.tells world.new)
+            (HoldsNow config (standing count self.old.wants (item.now ∷ items)) false self.old.slirp self.old.link) (HoldsNow config (standing count self.old.wants items) false self.new.slirp self.new.link) }
+        ensures counts { AreGrown (W.tells world.old).faults (W.tells world.new).faults }
+        ensures link { self.new.link ≡ self.old.link }
+        ensures config { self.new.slirp.config ≡ self.old.slirp.config }
+        ensures number { self.new.slirp.number ≡ self.old.slirp.number }
+        ensures turns { self.new.slirp.flows.turn ≡ self.old.slirp.flows.turn }
+        ensures reports { (self.new.wants ≡ self.old.wants) × (self.new.ready ≡ self.old.ready) }
     {
-        let wants = self.wants.items();
+        if let Some(wanted) = self.counted(number, item) {
+            self.slirp
+                .take_report(world, number, wanted.read, wanted.write);
+        }
+    }
+
+    // What counts of a report on a flow's socket: the directions that were waited for. What is waited for of flows stands behind all else, by rising numbers.
+    fn counted(&self, number: u64, item: &Want) -> Option<Want>
+        requires { item.now.of ≡ Tcp number }
+        ensures { IfSome result (λ w. w ≡ wanted_of self.now.wants item.now) }
+    {
+        let wants = self.wants.of_flows();
+        match wants.binary_search_by_key(&Some(number), |want| socket_of(want.of)) {
+            Ok(place) => counted_at(wants, place, number, item),
+            Err(_) => None,
+        }
+    }
+
+    // Whether a report on this socket is for reading, and datagrams on it were waited for. What is waited for of them stands by rising numbers, the link before all sockets.
+    fn waits_for(&self, number: u64, item: &Want) -> bool
+        ensures { result ≡ true → (item.now.read ≡ true) × (reads (Udp number) self.now.wants ≡ true) }
+    {
+        if !item.read {
+            return false;
+        }
+        let wants = self.wants.of_datagrams();
         match wants.binary_search_by_key(&Some(number), |want| socket_of(want.of)) {
             Ok(place) => reads_at(wants, place, number),
             Err(_) => false,
         }
     }
 
-    // Reads a frame where nothing is left to be sent, takes it in, and sends its datagram on.
+    // Reads a frame where nothing is left to be sent, takes it in, and sends its datagram on, or hands its segment on.
     fn receive<W: World>(&mut self, world: &mut W) -> Turn
         requires on { ReadsOn (under_way self.old.link) }
         requires number { self.old.slirp.number + 1 < 2 ^ 64 }
         ensures makes { (config : Config) (count : ℕ) (wants : List AnItem) (item : AnItem) (items : List AnItem) → is_to_read TheLink (wanted_of wants item) ≡ true → Brings (W.tells world.old) (W.tells world.new)
-            (Holds config (standing count wants (item ∷ items)) self.old.slirp self.old.link) (AfterTurn result config (standing count wants items) self.new.slirp self.new.link) }
+            (HoldsNow config (standing count wants (item ∷ items)) false self.old.slirp self.old.link) (AfterTurn result config (standing count wants items) false self.new.slirp self.new.link) }
         ensures faults { IsCounted result (W.tells world.old).faults (W.tells world.new).faults }
         ensures on { GoesOnAfter result self.new.link }
         ensures config { self.new.slirp.config ≡ self.old.slirp.config }
         ensures number { self.new.slirp.number ≤ self.old.slirp.number + 1 }
+        ensures turns { self.new.slirp.flows.turn ≡ self.old.slirp.flows.turn }
         ensures reports { (self.new.wants ≡ self.old.wants) × (self.new.ready ≡ self.old.ready) }
     {
         if !self.is_settled() {
@@ -363,8 +408,10 @@ impl Service {
         match self.link.read_frame(world) {
             Arrived::Frame => {
                 let brought = self.slirp.input(self.link.frame(), &mut self.joined);
-                if let Some(errand) = self.slirp.complete(brought, &self.joined) {
-                    self.slirp.relay(world, &errand);
+                match self.slirp.complete(brought, &self.joined) {
+                    Some(Task::Errand(errand)) => self.slirp.relay(world, &errand),
+                    Some(Task::Segment(segment)) => self.slirp.take_segment(world, &segment),
+                    None => {}
                 }
                 Turn::Again
             }
@@ -381,11 +428,12 @@ impl Service {
         // Where nothing is left to be sent and the socket is open a datagram is asked for on it, once.
         ensures hears { is_settled self.old.slirp self.old.link ≡ true → (a : AnAssociation) → numbered number self.old.slirp.associations ≡ Some a → Makes (W.tells world.old) (W.tells world.new) (Receives number) }
         ensures makes { (config : Config) (count : ℕ) (wants : List AnItem) (item : AnItem) (items : List AnItem) → is_to_read (Udp number) (wanted_of wants item) ≡ true → Brings (W.tells world.old) (W.tells world.new)
-            (Holds config (standing count wants (item ∷ items)) self.old.slirp self.old.link) (Holds config (standing count wants items) self.new.slirp self.new.link) }
+            (HoldsNow config (standing count wants (item ∷ items)) false self.old.slirp self.old.link) (HoldsNow config (standing count wants items) false self.new.slirp self.new.link) }
         ensures counts { AreGrown (W.tells world.old).faults (W.tells world.new).faults }
         ensures link { self.new.link ≡ self.old.link }
         ensures config { self.new.slirp.config ≡ self.old.slirp.config }
         ensures number { self.new.slirp.number ≡ self.old.slirp.number }
+        ensures turns { self.new.slirp.flows.turn ≡ self.old.slirp.flows.turn }
         ensures reports { (self.new.wants ≡ self.old.wants) × (self.new.ready ≡ self.old.ready) }
     {
         if self.is_settled() {
@@ -403,12 +451,13 @@ impl Service {
     // Sends what is owed.
     fn pump<W: World>(&mut self, world: &mut W) -> Turn
         requires { ReadsOn (under_way self.old.link) }
-        ensures makes { (config : Config) (at : Standing) → Brings (W.tells world.old) (W.tells world.new)
-            (Holds config at self.old.slirp self.old.link) (AfterTurn result config at self.new.slirp self.new.link) }
+        ensures makes { (config : Config) (at : Standing) (aged : Bool) → Brings (W.tells world.old) (W.tells world.new)
+            (HoldsNow config at aged self.old.slirp self.old.link) (AfterTurn result config at aged self.new.slirp self.new.link) }
         ensures faults { IsCounted result (W.tells world.old).faults (W.tells world.new).faults }
         ensures on { GoesOnAfter result self.new.link }
         ensures config { self.new.slirp.config ≡ self.old.slirp.config }
         ensures number { self.new.slirp.number ≡ self.old.slirp.number }
+        ensures turns { self.new.slirp.flows.turn ≡ self.old.slirp.flows.turn }
         ensures reports { (self.new.wants ≡ self.old.wants) × (self.new.ready ≡ self.old.ready) }
     {
         let pumped = self.slirp.pump(world, &mut self.link);
@@ -440,6 +489,13 @@ fn reads_link(items: &[Want]) -> bool
     items.iter().any(|item| item.of == Who::Link && item.read)
 }
 
+// Whether this item is the frame that is to be read.
+fn is_read_now(to_read: bool, item: &Want) -> bool
+    ensures { result ≡ is_read_now to_read item.now }
+{
+    to_read && item.of == Who::Link && item.read
+}
+
 // Whether a frame is still to be read after this item.
 fn still(to_read: bool, item: &Want) -> bool
     ensures { result ≡ still to_read item.now }
@@ -463,6 +519,29 @@ fn reads_at(wants: &[Want], place: usize, number: u64) -> bool
         return false;
     };
     is_read(want, number)
+}
+
+// What counts of a report on the flow's socket with this number, where that stands at the place: the directions that were waited for.
+fn counted_at(wants: &[Want], place: usize, number: u64, item: &Want) -> Option<Want>
+    requires { item.now.of ≡ Tcp number }
+    ensures { (before : List AnItem) → TcpOnce (before ++ wants.now) → IfSome result (λ w. w ≡ wanted_of (before ++ wants.now) item.now) }
+{
+    let want = wants.get(place)?;
+    counted_by(want, number, item)
+}
+
+// The same of the want at the place.
+fn counted_by(want: &Want, number: u64, item: &Want) -> Option<Want>
+    ensures { IfSome result (λ w. (want.now.of ≡ Tcp number) × (w ≡ record { of = item.now.of; read = item.now.read && want.now.read; write = item.now.write && want.now.write })) }
+{
+    if want.of != Who::Tcp(number) {
+        return None;
+    }
+    Some(Want {
+        of: item.of,
+        read: item.read && want.read,
+        write: item.write && want.write,
+    })
 }
 
 // Whether it is the socket with this number, for reading.

@@ -15,7 +15,6 @@ use Rattle.slirp_config.specs.Options.{Word}
 use Rattle.slirp_config.specs.declared.WordFault.{WordFault}
 use Rattle.slirp_config.specs.declared.WordFault.TheVariants.{Usage as Misread, BadConfig as BadField}
 use Rattle.serve_loop.specs.Ends.{end_of}
-use Rattle.slirp_laws.specs.Built.{as_built}
 use Rattle.slirp_laws.specs.Laws.{Finished}
 use Rattle.slirp_app.specs.Causes.{CannotRead, Caused, IsTooLarge, RanOn}
 use Rattle.slirp_app.specs.Fetching.{IsWhole, MayFetch, is_read, octets_read}
@@ -64,8 +63,8 @@ pub record ServesLink (config : Config) (at : Place) (status : ℕ) (world world
 
 -- what comes of the outcome alone; the settings of a run are those of the words as far as they are built
 abbrev pub Does : Meaning → Outcome → (world world_new : Telling) → (old new : Option (List ℕ)) → Type 0
-Does (Replays file config) outcome world world_new old new = Makes world world_new (λ made. Follows (MayFetch file) made × Caused (as_built config) outcome made old new)
-Does (Serves config at) outcome world world_new old new = Makes world world_new (ServesAt (as_built config) at outcome) × (new ≡ old)
+Does (Replays file config) outcome world world_new old new = Makes world world_new (λ made. Follows (MayFetch file) made × Caused config outcome made old new)
+Does (Serves config at) outcome world world_new old new = Makes world world_new (ServesAt config at outcome) × (new ≡ old)
 
 -- a file has a name that can be asked for, a link a place at which it can be opened
 abbrev pub CanBeDone : Meaning → Type 0

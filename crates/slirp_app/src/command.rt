@@ -11,7 +11,6 @@ ghost use Rattle.slirp_app.specs.Texts.{Got};
 ghost use Rattle.slirp_app.specs.declared.status.Outcome.{Outcome as AnOutcome};
 ghost use Rattle.slirp_app.specs.declared.status.Outcome.TheVariants.{BadConfig, NoMemory as OfMemory};
 ghost use Rattle.serve_loop.specs.Served.{IsBuilt};
-ghost use Rattle.slirp_laws.specs.Built.{as_built};
 ghost use Rattle.world_face.specs.Journal.{Place};
 ghost use Rattle.world_face.specs.Tells.{Makes, Rose};
 
@@ -42,12 +41,12 @@ pub fn slirp_main<W: World, K: Sink, E: Sink>(
     ensures only_config { result ≡ 2 → (meaning : Meaning) × (field : AField) × Means (map string_bytes words.now.items) meaning × (first_broken (config_of meaning) ≡ Some field) }
     // With either no call is made.
     ensures untouched { (result ≡ 1) ⊎ (result ≡ 2) → Makes (W.tells world.old) (W.tells world.new) (λ made. made ≡ []) }
-    // With `replay FILE` a run is made on what FILE says, with the settings of the words as far as they are built: there is room for no flow of TCP yet.
+    // With `replay FILE` a run is made on what FILE says, with the settings of the words.
     ensures replays { (file : List ℕ) (config : Config) → Means (map string_bytes words.now.items) (Replays file config) → first_broken config ≡ None
-        → ReplaysFile file (as_built config) result (W.tells world.old) (W.tells world.new) (K.holds out.old) (K.holds out.new) (Got (E.holds err.old) (E.holds err.new) (E.faults err.old) (E.faults err.new)) }
+        → ReplaysFile file config result (W.tells world.old) (W.tells world.new) (K.holds out.old) (K.holds out.new) (Got (E.holds err.old) (E.holds err.new) (E.faults err.old) (E.faults err.new)) }
     // With `serve --link AT` one is made on `world` itself.
     ensures serves { (config : Config) (at : Place) → Means (map string_bytes words.now.items) (Serves config at) → first_broken config ≡ None
-        → ServesLink (as_built config) at result (W.tells world.old) (W.tells world.new) (K.holds out.old) (K.holds out.new) (Got (E.holds err.old) (E.holds err.new) (E.faults err.old) (E.faults err.new)) }
+        → ServesLink config at result (W.tells world.old) (W.tells world.new) (K.holds out.old) (K.holds out.new) (Got (E.holds err.old) (E.holds err.new) (E.faults err.old) (E.faults err.new)) }
     // Where nothing was run nothing was put.
     ensures nothing { IsTrue (is_unrun result) → K.holds out.new ≡ K.holds out.old }
     // `err` got the text of the outcome and a line feed, unless its count of faults rose.

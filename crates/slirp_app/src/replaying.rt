@@ -12,7 +12,6 @@ ghost use Rattle.slirp_app.specs.Fetching.{MayFetch};
 ghost use Rattle.slirp_app.specs.Statuses.{code_of, outcome_of, is_run, is_unrun};
 ghost use Rattle.slirp_app.specs.declared.status.Outcome.TheVariants.{Diverged, NoMemory as OfMemory, ScheduleLine, ScheduleRead, ScheduleTooLarge};
 ghost use Rattle.serve_loop.specs.Served.{IsBuilt};
-ghost use Rattle.slirp_laws.specs.Built.{as_built};
 ghost use Rattle.world_face.specs.Journal.{Follows};
 ghost use Rattle.world_face.specs.Tells.{Makes, Rose};
 
@@ -37,7 +36,7 @@ pub(crate) fn replay_file<W: World, K: Sink>(
     requires built { IsBuilt (settings config.now) }
     requires some { 0 < length name.now }
     requires fits { length name.now ≤ 1280 }
-    ensures calls { Makes (W.tells world.old) (W.tells world.new) (λ made. Follows (MayFetch name.now) made × Caused (as_built (settings config.now)) result made (K.holds out.old) (K.holds out.new)) }
+    ensures calls { Makes (W.tells world.old) (W.tells world.new) (λ made. Follows (MayFetch name.now) made × Caused (settings config.now) result made (K.holds out.old) (K.holds out.new)) }
     ensures nothing { IsTrue (is_unrun (code_of result)) → K.holds out.new ≡ K.holds out.old }
     ensures read { (code_of result ≢ 1) × (code_of result ≢ 2) }
     ensures refused { code_of result ≡ 12 → Rose (K.faults out.old) (K.faults out.new) }
@@ -54,7 +53,7 @@ fn replay<K: Sink>(alloc: Global, octets: Vec<u8>, config: &SlirpConfig, out: &m
     requires sound { IsSound (settings config.now) }
     requires built { IsBuilt (settings config.now) }
     requires short { length octets.items ≤ 67108864 }
-    ensures came { Came (as_built (settings config.now)) result octets.items (K.holds out.old) (K.holds out.new) }
+    ensures came { Came (settings config.now) result octets.items (K.holds out.old) (K.holds out.new) }
     ensures nothing { IsTrue (is_unrun (code_of result)) → K.holds out.new ≡ K.holds out.old }
     ensures first { (line : ℕ) → result ≡ ScheduleLine line → IsFirstUnread octets.items line }
     ensures misspelt { (line : ℕ) → IsFirstUnread octets.items line → (result ≡ ScheduleLine line) ⊎ (result ≡ OfMemory) }
@@ -80,7 +79,7 @@ fn run<K: Sink>(
     requires sound { IsSound (settings config.now) }
     requires built { IsBuilt (settings config.now) }
     requires fresh { IsFresh script }
-    ensures came { Came (as_built (settings config.now)) result (schedule_text script.lines) (K.holds out.old) (K.holds out.new) }
+    ensures came { Came (settings config.now) result (schedule_text script.lines) (K.holds out.old) (K.holds out.new) }
     ensures nothing { IsTrue (is_unrun (code_of result)) → K.holds out.new ≡ K.holds out.old }
     ensures read { (code_of result ≢ 1) × (code_of result ≢ 2) × (code_of result ≢ 3) × (code_of result ≢ 4) }
     ensures refused { code_of result ≡ 12 → Rose (K.faults out.old) (K.faults out.new) }

@@ -4,7 +4,6 @@ ghost use Rattle.host_policy.specs.Ranges.{IsSound};
 ghost use Rattle.host_policy.specs.Settings.{settings};
 ghost use Rattle.slirp_app.specs.Serving.{ServesAt};
 ghost use Rattle.serve_loop.specs.Served.{IsBuilt};
-ghost use Rattle.slirp_laws.specs.Built.{as_built};
 ghost use Rattle.world_face.specs.Journal.{IsPlace, place_of};
 ghost use Rattle.world_face.specs.Tells.{Makes};
 
@@ -24,7 +23,7 @@ pub(crate) fn serve<W: World>(
     requires sound { IsSound (settings config.now) }
     requires built { IsBuilt (settings config.now) }
     requires place { IsPlace (place_of at.now) }
-    ensures { Makes (W.tells world.old) (W.tells world.new) (ServesAt (as_built (settings config.now)) (place_of at.now) result) }
+    ensures { Makes (W.tells world.old) (W.tells world.new) (ServesAt (settings config.now) (place_of at.now) result) }
 {
     let Ok(mut service) = Service::open(alloc, config) else {
         return Outcome::NoMemory;

@@ -69,12 +69,12 @@ fn a_denied_syn_is_reset_and_one_to_many_is_not(rt: HostRuntime) -> Result<(), F
     Ok(())
 }
 
-/// SYN with the number 1000 to 192.0.2.7:80, to which a guest may connect.
-const ALLOWED: &str =
-    "lread 4 = done 0000003a\nlread 58 = done 52550a00020252540012345608004500002c000300004006acb30a00020fc00002070fa00050000003e8000000006002ffffb6380000020405b4\n";
+/// SYN with the number 1000 to 192.0.2.7:80, to which a guest may connect; the host fails to; and RST with the number 0, which acknowledges 1001.
+const REFUSED: &str =
+    "lread 4 = done 0000003a\nlread 58 = done 52550a00020252540012345608004500002c000300004006acb30a00020fc00002070fa00050000003e8000000006002ffffb6380000020405b4\nconnect 0 192.0.2.7:80 = fail\nlwrite 0000003652540012345652550a000202080045000028000000004006acbac00002070a00020f00500fa000000000000003e950140000cde10000 = done 58\n";
 
 #[test]
-fn a_syn_is_ignored_while_there_is_room_for_no_flow(rt: HostRuntime) -> Result<(), Fail> {
-    assert!(rt; is_followed(rt.alloc(), ALLOWED)?);
+fn a_syn_is_reset_where_the_host_fails_to_connect(rt: HostRuntime) -> Result<(), Fail> {
+    assert!(rt; is_followed(rt.alloc(), REFUSED)?);
     Ok(())
 }

@@ -8,21 +8,20 @@ use Rattle.ipv4_head.specs.Ip.{Ip, read_ip, is_unbroken}
 use Rattle.ipv4_head.specs.Sets.{Part, PartSet, young}
 use Rattle.ipv4_reasm.specs.Areas.{Gathered}
 use Rattle.run_laws.specs.Fragments.{Fragment, arrived, fragment_by, joined_by, key_by, part_by, with_fragment}
-use Rattle.slirp_laws.specs.Answers.{Answer, frames_of}
-use Rattle.slirp_laws.specs.Datagrams.{Errand}
-use Rattle.slirp_core.specs.Datagrams.{errand_of}
-use Rattle.slirp_core.specs.Fragments.{Arrives, CameBy, Gathers, GathersIf, IsHeld, Took, assembled_ip, brought_errand, errand_or_none, taken_on, whole_or_none}
+use Rattle.slirp_laws.specs.Answers.{frames_of}
+use Rattle.slirp_core.specs.Segments.{errand_for, segment_for, segment_of_arrived, segment_of_ip}
+use Rattle.slirp_core.specs.Fragments.{Arrives, CameBy, Gathers, GathersIf, IsHeld, assembled_ip, brought_errand, brought_segment, task_or_none, taken_on, whole_or_none}
 use Rattle.slirp_core.specs.Packets.{errand_of_arrived, errand_of_ip, owed_for, owed_for_arrived, owed_for_ip, with_address, with_ip}
 use Rattle.slirp_core.specs.State.{SlirpState}
-use Rattle.slirp_core.specs.declared.datagrams.ErrandView.{ErrandView}
+use Rattle.slirp_core.specs.declared.tcp.Task.{Task}
 use Rattle.slirp_core.specs.declared.fragments.Assembled.{Assembled}
-use Rattle.slirp_core.specs.declared.fragments.Brought.{Brought}
 use Rattle.slirp_core.specs.declared.fragments.Brought.TheVariants.{Nothing}
 
 -- none is read
 pub none_arrives : (old : SlirpState) (held : List PartSet) (mac octets room : List ℕ) → read_ip octets ≡ None → old.pending ≡ [] → IsHeld old.parts held → Arrives old held mac octets old Nothing room
 none_arrives old held mac octets room read none is = record {
   errand = sym (ap (option_and_then (errand_of_arrived old.config old.moment (young old.moment held) mac octets)) read);
+  segment = sym (ap (option_and_then (segment_of_arrived old.config old.moment (young old.moment held) mac octets)) read);
   changes =
       ap (λ p. record old { pending = p }) none
       ∙ sym (ap (λ o. record old { pending = frames_of old.config old.sent (owed_for (owed_for_arrived old.config old.moment (young old.moment held) mac octets) o); known = with_ip old.config mac o old.known }) read);
@@ -38,19 +37,23 @@ whole_fragment guest false f is = cc
 no_fragment : (config : Config) (octets : List ℕ) (ip : Ip) → is_unbroken ip ≡ true → fragment_by config octets ip ≡ None
 no_fragment config octets ip whole = whole_fragment (is_guest config ip.from) (is_unbroken ip) (record { key = key_by ip; part = part_by octets ip }) whole
 
-errand_sent : (config : Config) (o : Option ErrandView) (room : List ℕ) → brought_errand config (errand_or_none o) room ≡ option_map errand_of o
+errand_sent : (config : Config) (o : Option Task) (room : List ℕ) → brought_errand config (task_or_none o) room ≡ option_and_then errand_for o
 errand_sent config None room = refl
-errand_sent config (Some e) room = refl
+errand_sent config (Some t) room = refl
 
-taken_sent : (s : SlirpState) (o : Option ErrandView) (room : List ℕ) → taken_on s (errand_or_none o) room ≡ s
+segment_sent : (config : Config) (o : Option Task) (room : List ℕ) → brought_segment config (task_or_none o) room ≡ option_and_then segment_for o
+segment_sent config None room = refl
+segment_sent config (Some t) room = refl
+
+taken_sent : (s : SlirpState) (o : Option Task) (room : List ℕ) → taken_on s (task_or_none o) room ≡ s
 taken_sent s None room = refl
-taken_sent s (Some e) room = refl
+taken_sent s (Some t) room = refl
 
 module _ (old : SlirpState) (held : List PartSet) (mac octets : List ℕ) (ip : Ip) (room : List ℕ) (read : read_ip octets ≡ Some ip) (is : IsHeld old.parts held) where
   -- a whole datagram is taken in
-  pub whole_arrives : (new : SlirpState) (o : Option ErrandView) → is_unbroken ip ≡ true → option_map errand_of o ≡ errand_of_ip old.config mac ip
-      → new ≡ record old { pending = frames_of old.config old.sent (owed_for_ip old.config mac ip); known = with_address old.config ip.from mac old.known } → Arrives old held mac octets new (errand_or_none o) room
-  whole_arrives new o whole errand same =
+  pub whole_arrives : (new : SlirpState) (o : Option Task) → is_unbroken ip ≡ true → option_and_then errand_for o ≡ errand_of_ip old.config mac ip → option_and_then segment_for o ≡ segment_of_ip old.config mac ip
+      → new ≡ record old { pending = frames_of old.config old.sent (owed_for_ip old.config mac ip); known = with_address old.config ip.from mac old.known } → Arrives old held mac octets new (task_or_none o) room
+  whole_arrives new o whole errand segment same =
       let arrives : arrived old.config old.moment (young old.moment held) octets ip ≡ Some ip =
       ap (λ (b : Bool). if b then Some ip else joined_by old.moment (young old.moment held) (fragment_by old.config octets ip)) whole in
       let parts : new.parts ≡ old.parts = ap (λ (s : SlirpState). s.parts) same in
@@ -58,6 +61,9 @@ module _ (old : SlirpState) (held : List PartSet) (mac octets : List ℕ) (ip : 
         errand =
             errand_sent old.config o room ∙ errand
             ∙ sym (ap (option_and_then (errand_of_arrived old.config old.moment (young old.moment held) mac octets)) read ∙ ap (option_and_then (errand_of_ip old.config mac)) arrives);
+        segment =
+            segment_sent old.config o room ∙ segment
+            ∙ sym (ap (option_and_then (segment_of_arrived old.config old.moment (young old.moment held) mac octets)) read ∙ ap (option_and_then (segment_of_ip old.config mac)) arrives);
         changes =
             taken_sent new o room ∙ same
             ∙ ap (λ l. record old { pending = frames_of old.config old.sent (owed_for_ip old.config mac ip); known = with_address old.config ip.from mac old.known; parts = l }) (sym parts)
@@ -74,6 +80,10 @@ module _ (old : SlirpState) (held : List PartSet) (mac octets : List ℕ) (ip : 
   errand_made : (config : Config) (o : Option Assembled) → CameBy mac o → brought_errand config (whole_or_none o) room ≡ option_and_then (errand_of_ip config mac) (whole_of o)
   errand_made config None came = refl
   errand_made config (Some a) came = ap (λ m. errand_of_ip config m (assembled_ip a room)) came
+
+  segment_made : (config : Config) (o : Option Assembled) → CameBy mac o → brought_segment config (whole_or_none o) room ≡ option_and_then (segment_of_ip config mac) (whole_of o)
+  segment_made config None came = refl
+  segment_made config (Some a) came = ap (λ m. segment_of_ip config m (assembled_ip a room)) came
 
   taken_made : (s : SlirpState) (o : Option Assembled) → CameBy mac o → s.pending ≡ [] → taken_on s (whole_or_none o) room ≡ record s { pending = frames_of s.config s.sent (owed_for (owed_for_ip s.config mac) (whole_of o)) }
   taken_made s None came none = ap (λ p. record s { pending = p }) none
@@ -116,6 +126,9 @@ module _ (old : SlirpState) (held : List PartSet) (mac octets : List ℕ) (ip : 
         errand =
             errand_made old.config o g.came ∙ ap (option_and_then (errand_of_ip old.config mac)) g.arrives
             ∙ sym (ap (option_and_then (errand_of_arrived old.config old.moment (young old.moment held) mac octets)) read);
+        segment =
+            segment_made old.config o g.came ∙ ap (option_and_then (segment_of_ip old.config mac)) g.arrives
+            ∙ sym (ap (option_and_then (segment_of_arrived old.config old.moment (young old.moment held) mac octets)) read);
         changes =
             ap (λ (s : SlirpState). taken_on s (whole_or_none o) room) same
             ∙ taken_made mid o g.came none

@@ -1,14 +1,14 @@
 -- A part that is put to those of its datagram, and the datagram that it makes whole.
-use Rattle.std.proofs.Common.{◌≡◌, ℕ, ◌%◌, ◌<◌, ◌==◌, ◌&&◌, ◌||◌, not, Bool, true, false, List, [], length, Option, Some, None, option_map, slice_get, if◌then◌else◌, refl, sym, ◌∙◌, ap, subst, arith}
+use Rattle.std.proofs.Common.{◌≡◌, ℕ, ◌%◌, ◌<◌, ◌==◌, ◌&&◌, ◌||◌, not, Bool, true, false, List, length, Option, Some, None, option_map, slice_get, refl, sym, ◌∙◌, ap, subst, arith}
 use Rattle.std.proofs.lemmas.Bool.Decides.{nat_tests}
 use Rattle.std.specs.List.{remove}
 use Rattle.ipv4_head.specs.Ip.{Ip}
-use Rattle.ipv4_head.specs.Sets.{Carrying, IsJoined, Key, OfSets, Outcome, UnevenPart, LongPart, Clashes, Waits, Joined, Part, PartSet, is_uneven, is_whole, joined, left_by, outcome, place_of, set_for, sets_after, sets_left, whole_by, whole_with, young}
+use Rattle.ipv4_head.specs.Sets.{Carrying, IsJoined, Key, OfSets, Outcome, UnevenPart, LongPart, Clashes, Waits, Joined, Part, PartSet, is_uneven, is_whole, joined, left_by, outcome, set_for, sets_after, sets_left, whole_by}
 use Rattle.ipv4_head.proofs.Members.{of_after, of_left, of_there}
 use Rattle.ipv4_reasm.specs.Answers.{IsWholeAt}
 use Rattle.ipv4_reasm.specs.Areas.{Gathered, StandFor}
 use Rattle.ipv4_reasm.proofs.Wholes.{joined_is}
-use Rattle.slirp_core.specs.Fragments.{IsHeld, Took, assembled_ip}
+use Rattle.slirp_core.specs.Fragments.{Took, assembled_ip}
 use Rattle.slirp_core.specs.declared.fragments.Assembled.{Assembled}
 
 -- a part that is even carries octets

@@ -1,102 +1,153 @@
 -- The calls that the associations make, step by step.
-use Rattle.std.proofs.Common.{◌≡◌, ℕ, ◌+◌, ◌<◌, ◌≤◌, ◌&&◌, Bool, true, false, nat_le, All, List, [], ◌∷◌, ◌++◌, length, take, Option, Some, None, if◌then◌else◌, refl, sym, ◌∙◌, ap, subst, append_assoc, arith}
-use Rattle.net_octets.specs.declared.Endpoint.{Endpoint}
-use Rattle.net_octets.specs.declared.Mac.{Mac}
+use Rattle.std.proofs.Common.{◌≡◌, ℕ, ◌+◌, ◌<◌, ◌≤◌, Bool, true, false, nat_le, List, [], ◌∷◌, ◌++◌, length, take, Option, Some, None, if◌then◌else◌, refl, sym, ◌∙◌, subst, append_assoc, arith}
 use Rattle.poll_list.specs.declared.Want.{Want}
 use Rattle.poll_list.specs.declared.Who.TheVariants.{Udp}
 use Rattle.host_policy.specs.Addresses.{Config}
 use Rattle.host_policy.specs.declared.Reply.{Reply}
-use Rattle.world_face.specs.Journal.{Entry, Close, UdpSend, UdpRecv, filled_got}
+use Rattle.world_face.specs.Journal.{Entry, Allowed, AreAllowed, Close, UdpSend, UdpRecv, filled_got}
 use Rattle.world_face.specs.declared.Sent.{Sent}
 use Rattle.world_face.specs.declared.Sent.TheVariants.{Done, NotYet, Failed}
 use Rattle.world_face.specs.declared.Got.{Got}
 use Rattle.world_face.specs.declared.Got.TheVariants.{From, NotYet as GotNotYet, Failed as GotFailed}
-use Rattle.udp_assoc.specs.Associations.{IsLeast, most_associations, numbers, numbered, socket_of, without, moved_last, sent_from, heard_at, is_over}
-use Rattle.udp_assoc.specs.Relays.{Relays, ByForward, BySocket, ByNewSocket, OpensFor, Opens, OpensNone, SendsOn, Hears, OnForward, OnAssociation, OnNone, Receives, Ticks, ClosesLeast, calls_for_room, with_room, with_reply, opened, told, passed}
+use Rattle.udp_assoc.specs.Associations.{most_associations, numbers, numbered, without, moved_last, sent_from, heard_at}
+use Rattle.udp_assoc.specs.Relays.{Relays, ByForward, BySocket, ByNewSocket, OpensFor, Opens, OpensNone, Hears, OnForward, OnAssociation, OnNone, Ticks, calls_for_room, with_room, with_reply, opened, told, passed, ClosesLeast}
 use Rattle.udp_assoc.specs.declared.assocs.Association.{Association}
 use Rattle.run_laws.specs.Sockets.{is_among}
-use Rattle.run_laws.specs.Shape.{Phase}
-use Rattle.slirp_laws.specs.Agenda.{is_to_read, wanted_of}
+use Rattle.slirp_laws.specs.Agenda.{agenda, all_wanted, is_to_read, wanted_of}
 use Rattle.slirp_laws.specs.Datagrams.{Errand, NeedsRoom, NeedsSocket, NeedsSending}
 use Rattle.slirp_laws.specs.Relayed.{step_for, with_socket, without_socket}
 use Rattle.stream_netdev.specs.State.{LinkState}
-use Rattle.slirp_core.specs.Hearing.{Receives as ReceivesOn, ClosesBelow, ClosesRising}
-use Rattle.slirp_core.specs.Holds.{Standing, standing, HoldsAt, Holds, Closing, AfterClosing}
+use Rattle.slirp_core.specs.Holds.{Standing, standing, IsLast, Flowing, HoldsAt, Holds}
 use Rattle.slirp_core.specs.Replies.{outbound_of, told_by, owed_by}
 use Rattle.slirp_core.specs.State.{SlirpState}
-use Rattle.udp_assoc.proofs.Below.{AreBelow, below_last, below_moved, below_up, below_without}
-use Rattle.slirp_core.proofs.Closing.{after_closing, all_closed}
+use Rattle.slirp_core.proofs.Parts.{skipped}
+use Rattle.slirp_core.proofs.Sockets.{last_among, socket_among, no_association}
 use Rattle.slirp_core.proofs.Relaying.{after_open, after_refusal, after_sent, after_failure, after_yielding, after_idling, after_hearing, after_not_yet, after_no_hearing}
-use Rattle.slirp_core.proofs.Reports.{passes_over}
-use Rattle.slirp_core.proofs.Sockets.{last_among, no_association, socket_among}
+use Rattle.slirp_core.specs.Hearing.{Receives as ReceivesOn}
+use Rattle.tcp_flows.specs.Runs.{ClosesBelow, ClosesRising}
+use Rattle.udp_assoc.proofs.Below.{AreBelow, below_last, below_moved, below_up, below_without}
 use Rattle.slirp_core.proofs.Ticking.{AreFrom, below_more, found_from, from_least, from_zero, without_least}
 
-module _ (config : Config) (at : Standing) (link : LinkState) where
+-- each of two lists of answers was one that a World may give
+pub parted : (xs ys : List Entry) → AreAllowed (xs ++ ys) → AreAllowed xs × AreAllowed ys
+parted [] ys all = (tt, all)
+parted (x ∷ xs) ys all = let rest = parted xs ys all.1 in ((all.0, rest.0), rest.1)
+
+-- other reports are left
+pub with_agenda : (config : Config) (at after : Standing) (slirp : SlirpState) (f : Flowing) (link : LinkState) (past : List Entry) → after.count ≡ at.count
+    → Holds config at slirp f link past → IsLast (all_wanted after.wants after.left) (agenda past) → Holds config after slirp f link past
+with_agenda config at after slirp f link past same holds last = record {
+  lawful = holds.lawful;
+  allowed = holds.allowed;
+  keeps = holds.keeps;
+  answers = holds.answers;
+  guests = holds.guests;
+  relayed = holds.relayed;
+  flows = holds.flows;
+  sockets = holds.sockets;
+  clock = record { moment = holds.clock.moment; counted = holds.clock.counted ∙ sym same };
+  stands = holds.stands;
+  agenda = last;
+  open_yet = holds.open_yet;
+}
+
+-- an item is passed over
+pub passes_over : (config : Config) (count : ℕ) (wants : List Want) (item : Want) (items : List Want) (slirp : SlirpState) (f : Flowing) (link : LinkState) (past : List Entry)
+    → Holds config (standing count wants (item ∷ items)) slirp f link past → Holds config (standing count wants items) slirp f link past
+passes_over config count wants item items slirp f link past holds =
+    with_agenda config (standing count wants (item ∷ items)) (standing count wants items) slirp f link past refl holds (skipped (wanted_of wants item) (all_wanted wants items) (agenda past) holds.agenda)
+
+module _ (config : Config) (at : Standing) (f : Flowing) (link : LinkState) where
   -- a datagram was sent on the socket of its port
-  sent_on : (slirp : SlirpState) (past : List Entry) (socket : ℕ) (errand : Errand) → is_among socket (numbers slirp.associations) ≡ true → HoldsAt config at (NeedsSending socket errand) slirp link past → (answer : Sent)
-      → Holds config at (record slirp { associations = moved_last (sent_from (record { 0 = errand.datagram.mac }) slirp.moment) socket slirp.associations; pending = told_by slirp errand.datagram (told answer) }) link
+  sent_on : (slirp : SlirpState) (past : List Entry) (socket : ℕ) (errand : Errand) → is_among socket (numbers slirp.associations) ≡ true → HoldsAt config at (NeedsSending socket errand) slirp f link past → (answer : Sent) → Allowed (UdpSend socket errand.to errand.datagram.body answer)
+      → Holds config at (record slirp { associations = moved_last (sent_from (record { 0 = errand.datagram.mac }) slirp.moment) socket slirp.associations; pending = told_by slirp errand.datagram (told answer) }) f link
       (UdpSend socket errand.to errand.datagram.body answer ∷ past)
-  sent_on slirp past socket errand among holds Done = after_sent config at slirp link past socket errand among holds Done refl
-  sent_on slirp past socket errand among holds NotYet = after_sent config at slirp link past socket errand among holds NotYet refl
-  sent_on slirp past socket errand among holds Failed = after_failure config at slirp link past socket errand among holds
+  sent_on slirp past socket errand among holds Done allowed = after_sent config at slirp f link past socket errand among holds Done allowed refl
+  sent_on slirp past socket errand among holds NotYet allowed = after_sent config at slirp f link past socket errand among holds NotYet allowed refl
+  sent_on slirp past socket errand among holds Failed allowed = after_failure config at slirp f link past socket errand among holds allowed
 
   -- a socket was opened for it at every address, or wasn't
   opened_for : (slirp : SlirpState) (past : List Entry) (errand : Errand) (new : List Association) (reply : Reply) (calls : List Entry)
-      → OpensFor 0 (outbound_of errand) slirp.moment slirp.number slirp.associations new reply calls → HoldsAt config at (NeedsSocket errand) slirp link past
-      → Holds config at (record slirp { associations = new; pending = told_by slirp errand.datagram reply; number = slirp.number + 1 }) link (calls ++ past)
-  opened_for slirp past errand new reply calls (Opens answer made is replies) holds =
+      → OpensFor 0 (outbound_of errand) slirp.moment slirp.number slirp.associations new reply calls → AreAllowed calls → HoldsAt config at (NeedsSocket errand) slirp f link past
+      → Holds config at (record slirp { associations = new; pending = told_by slirp errand.datagram reply; number = slirp.number + 1 }) f link (calls ++ past)
+  opened_for slirp past errand new reply calls (Opens answer made is replies) allowed holds =
+      let all = subst AreAllowed made allowed in
       let one = opened (outbound_of errand) slirp.number slirp.moment in
       let with_one : SlirpState = record slirp { number = slirp.number + 1; associations = slirp.associations ++ (one ∷ []) } in
-      subst (λ (l : List Association). Holds config at (record slirp { associations = l; pending = told_by slirp errand.datagram reply; number = slirp.number + 1 }) link (calls ++ past)) (sym is)
-      (subst (λ (r : Reply). Holds config at (record with_one { associations = moved_last (sent_from (record { 0 = errand.datagram.mac }) slirp.moment) slirp.number with_one.associations; pending = told_by slirp errand.datagram r }) link (calls ++ past)) (sym replies)
-      (subst (λ (m : List Entry). Holds config at (record with_one { associations = moved_last (sent_from (record { 0 = errand.datagram.mac }) slirp.moment) slirp.number with_one.associations; pending = told_by slirp errand.datagram (told answer) }) link (m ++ past)) (sym made)
-      (sent_on with_one _ slirp.number errand (last_among slirp.associations one) (after_open config at slirp link past errand holds) answer)))
-  opened_for slirp past errand new reply calls (OpensNone made is replies) holds =
-      subst (λ (l : List Association). Holds config at (record slirp { associations = l; pending = told_by slirp errand.datagram reply; number = slirp.number + 1 }) link (calls ++ past)) (sym is)
-      (subst (λ (r : Reply). Holds config at (record slirp { pending = told_by slirp errand.datagram r; number = slirp.number + 1 }) link (calls ++ past)) (sym replies)
-      (subst (λ (m : List Entry). Holds config at (record slirp { pending = told_by slirp errand.datagram (told Failed); number = slirp.number + 1 }) link (m ++ past)) (sym made)
-      (after_refusal config at slirp link past errand holds)))
+      subst (λ (l : List Association). Holds config at (record slirp { associations = l; pending = told_by slirp errand.datagram reply; number = slirp.number + 1 }) f link (calls ++ past)) (sym is)
+      (subst (λ (r : Reply). Holds config at (record with_one { associations = moved_last (sent_from (record { 0 = errand.datagram.mac }) slirp.moment) slirp.number with_one.associations; pending = told_by slirp errand.datagram r }) f link (calls ++ past)) (sym replies)
+      (subst (λ (m : List Entry). Holds config at (record with_one { associations = moved_last (sent_from (record { 0 = errand.datagram.mac }) slirp.moment) slirp.number with_one.associations; pending = told_by slirp errand.datagram (told answer) }) f link (m ++ past)) (sym made)
+      (sent_on with_one _ slirp.number errand (last_among slirp.associations one) (after_open config at slirp f link past errand holds all.1.0) answer all.0)))
+  opened_for slirp past errand new reply calls (OpensNone made is replies) allowed holds =
+      subst (λ (l : List Association). Holds config at (record slirp { associations = l; pending = told_by slirp errand.datagram reply; number = slirp.number + 1 }) f link (calls ++ past)) (sym is)
+      (subst (λ (r : Reply). Holds config at (record slirp { pending = told_by slirp errand.datagram r; number = slirp.number + 1 }) f link (calls ++ past)) (sym replies)
+      (subst (λ (m : List Entry). Holds config at (record slirp { pending = told_by slirp errand.datagram (told Failed); number = slirp.number + 1 }) f link (m ++ past)) (sym made)
+      (after_refusal config at slirp f link past errand holds (subst AreAllowed made allowed).0)))
 
   -- there is room for one more
-  roomed : (slirp : SlirpState) (past : List Entry) (errand : Errand) (list : List Association) → length (with_room list) < most_associations
-      → HoldsAt config at (without_socket list errand) (record slirp { associations = list }) link past
-      → HoldsAt config at (NeedsSocket errand) (record slirp { associations = with_room list }) link (calls_for_room list ++ past)
-  roomed slirp past errand [] room holds = holds
-  roomed slirp past errand (oldest ∷ others) room holds = by (nat_le most_associations (length (oldest ∷ others))) room holds
+  roomed : (slirp : SlirpState) (past : List Entry) (errand : Errand) (list : List Association) → length (with_room list) < most_associations → AreAllowed (calls_for_room list)
+      → HoldsAt config at (without_socket list errand) (record slirp { associations = list }) f link past
+      → HoldsAt config at (NeedsSocket errand) (record slirp { associations = with_room list }) f link (calls_for_room list ++ past)
+  roomed slirp past errand [] room allowed holds = holds
+  roomed slirp past errand (oldest ∷ others) room allowed holds = by (nat_le most_associations (length (oldest ∷ others))) room allowed holds
     where
-      by : (b : Bool) → length (if b then without oldest.number (oldest ∷ others) else oldest ∷ others) < most_associations
-          → HoldsAt config at (if b then NeedsRoom oldest.number errand else NeedsSocket errand) (record slirp { associations = oldest ∷ others }) link past
-          → HoldsAt config at (NeedsSocket errand) (record slirp { associations = if b then without oldest.number (oldest ∷ others) else oldest ∷ others }) link ((if b then Close oldest.number ∷ [] else []) ++ past)
-      by true room holds = after_yielding config at (record slirp { associations = oldest ∷ others }) link past oldest others errand refl room holds
-      by false room holds = holds
+      by : (b : Bool) → length (if b then without oldest.number (oldest ∷ others) else oldest ∷ others) < most_associations → AreAllowed (if b then Close oldest.number ∷ [] else [])
+          → HoldsAt config at (if b then NeedsRoom oldest.number errand else NeedsSocket errand) (record slirp { associations = oldest ∷ others }) f link past
+          → HoldsAt config at (NeedsSocket errand) (record slirp { associations = if b then without oldest.number (oldest ∷ others) else oldest ∷ others }) f link ((if b then Close oldest.number ∷ [] else []) ++ past)
+      by true room allowed holds = after_yielding config at (record slirp { associations = oldest ∷ others }) f link past oldest others errand allowed.0 refl room holds
+      by false room allowed holds = holds
 
   pub relayed : (slirp : SlirpState) (past : List Entry) (errand : Errand) (next : ℕ) (new : List Association) (reply : Reply) (made : List Entry)
-      → Relays 0 None (outbound_of errand) slirp.moment slirp.number next slirp.associations new reply made → HoldsAt config at (step_for slirp.associations (Some errand)) slirp link past
-      → Holds config at (record slirp { associations = new; pending = told_by slirp errand.datagram reply; number = next }) link (made ++ past)
-  relayed slirp past errand next new reply made (ByForward socket for sends is same) holds = cc
-  relayed slirp past errand next new reply made (BySocket socket for found sends is same) holds =
-      let due = subst (λ (o : Option ℕ). HoldsAt config at (with_socket o slirp.associations errand) slirp link past) found holds in
-      subst (λ (n : ℕ). Holds config at (record slirp { associations = new; pending = told_by slirp errand.datagram reply; number = n }) link (made ++ past)) (sym same)
-      (subst (λ (l : List Association). Holds config at (record slirp { associations = l; pending = told_by slirp errand.datagram reply }) link (made ++ past)) (sym is)
-      (subst (λ (r : Reply). Holds config at (record slirp { associations = moved_last (sent_from (record { 0 = errand.datagram.mac }) slirp.moment) socket slirp.associations; pending = told_by slirp errand.datagram r }) link (made ++ past)) (sym sends.2)
-      (subst (λ (m : List Entry). Holds config at (record slirp { associations = moved_last (sent_from (record { 0 = errand.datagram.mac }) slirp.moment) socket slirp.associations; pending = told_by slirp errand.datagram (told sends.0) }) link (m ++ past)) (sym sends.1)
-      (sent_on slirp past socket errand (socket_among errand.datagram.from slirp.associations socket found) due sends.0))))
-  relayed slirp past errand next new reply made (ByNewSocket calls for found room opens is same) holds =
-      let due = subst (λ (o : Option ℕ). HoldsAt config at (with_socket o slirp.associations errand) slirp link past) found holds in
-      let ready = roomed slirp past errand slirp.associations room due in
-      subst (λ (n : ℕ). Holds config at (record slirp { associations = new; pending = told_by slirp errand.datagram reply; number = n }) link (made ++ past)) (sym same)
-      (subst (λ (m : List Entry). Holds config at (record slirp { associations = new; pending = told_by slirp errand.datagram reply; number = slirp.number + 1 }) link (m ++ past)) (sym is)
-      (subst (λ (h : List Entry). Holds config at (record slirp { associations = new; pending = told_by slirp errand.datagram reply; number = slirp.number + 1 }) link h) (sym (append_assoc calls (calls_for_room slirp.associations) past))
-      (opened_for (record slirp { associations = with_room slirp.associations }) (calls_for_room slirp.associations ++ past) errand new reply calls opens ready)))
+      → Relays 0 None (outbound_of errand) slirp.moment slirp.number next slirp.associations new reply made → AreAllowed made → HoldsAt config at (step_for slirp.associations (Some errand)) slirp f link past
+      → Holds config at (record slirp { associations = new; pending = told_by slirp errand.datagram reply; number = next }) f link (made ++ past)
+  relayed slirp past errand next new reply made (ByForward socket for sends is same) allowed holds = cc
+  relayed slirp past errand next new reply made (BySocket socket for found sends is same) allowed holds =
+      let due = subst (λ (o : Option ℕ). HoldsAt config at (with_socket o slirp.associations errand) slirp f link past) found holds in
+      subst (λ (n : ℕ). Holds config at (record slirp { associations = new; pending = told_by slirp errand.datagram reply; number = n }) f link (made ++ past)) (sym same)
+      (subst (λ (l : List Association). Holds config at (record slirp { associations = l; pending = told_by slirp errand.datagram reply }) f link (made ++ past)) (sym is)
+      (subst (λ (r : Reply). Holds config at (record slirp { associations = moved_last (sent_from (record { 0 = errand.datagram.mac }) slirp.moment) socket slirp.associations; pending = told_by slirp errand.datagram r }) f link (made ++ past)) (sym sends.2)
+      (subst (λ (m : List Entry). Holds config at (record slirp { associations = moved_last (sent_from (record { 0 = errand.datagram.mac }) slirp.moment) socket slirp.associations; pending = told_by slirp errand.datagram (told sends.0) }) f link (m ++ past)) (sym sends.1)
+      (sent_on slirp past socket errand (socket_among errand.datagram.from slirp.associations socket found) due sends.0 (subst AreAllowed sends.1 allowed).0))))
+  relayed slirp past errand next new reply made (ByNewSocket calls for found room opens is same) allowed holds =
+      let all = parted calls (calls_for_room slirp.associations) (subst AreAllowed is allowed) in
+      let due = subst (λ (o : Option ℕ). HoldsAt config at (with_socket o slirp.associations errand) slirp f link past) found holds in
+      let ready = roomed slirp past errand slirp.associations room all.1 due in
+      subst (λ (n : ℕ). Holds config at (record slirp { associations = new; pending = told_by slirp errand.datagram reply; number = n }) f link (made ++ past)) (sym same)
+      (subst (λ (m : List Entry). Holds config at (record slirp { associations = new; pending = told_by slirp errand.datagram reply; number = slirp.number + 1 }) f link (m ++ past)) (sym is)
+      (subst (λ (h : List Entry). Holds config at (record slirp { associations = new; pending = told_by slirp errand.datagram reply; number = slirp.number + 1 }) f link h) (sym (append_assoc calls (calls_for_room slirp.associations) past))
+      (opened_for (record slirp { associations = with_room slirp.associations }) (calls_for_room slirp.associations ++ past) errand new reply calls opens all.0 ready)))
 
   -- those whose idle life was over were closed
-  pub ticked : (slirp : SlirpState) (past : List Entry) (new : List Association) (made : List Entry) → Ticks slirp.moment slirp.associations new made → Holds config at slirp link past
-      → Holds config at (record slirp { associations = new }) link (made ++ past)
-  ticked slirp past new [] is holds = subst (λ (l : List Association). Holds config at (record slirp { associations = l }) link past) (sym is) holds
-  ticked slirp past new (Close n ∷ made) ticks holds =
-      subst (λ (l : List Association). Holds config at (record slirp { associations = l }) link (Close n ∷ made ++ past)) (sym ticks.3)
-      (after_idling config at (record slirp { associations = ticks.0 }) link (made ++ past) n ticks.2.0 (ticked slirp past ticks.0 made ticks.1 holds))
-  ticked slirp past new (_ ∷ made) ticks holds = absurd ticks
+  pub ticked : (slirp : SlirpState) (past : List Entry) (new : List Association) (made : List Entry) → Ticks slirp.moment slirp.associations new made → AreAllowed made → Holds config at slirp f link past
+      → Holds config at (record slirp { associations = new }) f link (made ++ past)
+  ticked slirp past new [] is allowed holds = subst (λ (l : List Association). Holds config at (record slirp { associations = l }) f link past) (sym is) holds
+  ticked slirp past new (Close n ∷ made) ticks allowed holds =
+      subst (λ (l : List Association). Holds config at (record slirp { associations = l }) f link (Close n ∷ made ++ past)) (sym ticks.3)
+      (after_idling config at (record slirp { associations = ticks.0 }) f link (made ++ past) n allowed.0 ticks.2.0 (ticked slirp past ticks.0 made ticks.1 allowed.1 holds))
+  ticked slirp past new (_ ∷ made) ticks allowed holds = absurd ticks
+
+module _ (config : Config) (count : ℕ) (wants : List Want) (item : Want) (items : List Want) (f : Flowing) (link : LinkState) where
+  pub heard : (slirp : SlirpState) (past : List Entry) (socket room : ℕ) (into : List ℕ) (new : List Association) (reply : Reply) (made : List Entry)
+      → is_to_read (Udp socket) (wanted_of wants item) ≡ true → room ≡ 65507 → slirp.pending ≡ [] → link.tail ≡ [] → Hears None slirp.moment socket room into slirp.associations new reply made → AreAllowed made
+      → Holds config (standing count wants (item ∷ items)) slirp f link past
+      → Holds config (standing count wants items) (record slirp { associations = new; pending = owed_by slirp into reply }) f link (made ++ past)
+  heard slirp past socket room into new reply made reported whole none out (OnForward guest for receives is) allowed holds = cc
+  heard slirp past socket room into new reply made reported whole none out (OnNone for found no_call is replies) allowed holds =
+      subst (λ (l : List Association). Holds config (standing count wants items) (record slirp { associations = l; pending = owed_by slirp into reply }) f link (made ++ past)) (sym is)
+      (subst (λ (r : Reply). Holds config (standing count wants items) (record slirp { pending = owed_by slirp into r }) f link (made ++ past)) (sym replies)
+      (subst (λ (m : List Entry). Holds config (standing count wants items) slirp f link (m ++ past)) (sym no_call)
+      (passes_over config count wants item items slirp f link past holds)))
+  heard slirp past socket room into new reply made reported whole none out (OnAssociation a for found receives is) allowed holds =
+      subst (λ (l : List Association). Holds config (standing count wants items) (record slirp { associations = l; pending = owed_by slirp into reply }) f link (made ++ past)) (sym is)
+      (subst (λ (r : Reply). Holds config (standing count wants items) (record slirp { associations = with_reply r slirp.moment socket slirp.associations; pending = owed_by slirp into r }) f link (made ++ past)) (sym receives.2)
+      (subst (λ (m : List Entry). Holds config (standing count wants items) (record slirp { associations = with_reply (passed receives.0 a.guest (Some a.mac)) slirp.moment socket slirp.associations; pending = owed_by slirp into (passed receives.0 a.guest (Some a.mac)) }) f link (m ++ past)) (sym receives.1)
+      (by receives.0 (subst AreAllowed receives.1 allowed).0)))
+    where
+      by : (answer : Got) → Allowed (UdpRecv socket room answer (filled_got answer into)) → Holds config (standing count wants items) (record slirp { associations = with_reply (passed answer a.guest (Some a.mac)) slirp.moment socket slirp.associations; pending = owed_by slirp into (passed answer a.guest (Some a.mac)) }) f link
+          (UdpRecv socket room answer (filled_got answer into) ∷ past)
+      by (From peer size) allowed = after_hearing config count wants item items slirp f link past socket room a reported found whole none out holds peer size (take size into) allowed
+      by GotNotYet allowed = after_not_yet config count wants item items slirp f link past socket room a reported found whole none out holds (filled_got GotNotYet into) allowed
+      by GotFailed allowed = after_no_hearing config count wants item items slirp f link past socket room a reported found whole none out holds (filled_got GotFailed into) allowed
 
 -- their numbers rise
 record Ticked (now : ℕ) (list : List Association) (made : List Entry) : Type 0 where
@@ -153,6 +204,12 @@ counts_up bind d now number next old new reply made (ByForward socket for sends 
 counts_up bind d now number next old new reply made (BySocket socket for found sends is same) = omega (arith, same)
 counts_up bind d now number next old new reply made (ByNewSocket calls for found room opens is same) = omega (arith, same)
 
+-- and none is given back
+pub draws_up : (bind : ℕ) (d : Errand) (now number next : ℕ) (old new : List Association) (reply : Reply) (made : List Entry) → Relays bind None (outbound_of d) now number next old new reply made → number ≤ next
+draws_up bind d now number next old new reply made (ByForward socket for sends is same) = cc
+draws_up bind d now number next old new reply made (BySocket socket for found sends is same) = omega (arith, same)
+draws_up bind d now number next old new reply made (ByNewSocket calls for found room opens is same) = omega (arith, same)
+
 -- what is left to be sent after a receipt
 below_reply : (bound now socket : ℕ) (list : List Association) (reply : Reply) → AreBelow bound list → AreBelow bound (with_reply reply now socket list)
 below_reply bound now socket list Reply.Nothing below = below
@@ -168,38 +225,6 @@ pub receives_on : (now socket room : ℕ) (into : List ℕ) (old new : List Asso
 receives_on now socket room into old new reply made a held (OnForward guest for receives is) = cc
 receives_on now socket room into old new reply made a held (OnAssociation b for found receives is) = (room, receives.0, filled_got receives.0 into, receives.1)
 receives_on now socket room into old new reply made a held (OnNone for found none is replies) = cc
-
-module _ (config : Config) (count : ℕ) (wants : List Want) (item : Want) (items : List Want) (link : LinkState) where
-  pub heard : (slirp : SlirpState) (past : List Entry) (socket room : ℕ) (into : List ℕ) (new : List Association) (reply : Reply) (made : List Entry)
-      → is_to_read (Udp socket) (wanted_of wants item) ≡ true → room ≡ 65507 → slirp.pending ≡ [] → link.tail ≡ [] → Hears None slirp.moment socket room into slirp.associations new reply made
-      → Holds config (standing count wants (item ∷ items)) slirp link past
-      → Holds config (standing count wants items) (record slirp { associations = new; pending = owed_by slirp into reply }) link (made ++ past)
-  heard slirp past socket room into new reply made reported whole none out (OnForward guest for receives is) holds = cc
-  heard slirp past socket room into new reply made reported whole none out (OnNone for found no_call is replies) holds =
-      subst (λ (l : List Association). Holds config (standing count wants items) (record slirp { associations = l; pending = owed_by slirp into reply }) link (made ++ past)) (sym is)
-      (subst (λ (r : Reply). Holds config (standing count wants items) (record slirp { pending = owed_by slirp into r }) link (made ++ past)) (sym replies)
-      (subst (λ (m : List Entry). Holds config (standing count wants items) slirp link (m ++ past)) (sym no_call)
-      (passes_over config count wants item items slirp link past holds)))
-  heard slirp past socket room into new reply made reported whole none out (OnAssociation a for found receives is) holds =
-      subst (λ (l : List Association). Holds config (standing count wants items) (record slirp { associations = l; pending = owed_by slirp into reply }) link (made ++ past)) (sym is)
-      (subst (λ (r : Reply). Holds config (standing count wants items) (record slirp { associations = with_reply r slirp.moment socket slirp.associations; pending = owed_by slirp into r }) link (made ++ past)) (sym receives.2)
-      (subst (λ (m : List Entry). Holds config (standing count wants items) (record slirp { associations = with_reply (passed receives.0 a.guest (Some a.mac)) slirp.moment socket slirp.associations; pending = owed_by slirp into (passed receives.0 a.guest (Some a.mac)) }) link (m ++ past)) (sym receives.1)
-      (by receives.0)))
-    where
-      by : (answer : Got) → Holds config (standing count wants items) (record slirp { associations = with_reply (passed answer a.guest (Some a.mac)) slirp.moment socket slirp.associations; pending = owed_by slirp into (passed answer a.guest (Some a.mac)) }) link
-          (UdpRecv socket room answer (filled_got answer into) ∷ past)
-      by (From peer size) = after_hearing config count wants item items slirp link past socket room a reported found whole none out holds peer size (take size into)
-      by GotNotYet = after_not_yet config count wants item items slirp link past socket room a reported found whole none out holds (filled_got GotNotYet into)
-      by GotFailed = after_no_hearing config count wants item items slirp link past socket room a reported found whole none out holds (filled_got GotFailed into)
-
--- the first socket was closed, or none was left
-pub closed_first : (config : Config) (over : Phase) (b : Bool) (old new : List Association) (made past : List Entry) → ClosesLeast (λ a. true) b old new made → Closing config over old past → AfterClosing b config over new (made ++ past)
-closed_first config over true old new made past closes holds =
-    subst (λ (l : List Association). Closing config over l (made ++ past)) (sym closes.3)
-    (subst (λ (m : List Entry). Closing config over (without closes.0 old) (m ++ past)) (sym closes.1)
-    (after_closing config over old past closes.0 closes.2 holds))
-closed_first config over false old new made past closes holds =
-    subst (λ (m : List Entry). AfterClosing false config over new (m ++ past)) (sym closes.0) (all_closed config over old past closes.1 holds)
 
 pub none_first : (b : Bool) (old new : List Association) (made : List Entry) → ClosesLeast (λ a. true) b old new made → b ≡ false → new ≡ []
 none_first true old new made closes is = cc

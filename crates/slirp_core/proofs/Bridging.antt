@@ -1,5 +1,5 @@
 -- What the core makes of a frame, step by step, is what the packet in it asks for.
-use Rattle.std.proofs.Common.{◌≡◌, ℕ, ◌==◌, ◌&&◌, Bool, true, false, List, [], Option, Some, None, if◌then◌else◌, refl, ◌∙◌, ap, arith}
+use Rattle.std.proofs.Common.{◌≡◌, ℕ, ◌==◌, ◌&&◌, Bool, true, false, List, [], Option, Some, None, if◌then◌else◌, refl, ap, arith}
 use Rattle.std.proofs.lemmas.Bool.Decides.{nat_tests}
 use Rattle.std.specs.Option.{option_and_then, option_map}
 use Rattle.net_octets.specs.declared.Ip4.{Ip4}
@@ -19,18 +19,26 @@ use Rattle.run_laws.specs.Fragments.{arrived}
 use Rattle.run_laws.specs.Packets.{Packet, packet_of_ip, ArpPacket, Message, DatagramPacket, Segment, Datagram, datagram_in, datagram_of, may_come, packet_of, pair_by, pair_by_arp, pair_by_ip, pair_in, pair_of, packet_in, unless_unheard, whole_packet}
 use Rattle.slirp_laws.specs.Answers.{Answer, owed_for_arp, owed_for_icmp, owed_for_datagram, owed_for_packet}
 use Rattle.slirp_laws.specs.Datagrams.{Errand, errand_of, errand_by_packet}
-use Rattle.slirp_core.specs.Packets.{errand_in, errand_of_arrived, errand_of_ether, errand_of_ip, owed_for, owed_for_arrived, owed_for_ether, owed_for_frame, owed_for_ip, owed_for_tcp, strays_alone, with_address, with_arp, with_ether, with_frame, with_ip}
+use Rattle.slirp_core.specs.Segments.{Coming, coming, coming_by, segment_in, segment_of_arrived, segment_of_ether, segment_of_ip}
+use Rattle.slirp_core.specs.Packets.{errand_in, errand_of_arrived, errand_of_ether, errand_of_ip, owed_for, owed_for_arrived, owed_for_ether, owed_for_frame, owed_for_ip, with_address, with_arp, with_ether, with_frame, with_ip}
 
--- what a packet that may be none owes and asks for
+-- what a packet that may be none owes and asks for; a segment is answered when it is heard
 abbrev owes : Config → Option Packet → List Answer
-owes config p = owed_for_packet config (strays_alone config (unless_unheard p)) (unless_unheard p)
+owes config p = owed_for_packet config false (unless_unheard p)
 
 abbrev sends : Config → Option Packet → Option Errand
 sends config p = errand_by_packet config (unless_unheard p)
 
+abbrev brings : Option Packet → Option Coming
+brings p = coming_by (unless_unheard p)
+
 arp_owes : (config : Config) (o : Option Arp) → owes config (option_map ArpPacket o) ≡ owed_for (owed_for_arp config) o
 arp_owes config None = refl
 arp_owes config (Some arp) = refl
+
+arp_brings : (o : Option Arp) → brings (option_map ArpPacket o) ≡ None
+arp_brings None = refl
+arp_brings (Some arp) = refl
 
 arp_sends : (config : Config) (o : Option Arp) → sends config (option_map ArpPacket o) ≡ None
 arp_sends config None = refl
@@ -59,6 +67,14 @@ udp_sends config mac ip (Some udp) = by (may_come config ip udp)
     by true = refl
     by false = refl
 
+udp_brings : (config : Config) (mac : List ℕ) (ip : Ip) (o : Option Udp) → brings (option_and_then (came config mac ip) o) ≡ None
+udp_brings config mac ip None = refl
+udp_brings config mac ip (Some udp) = by (may_come config ip udp)
+  where
+    by : (b : Bool) → brings (if b then Some (DatagramPacket (datagram_of mac ip udp)) else None) ≡ None
+    by true = refl
+    by false = refl
+
 -- a message to us, or to another
 message_owes : (config : Config) (mac : List ℕ) (ip : Ip) (o : Option Icmp) (ours : Bool) → is_ours config ip.to ≡ ours
     → owes config (option_map (Message mac ip) o) ≡ (if ours then owed_for (owed_for_icmp mac ip) o else [])
@@ -70,7 +86,15 @@ message_sends : (config : Config) (mac : List ℕ) (ip : Ip) (o : Option Icmp) �
 message_sends config mac ip None = refl
 message_sends config mac ip (Some m) = refl
 
-segment_owes : (config : Config) (mac : List ℕ) (ip : Ip) (o : Option Tcp) → owes config (option_map (Segment mac ip) o) ≡ owed_for (owed_for_tcp config mac ip) o
+message_brings : (mac : List ℕ) (ip : Ip) (o : Option Icmp) → brings (option_map (Message mac ip) o) ≡ None
+message_brings mac ip None = refl
+message_brings mac ip (Some m) = refl
+
+segment_brings : (mac : List ℕ) (ip : Ip) (o : Option Tcp) → brings (option_map (Segment mac ip) o) ≡ option_map (coming mac ip) o
+segment_brings mac ip None = refl
+segment_brings mac ip (Some tcp) = refl
+
+segment_owes : (config : Config) (mac : List ℕ) (ip : Ip) (o : Option Tcp) → owes config (option_map (Segment mac ip) o) ≡ []
 segment_owes config mac ip None = refl
 segment_owes config mac ip (Some tcp) = refl
 
@@ -110,7 +134,7 @@ udp_by config mac ip udp = if udp then option_and_then (comes config mac ip) (re
 abbrev owed_by : Config → List ℕ → Ip → (guest ours icmp tcp udp : Bool) → List Answer
 owed_by config mac ip guest ours icmp tcp udp =
     if guest && ours && icmp then owed_for (owed_for_icmp mac ip) (read_icmp ip.body)
-    else (if guest && tcp then owed_for (owed_for_tcp config mac ip) (read_tcp ip.from ip.to ip.body)
+    else (if guest && tcp then []
     else owed_for (owed_for_datagram config) (udp_by config mac ip udp))
 
 owes_by : (config : Config) (mac : List ℕ) (ip : Ip) (udp icmp tcp guest ours : Bool) → Tests config ip udp icmp tcp guest ours
@@ -137,6 +161,17 @@ sends_by config mac ip false false true true = segment_sends config mac ip (read
 sends_by config mac ip false false false true = refl
 sends_by config mac ip false icmp tcp false = refl
 
+brings_by : (config : Config) (mac : List ℕ) (ip : Ip) (udp icmp tcp guest ours : Bool) → Tests config ip udp icmp tcp guest ours
+    → brings (packet_by config mac ip udp icmp tcp guest) ≡ (if guest && tcp then option_map (coming mac ip) (read_tcp ip.from ip.to ip.body) else None)
+brings_by config mac ip true icmp true guest ours t = absurd (no_udp_and_tcp ip.proto t.is_udp t.is_tcp)
+brings_by config mac ip true icmp false true ours t = udp_brings config mac ip (read_udp ip.from ip.to ip.body)
+brings_by config mac ip true icmp false false ours t = udp_brings config mac ip (read_udp ip.from ip.to ip.body)
+brings_by config mac ip false true true guest ours t = absurd (no_icmp_and_tcp ip.proto t.is_icmp t.is_tcp)
+brings_by config mac ip false true false true ours t = message_brings mac ip (read_icmp ip.body)
+brings_by config mac ip false false true true ours t = segment_brings mac ip (read_tcp ip.from ip.to ip.body)
+brings_by config mac ip false false false true ours t = refl
+brings_by config mac ip false icmp tcp false ours t = refl
+
 -- of a datagram that arrived
 arrived_owes : (config : Config) (mac : List ℕ) (o : Option Ip) → owes config (option_and_then (packet_of_ip config mac) o) ≡ owed_for (owed_for_ip config mac) o
 arrived_owes config mac None = refl
@@ -148,6 +183,12 @@ arrived_sends : (config : Config) (mac : List ℕ) (o : Option Ip) → sends con
 arrived_sends config mac None = refl
 arrived_sends config mac (Some ip) = sends_by config mac ip (ip.proto == udp_proto) (ip.proto == icmp_proto) (ip.proto == tcp_proto) (is_guest config ip.from)
 
+arrived_brings : (config : Config) (mac : List ℕ) (o : Option Ip) → brings (option_and_then (packet_of_ip config mac) o) ≡ option_and_then (segment_of_ip config mac) o
+arrived_brings config mac None = refl
+arrived_brings config mac (Some ip) =
+    brings_by config mac ip (ip.proto == udp_proto) (ip.proto == icmp_proto) (ip.proto == tcp_proto) (is_guest config ip.from) (is_ours config ip.to)
+    (record { is_udp = refl; is_icmp = refl; is_tcp = refl; is_of_guest = refl; is_to_us = refl })
+
 ip_owes : (config : Config) (now : ℕ) (waiting : List PartSet) (mac octets : List ℕ) (o : Option Ip)
     → owes config (option_and_then (whole_packet config now waiting mac octets) o) ≡ owed_for (owed_for_arrived config now waiting mac octets) o
 ip_owes config now waiting mac octets None = refl
@@ -157,6 +198,11 @@ ip_sends : (config : Config) (now : ℕ) (waiting : List PartSet) (mac octets : 
     → sends config (option_and_then (whole_packet config now waiting mac octets) o) ≡ option_and_then (errand_of_arrived config now waiting mac octets) o
 ip_sends config now waiting mac octets None = refl
 ip_sends config now waiting mac octets (Some ip) = arrived_sends config mac (arrived config now waiting octets ip)
+
+ip_brings : (config : Config) (now : ℕ) (waiting : List PartSet) (mac octets : List ℕ) (o : Option Ip)
+    → brings (option_and_then (whole_packet config now waiting mac octets) o) ≡ option_and_then (segment_of_arrived config now waiting mac octets) o
+ip_brings config now waiting mac octets None = refl
+ip_brings config now waiting mac octets (Some ip) = arrived_brings config mac (arrived config now waiting octets ip)
 
 ether_owes : (config : Config) (now : ℕ) (waiting : List PartSet) (o : Option Ether) → owes config (option_and_then (packet_of config now waiting) o) ≡ owed_for (owed_for_ether config now waiting) o
 ether_owes config now waiting None = refl
@@ -183,13 +229,28 @@ ether_sends config now waiting (Some ether) = by (ether.kind == arp_kind) (ether
     by false true a i = ip_sends config now waiting ether.from ether.body (read_ip ether.body)
     by false false a i = refl
 
--- what it owes, what it sends, and whom it makes known
+ether_brings : (config : Config) (now : ℕ) (waiting : List PartSet) (o : Option Ether) → brings (option_and_then (packet_of config now waiting) o) ≡ option_and_then (segment_of_ether config now waiting) o
+ether_brings config now waiting None = refl
+ether_brings config now waiting (Some ether) = by (ether.kind == arp_kind) (ether.kind == ipv4_kind) refl refl
+  where
+    by : (arp ip : Bool) → (ether.kind == arp_kind) ≡ arp → (ether.kind == ipv4_kind) ≡ ip
+        → brings (if arp then option_map ArpPacket (read_arp ether.body) else (if ip then option_and_then (whole_packet config now waiting ether.from ether.body) (read_ip ether.body) else None))
+        ≡ (if ip then option_and_then (segment_of_arrived config now waiting ether.from ether.body) (read_ip ether.body) else None)
+    by true true a i = absurd (two_kinds ether.kind a i)
+    by true false a i = arp_brings (read_arp ether.body)
+    by false true a i = ip_brings config now waiting ether.from ether.body (read_ip ether.body)
+    by false false a i = refl
+
+-- what it owes, what it sends, which segment it brings, and whom it makes known
 pub owes_same : (config : Config) (now : ℕ) (waiting : List PartSet) (frame : List ℕ)
-    → owed_for_packet config (strays_alone config (packet_in config now waiting frame)) (packet_in config now waiting frame) ≡ owed_for_frame config now waiting frame
+    → owed_for_packet config false (packet_in config now waiting frame) ≡ owed_for_frame config now waiting frame
 owes_same config now waiting frame = ether_owes config now waiting (read_ether frame)
 
 pub sends_same : (config : Config) (now : ℕ) (waiting : List PartSet) (frame : List ℕ) → errand_by_packet config (packet_in config now waiting frame) ≡ errand_in config now waiting frame
 sends_same config now waiting frame = ether_sends config now waiting (read_ether frame)
+
+pub brings_same : (config : Config) (now : ℕ) (waiting : List PartSet) (frame : List ℕ) → coming_by (packet_in config now waiting frame) ≡ segment_in config now waiting frame
+brings_same config now waiting frame = ether_brings config now waiting (read_ether frame)
 
 pair_same : (config : Config) (address : ℕ) (mac : List ℕ) (pairs : List (Ip4 × Mac)) → with_pair (pair_of config address mac) pairs ≡ with_address config address mac pairs
 pair_same config address mac pairs = by (is_guest config address)

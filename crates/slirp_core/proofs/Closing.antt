@@ -1,80 +1,267 @@
--- The sockets of a run that is over are closed.
-use Rattle.std.proofs.Common.{◌≡◌, ℕ, ◌==◌, ◌&&◌, ◌||◌, Bool, true, false, List, [], ◌∷◌, Option, Some, None, if◌then◌else◌, sym, ◌∙◌, ap}
-use Rattle.std.specs.Option.{option_map}
-use Rattle.world_face.specs.Journal.{Entry, Call, Close, CallClose}
+-- The sockets of a run that is over are closed by rising number, those of associations and of flows.
+use Rattle.std.proofs.Common.{◌≡◌, ℕ, ◌<◌, ◌≤◌, ◌+◌, ◌==◌, ◌&&◌, ◌||◌, ◌⊎◌, not, All, Bool, true, false, List, [], ◌∷◌, ◌++◌, filter, set, slice_get, Option, Some, None, option_map, inl, inr, refl, sym, ◌∙◌, ap, subst, arith}
+use Rattle.std.proofs.lemmas.List.Elements.{All-head, All-tail}
+use Rattle.world_face.specs.Journal.{Entry, Call, call_of, Connect, Listen, Accept, Close, UdpOpen, CallClose}
+use Rattle.world_face.specs.declared.Accepted.{Accepted}
+use Rattle.world_face.specs.declared.Accepted.TheVariants.{From, NotYet as NotYetAccepted, Failed as AcceptFailed}
+use Rattle.world_face.specs.declared.Made.{Made}
+use Rattle.world_face.specs.declared.Made.TheVariants.{Done, Failed}
 use Rattle.host_policy.specs.Addresses.{Config}
 use Rattle.udp_assoc.specs.Associations.{IsLeast, numbers, without}
 use Rattle.udp_assoc.specs.declared.assocs.Association.{Association}
-use Rattle.run_laws.specs.Shape.{Phase, Over, By, Started, Working, due_in, is_ended, is_over, is_working, phase}
-use Rattle.run_laws.specs.Sockets.{first, is_among, next_number, open_sockets}
+use Rattle.flow_splice.specs.Splice.{Splice}
+use Rattle.run_laws.specs.Shape.{Phase, Over, By, Started, Working, is_over, is_working, phase}
+use Rattle.run_laws.specs.Sockets.{first, is_among, next_number, open_sockets, with_made}
+use Rattle.slirp_laws.specs.Asking.{step, step_of}
 use Rattle.slirp_laws.specs.Datagrams.{Settled, due_for}
-use Rattle.slirp_laws.specs.Asking.{errand_left, step, step_of}
-use Rattle.slirp_laws.specs.Laws.{MayDue, due, is_closing, is_least, parts, unless_due}
-use Rattle.slirp_laws.proofs.Deeds.{any_one, closes, this_one}
-use Rattle.slirp_core.specs.Holds.{Closing, OfFlows, Ran, Rests, OverBy, AllWaited, NoneWaited}
-use Rattle.slirp_core.proofs.NoFlows.{closes_freely, flows_stay}
-use Rattle.slirp_core.proofs.Parts.{due_in_phase, due_is, or_second}
-use Rattle.slirp_core.proofs.Relaying.{and_both}
-use Rattle.slirp_core.proofs.Sockets.{least_among, least_is_first, none_open, rising_without, same, those_without}
+use Rattle.slirp_laws.specs.Laws.{Lawful, May, MayDue, due, unless_due}
+use Rattle.slirp_laws.proofs.Bools.{among_without, equal, same}
+use Rattle.slirp_laws.proofs.Deeds.{any_one, this_one}
+use Rattle.slirp_laws.proofs.OpenSockets.{peer_next}
+use Rattle.core_flows.proofs.Tables.{get_set_at, get_set_other}
+use Rattle.core_flows.proofs.Seats.{differ, same_or_not}
+use Rattle.slirp_core.specs.Sockets.{AllAbove, IsRising}
+use Rattle.slirp_core.proofs.Sockets.{least_among, rising_last, rising_up, rising_without, those_without}
+use Rattle.spliced_flows.specs.Core.{number_of}
+use Rattle.spliced_flows.proofs.Ending.{may_close_least}
+use Rattle.spliced_flows.proofs.Options.{none_some, some_same, true_false}
+use Rattle.tcp_flows.specs.Reading.{HasSocket, IsNextOpen, IsOpenAt, NoneIsAbove}
+use Rattle.slirp_core.specs.Holds.{AreOpen, Closing, Ran, Rests, OverBy, AllWaited, NoneWaited}
+use Rattle.slirp_core.proofs.Parts.{due_in_phase, due_is}
 
-least_first : (sockets : List ℕ) (n : ℕ) → first sockets ≡ Some n → is_least n sockets ≡ true
-least_first [] n is = cc
-least_first (x ∷ sockets) n is = let this : x ≡ n = cc in ap (λ m. m == n) this ∙ same n
+-- ---- open sockets stand by rising number
 
-at_the_end : (closing part ended least : Bool) → ended ≡ true → least ≡ true → (if closing then least else part || (ended && least)) ≡ true
-at_the_end true part ended least e l = l
-at_the_end false part ended least e l = or_second part (ended && least) (and_both ended least e l)
+rises_made : (answer : Made) (socket next : ℕ) (sockets : List ℕ) → (socket == next) ≡ true → IsRising next sockets → IsRising (next + 1) (with_made answer socket sockets)
+rises_made Done socket next sockets is rising = subst (λ n. IsRising (next + 1) (sockets ++ (n ∷ []))) (sym (equal socket next is)) (rising_last next sockets rising)
+rises_made Failed socket next sockets is rising = rising_up next sockets rising
 
-module _ (config : Config) (over : Phase) (list : List Association) (past : List Entry) where
-  -- a socket that is open may be closed where the run rests
-  rests_open : (socket : ℕ) → IsLeast (λ a. true) list (Some socket) → Rests config list past → (is_working (phase config past) || is_over (phase config past)) ≡ true
-  rests_open socket least (OverBy why is) = ap (λ p. is_working p || is_over p) is
-  rests_open socket least (AllWaited working) = ap (λ p. is_working p || is_over p) working
-  rests_open socket least (NoneWaited started none) = let among = least_among socket list least in absurd (cc (sym (ap (λ l. is_among socket (numbers l)) none) ∙ among))
+pub open_rise : (config : Config) (past : List Entry) → Lawful config past → IsRising (next_number past) (open_sockets past)
+open_rise config [] lawful = tt
+open_rise config (e ∷ past) lawful = by e lawful.0 (open_rise config past lawful.1)
+  where
+    by_peer : (answer : Accepted) (listener socket : ℕ) → May config past (call_of (Accept listener socket answer)) → IsRising (next_number past) (open_sockets past)
+        → IsRising (next_number (Accept listener socket answer ∷ past)) (open_sockets (Accept listener socket answer ∷ past))
+    by_peer (From peer) listener socket may rising = rises_made Done socket (next_number past) (open_sockets past) (peer_next config past listener socket (From peer) may) rising
+    by_peer NotYetAccepted listener socket may rising = rising
+    by_peer AcceptFailed listener socket may rising = rising
 
-  closes_next : (socket : ℕ) → IsLeast (λ a. true) list (Some socket) → first (open_sockets past) ≡ Some socket → errand_left config past ≡ None → OfFlows config past → Rests config list past → MayDue config past (CallClose socket)
-  closes_next socket least is asks none (OverBy why ended) =
-      this_one config past (CallClose socket) (due_in_phase config past (Over (By why)) ended none
-      ∙ ap (λ (o : Option Call). unless_due o (due_for (step config past) (next_number past))) (ap (option_map CallClose) is))
-  closes_next socket least is asks none (AllWaited working) = any_one config past (CallClose socket) (due_is config past Settled working none (ap (step_of config past) asks))
-  closes_next socket least is asks none (NoneWaited started alone) = let among = least_among socket list least in absurd (cc (sym (ap (λ l. is_among socket (numbers l)) alone) ∙ among))
+    by : (e : Entry) → May config past (call_of e) → IsRising (next_number past) (open_sockets past) → IsRising (next_number (e ∷ past)) (open_sockets (e ∷ past))
+    by (Connect socket to answer) may rising = rises_made answer socket (next_number past) (open_sockets past) may.socket rising
+    by (Listen socket at answer) may rising = rises_made answer socket (next_number past) (open_sockets past) may.socket rising
+    by (UdpOpen socket at answer) may rising = rises_made answer socket (next_number past) (open_sockets past) may.socket rising
+    by (Accept listener socket answer) may rising = by_peer answer listener socket may rising
+    by (Close socket) may rising = rising_without (next_number past) socket (open_sockets past) rising
+    by _ may rising = rising
 
-  still_rests : (socket : ℕ) → Rests config list past → Rests config (without socket list) (Close socket ∷ past)
-  still_rests socket (OverBy why is) = OverBy why is
-  still_rests socket (AllWaited working) = AllWaited working
-  still_rests socket (NoneWaited started none) = NoneWaited started (ap (without socket) none)
+-- those behind the first are above it
+above_all : (n m : ℕ) (ns : List ℕ) → AllAbove n ns → is_among m ns ≡ true → n < m
+above_all n m [] above is = cc
+above_all n m (x ∷ ns) above is = by_test (m == x) refl (λ more. above_all n m ns above.1 more) is
+  where
+    by_test : (t : Bool) → (m == x) ≡ t → (is_among m ns ≡ true → n < m) → (t || is_among m ns) ≡ true → n < m
+    by_test true one more is = let here = equal m x one in omega (arith, here, above.0)
+    by_test false other more is = more is
 
-  -- the first one was closed
-  pub after_closing : (socket : ℕ) → IsLeast (λ a. true) list (Some socket) → Closing config over list past → Closing config over (without socket list) (Close socket ∷ past)
-  after_closing socket least closing =
-      let is = least_is_first (next_number past) socket list (open_sockets past) least closing.rising closing.those in
-      let open_still : is_among socket (open_sockets past) ≡ true = closing.those socket ∙ least_among socket list least in
-      record {
-        lawful = (
-          closes config past socket (closes_next socket least is closing.asks closing.flows closing.rests) (rests_open socket least closing.rests)
-              (and_both (is_among socket (open_sockets past)) _ open_still
-              (at_the_end (is_closing config past) (parts config past socket) (is_ended config past) (is_least socket (open_sockets past)) closing.ended (least_first (open_sockets past) socket is)))
-              (closes_freely config past closing.flows socket),
-          closing.lawful,
-        );
-        ended = closing.ended;
-        is = closing.is;
-        rests = still_rests socket closing.rests;
-        flows = flows_stay config (Close socket) past tt closing.flows;
-        asks = closing.asks;
-        rising = rising_without (next_number past) socket (open_sockets past) closing.rising;
-        those = those_without socket list (open_sockets past) closing.those;
-      }
+-- the least of them is the first
+first_least : (bound n : ℕ) (sockets : List ℕ) → IsRising bound sockets → is_among n sockets ≡ true → ((m : ℕ) → is_among m sockets ≡ true → n ≤ m) → first sockets ≡ Some n
+first_least bound n [] rising among least = cc
+first_least bound n (x ∷ sockets) rising among least = by_test (n == x) refl among
+  where
+    by_test : (t : Bool) → (n == x) ≡ t → (t || is_among n sockets) ≡ true → Some x ≡ Some n
+    by_test true one is = ap Some (sym (equal n x one))
+    by_test false other is = absurd (omega (arith, above_all x n sockets rising.1 is, least x (ap (λ b. b || is_among x sockets) (same x))))
 
-  -- nothing is due where none is left
-  none_due : open_sockets past ≡ [] → errand_left config past ≡ None → OfFlows config past → Rests config list past → due config past ≡ None
-  none_due shut asks none (OverBy why is) =
-      due_in_phase config past (Over (By why)) is none
-      ∙ ap (λ (s : List ℕ). unless_due (option_map CallClose (first s)) (due_for (step config past) (next_number past))) shut ∙ ap (λ s. due_for s (next_number past)) (ap (step_of config past) asks)
-  none_due shut asks none (AllWaited working) = due_in_phase config past Working working none ∙ ap (λ s. due_for s (next_number past)) (ap (step_of config past) asks)
-  none_due shut asks none (NoneWaited started alone) = due_in_phase config past Started started none ∙ ap (λ s. due_for s (next_number past)) (ap (step_of config past) asks)
+-- ---- which one is closed
 
-  pub all_closed : IsLeast (λ a. true) list None → Closing config over list past → Ran config over past
-  all_closed none closing =
-      let empty = none_open list (open_sockets past) none closing.those in
-      (closing.lawful, record { ended = closing.ended; none_due = none_due empty closing.asks closing.flows closing.rests; closed = empty }, closing.is)
+-- none has a number under the least
+pub at_most : (n x : ℕ) (list : List Association) → All (λ (a : Association). true ≡ true → n ≤ a.number) list → is_among x (numbers list) ≡ true → n ≤ x
+at_most n x [] all is = cc
+at_most n x (y ∷ list) all is = by_one (x == y.number) refl (λ more. at_most n x list (All-tail (λ (a : Association). true ≡ true → n ≤ a.number) y list all) more) is
+  where
+    by_one : (t : Bool) → (x == y.number) ≡ t → (is_among x (numbers list) ≡ true → n ≤ x) → (t || is_among x (numbers list)) ≡ true → n ≤ x
+    by_one true one more is = let here = equal x y.number one in omega (arith, here, All-head (λ (a : Association). true ≡ true → n ≤ a.number) y list all refl)
+    by_one false other more is = more is
+
+-- an association's socket, less than those of all others and of all flows
+pub record IsCarrier (n : ℕ) (list : List Association) (parts : List (Option Splice)) : Type 0 where
+  pub least : IsLeast (λ a. true) list (Some n)
+  pub below : (k : ℕ) (p : Splice) → IsOpenAt parts k p → n ≤ number_of p
+
+-- a flow's
+pub record IsFlows (n k : ℕ) (list : List Association) (parts : List (Option Splice)) : Type 0 where
+  pub next : IsNextOpen None n k parts
+  pub below : (m : ℕ) → is_among m (numbers list) ≡ true → n ≤ m
+
+module _ (config : Config) (over : Phase) (list : List Association) (parts : List (Option Splice)) (past : List Entry) (closing : Closing config over list parts past) (n : ℕ) (among : is_among n (open_sockets past) ≡ true)
+    (least : (m : ℕ) → is_among m (open_sockets past) ≡ true → n ≤ m) where
+  first_is : first (open_sockets past) ≡ Some n
+  first_is = first_least (next_number past) n (open_sockets past) (open_rise config past closing.lawful) among least
+
+  place : Rests config past → (is_working (phase config past) || is_over (phase config past)) ≡ true
+  place (OverBy why is) = ap (λ p. is_working p || is_over p) is
+  place (AllWaited working) = ap (λ p. is_working p || is_over p) working
+  place (NoneWaited started shut) = absurd (true_false (sym among ∙ ap (is_among n) shut))
+
+  is_due : Rests config past → MayDue config past (CallClose n)
+  is_due (OverBy why ended) =
+      this_one config past (CallClose n) (due_in_phase config past (Over (By why)) ended closing.idle
+      ∙ ap (λ (o : Option Call). unless_due o (due_for (step config past) (next_number past))) (ap (option_map CallClose) first_is))
+  is_due (AllWaited working) = any_one config past (CallClose n) (due_is config past Settled working closing.idle (ap (step_of config past) closing.errand))
+  is_due (NoneWaited started shut) = absurd (true_false (sym among ∙ ap (is_among n) shut))
+
+  may_close : May config past (CallClose n)
+  may_close = may_close_least config past closing.lawful closing.ended n first_is (is_due closing.rests) (place closing.rests) closing.idle
+
+  rests_on : Rests config past → Rests config (Close n ∷ past)
+  rests_on (OverBy why is) = OverBy why is
+  rests_on (AllWaited working) = AllWaited working
+  rests_on (NoneWaited started shut) = NoneWaited started (ap (filter (λ s. not (s == n))) shut)
+
+  closed : (new : List Association) (new_parts : List (Option Splice)) → AreOpen new new_parts (Close n ∷ past) → Closing config over new new_parts (Close n ∷ past)
+  closed new new_parts left = record {
+    lawful = (may_close, closing.lawful);
+    ended = closing.ended;
+    is = closing.is;
+    rests = rests_on closing.rests;
+    errand = closing.errand;
+    idle = refl;
+    sockets = left;
+  }
+
+both_of : (a b : Bool) → (a && b) ≡ true → (a ≡ true) × (b ≡ true)
+both_of true true is = (refl, refl)
+both_of true false is = cc
+both_of false b is = cc
+
+both_are : (a b : Bool) → a ≡ true → b ≡ true → (a && b) ≡ true
+both_are true true one two = refl
+both_are true false one two = cc
+both_are false b one two = cc
+
+-- others than this one
+other : (m n : ℕ) → (m ≡ n → ⊥) → not (m == n) ≡ true
+other m n apart = by (same_or_not m n)
+  where
+    by : (m ≡ n) ⊎ ((m == n) ≡ false) → not (m == n) ≡ true
+    by (inl is) = absurd (apart is)
+    by (inr is) = ap not is
+
+apart_from : (m n : ℕ) → not (m == n) ≡ true → m ≡ n → ⊥
+apart_from m n is same_one = true_false (sym is ∙ ap not (ap (λ k. k == n) same_one ∙ same n))
+
+-- it is still open where another was closed
+still_among : (m n : ℕ) (past : List Entry) → is_among m (open_sockets past) ≡ true → (m ≡ n → ⊥) → is_among m (open_sockets (Close n ∷ past)) ≡ true
+still_among m n past among apart = among_without m n (open_sockets past) ∙ both_are (not (m == n)) (is_among m (open_sockets past)) (other m n apart) among
+
+was_among : (m n : ℕ) (past : List Entry) → is_among m (open_sockets (Close n ∷ past)) ≡ true → (not (m == n) ≡ true) × (is_among m (open_sockets past) ≡ true)
+was_among m n past among = both_of (not (m == n)) (is_among m (open_sockets past)) (sym (among_without m n (open_sockets past)) ∙ among)
+
+-- among the numbers of those that are left
+left_among : (m n : ℕ) (list : List Association) → is_among m (numbers (without n list)) ≡ (not (m == n) && is_among m (numbers list))
+left_among m n list = sym (those_without n list (numbers list) (λ k. refl) m) ∙ among_without m n (numbers list)
+
+module _ (config : Config) (over : Phase) (list : List Association) (parts : List (Option Splice)) (past : List Entry) (closing : Closing config over list parts past) where
+  abbrev now_open : AreOpen list parts past
+  now_open = closing.sockets
+
+  -- an association's was closed
+  module _ (n : ℕ) (is : IsCarrier n list parts) where
+    listed : is_among n (numbers list) ≡ true
+    listed = least_among n list is.least
+
+    least_of : (m : ℕ) → (is_among m (numbers list) ≡ true) ⊎ HasSocket m parts (λ p. Unit {0}) → n ≤ m
+    least_of m (inl among) = at_most n m list is.least.1 among
+    least_of m (inr (k, p, at, number, u)) = subst (λ x. n ≤ x) number (is.below k p at)
+
+    each_left : (m : ℕ) → (not (m == n) ≡ true) → (is_among m (numbers list) ≡ true) ⊎ HasSocket m parts (λ p. Unit {0}) → (is_among m (numbers (without n list)) ≡ true) ⊎ HasSocket m parts (λ p. Unit {0})
+    each_left m apart (inl among) = inl (left_among m n list ∙ both_are (not (m == n)) (is_among m (numbers list)) apart among)
+    each_left m apart (inr has) = inr has
+
+    pub carrier_closed : Closing config over (without n list) parts (Close n ∷ past)
+    carrier_closed = closed config over list parts past closing n (now_open.carry n listed) (λ m among. least_of m (now_open.each m among)) (without n list) parts (record {
+      each = λ m among. let was = was_among m n past among in each_left m was.0 (now_open.each m was.1);
+      carry = λ m among. let was = both_of (not (m == n)) (is_among m (numbers list)) (sym (left_among m n list) ∙ among) in still_among m n past (now_open.carry m was.1) (apart_from m n was.0);
+      flow = λ k p at. still_among (number_of p) n past (now_open.flow k p at) (λ same_one. true_false (sym listed ∙ ap (λ x. is_among x (numbers list)) (sym same_one) ∙ now_open.apart k p at));
+      apart = λ k p at. left_among (number_of p) n list ∙ none_left (not (number_of p == n)) (is_among (number_of p) (numbers list)) (now_open.apart k p at);
+    })
+      where
+        none_left : (a b : Bool) → b ≡ false → (a && b) ≡ false
+        none_left true b is = is
+        none_left false b is = refl
+
+  -- a flow's was closed
+  module _ (n k : ℕ) (is : IsFlows n k list parts) where
+    abbrev new_parts : List (Option Splice)
+    new_parts = set parts k None
+
+    here : is_among n (open_sockets past) ≡ true
+    here = subst (λ m. is_among m (open_sockets past) ≡ true) is.next.number (now_open.flow k is.next.part is.next.at)
+
+    unlisted : is_among n (numbers list) ≡ false
+    unlisted = subst (λ m. is_among m (numbers list) ≡ false) is.next.number (now_open.apart k is.next.part is.next.at)
+
+    least_with : (m : ℕ) → (is_among m (numbers list) ≡ true) ⊎ HasSocket m parts (λ p. Unit {0}) → n ≤ m
+    least_with m (inl among) = is.below m among
+    least_with m (inr (j, p, at, number, u)) = subst (λ x. n ≤ x) number (is.next.least j p at tt)
+
+    -- another slot than this one is as it was
+    stays_at : (j : ℕ) (p : Splice) → IsOpenAt parts j p → (number_of p ≡ n → ⊥) → IsOpenAt new_parts j p
+    stays_at j p at apart = record { here = get_set_other parts k j None (λ same_slot. apart (of_slot same_slot)) ∙ at.here; open_yet = at.open_yet }
+      where
+        of_slot : j ≡ k → number_of p ≡ n
+        of_slot same_slot = ap number_of (one p (some_same (Some p) (Some is.next.part) (sym at.here ∙ ap (slice_get parts) same_slot ∙ is.next.at.here))) ∙ is.next.number
+          where
+            one : (q : Splice) → Some q ≡ Some is.next.part → q ≡ is.next.part
+            one q same_part = some_same q is.next.part same_part
+
+    was_at : (j : ℕ) (p : Splice) → IsOpenAt new_parts j p → IsOpenAt parts j p × (number_of p ≡ n → ⊥)
+    was_at j p at = by (same_or_not j k)
+      where
+        not_here : j ≡ k → ⊥
+        not_here same_slot = none_some (some_same None (Some p) (sym (get_set_at parts k (Some is.next.part) None is.next.at.here) ∙ ap (slice_get new_parts) (sym same_slot) ∙ at.here))
+
+        by : (j ≡ k) ⊎ ((j == k) ≡ false) → IsOpenAt parts j p × (number_of p ≡ n → ⊥)
+        by (inl same_slot) = absurd (not_here same_slot)
+        by (inr apart) =
+            let before : IsOpenAt parts j p = record { here = sym (get_set_other parts k j None (differ j k apart)) ∙ at.here; open_yet = at.open_yet } in
+            (before, λ number. differ j k apart (is.next.only j p before number))
+
+    each_but : (m : ℕ) → (not (m == n) ≡ true) → (is_among m (numbers list) ≡ true) ⊎ HasSocket m parts (λ p. Unit {0}) → (is_among m (numbers list) ≡ true) ⊎ HasSocket m new_parts (λ p. Unit {0})
+    each_but m apart (inl among) = inl among
+    each_but m apart (inr (j, p, at, number, u)) = inr (j, p, stays_at j p at (λ is_n. apart_from m n apart (sym number ∙ is_n)), number, u)
+
+    pub flow_closed : Closing config over list new_parts (Close n ∷ past)
+    flow_closed = closed config over list parts past closing n here (λ m among. least_with m (now_open.each m among)) list new_parts (record {
+      each = λ m among. let was = was_among m n past among in each_but m was.0 (now_open.each m was.1);
+      carry = λ m among. still_among m n past (now_open.carry m among) (λ same_one. true_false (sym among ∙ ap (λ x. is_among x (numbers list)) same_one ∙ unlisted));
+      flow = λ j p at. let was = was_at j p at in still_among (number_of p) n past (now_open.flow j p was.0) was.1;
+      apart = λ j p at. now_open.apart j p (was_at j p at).0;
+    })
+
+  -- ---- none is left
+
+  module _ (none : IsLeast (λ a. true) list None) (none_above : NoneIsAbove None parts) where
+    shut : open_sockets past ≡ []
+    shut = empty (open_sockets past) refl
+      where
+        none_listed : (list : List Association) → IsLeast (λ a. true) list None → (m : ℕ) → is_among m (numbers list) ≡ false
+        none_listed [] none m = refl
+        none_listed (y ∷ list) none m = let never = All-head (λ (a : Association). true ≡ false) y list none in cc
+
+        no_one : (m : ℕ) → (is_among m (numbers list) ≡ true) ⊎ HasSocket m parts (λ p. Unit {0}) → ⊥
+        no_one m (inl among) = true_false (sym among ∙ none_listed list none m)
+        no_one m (inr (k, p, at, number, u)) = none_above k p at tt
+
+        empty : (sockets : List ℕ) → open_sockets past ≡ sockets → open_sockets past ≡ []
+        empty [] is = is
+        empty (x ∷ sockets) is = absurd (no_one x (now_open.each x (ap (is_among x) is ∙ ap (λ b. b || is_among x sockets) (same x))))
+
+    none_due : Rests config past → due config past ≡ None
+    none_due (OverBy why is) =
+        due_in_phase config past (Over (By why)) is closing.idle
+        ∙ ap (λ (s : List ℕ). unless_due (option_map CallClose (first s)) (due_for (step config past) (next_number past))) shut ∙ ap (λ s. due_for s (next_number past)) (ap (step_of config past) closing.errand)
+    none_due (AllWaited working) = due_in_phase config past Working working closing.idle ∙ ap (λ s. due_for s (next_number past)) (ap (step_of config past) closing.errand)
+    none_due (NoneWaited started was_shut) = due_in_phase config past Started started closing.idle ∙ ap (λ s. due_for s (next_number past)) (ap (step_of config past) closing.errand)
+
+    pub all_closed : Ran config over past
+    all_closed = (closing.lawful, record { ended = closing.ended; none_due = none_due closing.rests; closed = shut }, closing.is)

@@ -1,5 +1,5 @@
 -- What an unreachable quotes of a packet.
-use Rattle.std.proofs.Common.{◌≡◌, ℕ, ◌+◌, ◌^◌, ◌<◌, ◌≤◌, ◌==◌, false, List, ◌++◌, length, take, drop, min, Some, None, if◌then◌else◌, sym, ◌∙◌, ap, arith, append_assoc, length-append}
+use Rattle.std.proofs.Common.{◌≡◌, ℕ, ◌+◌, ◌<◌, ◌≤◌, ◌==◌, false, List, ◌++◌, length, take, drop, min, Some, None, if◌then◌else◌, sym, ◌∙◌, ap, arith, append_assoc, length-append}
 use Rattle.std.proofs.lemmas.Bool.Decides.{nat_tests}
 use Rattle.std.proofs.lemmas.List.{length-take, take-append-drop, take-append-le, take_min}
 use Rattle.std.proofs.Math.Seq.{take-append-add}

@@ -1,52 +1,54 @@
--- What the core has, part by part, after an entry that isn't the part's.
-use Rattle.std.proofs.Common.{◌≡◌, ℕ, ◌&&◌, ◌||◌, nat_le, Bool, true, false, List, [], ◌∷◌, ◌++◌, length, Option, Some, None, if◌then◌else◌, refl, sym, ◌∙◌, ap, subst}
-use Rattle.poll_list.specs.Listing.{reads, same_who}
+-- What the core has, part by part, after a call on a socket that isn't a flow's.
+use Rattle.std.proofs.Common.{◌≡◌, ℕ, ◌&&◌, ◌||◌, Bool, true, false, List, [], ◌∷◌, Option, Some, None, refl, sym, ◌∙◌, ap, subst, arith, nat_le, ◌++◌, length, if◌then◌else◌}
 use Rattle.poll_list.specs.declared.Want.{Want}
-use Rattle.poll_list.specs.declared.Who.{Who}
-use Rattle.world_face.specs.Journal.{Entry, Call, call_of, Close, UdpOpen, UdpSend, UdpRecv}
+use Rattle.world_face.specs.Journal.{Entry, Call, Allowed, call_of, Close, UdpOpen, UdpSend, UdpRecv}
 use Rattle.world_face.specs.declared.Made.TheVariants.{Done, Failed}
-use Rattle.world_face.specs.Frames.{MayFrame, partial, tail, is_blocked}
 use Rattle.host_policy.specs.Addresses.{Config}
-use Rattle.udp_assoc.specs.Associations.{most_associations, socket_of}
+use Rattle.udp_assoc.specs.Associations.{numbers, most_associations, socket_of}
 use Rattle.udp_assoc.specs.declared.assocs.Association.{Association}
 use Rattle.flow_book.specs.Book.{book}
 use Rattle.flow_book.specs.Lots.{due_for_flows}
 use Rattle.run_laws.specs.Happenings.{happens}
 use Rattle.run_laws.specs.Shape.{Phase, Working, phase, due_in, opened}
-use Rattle.run_laws.specs.Sockets.{next_number}
+use Rattle.run_laws.specs.Sockets.{is_among, next_number}
 use Rattle.slirp_laws.specs.Agenda.{agenda, all_wanted, behind, from, is_to_read}
-use Rattle.slirp_laws.specs.Datagrams.{Errand, Step, Settled, NeedsRoom, NeedsSocket, due_for}
-use Rattle.slirp_laws.specs.Relayed.{step_for, with_socket, without_socket}
 use Rattle.slirp_laws.specs.Asking.{errand_left, step}
-use Rattle.slirp_laws.specs.Laws.{May, begins_closing, due, is_closing, unless_due}
-use Rattle.slirp_laws.proofs.Joining.{joined_step}
-use Rattle.slirp_laws.proofs.Steps.{errand_in}
+use Rattle.slirp_laws.specs.Datagrams.{Step, due_for, Errand, Settled, NeedsRoom, NeedsSocket}
+use Rattle.slirp_laws.specs.Relayed.{associations, step_for, with_socket, without_socket}
+use Rattle.slirp_laws.specs.Laws.{Lawful, May, carries, due, is_closing, unless_due, begins_closing}
+use Rattle.slirp_laws.proofs.Deeds.{FlowsAskNothing}
+use Rattle.slirp_laws.proofs.Joining.{joined, joined_step}
 use Rattle.stream_netdev.specs.Keeps.{Keeps}
 use Rattle.stream_netdev.specs.State.{LinkState}
-use Rattle.slirp_core.specs.Holds.{Standing, HoldsAt, InTurn, IsLast, OfAnswers, OfClock, OfFlows, OfRelay, OfSockets, Stands, Turns, Begins, Unbegun}
+use Rattle.slirp_core.specs.Holds.{Standing, InTurn, IsLast, OfAnswers, OfClock, OfRelay, Unbegun, Flowing, HoldsAt, OfFlows, OfSockets, Stands, Turns, Begins}
 use Rattle.slirp_core.specs.State.{SlirpState}
 use Rattle.slirp_core.proofs.Guests.{guests_stay, of_guests}
-use Rattle.slirp_core.proofs.NoFlows.{ask_nothing, flows_stay}
+use Rattle.tcp_flows.specs.Kept.{Kept}
+use Rattle.slirp_core.proofs.Flows.{close_same, flows_same, flows_stay, no_flow}
+use Rattle.poll_list.specs.Listing.{reads, same_who}
+use Rattle.poll_list.specs.declared.Who.{Who}
+use Rattle.world_face.specs.Frames.{MayFrame, partial, tail, is_blocked}
+use Rattle.slirp_laws.proofs.Steps.{errand_in}
 
 -- ---- which call is due
 
 -- by where the run stands; flows ask for none
-pub due_in_phase : (config : Config) (past : List Entry) (p : Phase) → phase config past ≡ p → OfFlows config past → due config past ≡ unless_due (due_in p past) (due_for (step config past) (next_number past))
-due_in_phase config past p is none =
+pub due_in_phase : (config : Config) (past : List Entry) (p : Phase) → phase config past ≡ p → FlowsAskNothing config past → due config past ≡ unless_due (due_in p past) (due_for (step config past) (next_number past))
+due_in_phase config past p is asks =
     ap (λ q. unless_due (due_in q past) (unless_due (due_for (step config past) (next_number past)) (due_for_flows config (book config past) (next_number past)))) is
-    ∙ ap (λ o. unless_due (due_in p past) (unless_due (due_for (step config past) (next_number past)) o)) (ask_nothing config past none)
+    ∙ ap (λ o. unless_due (due_in p past) (unless_due (due_for (step config past) (next_number past)) o)) asks
     ∙ ap (unless_due (due_in p past)) (unless_none (due_for (step config past) (next_number past)))
   where
     unless_none : (o : Option Call) → unless_due o None ≡ o
     unless_none None = refl
     unless_none (Some call) = refl
 
-pub due_is : (config : Config) (past : List Entry) (s : Step) → phase config past ≡ Working → OfFlows config past → step config past ≡ s → due config past ≡ due_for s (next_number past)
-due_is config past s working none asks = due_in_phase config past Working working none ∙ ap (λ t. due_for t (next_number past)) asks
+pub due_is : (config : Config) (past : List Entry) (s : Step) → phase config past ≡ Working → FlowsAskNothing config past → step config past ≡ s → due config past ≡ due_for s (next_number past)
+due_is config past s working asks is = due_in_phase config past Working working asks ∙ ap (λ t. due_for t (next_number past)) is
 
 -- what the list asks for is what the record says
-pub asked_for : (config : Config) (at : Standing) (s : Step) (slirp : SlirpState) (link : LinkState) (past : List Entry) → HoldsAt config at s slirp link past → step config past ≡ s
-asked_for config at s slirp link past holds = joined_step config past holds.lawful ∙ ap (λ l. step_for l (errand_left config past)) holds.relayed.list ∙ holds.relayed.asks
+pub asked_for : (config : Config) (at : Standing) (s : Step) (slirp : SlirpState) (f : Flowing) (link : LinkState) (past : List Entry) → HoldsAt config at s slirp f link past → step config past ≡ s
+asked_for config at s slirp f link past holds = joined_step config past holds.lawful ∙ ap (λ l. step_for l (errand_left config past)) holds.relayed.list ∙ holds.relayed.asks
 
 -- of which datagram
 in_fresh : (list : List Association) (errand : Errand) → errand_in (without_socket list errand) ≡ Some errand
@@ -79,6 +81,18 @@ or_first false b is = cc
 pub or_second : (a b : Bool) → b ≡ true → (a || b) ≡ true
 or_second true b is = refl
 or_second false b is = is
+
+-- the sockets that carry datagrams are those of the list
+pub carried : (config : Config) (list : List Association) (past : List Entry) → Lawful config past → associations config past ≡ list → (n : ℕ) → carries past n ≡ is_among n (numbers list)
+carried config list past lawful is n = (joined config past lawful).those n ∙ ap (λ l. is_among n (numbers l)) is
+
+pub carried_by : (config : Config) (at : Standing) (s : Step) (slirp : SlirpState) (f : Flowing) (link : LinkState) (past : List Entry) → HoldsAt config at s slirp f link past → (n : ℕ) → carries past n ≡ is_among n (numbers slirp.associations)
+carried_by config at s slirp f link past holds n = carried config slirp.associations past holds.lawful holds.relayed.list n
+
+-- a turn has begun, where that is against what is so before
+pub in_turn : {config : Config} {step : Step} {slirp : SlirpState} {kept : Kept} {link : LinkState} {past : List Entry} → Stands config step slirp kept link past → (Unbegun config step slirp link past → ⊥) → InTurn config past
+in_turn (Turns turn) not_before = turn
+in_turn (Begins unbegun free unrested shut) not_before = absurd (not_before unbegun)
 
 -- ---- parts that an entry leaves
 
@@ -113,13 +127,6 @@ link_stays link (UdpSend socket to octets answer) past on keeps = keeps_by link 
 link_stays link (UdpRecv socket asked answer octets) past on keeps = keeps_by link (UdpRecv socket asked answer octets) past tt refl refl refl keeps
 link_stays link _ past on keeps = absurd on
 
-no_flow_comes : (config : Config) (e : Entry) (past : List Entry) → IsOnSocket e → OfFlows config past → OfFlows config (e ∷ past)
-no_flow_comes config (Close socket) past on none = flows_stay config (Close socket) past tt none
-no_flow_comes config (UdpOpen socket at answer) past on none = flows_stay config (UdpOpen socket at answer) past tt none
-no_flow_comes config (UdpSend socket to octets answer) past on none = flows_stay config (UdpSend socket to octets answer) past tt none
-no_flow_comes config (UdpRecv socket asked answer octets) past on none = flows_stay config (UdpRecv socket asked answer octets) past tt none
-no_flow_comes config _ past on none = absurd on
-
 brings_none : (config : Config) (e : Entry) (past : List Entry) → IsOnSocket e → (happens config past e).came ≡ None
 brings_none config (Close socket) past on = refl
 brings_none config (UdpOpen socket at answer) past on = refl
@@ -134,37 +141,47 @@ clock_stays at after slirp new (UdpSend socket to octets answer) past on same co
 clock_stays at after slirp new (UdpRecv socket asked answer octets) past on same count clock = record { moment = clock.moment ∙ sym same; counted = clock.counted ∙ sym count }
 clock_stays at after slirp new _ past on same count clock = absurd on
 
+-- the socket of a close carries a guest's datagrams
+abbrev pub ClosesOwn : Entry → List Entry → Type 0
+ClosesOwn (Close socket) past = carries past socket ≡ true
+ClosesOwn _ past = Unit {0}
+
+flows_on : (config : Config) (f : Flowing) (now : ℕ) (e : Entry) (past : List Entry) → IsOnSocket e → ClosesOwn e past → Lawful config past → OfFlows config f now past → OfFlows config f now (e ∷ past)
+flows_on config f now (Close socket) past on own lawful flows = flows_same config f now (Close socket) past (close_same config past socket (no_flow config past socket lawful own)) (omega arith) refl flows
+flows_on config f now (UdpOpen socket at answer) past on own lawful flows = flows_stay config f now (UdpOpen socket at answer) past refl (omega arith) refl flows
+flows_on config f now (UdpSend socket to octets answer) past on own lawful flows = flows_stay config f now (UdpSend socket to octets answer) past refl (omega arith) refl flows
+flows_on config f now (UdpRecv socket asked answer octets) past on own lawful flows = flows_stay config f now (UdpRecv socket asked answer octets) past refl (omega arith) refl flows
+flows_on config f now _ past on own lawful flows = absurd on
+
 -- what a call on a socket changes: the call was allowed, and what it made of answers, associations, sockets, agenda and closing
 pub record Changes (config : Config) (after : Standing) (step : Step) (new : SlirpState) (e : Entry) (past : List Entry) : Type 0 where
   pub may : May config past (call_of e)
+  pub allowed : Allowed e
+  pub own : ClosesOwn e past
   pub answers : OfAnswers config new (e ∷ past)
   pub relayed : OfRelay config step new (e ∷ past)
-  pub sockets : OfSockets new (e ∷ past)
+  pub sockets : OfSockets new.number (e ∷ past)
   pub agenda : IsLast (all_wanted after.wants after.left) (agenda (e ∷ past))
   pub open_yet : is_closing config (e ∷ past) ≡ false
 
 -- and the rest stays
-pub after_socket : (config : Config) (at after : Standing) (step new_step : Step) (slirp new : SlirpState) (link : LinkState) (e : Entry) (past : List Entry) → IsOnSocket e
+pub after_socket : (config : Config) (at after : Standing) (step new_step : Step) (slirp new : SlirpState) (f : Flowing) (link : LinkState) (e : Entry) (past : List Entry) → IsOnSocket e
     → of_guests new ≡ of_guests slirp → new.moment ≡ slirp.moment → after.count ≡ at.count → InTurn config past
-    → HoldsAt config at step slirp link past → Changes config after new_step new e past → HoldsAt config after new_step new link (e ∷ past)
-after_socket config at after step new_step slirp new link e past on same_guests same_moment same_count turn holds changes = record {
+    → HoldsAt config at step slirp f link past → Changes config after new_step new e past → HoldsAt config after new_step new f link (e ∷ past)
+after_socket config at after step new_step slirp new f link e past on same_guests same_moment same_count turn holds changes = record {
   lawful = (changes.may, holds.lawful);
+  allowed = (changes.allowed, holds.allowed);
   keeps = link_stays link e past on holds.keeps;
   answers = changes.answers;
   guests = guests_stay config slirp new e past (brings_none config e past on) same_guests holds.guests;
   relayed = changes.relayed;
-  flows = no_flow_comes config e past on holds.flows;
+  flows = subst (λ m. OfFlows config f m (e ∷ past)) (sym same_moment) (flows_on config f slirp.moment e past on changes.own holds.lawful holds.flows);
   sockets = changes.sockets;
   clock = clock_stays at after slirp new e past on same_moment same_count holds.clock;
   stands = Turns (still_in_turn config e past on turn);
   agenda = changes.agenda;
   open_yet = changes.open_yet;
 }
-
--- a turn has begun, where that is against what is so before
-pub in_turn : {config : Config} {step : Step} {slirp : SlirpState} {link : LinkState} {past : List Entry} → Stands config step slirp link past → (Unbegun config step slirp link past → ⊥) → InTurn config past
-in_turn (Turns turn) not_before = turn
-in_turn (Begins unbegun) not_before = absurd (not_before unbegun)
 
 -- ---- items of what a wait reported
 

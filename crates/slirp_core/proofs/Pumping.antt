@@ -1,37 +1,36 @@
--- Writes of a pump.
+-- Writes of a pump that sends what is owed for the frame or datagram that came last.
 use Rattle.std.proofs.Common.{◌≡◌, ℕ, ◌+◌, ◌%◌, ◌^◌, ◌<◌, ◌==◌, ◌&&◌, Bool, true, false, List, [], ◌∷◌, ◌++◌, drop, length, bytes_eq, None, sym, ◌∙◌, ap, subst, arith, cond, refl}
 use Rattle.std.proofs.lemmas.Bool.Decides.{nat_tests}
-use Rattle.world_face.specs.Journal.{Entry, LinkWrite}
+use Rattle.world_face.specs.Journal.{Entry, Allowed, AreAllowed, LinkWrite}
 use Rattle.world_face.specs.declared.Io.{Io}
 use Rattle.world_face.specs.declared.Io.TheVariants.{Done, End, NotYet, Failed}
 use Rattle.world_face.specs.Frames.{LinkFailed, goes_out, tail, spelling, opens}
 use Rattle.host_policy.specs.Addresses.{Config}
 use Rattle.slirp_laws.specs.Answers.{identification, datagrams_in, datagrams_out, with_datagrams, left, taken, is_first, is_out}
 use Rattle.flow_book.specs.Book.{book}
-use Rattle.flow_book.specs.Flows.{Flow}
+use Rattle.flow_book.specs.Doings.{doing_by}
 use Rattle.flow_book.specs.Laws.{MayWrite, flow_settings}
 use Rattle.run_laws.specs.Moments.{moment}
 use Rattle.slirp_laws.specs.Datagrams.{Settled}
 use Rattle.slirp_laws.specs.Sending.{is_beside}
 use Rattle.slirp_laws.specs.Laws.{Lawful, may_begin}
 use Rattle.run_laws.specs.Shape.{phase, is_working, unless_over}
-use Rattle.run_laws.specs.Sockets.{open_sockets}
 use Rattle.stream_netdev.specs.Keeps.{Keeps, Writes, Settles}
 use Rattle.stream_netdev.specs.Offers.{offered}
 use Rattle.stream_netdev.specs.State.{LinkState}
 use Rattle.stream_netdev.specs.declared.Offered.{Offered}
-use Rattle.stream_netdev.specs.declared.Offered.TheVariants.{Taken, Blocked as OfferBlocked, Failed as OfferFailed}
-use Rattle.slirp_core.specs.Holds.{Standing, Holds, InTurn, OfSockets, Turns, AfterPump, LeavesBehind, LeavesRest}
+use Rattle.slirp_core.specs.Holds.{Standing, InTurn, AfterPump, AreOpen, Flowing, Holds, OfFlows, Turns, LeavesBehind, LeavesRest}
 use Rattle.slirp_core.specs.Outgoing.{sent_after}
 use Rattle.slirp_core.specs.Pumps.{pumped_of, keep}
-use Rattle.slirp_core.specs.Sockets.{AreThoseOf}
 use Rattle.slirp_core.specs.State.{SlirpState}
 use Rattle.slirp_core.specs.declared.sending.Pumped.{Pumped}
 use Rattle.slirp_laws.specs.Asking.{errand_left}
 use Rattle.slirp_laws.proofs.Deeds.{writes}
 use Rattle.slirp_core.proofs.Guests.{guests_stay, of_guests}
-use Rattle.slirp_core.proofs.NoFlows.{flows_stay, goes_freely}
-use Rattle.slirp_core.proofs.Parts.{asked_for, asks_nothing, due_is, errand_for, in_turn, or_first}
+use Rattle.slirp_core.proofs.Parts.{asks_nothing, asked_for, due_is, errand_for, in_turn, or_first}
+use Rattle.slirp_core.proofs.Flows.{answer_goes, flows_answered, flows_stay}
+use Rattle.slirp_core.proofs.Open.{are_open}
+use Rattle.stream_netdev.specs.declared.Offered.TheVariants.{Taken, Blocked as OfferBlocked, Failed as OfferFailed}
 
 -- what is owed after a write is what the network then has
 record Left (config : Config) (past : List Entry) (octets : List ℕ) (answer : Io) (slirp : SlirpState) : Type 0 where
@@ -39,29 +38,23 @@ record Left (config : Config) (past : List Entry) (octets : List ℕ) (answer : 
   pending : taken (goes_out (LinkWrite octets answer) past) (left config past) ≡ slirp.pending
 
 -- after a lawful write in a turn, by its answer
-after_write : (config : Config) (at : Standing) (slirp new_slirp : SlirpState) (old new : LinkState) (past : List Entry) (octets : List ℕ) (answer : Io) (blocked : Bool)
-    → Holds config at slirp old past → InTurn config past → Keeps new (LinkWrite octets answer ∷ past) → may_begin config past (tail past) octets ≡ true
-    → MayWrite (flow_settings config) (moment past) (book config past).flows (tail past) octets → Left config past octets answer new_slirp → new_slirp ≡ record slirp { pending = new_slirp.pending; sent = new_slirp.sent }
-    → AfterPump (pumped_of (offered answer) blocked) config at new_slirp new (LinkWrite octets answer ∷ past)
-after_write config at slirp new_slirp old new past octets answer blocked holds turn keeps may sent remains same = by_answer answer blocked keeps remains
+after_write : (config : Config) (at : Standing) (slirp new_slirp : SlirpState) (f : Flowing) (old new : LinkState) (past : List Entry) (octets : List ℕ) (answer : Io) (blocked : Bool)
+    → Holds config at slirp f old past → InTurn config past → Keeps new (LinkWrite octets answer ∷ past) → Allowed (LinkWrite octets answer) → may_begin config past (tail past) octets ≡ true
+    → MayWrite (flow_settings config) (moment past) (book config past).flows (tail past) octets → ((a : Io) → OfFlows config f slirp.moment (LinkWrite octets a ∷ past))
+    → Left config past octets answer new_slirp → new_slirp ≡ record slirp { pending = new_slirp.pending; sent = new_slirp.sent }
+    → AfterPump (pumped_of (offered answer) blocked) config at new_slirp f new (LinkWrite octets answer ∷ past)
+after_write config at slirp new_slirp f old new past octets answer blocked holds turn keeps allowed may sent flows remains same = by_answer answer blocked keeps allowed remains
   where
     lawful : (a : Io) → Keeps new (LinkWrite octets a ∷ past) → Lawful config (LinkWrite octets a ∷ past)
     lawful a k = (
-      writes config past octets k.framed.0 (due_is config past Settled turn.working holds.flows (asked_for config at Settled slirp old past holds)) (ap is_working turn.working) may holds.open_yet sent,
+      writes config past octets k.framed.0 (due_is config past Settled turn.working holds.flows.holds.asked (asked_for config at Settled slirp f old past holds)) (ap is_working turn.working) may holds.open_yet sent,
       holds.lawful,
     )
 
-    sockets : (a : Io) → OfSockets new_slirp (LinkWrite octets a ∷ past)
-    sockets a = record {
-      number = holds.sockets.number ∙ sym (ap (λ (s : SlirpState). s.number) same);
-      rising = holds.sockets.rising;
-      those = subst (λ (s : SlirpState). AreThoseOf s.associations (open_sockets past)) (sym same) holds.sockets.those;
-      kinds = holds.sockets.kinds;
-    }
-
-    goes : (a : Io) → Keeps new (LinkWrite octets a ∷ past) → phase config (LinkWrite octets a ∷ past) ≡ phase config past → Left config past octets a new_slirp → Holds config at new_slirp new (LinkWrite octets a ∷ past)
-    goes a k on l = record {
+    goes : (a : Io) → Keeps new (LinkWrite octets a ∷ past) → Allowed (LinkWrite octets a) → phase config (LinkWrite octets a ∷ past) ≡ phase config past → Left config past octets a new_slirp → Holds config at new_slirp f new (LinkWrite octets a ∷ past)
+    goes a k fine on l = record {
       lawful = lawful a k;
+      allowed = (fine, holds.allowed);
       keeps = k;
       answers = record { sent = l.sent; pending = l.pending };
       guests = guests_stay config slirp new_slirp (LinkWrite octets a) past refl (ap of_guests same) holds.guests;
@@ -69,42 +62,45 @@ after_write config at slirp new_slirp old new past octets answer blocked holds t
         list = holds.relayed.list ∙ sym (ap (λ (s : SlirpState). s.associations) same);
         asks = asks_nothing new_slirp.associations (errand_left config past) (errand_for config Settled slirp past holds.relayed);
       };
-      flows = flows_stay config (LinkWrite octets a) past tt holds.flows;
-      sockets = sockets a;
+      flows = subst (λ m. OfFlows config f m (LinkWrite octets a ∷ past)) (sym (ap (λ (s : SlirpState). s.moment) same)) (flows a);
+      sockets = record { number = holds.sockets.number ∙ sym (ap (λ (s : SlirpState). s.number) same); kinds = holds.sockets.kinds };
       clock = record { moment = holds.clock.moment ∙ sym (ap (λ (s : SlirpState). s.moment) same); counted = holds.clock.counted };
       stands = Turns (record { working = on ∙ turn.working; waited = turn.waited });
       agenda = holds.agenda;
       open_yet = holds.open_yet;
     }
 
-    by_answer : (a : Io) (b : Bool) → Keeps new (LinkWrite octets a ∷ past) → Left config past octets a new_slirp → AfterPump (pumped_of (offered a) b) config at new_slirp new (LinkWrite octets a ∷ past)
-    by_answer (Done n) true k l = goes (Done n) k refl l
-    by_answer (Done n) false k l = goes (Done n) k refl l
-    by_answer End true k l = goes End k refl l
-    by_answer End false k l = goes End k refl l
-    by_answer NotYet true k l = goes NotYet k refl l
-    by_answer NotYet false k l = goes NotYet k refl l
-    by_answer Failed b k l = record {
+    now_open : AreOpen slirp.associations f.kept.flows.parts past
+    now_open = are_open config at Settled slirp f old past holds
+
+    by_answer : (a : Io) (b : Bool) → Keeps new (LinkWrite octets a ∷ past) → Allowed (LinkWrite octets a) → Left config past octets a new_slirp → AfterPump (pumped_of (offered a) b) config at new_slirp f new (LinkWrite octets a ∷ past)
+    by_answer (Done n) true k fine l = goes (Done n) k fine refl l
+    by_answer (Done n) false k fine l = goes (Done n) k fine refl l
+    by_answer End true k fine l = goes End k fine refl l
+    by_answer End false k fine l = goes End k fine refl l
+    by_answer NotYet true k fine l = goes NotYet k fine refl l
+    by_answer NotYet false k fine l = goes NotYet k fine refl l
+    by_answer Failed b k fine l = record {
       lawful = lawful Failed k;
-      flows = flows_stay config (LinkWrite octets Failed) past tt holds.flows;
       over = ap (λ p. unless_over p LinkFailed) turn.working;
-      asks = errand_for config Settled slirp past holds.relayed;
-      rising = holds.sockets.rising;
-      those = (sockets Failed).those;
+      errand = errand_for config Settled slirp past holds.relayed;
+      idle = (flows Failed).holds.asked;
+      sockets = subst (λ (s : SlirpState). AreOpen s.associations f.kept.flows.parts (LinkWrite octets Failed ∷ past)) (sym same) (record { each = now_open.each; carry = now_open.carry; flow = now_open.flow; apart = now_open.apart });
     }
 
 -- a write of the rest of a frame
-pub after_flush : (config : Config) (at : Standing) (slirp : SlirpState) (old new : LinkState) (made past : List Entry) (result : Offered) (pumped : Pumped) → 0 < length old.tail → Writes result old.tail made
+pub after_flush : (config : Config) (at : Standing) (slirp : SlirpState) (f : Flowing) (old new : LinkState) (made past : List Entry) (result : Offered) (pumped : Pumped) → 0 < length old.tail → Writes result old.tail made
     → ((past : List Entry) → Keeps old past → Keeps new (made ++ past)) → pumped ≡ pumped_of result new.blocked
-    → Holds config at slirp old past → AfterPump pumped config at slirp new (made ++ past)
-after_flush config at slirp old new made past result pumped some (answer, is, was) keeps comes holds =
-    let Goal : List Entry → Type 0 = λ made. AfterPump pumped config at slirp new (made ++ past) in
+    → AreAllowed made → Holds config at slirp f old past → AfterPump pumped config at slirp f new (made ++ past)
+after_flush config at slirp f old new made past result pumped some (answer, is, was) keeps comes allowed holds =
+    let Goal : List Entry → Type 0 = λ made. AfterPump pumped config at slirp f new (made ++ past) in
     let k = subst (λ m. Keeps new (m ++ past)) is (keeps past holds.keeps) in
     subst Goal (sym is)
-    (subst (λ p. AfterPump p config at slirp new (LinkWrite old.tail answer ∷ past)) (sym (comes ∙ ap (λ r. pumped_of r new.blocked) was))
-    (after_write config at slirp slirp old new past old.tail answer new.blocked holds (in_turn holds.stands (λ u. some_tail old.tail some u.empty)) k
+    (subst (λ p. AfterPump p config at slirp f new (LinkWrite old.tail answer ∷ past)) (sym (comes ∙ ap (λ r. pumped_of r new.blocked) was))
+    (after_write config at slirp slirp f old new past old.tail answer new.blocked holds (in_turn holds.stands (λ u. some_tail old.tail some u.empty)) k (subst AreAllowed is allowed).0
     (begins (tail past) old.tail some holds.keeps.rest)
     (goes_on (tail past) old.tail some holds.keeps.rest)
+    (λ a. flows_stay config f slirp.moment (LinkWrite old.tail a) past (ap (λ o. doing_by None o (LinkWrite old.tail a)) (none_opens a old.tail (tail past) some holds.keeps.rest)) (omega arith) refl holds.flows)
     (remains answer (none_opens answer old.tail (tail past) some holds.keeps.rest)) refl))
   where
     some_tail : (octets : List ℕ) → 0 < length octets → octets ≡ [] → ⊥
@@ -148,16 +144,16 @@ counts_on : (more out : ℕ) → (more + out) % 2 ^ 16 ≡ (more + out % 2 ^ 16)
 counts_on more out = omega arith
 
 -- a write of the frame that is next
-pub after_offer : (config : Config) (at : Standing) (slirp new_slirp : SlirpState) (old new : LinkState) (made past : List Entry) (frame : List ℕ) (rest : List (List ℕ)) (result : Offered) (pumped : Pumped)
+pub after_offer : (config : Config) (at : Standing) (slirp new_slirp : SlirpState) (f : Flowing) (old new : LinkState) (made past : List Entry) (frame : List ℕ) (rest : List (List ℕ)) (result : Offered) (pumped : Pumped)
     → old.tail ≡ [] → slirp.pending ≡ frame ∷ rest → Writes result (spelling frame) made
     → ((past : List Entry) → Keeps old past → Keeps new (made ++ past)) → pumped ≡ pumped_of result new.blocked
     → new_slirp ≡ record slirp { pending = keep result slirp.pending; sent = sent_after result slirp.pending slirp.sent }
-    → Holds config at slirp old past → AfterPump pumped config at new_slirp new (made ++ past)
-after_offer config at slirp new_slirp old new made past frame rest result pumped none is_pending (answer, is, was) keeps comes changed holds =
+    → AreAllowed made → Holds config at slirp f old past → AfterPump pumped config at new_slirp f new (made ++ past)
+after_offer config at slirp new_slirp f old new made past frame rest result pumped none is_pending (answer, is, was) keeps comes changed allowed holds =
     let kept = ap (λ (s : SlirpState). s.pending) changed in
     let counted = ap (λ (s : SlirpState). s.sent) changed in
     let same = changed ∙ ap (λ p. record slirp { pending = p; sent = sent_after result slirp.pending slirp.sent }) (sym kept) ∙ ap (λ n. record slirp { pending = new_slirp.pending; sent = n }) (sym counted) in
-    let Goal : List Entry → Type 0 = λ made. AfterPump pumped config at new_slirp new (made ++ past) in
+    let Goal : List Entry → Type 0 = λ made. AfterPump pumped config at new_slirp f new (made ++ past) in
     let k = subst (λ m. Keeps new (m ++ past)) is (keeps past holds.keeps) in
     let tail_is : tail past ≡ [] = holds.keeps.rest ∙ none in
     let only = holds.answers.pending ∙ is_pending in
@@ -167,10 +163,11 @@ after_offer config at slirp new_slirp old new made past frame rest result pumped
     let new_sent : new_slirp.sent ≡ sent_after (offered answer) (frame ∷ rest) (identification past) =
     counted ∙ ap (λ r. sent_after r slirp.pending slirp.sent) was ∙ ap (λ p. sent_after (offered answer) p slirp.sent) is_pending ∙ ap (sent_after (offered answer) (frame ∷ rest)) (sym holds.answers.sent) in
     subst Goal (sym is)
-    (subst (λ p. AfterPump p config at new_slirp new (LinkWrite (spelling frame) answer ∷ past)) (sym (comes ∙ ap (λ r. pumped_of r new.blocked) was))
-    (after_write config at slirp new_slirp old new past (spelling frame) answer new.blocked holds (in_turn holds.stands (λ u. cc (sym is_pending ∙ u.nothing))) k
+    (subst (λ p. AfterPump p config at new_slirp f new (LinkWrite (spelling frame) answer ∷ past)) (sym (comes ∙ ap (λ r. pumped_of r new.blocked) was))
+    (after_write config at slirp new_slirp f old new past (spelling frame) answer new.blocked holds (in_turn holds.stands (λ u. cc (sym is_pending ∙ u.nothing))) k (subst AreAllowed is allowed).0
     (ap (λ t. may_begin config past t (spelling frame)) tail_is ∙ or_first (is_first (drop 4 (spelling frame)) (left config past)) (is_out (left config past) && is_beside config past (drop 4 (spelling frame))) first)
-    (subst (λ (t : List ℕ). MayWrite (flow_settings config) (moment past) (book config past).flows t (spelling frame)) (sym tail_is) (goes_freely config past holds.flows (spelling frame) frame rest (spelt frame) holds.lawful only))
+    (answer_goes config f slirp.moment past holds.lawful holds.allowed holds.flows frame rest only (spelling frame) (spelt frame))
+    (λ a. flows_answered config f slirp.moment past holds.lawful holds.allowed holds.flows frame rest only (spelling frame) a (spelt frame))
     (remains answer only first tail_is new_pending new_sent) same))
   where
     sent_by : (a : Io) → with_datagrams (opens (LinkWrite (spelling frame) a) []) (datagrams_out past) % 2 ^ 16 ≡ sent_after (offered a) (frame ∷ rest) (identification past)

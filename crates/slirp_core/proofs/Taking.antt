@@ -1,10 +1,10 @@
 -- What a frame asks for, by the kind of what it carries.
-use Rattle.std.proofs.Common.{◌≡◌, ℕ, ◌+◌, ◌≤◌, ◌==◌, ◌&&◌, ◌||◌, not, Bool, true, false, List, [], ◌∷◌, length, Option, Some, None, if◌then◌else◌, refl, sym, ◌∙◌, ap, arith, append-nil}
+use Rattle.std.proofs.Common.{◌≡◌, ℕ, ◌+◌, ◌≤◌, ◌==◌, ◌&&◌, ◌||◌, Bool, true, false, List, [], ◌∷◌, length, Option, Some, None, option_map, if◌then◌else◌, refl, sym, ◌∙◌, ap, arith, append-nil}
 use Rattle.std.proofs.lemmas.Bool.Decides.{nat_tests}
 use Rattle.std.specs.Option.{option_and_then}
 use Rattle.net_octets.specs.Kinds.{arp_kind, ipv4_kind, icmp_proto, tcp_proto, udp_proto}
 use Rattle.net_octets.specs.declared.Endpoint.{Endpoint}
-use Rattle.host_policy.specs.Addresses.{Config, address, endpoint, is_ours, is_guest}
+use Rattle.host_policy.specs.Addresses.{Config, address, is_ours, is_guest}
 use Rattle.host_policy.specs.Targets.{shown, is_hidden}
 use Rattle.ether_frame.specs.Ether.{Ether, read_ether}
 use Rattle.arp_table.specs.Arp.{read_arp}
@@ -17,18 +17,17 @@ use Rattle.icmp_echo.specs.declared.IcmpView.TheVariants.{Echo, Unreachable, Oth
 use Rattle.udp_assoc.specs.Udp.{Udp, summed, udp_octets, udp_with, written_sum}
 use Rattle.udp_assoc.proofs.Spelling.{length-udp}
 use Rattle.udp_assoc.specs.declared.assocs.Association.{Association}
-use Rattle.slirp_laws.specs.Answers.{Answer, IpAnswer, our_mac, datagram_frames, fits_datagram, is_untold, told_about, reply_at, frames_of, owed_for_arp, owed_for_icmp, owed_for_datagram, owed_for_segment}
+use Rattle.slirp_laws.specs.Answers.{Answer, IpAnswer, our_mac, datagram_frames, fits_datagram, is_untold, told_about, reply_at, frames_of, owed_for_arp, owed_for_icmp, owed_for_datagram, reset_for}
 use Rattle.tcp_segment.specs.Tcp.{Tcp, read_tcp, tcp_length, tcp_octets}
 use Rattle.flow_table.specs.declared.Tuple.{Tuple}
 use Rattle.flow_laws.specs.Event.{Segment}
 use Rattle.flow_book.specs.Lots.{reset_to}
-use Rattle.flow_book.specs.Segments.{from_guest, segment_of}
-use Rattle.slirp_core.specs.Packets.{is_message_to_us, is_segment, is_stray, owed_for, owed_for_arrived, owed_for_ip, owed_for_ether, owed_for_frame, owed_for_tcp, reply_to}
+use Rattle.flow_book.specs.Segments.{OnTuple}
+use Rattle.slirp_core.specs.Segments.{Coming, coming, segment_in, segment_of_arrived, segment_of_ether, segment_of_ip}
+use Rattle.slirp_core.specs.Packets.{is_message_to_us, is_segment, owed_for, owed_for_arrived, owed_for_ip, owed_for_ether, owed_for_frame, reply_to, udp_of, errand_of_arrived, errand_of_ip, errand_of_ether, errand_in, with_arp, with_ip, with_ether}
 use Rattle.run_laws.specs.Fragments.{fragment_by, fragment_in, fragment_of}
 use Rattle.run_laws.specs.Packets.{Datagram}
-use Rattle.slirp_core.specs.Packets.{udp_of, errand_of_arrived, errand_of_ip, errand_of_ether, errand_in}
 use Rattle.slirp_laws.specs.Datagrams.{Errand, errand_of}
-use Rattle.slirp_core.specs.Packets.{with_address, with_arp, with_ip, with_ether}
 use Rattle.slirp_core.specs.Outgoing.{segment_octets}
 use Rattle.slirp_core.specs.State.{SlirpState}
 use Rattle.slirp_core.specs.declared.outgoing.Course.{Course}
@@ -65,6 +64,11 @@ module _ (s : SlirpState) (parts : List Gathered) (waiting : List PartSet) (fram
   errand_of_packet = sym (
       ap (option_and_then (errand_of_ether s.config s.moment waiting)) read
       ∙ ap (λ (k : ℕ). if k == ipv4_kind then option_and_then (errand_of_arrived s.config s.moment waiting ether.from ether.body) (read_ip ether.body) else None) kind)
+
+  pub segment_of_packet : option_and_then (segment_of_arrived s.config s.moment waiting ether.from ether.body) (read_ip ether.body) ≡ segment_in s.config s.moment waiting frame
+  segment_of_packet = sym (
+      ap (option_and_then (segment_of_ether s.config s.moment waiting)) read
+      ∙ ap (λ (k : ℕ). if k == ipv4_kind then option_and_then (segment_of_arrived s.config s.moment waiting ether.from ether.body) (read_ip ether.body) else None) kind)
 
   pub fragment_of_packet : option_and_then (fragment_by s.config ether.body) (read_ip ether.body) ≡ fragment_in s.config frame
   fragment_of_packet = sym (
@@ -103,7 +107,7 @@ module _ (s : SlirpState) (mac : List ℕ) (ip : Ip) where
   by_tests message segment udp = record s {
     pending = frames_of s.config s.sent
         (if message then owed_for (owed_for_icmp mac ip) (read_icmp ip.body)
-        else (if segment then owed_for (owed_for_tcp s.config mac ip) (read_tcp ip.from ip.to ip.body) else owed_for (owed_for_datagram s.config) udp));
+        else (if segment then [] else owed_for (owed_for_datagram s.config) udp));
   }
 
   pub message_to_us : is_message_to_us s.config ip ≡ true → ◌≡◌ {A = SlirpState}
@@ -112,7 +116,7 @@ module _ (s : SlirpState) (mac : List ℕ) (ip : Ip) where
   message_to_us asked = sym (ap (λ (b : Bool). by_tests b (is_segment s.config ip) (udp_of s.config mac ip)) asked)
 
   pub segment_came : is_message_to_us s.config ip ≡ false → is_segment s.config ip ≡ true → ◌≡◌ {A = SlirpState}
-      (record s { pending = frames_of s.config s.sent (owed_for (owed_for_tcp s.config mac ip) (read_tcp ip.from ip.to ip.body)) })
+      (record s { pending = [] })
       (record s { pending = frames_of s.config s.sent (owed_for_ip s.config mac ip) })
   segment_came asked carries = sym (ap (λ (b : Bool). by_tests b (is_segment s.config ip) (udp_of s.config mac ip)) asked ∙ ap (λ (b : Bool). by_tests false b (udp_of s.config mac ip)) carries)
 
@@ -123,6 +127,19 @@ module _ (s : SlirpState) (mac : List ℕ) (ip : Ip) where
       ap (λ (b : Bool). by_tests b (is_segment s.config ip) (udp_of s.config mac ip)) asked
       ∙ ap (λ (b : Bool). by_tests false b (udp_of s.config mac ip)) carries
       ∙ ap (λ (o : Option Datagram). by_tests false false o) (sym udp))
+
+  -- one that holds no segment
+  pub no_segment : is_segment s.config ip ≡ false → ◌≡◌ {A = Option Coming} None (segment_of_ip s.config mac ip)
+  no_segment carries = sym (ap (λ (b : Bool). if b then option_map (coming mac ip) (read_tcp ip.from ip.to ip.body) else None) carries)
+
+  pub no_segment_of_message : is_message_to_us s.config ip ≡ true → ◌≡◌ {A = Option Coming} None (segment_of_ip s.config mac ip)
+  no_segment_of_message asked = no_segment (no_six (is_guest s.config ip.from) ip.proto (message_proto (is_guest s.config ip.from) (is_ours s.config ip.to) ip.proto asked))
+    where
+      no_six : (g : Bool) (proto : ℕ) → proto ≡ 1 → (g && (proto == 6)) ≡ false
+      no_six g proto one = grind (arith, nat_tests, one)
+
+  pub one_segment : is_segment s.config ip ≡ true → option_map (coming mac ip) (read_tcp ip.from ip.to ip.body) ≡ segment_of_ip s.config mac ip
+  one_segment carries = sym (ap (λ (b : Bool). if b then option_map (coming mac ip) (read_tcp ip.from ip.to ip.body) else None) carries)
 
   pub no_errand : is_message_to_us s.config ip ≡ true → ◌≡◌ {A = Option Errand} None (errand_of_ip s.config mac ip)
   no_errand asked = ap (option_and_then (errand_of s.config)) (none_of_others s.config mac ip (no_udp s.config ip asked))
@@ -169,8 +186,8 @@ reset_short from to tuple seg = by seg.ack refl
     by true is = ap (λ (b : Bool). length (tcp_octets from to (reset_to tuple (record seg { ack = b })))) is ∙ omega arith
     by false is = ap (λ (b : Bool). length (tcp_octets from to (reset_to tuple (record seg { ack = b })))) is ∙ omega arith
 
-pub reset_small : (mac : List ℕ) (ip : Ip) (tcp reset : Tcp) → reset ≡ reset_to (from_guest mac ip tcp).tuple (segment_of tcp) → tcp_length reset ≤ 65515
-reset_small mac ip tcp reset is = let few : tcp_length reset ≡ 20 = ap tcp_length is ∙ small (from_guest mac ip tcp).tuple (segment_of tcp) in omega (arith, few)
+pub reset_small : (tuple : Tuple) (seg : Segment) (reset : Tcp) → reset ≡ reset_to tuple seg → tcp_length reset ≤ 65515
+reset_small tuple seg reset is = let few : tcp_length reset ≡ 20 = ap tcp_length is ∙ small tuple seg in omega (arith, few)
   where
     small : (tuple : Tuple) (seg : Segment) → tcp_length (reset_to tuple seg) ≡ 20
     small tuple seg = by seg.ack refl
@@ -183,28 +200,27 @@ octets_of : (from to : ℕ) (tcp : Tcp) → segment_octets from to tcp ≡ tcp_o
 unfolding segment_octets
 octets_of from to tcp = refl
 
--- a segment that strays is answered by a reset, and no other
-pub reset_owed : (config : Config) (ident : ℕ) (mac : List ℕ) (ip : Ip) (tcp reset : Tcp) (course : Course) (frames : List (List ℕ)) → is_stray config (endpoint ip.to tcp.to_port) (segment_of tcp) ≡ true → read_tcp ip.from ip.to ip.body ≡ Some tcp
-    → reset ≡ reset_to (from_guest mac ip tcp).tuple (segment_of tcp)
-    → course ≡ record { to_mac = record { 0 = mac }; from_mac = record { 0 = our_mac config.vhost }; ident = ident; from = record { 0 = ip.to }; to = record { 0 = ip.from }; mtu = config.mtu }
+-- the reset that answers a segment
+pub reset_frames : (config : Config) (ident : ℕ) (on : OnTuple) (reset : Tcp) (course : Course) (frames : List (List ℕ)) → reset ≡ reset_to on.tuple on.segment
+    → course ≡ record { to_mac = record { 0 = on.mac }; from_mac = record { 0 = our_mac config.vhost }; ident = ident; from = on.tuple.other.addr; to = on.tuple.guest.addr; mtu = config.mtu }
     → frames ≡ datagram_frames course.mtu course.to_mac.0 course.from_mac.0 course.ident tcp_proto course.from.0 course.to.0 (segment_octets course.from.0 course.to.0 reset)
-    → frames ≡ frames_of config ident (owed_for (owed_for_tcp config mac ip) (read_tcp ip.from ip.to ip.body))
-reset_owed config ident mac ip tcp reset course frames strays read is by put =
+    → frames ≡ frames_of config ident (reset_for on ∷ [])
+reset_frames config ident on reset course frames is by put =
     put ∙ ap (λ (k : Course). datagram_frames k.mtu k.to_mac.0 k.from_mac.0 k.ident tcp_proto k.from.0 k.to.0 (segment_octets k.from.0 k.to.0 reset)) by
-    ∙ by_octets (segment_octets ip.to ip.from reset) (octets_of ip.to ip.from reset ∙ ap (λ (r : Tcp). tcp_octets ip.to ip.from r) is)
+    ∙ by_octets (segment_octets other guest reset) (octets_of other guest reset ∙ ap (λ (r : Tcp). tcp_octets other guest r) is)
   where
-    by_octets : (octets : List ℕ) → octets ≡ tcp_octets ip.to ip.from (reset_to (from_guest mac ip tcp).tuple (segment_of tcp))
-        → datagram_frames config.mtu mac (our_mac config.vhost) ident tcp_proto ip.to ip.from octets ≡ frames_of config ident (owed_for (owed_for_tcp config mac ip) (read_tcp ip.from ip.to ip.body))
-    by_octets octets same =
-        let few : length octets ≡ 20 = ap length same ∙ reset_short ip.to ip.from (from_guest mac ip tcp).tuple (segment_of tcp) in
-        frames_whole config ident mac tcp_proto ip.to ip.from octets (omega (arith, few))
-        ∙ ap (λ o. frames_of config ident (IpAnswer mac tcp_proto ip.to ip.from o ∷ [])) same
-        ∙ sym (ap (λ (o : Option Tcp). frames_of config ident (owed_for (owed_for_tcp config mac ip) o)) read ∙ ap (λ (b : Bool). frames_of config ident (owed_for_segment b (from_guest mac ip tcp))) strays)
+    other : ℕ
+    other = address on.tuple.other
 
-pub none_owed : (config : Config) (ident : ℕ) (mac : List ℕ) (ip : Ip) (tcp : Tcp) → is_stray config (endpoint ip.to tcp.to_port) (segment_of tcp) ≡ false → read_tcp ip.from ip.to ip.body ≡ Some tcp
-    → [] ≡ frames_of config ident (owed_for (owed_for_tcp config mac ip) (read_tcp ip.from ip.to ip.body))
-none_owed config ident mac ip tcp keeps read =
-    sym (ap (λ (o : Option Tcp). frames_of config ident (owed_for (owed_for_tcp config mac ip) o)) read ∙ ap (λ (b : Bool). frames_of config ident (owed_for_segment b (from_guest mac ip tcp))) keeps)
+    guest : ℕ
+    guest = address on.tuple.guest
+
+    by_octets : (octets : List ℕ) → octets ≡ tcp_octets other guest (reset_to on.tuple on.segment)
+        → datagram_frames config.mtu on.mac (our_mac config.vhost) ident tcp_proto other guest octets ≡ frames_of config ident (reset_for on ∷ [])
+    by_octets octets same =
+        let few : length octets ≡ 20 = ap length same ∙ reset_short other guest on.tuple on.segment in
+        frames_whole config ident on.mac tcp_proto other guest octets (omega (arith, few))
+        ∙ ap (λ o. frames_of config ident (IpAnswer on.mac tcp_proto other guest o ∷ [])) same
 
 pub both_false : (a b c : Bool) → a ≡ false → (b || c) ≡ false → ((a || b) || c) ≡ false
 both_false a b c p q = ap (λ (x : Bool). (x || b) || c) p ∙ q

@@ -1,12 +1,12 @@
 -- Sockets that were idle for long are closed by rising number.
-use Rattle.std.proofs.Common.{◌≡◌, ℕ, ◌+◌, ◌≤◌, ◌==◌, ◌&&◌, ◌||◌, not, Bool, true, false, All, List, [], ◌∷◌, ◌++◌, if◌then◌else◌, refl, sym, subst, arith}
+use Rattle.std.proofs.Common.{◌≡◌, ℕ, ◌+◌, ◌≤◌, ◌==◌, ◌&&◌, ◌||◌, not, Bool, true, false, All, List, [], ◌∷◌, if◌then◌else◌, refl, arith}
 use Rattle.std.proofs.lemmas.Bool.Decides.{nat_tests}
 use Rattle.std.proofs.lemmas.List.Elements.{All-head, All-tail}
 use Rattle.std.specs.List.{list_any}
 use Rattle.world_face.specs.Journal.{Entry, Close}
 use Rattle.udp_assoc.specs.Associations.{is_numbered, is_over, without}
 use Rattle.udp_assoc.specs.declared.assocs.Association.{Association}
-use Rattle.slirp_core.specs.Hearing.{ClosesBelow}
+use Rattle.tcp_flows.specs.Runs.{ClosesBelow}
 
 -- those whose idle life is over have numbers from this one on
 abbrev pub AreFrom : ℕ → ℕ → List Association → Type 0

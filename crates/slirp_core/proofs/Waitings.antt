@@ -1,14 +1,14 @@
 -- Which fragments wait, as time goes on and as frames come.
-use Rattle.std.proofs.Common.{◌≡◌, ℕ, ◌-◌, ◌<◌, ◌≤◌, cond, nat_lt, Bool, true, false, List, [], ◌∷◌, filter, Option, None, Some, option_map, refl, sym, ◌∙◌, ap, subst, arith}
+use Rattle.std.proofs.Common.{◌≡◌, ℕ, ◌≤◌, cond, Bool, true, false, List, [], ◌∷◌, Option, None, Some, option_map, refl, sym, ◌∙◌, ap, subst, arith}
 use Rattle.std.proofs.lemmas.Bool.Decides.{nat_tests}
 use Rattle.world_face.specs.Journal.{Entry, Now}
 use Rattle.world_face.specs.Frames.{arrives}
 use Rattle.host_policy.specs.Addresses.{Config}
-use Rattle.ipv4_head.specs.Sets.{Carrying, Key, Part, PartSet, changed_by, is_young, left_by, outcome_among, parts_for, sets_left, young}
+use Rattle.ipv4_head.specs.Sets.{Carrying, Key, Part, PartSet, changed_by, is_young, left_by, outcome_among, parts_for, young}
 use Rattle.ipv4_head.proofs.Members.{of_young}
 use Rattle.ipv4_reasm.specs.Areas.{Gathered, StandFor}
 use Rattle.run_laws.specs.Fragments.{Fragment, fragment_in, sets, waiting, with_fragment, with_frame}
-use Rattle.run_laws.specs.Happenings.{Arrival, happens}
+use Rattle.run_laws.specs.Happenings.{happens}
 use Rattle.run_laws.specs.Moments.{moment}
 use Rattle.slirp_core.specs.Fragments.{IsHeld}
 use Rattle.slirp_core.specs.State.{SlirpState}

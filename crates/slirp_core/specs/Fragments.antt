@@ -9,13 +9,13 @@ use Rattle.ipv4_reasm.specs.Areas.{Gathered, StandFor}
 use Rattle.run_laws.specs.Fragments.{fragment_by, key_by, with_fragment}
 use Rattle.slirp_laws.specs.Answers.{frames_of}
 use Rattle.slirp_laws.specs.Datagrams.{Errand}
-use Rattle.slirp_core.specs.Datagrams.{FitsErrand, errand_of}
-use Rattle.slirp_core.specs.declared.datagrams.ErrandView.{ErrandView}
+use Rattle.slirp_core.specs.Segments.{Coming, FitsTask, errand_for, segment_for, segment_of_arrived, segment_of_ip}
+use Rattle.slirp_core.specs.declared.tcp.Task.{Task}
 use Rattle.slirp_core.specs.Packets.{errand_of_arrived, errand_of_ip, owed_for, owed_for_arrived, owed_for_ip, with_ip}
 use Rattle.slirp_core.specs.State.{SlirpState}
 use Rattle.slirp_core.specs.declared.fragments.Assembled.{Assembled}
 use Rattle.slirp_core.specs.declared.fragments.Brought.{Brought}
-use Rattle.slirp_core.specs.declared.fragments.Brought.TheVariants.{Nothing, Errand as AnErrand, Datagram}
+use Rattle.slirp_core.specs.declared.fragments.Brought.TheVariants.{Nothing, Task as ATask, Datagram}
 
 -- the areas stand for these sets, each part of which carries octets
 pub record IsHeld (areas : List Gathered) (held : List PartSet) : Type 0 where
@@ -51,17 +51,24 @@ Gathers slirp held mac ip p areas assembled octets = GathersIf (is_guest slirp.c
 -- what is sent on of what a frame brought, and what the network is once that is taken in
 abbrev pub brought_errand : Config → Brought → List ℕ → Option Errand
 brought_errand config Nothing octets = None
-brought_errand config (AnErrand e) octets = Some (errand_of e)
+brought_errand config (ATask t) octets = errand_for t
 brought_errand config (Datagram a) octets = errand_of_ip config a.mac.0 (assembled_ip a octets)
+
+-- and the segment that is to be heard
+abbrev pub brought_segment : Config → Brought → List ℕ → Option Coming
+brought_segment config Nothing octets = None
+brought_segment config (ATask t) octets = segment_for t
+brought_segment config (Datagram a) octets = segment_of_ip config a.mac.0 (assembled_ip a octets)
 
 abbrev pub taken_on : SlirpState → Brought → List ℕ → SlirpState
 taken_on slirp Nothing octets = slirp
-taken_on slirp (AnErrand e) octets = slirp
+taken_on slirp (ATask t) octets = slirp
 taken_on slirp (Datagram a) octets = record slirp { pending = frames_of slirp.config slirp.sent (owed_for_ip slirp.config a.mac.0 (assembled_ip a octets)) }
 
--- what octets of IPv4 brought that came from this hardware address: what is sent on and owed for it, whom it makes known, and which fragments wait then
+-- what octets of IPv4 brought that came from this hardware address: what is sent on, heard and owed for it, whom it makes known, and which fragments wait then
 pub record Arrives (old : SlirpState) (held : List PartSet) (mac octets : List ℕ) (new : SlirpState) (brought : Brought) (room : List ℕ) : Type 0 where
   pub errand : brought_errand old.config brought room ≡ option_and_then (errand_of_arrived old.config old.moment (young old.moment held) mac octets) (read_ip octets)
+  pub segment : brought_segment old.config brought room ≡ option_and_then (segment_of_arrived old.config old.moment (young old.moment held) mac octets) (read_ip octets)
   pub changes : taken_on new brought room ≡ record old {
     pending = frames_of old.config old.sent (owed_for (owed_for_arrived old.config old.moment (young old.moment held) mac octets) (read_ip octets));
     known = with_ip old.config mac (read_ip octets) old.known;
@@ -72,13 +79,13 @@ pub record Arrives (old : SlirpState) (held : List PartSet) (mac octets : List �
 -- so many octets hold it, and nothing is owed where something is still to be taken in or sent
 abbrev pub FitsBrought : Brought → List (List ℕ) → ℕ → Type 0
 FitsBrought Nothing pending octets = Unit {0}
-FitsBrought (AnErrand e) pending octets = FitsErrand e × (pending ≡ [])
+FitsBrought (ATask t) pending octets = FitsTask t × (pending ≡ [])
 FitsBrought (Datagram a) pending octets = FitsAssembled a × (pending ≡ []) × (a.head + a.body ≤ octets)
 
 abbrev pub whole_or_none : Option Assembled → Brought
 whole_or_none None = Nothing
 whole_or_none (Some a) = Datagram a
 
-abbrev pub errand_or_none : Option ErrandView → Brought
-errand_or_none None = Nothing
-errand_or_none (Some e) = AnErrand e
+abbrev pub task_or_none : Option Task → Brought
+task_or_none None = Nothing
+task_or_none (Some t) = ATask t

@@ -1,28 +1,36 @@
 -- What the core keeps of the calls made on the World.
-use Rattle.std.specs.Prelude.{◌≡◌, ℕ, ◌<◌, ◌≤◌, Bool, true, false, List, [], ◌++◌, drop, Some, None}
+use Rattle.std.specs.Prelude.{◌≡◌, ℕ, ◌<◌, ◌≤◌, ◌||◌, ◌⊎◌, Bool, true, false, List, [], ◌∷◌, ◌++◌, drop, Contains, Option, None}
 use Rattle.poll_list.specs.declared.Want.{Want}
-use Rattle.world_face.specs.Journal.{Entry}
+use Rattle.world_face.specs.Journal.{Entry, AreAllowed}
 use Rattle.world_face.specs.Frames.{Ending, LinkFailed}
 use Rattle.host_policy.specs.Addresses.{Config}
+use Rattle.udp_assoc.specs.Associations.{numbers}
 use Rattle.udp_assoc.specs.declared.assocs.Association.{Association as AnAssociation}
 use Rattle.flow_book.specs.Book.{book}
+use Rattle.flow_book.specs.Lots.{due_for_flows, is_reset}
+use Rattle.flow_book.specs.Taught.{taught}
+use Rattle.flow_splice.specs.Splice.{Splice}
 use Rattle.run_laws.specs.Guests.{known}
 use Rattle.run_laws.specs.Moments.{moment, waits}
 use Rattle.run_laws.specs.Shape.{Phase, By, Started, Working, Over, phase, is_ended}
-use Rattle.run_laws.specs.Sockets.{Association as OfAssociation, is_among, kind_of, next_number, open_sockets}
+use Rattle.run_laws.specs.Sockets.{Kind, is_among, is_association, is_flow, kind_of, next_number, open_sockets}
 use Rattle.slirp_laws.specs.Agenda.{agenda, all_wanted}
-use Rattle.slirp_laws.specs.Answers.{left, identification}
+use Rattle.slirp_laws.specs.Answers.{frames_of, identification, left, owed_for_segment}
 use Rattle.slirp_laws.specs.Asking.{errand_left}
 use Rattle.slirp_laws.specs.Datagrams.{Step, Settled}
 use Rattle.slirp_laws.specs.Relayed.{associations, step_for}
 use Rattle.slirp_laws.specs.Laws.{Finished, Lawful, is_closing}
 use Rattle.stream_netdev.specs.Keeps.{Keeps}
 use Rattle.stream_netdev.specs.State.{LinkState}
-use Rattle.slirp_core.specs.Sockets.{IsRising, AreThoseOf}
+use Rattle.slirp_core.specs.Segments.{Coming}
 use Rattle.slirp_core.specs.State.{SlirpState}
 use Rattle.slirp_core.specs.Waiting.{OfFragments}
 use Rattle.slirp_core.specs.declared.sending.Pumped.{Pumped}
 use Rattle.slirp_core.specs.declared.sending.Pumped.TheVariants.{Clear, Blocked, Failed}
+use Rattle.spliced_flows.specs.Core.{CoreHolds, number_of}
+use Rattle.tcp_flows.specs.Kept.{IsFor, Kept}
+use Rattle.tcp_flows.specs.Reading.{AllClear, HasSocket, IsOpenAt, NoneInSlots}
+use Rattle.tcp_flows.specs.Runs.{Brings}
 
 -- where a run stands: so many waits were made, the last one with these wants, and this is left of what it reported
 pub record Standing : Type 0 where
@@ -55,21 +63,10 @@ pub record Unbegun (config : Config) (step : Step) (slirp : SlirpState) (link : 
   pub nothing : slirp.pending ≡ []
   pub empty : link.tail ≡ []
 
-pub data Stands (config : Config) (step : Step) (slirp : SlirpState) (link : LinkState) (past : List Entry) : Type 0 where
-  Turns : InTurn config past → Stands config step slirp link past
-  Begins : Unbegun config step slirp link past → Stands config step slirp link past
-
 -- what the core has, part by part: the frames that are owed and how many datagrams went out
 pub record OfAnswers (config : Config) (slirp : SlirpState) (past : List Entry) : Type 0 where
   pub sent : identification past ≡ slirp.sent
   pub pending : left config past ≡ slirp.pending
-
--- the open sockets, all of which are associations, and the next number
-pub record OfSockets (slirp : SlirpState) (past : List Entry) : Type 0 where
-  pub number : next_number past ≡ slirp.number
-  pub rising : IsRising (next_number past) (open_sockets past)
-  pub those : AreThoseOf slirp.associations (open_sockets past)
-  pub kinds : (n : ℕ) → is_among n (open_sockets past) ≡ true → kind_of n past ≡ Some OfAssociation
 
 -- the clock and the waits
 pub record OfClock (at : Standing) (slirp : SlirpState) (past : List Entry) : Type 0 where
@@ -82,57 +79,113 @@ pub record OfGuests (config : Config) (slirp : SlirpState) (past : List Entry) :
   pub known : known config past ≡ slirp.known
   pub fragments : OfFragments config slirp past
 
--- no flow is or was open, since there is room for none; and a frame has room for a header and a unit of 8 octets
-pub record OfFlows (config : Config) (past : List Entry) : Type 0 where
-  pub room : config.flows ≡ 0
-  pub unit : 28 ≤ config.mtu
-  pub flows : (book config past).flows ≡ []
-  pub rests : (book config past).rests ≡ []
-  pub doomed : (book config past).doomed ≡ None
-
 -- the associations in the order of use, and what the datagram that came last still asks for
 pub record OfRelay (config : Config) (step : Step) (slirp : SlirpState) (past : List Entry) : Type 0 where
   pub list : associations config past ≡ slirp.associations
   pub asks : step_for slirp.associations (errand_left config past) ≡ step
 
+-- what is kept of flows, and whether the rests that are over have ended
+pub record Flowing : Type 0 where
+  pub kept : Kept
+  pub aged : Bool
+
+abbrev pub flowing : Bool → Kept → Flowing
+flowing aged kept = record { kept = kept; aged = aged }
+
+-- the slots stand for the flows of the record, none of which asks for a call; and a frame has room for a header and a unit of 8 octets
+pub record OfFlows (config : Config) (f : Flowing) (now : ℕ) (past : List Entry) : Type 0 where
+  pub holds : CoreHolds config now f.aged None f.kept.flows past
+  pub settings : IsFor config f.kept
+  pub unit : 28 ≤ config.mtu
+
+-- the next number; and each open socket carries datagrams, or is a flow's
+abbrev pub is_ours : Option Kind → Bool
+is_ours kind = is_association kind || is_flow kind
+
+pub record OfSockets (next : ℕ) (past : List Entry) : Type 0 where
+  pub number : next_number past ≡ next
+  pub kinds : (n : ℕ) → is_among n (open_sockets past) ≡ true → is_ours (kind_of n past) ≡ true
+
+-- a wait began this turn; or none came yet, and then there is no flow
+pub data Stands (config : Config) (step : Step) (slirp : SlirpState) (kept : Kept) (link : LinkState) (past : List Entry) : Type 0 where
+  Turns : InTurn config past → Stands config step slirp kept link past
+  Begins : Unbegun config step slirp link past → NoneInSlots kept.flows.parts → (book config past).rests ≡ [] → open_sockets past ≡ [] → Stands config step slirp kept link past
+
 -- Between entries that end a run: what the core has is what the calls made so far left, and the datagram that came last still asks for this.
-pub record HoldsAt (config : Config) (at : Standing) (step : Step) (slirp : SlirpState) (link : LinkState) (past : List Entry) : Type 0 where
+pub record HoldsAt (config : Config) (at : Standing) (step : Step) (slirp : SlirpState) (f : Flowing) (link : LinkState) (past : List Entry) : Type 0 where
   pub lawful : Lawful config past
+  pub allowed : AreAllowed past
   pub keeps : Keeps link past
   pub answers : OfAnswers config slirp past
   pub guests : OfGuests config slirp past
   pub relayed : OfRelay config step slirp past
-  pub flows : OfFlows config past
-  pub sockets : OfSockets slirp past
+  pub flows : OfFlows config f slirp.moment past
+  pub sockets : OfSockets slirp.number past
   pub clock : OfClock at slirp past
-  pub stands : Stands config step slirp link past
+  pub stands : Stands config step slirp f.kept link past
   pub agenda : IsLast (all_wanted at.wants at.left) (agenda past)
   pub open_yet : is_closing config past ≡ false
 
 -- the same, and it asks for nothing
-abbrev pub Holds : Config → Standing → SlirpState → LinkState → List Entry → Type 0
-Holds config at slirp link past = HoldsAt config at Settled slirp link past
+abbrev pub Holds : Config → Standing → SlirpState → Flowing → LinkState → List Entry → Type 0
+Holds config at slirp f link past = HoldsAt config at Settled slirp f link past
+
+-- ---- a segment came
+
+-- The newest entry brought a segment, which is still to be heard; else all is as it is between entries.
+pub record Comes (config : Config) (at : Standing) (slirp : SlirpState) (kept : Kept) (link : LinkState) (c : Coming) (past : List Entry) : Type 0 where
+  pub newest : Entry
+  pub before : List Entry
+  pub is : past ≡ newest ∷ before
+  pub brings : Brings config slirp.moment kept c.on.tuple c.tcp c.on newest before
+  pub allowed : AreAllowed past
+  pub keeps : Keeps link past
+  pub sent : identification past ≡ slirp.sent
+  pub owed : left config past ≡ frames_of config slirp.sent (owed_for_segment (is_reset config (book config past) c.on) c.on)
+  pub none : slirp.pending ≡ []
+  pub guests : OfGuests config slirp past
+  pub relayed : OfRelay config Settled slirp past
+  pub learnt : Contains (taught config past) (c.on.tuple.guest.addr, record { 0 = c.on.mac })
+  pub unit : 28 ≤ config.mtu
+  pub sockets : OfSockets slirp.number past
+  pub clock : OfClock at slirp past
+  pub turn : InTurn config past
+  pub agenda : IsLast (all_wanted at.wants at.left) (agenda past)
+
+-- ---- the end
+
+-- the open sockets are those of these associations and flows
+pub record AreOpen (list : List AnAssociation) (parts : List (Option Splice)) (past : List Entry) : Type 0 where
+  pub each : (n : ℕ) → is_among n (open_sockets past) ≡ true → (is_among n (numbers list) ≡ true) ⊎ HasSocket n parts (λ p. Unit {0})
+  pub carry : (n : ℕ) → is_among n (numbers list) ≡ true → is_among n (open_sockets past) ≡ true
+  pub flow : (k : ℕ) (p : Splice) → IsOpenAt parts k p → is_among (number_of p) (open_sockets past) ≡ true
+  pub apart : (k : ℕ) (p : Splice) → IsOpenAt parts k p → is_among (number_of p) (numbers list) ≡ false
 
 -- after an entry that ended the run in this way
-pub record Ended (config : Config) (why : Ending) (associations : List AnAssociation) (past : List Entry) : Type 0 where
+pub record Ended (config : Config) (why : Ending) (list : List AnAssociation) (parts : List (Option Splice)) (past : List Entry) : Type 0 where
   pub lawful : Lawful config past
-  pub flows : OfFlows config past
   pub over : phase config past ≡ Over (By why)
-  pub asks : errand_left config past ≡ None
-  pub rising : IsRising (next_number past) (open_sockets past)
-  pub those : AreThoseOf associations (open_sockets past)
+  pub errand : errand_left config past ≡ None
+  pub idle : due_for_flows config (book config past) (next_number past) ≡ None
+  pub sockets : AreOpen list parts past
 
 -- after a pump
-abbrev pub AfterPump : Pumped → Config → Standing → SlirpState → LinkState → List Entry → Type 0
-AfterPump Clear config at slirp link past = Holds config at slirp link past
-AfterPump Blocked config at slirp link past = Holds config at slirp link past
-AfterPump Failed config at slirp link past = Ended config LinkFailed slirp.associations past
+abbrev pub AfterPump : Pumped → Config → Standing → SlirpState → Flowing → LinkState → List Entry → Type 0
+AfterPump Clear config at slirp f link past = Holds config at slirp f link past
+AfterPump Blocked config at slirp f link past = Holds config at slirp f link past
+AfterPump Failed config at slirp f link past = Ended config LinkFailed slirp.associations f.kept.flows.parts past
 
 -- what is left after a pump
 abbrev pub Leaves : Pumped → SlirpState → LinkState → Type 0
-Leaves Clear slirp link = (link.blocked ≡ false) × (link.tail ≡ []) × (slirp.pending ≡ [])
+Leaves Clear slirp link = (link.blocked ≡ false) × (link.tail ≡ []) × (slirp.pending ≡ []) × AllClear slirp.flows.flows.parts
 Leaves Blocked slirp link = link.blocked ≡ true
 Leaves Failed slirp link = Unit {0}
+
+-- what is left of answers
+abbrev pub LeavesNone : Pumped → SlirpState → LinkState → Type 0
+LeavesNone Clear slirp link = (link.blocked ≡ false) × (link.tail ≡ []) × (slirp.pending ≡ [])
+LeavesNone Blocked slirp link = link.blocked ≡ true
+LeavesNone Failed slirp link = Unit {0}
 
 -- after an offer of the first pending frame the others stay, where nothing of it is left
 abbrev pub LeavesBehind : Pumped → SlirpState → SlirpState → LinkState → Type 0
@@ -147,27 +200,26 @@ LeavesRest Blocked link = link.blocked ≡ true
 LeavesRest Failed link = Unit {0}
 
 -- an entry ended the run; or it has made its last wait; or it may make none
-pub data Rests (config : Config) (associations : List AnAssociation) (past : List Entry) : Type 0 where
-  OverBy : (why : Ending) → phase config past ≡ Over (By why) → Rests config associations past
-  AllWaited : phase config past ≡ Working → Rests config associations past
-  NoneWaited : phase config past ≡ Started → associations ≡ [] → Rests config associations past
+pub data Rests (config : Config) (past : List Entry) : Type 0 where
+  OverBy : (why : Ending) → phase config past ≡ Over (By why) → Rests config past
+  AllWaited : phase config past ≡ Working → Rests config past
+  NoneWaited : phase config past ≡ Started → open_sockets past ≡ [] → Rests config past
 
 -- a run that has ended in this phase; only its sockets are to be closed
-pub record Closing (config : Config) (over : Phase) (associations : List AnAssociation) (past : List Entry) : Type 0 where
+pub record Closing (config : Config) (over : Phase) (list : List AnAssociation) (parts : List (Option Splice)) (past : List Entry) : Type 0 where
   pub lawful : Lawful config past
   pub ended : is_ended config past ≡ true
   pub is : over ≡ phase config past
-  pub rests : Rests config associations past
-  pub flows : OfFlows config past
-  pub asks : errand_left config past ≡ None
-  pub rising : IsRising (next_number past) (open_sockets past)
-  pub those : AreThoseOf associations (open_sockets past)
+  pub rests : Rests config past
+  pub errand : errand_left config past ≡ None
+  pub idle : due_for_flows config (book config past) (next_number past) ≡ None
+  pub sockets : AreOpen list parts past
 
 -- a run that is over: it is lawful and finished, and this is the phase in which it ended
 abbrev pub Ran : Config → Phase → List Entry → Type 0
 Ran config over made = Lawful config made × Finished config made × (over ≡ phase config made)
 
 -- after a socket was closed, or none was left
-abbrev pub AfterClosing : Bool → Config → Phase → List AnAssociation → List Entry → Type 0
-AfterClosing true config over associations past = Closing config over associations past
-AfterClosing false config over associations past = Ran config over past
+abbrev pub AfterClosing : Bool → Config → Phase → List AnAssociation → List (Option Splice) → List Entry → Type 0
+AfterClosing true config over list parts past = Closing config over list parts past
+AfterClosing false config over list parts past = Ran config over past

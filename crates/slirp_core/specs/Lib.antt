@@ -3,10 +3,12 @@ pub mod Datagrams
 pub mod Fragments
 pub mod Hearing
 pub mod Holds
+pub mod Numbers
 pub mod Outgoing
 pub mod Packets
 pub mod Pumps
 pub mod Replies
+pub mod Segments
 pub mod Sockets
 pub mod State
 pub mod Timeouts

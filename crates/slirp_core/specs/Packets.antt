@@ -1,32 +1,23 @@
 -- What the core makes of a frame as it takes it apart, and the packet that is owed.
-use Rattle.std.specs.Prelude.{ℕ, ◌==◌, ◌&&◌, ◌||◌, not, Bool, true, false, List, [], ◌∷◌, Option, Some, None, option_and_then, if◌then◌else◌}
+use Rattle.std.specs.Prelude.{ℕ, ◌==◌, ◌&&◌, Bool, true, false, List, [], ◌∷◌, Option, Some, None, option_and_then, if◌then◌else◌}
 use Rattle.net_octets.specs.Kinds.{arp_kind, ipv4_kind, icmp_proto, tcp_proto, udp_proto}
 use Rattle.net_octets.specs.declared.Ip4.{Ip4}
 use Rattle.net_octets.specs.declared.Mac.{Mac}
-use Rattle.host_policy.specs.Addresses.{Config, endpoint, is_guest, is_ours}
+use Rattle.host_policy.specs.Addresses.{Config, is_guest, is_ours}
 use Rattle.ether_frame.specs.Ether.{Ether, read_ether}
 use Rattle.arp_table.specs.Table.{learnt}
 use Rattle.ipv4_head.specs.Ip.{Ip, read_ip}
 use Rattle.ipv4_head.specs.Sets.{PartSet}
 use Rattle.icmp_echo.specs.Icmp.{read_icmp}
 use Rattle.udp_assoc.specs.Udp.{read_udp}
-use Rattle.tcp_segment.specs.Tcp.{Tcp, read_tcp}
-use Rattle.net_octets.specs.declared.Endpoint.{Endpoint}
-use Rattle.host_policy.specs.declared.Proto.TheVariants.{Tcp as OverTcp}
-use Rattle.host_policy.specs.declared.Verdict.{Verdict}
-use Rattle.host_policy.specs.declared.Verdict.TheVariants.{Go, Denied}
-use Rattle.host_policy.specs.Targets.{target}
-use Rattle.flow_laws.specs.Event.{Segment}
-use Rattle.flow_book.specs.Lots.{is_opening, is_to_many}
-use Rattle.flow_book.specs.Segments.{from_guest, segment_of}
 use Rattle.run_laws.specs.Fragments.{arrived}
-use Rattle.run_laws.specs.Packets.{Datagram, Packet, Segment as SegmentPacket, datagram_of, may_come}
+use Rattle.run_laws.specs.Packets.{Datagram, datagram_of, may_come}
 use Rattle.slirp_laws.specs.Datagrams.{Errand, errand_of}
 use Rattle.arp_table.specs.declared.ArpView.{ArpView}
 use Rattle.arp_table.specs.Arp.{Arp, arp_of, read_arp}
 use Rattle.icmp_echo.specs.declared.IcmpView.{IcmpView}
 use Rattle.icmp_echo.specs.declared.IcmpView.TheVariants.{Echo, Unreachable, Other}
-use Rattle.slirp_laws.specs.Answers.{Answer, ArpAnswer, owed_for_arp, owed_for_icmp, owed_for_datagram, owed_for_segment}
+use Rattle.slirp_laws.specs.Answers.{Answer, ArpAnswer, owed_for_arp, owed_for_icmp, owed_for_datagram}
 
 abbrev pub packet_of : ArpView → Answer
 packet_of view = ArpAnswer view.target_mac.0 (arp_of view)
@@ -54,22 +45,6 @@ is_message_to_us config ip = is_guest config ip.from && is_ours config ip.to && 
 abbrev pub is_segment : Config → Ip → Bool
 is_segment config ip = is_guest config ip.from && (ip.proto == tcp_proto)
 
-abbrev pub is_denied : Verdict → Bool
-is_denied (Go to) = false
-is_denied (Denied rule) = true
-
--- While there is no flow, and room for none, a segment to this endpoint strays that has no RST and goes to one host, unless it begins a connection that the policy allows.
-abbrev pub is_stray : Config → Endpoint → Segment → Bool
-is_stray config to seg = not seg.rst && not (is_to_many config to) && (not (is_opening seg) || is_denied (target config OverTcp to))
-
--- and so does a packet with one
-abbrev pub strays_alone : Config → Packet → Bool
-strays_alone config (SegmentPacket mac ip tcp) = is_stray config (endpoint ip.to tcp.to_port) (segment_of tcp)
-strays_alone config _ = false
-
-abbrev pub owed_for_tcp : Config → List ℕ → Ip → Tcp → List Answer
-owed_for_tcp config mac ip tcp = owed_for_segment (is_stray config (endpoint ip.to tcp.to_port) (segment_of tcp)) (from_guest mac ip tcp)
-
 -- the datagram of UDP that a whole one of IPv4 holds
 abbrev pub udp_of : Config → List ℕ → Ip → Option Datagram
 udp_of config mac ip =
@@ -77,10 +52,11 @@ udp_of config mac ip =
     then option_and_then (λ udp. if may_come config ip udp then Some (datagram_of mac ip udp) else None) (read_udp ip.from ip.to ip.body)
     else None
 
+-- a segment is answered, if at all, when it is heard
 abbrev pub owed_for_ip : Config → List ℕ → Ip → List Answer
 owed_for_ip config mac ip =
     if is_message_to_us config ip then owed_for (owed_for_icmp mac ip) (read_icmp ip.body)
-    else (if is_segment config ip then owed_for (owed_for_tcp config mac ip) (read_tcp ip.from ip.to ip.body)
+    else (if is_segment config ip then []
     else owed_for (owed_for_datagram config) (udp_of config mac ip))
 
 -- the errand of a datagram

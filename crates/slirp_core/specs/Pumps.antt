@@ -1,13 +1,17 @@
 -- The answers of pumps, and what is waited for.
 use Rattle.std.specs.Prelude.{◌≡◌, ℕ, ◌-◌, ◌&&◌, ◌||◌, not, ◌==◌, nat_lt, List, [], ◌∷◌, ◌++◌, Bool, true, false, drop, map, length, IsPermutation, Option, Some, None, if◌then◌else◌}
 use Rattle.std.specs.List.Sorted.{IsNonDecreasing}
+use Rattle.poll_list.specs.Listing.{names}
 use Rattle.poll_list.specs.declared.Want.{Want}
-use Rattle.poll_list.specs.declared.Who.TheVariants.{Link, Udp}
+use Rattle.poll_list.specs.declared.Who.TheVariants.{Link, Udp, Tcp}
 use Rattle.stream_netdev.specs.State.{LinkState}
 use Rattle.udp_assoc.specs.Associations.{idle_life, numbers}
 use Rattle.udp_assoc.specs.declared.assocs.Association.{Association}
 use Rattle.stream_netdev.specs.declared.Offered.{Offered}
 use Rattle.stream_netdev.specs.declared.Offered.TheVariants.{Taken, Blocked as OfferBlocked, Failed as OfferFailed}
+use Rattle.flow_splice.specs.declared.Pumped.{Pumped as PumpedFlows}
+use Rattle.flow_splice.specs.declared.Pumped.TheVariants.{Clear as FlowsClear, Blocked as FlowsBlocked, Failed as FlowsFailed}
+use Rattle.tcp_flows.specs.Reading.{AreWantsOf}
 use Rattle.slirp_core.specs.State.{SlirpState}
 use Rattle.slirp_core.specs.declared.sending.Pumped.{Pumped}
 use Rattle.slirp_core.specs.declared.sending.Pumped.TheVariants.{Clear, Blocked, Failed}
@@ -17,6 +21,12 @@ abbrev pub pumped_of : Offered → Bool → Pumped
 pumped_of Taken blocked = if blocked then Blocked else Clear
 pumped_of OfferBlocked blocked = if blocked then Blocked else Clear
 pumped_of OfferFailed blocked = Failed
+
+-- what a pump of flows comes to
+abbrev pub pumped_flows : PumpedFlows → Pumped
+pumped_flows FlowsClear = Clear
+pumped_flows FlowsBlocked = Blocked
+pumped_flows FlowsFailed = Failed
 
 -- the frames that are left after an offer of the first one
 abbrev pub keep : Offered → List (List ℕ) → List (List ℕ)
@@ -39,12 +49,19 @@ udp_want number = record { of = Udp number; read = true; write = false }
 abbrev pub socket_wants : Bool → List ℕ → List Want
 socket_wants read numbers = if read then map udp_want numbers else []
 
--- each socket once, by rising number
+-- each socket of datagrams once, by rising number, and behind them what flows wait for
 pub record WantsOf (slirp : SlirpState) (link : LinkState) (wants : List Want) : Type 0 where
   pub sockets : List ℕ
   pub all : IsPermutation (numbers slirp.associations) sockets
   pub rising : IsNonDecreasing sockets
-  pub is : wants ≡ link_want (is_settled slirp link) link.blocked ++ socket_wants (is_settled slirp link) sockets
+  pub flows : List Want
+  pub of_flows : AreWantsOf slirp.flows.flows.parts flows
+  pub is : wants ≡ (link_want (is_settled slirp link) link.blocked ++ socket_wants (is_settled slirp link) sockets) ++ flows
+
+-- no flow's socket stands twice
+abbrev pub TcpOnce : List Want → Type 0
+TcpOnce [] = Unit {0}
+TcpOnce (w ∷ wants) = ((m : ℕ) → w.of ≡ Tcp m → names (Tcp m) wants ≡ false) × TcpOnce wants
 
 -- what is left of the idle life of the longest unused socket
 abbrev pub time_left : ℕ → List Association → Option ℕ

@@ -1,6 +1,5 @@
 -- What the replies of the sockets for datagrams leave to be sent.
 use Rattle.std.specs.Prelude.{ℕ, List, take, Some, None}
-use Rattle.net_octets.specs.declared.Endpoint.{Endpoint}
 use Rattle.host_policy.specs.declared.Reply.{Reply}
 use Rattle.host_policy.specs.declared.Reply.TheVariants.{Nothing, Datagram as ADatagram, Unreachable}
 use Rattle.udp_assoc.specs.Relays.{Outbound}

@@ -5,8 +5,9 @@ use Rattle.net_octets.specs.declared.Mac.{Mac}
 use Rattle.host_policy.specs.Addresses.{Config}
 use Rattle.udp_assoc.specs.declared.assocs.Association.{Association}
 use Rattle.ipv4_reasm.specs.Areas.{Gathered}
+use Rattle.tcp_flows.specs.Kept.{Kept}
 
--- its settings, the guests that are known, the identification of the next datagram, the frames that are owed and aren't out yet, the moment in force, the number of the next socket, the associations, and what is in the areas of fragments
+-- its settings, the guests that are known, the identification of the next datagram, the frames that are owed and aren't out yet, the moment in force, the number of the next socket, the associations, what is in the areas of fragments, and the flows of TCP
 pub record SlirpState : Type 0 where
   pub config : Config
   pub known : List (Ip4 × Mac)
@@ -16,3 +17,4 @@ pub record SlirpState : Type 0 where
   pub number : ℕ
   pub associations : List Association
   pub parts : List Gathered
+  pub flows : Kept

@@ -5,8 +5,8 @@ ghost use Rattle.ipv4_head.specs.Ip.{ip_of};
 ghost use Rattle.ipv4_head.specs.Sets.{PartSet, key_of, part_of};
 ghost use Rattle.slirp_core.specs.Fragments.{FitsAssembled, IsHeld, Took, assembled_ip};
 
-use crate::datagrams::ErrandView;
 use crate::network::Slirp;
+use crate::tcp::Task;
 use ipv4_head::IpView;
 use ipv4_reasm::{Added, Reasm};
 use net_octets::{Ip4, Mac};
@@ -30,10 +30,10 @@ pub struct Assembled {
 /// What a frame brought.
 #[derive(Clone, Copy, Debug, PartialEq, Eq)]
 pub enum Brought<'a> {
-    /// Nothing that goes out.
+    /// Nothing that is still to be done.
     Nothing,
-    /// A datagram that goes out.
-    Errand(ErrandView<'a>),
+    /// A datagram that goes out, or a segment that is to be heard.
+    Task(Task<'a>),
     /// The part by which a datagram is whole; it is still to be taken in.
     Datagram(Assembled),
 }

@@ -1,10 +1,11 @@
-//! The core of the network: what a guest's frames and its peers' datagrams ask for, and what isn't out yet.
+//! The core of the network: what a guest's frames and its peers' datagrams ask for, the flows of TCP, and what isn't out yet.
 #![tactic(auto)]
 
 mod arp;
 mod cutting;
 mod datagrams;
 mod fragments;
+mod hosts;
 mod icmp;
 mod network;
 mod outgoing;
@@ -17,4 +18,5 @@ mod wants;
 pub use fragments::{Assembled, Brought, LONGEST_ASSEMBLED};
 pub use network::Slirp;
 pub use sending::Pumped;
+pub use tcp::{SegmentView, StrayLot, Task};
 pub use wants::TurnWants;

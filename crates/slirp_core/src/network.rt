@@ -1,13 +1,13 @@
 // The network: what it knows and keeps, a frame taken in, and what time does to it.
 ghost use Rattle.std.specs.Prelude.{[], ◌≡◌, ◌^◌, ◌<◌, All, length, not, true};
 ghost use Rattle.ipv4_head.specs.Ip.{ip_of, is_unbroken};
-ghost use Rattle.slirp_core.specs.Fragments.{whole_or_none, errand_or_none};
+ghost use Rattle.slirp_core.specs.Fragments.{whole_or_none, task_or_none};
 
-use crate::datagrams::{ErrandView, datagram_in};
+use crate::datagrams::datagram_in;
 use crate::fragments::{Assembled, Brought, datagram_at};
 use crate::icmp::is_message_to_us;
 use crate::outgoing::{ARP, IPV4, Outgoing};
-use crate::tcp::is_segment;
+use crate::tcp::{Task, is_segment, segment_in};
 use arp_table::ArpTable;
 use host_policy::{Policy, SlirpConfig};
 use ipv4_head::IpView;
@@ -15,13 +15,14 @@ use ipv4_reasm::Reasm;
 use net_octets::{Ip4, Mac, NoMemory};
 use std::alloc::Global;
 use std::marker::Model;
+use tcp_flows::{Sizes, TcpFlows};
 use udp_assoc::Assocs;
 use world_face::World;
 
 /// The greatest moment, in milliseconds.
 const LAST_MOMENT: u64 = 1 << 62;
 
-/// The virtual network: who its guests are, which sockets are open for them, how many datagrams went out, the frames that are owed to a guest and aren't out yet, and the fragments that wait to be joined.
+/// The virtual network: who its guests are, which sockets are open for them, how many datagrams went out, the frames that are owed to a guest and aren't out yet, the fragments that wait to be joined, and the flows of TCP.
 #[derive(Drop)]
 pub struct Slirp {
     pub(crate) policy: Policy,
@@ -32,24 +33,25 @@ pub struct Slirp {
     pub(crate) moment: u64,
     pub(crate) number: u64,
     pub(crate) reasm: Reasm,
+    pub(crate) flows: TcpFlows,
 }
 
 impl Model for Slirp {
     ghost use Rattle.std.specs.Prelude.{◌≡◌, ◌<◌, ◌≤◌, ◌^◌, All};
     ghost use Rattle.udp_assoc.specs.Associations.{numbers};
-    ghost use Rattle.slirp_laws.specs.Built.{as_built};
     ghost use Rattle.slirp_core.specs.State.{SlirpState};
+    ghost use Rattle.slirp_core.specs.Numbers.{AreDrawn};
 
     ghost Value = { SlirpState };
 
-    ghost view = { λ s. record { config = as_built s.policy; known = s.guests; sent = s.sent; pending = s.outgoing; moment = s.moment; number = s.number; associations = s.associations.list; parts = s.reasm } };
+    ghost view = { λ s. record { config = s.policy; known = s.guests; sent = s.sent; pending = s.outgoing; moment = s.moment; number = s.number; associations = s.associations.list; parts = s.reasm; flows = s.flows } };
 
-    // each socket has a number under that of the next one; and sockets are opened at 0.0.0.0, every address of the host
-    ghost invariant = { λ s. All (λ n. n < s.number) (numbers s.associations.list) × (s.moment ≤ 2 ^ 62) × (s.associations.bind ≡ 0) };
+    // each socket has a number under that of the next one, those of flows too, of which there are at most 4,096; and sockets are opened at 0.0.0.0, every address of the host
+    ghost invariant = { λ s. All (λ n. n < s.number) (numbers s.associations.list) × (s.moment ≤ 2 ^ 62) × (s.associations.bind ≡ 0) × AreDrawn s.number s.flows };
 }
 
 impl Slirp {
-    ghost use Rattle.std.specs.Prelude.{false, List, ◌≤◌, IfOk, IfSome, min, max};
+    ghost use Rattle.std.specs.Prelude.{false, Bool, ℕ, List, ◌≤◌, ◌+◌, IfOk, IfSome, Some, None, min, max};
     ghost use Rattle.std.specs.Option.{option_map};
     ghost use Rattle.host_policy.specs.Addresses.{Config};
     ghost use Rattle.host_policy.specs.Ranges.{IsSound};
@@ -58,23 +60,34 @@ impl Slirp {
     ghost use Rattle.udp_assoc.specs.Associations.{is_over};
     ghost use Rattle.slirp_core.specs.Packets.{with_address, with_ether};
     ghost use Rattle.slirp_laws.specs.Answers.{frames_of};
-    ghost use Rattle.slirp_laws.specs.Built.{as_built};
     ghost use Rattle.slirp_core.specs.Packets.{owed_for_ip, owed_for_frame};
+    ghost use Rattle.slirp_core.specs.Segments.{FitsTask, errand_for, segment_for, segment_in, segment_of_ip};
+    ghost use Rattle.std.specs.Option.{option_and_then};
+    ghost use Rattle.slirp_core.specs.Numbers.{flows_for};
     ghost use Rattle.slirp_core.specs.Packets.{errand_of_ip, errand_in};
     ghost use Rattle.ipv4_head.specs.Sets.{PartSet, young};
     ghost use Rattle.run_laws.specs.Fragments.{fragment_in, with_fragment};
-    ghost use Rattle.slirp_core.specs.Fragments.{Arrives, FitsBrought, IsHeld, brought_errand, taken_on};
+    ghost use Rattle.slirp_core.specs.Fragments.{Arrives, FitsBrought, IsHeld, brought_errand, brought_segment, taken_on};
     ghost use Rattle.world_face.specs.Tells.{Brings, Makes};
-    ghost use Rattle.slirp_core.specs.Hearing.{ClosesRising};
+    ghost use Rattle.slirp_core.specs.Hearing.{ClosesByKind, WhereItTicks};
+    ghost use Rattle.tcp_flows.specs.Runs.{ClosesRising};
+    ghost use Rattle.tcp_flows.specs.Reading.{IsFirst, IsOpenAt, NoneIsAbove};
+    ghost use Rattle.flow_splice.specs.Splice.{Splice};
+    ghost use Rattle.flow_splice.specs.Wants.{connect_end};
+    ghost use Rattle.connection_steps.specs.Holding.{is_connects};
+    ghost use Rattle.spliced_flows.specs.Core.{number_of};
+    ghost use Rattle.udp_assoc.specs.Associations.{IsLeast, numbers};
+    ghost use Rattle.run_laws.specs.Sockets.{is_among};
+    ghost use Rattle.slirp_core.specs.Numbers.{open_flows};
     ghost use Rattle.stream_netdev.specs.State.{LinkState};
     ghost use Rattle.slirp_core.specs.Datagrams.{errand_of, FitsErrand, Lies};
-    ghost use Rattle.slirp_core.specs.Holds.{Standing, Holds, Closing, AfterClosing, Ran};
+    ghost use Rattle.slirp_core.specs.Holds.{Standing, after, flowing, Holds, Closing, AfterClosing, Ran};
     ghost use Rattle.run_laws.specs.Shape.{Phase};
 
-    /// A network in which no guest is known, no socket is open and nothing is owed, with room for no flow of TCP yet. It takes all the memory that it will ever need.
+    /// A network in which no guest is known, no socket is open and nothing is owed, with room for as many flows of TCP as the settings say. It takes all the memory that it will ever need.
     pub fn new(alloc: Global, c: &SlirpConfig) -> Result<Slirp, NoMemory>
         requires { IsSound (settings c.now) }
-        ensures config { IfOk result (λ slirp. slirp.config ≡ as_built (settings c.now)) }
+        ensures config { IfOk result (λ slirp. slirp.config ≡ settings c.now) }
         ensures known { IfOk result (λ slirp. slirp.known ≡ []) }
         ensures sent { IfOk result (λ slirp. slirp.sent ≡ 0) }
         ensures pending { IfOk result (λ slirp. slirp.pending ≡ []) }
@@ -82,9 +95,11 @@ impl Slirp {
         ensures number { IfOk result (λ slirp. slirp.number ≡ 0) }
         ensures associations { IfOk result (λ slirp. slirp.associations ≡ []) }
         ensures parts { IfOk result (λ slirp. slirp.parts ≡ []) }
+        ensures flows { IfOk result (λ slirp. slirp.flows ≡ flows_for (settings c.now)) }
     {
         let outgoing = Outgoing::open(alloc)?;
         let reasm = Reasm::open(alloc)?;
+        let flows = TcpFlows::open(alloc, &sizes_of(c))?;
         Ok(Slirp {
             policy: Policy::new(c),
             guests: ArpTable::new(),
@@ -95,6 +110,7 @@ impl Slirp {
             moment: 0,
             number: 0,
             reasm,
+            flows,
         })
     }
 
@@ -105,11 +121,13 @@ impl Slirp {
         self.moment = told.min(LAST_MOMENT).max(self.moment);
     }
 
-    /// Takes in a frame: its sender is learnt, what it asks for is owed from now on, and a datagram that goes out is answered, to be sent by `relay`. A part of a datagram is kept until all have come; with the last of them the datagram is copied to `room`, 65,575 octets, and `complete` takes it in.
+    /// Takes in a frame: its sender is learnt, what it asks for is owed from now on, and a datagram that goes out is answered, to be sent by `relay`, or a segment, to be heard by `take_segment`. A part of a datagram is kept until all have come; with the last of them the datagram is copied to `room`, 65,575 octets, and `complete` takes it in.
     pub fn input<'a>(&mut self, frame: &'a [u8], room: &mut [u8]) -> Brought<'a>
         requires { length room.old ≡ 65575 }
         ensures errand { (held : List PartSet) → IsHeld self.old.parts held
             → brought_errand self.old.config result room.new ≡ errand_in self.old.config self.old.moment (young self.old.moment held) frame.now }
+        ensures segment { (held : List PartSet) → IsHeld self.old.parts held
+            → brought_segment self.old.config result room.new ≡ segment_in self.old.config self.old.moment (young self.old.moment held) frame.now }
         ensures changes { (held : List PartSet) → IsHeld self.old.parts held → taken_on self.new result room.new ≡ record self.old {
           pending = frames_of self.old.config self.old.sent (owed_for_frame self.old.config self.old.moment (young self.old.moment held) frame.now);
           known = with_ether self.old.config (read_ether frame.now) self.old.known;
@@ -135,18 +153,19 @@ impl Slirp {
         }
     }
 
-    /// Takes in what a frame brought, where it made a datagram whole: `octets` are those to which that was copied. A datagram that goes out is answered.
-    pub fn complete<'a>(&mut self, brought: Brought<'a>, octets: &'a [u8]) -> Option<ErrandView<'a>>
+    /// Takes in what a frame brought, where it made a datagram whole: `octets` are those to which that was copied. A datagram that goes out is answered, or a segment that is to be heard.
+    pub fn complete<'a>(&mut self, brought: Brought<'a>, octets: &'a [u8]) -> Option<Task<'a>>
         requires { FitsBrought brought self.old.pending (length octets.now) }
-        ensures errand { option_map errand_of result ≡ brought_errand self.old.config brought.entry octets.now }
+        ensures errand { option_and_then errand_for result ≡ brought_errand self.old.config brought.entry octets.now }
+        ensures segment { option_and_then segment_for result ≡ brought_segment self.old.config brought.entry octets.now }
         ensures changes { self.new ≡ taken_on self.old brought.entry octets.now }
         ensures others { self.new ≡ record self.old { pending = self.new.pending } }
-        ensures fits { IfSome result (λ e. FitsErrand e) }
-        ensures none { IfSome result (λ e. self.new.pending ≡ []) }
+        ensures fits { IfSome result FitsTask }
+        ensures none { IfSome result (λ t. self.new.pending ≡ []) }
     {
         match brought {
             Brought::Nothing => None,
-            Brought::Errand(errand) => Some(errand),
+            Brought::Task(task) => Some(task),
             Brought::Datagram(assembled) => {
                 let datagram = datagram_at(&assembled, octets);
                 self.take_datagram(assembled.mac, octets, &datagram)
@@ -171,8 +190,8 @@ impl Slirp {
             let assembled = self.gather(mac, &packet, room);
             return whole_or_none(assembled);
         }
-        let errand = self.take_datagram(mac, body, &packet);
-        errand_or_none(errand)
+        let task = self.take_datagram(mac, body, &packet);
+        task_or_none(task)
     }
 
     // Takes in a whole datagram that came from this hardware address. `octets` begin with its header and its body.
@@ -181,12 +200,13 @@ impl Slirp {
         mac: Mac,
         octets: &'a [u8],
         datagram: &IpView<'a>,
-    ) -> Option<ErrandView<'a>>
+    ) -> Option<Task<'a>>
         requires none { self.old.pending ≡ [] }
         requires lies { Lies octets.now datagram.now.head.now datagram.now.body.now }
-        ensures errand { option_map errand_of result ≡ errand_of_ip self.old.config mac.0 (ip_of datagram.now) }
-        ensures fits { IfSome result (λ e. FitsErrand e) }
-        ensures none { IfSome result (λ e. self.new.pending ≡ []) }
+        ensures errand { option_and_then errand_for result ≡ errand_of_ip self.old.config mac.0 (ip_of datagram.now) }
+        ensures segment { option_and_then segment_for result ≡ segment_of_ip self.old.config mac.0 (ip_of datagram.now) }
+        ensures fits { IfSome result FitsTask }
+        ensures none { IfSome result (λ t. self.new.pending ≡ []) }
         ensures changes { self.new ≡ record self.old { pending = frames_of self.old.config self.old.sent (owed_for_ip self.old.config mac.0 (ip_of datagram.now)) } }
     {
         if is_message_to_us(&self.policy, datagram) {
@@ -194,11 +214,11 @@ impl Slirp {
             return None;
         }
         if is_segment(&self.policy, datagram) {
-            self.take_tcp(mac, datagram);
-            return None;
+            return segment_in(mac, datagram);
         }
         let datagram = datagram_in(&self.policy, mac, octets, datagram)?;
-        self.take_udp(&datagram)
+        let errand = self.take_udp(&datagram)?;
+        Some(Task::Errand(errand))
     }
 
     // The guest's address is known from now on.
@@ -210,17 +230,35 @@ impl Slirp {
         }
     }
 
-    /// Drops the fragments that have waited for 60,000 milliseconds, and closes the sockets whose idle life is over, by rising number.
+    /// Begins a turn after which another wait may come: the flows are told the time, the fragments that have waited for 60,000 milliseconds are dropped, and the
+    /// sockets of datagrams whose idle life is over are closed. Of each kind sockets are closed by rising number. There are at most 2^45 turns.
     pub fn tick<W: World>(&mut self, world: &mut W)
-        ensures makes { (config : Config) (at : Standing) (link : LinkState) → Brings (W.tells world.old) (W.tells world.new)
-            (Holds config at self.old link) (Holds config at self.new link) }
-        ensures rising { Makes (W.tells world.old) (W.tells world.new) ClosesRising }
+        requires { self.old.flows.turn < 2 ^ 45 }
+        ensures makes { (config : Config) (count : ℕ) (link : LinkState) → count < config.turns → Brings (W.tells world.old) (W.tells world.new)
+            (Holds config (after count) self.old (flowing false self.old.flows) link) (Holds config (after count) self.new (flowing true self.new.flows) link) }
+        ensures rising { Makes (W.tells world.old) (W.tells world.new) (λ made. WhereItTicks self.old (ClosesByKind made)) }
         ensures none { All (λ a. is_over self.new.moment a ≡ false) self.new.associations }
+        ensures connects { (k : ℕ) (p : Splice) → IsOpenAt self.new.flows.flows.parts k p → is_connects p.conn.stage ≡ true → self.new.moment < connect_end p }
         ensures parts { (held : List PartSet) → IsHeld self.old.parts held → IsHeld self.new.parts (young self.old.moment held) }
-        ensures same { self.new ≡ record self.old { associations = self.new.associations; parts = self.new.parts } }
+        ensures turn { self.new.flows.turn ≡ self.old.flows.turn + 1 }
+        ensures same { self.new ≡ record self.old { associations = self.new.associations; parts = self.new.parts; flows = self.new.flows } }
     {
+        self.flows.begin_turn();
+        self.tell_flows(world);
         self.drop_parts();
         self.close_unused(world);
+    }
+
+    // Tells the flows the time.
+    fn tell_flows<W: World>(&mut self, world: &mut W)
+        ensures makes { (config : Config) (count : ℕ) (link : LinkState) → count < config.turns → Brings (W.tells world.old) (W.tells world.new)
+            (Holds config (after count) self.old (flowing false self.old.flows) link) (Holds config (after count) self.new (flowing true self.new.flows) link) }
+        ensures rising { Makes (W.tells world.old) (W.tells world.new) (λ made. WhereItTicks self.old (ClosesRising made)) }
+        ensures connects { (k : ℕ) (p : Splice) → IsOpenAt self.new.flows.flows.parts k p → is_connects p.conn.stage ≡ true → self.new.moment < connect_end p }
+        ensures turn { self.new.flows.turn ≡ self.old.flows.turn }
+        ensures same { self.new ≡ record self.old { flows = self.new.flows } }
+    {
+        self.flows.tick(world, self.moment);
     }
 
     // Drops the fragments that have waited for 60,000 milliseconds.
@@ -231,10 +269,10 @@ impl Slirp {
         self.reasm.tick(self.moment);
     }
 
-    // Closes the sockets whose idle life is over, by rising number.
+    // Closes the sockets of datagrams whose idle life is over, by rising number.
     fn close_unused<W: World>(&mut self, world: &mut W)
-        ensures makes { (config : Config) (at : Standing) (link : LinkState) → Brings (W.tells world.old) (W.tells world.new)
-            (Holds config at self.old link) (Holds config at self.new link) }
+        ensures makes { (config : Config) (at : Standing) (aged : Bool) (link : LinkState) → Brings (W.tells world.old) (W.tells world.new)
+            (Holds config at self.old (flowing aged self.old.flows) link) (Holds config at self.new (flowing aged self.new.flows) link) }
         ensures rising { Makes (W.tells world.old) (W.tells world.new) ClosesRising }
         ensures none { All (λ a. is_over self.new.moment a ≡ false) self.new.associations }
         ensures same { self.new ≡ record self.old { associations = self.new.associations } }
@@ -244,22 +282,55 @@ impl Slirp {
 
     /// Closes all sockets, by rising number.
     pub fn close_all<W: World>(&mut self, world: &mut W)
-        ensures makes { (config : Config) (over : Phase) → Brings (W.tells world.old) (W.tells world.new) (Closing config over self.old.associations) (Ran config over) }
+        ensures makes { (config : Config) (over : Phase) → Brings (W.tells world.old) (W.tells world.new) (Closing config over self.old.associations self.old.flows.flows.parts) (Ran config over) }
         ensures config { self.new.config ≡ self.old.config }
-        ensures none { self.new ≡ record self.old { associations = [] } }
+        ensures none { self.new.associations ≡ [] }
     {
-        while self.close_first(world) {}
+        while self.close_next(world) {}
     }
 
-    // Closes the first socket, and answers whether there was one.
-    fn close_first<W: World>(&mut self, world: &mut W) -> bool
-        ensures makes { (config : Config) (over : Phase) → Brings (W.tells world.old) (W.tells world.new) (Closing config over self.old.associations) (AfterClosing result config over self.new.associations) }
-        ensures fewer { result ≡ true → length self.new.associations < length self.old.associations }
+    // Closes the socket with the least number, of a flow or of datagrams, and answers whether there was one.
+    fn close_next<W: World>(&mut self, world: &mut W) -> bool
+        ensures makes { (config : Config) (over : Phase) → Brings (W.tells world.old) (W.tells world.new)
+            (Closing config over self.old.associations self.old.flows.flows.parts) (AfterClosing result config over self.new.associations self.new.flows.flows.parts) }
+        ensures fewer { result ≡ true → length self.new.associations + open_flows self.new.flows.flows.parts < length self.old.associations + open_flows self.old.flows.flows.parts }
         ensures config { self.new.config ≡ self.old.config }
         ensures none { result ≡ false → self.new.associations ≡ [] }
-        ensures same { self.new ≡ record self.old { associations = self.new.associations } }
     {
-        self.associations.close_first(world)
+        if self.flow_is_first() {
+            self.flows.close_first(world)
+        } else {
+            self.associations.close_first(world)
+        }
+    }
+
+    // Whether the open socket with the least number is a flow's.
+    fn flow_is_first(&self) -> bool
+        ensures yes { result ≡ true → (n : ℕ) × IsFirst n self.now.flows.flows.parts × ((m : ℕ) → is_among m (numbers self.now.associations) ≡ true → n ≤ m) }
+        ensures no { result ≡ false → (n : ℕ) → IsLeast (λ a. true) self.now.associations (Some n) → (k : ℕ) (p : Splice) → IsOpenAt self.now.flows.flows.parts k p → n ≤ number_of p }
+        ensures none { result ≡ false → self.now.associations ≡ [] → NoneIsAbove None self.now.flows.flows.parts }
+    {
+        let Some(flow) = self.flows.first() else {
+            return false;
+        };
+        match self.associations.rising().first() {
+            Some(&number) => flow < number,
+            None => true,
+        }
+    }
+}
+
+// What the settings say of flows.
+fn sizes_of(c: &SlirpConfig) -> Sizes
+    ensures { result ≡ record { slots = c.now.flows; ring = c.now.ring; mtu = c.now.if_mtu; mru = c.now.if_mru; congestion = c.now.congestion; vhost = c.now.vhost } }
+{
+    Sizes {
+        slots: c.flows as usize,
+        ring: c.ring as usize,
+        mtu: c.if_mtu,
+        mru: c.if_mru,
+        congestion: c.congestion,
+        vhost: c.vhost,
     }
 }
 
@@ -280,12 +351,12 @@ fn whole_or_none<'a>(assembled: Option<Assembled>) -> Brought<'a>
     }
 }
 
-// A datagram that goes out.
-fn errand_or_none(errand: Option<ErrandView<'_>>) -> Brought<'_>
-    ensures { result ≡ errand_or_none errand.entry }
+// A datagram that goes out, or a segment that is to be heard.
+fn task_or_none(task: Option<Task<'_>>) -> Brought<'_>
+    ensures { result ≡ task_or_none task.entry }
 {
-    match errand {
-        Some(errand) => Brought::Errand(errand),
+    match task {
+        Some(task) => Brought::Task(task),
         None => Brought::Nothing,
     }
 }

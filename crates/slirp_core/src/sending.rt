@@ -1,11 +1,12 @@
 // What is owed and isn't out yet, and the pump that sends it.
 ghost use Rattle.std.specs.Prelude.{[], ◌≡◌, ◌<◌, ◌≤◌, length};
 ghost use Rattle.slirp_laws.specs.Answers.{our_mac};
-ghost use Rattle.slirp_core.specs.Pumps.{pumped_of};
+ghost use Rattle.slirp_core.specs.Pumps.{pumped_of, pumped_flows};
 
 use crate::arp::our_mac;
 use crate::network::Slirp;
 use crate::outgoing::{Course, datagrams_in};
+use flow_splice::Pumped as PumpedFlows;
 use net_octets::{Ip4, Mac};
 use stream_netdev::{Link, Offered};
 use world_face::World;
@@ -29,7 +30,8 @@ impl Slirp {
     ghost use Rattle.stream_netdev.specs.State.{under_way};
     ghost use Rattle.slirp_core.specs.Outgoing.{sent_after};
     ghost use Rattle.slirp_core.specs.Pumps.{keep, is_settled};
-    ghost use Rattle.slirp_core.specs.Holds.{Standing, Holds, AfterPump, Leaves, LeavesBehind, LeavesRest};
+    ghost use Rattle.slirp_core.specs.Holds.{Standing, flowing, Holds, AfterPump, Leaves, LeavesBehind, LeavesNone, LeavesRest};
+    ghost use Rattle.std.specs.Prelude.{Bool};
 
     /// Whether nothing is left to be sent.
     pub fn is_settled(&self, link: &Link) -> bool
@@ -45,15 +47,49 @@ impl Slirp {
         self.outgoing.is_some()
     }
 
-    /// Sends what is owed, until the link is blocked: the rest of the frame before, then the pending ones.
+    /// Sends what is owed, until the link is blocked: the rest of the frame before, then the pending ones, then what the flows owe, by rising number.
     pub fn pump<W: World>(&mut self, world: &mut W, link: &mut Link) -> Pumped
-        ensures makes { (config : Config) (at : Standing) → Brings (W.tells world.old) (W.tells world.new)
-            (Holds config at self.old link.old) (AfterPump result config at self.new link.new) }
+        ensures makes { (config : Config) (at : Standing) (aged : Bool) → Brings (W.tells world.old) (W.tells world.new)
+            (Holds config at self.old (flowing aged self.old.flows) link.old) (AfterPump result config at self.new (flowing aged self.new.flows) link.new) }
         ensures failed { result ≡ Pumped.Failed → Rose (W.tells world.old).faults.link (W.tells world.new).faults.link }
         ensures leaves { Leaves result self.new link.new }
         ensures same { under_way link.new ≡ under_way link.old }
         ensures config { self.new.config ≡ self.old.config }
         ensures number { self.new.number ≡ self.old.number }
+        ensures turn { self.new.flows.turn ≡ self.old.flows.turn }
+        ensures others { self.new ≡ record self.old { pending = self.new.pending; sent = self.new.sent; flows = self.new.flows } }
+    {
+        match self.pump_answers(world, link) {
+            Pumped::Clear => self.pump_flows(world, link),
+            Pumped::Blocked => Pumped::Blocked,
+            Pumped::Failed => Pumped::Failed,
+        }
+    }
+
+    // Sends what the flows owe.
+    fn pump_flows<W: World>(&mut self, world: &mut W, link: &mut Link) -> Pumped
+        requires free { link.old.blocked ≡ false }
+        requires none { link.old.tail ≡ [] }
+        requires out { self.old.pending ≡ [] }
+        ensures makes { (config : Config) (at : Standing) (aged : Bool) → Brings (W.tells world.old) (W.tells world.new)
+            (Holds config at self.old (flowing aged self.old.flows) link.old) (AfterPump result config at self.new (flowing aged self.new.flows) link.new) }
+        ensures failed { result ≡ Pumped.Failed → Rose (W.tells world.old).faults.link (W.tells world.new).faults.link }
+        ensures leaves { Leaves result self.new link.new }
+        ensures same { under_way link.new ≡ under_way link.old }
+        ensures turn { self.new.flows.turn ≡ self.old.flows.turn }
+        ensures others { self.new ≡ record self.old { sent = self.new.sent; flows = self.new.flows } }
+    {
+        let pumped = self.flows.pump(world, link, &mut self.sent, self.moment);
+        pumped_flows(pumped)
+    }
+
+    // Sends the rest of the frame before, then the pending ones.
+    fn pump_answers<W: World>(&mut self, world: &mut W, link: &mut Link) -> Pumped
+        ensures makes { (config : Config) (at : Standing) (aged : Bool) → Brings (W.tells world.old) (W.tells world.new)
+            (Holds config at self.old (flowing aged self.old.flows) link.old) (AfterPump result config at self.new (flowing aged self.new.flows) link.new) }
+        ensures failed { result ≡ Pumped.Failed → Rose (W.tells world.old).faults.link (W.tells world.new).faults.link }
+        ensures leaves { LeavesNone result self.new link.new }
+        ensures same { under_way link.new ≡ under_way link.old }
         ensures others { self.new ≡ record self.old { pending = self.new.pending; sent = self.new.sent } }
     {
         match self.pump_rest(world, link) {
@@ -65,8 +101,8 @@ impl Slirp {
 
     // Sends the rest of the frame before.
     fn pump_rest<W: World>(&self, world: &mut W, link: &mut Link) -> Pumped
-        ensures makes { (config : Config) (at : Standing) → Brings (W.tells world.old) (W.tells world.new)
-            (Holds config at self.now link.old) (AfterPump result config at self.now link.new) }
+        ensures makes { (config : Config) (at : Standing) (aged : Bool) → Brings (W.tells world.old) (W.tells world.new)
+            (Holds config at self.now (flowing aged self.now.flows) link.old) (AfterPump result config at self.now (flowing aged self.now.flows) link.new) }
         ensures failed { result ≡ Pumped.Failed → Rose (W.tells world.old).faults.link (W.tells world.new).faults.link }
         ensures leaves { LeavesRest result link.new }
         ensures same { under_way link.new ≡ under_way link.old }
@@ -85,10 +121,10 @@ impl Slirp {
     fn pump_pending<W: World>(&mut self, world: &mut W, link: &mut Link) -> Pumped
         requires free { link.old.blocked ≡ false }
         requires none { link.old.tail ≡ [] }
-        ensures makes { (config : Config) (at : Standing) → Brings (W.tells world.old) (W.tells world.new)
-            (Holds config at self.old link.old) (AfterPump result config at self.new link.new) }
+        ensures makes { (config : Config) (at : Standing) (aged : Bool) → Brings (W.tells world.old) (W.tells world.new)
+            (Holds config at self.old (flowing aged self.old.flows) link.old) (AfterPump result config at self.new (flowing aged self.new.flows) link.new) }
         ensures failed { result ≡ Pumped.Failed → Rose (W.tells world.old).faults.link (W.tells world.new).faults.link }
-        ensures leaves { Leaves result self.new link.new }
+        ensures leaves { LeavesNone result self.new link.new }
         ensures same { under_way link.new ≡ under_way link.old }
         ensures config { self.new.config ≡ self.old.config }
         ensures number { self.new.number ≡ self.old.number }
@@ -109,8 +145,8 @@ impl Slirp {
         requires free { link.old.blocked ≡ false }
         requires none { link.old.tail ≡ [] }
         requires some { 0 < length self.old.pending }
-        ensures makes { (config : Config) (at : Standing) → Brings (W.tells world.old) (W.tells world.new)
-            (Holds config at self.old link.old) (AfterPump result config at self.new link.new) }
+        ensures makes { (config : Config) (at : Standing) (aged : Bool) → Brings (W.tells world.old) (W.tells world.new)
+            (Holds config at self.old (flowing aged self.old.flows) link.old) (AfterPump result config at self.new (flowing aged self.new.flows) link.new) }
         ensures failed { result ≡ Pumped.Failed → Rose (W.tells world.old).faults.link (W.tells world.new).faults.link }
         ensures leaves { LeavesBehind result self.old self.new link.new }
         ensures same { under_way link.new ≡ under_way link.old }
@@ -156,5 +192,16 @@ fn outcome(offered: Offered, blocked: bool) -> Pumped
         Offered::Taken | Offered::Blocked if blocked => Pumped::Blocked,
         Offered::Taken | Offered::Blocked => Pumped::Clear,
         Offered::Failed => Pumped::Failed,
+    }
+}
+
+// What a pump of flows comes to.
+fn pumped_flows(pumped: PumpedFlows) -> Pumped
+    ensures { result ≡ pumped_flows pumped }
+{
+    match pumped {
+        PumpedFlows::Clear => Pumped::Clear,
+        PumpedFlows::Blocked => Pumped::Blocked,
+        PumpedFlows::Failed => Pumped::Failed,
     }
 }

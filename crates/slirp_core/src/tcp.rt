@@ -1,45 +1,135 @@
-// Segments of TCP. There is no flow yet: a segment that strays is answered by a reset (RFC 9293, 3.10.7.1).
-ghost use Rattle.std.specs.Prelude.{[], ◌≡◌, ◌≤◌, ◌+◌, ◌%◌, ◌^◌, List, ℕ, length};
+// Segments of TCP: each to its flow; what is no flow's is answered by a reset, or the host connects for it (RFC 9293, 3.10.7).
+ghost use Rattle.std.specs.Prelude.{[], ◌≡◌, ◌≤◌, ◌+◌, ◌<◌, ◌%◌, ◌^◌, ◌∷◌, List, ℕ, length, nat_lt, true, false, Some, None, IfSome};
+ghost use Rattle.std.specs.Option.{option_and_then, option_map};
 ghost use Rattle.ipv4_head.specs.Ip.{Ip, ip_of};
-ghost use Rattle.tcp_segment.specs.Tcp.{numbers_of, tcp_of};
-ghost use Rattle.flow_book.specs.Lots.{is_opening, reset_to};
-ghost use Rattle.flow_book.specs.Segments.{from_guest, segment_of};
-ghost use Rattle.slirp_core.specs.Packets.{is_denied, is_segment, is_stray};
+ghost use Rattle.tcp_segment.specs.Tcp.{numbers_of, read_tcp, tcp_of};
+ghost use Rattle.core_flows.specs.Seats.{in_use_slots};
+ghost use Rattle.flow_book.specs.Lots.{is_opening, lot_by, reset_to};
+ghost use Rattle.host_policy.specs.declared.Proto.TheVariants.{Tcp as OverTcp};
+ghost use Rattle.flow_book.specs.Segments.{segment_of};
+ghost use Rattle.host_policy.specs.Targets.{target};
+ghost use Rattle.spliced_flows.specs.Stands.{lot_without};
+ghost use Rattle.slirp_core.specs.Packets.{is_segment};
+ghost use Rattle.slirp_core.specs.Segments.{FitsTask, coming, coming_of, errand_for, lot_of, segment_for};
 
+use crate::datagrams::ErrandView;
 use crate::network::Slirp;
+use flow_table::Tuple;
 use host_policy::{Policy, Proto, Verdict};
 use ipv4_head::IpView;
 use net_octets::{Endpoint, Mac};
 use seq_space::Seq;
+use tcp_flows::Heard;
 use tcp_segment::{ACK, RST, TcpView};
+use world_face::{Made, World};
 
 /// The protocol of a datagram that carries a segment of TCP (RFC 9293, 3.1).
 pub const TCP: u8 = 6;
 
-impl Slirp {
-    ghost use Rattle.tcp_segment.specs.Tcp.{read_tcp};
-    ghost use Rattle.slirp_laws.specs.Answers.{frames_of};
-    ghost use Rattle.slirp_core.specs.Packets.{owed_for, owed_for_tcp};
+/// A segment of a guest: the hardware address from which its frame came, the two ends between which it goes, and the segment.
+#[derive(Clone, Copy, Debug, PartialEq, Eq)]
+pub struct SegmentView<'a> {
+    pub mac: Mac,
+    pub ends: Tuple,
+    pub segment: TcpView<'a>,
+}
 
-    // Takes in a guest's datagram with a segment.
-    pub(crate) fn take_tcp(&mut self, mac: Mac, datagram: &IpView<'_>)
+/// What a frame asks for beyond its answers.
+#[derive(Clone, Copy, Debug, PartialEq, Eq)]
+pub enum Task<'a> {
+    /// A datagram goes out.
+    Errand(ErrandView<'a>),
+    /// A segment is to be heard.
+    Segment(SegmentView<'a>),
+}
+
+/// What becomes of a segment without a flow.
+#[derive(Clone, Copy, Debug, PartialEq, Eq)]
+pub enum StrayLot {
+    /// Nothing.
+    Dropped,
+    /// It is answered by a reset.
+    Reset,
+    /// The host is to connect to this endpoint.
+    Connects(Endpoint),
+}
+
+impl Slirp {
+    ghost use Rattle.host_policy.specs.Addresses.{Config};
+    ghost use Rattle.slirp_laws.specs.Answers.{frames_of, reset_for};
+    ghost use Rattle.slirp_core.specs.Counts.{AreGrown};
+    ghost use Rattle.slirp_core.specs.Holds.{Standing, Holds, Comes, flowing};
+    ghost use Rattle.stream_netdev.specs.State.{LinkState};
+    ghost use Rattle.world_face.specs.Tells.{Brings};
+
+    /// A guest's segment is handed to its flow. One that is no flow's is answered by a reset or ignored, or the host connects for it, where it begins a
+    /// connection that the policy allows and there is room for a flow more.
+    pub fn take_segment<W: World>(&mut self, world: &mut W, came: &SegmentView<'_>)
         requires none { self.old.pending ≡ [] }
-        requires size { length datagram.now.body.now ≤ 65515 }
-        ensures { self.new ≡ record self.old {
-          pending = frames_of self.old.config self.old.sent
-              (owed_for (owed_for_tcp self.old.config mac.0 (ip_of datagram.now)) (read_tcp datagram.now.from.0 datagram.now.to.0 datagram.now.body.now));
-        } }
+        requires body { length came.now.segment.body.now ≤ 65515 }
+        requires number { self.old.number + 1 < 2 ^ 64 }
+        ensures makes { (config : Config) (at : Standing) (link : LinkState) → Brings (W.tells world.old) (W.tells world.new)
+            (Comes config at self.old self.old.flows link (coming_of came.now)) (Holds config at self.new (flowing false self.new.flows) link) }
+        ensures counts { AreGrown (W.tells world.old).faults (W.tells world.new).faults }
+        ensures number { self.new.number ≤ self.old.number + 1 }
+        ensures config { self.new.config ≡ self.old.config }
+        ensures turn { self.new.flows.turn ≡ self.old.flows.turn }
     {
-        let Ok(segment) = tcp_segment::decode(datagram.body, datagram.from, datagram.to) else {
-            return;
-        };
-        let to = Endpoint {
-            addr: datagram.to,
-            port: segment.to_port,
-        };
-        if is_stray(&self.policy, to, &segment) {
-            let course = self.course(mac, datagram.to, datagram.from);
-            self.outgoing.put_segment(&course, &reset_for(&segment));
+        match self
+            .flows
+            .segment(world, self.moment, &came.ends, &came.segment)
+        {
+            Heard::Taken => {}
+            Heard::Strange => self.turn_away(came),
+            Heard::Alone => match self.lot(came) {
+                StrayLot::Dropped => {}
+                StrayLot::Reset => self.turn_away(came),
+                StrayLot::Connects(to) => {
+                    let number = self.number;
+                    self.number += 1;
+                    match world.connect(number, to) {
+                        Made::Done => self
+                            .flows
+                            .begin(self.moment, &came.ends, number, came.mac, &came.segment),
+                        Made::Failed => self.turn_away(came),
+                    }
+                }
+            },
+        }
+    }
+
+    // The reset that answers a segment is owed from now on.
+    fn turn_away(&mut self, came: &SegmentView<'_>)
+        requires none { self.old.pending ≡ [] }
+        requires body { length came.now.segment.body.now ≤ 65515 }
+        ensures { self.new ≡ record self.old { pending = frames_of self.old.config self.old.sent (reset_for (coming_of came.now).on ∷ []) } }
+    {
+        let course = self.course(came.mac, came.ends.other.addr, came.ends.guest.addr);
+        let reset = reset_for(&came.ends, &came.segment);
+        self.outgoing.put_segment(&course, &reset);
+    }
+
+    // What becomes of a segment that is no flow's: one with RST or to many is ignored; a SYN connects where the policy allows it and there is room.
+    fn lot(&self, came: &SegmentView<'_>) -> StrayLot
+        ensures { lot_of result ≡ lot_without self.now.config (nat_lt (in_use_slots self.now.flows.flows.table.slots) (length self.now.flows.flows.table.slots)) (coming_of came.now).on }
+    {
+        if came.segment.is_rst() || self.policy.is_of_many(came.ends.other.addr) {
+            StrayLot::Dropped
+        } else if is_opening(&came.segment) {
+            self.lot_of_opening(came.ends.other)
+        } else {
+            StrayLot::Reset
+        }
+    }
+
+    // What becomes of a SYN to this endpoint.
+    fn lot_of_opening(&self, to: Endpoint) -> StrayLot
+        ensures { lot_of result ≡ lot_by (target self.now.config OverTcp to) (nat_lt (in_use_slots self.now.flows.flows.table.slots) (length self.now.flows.flows.table.slots)) }
+    {
+        match self.policy.target(Proto::Tcp, to) {
+            Verdict::Go(to) if self.flows.has_room() => StrayLot::Connects(to),
+            Verdict::Go(_) => StrayLot::Dropped,
+            Verdict::Denied(_) => StrayLot::Reset,
         }
     }
 }
@@ -51,13 +141,29 @@ pub(crate) fn is_segment(policy: &Policy, datagram: &IpView<'_>) -> bool
     policy.is_guest(datagram.from) && datagram.proto == TCP
 }
 
-// Whether a segment to this endpoint is answered by a reset: it has none itself, goes to one host, and doesn't begin a connection that the policy allows.
-fn is_stray(policy: &Policy, to: Endpoint, segment: &TcpView<'_>) -> bool
-    ensures { result ≡ is_stray policy.now to (segment_of (tcp_of segment.now)) }
+// The segment that a guest's datagram holds is to be heard.
+pub(crate) fn segment_in<'a>(mac: Mac, datagram: &IpView<'a>) -> Option<Task<'a>>
+    requires size { length datagram.now.body.now ≤ 65515 }
+    ensures segment { option_and_then segment_for result ≡ option_map (coming mac.0 (ip_of datagram.now)) (read_tcp datagram.now.from.0 datagram.now.to.0 datagram.now.body.now) }
+    ensures errand { option_and_then errand_for result ≡ None }
+    ensures fits { IfSome result FitsTask }
 {
-    !segment.is_rst()
-        && !policy.is_of_many(to.addr)
-        && (!is_opening(segment) || is_denied(policy.target(Proto::Tcp, to)))
+    let Ok(segment) = tcp_segment::decode(datagram.body, datagram.from, datagram.to) else {
+        return None;
+    };
+    let guest = Endpoint {
+        addr: datagram.from,
+        port: segment.from_port,
+    };
+    let other = Endpoint {
+        addr: datagram.to,
+        port: segment.to_port,
+    };
+    Some(Task::Segment(SegmentView {
+        mac,
+        ends: Tuple { guest, other },
+        segment,
+    }))
 }
 
 // SYN, and none of ACK, RST and FIN.
@@ -67,20 +173,10 @@ fn is_opening(segment: &TcpView<'_>) -> bool
     segment.is_syn() && !segment.is_ack() && !segment.is_rst() && !segment.is_fin()
 }
 
-fn is_denied(verdict: Verdict) -> bool
-    ensures { result ≡ is_denied verdict }
-{
-    match verdict {
-        Verdict::Go(_) => false,
-        Verdict::Denied(_) => true,
-    }
-}
-
-// The reset that answers a segment: it has the number that was acknowledged; where none was it acknowledges all that came (RFC 9293, 3.10.7.1).
-fn reset_for<'a>(segment: &TcpView<'a>) -> TcpView<'a>
+// The reset that answers a segment between these ends: it has the number that was acknowledged; where none was it acknowledges all that came (RFC 9293, 3.10.7.1).
+fn reset_for<'a>(ends: &Tuple, segment: &TcpView<'a>) -> TcpView<'a>
     requires { length segment.now.body.now ≤ 65515 }
-    ensures { (mac : List ℕ) (ip : Ip) → tcp_of result
-        ≡ reset_to (from_guest mac ip (tcp_of segment.now)).tuple (segment_of (tcp_of segment.now)) }
+    ensures { tcp_of result ≡ reset_to ends.now (segment_of (tcp_of segment.now)) }
 {
     let (seq, ack, flags) = if segment.is_ack() {
         (segment.ack, Seq(0), RST)
@@ -88,8 +184,8 @@ fn reset_for<'a>(segment: &TcpView<'a>) -> TcpView<'a>
         (Seq(0), after_all(segment), RST | ACK)
     };
     TcpView {
-        from_port: segment.to_port,
-        to_port: segment.from_port,
+        from_port: ends.other.port,
+        to_port: ends.guest.port,
         seq,
         ack,
         flags,

@@ -3,7 +3,7 @@ ghost use Rattle.std.specs.Prelude.{◌≡◌, List};
 ghost use Rattle.ipv4_head.specs.Sets.{PartSet};
 ghost use Rattle.slirp_core.specs.Fragments.{IsHeld};
 ghost use Rattle.slirp_core.specs.Pumps.{time_left};
-ghost use Rattle.slirp_core.specs.Timeouts.{IsPartTime, sooner};
+ghost use Rattle.slirp_core.specs.Timeouts.{IsFlowTime, IsPartTime, sooner};
 
 use crate::network::Slirp;
 use udp_assoc::IDLE_LIFE;
@@ -22,6 +22,14 @@ impl Slirp {
         ensures { (held : List PartSet) → IsHeld self.now.parts held → IsPartTime self.now.moment held result }
     {
         let due = self.reasm.next_due()?;
+        Some(due.saturating_sub(self.moment))
+    }
+
+    // How long it is until a flow is to be told the time.
+    pub(crate) fn time_of_flows(&self) -> Option<u64>
+        ensures { IsFlowTime self.now.moment self.now.flows.flows.parts result }
+    {
+        let due = self.flows.due()?;
         Some(due.saturating_sub(self.moment))
     }
 }

@@ -27,7 +27,8 @@ impl Slirp {
     ghost use Rattle.slirp_core.specs.Hearing.{Receives};
     ghost use Rattle.stream_netdev.specs.State.{LinkState};
     ghost use Rattle.slirp_core.specs.Datagrams.{datagram_of, errand_of, FitsErrand};
-    ghost use Rattle.slirp_core.specs.Holds.{Standing, standing, Holds, HoldsAt};
+    ghost use Rattle.slirp_core.specs.Holds.{Standing, flowing, standing, Holds, HoldsAt};
+    ghost use Rattle.std.specs.Prelude.{Bool};
     ghost use Rattle.slirp_core.specs.Counts.{AreGrown};
 
     // Takes in a datagram of UDP.
@@ -57,8 +58,8 @@ impl Slirp {
         requires none { self.old.pending ≡ [] }
         requires fits { FitsErrand errand.now }
         requires number { self.old.number + 1 < 2 ^ 64 }
-        ensures makes { (config : Config) (at : Standing) (link : LinkState) → Brings (W.tells world.old) (W.tells world.new)
-            (HoldsAt config at (step_for self.old.associations (Some (errand_of errand.now))) self.old link) (Holds config at self.new link) }
+        ensures makes { (config : Config) (at : Standing) (aged : Bool) (link : LinkState) → Brings (W.tells world.old) (W.tells world.new)
+            (HoldsAt config at (step_for self.old.associations (Some (errand_of errand.now))) self.old (flowing aged self.old.flows) link) (Holds config at self.new (flowing aged self.new.flows) link) }
         ensures number { self.new.number ≤ self.old.number + 1 }
         ensures config { self.new.config ≡ self.old.config }
         ensures others { self.new ≡ record self.old { associations = self.new.associations; pending = self.new.pending; number = self.new.number } }
@@ -94,8 +95,8 @@ impl Slirp {
         requires room { length into.old ≡ 65507 }
         // Where the socket is open a datagram is asked for on it, once.
         ensures receives { (a : AnAssociation) → numbered number self.old.associations ≡ Some a → Makes (W.tells world.old) (W.tells world.new) (Receives number) }
-        ensures makes { (config : Config) (count : ℕ) (wants : List AnItem) (item : AnItem) (items : List AnItem) (link : LinkState) → is_to_read (Udp number) (wanted_of wants item) ≡ true → link.tail ≡ [] → Brings (W.tells world.old) (W.tells world.new)
-            (Holds config (standing count wants (item ∷ items)) self.old link) (Holds config (standing count wants items) self.new link) }
+        ensures makes { (config : Config) (count : ℕ) (wants : List AnItem) (item : AnItem) (items : List AnItem) (aged : Bool) (link : LinkState) → is_to_read (Udp number) (wanted_of wants item) ≡ true → link.tail ≡ [] → Brings (W.tells world.old) (W.tells world.new)
+            (Holds config (standing count wants (item ∷ items)) self.old (flowing aged self.old.flows) link) (Holds config (standing count wants items) self.new (flowing aged self.new.flows) link) }
         ensures counts { AreGrown (W.tells world.old).faults (W.tells world.new).faults }
         ensures number { self.new.number ≡ self.old.number }
         ensures config { self.new.config ≡ self.old.config }

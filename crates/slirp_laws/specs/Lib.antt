@@ -1,7 +1,6 @@
 pub mod Agenda
 pub mod Answers
 pub mod Asking
-pub mod Built
 pub mod Check
 pub mod Datagrams
 pub mod Laws

@@ -2,7 +2,6 @@ use Rattle.std.proofs.Common.{ℕ, List, sym, subst}
 use Rattle.host_policy.specs.Settings.{settings}
 use Rattle.world_face.specs.Journal.{Follows}
 use Rattle.world_face.specs.Tells.{Makes}
-use Rattle.slirp_laws.specs.Built.{as_built}
 use Rattle.slirp_config.specs.Meaning.{said}
 use Rattle.slirp_config.specs.declared.Command.{Command}
 use Rattle.slirp_app.specs.Causes.{Caused}
@@ -14,5 +13,5 @@ pub returns-in-Replay-clause-does : goal.returns-in-Replay-clause-does
 returns-in-Replay-clause-does g c =
     subst (λ (k : Command). Does (said k) c.replay_file.result (g.W.World.tells c.args.world.now) (g.W.World.tells c.replay_file.new.world) (g.K.Sink.holds c.args.out.now) (g.K.Sink.holds c.replay_file.new.out)) (sym c.in-Replay.is)
     (subst (λ (name : List ℕ). Makes (g.W.World.tells c.args.world.now) (g.W.World.tells c.replay_file.new.world)
-    (λ made. Follows (MayFetch name) made × Caused (as_built (settings c.in-Replay.config)) c.replay_file.result made (g.K.Sink.holds c.args.out.now) (g.K.Sink.holds c.replay_file.new.out)))
+    (λ made. Follows (MayFetch name) made × Caused (settings c.in-Replay.config) c.replay_file.result made (g.K.Sink.holds c.args.out.now) (g.K.Sink.holds c.replay_file.new.out)))
     c.as_str.ensures.value c.replay_file.ensures.calls)

@@ -1,6 +1,5 @@
 use Rattle.std.proofs.Common.{◌≡◌, ◌↔◌, ◌⊎◌, IsTrue, map, sym, ◌∙◌, ap, subst}
 use Rattle.std.specs.String.{string_bytes}
-use Rattle.slirp_laws.specs.Built.{as_built}
 use Rattle.slirp_config.specs.Meaning.{Meaning, Means, Replays, Serves}
 use Rattle.slirp_app.specs.Doing.{ReplaysFile}
 use Rattle.slirp_app.specs.Statuses.{code_of, is_unrun}
@@ -31,9 +30,9 @@ pub returns-clause-replays : goal.returns-clause-replays
 returns-clause-replays g c file config means sound =
     let outcome = c.run_words-outcome.result in
     let new = c.run_words-outcome.new in
-    subst (λ n. ReplaysFile file (as_built config) n (g.W.World.tells c.args.world.now) (g.W.World.tells new.world) (g.K.Sink.holds c.args.out.now) (g.K.Sink.holds new.out)
+    subst (λ n. ReplaysFile file config n (g.W.World.tells c.args.world.now) (g.W.World.tells new.world) (g.K.Sink.holds c.args.out.now) (g.K.Sink.holds new.out)
     (Got (g.E.Sink.holds c.args.err.now) (g.E.Sink.holds c.tell-told.new.err) (g.E.Sink.faults c.args.err.now) (g.E.Sink.faults c.tell-told.new.err))) (sym c.code.ensures)
-    (causing.replays (as_built config) _ _ file _ _ (Got (g.E.Sink.holds c.args.err.now) (g.E.Sink.holds c.tell-told.new.err) (g.E.Sink.faults c.args.err.now) (g.E.Sink.faults c.tell-told.new.err)) outcome
+    (causing.replays config _ _ file _ _ (Got (g.E.Sink.holds c.args.err.now) (g.E.Sink.holds c.tell-told.new.err) (g.E.Sink.faults c.args.err.now) (g.E.Sink.faults c.tell-told.new.err)) outcome
     (courses.does _ _ _ _ _ _ c.run_words-outcome.ensures.course (Replays file config) means sound) (causing.got _ _ _ _ (told_text outcome) c.tell-told.result c.tell-told.ensures.text))
 
 pub returns-clause-serves : goal.returns-clause-serves

@@ -1,6 +1,5 @@
 use Rattle.std.proofs.Common.{◌≡◌, ◌⊎◌, inl, inr, ℕ, IsTrue, sym, subst}
 use Rattle.host_policy.specs.Settings.{settings}
-use Rattle.slirp_laws.specs.Built.{as_built}
 use Rattle.replay.specs.Rows.{TakesTooMuch}
 use Rattle.replay.specs.Unread.{IsFirstUnread}
 use Rattle.slirp_app.specs.Fetching.{is_read}
@@ -25,7 +24,7 @@ returns-in-Ok-clause-calls g c =
         whole = λ is. read.1.1;
         first = λ line is. subst (λ l. IsFirstUnread l line) read.1.0 (c.replay.ensures.first line is);
         misspelt = λ is line unread. not_memory c.replay.result line is (c.replay.ensures.misspelt line (subst (λ l. IsFirstUnread l line) (sym read.1.0) unread));
-        came = λ is. subst (λ l. Came (as_built (settings c.args.config.now)) c.replay.result l (g.K.Sink.holds c.args.out.now) (g.K.Sink.holds c.replay.new.out)) read.1.0 c.replay.ensures.came;
+        came = λ is. subst (λ l. Came (settings c.args.config.now) c.replay.result l (g.K.Sink.holds c.args.out.now) (g.K.Sink.holds c.replay.new.out)) read.1.0 c.replay.ensures.came;
       },
     ))
 

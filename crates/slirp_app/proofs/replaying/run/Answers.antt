@@ -4,7 +4,6 @@ use Rattle.world_face.specs.Puts.{added}
 use Rattle.world_face.specs.Tells.{Makes}
 use Rattle.host_policy.specs.Addresses.{Config}
 use Rattle.host_policy.specs.Settings.{settings}
-use Rattle.slirp_laws.specs.Built.{as_built}
 use Rattle.slirp_laws.specs.Laws.{Lawful}
 use Rattle.slirp_laws.specs.Laws.{Finished}
 use Rattle.run_laws.specs.Shape.{phase}
@@ -22,7 +21,7 @@ returns-in-Ok-put_record-clause-came g c =
     let makes = subst (λ (k : Config). Makes (script_tells c.args.script) (script_tells new) (λ made. Lawful k made × Finished k made × (end ≡ end_of k (phase k made)))) c.in-Ok.ensures.config c.serve-end.ensures.makes in
     let put = c.put_record.ensures.ok (ap is_ok c.in-Ok-put_record.is) ∙ ap (λ n. added (text (script_tells new).kept ++ end_line n) (g.K.Sink.holds c.args.out.now)) c.code.ensures in
     let left = c.ended-outcome.ensures in
-    replayed (as_built (settings c.args.config.now)) c.args.script new end c.ended-outcome.result (g.K.Sink.holds c.args.out.now) (g.K.Sink.holds c.put_record.new.out) c.requires.fresh left.lives left.ceased left.fits_none left.within left.readable put makes
+    replayed (settings c.args.config.now) c.args.script new end c.ended-outcome.result (g.K.Sink.holds c.args.out.now) (g.K.Sink.holds c.put_record.new.out) c.requires.fresh left.lives left.ceased left.fits_none left.within left.readable put makes
 
 pub returns-clause-refused : goal.returns-clause-refused
 returns-clause-refused g c is = c.put_record.ensures.err (ap is_err c.in-Err.is)

@@ -1,9 +1,9 @@
-use Rattle.std.proofs.Common.{sym, subst}
+use Rattle.std.proofs.Common.{false, sym, subst}
 use Rattle.world_face.specs.Tells.{Brings}
 use Rattle.world_face.proofs.Telling.{brings_as}
 use Rattle.serve_loop.specs.Ends.{IsCounted}
-use Rattle.slirp_core.specs.Holds.{Holds, after}
-use Rattle.serve_loop.specs.Turns.{AfterTurn}
+use Rattle.slirp_core.specs.Holds.{after}
+use Rattle.serve_loop.specs.Turns.{AfterTurn, HoldsNow}
 use Rattle.serve_loop.specs.Served.{ServiceState}
 use Rattle.serve_loop.proofs.Turning.{pumped}
 use Rattle.slirp_core.proofs.Counted.{grown}
@@ -11,13 +11,13 @@ use Rattle.serve_loop.proofs.Counted.{pump_counted}
 use Rattle.serve_loop.proofs.service.Service.pump.Goals as goal
 
 pub returns-clause-makes : goal.returns-clause-makes
-returns-clause-makes g c config at =
+returns-clause-makes g c config at aged =
     let new = c.pump-pumped.new in
-    let made = brings_as (c.pump-pumped.ensures.makes config at) (λ past after.
-    subst (λ t. AfterTurn t config at new.self new.link past) (sym c.turn_of.ensures) (pumped c.pump-pumped.result config at new.self new.link past after)) in
-    subst (λ (s : ServiceState). Brings (g.W.World.tells c.args.world.now) (g.W.World.tells new.world) (Holds config at s.slirp s.link) (AfterTurn c.turn_of.result config at new.self new.link)) c.self.view_is made
+    let made = brings_as (c.pump-pumped.ensures.makes config at aged) (λ past after.
+    subst (λ t. AfterTurn t config at aged new.self new.link past) (sym c.turn_of.ensures) (pumped c.pump-pumped.result config at aged new.self new.link past after)) in
+    subst (λ (s : ServiceState). Brings (g.W.World.tells c.args.world.now) (g.W.World.tells new.world) (HoldsNow config at aged s.slirp s.link) (AfterTurn c.turn_of.result config at aged new.self new.link)) c.self.view_is made
 
 pub returns-clause-faults : goal.returns-clause-faults
 returns-clause-faults g c =
-    let more = grown _ _ _ (c.pump-pumped.ensures.makes c.args.self.now.slirp.config (after 0)).counted in
+    let more = grown _ _ _ (c.pump-pumped.ensures.makes c.args.self.now.slirp.config (after 0) false).counted in
     subst (λ t. IsCounted t (g.W.World.tells c.args.world.now).faults (g.W.World.tells c.pump-pumped.new.world).faults) (sym c.turn_of.ensures) (pump_counted c.pump-pumped.result _ _ more c.pump-pumped.ensures.failed)

@@ -11,9 +11,9 @@ use Rattle.serve_loop.proofs.service.Service.serve.Goals as goal
 pub returns-clause-makes : goal.returns-clause-makes
 returns-clause-makes g c =
     let config = c.args.self.now.slirp.config in
-    let associations = c.self.inside.slirp.associations in
-    finishes config c.run-end.result associations _ _ _
-    (subst (λ (s : ServiceState). Makes (g.W.World.tells c.args.world.now) (g.W.World.tells c.run-end.new.world) (Closes config c.run-end.result s.slirp.associations)) (sym c.self.view_is) c.run-end.ensures.makes)
+    let slirp = c.self.inside.slirp in
+    finishes config c.run-end.result slirp.associations slirp.flows.flows.parts _ _ _
+    (subst (λ (s : ServiceState). Makes (g.W.World.tells c.args.world.now) (g.W.World.tells c.run-end.new.world) (Closes config c.run-end.result s.slirp.associations s.slirp.flows.flows.parts)) (sym c.self.view_is) c.run-end.ensures.makes)
     (λ over. c.close_all.ensures.makes config over)
 
 pub returns-clause-served : goal.returns-clause-served

@@ -1,35 +1,37 @@
-use Rattle.std.proofs.Common.{◌≡◌, ◌+◌, [], ◌∷◌, ◌++◌, List, if◌then◌else◌, false, refl, sym, ◌∙◌, ap, subst}
+use Rattle.std.proofs.Common.{◌≡◌, ◌+◌, [], ◌∷◌, ◌++◌, List, if◌then◌else◌, true, false, refl, sym, ◌∙◌, ap, subst}
 use Rattle.poll_list.specs.Listing.{Listing, writes}
 use Rattle.poll_list.specs.declared.Want.{Want}
 use Rattle.poll_list.specs.declared.Who.TheVariants.{Link as TheLink}
 use Rattle.world_face.specs.Frames.{Stopped, WaitFailed}
-use Rattle.world_face.specs.Journal.{Entry, Wait, Now}
+use Rattle.world_face.specs.Journal.{AreAllowed, Entry, Wait, Now}
 use Rattle.world_face.specs.Tells.{Answers, Brings}
 use Rattle.world_face.specs.declared.Waited.TheVariants.{Ready, Stop, Failed}
 use Rattle.world_face.specs.Faults.{wait_failed}
 use Rattle.world_face.proofs.Counting.{some_failed, wait_rose}
-use Rattle.world_face.proofs.Telling.{brings_one, brings_from, makes_one, makes_next}
-use Rattle.slirp_core.specs.Holds.{Holds, after, standing}
-use Rattle.serve_loop.specs.Turns.{AfterSleep}
+use Rattle.world_face.proofs.Telling.{brings_one, makes_one, makes_next}
+use Rattle.slirp_core.proofs.Telling.{brings_allowed}
+use Rattle.slirp_core.specs.Holds.{after, standing}
+use Rattle.serve_loop.specs.Turns.{AfterSleep, HoldsNow}
 use Rattle.serve_loop.specs.Served.{ServiceState}
 use Rattle.slirp_core.specs.State.{SlirpState}
 use Rattle.serve_loop.specs.declared.service.Slept.TheVariants.{Ready as SleptReady, Stopped as SleptStopped, Failed as SleepFailed}
-use Rattle.serve_loop.proofs.Turning.{wait_ends_it, wait_wakes, same_under_way}
+use Rattle.slirp_core.proofs.Waiting.{wait_ends_it, wait_wakes}
+use Rattle.serve_loop.proofs.Turning.{same_under_way}
 use Rattle.serve_loop.proofs.service.Service.sleep.Goals as goal
 
 pub returns-in-Stop-clause-makes : goal.returns-in-Stop-clause-makes
 returns-in-Stop-clause-makes g c config count few =
     let slirp = c.self.inside.slirp in
     let link = c.self.inside.link in
-    subst (λ (s : ServiceState). Brings (g.W.World.tells c.args.world.now) (g.W.World.tells c.wait.new.self) (Holds config (after count) s.slirp s.link) (AfterSleep SleptStopped config (count + 1) c.pollfds_fill-timeout.new.wants.items c.wait.new.ready.items slirp link)) c.self.view_is
-    (brings_one (subst (λ (l : Listing). Answers (g.W.World.tells c.args.world.now) (g.W.World.tells c.wait.new.self) (Wait l.items c.pollfds_fill-timeout.result Stop c.wait.new.ready.items)) c.list.ensures c.in-Stop.ensures.answers) (λ allowed past holds. wait_ends_it config count slirp link past c.pollfds_fill-timeout.new.wants.items c.pollfds_fill-timeout.result few holds Stop c.wait.new.ready.items Stopped refl))
+    subst (λ (s : ServiceState). Brings (g.W.World.tells c.args.world.now) (g.W.World.tells c.wait.new.self) (HoldsNow config (after count) true s.slirp s.link) (AfterSleep SleptStopped config (count + 1) c.pollfds_fill-timeout.new.wants.items c.wait.new.ready.items slirp link)) c.self.view_is
+    (brings_one (subst (λ (l : Listing). Answers (g.W.World.tells c.args.world.now) (g.W.World.tells c.wait.new.self) (Wait l.items c.pollfds_fill-timeout.result Stop c.wait.new.ready.items)) c.list.ensures c.in-Stop.ensures.answers) (λ allowed past holds. wait_ends_it config count slirp slirp.flows link past c.pollfds_fill-timeout.new.wants.items c.pollfds_fill-timeout.result few holds Stop c.wait.new.ready.items Stopped refl))
 
 pub returns-in-Failed-clause-makes : goal.returns-in-Failed-clause-makes
 returns-in-Failed-clause-makes g c config count few =
     let slirp = c.self.inside.slirp in
     let link = c.self.inside.link in
-    subst (λ (s : ServiceState). Brings (g.W.World.tells c.args.world.now) (g.W.World.tells c.wait.new.self) (Holds config (after count) s.slirp s.link) (AfterSleep SleepFailed config (count + 1) c.pollfds_fill-timeout.new.wants.items c.wait.new.ready.items slirp link)) c.self.view_is
-    (brings_one (subst (λ (l : Listing). Answers (g.W.World.tells c.args.world.now) (g.W.World.tells c.wait.new.self) (Wait l.items c.pollfds_fill-timeout.result Failed c.wait.new.ready.items)) c.list.ensures c.in-Failed.ensures.answers) (λ allowed past holds. wait_ends_it config count slirp link past c.pollfds_fill-timeout.new.wants.items c.pollfds_fill-timeout.result few holds Failed c.wait.new.ready.items WaitFailed refl))
+    subst (λ (s : ServiceState). Brings (g.W.World.tells c.args.world.now) (g.W.World.tells c.wait.new.self) (HoldsNow config (after count) true s.slirp s.link) (AfterSleep SleepFailed config (count + 1) c.pollfds_fill-timeout.new.wants.items c.wait.new.ready.items slirp link)) c.self.view_is
+    (brings_one (subst (λ (l : Listing). Answers (g.W.World.tells c.args.world.now) (g.W.World.tells c.wait.new.self) (Wait l.items c.pollfds_fill-timeout.result Failed c.wait.new.ready.items)) c.list.ensures c.in-Failed.ensures.answers) (λ allowed past holds. wait_ends_it config count slirp slirp.flows link past c.pollfds_fill-timeout.new.wants.items c.pollfds_fill-timeout.result few holds Failed c.wait.new.ready.items WaitFailed refl))
 
 pub returns-in-Ready-clause-makes : goal.returns-in-Ready-clause-makes
 returns-in-Ready-clause-makes g c config count few =
@@ -44,10 +46,12 @@ returns-in-Ready-clause-makes g c config count few =
     let free = c.report.ensures.free ∙ ap (λ (l : List Want). if writes TheLink l then false else link.blocked) c.items.ensures in
     let waits = makes_one _ _ (Wait wants timeout Ready ready) (λ made. made ≡ Wait wants timeout Ready ready ∷ []) (subst (λ (l : Listing). Answers (g.W.World.tells c.args.world.now) (g.W.World.tells c.wait.new.self) (Wait l.items c.pollfds_fill-timeout.result Ready c.wait.new.ready.items)) c.list.ensures c.in-Ready.ensures.answers) (λ allowed. refl) in
     let both = makes_next _ _ _ (Now told) (λ made. made ≡ Wait wants timeout Ready ready ∷ []) (λ made. made ≡ Now told ∷ Wait wants timeout Ready ready ∷ []) waits c.now-told.ensures (λ made is allowed. ap (λ (l : List Entry). Now told ∷ l) is) in
-    subst (λ (s : ServiceState). Brings (g.W.World.tells c.args.world.now) (g.W.World.tells c.now-told.new.self) (Holds config (after count) s.slirp s.link) (AfterSleep SleptReady config (count + 1) wants ready c.tell_moment.new.self new)) c.self.view_is
-    (brings_from both (λ made is past holds. subst (λ (m : List Entry). AfterSleep SleptReady config (count + 1) wants ready c.tell_moment.new.self new (m ++ past)) (sym is)
-    (subst (λ (s : SlirpState). Holds config (standing (count + 1) wants ready) s new (Now told ∷ Wait wants timeout Ready ready ∷ past)) (sym c.tell_moment.ensures)
-    (wait_wakes config count slirp link past wants timeout few holds ready told new (same_under_way link new same.0 same.1) same.2 free))))
+    subst (λ (s : ServiceState). Brings (g.W.World.tells c.args.world.now) (g.W.World.tells c.now-told.new.self) (HoldsNow config (after count) true s.slirp s.link) (AfterSleep SleptReady config (count + 1) wants ready c.tell_moment.new.self new)) c.self.view_is
+    (brings_allowed both (λ made is allowed past holds.
+    let fine = subst AreAllowed is allowed in
+    subst (λ (m : List Entry). AfterSleep SleptReady config (count + 1) wants ready c.tell_moment.new.self new (m ++ past)) (sym is)
+    (subst (λ (s : SlirpState). HoldsNow config (standing (count + 1) wants ready) false s new (Now told ∷ Wait wants timeout Ready ready ∷ past)) (sym c.tell_moment.ensures)
+    (wait_wakes config count slirp slirp.flows link past wants timeout few holds ready told new fine.1.0 fine.0 (same_under_way link new same.0 same.1) same.2 free))))
 
 pub returns-in-Failed-clause-failed : goal.returns-in-Failed-clause-failed
 returns-in-Failed-clause-failed g c is = wait_rose _ _ _ (subst (λ (l : Listing). Answers (g.W.World.tells c.args.world.now) (g.W.World.tells c.wait.new.self) (Wait l.items c.pollfds_fill-timeout.result Failed c.wait.new.ready.items)) c.list.ensures c.in-Failed.ensures.answers).counted (some_failed wait_failed (Wait c.pollfds_fill-timeout.new.wants.items c.pollfds_fill-timeout.result Failed c.wait.new.ready.items) [] refl)

@@ -1,15 +1,14 @@
-use Rattle.std.proofs.Common.{◌≡◌, Bool, ◌+◌, ◌≤◌, ◌∷◌, true, drop, List, if◌then◌else◌, refl, sym, ◌∙◌, subst, arith}
+use Rattle.std.proofs.Common.{◌≡◌, Bool, ◌+◌, ◌≤◌, ◌∷◌, true, false, drop, List, if◌then◌else◌, refl, sym, ◌∙◌, subst, arith}
 use Rattle.poll_list.specs.Listing.{reads}
 use Rattle.poll_list.specs.declared.Want.{Want}
 use Rattle.poll_list.specs.declared.Who.TheVariants.{Link as TheLink}
 use Rattle.world_face.specs.Tells.{Brings}
 use Rattle.world_face.proofs.Telling.{brings_none, brings_then, brings_as}
-use Rattle.slirp_core.specs.Holds.{Holds, standing, after}
-use Rattle.serve_loop.specs.Turns.{AfterTurn}
+use Rattle.slirp_core.specs.Holds.{standing, after}
+use Rattle.serve_loop.specs.Turns.{AfterTurn, HoldsNow}
 use Rattle.serve_loop.specs.declared.service.Turn.TheVariants.{Ended}
 use Rattle.serve_loop.proofs.Counted.{end_after, grown_then}
-use Rattle.slirp_core.proofs.Reports.{weaker}
-use Rattle.serve_loop.proofs.Turning.{any_left, both_of, counts_on, enough, ended_left, still_reads}
+use Rattle.serve_loop.proofs.Turning.{any_left, both_of, counts_on, enough, ended_left, still_reads, weaker}
 use Rattle.serve_loop.proofs.service.Service.work.Goals as goal
 
 pub attend-requires-clause-number : goal.attend-requires-clause-number
@@ -23,6 +22,7 @@ loop-place-init g c = record {
   on = c.requires.on;
   config = refl;
   number = any_left c.args.self.now.slirp.number c.may_read-to_read.result;
+  turns = refl;
   reports = (refl, refl);
 }
 
@@ -33,10 +33,10 @@ returns-in-Ended-clause-makes g c config count =
     let place = old.place in
     let rest = drop (place + 1) c.args.self.now.ready in
     let next : drop place c.args.self.now.ready ≡ c.item-item.result ∷ rest = subst (λ (l : List Want). drop place l ≡ c.item-item.result ∷ drop (place + 1) l) old.invariant.reports.1 c.item-item.ensures in
-    let served = subst (λ (w : List Want). Brings (g.W.World.tells old.world) (g.W.World.tells c.attend.new.world) (Holds config (standing count w (c.item-item.result ∷ rest)) old.self.slirp old.self.link) (AfterTurn (Ended c.in-Ended.end) config (standing count w rest) c.attend.new.self.slirp c.attend.new.self.link)) old.invariant.reports.0
+    let served = subst (λ (w : List Want). Brings (g.W.World.tells old.world) (g.W.World.tells c.attend.new.world) (HoldsNow config (standing count w (c.item-item.result ∷ rest)) false old.self.slirp old.self.link) (AfterTurn (Ended c.in-Ended.end) config (standing count w rest) false c.attend.new.self.slirp c.attend.new.self.link)) old.invariant.reports.0
     (c.in-Ended.ensures.makes config count rest (λ is. subst (λ (w : List Want). reads TheLink w ≡ true) (sym old.invariant.reports.0) (old.invariant.reads is))) in
-    let before = subst (λ (l : List Want). Brings (g.W.World.tells c.args.world.now) (g.W.World.tells old.world) (Holds config (standing count wants c.args.self.now.ready) c.args.self.now.slirp c.args.self.now.link) (Holds config (standing count wants l) old.self.slirp old.self.link)) next (old.invariant.makes config count) in
-    brings_as (brings_then before served) (λ past ended. ended_left (c.in-Ended.end) config (standing count wants rest) (after count) c.attend.new.self.slirp c.attend.new.self.link past ended)
+    let before = subst (λ (l : List Want). Brings (g.W.World.tells c.args.world.now) (g.W.World.tells old.world) (HoldsNow config (standing count wants c.args.self.now.ready) false c.args.self.now.slirp c.args.self.now.link) (HoldsNow config (standing count wants l) false old.self.slirp old.self.link)) next (old.invariant.makes config count) in
+    brings_as (brings_then before served) (λ past ended. ended_left (c.in-Ended.end) config (standing count wants rest) (after count) false false c.attend.new.self.slirp c.attend.new.self.link past ended)
 
 pub returns-in-Ended-clause-faults : goal.returns-in-Ended-clause-faults
 returns-in-Ended-clause-faults g c =
@@ -52,9 +52,9 @@ loop-place-preserved g c =
     let next : drop place c.args.self.now.ready ≡ c.item-item.result ∷ rest = subst (λ (l : List Want). drop place l ≡ c.item-item.result ∷ drop (place + 1) l) old.invariant.reports.1 c.item-item.ensures in
     record {
       makes = λ config count.
-          let served = subst (λ (w : List Want). Brings (g.W.World.tells old.world) (g.W.World.tells new.world) (Holds config (standing count w (c.item-item.result ∷ rest)) old.self.slirp old.self.link) (Holds config (standing count w rest) new.self.slirp new.self.link)) old.invariant.reports.0
+          let served = subst (λ (w : List Want). Brings (g.W.World.tells old.world) (g.W.World.tells new.world) (HoldsNow config (standing count w (c.item-item.result ∷ rest)) false old.self.slirp old.self.link) (HoldsNow config (standing count w rest) false new.self.slirp new.self.link)) old.invariant.reports.0
           (c.in-Again.ensures.makes config count rest (λ is. subst (λ (w : List Want). reads TheLink w ≡ true) (sym old.invariant.reports.0) (old.invariant.reads is))) in
-          let before = subst (λ (l : List Want). Brings (g.W.World.tells c.args.world.now) (g.W.World.tells old.world) (Holds config (standing count wants c.args.self.now.ready) c.args.self.now.slirp c.args.self.now.link) (Holds config (standing count wants l) old.self.slirp old.self.link)) next (old.invariant.makes config count) in
+          let before = subst (λ (l : List Want). Brings (g.W.World.tells c.args.world.now) (g.W.World.tells old.world) (HoldsNow config (standing count wants c.args.self.now.ready) false c.args.self.now.slirp c.args.self.now.link) (HoldsNow config (standing count wants l) false old.self.slirp old.self.link)) next (old.invariant.makes config count) in
           brings_then before served;
       reads = λ is. old.invariant.reads (still_reads old.to_read c.item-item.result (sym c.still-to_read.ensures ∙ is));
       counts = grown_then (g.W.World.tells c.args.world.now).faults (g.W.World.tells old.world).faults (g.W.World.tells new.world).faults old.invariant.counts c.in-Again.ensures.faults;
@@ -62,10 +62,11 @@ loop-place-preserved g c =
       config = c.in-Again.ensures.config ∙ old.invariant.config;
       number = subst (λ (b : Bool). new.self.slirp.number + (if b then 1 else 0) ≤ c.args.self.now.slirp.number + 1) (sym c.still-to_read.ensures)
           (counts_on new.self.slirp.number old.self.slirp.number c.args.self.now.slirp.number old.to_read _ _ c.in-Again.ensures.number old.invariant.number);
+      turns = c.in-Again.ensures.turns ∙ old.invariant.turns;
       reports = (c.in-Again.ensures.reports.0 ∙ old.invariant.reports.0, c.in-Again.ensures.reports.1 ∙ old.invariant.reports.1);
     }
 
 pub returns-clause-makes : goal.returns-clause-makes
 returns-clause-makes g c config count =
     let old = c.loop-place in
-    brings_as (old.invariant.makes config count) (λ past holds. weaker config count c.args.self.now.wants (drop old.place c.args.self.now.ready) old.self.slirp old.self.link past holds)
+    brings_as (old.invariant.makes config count) (λ past holds. weaker config count c.args.self.now.wants (drop old.place c.args.self.now.ready) false old.self.slirp old.self.link past holds)

@@ -1,4 +1,4 @@
-use Rattle.std.proofs.Common.{◌≡◌, ℕ, ◌+◌, ◌≤◌, true, drop, if◌then◌else◌}
+use Rattle.std.proofs.Common.{◌≡◌, ℕ, ◌+◌, ◌≤◌, true, false, drop, if◌then◌else◌}
 use Rattle.world_face.specs.Tells.{Brings}
 use Rattle.host_policy.specs.Addresses.{Config}
 use Rattle.poll_list.specs.Listing.{reads}
@@ -6,17 +6,19 @@ use Rattle.poll_list.specs.declared.Who.TheVariants.{Link as TheLink}
 use Rattle.stream_netdev.specs.Keeps.{ReadsOn}
 use Rattle.stream_netdev.specs.State.{under_way}
 use Rattle.slirp_core.specs.Counts.{AreGrown}
-use Rattle.slirp_core.specs.Holds.{Holds, standing}
+use Rattle.slirp_core.specs.Holds.{standing}
+use Rattle.serve_loop.specs.Turns.{HoldsNow}
 use Rattle.serve_loop.proofs.service.Service.work.Given as goal
 
 abbrev pub invariant-loop-place : goal.invariant-loop-place
 invariant-loop-place g l = record {
   makes : (config : Config) (count : ℕ) → Brings (g.W.World.tells l.fn.world) (g.W.World.tells l.world)
-      (Holds config (standing count l.fn.self.wants l.fn.self.ready) l.fn.self.slirp l.fn.self.link) (Holds config (standing count l.fn.self.wants (drop l.place l.fn.self.ready)) l.self.slirp l.self.link);
+      (HoldsNow config (standing count l.fn.self.wants l.fn.self.ready) false l.fn.self.slirp l.fn.self.link) (HoldsNow config (standing count l.fn.self.wants (drop l.place l.fn.self.ready)) false l.self.slirp l.self.link);
   reads : l.to_read ≡ true → reads TheLink l.fn.self.wants ≡ true;
   counts : AreGrown (g.W.World.tells l.fn.world).faults (g.W.World.tells l.world).faults;
   on : ReadsOn (under_way l.self.link);
   config : l.self.slirp.config ≡ l.fn.self.slirp.config;
   number : l.self.slirp.number + (if l.to_read then 1 else 0) ≤ l.fn.self.slirp.number + 1;
+  turns : l.self.slirp.flows.turn ≡ l.fn.self.slirp.flows.turn;
   reports : (l.self.wants ≡ l.fn.self.wants) × (l.self.ready ≡ l.fn.self.ready);
 }

@@ -1,4 +1,4 @@
-use Rattle.std.proofs.Common.{◌≡◌, ℕ, List, length, sym, ◌∙◌, ap, subst}
+use Rattle.std.proofs.Common.{length, sym, ◌∙◌, ap, subst}
 use Rattle.ipv4_head.specs.Ip.{Ip}
 use Rattle.slirp_laws.specs.Answers.{frames_of}
 use Rattle.slirp_core.specs.Datagrams.{Lies}

@@ -1,9 +1,9 @@
-use Rattle.std.proofs.Common.{◌≡◌, List, [], ◌∷◌, ◌++◌, length, sym, ◌∙◌, ap, subst}
+use Rattle.std.proofs.Common.{◌∷◌, ◌++◌, length, sym, ◌∙◌, ap, subst}
 use Rattle.world_face.specs.Tells.{Brings}
-use Rattle.world_face.proofs.Telling.{brings_from, makes_as}
+use Rattle.world_face.proofs.Telling.{makes_as}
+use Rattle.slirp_core.proofs.Telling.{brings_allowed}
 use Rattle.udp_assoc.specs.Associations.{numbered}
-use Rattle.slirp_laws.specs.Built.{as_built}
-use Rattle.slirp_core.specs.Holds.{Holds, standing}
+use Rattle.slirp_core.specs.Holds.{Holds, flowing, standing}
 use Rattle.slirp_core.specs.State.{SlirpState}
 use Rattle.slirp_core.proofs.Associating.{below_heard, heard, receives_on}
 use Rattle.slirp_core.proofs.Counted.{grown}
@@ -16,14 +16,14 @@ returns-clause-receives g c a held =
     makes_as _ _ _ _ c.host-reply.ensures.hears (λ made hears. receives_on i.moment c.args.number (length c.args.into.now) c.host-reply.new.into i.associations.list c.host-reply.new.self.list c.host-reply.result made a found hears)
 
 pub returns-clause-makes : goal.returns-clause-makes
-returns-clause-makes g c config count wants item items link reported out =
+returns-clause-makes g c config count wants item items aged link reported out =
     let i = c.self.inside in
-    let slirp : SlirpState = record { config = as_built i.policy; known = i.guests; sent = i.sent; pending = i.outgoing; moment = i.moment; number = i.number; associations = i.associations.list; parts = i.reasm } in
+    let slirp : SlirpState = record { config = i.policy; known = i.guests; sent = i.sent; pending = i.outgoing; moment = i.moment; number = i.number; associations = i.associations.list; parts = i.reasm; flows = i.flows } in
     let none = ap (λ (s : SlirpState). s.pending) c.self.view_is ∙ c.requires.none in
-    subst (λ (s : SlirpState). Brings (g.W.World.tells c.args.world.now) (g.W.World.tells c.host-reply.new.world) (Holds config (standing count wants (item ∷ items)) s link) (Holds config (standing count wants items) c.answer_peer.new.self link)) c.self.view_is
-    (brings_from c.host-reply.ensures.hears (λ made hears past holds.
-    subst (λ (s : SlirpState). Holds config (standing count wants items) s link (made ++ past)) (sym c.answer_peer.ensures)
-    (heard config count wants item items link slirp past c.args.number (length c.args.into.now) c.host-reply.new.into c.host-reply.new.self.list c.host-reply.result made reported c.requires.room none out hears holds)))
+    subst (λ (s : SlirpState). Brings (g.W.World.tells c.args.world.now) (g.W.World.tells c.host-reply.new.world) (Holds config (standing count wants (item ∷ items)) s (flowing aged s.flows) link) (Holds config (standing count wants items) c.answer_peer.new.self (flowing aged c.answer_peer.new.self.flows) link)) c.self.view_is
+    (brings_allowed c.host-reply.ensures.hears (λ made hears allowed past holds.
+    subst (λ (s : SlirpState). Holds config (standing count wants items) s (flowing aged s.flows) link (made ++ past)) (sym c.answer_peer.ensures)
+    (heard config count wants item items (flowing aged i.flows) link slirp past c.args.number (length c.args.into.now) c.host-reply.new.into c.host-reply.new.self.list c.host-reply.result made reported c.requires.room none out hears allowed holds)))
 
 pub returns-clause-counts : goal.returns-clause-counts
 returns-clause-counts g c = grown _ _ _ c.host-reply.ensures.hears.counted
@@ -32,4 +32,4 @@ pub invariant_of-self : goal.invariant_of-self
 invariant_of-self g c =
     let i = c.self.inside in
     let makes = c.host-reply.ensures.hears in
-    (below_heard i.number i.moment c.args.number (length c.args.into.now) c.host-reply.new.into i.associations.list c.host-reply.new.self.list c.host-reply.result makes.made makes.holds c.self.invariant.0, c.self.invariant.1, c.host-reply.ensures.bind ∙ c.self.invariant.2)
+    (below_heard i.number i.moment c.args.number (length c.args.into.now) c.host-reply.new.into i.associations.list c.host-reply.new.self.list c.host-reply.result makes.made makes.holds c.self.invariant.0, c.self.invariant.1, c.host-reply.ensures.bind ∙ c.self.invariant.2, c.self.invariant.3)

@@ -4,7 +4,7 @@ use Rattle.host_policy.specs.Addresses.{Config}
 use Rattle.slirp_core.specs.Packets.{is_message_to_us, is_segment, udp_of}
 use Rattle.slirp_core.specs.Datagrams.{datagram_of}
 use Rattle.slirp_core.specs.State.{SlirpState}
-use Rattle.slirp_core.proofs.Taking.{message_to_us, no_message, no_errand, no_errand_of_segment, segment_came}
+use Rattle.slirp_core.proofs.Taking.{message_to_us, no_message, no_errand, no_errand_of_segment, no_segment_of_message, one_segment, segment_came}
 use Rattle.slirp_core.proofs.network.Slirp.take_datagram.Goals as goal
 
 pub returns-then-is_message_to_us-clause-errand : goal.returns-then-is_message_to_us-clause-errand
@@ -13,6 +13,13 @@ returns-then-is_message_to_us-clause-errand c =
     let policy = ap (λ (s : SlirpState). s.config) c.self.view_is in
     let asked : is_message_to_us c.args.self.now.config ip ≡ true = ap (λ (k : Config). is_message_to_us k ip) (sym policy) ∙ sym c.is_message_to_us.ensures ∙ c.if-is_message_to_us.true in
     no_errand c.args.self.now c.args.mac.0 ip asked
+
+pub returns-then-is_message_to_us-clause-segment : goal.returns-then-is_message_to_us-clause-segment
+returns-then-is_message_to_us-clause-segment c =
+    let ip = ip_of c.args.datagram.now in
+    let policy = ap (λ (s : SlirpState). s.config) c.self.view_is in
+    let asked : is_message_to_us c.args.self.now.config ip ≡ true = ap (λ (k : Config). is_message_to_us k ip) (sym policy) ∙ sym c.is_message_to_us.ensures ∙ c.if-is_message_to_us.true in
+    no_segment_of_message c.args.self.now c.args.mac.0 ip asked
 
 pub returns-then-is_message_to_us-clause-changes : goal.returns-then-is_message_to_us-clause-changes
 returns-then-is_message_to_us-clause-changes c =
@@ -36,7 +43,14 @@ returns-then-is_segment-clause-errand c =
     let ip = ip_of c.args.datagram.now in
     let policy = ap (λ (s : SlirpState). s.config) c.self.view_is in
     let carries : is_segment c.args.self.now.config ip ≡ true = ap (λ (k : Config). is_segment k ip) (sym policy) ∙ sym c.is_segment.ensures ∙ c.if-is_segment.true in
-    no_errand_of_segment c.args.self.now c.args.mac.0 ip carries
+    c.segment_in.ensures.errand ∙ no_errand_of_segment c.args.self.now c.args.mac.0 ip carries
+
+pub returns-then-is_segment-clause-segment : goal.returns-then-is_segment-clause-segment
+returns-then-is_segment-clause-segment c =
+    let ip = ip_of c.args.datagram.now in
+    let policy = ap (λ (s : SlirpState). s.config) c.self.view_is in
+    let carries : is_segment c.args.self.now.config ip ≡ true = ap (λ (k : Config). is_segment k ip) (sym policy) ∙ sym c.is_segment.ensures ∙ c.if-is_segment.true in
+    c.segment_in.ensures.segment ∙ one_segment c.args.self.now c.args.mac.0 ip carries
 
 pub returns-then-is_segment-clause-changes : goal.returns-then-is_segment-clause-changes
 returns-then-is_segment-clause-changes c =
@@ -44,4 +58,4 @@ returns-then-is_segment-clause-changes c =
     let policy = ap (λ (s : SlirpState). s.config) c.self.view_is in
     let asked : is_message_to_us c.args.self.now.config ip ≡ false = ap (λ (k : Config). is_message_to_us k ip) (sym policy) ∙ sym c.is_message_to_us.ensures ∙ c.if-is_message_to_us.false in
     let carries : is_segment c.args.self.now.config ip ≡ true = ap (λ (k : Config). is_segment k ip) (sym policy) ∙ sym c.is_segment.ensures ∙ c.if-is_segment.true in
-    c.take_tcp.ensures ∙ segment_came c.args.self.now c.args.mac.0 ip asked carries
+    ap (λ p. record c.args.self.now { pending = p }) c.requires.none ∙ segment_came c.args.self.now c.args.mac.0 ip asked carries

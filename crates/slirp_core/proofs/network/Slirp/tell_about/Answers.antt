@@ -1,10 +1,9 @@
-use Rattle.std.proofs.Common.{◌≡◌, ℕ, ◌==◌, ◌||◌, false, List, [], ◌∷◌, sym, ◌∙◌, ap}
+use Rattle.std.proofs.Common.{◌≡◌, ℕ, ◌==◌, ◌||◌, false, List, sym, ◌∙◌, ap}
 use Rattle.net_octets.specs.Kinds.{icmp_proto}
 use Rattle.host_policy.specs.Addresses.{Config, last_address}
 use Rattle.host_policy.specs.Targets.{is_group_or_reserved}
 use Rattle.icmp_echo.specs.Icmp.{unreachable_octets}
 use Rattle.slirp_laws.specs.Answers.{our_mac, datagram_frames, is_untold, frames_of, told_about}
-use Rattle.slirp_laws.specs.Built.{as_built}
 use Rattle.slirp_core.specs.Datagrams.{datagram_of}
 use Rattle.slirp_core.specs.State.{SlirpState}
 use Rattle.slirp_core.specs.declared.outgoing.Course.{Course}
@@ -17,7 +16,7 @@ returns c =
     let inside = c.self.inside in
     let d = datagram_of c.args.datagram.now in
     let code = c.args.code in
-    let policy : as_built inside.policy ≡ old.config = ap (λ (s : SlirpState). s.config) c.self.view_is in
+    let policy : inside.policy ≡ old.config = ap (λ (s : SlirpState). s.config) c.self.view_is in
     let nobody : (d.from.addr.0 == 0) ≡ false = sym c.eq.ensures ∙ c.if-eq.false in
     let many : (is_group_or_reserved d.to.addr.0 || (d.to.addr.0 == last_address old.config)) ≡ false =
     ap (λ (k : Config). is_group_or_reserved d.to.addr.0 || (d.to.addr.0 == last_address k)) (sym policy) ∙ sym c.is_of_many.ensures ∙ c.if-is_of_many.false in
@@ -28,5 +27,5 @@ returns c =
     ∙ ap (λ (k : Course). datagram_frames k.mtu k.to_mac.0 k.from_mac.0 k.ident icmp_proto k.from.0 k.to.0 (unreachable_octets code d.quote)) c.course-course.ensures.course
     ∙ ap (λ (host : ℕ). datagram_frames old.config.mtu d.mac (our_mac old.config.vhost) old.sent icmp_proto host d.from.addr.0 (unreachable_octets code d.quote)) host
     ∙ told old.config old.sent code d untold c.requires.quote in
-    ap (λ (p : List (List ℕ)). record { config = as_built inside.policy; known = inside.guests; sent = inside.sent; pending = p; moment = inside.moment; number = inside.number; associations = inside.associations.list; parts = inside.reasm }) pending
+    ap (λ (p : List (List ℕ)). record { config = inside.policy; known = inside.guests; sent = inside.sent; pending = p; moment = inside.moment; number = inside.number; associations = inside.associations.list; parts = inside.reasm; flows = inside.flows }) pending
     ∙ ap (λ (s : SlirpState). record s { pending = frames_of old.config old.sent (told_about old.config code d) }) c.self.view_is

@@ -1,7 +1,46 @@
-use Rattle.world_face.proofs.Telling.{brings_none, brings_then}
-use Rattle.slirp_core.proofs.Forgetting.{forgets}
+use Rattle.std.proofs.Common.{◌+◌, refl, sym, ap, subst}
+use Rattle.world_face.specs.Tells.{Makes}
+use Rattle.world_face.proofs.Telling.{brings_none, brings_then, makes_then}
+use Rattle.std.specs.Prelude.{false, true}
+use Rattle.tcp_flows.specs.Kept.{Kept}
+use Rattle.tcp_flows.specs.Runs.{ClosesRising}
+use Rattle.slirp_core.specs.Hearing.{ClosesByKind, WhereItTicks}
+use Rattle.slirp_core.specs.Holds.{Holds, after, flowing}
+use Rattle.slirp_core.specs.State.{SlirpState}
+use Rattle.slirp_core.proofs.Called.{flows_put, turn_begins}
+use Rattle.slirp_core.proofs.Starting.{forgets}
 use Rattle.slirp_core.proofs.network.Slirp.tick.Goals as goal
 
 pub returns-clause-makes : goal.returns-clause-makes
-returns-clause-makes g c config at link =
-    brings_then (brings_none (λ past holds. forgets config at c.args.self.now c.drop_parts.new.self link past c.drop_parts.ensures.same c.drop_parts.ensures.parts holds)) (c.close_unused.ensures.makes config at link)
+returns-clause-makes g c config count link few =
+    let i = c.self.inside in
+    let slirp : SlirpState = record { config = i.policy; known = i.guests; sent = i.sent; pending = i.outgoing; moment = i.moment; number = i.number; associations = i.associations.list; parts = i.reasm; flows = i.flows } in
+    let begun = c.begin_turn.new.self in
+    let mid = c.tell_flows.new.self in
+    brings_then (brings_none (λ past holds.
+    subst (λ (k : Kept). Holds config (after count) (record slirp { flows = k }) (flowing false k) link past) (sym c.begin_turn.ensures.turn)
+    (flows_put config (after count) slirp (record i.flows { turn = i.flows.turn + 1 }) (flowing false (record i.flows { turn = i.flows.turn + 1 })) link past
+    (turn_begins config (after count) slirp false i.flows link past (subst (λ (s : SlirpState). Holds config (after count) s (flowing false s.flows) link past) (sym c.self.view_is) holds)))))
+    (brings_then (c.tell_flows.ensures.makes config count link few)
+    (brings_then (brings_none (λ past holds.
+    subst (λ (k : Kept). Holds config (after count) c.drop_parts.new.self (flowing true k) link past) (sym (ap (λ (s : SlirpState). s.flows) c.drop_parts.ensures.same))
+    (forgets config (after count) mid c.drop_parts.new.self (flowing true mid.flows) link past c.drop_parts.ensures.same c.drop_parts.ensures.parts holds)))
+    (c.close_unused.ensures.makes config (after count) true link)))
+
+pub returns-clause-rising : goal.returns-clause-rising
+returns-clause-rising g c =
+    let i = c.self.inside in
+    let slirp : SlirpState = record { config = i.policy; known = i.guests; sent = i.sent; pending = i.outgoing; moment = i.moment; number = i.number; associations = i.associations.list; parts = i.reasm; flows = i.flows } in
+    let begun = c.begin_turn.new.self in
+    subst (λ (s : SlirpState). Makes (g.W.World.tells c.args.world.now) (g.W.World.tells c.close_unused.new.world) (λ made. WhereItTicks s (ClosesByKind made))) c.self.view_is
+    (makes_then _ _ _ (λ made. WhereItTicks (record slirp { flows = begun }) (ClosesRising made)) ClosesRising (λ made. WhereItTicks slirp (ClosesByKind made)) c.tell_flows.ensures.rising c.close_unused.ensures.rising
+    (λ first second rise more config count link past few holds. record {
+      flows = first;
+      datagrams = second;
+      is = refl;
+      datagrams_rise = more;
+      flows_rise = rise config count link past few
+          (subst (λ (k : Kept). Holds config (after count) (record slirp { flows = k }) (flowing false k) link past) (sym c.begin_turn.ensures.turn)
+          (flows_put config (after count) slirp (record i.flows { turn = i.flows.turn + 1 }) (flowing false (record i.flows { turn = i.flows.turn + 1 })) link past
+          (turn_begins config (after count) slirp false i.flows link past holds)));
+    }))

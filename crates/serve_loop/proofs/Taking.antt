@@ -1,0 +1,148 @@
+-- Frames that are read and taken in.
+use Rattle.std.proofs.Common.{◌≡◌, ℕ, true, false, List, [], ◌∷◌, ◌++◌, Option, Some, None, refl, sym, ◌∙◌, ap, subst}
+use Rattle.poll_list.specs.declared.Want.{Want}
+use Rattle.poll_list.specs.declared.Who.TheVariants.{Link as TheLink}
+use Rattle.world_face.specs.Journal.{Entry, AreAllowed}
+use Rattle.world_face.specs.Frames.{Ending}
+use Rattle.host_policy.specs.Addresses.{Config}
+use Rattle.ether_frame.specs.Ether.{read_ether}
+use Rattle.ipv4_head.specs.Ip.{Ip}
+use Rattle.ipv4_head.specs.Sets.{PartSet, young}
+use Rattle.tcp_segment.specs.Tcp.{Tcp}
+use Rattle.flow_book.specs.Segments.{segment_by}
+use Rattle.run_laws.specs.Fragments.{fragment_in, waiting, with_fragment}
+use Rattle.run_laws.specs.Packets.{Packet, Unheard, ArpPacket, Message, DatagramPacket, Segment, packet_in}
+use Rattle.slirp_laws.specs.Agenda.{is_to_read, wanted_of}
+use Rattle.slirp_laws.specs.Answers.{Answer, frames_of, owed_for_packet}
+use Rattle.slirp_laws.specs.Datagrams.{Errand, Step, errand_by_packet}
+use Rattle.slirp_laws.specs.Relayed.{step_for}
+use Rattle.stream_netdev.specs.Keeps.{Keeps, ReadsFrame, hands, ending_of}
+use Rattle.stream_netdev.specs.State.{LinkState}
+use Rattle.stream_netdev.specs.declared.Arrived.{Arrived}
+use Rattle.tcp_flows.specs.Kept.{Kept}
+use Rattle.slirp_core.specs.Fragments.{IsHeld}
+use Rattle.slirp_core.specs.Holds.{standing, flowing, Comes, Ended, HoldsAt}
+use Rattle.slirp_core.specs.Packets.{errand_in, owed_for_frame, with_ether, with_frame}
+use Rattle.slirp_core.specs.Segments.{Coming, coming, coming_by, segment_in}
+use Rattle.slirp_core.specs.State.{SlirpState}
+use Rattle.slirp_core.proofs.Bridging.{brings_same, owes_same, sends_same}
+use Rattle.slirp_core.proofs.Reading.{KeepsParts, packet_of, read_ends_it, read_on, read_segment}
+use Rattle.serve_loop.specs.Turns.{HoldsNow}
+
+-- a packet that holds a segment, or none
+record IsSegment (c : Coming) (p : Packet) : Type 0 where
+  mac : List ℕ
+  ip : Ip
+  tcp : Tcp
+  packet : p ≡ Segment mac ip tcp
+  is : coming mac ip tcp ≡ c
+
+same_coming : {a b : Coming} → Some a ≡ Some b → a ≡ b
+same_coming {a} {b} is = ap (λ (o : Option Coming). or_first o) is
+  where
+    or_first : Option Coming → Coming
+    or_first None = a
+    or_first (Some c) = c
+
+is_segment : (c : Coming) (p : Packet) → coming_by p ≡ Some c → IsSegment c p
+is_segment c Unheard is = cc
+is_segment c (ArpPacket arp) is = cc
+is_segment c (Message mac ip message) is = cc
+is_segment c (DatagramPacket d) is = cc
+is_segment c (Segment mac ip tcp) is = record { mac = mac; ip = ip; tcp = tcp; packet = refl; is = same_coming is }
+
+no_segment : (p : Packet) → coming_by p ≡ None → segment_by p ≡ None
+no_segment Unheard none = refl
+no_segment (ArpPacket arp) none = refl
+no_segment (Message mac ip message) none = refl
+no_segment (DatagramPacket d) none = refl
+no_segment (Segment mac ip tcp) none = cc
+
+module _ (config : Config) (count : ℕ) (wants : List Want) (item : Want) (items : List Want) (reads_it : is_to_read TheLink (wanted_of wants item) ≡ true)
+    (slirp : SlirpState) (old new : LinkState) (answer : Arrived) (no_packet : slirp.pending ≡ []) (out : old.tail ≡ [])
+    (made past : List Entry) (allowed : AreAllowed made) (read : (past : List Entry) → Keeps old past → Keeps new (made ++ past) × ReadsFrame answer new made past)
+    (holds : HoldsNow config (standing count wants (item ∷ items)) false slirp old past) where
+  -- the sets of fragments that wait, as the core has them
+  sets_wait : young slirp.moment holds.guests.fragments.held ≡ waiting config past
+  sets_wait = ap (λ n. young n holds.guests.fragments.held) (sym holds.clock.moment) ∙ holds.guests.fragments.wait
+
+  -- what a frame is said to bring, by the settings and the sets of the core, is what its packet brings
+  of_packet : {A : Type 0} (of : Config → ℕ → List PartSet → List ℕ → A) (frame : List ℕ) (what : A) → ((held : List PartSet) → IsHeld slirp.parts held → what ≡ of slirp.config slirp.moment (young slirp.moment held) frame)
+      → what ≡ of config slirp.moment (waiting config past) frame
+  of_packet of frame what is =
+      is holds.guests.fragments.held holds.guests.fragments.is_held
+      ∙ ap (λ k. of k slirp.moment (young slirp.moment holds.guests.fragments.held) frame) holds.guests.settings
+      ∙ ap (λ w. of config slirp.moment w frame) sets_wait
+
+  module _ (done : SlirpState) (frame : List ℕ) (came : hands answer new ≡ Some frame) (goes_on : ending_of answer ≡ None)
+      (is : (held : List PartSet) → IsHeld slirp.parts held → done ≡ record slirp {
+        pending = frames_of slirp.config slirp.sent (owed_for_frame slirp.config slirp.moment (young slirp.moment held) frame);
+        known = with_ether slirp.config (read_ether frame) slirp.known;
+        parts = done.parts;
+      })
+      (keeps : (held : List PartSet) → IsHeld slirp.parts held → IsHeld done.parts (with_fragment slirp.moment (fragment_in slirp.config frame) held)) where
+    same_flows : slirp.flows ≡ done.flows
+    same_flows = sym (ap (λ (s : SlirpState). s.flows) (is holds.guests.fragments.held holds.guests.fragments.is_held))
+
+    same_associations : slirp.associations ≡ done.associations
+    same_associations = sym (ap (λ (s : SlirpState). s.associations) (is holds.guests.fragments.held holds.guests.fragments.is_held))
+
+    kept : KeepsParts config slirp done (hands answer new)
+    kept = subst (λ o. KeepsParts config slirp done o) (sym came)
+        (subst (λ (k : Config). (held : List PartSet) → IsHeld slirp.parts held → IsHeld done.parts (with_fragment slirp.moment (fragment_in k frame) held)) holds.guests.settings keeps)
+
+    packet_is : packet_of config slirp.moment (waiting config past) (hands answer new) ≡ packet_in config slirp.moment (waiting config past) frame
+    packet_is = ap (packet_of config slirp.moment (waiting config past)) came
+
+    -- what it owes
+    done_is : done ≡ record slirp {
+      pending = frames_of config slirp.sent (owed_for_packet config false (packet_of config slirp.moment (waiting config past) (hands answer new)));
+      known = with_frame config (hands answer new) slirp.known;
+      parts = done.parts;
+    }
+    done_is =
+        of_packet (λ (k : Config) n w f. record slirp { pending = frames_of k slirp.sent (owed_for_frame k n w f); known = with_ether k (read_ether f) slirp.known; parts = done.parts }) frame done is
+        ∙ sym (ap (λ (l : List Answer). record slirp { pending = frames_of config slirp.sent l; known = with_ether config (read_ether frame) slirp.known; parts = done.parts }) (owes_same config slirp.moment (waiting config past) frame))
+        ∙ sym (ap (λ o. record slirp { pending = frames_of config slirp.sent (owed_for_packet config false (packet_of config slirp.moment (waiting config past) o)); known = with_frame config o slirp.known; parts = done.parts }) came)
+
+    -- no segment, and what it asks for is still to be done
+    pub taken_in : (errand : Option Errand) → ((held : List PartSet) → IsHeld slirp.parts held → errand ≡ errand_in slirp.config slirp.moment (young slirp.moment held) frame)
+        → ((held : List PartSet) → IsHeld slirp.parts held → None ≡ segment_in slirp.config slirp.moment (young slirp.moment held) frame)
+        → HoldsAt config (standing count wants items) (step_for done.associations errand) done (flowing false done.flows) new (made ++ past)
+    taken_in errand sends none =
+        let packet = packet_of config slirp.moment (waiting config past) (hands answer new) in
+        let strays : coming_by packet ≡ None =
+        ap coming_by packet_is ∙ brings_same config slirp.moment (waiting config past) frame ∙ sym (of_packet segment_in frame None none) in
+        let asks : errand_by_packet config packet ≡ errand =
+        ap (errand_by_packet config) packet_is ∙ sends_same config slirp.moment (waiting config past) frame ∙ sym (of_packet errand_in frame errand sends) in
+        let h = read_on config count wants item items reads_it slirp slirp.flows old new answer no_packet out made past allowed read holds done goes_on kept (no_segment packet strays) done_is in
+        subst (λ (k : Kept). HoldsAt config (standing count wants items) (step_for done.associations errand) done (flowing false k) new (made ++ past)) same_flows
+        (subst (λ (t : Step). HoldsAt config (standing count wants items) t done (flowing false slirp.flows) new (made ++ past))
+        (ap (step_for slirp.associations) asks ∙ ap (λ l. step_for l errand) same_associations) h)
+
+    -- a segment, which is still to be heard
+    pub segment_came : (c : Coming) → ((held : List PartSet) → IsHeld slirp.parts held → Some c ≡ segment_in slirp.config slirp.moment (young slirp.moment held) frame)
+        → Comes config (standing count wants items) done done.flows new c (made ++ past)
+    segment_came c brings =
+        let packet = packet_of config slirp.moment (waiting config past) (hands answer new) in
+        let seg = is_segment c packet (ap coming_by packet_is ∙ brings_same config slirp.moment (waiting config past) frame ∙ sym (of_packet segment_in frame (Some c) brings)) in
+        let owes : frames_of config slirp.sent (owed_for_packet config false packet) ≡ slirp.pending = ap (λ p. frames_of config slirp.sent (owed_for_packet config false p)) seg.packet ∙ sym no_packet in
+        let unowed = done_is ∙ ap (λ (l : List (List ℕ)). record slirp { pending = l; known = with_frame config (hands answer new) slirp.known; parts = done.parts }) owes in
+        let h = read_segment config count wants item items reads_it slirp slirp.flows old new answer no_packet out made past allowed read holds done seg.mac seg.ip seg.tcp goes_on kept seg.packet unowed in
+        subst (λ (k : Kept). Comes config (standing count wants items) done k new c (made ++ past)) same_flows
+        (subst (λ (other : Coming). Comes config (standing count wants items) done slirp.flows new other (made ++ past)) seg.is h)
+
+  -- no frame is whole
+  pub nothing_came : hands answer new ≡ None → ending_of answer ≡ None → HoldsNow config (standing count wants items) false slirp new (made ++ past)
+  nothing_came none goes_on =
+      let at = waiting config past in
+      let packet_is : packet_of config slirp.moment at (hands answer new) ≡ Unheard = ap (packet_of config slirp.moment at) none in
+      let h = read_on config count wants item items reads_it slirp slirp.flows old new answer no_packet out made past allowed read holds slirp goes_on
+      (subst (λ o. KeepsParts config slirp slirp o) (sym none) refl) (ap segment_by packet_is)
+      (ap (λ (p : List (List ℕ)). record slirp { pending = p }) no_packet
+      ∙ sym (ap (λ o. record slirp { pending = frames_of config slirp.sent (owed_for_packet config false (packet_of config slirp.moment at o)); known = with_frame config o slirp.known }) none)) in
+      subst (λ (t : Step). HoldsAt config (standing count wants items) t slirp (flowing false slirp.flows) new (made ++ past)) (ap (λ p. step_for slirp.associations (errand_by_packet config p)) packet_is) h
+
+  -- the run has ended
+  pub read_ended : (why : Ending) → ending_of answer ≡ Some why → hands answer new ≡ None → Ended config why slirp.associations slirp.flows.flows.parts (made ++ past)
+  read_ended why is none = read_ends_it config count wants item items reads_it slirp slirp.flows old new answer no_packet out made past allowed read holds why is none

@@ -1,0 +1,289 @@
+-- Calls for flows: reports of their sockets, the time, and what they send.
+use Rattle.std.proofs.Common.{◌≡◌, ℕ, ◌<◌, ◌+◌, ◌||◌, nat_le, Bool, true, false, List, [], ◌∷◌, ◌++◌, filter, None, refl, sym, ◌∙◌, ap, subst, arith}
+use Rattle.std.proofs.lemmas.Bool.Decides.{nat_tests}
+use Rattle.poll_list.specs.declared.Want.{Want}
+use Rattle.poll_list.specs.declared.Who.TheVariants.{Tcp as OnTcp}
+use Rattle.world_face.specs.Journal.{Entry, AreAllowed, Follows}
+use Rattle.world_face.specs.Frames.{LinkFailed, MayFrame}
+use Rattle.world_face.proofs.Telling.{allowed_then}
+use Rattle.host_policy.specs.Addresses.{Config}
+use Rattle.ipv4_head.specs.Sets.{young}
+use Rattle.run_laws.specs.Moments.{moment, waits}
+use Rattle.run_laws.specs.Shape.{is_ended, is_over}
+use Rattle.run_laws.specs.Sockets.{is_among, kind_of, next_number, open_sockets}
+use Rattle.slirp_laws.specs.Agenda.{agenda, all_wanted, wanted_of}
+use Rattle.slirp_laws.specs.Asking.{errand_left}
+use Rattle.slirp_laws.specs.Datagrams.{Settled}
+use Rattle.slirp_laws.specs.Laws.{Lawful}
+use Rattle.stream_netdev.specs.State.{LinkState}
+use Rattle.slirp_core.specs.Holds.{Stands, Begins, Standing, InTurn, IsLast, OfGuests, after, standing, AfterPump, Ended, Flowing, Holds, Turns, flowing, is_ours}
+use Rattle.slirp_core.specs.State.{SlirpState}
+use Rattle.slirp_core.specs.Waiting.{OfFragments}
+use Rattle.slirp_core.proofs.Parts.{asks_nothing, errand_for, in_turn}
+use Rattle.flow_splice.specs.declared.Pumped.{Pumped as PumpedFlows}
+use Rattle.slirp_core.specs.Pumps.{pumped_flows}
+use Rattle.flow_splice.specs.declared.Pumped.TheVariants.{Clear, Blocked, Failed}
+use Rattle.tcp_flows.specs.Kept.{Kept}
+use Rattle.spliced_flows.specs.Core.{Following, number_of}
+use Rattle.core_flows.specs.Seats.{Seats}
+use Rattle.flow_book.specs.Book.{book, is_young}
+use Rattle.flow_book.specs.Flows.{Rest}
+use Rattle.tcp_flows.specs.Runs.{Between, Broken, ClosesRising, IsIdle, IsIdlePump, Leaves, LeavesOthers, Pumps, Reports, Sendable, Ticks}
+use Rattle.slirp_core.proofs.Open.{open_by}
+
+-- each call was one that a link may get
+pub framed : (config : Config) (past : List Entry) → Lawful config past → Follows MayFrame past
+framed config [] lawful = tt
+framed config (e ∷ past) lawful = (lawful.0.framed, framed config past lawful.1)
+
+-- what Between says of a core at a moment in a turn
+pub between : (config : Config) (at : Standing) (slirp : SlirpState) (f : Flowing) (link : LinkState) (past : List Entry) → InTurn config past → Holds config at slirp f link past → Between config slirp.moment f.aged None f.kept past
+between config at slirp f link past turn holds = record {
+  holds = holds.flows.holds;
+  settings = holds.flows.settings;
+  lawful = holds.lawful;
+  work = record { working = turn.working; errand = errand_for config Settled slirp past holds.relayed; open_yet = holds.open_yet };
+  at = holds.clock.moment;
+}
+
+-- which fragments wait
+pub fragments_left : (config : Config) (slirp : SlirpState) (past made : List Entry) → moment (made ++ past) ≡ moment past → LeavesOthers config past made → OfFragments config slirp past → OfFragments config slirp (made ++ past)
+fragments_left config slirp past made same others fragments = record {
+  held = fragments.held;
+  is_held = fragments.is_held;
+  wait = ap (λ n. young n fragments.held) same ∙ fragments.wait ∙ sym (λ i. young (same i) (others.sets i));
+}
+
+pub guests_left : (config : Config) (slirp : SlirpState) (past made : List Entry) → moment (made ++ past) ≡ moment past → LeavesOthers config past made → OfGuests config slirp past → OfGuests config slirp (made ++ past)
+guests_left config slirp past made same others guests = record {
+  settings = guests.settings;
+  known = others.known ∙ guests.known;
+  fragments = fragments_left config slirp past made same others guests.fragments;
+}
+
+pub sockets_left : (config : Config) (past made : List Entry) → LeavesOthers config past made → ((n : ℕ) → is_among n (open_sockets past) ≡ true → is_ours (kind_of n past) ≡ true)
+    → (n : ℕ) → is_among n (open_sockets (made ++ past)) ≡ true → is_ours (kind_of n (made ++ past)) ≡ true
+sockets_left config past made others kinds n among = ap is_ours (others.kinds n) ∙ kinds n (others.opens n among)
+
+-- Calls for flows, after which their slots stand for the flows again, leave all else.
+pub after_flows : (config : Config) (at later : Standing) (slirp : SlirpState) (f : Flowing) (link : LinkState) (past made : List Entry) (aged : Bool) (new : Kept) → later.count ≡ at.count → AreAllowed made → InTurn config past
+    → Holds config at slirp f link past → Between config slirp.moment aged None new (made ++ past) → Leaves config past made → IsLast (all_wanted later.wants later.left) (agenda (made ++ past))
+    → Holds config later slirp (flowing aged new) link (made ++ past)
+after_flows config at later slirp f link past made aged new same allowed turn holds then_is leaves reported =
+    let others = leaves.others in
+    let moments : moment (made ++ past) ≡ moment past = then_is.at ∙ sym holds.clock.moment in
+    record {
+      lawful = then_is.lawful;
+      allowed = allowed_then made past allowed holds.allowed;
+      keeps = record {
+        framed = framed config (made ++ past) then_is.lawful;
+        partly = others.partly ∙ holds.keeps.partly;
+        rest = leaves.tail ∙ holds.keeps.rest;
+        blocked = leaves.blocked ∙ holds.keeps.blocked;
+      };
+      answers = record { sent = leaves.counted ∙ holds.answers.sent; pending = leaves.left ∙ holds.answers.pending };
+      guests = guests_left config slirp past made moments others holds.guests;
+      relayed = record { list = others.list ∙ holds.relayed.list; asks = asks_nothing slirp.associations (errand_left config (made ++ past)) then_is.work.errand };
+      flows = record { holds = then_is.holds; settings = then_is.settings; unit = holds.flows.unit };
+      sockets = record { number = leaves.next ∙ holds.sockets.number; kinds = sockets_left config past made others holds.sockets.kinds };
+      clock = record { moment = then_is.at; counted = others.waits ∙ holds.clock.counted ∙ sym same };
+      stands = Turns (record { working = then_is.work.working; waited = subst (λ n. 0 < n) (sym others.waits) turn.waited });
+      agenda = reported;
+      open_yet = then_is.work.open_yet;
+    }
+
+-- a wait began this turn, where it reported something
+pub reported_turn : (config : Config) (count : ℕ) (wants : List Want) (item : Want) (items : List Want) (slirp : SlirpState) (f : Flowing) (link : LinkState) (past : List Entry) → Holds config (standing count wants (item ∷ items)) slirp f link past → InTurn config past
+reported_turn config count wants item items slirp f link past holds = in_turn holds.stands (λ u. nothing_last (agenda past) u.unreported holds.agenda)
+  where
+    nothing_last : (all : List Want) → all ≡ [] → IsLast (all_wanted wants (item ∷ items)) all → ⊥
+    nothing_last all none ([], is) = cc (sym is ∙ none)
+    nothing_last all none ((x ∷ before), is) = cc (sym is ∙ none)
+
+-- the host reported a socket of a flow
+pub reported : (config : Config) (count : ℕ) (wants : List Want) (item : Want) (items : List Want) (slirp : SlirpState) (f : Flowing) (link : LinkState) (past made : List Entry) (number : ℕ) (read write : Bool) (new : Kept)
+    → wanted_of wants item ≡ record { of = OnTcp number; read = read; write = write } → Reports slirp.moment number read write f.kept new made → AreAllowed made
+    → Holds config (standing count wants (item ∷ items)) slirp f link past → Holds config (standing count wants items) slirp (flowing f.aged new) link (made ++ past)
+reported config count wants item items slirp f link past made number read write new wanted reports allowed holds =
+    let turn = reported_turn config count wants item items slirp f link past holds in
+    let then_is = reports config f.aged past (all_wanted wants items) (between config (standing count wants (item ∷ items)) slirp f link past turn holds) (subst (λ w. IsLast (w ∷ all_wanted wants items) (agenda past)) wanted holds.agenda) in
+    after_flows config (standing count wants (item ∷ items)) (standing count wants items) slirp f link past made f.aged new refl allowed turn holds then_is.between then_is.leaves then_is.agenda
+
+-- where another wait may come the run isn't over
+not_ended : (config : Config) (count : ℕ) (slirp : SlirpState) (kept : Kept) (link : LinkState) (past : List Entry) → count < config.turns → InTurn config past
+    → Holds config (after count) slirp (flowing false kept) link past → is_ended config past ≡ false
+not_ended config count slirp kept link past few turn holds = ap (λ p. is_over p || nat_le config.turns (waits past)) turn.working ∙ not_all
+  where
+    not_all : nat_le config.turns (waits past) ≡ false
+    not_all = let counted : waits past ≡ count = holds.clock.counted in grind (arith, nat_tests, few, counted)
+
+-- flows were told the time, in a turn after which another wait may come
+pub ticked : (config : Config) (count : ℕ) (slirp : SlirpState) (kept new : Kept) (link : LinkState) (past made : List Entry) (Closes : List Entry → Type 0) → count < config.turns → Ticks slirp.moment false Closes kept new made → AreAllowed made → InTurn config past
+    → Holds config (after count) slirp (flowing false kept) link past → Holds config (after count) slirp (flowing true new) link (made ++ past)
+ticked config count slirp kept new link past made Closes few ticks allowed turn holds =
+    let then_is = (ticks config past (not_ended config count slirp kept link past few turn holds) (between config (after count) slirp (flowing false kept) link past turn holds)).0 in
+    after_flows config (after count) (after count) slirp (flowing false kept) link past made true new refl allowed turn holds then_is.between then_is.leaves (subst (IsLast []) (sym then_is.agenda) holds.agenda)
+
+-- and before the first wait, where there is no flow
+pub unticked : (config : Config) (at : Standing) (slirp : SlirpState) (kept : Kept) (link : LinkState) (past : List Entry) → (book config past).rests ≡ [] → Holds config at slirp (flowing false kept) link past
+    → Holds config at slirp (flowing true kept) link past
+unticked config at slirp kept link past unrested holds = record {
+  lawful = holds.lawful;
+  allowed = holds.allowed;
+  keeps = holds.keeps;
+  answers = holds.answers;
+  guests = holds.guests;
+  relayed = holds.relayed;
+  flows = record {
+    holds = record {
+      seats = subst (λ (r : List Rest). Seats number_of (Following config slirp.moment) kept.flows.table kept.flows.parts (next_number past) (book config past).flows r) (unrested ∙ sym (ap (filter (is_young (moment past))) unrested)) holds.flows.holds.seats;
+      slots = holds.flows.holds.slots;
+      opened = holds.flows.holds.opened;
+      asked = holds.flows.holds.asked;
+      learnt = holds.flows.holds.learnt;
+    };
+    settings = holds.flows.settings;
+    unit = holds.flows.unit;
+  };
+  sockets = holds.sockets;
+  clock = holds.clock;
+  stands = holds.stands;
+  agenda = holds.agenda;
+  open_yet = holds.open_yet;
+}
+
+-- what the core has beside its relation to flows
+pub flows_put : (config : Config) (at : Standing) (slirp : SlirpState) (k : Kept) (f : Flowing) (link : LinkState) (past : List Entry) → Holds config at slirp f link past → Holds config at (record slirp { flows = k }) f link past
+flows_put config at slirp k f link past holds = record {
+  lawful = holds.lawful;
+  allowed = holds.allowed;
+  keeps = holds.keeps;
+  answers = record { sent = holds.answers.sent; pending = holds.answers.pending };
+  guests = record { settings = holds.guests.settings; known = holds.guests.known; fragments = record { held = holds.guests.fragments.held; is_held = holds.guests.fragments.is_held; wait = holds.guests.fragments.wait } };
+  relayed = record { list = holds.relayed.list; asks = holds.relayed.asks };
+  flows = holds.flows;
+  sockets = holds.sockets;
+  clock = record { moment = holds.clock.moment; counted = holds.clock.counted };
+  stands = stands holds.stands;
+  agenda = holds.agenda;
+  open_yet = holds.open_yet;
+}
+  where
+    stands : Stands config Settled slirp f.kept link past → Stands config Settled (record slirp { flows = k }) f.kept link past
+    stands (Turns turn) = Turns turn
+    stands (Begins u free unrested shut) = Begins (record { started = u.started; unreported = u.unreported; unasked = u.unasked; alone = u.alone; nothing = u.nothing; empty = u.empty }) free unrested shut
+
+-- a turn begins
+pub turn_begins : (config : Config) (at : Standing) (slirp : SlirpState) (aged : Bool) (kept : Kept) (link : LinkState) (past : List Entry) → Holds config at slirp (flowing aged kept) link past
+    → Holds config at slirp (flowing aged (record kept { turn = kept.turn + 1 })) link past
+turn_begins config at slirp aged kept link past holds = record {
+  lawful = holds.lawful;
+  allowed = holds.allowed;
+  keeps = holds.keeps;
+  answers = holds.answers;
+  guests = holds.guests;
+  relayed = holds.relayed;
+  flows = record { holds = holds.flows.holds; settings = record { ring = holds.flows.settings.ring; mtu = holds.flows.settings.mtu; mru = holds.flows.settings.mru; congestion = holds.flows.settings.congestion; vhost = holds.flows.settings.vhost }; unit = holds.flows.unit };
+  sockets = holds.sockets;
+  clock = holds.clock;
+  stands = stands holds.stands;
+  agenda = holds.agenda;
+  open_yet = holds.open_yet;
+}
+  where
+    stands : Stands config Settled slirp kept link past → Stands config Settled slirp (record kept { turn = kept.turn + 1 }) link past
+    stands (Turns turn) = Turns turn
+    stands (Begins unbegun free unrested shut) = Begins unbegun free unrested shut
+
+-- the flows of a turn, or of none
+pub told_the_time : (config : Config) (count : ℕ) (slirp : SlirpState) (kept new : Kept) (link : LinkState) (past made : List Entry) (Closes : List Entry → Type 0) → count < config.turns → Ticks slirp.moment false Closes kept new made → IsIdle kept new made → AreAllowed made
+    → Holds config (after count) slirp (flowing false kept) link past → Holds config (after count) slirp (flowing true new) link (made ++ past)
+told_the_time config count slirp kept new link past made Closes few ticks idle allowed holds = by holds.stands
+  where
+    by : Stands config Settled slirp kept link past → Holds config (after count) slirp (flowing true new) link (made ++ past)
+    by (Turns turn) = ticked config count slirp kept new link past made Closes few ticks allowed turn holds
+    by (Begins unbegun free unrested shut) =
+        let none = idle free in
+        subst (λ (m : List Entry). Holds config (after count) slirp (flowing true new) link (m ++ past)) (sym none.1)
+        (subst (λ (k : Kept). Holds config (after count) slirp (flowing true k) link past) (sym none.0) (unticked config (after count) slirp kept link past unrested holds))
+
+-- its sockets are closed by rising number
+pub told_rising : (config : Config) (count : ℕ) (slirp : SlirpState) (kept new : Kept) (link : LinkState) (past made : List Entry) → count < config.turns → Ticks slirp.moment false ClosesRising kept new made → IsIdle kept new made
+    → Holds config (after count) slirp (flowing false kept) link past → ClosesRising made
+told_rising config count slirp kept new link past made few ticks idle holds = by holds.stands
+  where
+    by : Stands config Settled slirp kept link past → ClosesRising made
+    by (Turns turn) = (ticks config past (not_ended config count slirp kept link past few turn holds) (between config (after count) slirp (flowing false kept) link past turn holds)).1
+    by (Begins unbegun free unrested shut) = subst ClosesRising (sym (idle free).1) tt
+
+-- ---- what flows owe goes out
+
+-- nothing is left of an answer
+pub sendable : (config : Config) (at : Standing) (slirp : SlirpState) (f : Flowing) (link : LinkState) (past : List Entry) → slirp.pending ≡ [] → InTurn config past → Holds config at slirp f link past
+    → Sendable config slirp.moment f.aged f.kept link slirp.sent past
+sendable config at slirp f link past none turn holds = record {
+  between = between config at slirp f link past turn holds;
+  keeps = holds.keeps;
+  nothing = holds.answers.pending ∙ none;
+  counted = holds.answers.sent;
+}
+
+module _ (config : Config) (at : Standing) (slirp : SlirpState) (f : Flowing) (link next : LinkState) (past made : List Entry) (new : Kept) (last : ℕ) (none : slirp.pending ≡ []) (allowed : AreAllowed made) (turn : InTurn config past) (holds : Holds config at slirp f link past) where
+  -- they were taken, or the link is blocked
+  went_on : Sendable config slirp.moment f.aged new next last (made ++ past) → next_number (made ++ past) ≡ next_number past → LeavesOthers config past made → agenda (made ++ past) ≡ agenda past
+      → Holds config at (record slirp { sent = last }) (flowing f.aged new) next (made ++ past)
+  went_on then_is same others reported =
+      let guests = guests_left config slirp past made (then_is.between.at ∙ sym holds.clock.moment) others holds.guests in
+      let fragments = guests.fragments in
+      record {
+        lawful = then_is.between.lawful;
+        allowed = allowed_then made past allowed holds.allowed;
+        keeps = then_is.keeps;
+        answers = record { sent = then_is.counted; pending = then_is.nothing ∙ sym none };
+        guests = record { settings = guests.settings; known = guests.known; fragments = record { held = fragments.held; is_held = fragments.is_held; wait = fragments.wait } };
+        relayed = record { list = others.list ∙ holds.relayed.list; asks = asks_nothing slirp.associations (errand_left config (made ++ past)) then_is.between.work.errand };
+        flows = record { holds = then_is.between.holds; settings = then_is.between.settings; unit = holds.flows.unit };
+        sockets = record { number = same ∙ holds.sockets.number; kinds = sockets_left config past made others holds.sockets.kinds };
+        clock = record { moment = then_is.between.at; counted = others.waits ∙ holds.clock.counted };
+        stands = Turns (record { working = then_is.between.work.working; waited = subst (λ n. 0 < n) (sym others.waits) turn.waited });
+        agenda = subst (IsLast (all_wanted at.wants at.left)) (sym reported) holds.agenda;
+        open_yet = then_is.between.work.open_yet;
+      }
+
+  -- the link failed
+  broke : Broken config slirp.moment f.aged new (made ++ past) → LeavesOthers config past made → Ended config LinkFailed slirp.associations new.flows.parts (made ++ past)
+  broke then_is others = record {
+    lawful = then_is.lawful;
+    over = then_is.over;
+    errand = others.errand ∙ errand_for config Settled slirp past holds.relayed;
+    idle = then_is.asks;
+    sockets = open_by config slirp.associations (flowing f.aged new) slirp.moment (made ++ past) then_is.lawful (others.list ∙ holds.relayed.list) then_is.holds (sockets_left config past made others holds.sockets.kinds);
+  }
+
+  -- the flows were pumped
+  pub pumped : (result : PumpedFlows) → Pumps slirp.moment f.kept new link next slirp.sent last result made → AfterPump (pumped_flows result) config at (record slirp { sent = last }) (flowing f.aged new) next (made ++ past)
+  pumped Clear pumps = let then_is = pumps config f.aged past (sendable config at slirp f link past none turn holds) in went_on then_is.0 then_is.1 then_is.2 then_is.3
+  pumped Blocked pumps = let then_is = pumps config f.aged past (sendable config at slirp f link past none turn holds) in went_on then_is.0 then_is.1 then_is.2 then_is.3
+  pumped Failed pumps = let then_is = pumps config f.aged past (sendable config at slirp f link past none turn holds) in broke then_is.0 then_is.2
+
+-- the flows of a turn were pumped, or of none
+pub pumped_so : (config : Config) (at : Standing) (slirp : SlirpState) (aged : Bool) (kept new : Kept) (link next : LinkState) (past made : List Entry) (last : ℕ) (result : PumpedFlows) → slirp.pending ≡ [] → AreAllowed made
+    → Pumps slirp.moment kept new link next slirp.sent last result made → IsIdlePump kept new link next slirp.sent last result made → Holds config at slirp (flowing aged kept) link past
+    → AfterPump (pumped_flows result) config at (record slirp { sent = last }) (flowing aged new) next (made ++ past)
+pumped_so config at slirp aged kept new link next past made last result none allowed pumps idle holds = by holds.stands
+  where
+    by : Stands config Settled slirp kept link past → AfterPump (pumped_flows result) config at (record slirp { sent = last }) (flowing aged new) next (made ++ past)
+    by (Turns turn) = pumped config at slirp (flowing aged kept) link next past made new last none allowed turn holds result pumps
+    by (Begins unbegun free unrested shut) =
+        let still = idle free in
+        subst (λ (m : List Entry). AfterPump (pumped_flows result) config at (record slirp { sent = last }) (flowing aged new) next (m ++ past)) (sym still.1)
+        (subst (λ (r : PumpedFlows). AfterPump (pumped_flows r) config at (record slirp { sent = last }) (flowing aged new) next past) (sym still.2)
+        (subst (λ (k : Kept). Holds config at (record slirp { sent = last }) (flowing aged k) next past) (sym still.0)
+        (subst (λ (l : LinkState). Holds config at (record slirp { sent = last }) (flowing aged kept) l past) (sym still.3)
+        (subst (λ (n : ℕ). Holds config at (record slirp { sent = n }) (flowing aged kept) link past) (sym still.4) holds))))
+
+-- the ended run as it is where the network has other flows
+pub after_put : (result : PumpedFlows) (config : Config) (at : Standing) (slirp : SlirpState) (k : Kept) (f : Flowing) (link : LinkState) (past : List Entry) → AfterPump (pumped_flows result) config at slirp f link past → AfterPump (pumped_flows result) config at (record slirp { flows = k }) f link past
+after_put Clear config at slirp k f link past holds = flows_put config at slirp k f link past holds
+after_put Blocked config at slirp k f link past holds = flows_put config at slirp k f link past holds
+after_put Failed config at slirp k f link past ended = ended

@@ -1,0 +1,254 @@
+-- A segment is heard: its flow takes it, or it strays, or the host connects for it.
+use Rattle.std.proofs.Common.{◌≡◌, ℕ, ◌<◌, ◌+◌, ◌==◌, ◌||◌, nat_lt, Bool, true, false, List, [], ◌∷◌, ◌++◌, length, Some, None, refl, sym, ◌∙◌, ap, subst, arith, if◌then◌else◌}
+use Rattle.std.proofs.lemmas.Bool.Decides.{nat_tests}
+use Rattle.std.specs.Prelude.{Contains}
+use Rattle.std.specs.Option.{option_and_then}
+use Rattle.net_octets.specs.declared.Endpoint.{Endpoint}
+use Rattle.net_octets.specs.declared.Mac.{Mac}
+use Rattle.world_face.specs.Journal.{Entry, Allowed, AreAllowed, Connect, CallConnect}
+use Rattle.world_face.specs.declared.Made.{Made}
+use Rattle.world_face.specs.declared.Made.TheVariants.{Done as MadeDone, Failed as MadeFailed}
+use Rattle.world_face.proofs.Telling.{allowed_then}
+use Rattle.host_policy.specs.Addresses.{Config}
+use Rattle.host_policy.specs.Targets.{target}
+use Rattle.host_policy.specs.declared.Proto.TheVariants.{Tcp as OverTcp}
+use Rattle.host_policy.specs.declared.Verdict.{Verdict}
+use Rattle.host_policy.specs.declared.Verdict.TheVariants.{Go, Denied}
+use Rattle.flow_book.specs.Book.{book, scene, turned}
+use Rattle.flow_book.specs.Doings.{Comes as ComesOn}
+use Rattle.flow_book.specs.Flows.{Book, owner}
+use Rattle.flow_book.specs.Lots.{Lot, Dropped, AsksFor, Strange as LotStrange, asked_for, due_by, due_for_flows, is_mistaken, is_opening, is_to_many, lot_by, is_reset, is_reset_by, lot}
+use Rattle.flow_book.specs.Segments.{OnTuple}
+use Rattle.flow_book.specs.Taught.{taught}
+use Rattle.run_laws.specs.Sockets.{Flow as FlowKind, is_among, kind_of, next_number, open_sockets, with_made}
+use Rattle.slirp_laws.specs.Agenda.{agenda, all_wanted}
+use Rattle.slirp_laws.specs.Answers.{frames_of, identification, left, owed_for_segment, reset_for, unconnected}
+use Rattle.slirp_laws.specs.Asking.{errand_left}
+use Rattle.slirp_laws.specs.Laws.{Lawful, May}
+use Rattle.slirp_laws.proofs.Bools.{among_last}
+use Rattle.core_flows.specs.Seats.{in_use_slots}
+use Rattle.stream_netdev.specs.State.{LinkState}
+use Rattle.slirp_core.specs.Holds.{Standing, IsLast, Comes, Holds, Turns, flowing, is_ours}
+use Rattle.slirp_core.specs.Segments.{Coming}
+use Rattle.slirp_core.specs.State.{SlirpState}
+use Rattle.slirp_core.proofs.Guests.{guests_stay}
+use Rattle.slirp_core.proofs.Parts.{asks_nothing, keeps_by}
+use Rattle.spliced_flows.specs.Core.{Following, mac_of, number_of}
+use Rattle.spliced_flows.specs.Stands.{lot_without}
+use Rattle.spliced_flows.proofs.Joined.{may_connect}
+use Rattle.spliced_flows.proofs.Others.{holds_quiet}
+use Rattle.tcp_flows.specs.Kept.{Kept}
+use Rattle.tcp_flows.specs.Runs.{Begins as BeginsFlow, Between, HasLot, Hears, IsHeard, Leaves}
+use Rattle.tcp_flows.specs.declared.guest.Heard.{Heard}
+use Rattle.tcp_flows.specs.declared.guest.Heard.TheVariants.{Taken, Strange, Alone}
+use Rattle.slirp_core.proofs.Called.{framed, guests_left, sockets_left}
+
+-- the kinds of sockets, one more that is a flow's
+kinds_joined : (number : ℕ) (to : Endpoint) (answer : Made) (past : List Entry) → ((n : ℕ) → is_among n (open_sockets past) ≡ true → is_ours (kind_of n past) ≡ true)
+    → (n : ℕ) → is_among n (with_made answer number (open_sockets past)) ≡ true → is_ours (kind_of n (Connect number to answer ∷ past)) ≡ true
+kinds_joined number to answer past kinds n among = by (number == n) refl
+  where
+    turned_round : (number == n) ≡ false → (n == number) ≡ false
+    turned_round is = grind (arith, nat_tests, is)
+
+    only : (a b : Bool) → b ≡ false → (a || b) ≡ true → a ≡ true
+    only true b is or = refl
+    only false b is or = cc
+
+    before : (a : Made) → (n == number) ≡ false → is_among n (with_made a number (open_sockets past)) ≡ true → is_among n (open_sockets past) ≡ true
+    before MadeDone other is = only (is_among n (open_sockets past)) (n == number) other (sym (among_last n number (open_sockets past)) ∙ is)
+    before MadeFailed other is = is
+
+    by : (b : Bool) → (number == n) ≡ b → is_ours (if b then Some FlowKind else kind_of n past) ≡ true
+    by true is = refl
+    by false is = kinds n (before answer (turned_round is) among)
+
+-- a segment asks for a connect only where there is room for a flow more
+pub asks_for_room : (config : Config) (used slots : ℕ) (on : OnTuple) (to : Endpoint) → lot_without config (nat_lt used slots) on ≡ AsksFor to → used < slots
+asks_for_room config used slots on to is = by (nat_lt used slots) refl is
+  where
+    by_verdict : (v : Verdict) → lot_by v false ≡ AsksFor to → ⊥
+    by_verdict (Go at) is = cc
+    by_verdict (Denied rule) is = cc
+
+    by_opening : (b : Bool) → (if b then lot_by (target config OverTcp on.tuple.other) false else LotStrange) ≡ AsksFor to → ⊥
+    by_opening true is = by_verdict (target config OverTcp on.tuple.other) is
+    by_opening false is = cc
+
+    by_dropped : (b : Bool) → (if b then Dropped else (if is_opening on.segment then lot_by (target config OverTcp on.tuple.other) false else LotStrange)) ≡ AsksFor to → ⊥
+    by_dropped true is = cc
+    by_dropped false is = by_opening (is_opening on.segment) is
+
+    by : (room : Bool) → nat_lt used slots ≡ room → lot_without config room on ≡ AsksFor to → used < slots
+    by true has is = grind (arith, nat_tests, has)
+    by false has is = absurd (by_dropped (on.segment.rst || is_to_many config on.tuple.other) is)
+
+module _ (config : Config) (at : Standing) (slirp : SlirpState) (kept : Kept) (link : LinkState) (c : Coming) (past : List Entry) (comes : Comes config at slirp kept link c past) where
+  -- ---- what the record says of the segment
+
+  then_book : book config past ≡ turned config (scene config comes.before) (ComesOn c.on) (book config comes.before)
+  then_book = ap (book config) comes.is ∙ ap (λ d. turned config (scene config comes.before) d (book config comes.before)) comes.brings.comes
+
+  came_is : (book config past).came ≡ Some c.on
+  came_is = ap (λ (b : Book). b.came) then_book
+
+  doomed_is : (book config past).doomed ≡ None
+  doomed_is = ap (λ (b : Book). b.doomed) then_book
+
+  abbrev the_lot : Lot
+  the_lot = lot config (book config past) c.on
+
+  due_as : due_for_flows config (book config past) (next_number past) ≡ due_by None (asked_for the_lot) (next_number past)
+  due_as = λ i. due_by (doomed_is i) (option_and_then (λ (on : OnTuple). asked_for (lot config (book config past) on)) (came_is i)) (next_number past)
+
+  -- what is owed for it by its lot
+  owed_as : (b : Bool) → is_reset config (book config past) c.on ≡ b → left config past ≡ frames_of config slirp.sent (owed_for_segment b c.on)
+  owed_as b is = comes.owed ∙ ap (λ b. frames_of config slirp.sent (owed_for_segment b c.on)) is
+
+  reset_by : (l : Lot) → the_lot ≡ l → is_reset config (book config past) c.on ≡ is_reset_by l (is_mistaken c.on.segment (owner c.on.tuple (book config past).flows))
+  reset_by l is = ap (λ l. is_reset_by l (is_mistaken c.on.segment (owner c.on.tuple (book config past).flows))) is
+
+  -- the frames of the reset that answers it
+  abbrev pub reset_frames : List (List ℕ)
+  reset_frames = frames_of slirp.config slirp.sent (reset_for c.on ∷ [])
+
+  owed_reset : is_reset config (book config past) c.on ≡ true → left config past ≡ reset_frames
+  owed_reset is = owed_as true is ∙ ap (λ k. frames_of k slirp.sent (reset_for c.on ∷ [])) (sym comes.guests.settings)
+
+  owed_none : is_reset config (book config past) c.on ≡ false → left config past ≡ slirp.pending
+  owed_none is = owed_as false is ∙ sym comes.none
+
+  -- ---- its flow, or none, takes it
+
+  -- all is as it was but the flows and what is owed
+  settles : (made : List Entry) (new : Kept) (pending : List (List ℕ)) → AreAllowed made → Between config slirp.moment false None new (made ++ past) → Leaves config past made → agenda (made ++ past) ≡ agenda past → left config past ≡ pending
+      → Holds config at (record slirp { pending = pending }) (flowing false new) link (made ++ past)
+  settles made new pending allowed then_is leaves reported owed =
+      let others = leaves.others in
+      let guests = guests_left config slirp past made (then_is.at ∙ sym comes.clock.moment) others comes.guests in
+      let fragments = guests.fragments in
+      record {
+        lawful = then_is.lawful;
+        allowed = allowed_then made past allowed comes.allowed;
+        keeps = record {
+          framed = framed config (made ++ past) then_is.lawful;
+          partly = others.partly ∙ comes.keeps.partly;
+          rest = leaves.tail ∙ comes.keeps.rest;
+          blocked = leaves.blocked ∙ comes.keeps.blocked;
+        };
+        answers = record { sent = leaves.counted ∙ comes.sent; pending = leaves.left ∙ owed };
+        guests = record { settings = guests.settings; known = guests.known; fragments = record { held = fragments.held; is_held = fragments.is_held; wait = fragments.wait } };
+        relayed = record { list = others.list ∙ comes.relayed.list; asks = asks_nothing slirp.associations (errand_left config (made ++ past)) then_is.work.errand };
+        flows = record { holds = then_is.holds; settings = then_is.settings; unit = comes.unit };
+        sockets = record { number = leaves.next ∙ comes.sockets.number; kinds = sockets_left config past made others comes.sockets.kinds };
+        clock = record { moment = then_is.at; counted = others.waits ∙ comes.clock.counted };
+        stands = Turns (record { working = then_is.work.working; waited = subst (λ n. 0 < n) (sym others.waits) comes.turn.waited });
+        agenda = subst (IsLast (all_wanted at.wants at.left)) (sym reported) comes.agenda;
+        open_yet = then_is.work.open_yet;
+      }
+
+  module _ (made : List Entry) (new : Kept) (allowed : AreAllowed made) where
+    abbrev Told : Heard → List Entry → Type 0
+    Told heard l = IsHeard heard config slirp.moment new c.on l made × HasLot heard config new c.on l × Leaves config l made × (agenda (made ++ l) ≡ agenda l)
+
+    told : (heard : Heard) → Hears slirp.moment kept new c.on.tuple c.tcp heard made → Told heard past
+    told heard hears = subst (Told heard) (sym comes.is) (hears config comes.newest comes.before c.on comes.brings)
+
+    -- its flow took it
+    pub heard_taken : Hears slirp.moment kept new c.on.tuple c.tcp Taken made → Holds config at slirp (flowing false new) link (made ++ past)
+    heard_taken hears = let t = told Taken hears in settles made new slirp.pending allowed t.0 t.2 t.3 (owed_none t.1.1)
+
+    -- its flow turned it away
+    pub heard_strange : Hears slirp.moment kept new c.on.tuple c.tcp Strange made → Holds config at (record slirp { pending = reset_frames }) (flowing false new) link (made ++ past)
+    heard_strange hears = let t = told Strange hears in settles made new reset_frames allowed t.0 t.2 t.3 (owed_reset t.1.1)
+
+    -- ---- it is one without a flow
+
+    module _ (hears : Hears slirp.moment kept new c.on.tuple c.tcp Alone made) where
+      abbrev its : Lot
+      its = lot_without config (nat_lt (in_use_slots new.flows.table.slots) (length new.flows.table.slots)) c.on
+
+      abbrev t : Told Alone past
+      t = told Alone hears
+
+      then_between : (l : Lot) → its ≡ l → Between config slirp.moment false (due_by None (asked_for l) (next_number past)) new past
+      then_between l is = subst (λ d. Between config slirp.moment false d new past) (due_as ∙ ap (λ l. due_by None (asked_for l) (next_number past)) (t.1 ∙ is)) t.0.1
+
+      -- nothing is called
+      no_call : Between config slirp.moment false None new past → Between config slirp.moment false None new (made ++ past)
+      no_call then_is = subst (λ m. Between config slirp.moment false None new (m ++ past)) (sym t.0.0) then_is
+
+      pub none_made : made ≡ []
+      none_made = t.0.0
+
+      -- it is ignored
+      pub alone_dropped : its ≡ Dropped → Holds config at slirp (flowing false new) link (made ++ past)
+      alone_dropped is = settles made new slirp.pending allowed (no_call (then_between Dropped is)) t.2 t.3 (owed_none (reset_by Dropped (t.1 ∙ is)))
+
+      -- it is answered by a reset
+      pub alone_reset : its ≡ LotStrange → Holds config at (record slirp { pending = reset_frames }) (flowing false new) link (made ++ past)
+      alone_reset is = settles made new reset_frames allowed (no_call (then_between LotStrange is)) t.2 t.3 (owed_reset (reset_by LotStrange (t.1 ∙ is)))
+
+      -- ---- the host is to connect for it
+
+      module _ (to : Endpoint) (asks : its ≡ AsksFor to) where
+        abbrev due_is : Between config slirp.moment false (Some (CallConnect (next_number past) to)) new past
+        due_is = then_between (AsksFor to) asks
+
+        may : May config past (CallConnect slirp.number to)
+        may = subst (λ n. May config past (CallConnect n to)) comes.sockets.number (may_connect config new.flows past slirp.moment to due_is.holds due_is.work due_is.lawful)
+
+        not_reset : is_reset config (book config past) c.on ≡ false
+        not_reset = reset_by (AsksFor to) (t.1 ∙ asks)
+
+        -- what a connect leaves, by its answer
+        connects : (answer : Made) (then_kept : Kept) (pending : List (List ℕ)) → Allowed (Connect slirp.number to answer) → Lawful config (Connect slirp.number to answer ∷ past)
+            → Between config slirp.moment false None then_kept (Connect slirp.number to answer ∷ past) → left config (Connect slirp.number to answer ∷ past) ≡ pending
+            → Holds config at (record slirp { number = slirp.number + 1; pending = pending }) (flowing false then_kept) link (Connect slirp.number to answer ∷ past)
+        connects answer then_kept pending fine lawful then_is owed =
+            let e = Connect slirp.number to answer in
+            record {
+              lawful = lawful;
+              allowed = (fine, comes.allowed);
+              keeps = keeps_by link e past tt refl refl refl comes.keeps;
+              answers = record { sent = comes.sent; pending = owed };
+              guests = guests_stay config slirp (record slirp { number = slirp.number + 1; pending = pending }) e past refl refl comes.guests;
+              relayed = record { list = comes.relayed.list; asks = comes.relayed.asks };
+              flows = record { holds = then_is.holds; settings = then_is.settings; unit = comes.unit };
+              sockets = record { number = ap (λ n. n + 1) comes.sockets.number; kinds = kinds_joined slirp.number to answer past comes.sockets.kinds };
+              clock = record { moment = comes.clock.moment; counted = comes.clock.counted };
+              stands = Turns (record { working = then_is.work.working; waited = comes.turn.waited });
+              agenda = comes.agenda;
+              open_yet = then_is.work.open_yet;
+            }
+
+        -- it connects: the flow begins
+        pub connected : (begun : Kept) (mac : Mac) → mac.0 ≡ c.on.mac → Allowed (Connect slirp.number to MadeDone)
+            → BeginsFlow slirp.moment slirp.number new begun c.on.tuple mac c.tcp → Holds config at (record slirp { number = slirp.number + 1 }) (flowing false begun) link (Connect slirp.number to MadeDone ∷ past)
+        connected begun mac is_its fine begins =
+            let then_is = begins config to past (record {
+              between = subst (λ n. Between config slirp.moment false (Some (CallConnect n to)) new past) comes.sockets.number due_is;
+              next = sym comes.sockets.number;
+              on = c.on;
+              came = came_is;
+              tuple = refl;
+              segment = comes.brings.segment;
+              learnt = subst (λ m. Contains (taught config past) (c.on.tuple.guest.addr, record { 0 = m })) (sym is_its) comes.learnt;
+            }) in
+            connects MadeDone begun slirp.pending fine then_is.lawful then_is (owed_none not_reset)
+
+        -- it doesn't: the guest gets a reset
+        pub unconnected_then : Allowed (Connect slirp.number to MadeFailed) → Holds config at (record slirp { number = slirp.number + 1; pending = reset_frames }) (flowing false new) link (Connect slirp.number to MadeFailed ∷ past)
+        unconnected_then fine =
+            let e = Connect slirp.number to MadeFailed in
+            connects MadeFailed new reset_frames fine (may, due_is.lawful)
+            (record {
+              holds = holds_quiet number_of mac_of (Following config slirp.moment) (Following config slirp.moment) config new.flows past e false (Some (CallConnect (next_number past) to)) refl (omega arith) refl (λ p story follows. follows) due_is.holds;
+              settings = due_is.settings;
+              lawful = (may, due_is.lawful);
+              work = record { working = due_is.work.working; errand = due_is.work.errand; open_yet = due_is.work.open_yet };
+              at = due_is.at;
+            })
+            (ap (λ o. unconnected config (identification past) o (left config past)) came_is
+            ∙ ap (λ i. frames_of config i (reset_for c.on ∷ [])) comes.sent
+            ∙ ap (λ k. frames_of k slirp.sent (reset_for c.on ∷ [])) (sym comes.guests.settings))

@@ -1,0 +1,378 @@
+-- Reads of the link, and what a frame brings.
+use Rattle.std.proofs.Common.{◌≡◌, ℕ, ◌<◌, ◌&&◌, not, Bool, true, false, List, [], ◌∷◌, ◌++◌, drop, Option, Some, None, option_map, if◌then◌else◌, refl, sym, ◌∙◌, ap, subst, arith}
+use Rattle.poll_list.specs.declared.Want.{Want}
+use Rattle.poll_list.specs.declared.Who.TheVariants.{Link as TheLink}
+use Rattle.net_octets.specs.declared.Ip4.{Ip4}
+use Rattle.net_octets.specs.declared.Mac.{Mac}
+use Rattle.world_face.specs.Journal.{Entry, AreAllowed, Follows, LinkRead, CallLinkRead}
+use Rattle.world_face.specs.declared.Io.TheVariants.{Done, End as IoEnd, NotYet as IoNotYet, Failed as IoFailed}
+use Rattle.world_face.specs.Frames.{Ending, MayFrame, partial, arrives, arrived, ending, tail, is_whole}
+use Rattle.world_face.proofs.Telling.{allowed_then}
+use Rattle.host_policy.specs.Addresses.{Config}
+use Rattle.ipv4_head.specs.Ip.{Ip}
+use Rattle.ipv4_head.specs.Sets.{PartSet, young}
+use Rattle.tcp_segment.specs.Tcp.{Tcp}
+use Rattle.flow_book.specs.Book.{book}
+use Rattle.flow_book.specs.Doings.{Nothing, Comes as ComesOn, comes, doing, doing_by}
+use Rattle.flow_book.specs.Segments.{OnTuple, from_guest, segment_by}
+use Rattle.run_laws.specs.Guests.{known, with_arrival}
+use Rattle.run_laws.specs.Happenings.{arrival_of, happens}
+use Rattle.run_laws.specs.Fragments.{fragment_in, sets, waiting, with_fragment, with_frame as waits_with}
+use Rattle.run_laws.specs.Moments.{moment, waits}
+use Rattle.run_laws.specs.Packets.{Packet, Unheard, ArpPacket, Message, DatagramPacket, Segment, packet_in}
+use Rattle.run_laws.specs.Shape.{Phase, Working, Over, By, phase, phase_after, is_working}
+use Rattle.slirp_laws.specs.Agenda.{agenda, all_wanted, behind, from, is_to_read, reads_on as goes_on_reading, wanted_of}
+use Rattle.slirp_laws.specs.Answers.{frames_of, identification, is_out, left, left_after, owed_for_packet, strays}
+use Rattle.slirp_laws.specs.Asking.{errand_after, errand_left, step_of}
+use Rattle.slirp_laws.specs.Datagrams.{Settled, errand_by_packet}
+use Rattle.slirp_laws.specs.Laws.{Lawful, May, is_closing, is_nothing, joins}
+use Rattle.run_laws.specs.Sockets.{next_number}
+use Rattle.spliced_flows.specs.Stands.{InWork}
+use Rattle.slirp_laws.specs.Relayed.{associations, step_for}
+use Rattle.slirp_laws.proofs.Deeds.{reads_on}
+use Rattle.stream_netdev.specs.Frames.{ended, Pieces, Reads}
+use Rattle.stream_netdev.specs.Keeps.{Keeps, ReadsFrame, hands, ending_of}
+use Rattle.stream_netdev.specs.State.{LinkState}
+use Rattle.stream_netdev.specs.declared.Arrived.{Arrived}
+use Rattle.slirp_core.specs.Fragments.{IsHeld}
+use Rattle.slirp_core.specs.Holds.{InTurn, IsLast, standing, Comes, Ended, Holds, HoldsAt, OfFlows, OfSockets, Turns, flowing}
+use Rattle.slirp_core.specs.Packets.{with_frame}
+use Rattle.slirp_core.specs.State.{SlirpState}
+use Rattle.slirp_core.specs.Waiting.{OfFragments}
+use Rattle.slirp_core.specs.Segments.{coming}
+use Rattle.slirp_core.proofs.Bridging.{teaches_same}
+use Rattle.slirp_core.proofs.Learning.{teaches_sender}
+use Rattle.flow_book.specs.Taught.{taught, taught_by, taught_pair}
+use Rattle.std.specs.Prelude.{Contains}
+use Rattle.slirp_core.proofs.Guests.{guests_learn}
+use Rattle.slirp_core.proofs.Parts.{behind_of, errand_for, from_of, reads_of, skipped, due_is, in_turn}
+use Rattle.slirp_core.proofs.Waitings.{fragments_stay, fragments_take}
+use Rattle.tcp_flows.specs.Kept.{Kept}
+use Rattle.slirp_core.proofs.Flows.{flows_stay}
+use Rattle.slirp_core.proofs.Open.{open_by}
+
+-- reads of a frame, before the last
+record Quiet (config : Config) (count : ℕ) (wants : List Want) (item : Want) (items : List Want) (slirp : SlirpState) (kept : Kept) (wait : List PartSet) (past : List Entry) : Type 0 where
+  turn : InTurn config past
+  reported : IsLast (all_wanted wants (item ∷ items)) (agenda past)
+  open_yet : is_closing config past ≡ false
+  sent_is : identification past ≡ slirp.sent
+  none : left config past ≡ []
+  out : tail past ≡ []
+  known_is : known config past ≡ slirp.known
+  counted : waits past ≡ count
+  list : associations config past ≡ slirp.associations
+  unasked : errand_left config past ≡ None
+  clock : moment past ≡ slirp.moment
+  fragments : OfFragments config slirp past
+  waits : waiting config past ≡ wait
+  flows : OfFlows config (flowing false kept) slirp.moment past
+  sockets : OfSockets slirp.number past
+
+module _ (config : Config) (count : ℕ) (wants : List Want) (item : Want) (items : List Want) (slirp : SlirpState) (kept : Kept) (wait : List PartSet) (reads_it : is_to_read TheLink (wanted_of wants item) ≡ true) where
+  -- a read may come, that asks for what is missing
+  may_read : (asked : ℕ) (past : List Entry) → MayFrame past (CallLinkRead asked) → Quiet config count wants item items slirp kept wait past → May config past (CallLinkRead asked)
+  may_read asked past framed q =
+      reads_on config past asked framed (due_is config past Settled q.turn.working q.flows.holds.asked (ap (step_of config past) q.unasked)) (ap is_working q.turn.working)
+      (reads_of TheLink (wanted_of wants item) (all_wanted wants items) (agenda past) reads_it q.reported)
+      (ap (λ t. is_nothing t && is_out (left config past)) q.out ∙ ap is_out q.none) q.open_yet
+
+  -- a frame that isn't handed over isn't whole
+  not_whole : (octets : List ℕ) → (if is_whole octets then Some (drop 4 octets) else None) ≡ None → is_whole octets ≡ false
+  not_whole octets = elim (is_whole octets) as (λ b. (if b then Some (drop 4 octets) else None) ≡ None → b ≡ false) [ true ↦ λ is. cc | false ↦ λ is. refl ]
+
+  quiet : (made past : List Entry) → Pieces made past → Follows MayFrame (made ++ past) → Quiet config count wants item items slirp kept wait past → Lawful config past
+      → Quiet config count wants item items slirp kept wait (made ++ past) × Lawful config (made ++ past)
+  quiet [] past pieces framed q lawful = (q, lawful)
+  quiet (LinkRead asked (Done n) octets ∷ made) past pieces framed q lawful =
+      let (before, so_far) = quiet made past pieces.3 framed.1 q lawful in
+      let e = LinkRead asked (Done n) octets in
+      let frame = pieces.1 in (
+        record {
+          turn = record { working = ap (λ o. phase_after e o (phase config (made ++ past))) pieces.2 ∙ before.turn.working; waited = before.turn.waited };
+          reported = subst (λ (b : Bool). IsLast (all_wanted wants (item ∷ items)) (if not b then from TheLink (agenda (made ++ past)) else behind TheLink (agenda (made ++ past))))
+              (sym (not_whole (partial (made ++ past) ++ octets) frame)) (from_of TheLink (wanted_of wants item) (all_wanted wants items) (agenda (made ++ past)) reads_it before.reported);
+          open_yet = before.open_yet;
+          sent_is = before.sent_is;
+          none = ap (λ o. left_after config (made ++ past) (happens config (made ++ past) e) (option_map (arrival_of config (moment (made ++ past)) (waiting config (made ++ past))) o) (left config (made ++ past))) frame ∙ before.none;
+          out = before.out;
+          known_is = ap (λ o. with_arrival (option_map (arrival_of config (moment (made ++ past)) (waiting config (made ++ past))) o) (known config (made ++ past))) frame ∙ before.known_is;
+          counted = before.counted;
+          list = before.list;
+          unasked = ap (λ o. errand_after config e (option_map (arrival_of config (moment (made ++ past)) (waiting config (made ++ past))) o) (errand_left config (made ++ past))) frame ∙ before.unasked;
+          clock = before.clock;
+          fragments = fragments_stay config slirp slirp e (made ++ past) frame refl before.fragments;
+          waits = ap (λ o. young (moment (made ++ past)) (waits_with config (moment (made ++ past)) o (sets config (made ++ past)))) frame ∙ before.waits;
+          flows = flows_stay config (flowing false kept) slirp.moment e (made ++ past) (ap (λ o. doing_by (option_map (arrival_of config (moment (made ++ past)) (waiting config (made ++ past))) o) None e) frame) (omega arith) refl before.flows;
+          sockets = record { number = before.sockets.number; kinds = before.sockets.kinds };
+        },
+        (may_read asked (made ++ past) framed.0 before, so_far),
+      )
+  quiet (LinkRead asked IoEnd octets ∷ made) past pieces framed q lawful = absurd pieces.0
+  quiet (LinkRead asked IoNotYet octets ∷ made) past pieces framed q lawful = absurd pieces.0
+  quiet (LinkRead asked IoFailed octets ∷ made) past pieces framed q lawful = absurd pieces.0
+  quiet (_ ∷ made) past pieces framed q lawful = absurd pieces.0
+
+-- where a run stands after these endings
+abbrev over_by : Option Ending → Phase
+over_by None = Working
+over_by (Some why) = Over (By why)
+
+-- the packet in a frame
+abbrev pub packet_of : Config → ℕ → List PartSet → Option (List ℕ) → Packet
+packet_of config now wait None = Unheard
+packet_of config now wait (Some frame) = packet_in config now wait frame
+
+-- where it is no segment, nothing of it strays
+pub strays_none : (config : Config) (b : Bool) (p : Packet) → segment_by p ≡ None → owed_for_packet config b p ≡ owed_for_packet config false p
+strays_none config b Unheard none = refl
+strays_none config b (ArpPacket arp) none = refl
+strays_none config b (Message mac ip message) none = refl
+strays_none config b (DatagramPacket d) none = refl
+strays_none config b (Segment mac ip tcp) none = cc
+
+-- and which fragments wait
+abbrev pub KeepsParts : Config → SlirpState → SlirpState → Option (List ℕ) → Type 0
+KeepsParts config slirp new None = new.parts ≡ slirp.parts
+KeepsParts config slirp new (Some frame) = (held : List PartSet) → IsHeld slirp.parts held → IsHeld new.parts (with_fragment slirp.moment (fragment_in config frame) held)
+
+-- the newest read, and what came before it
+record Newest (config : Config) (count : ℕ) (wants : List Want) (item : Want) (items : List Want) (slirp : SlirpState) (kept : Kept) (wait : List PartSet) (all : List Entry) : Type 0 where
+  e : Entry
+  before : List Entry
+  is : all ≡ e ∷ before
+  quiet_is : Quiet config count wants item items slirp kept wait before
+  lawful_before : Lawful config before
+  lawful : Lawful config all
+  phase_is : phase config all ≡ over_by (ended all)
+  waited : 0 < waits all
+  reported : IsLast (all_wanted wants items) (agenda all)
+  open_yet : is_closing config all ≡ false
+  sent_is : identification all ≡ slirp.sent
+  left_is : left config all ≡ frames_of config slirp.sent (owed_for_packet config (strays config (book config all) (packet_of config slirp.moment wait (arrived all))) (packet_of config slirp.moment wait (arrived all)))
+  known_is : known config all ≡ with_frame config (arrived all) slirp.known
+  counted : waits all ≡ count
+  list : associations config all ≡ slirp.associations
+  asks : errand_left config all ≡ errand_by_packet config (packet_of config slirp.moment wait (arrived all))
+  clock : moment all ≡ slirp.moment
+  fragments : (new : SlirpState) → KeepsParts config slirp new (arrived all) → OfFragments config new all
+  quiet_flows : segment_by (packet_of config slirp.moment wait (arrived all)) ≡ None → OfFlows config (flowing false kept) slirp.moment all
+  comes : (on : OnTuple) → segment_by (packet_of config slirp.moment wait (arrived all)) ≡ Some on → doing config before e ≡ ComesOn on
+  sockets : OfSockets slirp.number all
+  joins_same : (n : ℕ) → joins all n ≡ joins before n
+  taught_it : (mac : List ℕ) (ip : Ip) (tcp : Tcp) → packet_of config slirp.moment wait (arrived all) ≡ Segment mac ip tcp → Contains (taught config all) (record { 0 = ip.from }, record { 0 = mac })
+
+newest : (config : Config) (count : ℕ) (wants : List Want) (item : Want) (items : List Want) (slirp : SlirpState) (kept : Kept) (wait : List PartSet) → is_to_read TheLink (wanted_of wants item) ≡ true
+    → (made past : List Entry) → Reads made past → Follows MayFrame (made ++ past) → Quiet config count wants item items slirp kept wait past → Lawful config past → Newest config count wants item items slirp kept wait (made ++ past)
+newest config count wants item items slirp kept wait reads_it [] past reads framed q lawful = absurd reads
+newest config count wants item items slirp kept wait reads_it (LinkRead asked answer octets ∷ made) past reads framed q lawful =
+    let (quiet_before, so_far) = quiet config count wants item items slirp kept wait reads_it made past reads.1 framed.1 q lawful in
+    record {
+      e = LinkRead asked answer octets;
+      before = made ++ past;
+      is = refl;
+      quiet_is = quiet_before;
+      lawful_before = so_far;
+      lawful = (may_read config count wants item items slirp kept wait reads_it asked (made ++ past) framed.0 quiet_before, so_far);
+      phase_is = ap (phase_after (LinkRead asked answer octets) (ending (LinkRead asked answer octets) (partial (made ++ past)))) quiet_before.turn.working ∙ stands (ending (LinkRead asked answer octets) (partial (made ++ past)));
+      waited = quiet_before.turn.waited;
+      reported = passed (goes_on_reading answer (partial (made ++ past) ++ octets)) quiet_before.reported;
+      open_yet = quiet_before.open_yet;
+      sent_is = quiet_before.sent_is;
+      left_is = owes (arrives (LinkRead asked answer octets) (made ++ past)) quiet_before.none
+          ∙ (λ i. frames_of config (quiet_before.sent_is i) (owed_for_packet config (strays config (book config ((LinkRead asked answer octets) ∷ (made ++ past))) (packet_of config (quiet_before.clock i) (quiet_before.waits i) (arrives (LinkRead asked answer octets) (made ++ past))))
+          (packet_of config (quiet_before.clock i) (quiet_before.waits i) (arrives (LinkRead asked answer octets) (made ++ past)))));
+      known_is = teaches (arrives (LinkRead asked answer octets) (made ++ past)) (known config (made ++ past)) ∙ ap (with_frame config (arrives (LinkRead asked answer octets) (made ++ past))) quiet_before.known_is;
+      counted = quiet_before.counted;
+      list = quiet_before.list;
+      asks = sets_out (arrives (LinkRead asked answer octets) (made ++ past)) quiet_before.unasked ∙ (λ i. errand_by_packet config (packet_of config (quiet_before.clock i) (quiet_before.waits i) (arrives (LinkRead asked answer octets) (made ++ past))));
+      clock = quiet_before.clock;
+      fragments = λ new keeps. puts new (arrives (LinkRead asked answer octets) (made ++ past)) refl keeps quiet_before.clock quiet_before.fragments;
+      quiet_flows = λ none. flows_stay config (flowing false kept) slirp.moment (LinkRead asked answer octets) (made ++ past) (nothing (arrives (LinkRead asked answer octets) (made ++ past)) ((λ i. segment_by (packet_of config (quiet_before.clock i) (quiet_before.waits i) (arrives (LinkRead asked answer octets) (made ++ past)))) ∙ none)) (omega arith) refl quiet_before.flows;
+      comes = λ on came. something (arrives (LinkRead asked answer octets) (made ++ past)) on ((λ i. segment_by (packet_of config (quiet_before.clock i) (quiet_before.waits i) (arrives (LinkRead asked answer octets) (made ++ past)))) ∙ came);
+      sockets = record { number = quiet_before.sockets.number; kinds = quiet_before.sockets.kinds };
+      joins_same = λ n. refl;
+      taught_it = λ mac ip tcp is. teaches_all mac ip tcp (arrives (LinkRead asked answer octets) (made ++ past)) ((λ i. packet_of config (quiet_before.clock i) (quiet_before.waits i) (arrives (LinkRead asked answer octets) (made ++ past))) ∙ is);
+    }
+  where
+    passed : (on : Bool) → IsLast (all_wanted wants (item ∷ items)) (agenda (made ++ past)) → IsLast (all_wanted wants items) (if on then from TheLink (agenda (made ++ past)) else behind TheLink (agenda (made ++ past)))
+    passed true last = skipped (wanted_of wants item) (all_wanted wants items) (from TheLink (agenda (made ++ past))) (from_of TheLink (wanted_of wants item) (all_wanted wants items) (agenda (made ++ past)) reads_it last)
+    passed false last = behind_of TheLink (wanted_of wants item) (all_wanted wants items) (agenda (made ++ past)) reads_it last
+
+    stands : (o : Option Ending) → phase_after (LinkRead asked answer octets) o Working ≡ over_by o
+    stands None = refl
+    stands (Some why) = refl
+
+    teaches : (o : Option (List ℕ)) (pairs : List (Ip4 × Mac)) → with_arrival (option_map (arrival_of config (moment (made ++ past)) (waiting config (made ++ past))) o) pairs ≡ with_frame config o pairs
+    teaches None pairs = refl
+    teaches (Some frame) pairs = teaches_same config frame pairs
+
+    sets_out : (o : Option (List ℕ)) → errand_left config (made ++ past) ≡ None
+        → errand_after config (LinkRead asked answer octets) (option_map (arrival_of config (moment (made ++ past)) (waiting config (made ++ past))) o) (errand_left config (made ++ past)) ≡ errand_by_packet config (packet_of config (moment (made ++ past)) (waiting config (made ++ past)) o)
+    sets_out None is = is
+    sets_out (Some frame) is = refl
+
+    owes : (o : Option (List ℕ)) → left config (made ++ past) ≡ []
+        → left_after config (made ++ past) (happens config (made ++ past) (LinkRead asked answer octets)) (option_map (arrival_of config (moment (made ++ past)) (waiting config (made ++ past))) o) (left config (made ++ past))
+        ≡ frames_of config (identification (made ++ past)) (owed_for_packet config (strays config (book config ((LinkRead asked answer octets) ∷ (made ++ past))) (packet_of config (moment (made ++ past)) (waiting config (made ++ past)) o)) (packet_of config (moment (made ++ past)) (waiting config (made ++ past)) o))
+    owes None is = is
+    owes (Some frame) is = refl
+
+    nothing : (o : Option (List ℕ)) → segment_by (packet_of config (moment (made ++ past)) (waiting config (made ++ past)) o) ≡ None → doing_by (option_map (arrival_of config (moment (made ++ past)) (waiting config (made ++ past))) o) None (LinkRead asked answer octets) ≡ Nothing
+    nothing None none = refl
+    nothing (Some frame) none = ap comes none
+
+    something : (o : Option (List ℕ)) (on : OnTuple) → segment_by (packet_of config (moment (made ++ past)) (waiting config (made ++ past)) o) ≡ Some on → doing_by (option_map (arrival_of config (moment (made ++ past)) (waiting config (made ++ past))) o) None (LinkRead asked answer octets) ≡ ComesOn on
+    something None on came = cc
+    something (Some frame) on came = ap comes came
+
+    teaches_all : (mac : List ℕ) (ip : Ip) (tcp : Tcp) (o : Option (List ℕ)) → packet_of config (moment (made ++ past)) (waiting config (made ++ past)) o ≡ Segment mac ip tcp
+        → Contains (taught_by (option_map (arrival_of config (moment (made ++ past)) (waiting config (made ++ past))) o) (taught config (made ++ past))) (record { 0 = ip.from }, record { 0 = mac })
+    teaches_all mac ip tcp None is = cc
+    teaches_all mac ip tcp (Some frame) is =
+        subst (λ p. Contains (taught_pair p (taught config (made ++ past))) (record { 0 = ip.from }, record { 0 = mac })) (sym (teaches_sender config (moment (made ++ past)) (waiting config (made ++ past)) mac ip tcp frame is)) (0, omega arith, refl)
+
+    puts : (new : SlirpState) (o : Option (List ℕ)) → arrives (LinkRead asked answer octets) (made ++ past) ≡ o → KeepsParts config slirp new o → moment (made ++ past) ≡ slirp.moment → OfFragments config slirp (made ++ past) → OfFragments config new ((LinkRead asked answer octets) ∷ (made ++ past))
+    puts new None came keeps at was = fragments_stay config slirp new (LinkRead asked answer octets) (made ++ past) came keeps was
+    puts new (Some frame) came keeps at was = fragments_take config slirp new (LinkRead asked answer octets) (made ++ past) frame came refl (sym at) was (keeps was.held was.is_held)
+newest config count wants item items slirp kept wait reads_it (_ ∷ made) past reads framed q lawful = absurd reads.0
+
+module _ (config : Config) (count : ℕ) (wants : List Want) (item : Want) (items : List Want) (reads_it : is_to_read TheLink (wanted_of wants item) ≡ true)
+    (slirp : SlirpState) (kept : Kept) (old new : LinkState) (answer : Arrived) (no_packet : slirp.pending ≡ []) (out : old.tail ≡ [])
+    (made past : List Entry) (allowed : AreAllowed made) (read : (past : List Entry) → Keeps old past → Keeps new (made ++ past) × ReadsFrame answer new made past)
+    (holds : Holds config (standing count wants (item ∷ items)) slirp (flowing false kept) old past) where
+  reported_in_turn : InTurn config past
+  reported_in_turn = in_turn holds.stands (λ u. nothing_last (agenda past) u.unreported holds.agenda)
+    where
+      nothing_last : (all : List Want) → all ≡ [] → IsLast (all_wanted wants (item ∷ items)) all → ⊥
+      nothing_last all none ([], is) = cc (sym is ∙ none)
+      nothing_last all none ((x ∷ before), is) = cc (sym is ∙ none)
+
+  abbrev wait : List PartSet
+  wait = waiting config past
+
+  all : Newest config count wants item items slirp kept wait (made ++ past)
+  all =
+      let r = read past holds.keeps in
+      newest config count wants item items slirp kept wait reads_it made past r.1.reads r.0.framed (record {
+        turn = reported_in_turn;
+        reported = holds.agenda;
+        open_yet = holds.open_yet;
+        sent_is = holds.answers.sent;
+        none = holds.answers.pending ∙ no_packet;
+        out = holds.keeps.rest ∙ out;
+        known_is = holds.guests.known;
+        counted = holds.clock.counted;
+        list = holds.relayed.list;
+        unasked = errand_for config Settled slirp past holds.relayed;
+        clock = holds.clock.moment;
+        fragments = holds.guests.fragments;
+        waits = refl;
+        flows = holds.flows;
+        sockets = holds.sockets;
+      }) holds.lawful
+
+  -- the packet that came, if one did
+  abbrev pub packet : Packet
+  packet = packet_of config slirp.moment wait (hands answer new)
+
+  arrived_is : packet_of config slirp.moment wait (arrived (made ++ past)) ≡ packet
+  arrived_is = ap (packet_of config slirp.moment wait) (read past holds.keeps).1.frame
+
+  -- no segment of TCP: what it owes is owed from now on
+  pub read_on : (new_slirp : SlirpState) → ending_of answer ≡ None → KeepsParts config slirp new_slirp (hands answer new) → segment_by packet ≡ None
+      → new_slirp ≡ record slirp { pending = frames_of config slirp.sent (owed_for_packet config false packet); known = with_frame config (hands answer new) slirp.known; parts = new_slirp.parts }
+      → HoldsAt config (standing count wants items) (step_for slirp.associations (errand_by_packet config packet)) new_slirp (flowing false kept) new (made ++ past)
+  read_on new_slirp goes_on keeps none is =
+      let r = read past holds.keeps in
+      let then_is = record slirp { pending = frames_of config slirp.sent (owed_for_packet config false packet); known = with_frame config (hands answer new) slirp.known; parts = new_slirp.parts } in
+      let was = all.quiet_flows (ap segment_by arrived_is ∙ none) in
+      subst (λ (s : SlirpState). HoldsAt config (standing count wants items) (step_for slirp.associations (errand_by_packet config packet)) s (flowing false kept) new (made ++ past)) (sym is) (record {
+        lawful = all.lawful;
+        allowed = allowed_then made past allowed holds.allowed;
+        keeps = r.0;
+        answers = record {
+          sent = all.sent_is;
+          pending = all.left_is ∙ ap (λ p. frames_of config slirp.sent (owed_for_packet config (strays config (book config (made ++ past)) p) p)) arrived_is
+              ∙ ap (frames_of config slirp.sent) (strays_none config (strays config (book config (made ++ past)) packet) packet none);
+        };
+        guests = guests_learn config slirp then_is (hands answer new) (made ++ past) holds.guests.settings
+            (all.known_is ∙ ap (λ o. with_frame config o slirp.known) r.1.frame) refl refl (all.fragments then_is (subst (λ o. KeepsParts config slirp then_is o) (sym r.1.frame) (kept_as (hands answer new) new_slirp keeps)));
+        relayed = record { list = all.list; asks = ap (step_for slirp.associations) (all.asks ∙ ap (errand_by_packet config) arrived_is) };
+        flows = record { holds = was.holds; settings = was.settings; unit = was.unit };
+        sockets = all.sockets;
+        clock = record { moment = all.clock; counted = all.counted };
+        stands = Turns (record { working = all.phase_is ∙ ap over_by (r.1.last ∙ goes_on); waited = all.waited });
+        agenda = all.reported;
+        open_yet = all.open_yet;
+      })
+    where
+      kept_as : (o : Option (List ℕ)) (other : SlirpState) → KeepsParts config slirp other o
+          → KeepsParts config slirp (record slirp { pending = frames_of config slirp.sent (owed_for_packet config false packet); known = with_frame config (hands answer new) slirp.known; parts = other.parts }) o
+      kept_as None other keeps = keeps
+      kept_as (Some frame) other keeps = keeps
+
+  -- a segment of TCP, which is still to be heard
+  pub read_segment : (new_slirp : SlirpState) (mac : List ℕ) (ip : Ip) (tcp : Tcp) → ending_of answer ≡ None → KeepsParts config slirp new_slirp (hands answer new) → packet ≡ Segment mac ip tcp
+      → new_slirp ≡ record slirp { known = with_frame config (hands answer new) slirp.known; parts = new_slirp.parts }
+      → Comes config (standing count wants items) new_slirp kept new (coming mac ip tcp) (made ++ past)
+  read_segment new_slirp mac ip tcp goes_on keeps seg is =
+      let r = read past holds.keeps in
+      let then_is = record slirp { known = with_frame config (hands answer new) slirp.known; parts = new_slirp.parts } in
+      let on = from_guest mac ip tcp in
+      let q = all.quiet_is in
+      let lawful_then = subst (Lawful config) all.is all.lawful in
+      let work : phase config (made ++ past) ≡ Working = all.phase_is ∙ ap over_by (r.1.last ∙ goes_on) in
+      let unasked : errand_left config (made ++ past) ≡ None = all.asks ∙ ap (errand_by_packet config) (arrived_is ∙ seg) in
+      subst (λ (s : SlirpState). Comes config (standing count wants items) s kept new (coming mac ip tcp) (made ++ past)) (sym is) (record {
+        newest = all.e;
+        before = all.before;
+        is = all.is;
+        brings = record {
+          holds = q.flows.holds;
+          settings = q.flows.settings;
+          lawful_before = all.lawful_before;
+          lawful = lawful_then;
+          work = subst (InWork config) all.is (record { working = work; errand = unasked; open_yet = all.open_yet });
+          at_before = q.clock;
+          at = subst (λ l. moment l ≡ slirp.moment) all.is all.clock;
+          comes = all.comes on (ap segment_by (arrived_is ∙ seg));
+          tuple = refl;
+          segment = refl;
+          next = subst (λ l. next_number l ≡ slirp.number) all.is all.sockets.number ∙ sym q.sockets.number;
+          sockets = subst (λ l. (n : ℕ) → joins l n ≡ joins all.before n) all.is all.joins_same;
+        };
+        allowed = allowed_then made past allowed holds.allowed;
+        keeps = r.0;
+        sent = all.sent_is;
+        owed = all.left_is ∙ ap (λ p. frames_of config slirp.sent (owed_for_packet config (strays config (book config (made ++ past)) p) p)) (arrived_is ∙ seg);
+        none = no_packet;
+        guests = guests_learn config slirp then_is (hands answer new) (made ++ past) holds.guests.settings
+            (all.known_is ∙ ap (λ o. with_frame config o slirp.known) r.1.frame) refl refl (all.fragments then_is (subst (λ o. KeepsParts config slirp then_is o) (sym r.1.frame) (kept_as (hands answer new) new_slirp keeps)));
+        relayed = record { list = all.list; asks = ap (step_for slirp.associations) unasked };
+        learnt = all.taught_it mac ip tcp (arrived_is ∙ seg);
+        unit = holds.flows.unit;
+        sockets = all.sockets;
+        clock = record { moment = all.clock; counted = all.counted };
+        turn = record { working = work; waited = all.waited };
+        agenda = all.reported;
+      })
+    where
+      kept_as : (o : Option (List ℕ)) (other : SlirpState) → KeepsParts config slirp other o
+          → KeepsParts config slirp (record slirp { known = with_frame config (hands answer new) slirp.known; parts = other.parts }) o
+      kept_as None other keeps = keeps
+      kept_as (Some frame) other keeps = keeps
+
+  -- the run has ended
+  pub read_ends_it : (why : Ending) → ending_of answer ≡ Some why → hands answer new ≡ None → Ended config why slirp.associations kept.flows.parts (made ++ past)
+  read_ends_it why is none =
+      let r = read past holds.keeps in
+      let nothing : packet_of config slirp.moment wait (arrived (made ++ past)) ≡ Unheard = ap (packet_of config slirp.moment wait) (r.1.frame ∙ none) in
+      let flows = all.quiet_flows (ap segment_by nothing) in
+      record {
+        lawful = all.lawful;
+        over = all.phase_is ∙ ap over_by (r.1.last ∙ is);
+        errand = all.asks ∙ ap (errand_by_packet config) nothing;
+        idle = flows.holds.asked;
+        sockets = open_by config slirp.associations (flowing false kept) slirp.moment (made ++ past) all.lawful all.list flows.holds all.sockets.kinds;
+      }

@@ -1,0 +1,92 @@
+-- Waits, and the moment that is asked for after one.
+use Rattle.std.proofs.Common.{◌≡◌, ℕ, ◌+◌, ◌^◌, ◌<◌, ◌≤◌, nat_lt, min, max, true, false, List, [], ◌∷◌, Option, Some, None, refl, sym, ◌∙◌, ap, arith, if◌then◌else◌}
+use Rattle.std.proofs.lemmas.Bool.Decides.{nat_tests}
+use Rattle.poll_list.specs.Listing.{writes}
+use Rattle.poll_list.specs.declared.Want.{Want}
+use Rattle.poll_list.specs.declared.Who.TheVariants.{Link as TheLink}
+use Rattle.world_face.specs.Journal.{Entry, Allowed, Now, Wait}
+use Rattle.world_face.specs.declared.Waited.{Waited}
+use Rattle.world_face.specs.declared.Waited.TheVariants.{Ready}
+use Rattle.world_face.specs.Frames.{Ending, wait_ending}
+use Rattle.host_policy.specs.Addresses.{Config}
+use Rattle.run_laws.specs.Moments.{waits}
+use Rattle.run_laws.specs.Shape.{Started, Over, By, phase, phase_after, unless_over, may_turn}
+use Rattle.run_laws.specs.Sockets.{next_number}
+use Rattle.slirp_laws.specs.Datagrams.{Step, Settled, due_for}
+use Rattle.slirp_laws.specs.Laws.{Lawful, due}
+use Rattle.slirp_laws.proofs.Deeds.{asks, waits_now}
+use Rattle.stream_netdev.specs.State.{LinkState, under_way}
+use Rattle.slirp_core.specs.Holds.{after, standing, AreOpen, Begins, Ended, Holds, OfFlows, Stands, Turns, flowing}
+use Rattle.slirp_core.specs.State.{SlirpState}
+use Rattle.slirp_core.proofs.Guests.{guests_stay}
+use Rattle.slirp_core.proofs.Parts.{errand_for, asked_for, due_in_phase, due_is}
+use Rattle.tcp_flows.specs.Kept.{Kept}
+use Rattle.slirp_core.proofs.Flows.{flows_paused, flows_told}
+use Rattle.slirp_core.proofs.Open.{are_open}
+
+not_before : (told now : ℕ) → now ≤ max (min told (2 ^ 62)) now
+not_before told now = omega arith
+
+module _ (config : Config) (count : ℕ) (slirp : SlirpState) (kept : Kept) (old : LinkState) (past : List Entry) (wants : List Want) (timeout : Option ℕ)
+    (few : count < config.turns) (holds : Holds config (after count) slirp (flowing true kept) old past) where
+  -- a wait may begin a turn, the first or a later one
+  none_due : Stands config Settled slirp kept old past → due config past ≡ None
+  none_due (Turns turn) = due_is config past Settled turn.working holds.flows.holds.asked (asked_for config (after count) Settled slirp (flowing true kept) old past holds)
+  none_due (Begins unbegun free unrested shut) =
+      due_in_phase config past Started unbegun.started holds.flows.holds.asked
+      ∙ ap (λ (t : Step). due_for t (next_number past)) (asked_for config (after count) Settled slirp (flowing true kept) old past holds)
+
+  turns_on : Stands config Settled slirp kept old past → may_turn (phase config past) ≡ true
+  turns_on (Turns turn) = ap may_turn turn.working
+  turns_on (Begins unbegun free unrested shut) = ap may_turn unbegun.started
+
+  waits_on : nat_lt (waits past) config.turns ≡ true
+  waits_on = let counted : waits past ≡ count = holds.clock.counted in grind (arith, nat_tests, few, counted)
+
+  waited : (answer : Waited) (ready : List Want) → Lawful config (Wait wants timeout answer ready ∷ past)
+  waited answer ready = (
+    waits_now config past wants timeout (none_due holds.stands) (turns_on holds.stands) waits_on holds.open_yet,
+    holds.lawful,
+  )
+
+  ends : (why : Ending) → Stands config Settled slirp kept old past → unless_over (phase config past) why ≡ Over (By why)
+  ends why (Turns turn) = ap (λ p. unless_over p why) turn.working
+  ends why (Begins unbegun free unrested shut) = ap (λ p. unless_over p why) unbegun.started
+
+  flows_then : (answer : Waited) (ready : List Want) → OfFlows config (flowing false kept) slirp.moment (Wait wants timeout answer ready ∷ past)
+  flows_then answer ready = flows_paused config kept slirp.moment wants timeout answer ready past holds.flows
+
+  now_open : AreOpen slirp.associations kept.flows.parts past
+  now_open = are_open config (after count) Settled slirp (flowing true kept) old past holds
+
+  pub wait_ends_it : (answer : Waited) (ready : List Want) (why : Ending) → wait_ending answer ≡ Some why → Ended config why slirp.associations kept.flows.parts (Wait wants timeout answer ready ∷ past)
+  wait_ends_it answer ready why is = record {
+    lawful = waited answer ready;
+    over = ap (λ o. phase_after (Wait wants timeout answer ready) o (phase config past)) is ∙ ends why holds.stands;
+    errand = errand_for config Settled slirp past holds.relayed;
+    idle = (flows_then answer ready).holds.asked;
+    sockets = record { each = now_open.each; carry = now_open.carry; flow = now_open.flow; apart = now_open.apart };
+  }
+
+  pub wait_wakes : (ready : List Want) (told : ℕ) (new : LinkState) → Allowed (Wait wants timeout Ready ready) → Allowed (Now told) → under_way new ≡ under_way old → new.tail ≡ old.tail
+      → new.blocked ≡ (if writes TheLink ready then false else old.blocked)
+      → Holds config (standing (count + 1) wants ready) (record slirp { moment = max (min told (2 ^ 62)) slirp.moment }) (flowing false kept) new (Now told ∷ Wait wants timeout Ready ready ∷ past)
+  wait_wakes ready told new allowed_wait allowed_now same_in same_out free = record {
+    lawful = (asks config (Wait wants timeout Ready ready ∷ past) refl (flows_then Ready ready).holds.asked holds.open_yet, waited Ready ready);
+    allowed = (allowed_now, (allowed_wait, holds.allowed));
+    keeps = record {
+      framed = (tt, (tt, holds.keeps.framed));
+      partly = holds.keeps.partly ∙ sym same_in;
+      rest = holds.keeps.rest ∙ sym same_out;
+      blocked = ap (λ b. if writes TheLink ready then false else b) holds.keeps.blocked ∙ sym free;
+    };
+    answers = record { sent = holds.answers.sent; pending = holds.answers.pending };
+    guests = guests_stay config slirp (record slirp { moment = max (min told (2 ^ 62)) slirp.moment }) (Now told) (Wait wants timeout Ready ready ∷ past) refl refl (guests_stay config slirp slirp (Wait wants timeout Ready ready) past refl refl holds.guests);
+    relayed = record { list = holds.relayed.list; asks = holds.relayed.asks };
+    flows = flows_told config kept slirp.moment (max (min told (2 ^ 62)) slirp.moment) told (Wait wants timeout Ready ready ∷ past) (not_before told slirp.moment) (flows_then Ready ready);
+    sockets = record { number = holds.sockets.number; kinds = holds.sockets.kinds };
+    clock = record { moment = ap (max (min told (2 ^ 62))) holds.clock.moment; counted = ap (λ n. n + 1) holds.clock.counted };
+    stands = Turns (record { working = refl; waited = omega arith });
+    agenda = ([], refl);
+    open_yet = holds.open_yet;
+  }

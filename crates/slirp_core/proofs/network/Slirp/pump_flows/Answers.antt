@@ -1,0 +1,27 @@
+use Rattle.std.proofs.Common.{sym, ◌∙◌, ap, subst}
+use Rattle.world_face.specs.Tells.{Brings}
+use Rattle.slirp_core.specs.Holds.{AfterPump, Holds, flowing}
+use Rattle.slirp_core.specs.Pumps.{pumped_flows}
+use Rattle.slirp_core.specs.State.{SlirpState}
+use Rattle.slirp_core.proofs.Called.{after_put, pumped_so}
+use Rattle.slirp_core.proofs.Drawn.{drawn_stay}
+use Rattle.slirp_core.proofs.Telling.{brings_allowed}
+use Rattle.slirp_core.proofs.network.Slirp.pump_flows.Goals as goal
+
+pub returns-clause-makes : goal.returns-clause-makes
+returns-clause-makes g c config at aged =
+    let i = c.self.inside in
+    let slirp : SlirpState = record { config = i.policy; known = i.guests; sent = i.sent; pending = i.outgoing; moment = i.moment; number = i.number; associations = i.associations.list; parts = i.reasm; flows = i.flows } in
+    let new = c.pump-pumped.new.self in
+    let none = ap (λ (s : SlirpState). s.pending) c.self.view_is ∙ c.requires.out in
+    let result = c.pump-pumped.result in
+    subst (λ r. Brings (g.W.World.tells c.args.world.now) (g.W.World.tells c.pump-pumped.new.world) (Holds config at c.args.self.now (flowing aged c.args.self.now.flows) c.args.link.now) (AfterPump r config at (record slirp { sent = c.pump-pumped.new.ident; flows = new }) (flowing aged new) c.pump-pumped.new.link)) (sym c.pumped_flows.ensures)
+    (subst (λ (s : SlirpState). Brings (g.W.World.tells c.args.world.now) (g.W.World.tells c.pump-pumped.new.world) (Holds config at s (flowing aged s.flows) c.args.link.now) (AfterPump (pumped_flows result) config at (record slirp { sent = c.pump-pumped.new.ident; flows = new }) (flowing aged new) c.pump-pumped.new.link)) c.self.view_is
+    (brings_allowed c.pump-pumped.ensures.makes (λ made pumps allowed past holds.
+    after_put result config at (record slirp { sent = c.pump-pumped.new.ident }) new (flowing aged new) c.pump-pumped.new.link _
+    (pumped_so config at slirp aged i.flows new c.args.link.now c.pump-pumped.new.link past made c.pump-pumped.new.ident result none allowed pumps.0 pumps.1 holds))))
+
+pub invariant_of-self : goal.invariant_of-self
+invariant_of-self g c =
+    let i = c.self.inside in
+    (c.self.invariant.0, c.self.invariant.1, c.self.invariant.2, drawn_stay i.number i.flows c.pump-pumped.new.self c.pump-pumped.ensures.stays c.self.invariant.3)

@@ -1,0 +1,69 @@
+-- Segments of TCP as the core has them.
+use Rattle.std.specs.Prelude.{ℕ, ◌≤◌, ◌==◌, List, length, Option, Some, None, option_map, if◌then◌else◌}
+use Rattle.std.specs.Option.{option_and_then}
+use Rattle.net_octets.specs.Kinds.{ipv4_kind}
+use Rattle.host_policy.specs.Addresses.{Config}
+use Rattle.ether_frame.specs.Ether.{Ether, read_ether}
+use Rattle.ipv4_head.specs.Ip.{Ip, read_ip}
+use Rattle.ipv4_head.specs.Sets.{PartSet}
+use Rattle.tcp_segment.specs.Tcp.{Tcp, read_tcp, tcp_of}
+use Rattle.flow_book.specs.Lots.{Lot, Dropped, AsksFor, Strange}
+use Rattle.flow_book.specs.Segments.{OnTuple, from_guest, segment_of}
+use Rattle.run_laws.specs.Fragments.{arrived}
+use Rattle.run_laws.specs.Packets.{Packet, Segment}
+use Rattle.slirp_laws.specs.Datagrams.{Errand}
+use Rattle.slirp_core.specs.Datagrams.{FitsErrand, errand_of}
+use Rattle.slirp_core.specs.Packets.{is_segment}
+use Rattle.slirp_core.specs.declared.tcp.SegmentView.{SegmentView}
+use Rattle.slirp_core.specs.declared.tcp.StrayLot.{StrayLot}
+use Rattle.slirp_core.specs.declared.tcp.StrayLot.TheVariants.{Dropped as SeenDropped, Reset, Connects}
+use Rattle.slirp_core.specs.declared.tcp.Task.{Task}
+use Rattle.slirp_core.specs.declared.tcp.Task.TheVariants.{Errand as AnErrand, Segment as ASegment}
+
+-- a guest's segment: between which ends it goes, from which hardware address its frame came, and what it holds
+pub record Coming : Type 0 where
+  pub on : OnTuple
+  pub tcp : Tcp
+
+abbrev pub coming : List ℕ → Ip → Tcp → Coming
+coming mac ip tcp = record { on = from_guest mac ip tcp; tcp = tcp }
+
+abbrev pub coming_of : SegmentView → Coming
+coming_of s = record { on = record { mac = s.mac.0; tuple = s.ends; segment = segment_of (tcp_of s.segment) }; tcp = tcp_of s.segment }
+
+-- the segment of a packet, and that which a whole datagram holds
+abbrev pub coming_by : Packet → Option Coming
+coming_by (Segment mac ip tcp) = Some (coming mac ip tcp)
+coming_by _ = None
+
+abbrev pub segment_of_ip : Config → List ℕ → Ip → Option Coming
+segment_of_ip config mac ip = if is_segment config ip then option_map (coming mac ip) (read_tcp ip.from ip.to ip.body) else None
+
+-- the same of what arrives by a frame at this moment, while these sets wait
+abbrev pub segment_of_arrived : Config → ℕ → List PartSet → List ℕ → List ℕ → Ip → Option Coming
+segment_of_arrived config now waiting mac octets ip = option_and_then (segment_of_ip config mac) (arrived config now waiting octets ip)
+
+abbrev pub segment_of_ether : Config → ℕ → List PartSet → Ether → Option Coming
+segment_of_ether config now waiting ether = if ether.kind == ipv4_kind then option_and_then (segment_of_arrived config now waiting ether.from ether.body) (read_ip ether.body) else None
+
+abbrev pub segment_in : Config → ℕ → List PartSet → List ℕ → Option Coming
+segment_in config now waiting frame = option_and_then (segment_of_ether config now waiting) (read_ether frame)
+
+-- what a frame asks for beyond its answers: that a datagram goes out, or that a segment is heard
+abbrev pub errand_for : Task → Option Errand
+errand_for (AnErrand e) = Some (errand_of e)
+errand_for (ASegment s) = None
+
+abbrev pub segment_for : Task → Option Coming
+segment_for (AnErrand e) = None
+segment_for (ASegment s) = Some (coming_of s)
+
+abbrev pub FitsTask : Task → Type 0
+FitsTask (AnErrand e) = FitsErrand e
+FitsTask (ASegment s) = length s.segment.body.now ≤ 65515
+
+-- what becomes of a segment without a flow
+abbrev pub lot_of : StrayLot → Lot
+lot_of SeenDropped = Dropped
+lot_of Reset = Strange
+lot_of (Connects to) = AsksFor to

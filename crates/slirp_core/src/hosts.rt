@@ -1,0 +1,50 @@
+// What the host reports of the sockets of flows, and the octets that wait for it.
+ghost use Rattle.std.specs.Prelude.{◌≡◌, List, ◌∷◌, ◌++◌, min, take, drop, length, IfSome, IfNone, Bool, true, false};
+
+use crate::network::Slirp;
+use world_face::World;
+
+impl Slirp {
+    ghost use Rattle.flow_splice.specs.Hosts.{PassesEnd, is_for_reading, is_for_writing, some_is};
+    ghost use Rattle.flow_splice.specs.Splice.{Splice};
+    ghost use Rattle.flow_splice.specs.Wants.{reads, writes};
+    ghost use Rattle.host_policy.specs.Addresses.{Config};
+    ghost use Rattle.poll_list.specs.declared.Want.{Want as AnItem};
+    ghost use Rattle.poll_list.specs.declared.Who.TheVariants.{Tcp};
+    ghost use Rattle.slirp_laws.specs.Agenda.{wanted_of};
+    ghost use Rattle.slirp_core.specs.Counts.{AreGrown};
+    ghost use Rattle.slirp_core.specs.Holds.{Holds, flowing, standing};
+    ghost use Rattle.stream_netdev.specs.State.{LinkState};
+    ghost use Rattle.tcp_flows.specs.Reading.{HasSocket, IsUnserved, NoneOpen};
+    ghost use Rattle.world_face.specs.Tells.{Brings, Makes};
+    ghost use Rattle.std.specs.Prelude.{ℕ};
+
+    /// The socket of a flow was reported ready in these directions, which were wanted: its flow is told, once a turn.
+    pub fn take_report<W: World>(&mut self, world: &mut W, number: u64, read: bool, write: bool)
+        ensures makes { (config : Config) (count : ℕ) (wants : List AnItem) (item : AnItem) (items : List AnItem) (link : LinkState)
+            → wanted_of wants item ≡ record { of = Tcp number; read = read; write = write } → Brings (W.tells world.old) (W.tells world.new)
+            (Holds config (standing count wants (item ∷ items)) self.old (flowing false self.old.flows) link) (Holds config (standing count wants items) self.new (flowing false self.new.flows) link) }
+        // A direction that was reported is served, if the socket wasn't served in this turn.
+        ensures serves_writing { (k : ℕ) (p : Splice) → IsUnserved self.old.flows number k p → write ≡ true → writes p ≡ true
+            → Makes (W.tells world.old) (W.tells world.new) (λ made. some_is is_for_writing made ≡ true) }
+        ensures serves_reading { (k : ℕ) (p : Splice) → IsUnserved self.old.flows number k p → read ≡ true → write ≡ false → reads p ≡ true
+            → Makes (W.tells world.old) (W.tells world.new) (λ made. some_is is_for_reading made ≡ true) }
+        ensures counts { AreGrown (W.tells world.old).faults (W.tells world.new).faults }
+        ensures others { self.new ≡ record self.old { flows = self.new.flows } }
+        ensures turn { self.new.flows.turn ≡ self.old.flows.turn }
+    {
+        self.flows
+            .host_ready(world, self.moment, number, read, write);
+    }
+
+    /// Copies the octets of the guest that the host didn't take yet from the flow of a socket to the start of `into`, the oldest first, as many as fit, and
+    /// answers how many. `None` exactly where no flow's open socket has the number.
+    pub fn held(&self, number: u64, into: &mut [u8]) -> Option<usize>
+        ensures none { IfNone result (NoneOpen number self.now.flows.flows.parts) }
+        ensures held { IfSome result (λ count. HasSocket number self.now.flows.flows.parts (λ p. (count ≡ min (length into.old) (length p.up.held))
+            × (into.new ≡ take count p.up.held ++ drop count into.old))) }
+        ensures unchanged { IfNone result (into.new ≡ into.old) }
+    {
+        self.flows.held(number, into)
+    }
+}
