@@ -1,9 +1,9 @@
 -- Two calls, calls after one, and a call among others.
 use Rattle.std.proofs.Common.{refl, ◌≡◌, List, [], ◌∷◌, ◌++◌, Bool, true, false, ◌||◌, subst, sym}
-use Rattle.world_face.specs.Journal.{Allowed, Entry}
+use Rattle.world_face.specs.Journal.{Allowed, Close, Entry, TcpRead}
 use Rattle.world_face.specs.Tells.{Answers, Makes, Telling}
 use Rattle.world_face.proofs.Telling.{makes_next, makes_one, makes_then}
-use Rattle.flow_splice.specs.Hosts.{some_is}
+use Rattle.flow_splice.specs.Hosts.{is_for_reading, reads_or_shuts, some_is}
 
 pub two_calls : (a b c : Telling) (first second : Entry) (Q : List Entry → Type 0) → Answers a b first → Answers b c second → (Allowed first → Allowed second → Q (second ∷ first ∷ [])) → Makes a c Q
 two_calls a b c first second Q one two here =
@@ -15,11 +15,36 @@ calls_after a b c first P Q one more here =
     makes_then a b c (λ made. made ≡ first ∷ []) P Q (makes_one a b first (λ made. made ≡ first ∷ []) one (λ allowed. refl)) more
     (λ some made is holds. subst (λ (es : List Entry). Q (made ++ es)) (sym is) (here made holds))
 
+pub or_first : (a b : Bool) → a ≡ true → (a || b) ≡ true
+or_first true b so = refl
+or_first false b so = absurd cc
+
+pub or_last : (a b : Bool) → b ≡ true → (a || b) ≡ true
+or_last true b so = refl
+or_last false b so = so
+
 -- a call of a kind is one of those that were made, whatever is made later
 pub still_is : (is : Entry → Bool) (second first : List Entry) → some_is is first ≡ true → some_is is (second ++ first) ≡ true
 still_is is [] first so = so
 still_is is (e ∷ second) first so = or_last (is e) (some_is is (second ++ first)) (still_is is second first so)
+
+-- or whatever was made before
+pub is_already : (is : Entry → Bool) (second first : List Entry) → some_is is second ≡ true → some_is is (second ++ first) ≡ true
+is_already is [] first so = absurd cc
+is_already is (e ∷ second) first so = by (is e) (λ later. is_already is second first later) so
   where
-    or_last : (a b : Bool) → b ≡ true → (a || b) ≡ true
-    or_last true b so = refl
-    or_last false b so = so
+    by : (b : Bool) → (some_is is second ≡ true → some_is is (second ++ first) ≡ true) → (b || some_is is second) ≡ true → (b || some_is is (second ++ first)) ≡ true
+    by true behind so = refl
+    by false behind so = behind so
+
+-- the same beside something else
+pub or_already : (b : Bool) (is : Entry → Bool) (second first : List Entry) → (b || some_is is second) ≡ true → (b || some_is is (second ++ first)) ≡ true
+or_already true is second first so = refl
+or_already false is second first so = is_already is second first so
+
+-- a read is a read or a close
+pub reads_at_least : (made : List Entry) → some_is is_for_reading made ≡ true → some_is reads_or_shuts made ≡ true
+reads_at_least [] so = so
+reads_at_least (TcpRead socket asked answer octets ∷ made) so = refl
+reads_at_least (Close socket ∷ made) so = refl
+reads_at_least (e ∷ made) so = or_last (reads_or_shuts e) (some_is reads_or_shuts made) (reads_at_least made so)

@@ -1,10 +1,11 @@
 -- The calls on the host's socket, one by one.
-use Rattle.std.proofs.Common.{refl, ◌≡◌, ℕ, ◌-◌, ◌<◌, ◌≤◌, List, [], ◌∷◌, ◌++◌, length, take, min, Bool, true, false, not, ◌&&◌, nat_lt, if◌then◌else◌, length-append, arith, ap, subst, sym, ◌∙◌}
+use Rattle.std.proofs.Common.{refl, ◌≡◌, ℕ, ◌-◌, ◌<◌, ◌≤◌, List, [], ◌∷◌, ◌++◌, length, take, min, Bool, true, false, not, ◌&&◌, ◌||◌, nat_lt, if◌then◌else◌, length-append, arith, ap, subst, sym, ◌∙◌}
 use Rattle.std.proofs.lemmas.Bool.Decides.{nat_tests}
 use Rattle.world_face.specs.Journal.{Entry, Connected, TcpRead, TcpWrite, TcpEnd, Close, count_of}
 use Rattle.world_face.specs.declared.Io.{Io}
 use Rattle.world_face.specs.declared.Io.TheVariants.{Done, End, NotYet, Failed}
 use Rattle.world_face.specs.declared.Joined.TheVariants.{Yes, NotYet as NotJoined, Failed as JoinFailed}
+use Rattle.world_face.specs.declared.Made.{Made}
 use Rattle.world_face.specs.declared.Made.TheVariants.{Done as MadeDone, Failed as MadeFailed}
 use Rattle.tcp_guest.specs.Connection.{Connection, HasBuffers, is_opening, is_synchronized}
 use Rattle.tcp_guest.specs.Hosts.{connected_by, host_ended, is_open as is_host_open, reset, write_ended}
@@ -24,10 +25,11 @@ use Rattle.connection_steps.proofs.Reading.{reads, reads_end, unsent_end}
 use Rattle.connection_steps.proofs.Wanting.{asks_for_all_room}
 use Rattle.connection_steps.proofs.Writing.{ends_host, writes}
 use Rattle.flow_splice.specs.Follows.{Follows, IsOpen}
-use Rattle.flow_splice.specs.Hosts.{Sees, ends as ends_by, given, gives_octets}
+use Rattle.flow_splice.specs.Hosts.{Sees, ends as ends_by, given, gives_octets, reads_or_shuts, some_is}
 use Rattle.flow_splice.specs.Serves.{GoesOn}
 use Rattle.flow_splice.specs.Splice.{Splice, closed, is_open}
-use Rattle.flow_splice.specs.Wants.{may_end, may_read, owes_octets}
+use Rattle.flow_splice.specs.Wants.{may_end, may_read, owes_octets, reads as reads_by}
+use Rattle.flow_splice.proofs.Calls.{or_last}
 use Rattle.flow_splice.proofs.Opened.{goes_on, open_follows, open_is}
 use Rattle.flow_splice.proofs.Shutting.{done_follows, finished_cause, reset_follows, settled_same}
 
@@ -291,3 +293,22 @@ module _ (f : Splice) (now : ℕ) (open_yet : is_open f ≡ true) where
           follows = reset_follows s f past (At now ReadFails ∷ past) before now false ended known o refl
               (read_fails_closes s f.conn f.up f.down past before now on o.holds known ended yet);
         }
+
+-- the host was told the guest's end: its socket is closed, or reading goes on
+pub told_reads : (b : Bool) (f x new : Splice) (now : ℕ) (made : List Entry) (socket : ℕ) (answer : Made) → x ≡ record f { conn = settled (write_ended f.conn); told_end = true }
+    → b ≡ ends_by (settling (write_ended f.conn)) → Sees b x new now made → reads_by f ≡ true → (reads_by new || some_is reads_or_shuts (made ++ (TcpEnd socket answer ∷ []))) ≡ true
+told_reads true f x new now made socket answer is b sees reading =
+    or_last (reads_by new) (some_is reads_or_shuts (made ++ (TcpEnd socket answer ∷ []))) (ap (λ (es : List Entry). some_is reads_or_shuts (es ++ (TcpEnd socket answer ∷ []))) sees.0)
+told_reads false f x new now made socket answer is b sees reading =
+    let same : settled (write_ended f.conn) ≡ write_ended f.conn = settled_same (write_ended f.conn) (is_unfinished (write_ended f.conn) (sym b)) in
+    let stays : new ≡ record f { conn = write_ended f.conn; told_end = true } = sees.1 ∙ is ∙ ap (λ (c : Connection). record f { conn = c; told_end = true }) same in
+    ap (λ (now_is : Bool). now_is || some_is reads_or_shuts (made ++ (TcpEnd socket answer ∷ []))) (ap reads_by stays ∙ reading)
+
+-- what connects isn't read
+pub connects_unread : (f : Splice) → is_connects f.conn.stage ≡ true → reads_by f ≡ true → ⊥
+connects_unread f connects reading = by (is_open f) (is_connects f.conn.stage) (is_host_open f.conn.transmission.end) (nat_lt 0 (f.down.size - length f.down.octets)) connects reading
+  where
+    by : (a b c d : Bool) → b ≡ true → (a && (not b && c && d)) ≡ true → ⊥
+    by true true c d is so = cc
+    by true false c d is so = cc
+    by false b c d is so = cc

@@ -1,5 +1,5 @@
 -- Which calls are made, and in what order.
-use Rattle.std.proofs.Common.{refl, ◌≡◌, ℕ, List, [], ◌∷◌, ◌++◌, Bool, true, false, ◌&&◌, ◌||◌, ap, subst, sym, ◌∙◌, inl, inr, ◌⊎◌}
+use Rattle.std.proofs.Common.{refl, ◌≡◌, ℕ, List, [], ◌∷◌, ◌++◌, Bool, true, false, ◌&&◌, ap, subst, sym, ◌∙◌, inl, inr, ◌⊎◌}
 use Rattle.world_face.specs.Journal.{Close, Entry, LinkWrite, TcpEnd, TcpWrite}
 use Rattle.world_face.specs.declared.Io.{Io}
 use Rattle.world_face.specs.declared.Io.TheVariants.{Done, End, NotYet, Failed as IoFailed}
@@ -14,6 +14,7 @@ use Rattle.flow_splice.specs.Shapes.{IsHostWork, IsPumpWork, are_sending, asks_o
 use Rattle.flow_splice.specs.Splice.{Splice}
 use Rattle.flow_splice.specs.declared.Pumped.{Pumped}
 use Rattle.flow_splice.specs.declared.Pumped.TheVariants.{Clear, Blocked as PumpBlocked, Failed as PumpFailed}
+use Rattle.flow_splice.proofs.Calls.{or_first, or_last}
 use Rattle.flow_splice.proofs.Marking.{marks_stay}
 
 both : (p q : Bool) → (p && q) ≡ true → (p ≡ true) × (q ≡ true)
@@ -23,13 +24,6 @@ both false q is = absurd cc
 
 and : (p q : Bool) → p ≡ true → q ≡ true → (p && q) ≡ true
 and p q p_is q_is = rw (p_is, q_is) refl
-
-or_first : (p q : Bool) → p ≡ true → (p || q) ≡ true
-or_first p q p_is = rw p_is refl
-
-or_last : (p q : Bool) → q ≡ true → (p || q) ≡ true
-or_last true q q_is = refl
-or_last false q q_is = q_is
 
 -- ---- a change of the connection
 

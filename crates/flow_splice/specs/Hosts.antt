@@ -71,6 +71,12 @@ abbrev pub is_for_reading : Entry → Bool
 is_for_reading (TcpRead socket asked answer octets) = true
 is_for_reading _ = false
 
+-- a socket is read, or one is closed
+abbrev pub reads_or_shuts : Entry → Bool
+reads_or_shuts (TcpRead socket asked answer octets) = true
+reads_or_shuts (Close socket) = true
+reads_or_shuts _ = false
+
 -- one of these entries is such a call
 abbrev pub some_is : (Entry → Bool) → List Entry → Bool
 some_is is [] = false

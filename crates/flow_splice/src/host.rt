@@ -1,5 +1,5 @@
 // The calls on the host's socket: whether it connected, what it takes, and what it gives.
-ghost use Rattle.std.specs.Prelude.{◌≡◌, ℕ, ◌+◌, ◌-◌, ◌^◌, ◌<◌, ◌≤◌, List, ◌∷◌, [], length, take, min, nat_lt, true, false};
+ghost use Rattle.std.specs.Prelude.{◌≡◌, ℕ, ◌+◌, ◌-◌, ◌^◌, ◌<◌, ◌≤◌, ◌||◌, List, ◌∷◌, [], length, take, min, nat_lt, true, false};
 ghost use Rattle.sock_buffers.specs.Upward.{Upward};
 ghost use Rattle.tcp_guest.specs.Connection.{HasBuffers};
 ghost use Rattle.tcp_guest.specs.Hosts.{connected_by, host_ended, is_open as is_host_open, reset, write_ended};
@@ -19,7 +19,7 @@ use world_face::{Io, Joined, Made, World};
 impl Spliced {
     ghost use Rattle.flow_splice.specs.Splice.{closed, is_open as is_open_by};
     ghost use Rattle.flow_splice.specs.Serves.{GoesOn};
-    ghost use Rattle.flow_splice.specs.Hosts.{IsAsOld, PassesEnd, is_for_reading, is_for_writing, some_is};
+    ghost use Rattle.flow_splice.specs.Hosts.{IsAsOld, PassesEnd, is_for_reading, is_for_writing, reads_or_shuts, some_is};
     ghost use Rattle.flow_splice.specs.Shapes.{IsHostWork, is_ending, is_reading, is_writing};
     ghost use Rattle.flow_splice.specs.Wants.{may_end, owes_octets as owes_octets_by, reads, writes};
 
@@ -36,8 +36,9 @@ impl Spliced {
         // A direction that was reported is served.
         ensures serves_writing { write ≡ true → writes self.old ≡ true
             → Makes (W.tells world.old) (W.tells world.new) (λ made. some_is is_for_writing made ≡ true) }
-        ensures serves_reading { read ≡ true → write ≡ false → reads self.old ≡ true
-            → Makes (W.tells world.old) (W.tells world.new) (λ made. some_is is_for_reading made ≡ true) }
+        // For reading, unless a call for writing closed the socket before it.
+        ensures serves_reading { read ≡ true → reads self.old ≡ true
+            → Makes (W.tells world.old) (W.tells world.new) (λ made. some_is reads_or_shuts made ≡ true) }
         // After a report for writing the guest's end isn't held back in a flow that had connected.
         ensures passes_end { write ≡ true → is_connects self.old.conn.stage ≡ false → PassesEnd self.new }
         ensures closed { is_open_by self.old ≡ false → self.new ≡ self.old }
@@ -54,6 +55,7 @@ impl Spliced {
         ensures up { self.new.up.written ≤ self.old.up.written + 16384 }
         ensures down { self.new.down ≡ self.old.down }
         ensures serves { ready ≡ true → writes self.old ≡ true → Makes (W.tells world.old) (W.tells world.new) (λ made. some_is is_for_writing made ≡ true) }
+        ensures still_reads { reads self.old ≡ true → Makes (W.tells world.old) (W.tells world.new) (λ made. reads self.new || some_is reads_or_shuts made ≡ true) }
         ensures idle { ready ≡ false → (self.new ≡ self.old) × (W.tells world.new ≡ W.tells world.old) }
         ensures passes_end { ready ≡ true → is_connects self.old.conn.stage ≡ false → PassesEnd self.new }
         ensures closed { is_open_by self.old ≡ false → self.new ≡ self.old }
@@ -155,6 +157,7 @@ impl Spliced {
         ensures up { self.new.up.written ≤ self.old.up.written + 16384 }
         ensures down { self.new.down ≡ self.old.down }
         ensures serves { Makes (W.tells world.old) (W.tells world.new) (λ made. some_is is_for_writing made ≡ true) }
+        ensures still_reads { reads self.old ≡ true → Makes (W.tells world.old) (W.tells world.new) (λ made. reads self.new || some_is reads_or_shuts made ≡ true) }
         ensures passes_end { PassesEnd self.new }
     {
         match self.offer(world) {
@@ -186,6 +189,7 @@ impl Spliced {
         ensures same { IsAsOld self.old self.new }
         ensures up { self.new.up ≡ self.old.up }
         ensures down { self.new.down ≡ self.old.down }
+        ensures still_reads { reads self.old ≡ true → Makes (W.tells world.old) (W.tells world.new) (λ made. reads self.new || some_is reads_or_shuts made ≡ true) }
         ensures passes_end { PassesEnd self.new }
     {
         if !self.owes_octets() && self.owes_end() {
@@ -205,6 +209,7 @@ impl Spliced {
         ensures up { self.new.up ≡ self.old.up }
         ensures down { self.new.down ≡ self.old.down }
         ensures serves { Makes (W.tells world.old) (W.tells world.new) (λ made. some_is is_for_writing made ≡ true) }
+        ensures still_reads { reads self.old ≡ true → Makes (W.tells world.old) (W.tells world.new) (λ made. reads self.new || some_is reads_or_shuts made ≡ true) }
         ensures passes_end { PassesEnd self.new }
     {
         match self.offer_end(world) {

@@ -5,7 +5,7 @@ use crate::network::Slirp;
 use world_face::World;
 
 impl Slirp {
-    ghost use Rattle.flow_splice.specs.Hosts.{PassesEnd, is_for_reading, is_for_writing, some_is};
+    ghost use Rattle.flow_splice.specs.Hosts.{PassesEnd, is_for_writing, reads_or_shuts, some_is};
     ghost use Rattle.flow_splice.specs.Splice.{Splice};
     ghost use Rattle.flow_splice.specs.Wants.{reads, writes};
     ghost use Rattle.host_policy.specs.Addresses.{Config};
@@ -24,11 +24,11 @@ impl Slirp {
         ensures makes { (config : Config) (count : ℕ) (wants : List AnItem) (item : AnItem) (items : List AnItem) (link : LinkState)
             → wanted_of wants item ≡ record { of = Tcp number; read = read; write = write } → Brings (W.tells world.old) (W.tells world.new)
             (Holds config (standing count wants (item ∷ items)) self.old (flowing false self.old.flows) link) (Holds config (standing count wants items) self.new (flowing false self.new.flows) link) }
-        // A direction that was reported is served, if the socket wasn't served in this turn.
+        // A direction that was reported is served, if the socket wasn't served in this turn. Reading is, unless a call for writing closed the socket before it.
         ensures serves_writing { (k : ℕ) (p : Splice) → IsUnserved self.old.flows number k p → write ≡ true → writes p ≡ true
             → Makes (W.tells world.old) (W.tells world.new) (λ made. some_is is_for_writing made ≡ true) }
-        ensures serves_reading { (k : ℕ) (p : Splice) → IsUnserved self.old.flows number k p → read ≡ true → write ≡ false → reads p ≡ true
-            → Makes (W.tells world.old) (W.tells world.new) (λ made. some_is is_for_reading made ≡ true) }
+        ensures serves_reading { (k : ℕ) (p : Splice) → IsUnserved self.old.flows number k p → read ≡ true → reads p ≡ true
+            → Makes (W.tells world.old) (W.tells world.new) (λ made. some_is reads_or_shuts made ≡ true) }
         ensures counts { AreGrown (W.tells world.old).faults (W.tells world.new).faults }
         ensures others { self.new ≡ record self.old { flows = self.new.flows } }
         ensures turn { self.new.flows.turn ≡ self.old.flows.turn }

@@ -9,7 +9,7 @@ use world_face::World;
 
 impl TcpFlows {
     ghost use Rattle.connection_steps.specs.Holding.{is_connects};
-    ghost use Rattle.flow_splice.specs.Hosts.{PassesEnd, is_for_reading, is_for_writing, some_is};
+    ghost use Rattle.flow_splice.specs.Hosts.{PassesEnd, is_for_writing, reads_or_shuts, some_is};
     ghost use Rattle.flow_splice.specs.Wants.{connect_end, reads, writes};
     ghost use Rattle.flow_splice.specs.Shapes.{IsHostWork};
     ghost use Rattle.spliced_flows.specs.Core.{number_of};
@@ -33,11 +33,11 @@ impl TcpFlows {
         requires now { now ≤ 2 ^ 62 }
         ensures makes { Makes (W.tells world.old) (W.tells world.new) (λ made. Reports now number read write self.old self.new made × IsHostWork read write made) }
         ensures none { NoneOpen number self.old.flows.parts → (self.new ≡ self.old) × (W.tells world.new ≡ W.tells world.old) }
-        // A direction that was reported is served, if the socket wasn't served in this turn.
+        // A direction that was reported is served, if the socket wasn't served in this turn. Reading is, unless a call for writing closed the socket before it.
         ensures serves_writing { (k : ℕ) (p : Splice) → IsUnserved self.old number k p → write ≡ true → writes p ≡ true
             → Makes (W.tells world.old) (W.tells world.new) (λ made. some_is is_for_writing made ≡ true) }
-        ensures serves_reading { (k : ℕ) (p : Splice) → IsUnserved self.old number k p → read ≡ true → write ≡ false → reads p ≡ true
-            → Makes (W.tells world.old) (W.tells world.new) (λ made. some_is is_for_reading made ≡ true) }
+        ensures serves_reading { (k : ℕ) (p : Splice) → IsUnserved self.old number k p → read ≡ true → reads p ≡ true
+            → Makes (W.tells world.old) (W.tells world.new) (λ made. some_is reads_or_shuts made ≡ true) }
         // After a report for writing the guest's end isn't held back in a flow that had connected.
         ensures passes_end { (k : ℕ) (p q : Splice) → IsUnserved self.old number k p → write ≡ true → is_connects p.conn.stage ≡ false → IsOpenAt self.new.flows.parts k q → PassesEnd q }
         ensures served { (k : ℕ) (p : Splice) → IsOpenAt self.old.flows.parts k p → number_of p ≡ number → self.new.served ≡ slice_set self.old.served k self.old.turn }
@@ -57,8 +57,8 @@ impl TcpFlows {
             → Makes (W.tells world.old) (W.tells world.new) (λ made. Reports now (number_of p) read write self.old self.new made × IsHostWork read write made) }
         ensures serves_writing { (p : Splice) → IsUnserved self.old (number_of p) slot p → write ≡ true → writes p ≡ true
             → Makes (W.tells world.old) (W.tells world.new) (λ made. some_is is_for_writing made ≡ true) }
-        ensures serves_reading { (p : Splice) → IsUnserved self.old (number_of p) slot p → read ≡ true → write ≡ false → reads p ≡ true
-            → Makes (W.tells world.old) (W.tells world.new) (λ made. some_is is_for_reading made ≡ true) }
+        ensures serves_reading { (p : Splice) → IsUnserved self.old (number_of p) slot p → read ≡ true → reads p ≡ true
+            → Makes (W.tells world.old) (W.tells world.new) (λ made. some_is reads_or_shuts made ≡ true) }
         ensures passes_end { (p q : Splice) → IsUnserved self.old (number_of p) slot p → write ≡ true → is_connects p.conn.stage ≡ false → IsOpenAt self.new.flows.parts slot q → PassesEnd q }
         ensures served { self.new.served ≡ slice_set self.old.served slot self.old.turn }
         ensures stays { Stays self.old self.new }

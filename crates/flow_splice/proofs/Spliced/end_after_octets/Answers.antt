@@ -1,7 +1,10 @@
-use Rattle.std.proofs.Common.{refl}
+use Rattle.std.proofs.Common.{refl, false, ◌||◌, ap, Bool}
 use Rattle.flow_splice.proofs.Events.{goes_none}
 use Rattle.world_face.proofs.Telling.{makes_none}
 use Rattle.flow_splice.proofs.Spliced.end_after_octets.Goals as goal
 
 pub returns-else-not-owes_octets-clause-makes : goal.returns-else-not-owes_octets-clause-makes
 returns-else-not-owes_octets-clause-makes g c = makes_none _ _ (goes_none c.args.self.now _ c.args.now, refl)
+
+pub returns-else-not-owes_octets-clause-still_reads : goal.returns-else-not-owes_octets-clause-still_reads
+returns-else-not-owes_octets-clause-still_reads g c reading = makes_none _ _ (ap (λ (b : Bool). b || false) reading)

@@ -1,4 +1,4 @@
-use Rattle.std.proofs.Common.{◌≡◌, ◌∷◌, [], ℕ, length, take, min, false, refl, arith, ap, subst, sym, ◌∙◌, inl, inr, ◌⊎◌, true}
+use Rattle.std.proofs.Common.{◌≡◌, ◌∷◌, [], ℕ, length, take, min, false, refl, arith, ap, subst, sym, ◌∙◌, inl, inr, ◌⊎◌, ◌||◌, true}
 use Rattle.world_face.specs.Journal.{Close, Entry, TcpWrite, count_of}
 use Rattle.world_face.specs.Tells.{Answers}
 use Rattle.world_face.specs.declared.Io.{Io}
@@ -9,11 +9,12 @@ use Rattle.connection_steps.specs.Holding.{without}
 use Rattle.sock_buffers.specs.Upward.{Upward}
 use Rattle.flow_splice.specs.Serves.{GoesOn}
 use Rattle.flow_splice.specs.Splice.{Splice, closed}
-use Rattle.flow_splice.proofs.Calls.{calls_after, still_is, two_calls}
+use Rattle.flow_splice.proofs.Calls.{calls_after, or_already, or_last, still_is, two_calls}
 use Rattle.flow_splice.proofs.Events.{goes_then}
 use Rattle.flow_splice.proofs.Hosting.{host_takes, host_takes_none}
 use Rattle.flow_splice.proofs.Shaping.{gives_ending}
-use Rattle.flow_splice.specs.Hosts.{is_for_writing, some_is}
+use Rattle.flow_splice.specs.Hosts.{is_for_writing, reads_or_shuts, some_is}
+use Rattle.flow_splice.specs.Wants.{reads}
 use Rattle.flow_splice.proofs.Spliced.write.Goals as goal
 
 none_taken : (up : Upward) → without up 0 ≡ up
@@ -64,3 +65,19 @@ pub returns-in-Failed-clause-serves : goal.returns-in-Failed-clause-serves
 returns-in-Failed-clause-serves g c =
     let f : Splice = c.args.self.now in
     two_calls _ _ _ (TcpWrite f.face.number (take (min 16384 (length f.up.held)) f.up.held) c.offer.result) (Close c.offer.new.self.face.number) (λ made. some_is is_for_writing made ≡ true) c.offer.ensures.offers c.fail.ensures.closes (λ one two. refl)
+
+pub returns-in-Failed-clause-still_reads : goal.returns-in-Failed-clause-still_reads
+returns-in-Failed-clause-still_reads g c reading =
+    let f : Splice = c.args.self.now in
+    let new : Splice = c.fail.new.self in
+    two_calls _ _ _ (TcpWrite f.face.number (take (min 16384 (length f.up.held)) f.up.held) c.offer.result) (Close c.offer.new.self.face.number) (λ made. reads new || some_is reads_or_shuts made ≡ true)
+    c.offer.ensures.offers c.fail.ensures.closes (λ one two. or_last (reads new) true refl)
+
+pub returns-in-Done-clause-still_reads : goal.returns-in-Done-clause-still_reads
+returns-in-Done-clause-still_reads g c reading =
+    let f : Splice = c.args.self.now in
+    let new : Splice = c.end_after_octets.new.self in
+    let offered : Entry = TcpWrite f.face.number (take (min 16384 (length f.up.held)) f.up.held) c.offer.result in
+    calls_after _ _ _ offered (λ made. reads new || some_is reads_or_shuts made ≡ true) (λ made. reads new || some_is reads_or_shuts made ≡ true) c.offer.ensures.offers
+    (c.end_after_octets.ensures.still_reads (ap reads c.offer.ensures.change ∙ reading))
+    (λ made more. or_already (reads new) reads_or_shuts made (offered ∷ []) more)
