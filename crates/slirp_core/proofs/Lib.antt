@@ -27,3 +27,4 @@ pub mod Drawn
 pub mod Least
 pub mod Sizes
 pub mod Learning
+pub mod Settling

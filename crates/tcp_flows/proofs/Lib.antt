@@ -1,4 +1,6 @@
+pub mod Ahead
 pub mod Beginning
+pub mod Begun
 pub mod Beside
 pub mod Changing
 pub mod Following
@@ -12,6 +14,7 @@ pub mod Reporting
 pub mod Resting
 pub mod Seated
 pub mod Sending
+pub mod Settling
 pub mod Staying
 pub mod Ticked
 pub mod Ticking

@@ -19,6 +19,9 @@ impl TcpFlows {
     ghost use Rattle.host_policy.specs.Addresses.{Config};
     ghost use Rattle.world_face.specs.Journal.{Entry};
     ghost use Rattle.flow_splice.specs.declared.Place.TheVariants.{Resting};
+    ghost use Rattle.spliced_flows.specs.Core.{CoreHolds};
+    ghost use Rattle.std.specs.Prelude.{Bool};
+    ghost use Rattle.tcp_flows.specs.Settled.{ComeAhead, GetsAhead, WereOpen};
 
     /// The socket with this number was reported ready, for reading, for writing or for both: its flow is told, once a turn. Nothing is called where no flow's
     /// open socket has the number.
@@ -75,11 +78,14 @@ impl TcpFlows {
     }
 
     /// The moment is this one: each rest whose time is over ends, and each flow that is due is told, by rising number of its socket. No call is made but closes.
+    /// No flow is opened; and where the flows followed the record, the timer of an open one that owed no acknowledgement isn't due then.
     pub fn tick<W: World>(&mut self, world: &mut W, now: u64)
         requires now { now ≤ 2 ^ 62 }
         ensures makes { Makes (W.tells world.old) (W.tells world.new) (λ made. Ticks now false ClosesRising self.old self.new made × IsIdle self.old self.new made) }
         ensures connects { (k : ℕ) (p : Splice) → IsOpenAt self.new.flows.parts k p → is_connects p.conn.stage ≡ true → now < connect_end p }
         ensures ticked { (k : ℕ) (p q : Splice) → IsOpenAt self.old.flows.parts k p → IsOpenAt self.new.flows.parts k q → IsTicked now p q }
+        ensures ahead { (config : Config) (before : ℕ) (aged : Bool) (past : List Entry) → CoreHolds config before aged None self.old.flows past
+            → ComeAhead now self.old.flows.parts self.new.flows.parts }
         ensures stays { Stays self.old self.new }
         ensures turn { self.new.turn ≡ self.old.turn }
     {
@@ -92,6 +98,7 @@ impl TcpFlows {
         requires now { now ≤ 2 ^ 62 }
         ensures rests { RestsEnd now self.old self.new }
         ensures keeps_open { (k : ℕ) (p : Splice) → IsOpenAt self.old.flows.parts k p → IsOpenAt self.new.flows.parts k p }
+        ensures was_open { (k : ℕ) (p : Splice) → IsOpenAt self.new.flows.parts k p → IsOpenAt self.old.flows.parts k p }
         ensures idle { NoneInSlots self.old.flows.parts → self.new ≡ self.old }
         ensures stays { Stays self.old self.new }
         ensures same { self.new ≡ with_flows self.new.flows self.new.owing self.old }
@@ -125,6 +132,8 @@ impl TcpFlows {
         ensures makes { Makes (W.tells world.old) (W.tells world.new) (λ made. Ticks now true ClosesRising self.old self.new made × IsIdle self.old self.new made) }
         ensures connects { (k : ℕ) (p : Splice) → IsOpenAt self.new.flows.parts k p → is_connects p.conn.stage ≡ true → now < connect_end p }
         ensures ticked { (k : ℕ) (p q : Splice) → IsOpenAt self.old.flows.parts k p → IsOpenAt self.new.flows.parts k q → IsTicked now p q }
+        ensures ahead { (k : ℕ) (p q : Splice) → IsOpenAt self.old.flows.parts k p → IsOpenAt self.new.flows.parts k q → GetsAhead now p q }
+        ensures were_open { WereOpen self.old.flows.parts self.new.flows.parts }
         ensures stays { Stays self.old self.new }
         ensures same { self.new ≡ with_flows self.new.flows self.new.owing self.old }
     {
@@ -147,6 +156,7 @@ impl TcpFlows {
         ensures parts { (p : Splice) → IsOpenAt self.old.flows.parts slot p → (q : Splice) × (number_of q ≡ number_of p) × (self.new.flows.parts ≡ slice_set self.old.flows.parts slot (part_of q))
             × (is_open_by q ≡ true → is_connects q.conn.stage ≡ true → now < connect_end q) }
         ensures ticked { (p q : Splice) → IsOpenAt self.old.flows.parts slot p → IsOpenAt self.new.flows.parts slot q → IsTicked now p q }
+        ensures ahead { (p q : Splice) → IsOpenAt self.old.flows.parts slot p → IsOpenAt self.new.flows.parts slot q → GetsAhead now p q }
         ensures stays { Stays self.old self.new }
         ensures same { self.new ≡ with_flows self.new.flows self.new.owing self.old }
     {

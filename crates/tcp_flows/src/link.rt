@@ -16,9 +16,14 @@ impl TcpFlows {
     ghost use Rattle.tcp_flows.specs.Kept.{with_flows};
     ghost use Rattle.tcp_flows.specs.Reading.{AllClear, Stays};
     ghost use Rattle.tcp_flows.specs.Runs.{IsIdlePump, Pumps};
+    ghost use Rattle.tcp_flows.specs.Settled.{KeepsAhead, NoneLate};
+    ghost use Rattle.spliced_flows.specs.Core.{CoreHolds};
+    ghost use Rattle.host_policy.specs.Addresses.{Config};
+    ghost use Rattle.world_face.specs.Journal.{Entry};
+    ghost use Rattle.std.specs.Prelude.{Bool, List, Option};
 
     /// Sends all that the flows owe, by rising number, until the link is blocked. Each datagram that goes out has the number `ident`, which is one more then,
-    /// modulo 2^16. Only flows that may owe something are looked at.
+    /// modulo 2^16. Only flows that may owe something are looked at. Where the flows followed the record, and no open one's timer was due, none is due then.
     pub fn pump<W: World>(
         &mut self,
         world: &mut W,
@@ -35,6 +40,8 @@ impl TcpFlows {
         ensures free { result ≡ Clear → (link.new.blocked ≡ false) × (link.new.tail ≡ []) }
         ensures failed { result ≡ Failed → Rose (W.tells world.old).faults.link (W.tells world.new).faults.link }
         ensures clear { result ≡ Clear → AllClear self.new.flows.parts }
+        ensures ahead { (config : Config) (before : ℕ) (aged : Bool) (past : List Entry) → CoreHolds config before aged None self.old.flows past
+            → NoneLate now self.old.flows.parts → NoneLate now self.new.flows.parts }
         ensures stays { Stays self.old self.new }
         ensures same_link { under_way link.new ≡ under_way link.old }
         ensures same { self.new ≡ with_flows self.new.flows self.new.owing self.old }
@@ -67,6 +74,8 @@ impl TcpFlows {
         ensures free { result ≡ Clear → (link.new.blocked ≡ false) × (link.new.tail ≡ []) }
         ensures failed { result ≡ Failed → Rose (W.tells world.old).faults.link (W.tells world.new).faults.link }
         ensures mark { result ≡ Clear → self.new.owing ≡ slice_set self.old.owing slot None }
+        ensures ahead { (p : Splice) → slice_get self.old.flows.parts slot ≡ Some (Some p)
+            → (x : Option Splice) × (self.new.flows.parts ≡ slice_set self.old.flows.parts slot x) × ((q : Splice) → x ≡ Some q → KeepsAhead now p q) }
         ensures stays { Stays self.old self.new }
         ensures same_link { under_way link.new ≡ under_way link.old }
         ensures same { self.new ≡ with_flows self.new.flows self.new.owing self.old }

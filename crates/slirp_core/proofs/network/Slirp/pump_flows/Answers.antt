@@ -1,5 +1,7 @@
-use Rattle.std.proofs.Common.{sym, ◌∙◌, ap, subst}
+use Rattle.std.proofs.Common.{None, sym, ◌∙◌, ap, subst}
 use Rattle.world_face.specs.Tells.{Brings}
+use Rattle.spliced_flows.specs.Core.{CoreHolds}
+use Rattle.tcp_flows.specs.Settled.{NoneLate}
 use Rattle.slirp_core.specs.Holds.{AfterPump, Holds, flowing}
 use Rattle.slirp_core.specs.Pumps.{pumped_flows}
 use Rattle.slirp_core.specs.State.{SlirpState}
@@ -20,6 +22,14 @@ returns-clause-makes g c config at aged =
     (brings_allowed c.pump-pumped.ensures.makes (λ made pumps allowed past holds.
     after_put result config at (record slirp { sent = c.pump-pumped.new.ident }) new (flowing aged new) c.pump-pumped.new.link _
     (pumped_so config at slirp aged i.flows new c.args.link.now c.pump-pumped.new.link past made c.pump-pumped.new.ident result none allowed pumps.0 pumps.1 holds))))
+
+pub returns-clause-ahead : goal.returns-clause-ahead
+returns-clause-ahead g c config before aged past holds none =
+    let i = c.self.inside in
+    let view = c.self.view_is in
+    subst (λ (s : SlirpState). NoneLate s.moment c.pump-pumped.new.self.flows.parts) view
+    (c.pump-pumped.ensures.ahead config before aged past (subst (λ (s : SlirpState). CoreHolds config before aged None s.flows.flows past) (sym view) holds)
+    (subst (λ (s : SlirpState). NoneLate s.moment s.flows.flows.parts) (sym view) none))
 
 pub invariant_of-self : goal.invariant_of-self
 invariant_of-self g c =

@@ -1,16 +1,20 @@
-use Rattle.std.proofs.Common.{rules, refl, ◌≡◌, ◌<◌, false, set, None, ap, sym, ◌∙◌, subst}
-use Rattle.std.proofs.lemmas.List.{length-set, set-set}
+use Rattle.std.proofs.Common.{rules, refl, ◌≡◌, ◌<◌, false, set, slice_get, None, ap, sym, ◌∙◌, subst}
+use Rattle.std.proofs.lemmas.List.{length-set, map-set, set-set}
 use Rattle.std.proofs.lemmas.Option.{slice_get_within}
 use Rattle.world_face.proofs.Telling.{makes_as}
+use Rattle.flow_splice.specs.Ahead.{IsAhead}
+use Rattle.flow_splice.specs.Follows.{Follows}
 use Rattle.flow_splice.specs.Sends.{SendsOn}
 use Rattle.flow_splice.specs.Splice.{Splice}
 use Rattle.flow_splice.specs.declared.Pumped.TheVariants.{Clear}
 use Rattle.flow_splice.proofs.Marking.{makes_allowed}
 use Rattle.spliced_flows.specs.Core.{ends_of}
-use Rattle.tcp_flows.specs.Kept.{Kept}
+use Rattle.tcp_flows.specs.Kept.{Kept, part_of}
 use Rattle.tcp_flows.specs.Rows.{AreRows}
 use Rattle.tcp_flows.proofs.Following.{has_tuple}
-use Rattle.tcp_flows.proofs.Keeping.{flows_as, read_here, settings_as, slot_raw, table_is}
+use Rattle.tcp_flows.proofs.Ahead.{stayed_ahead}
+use Rattle.tcp_flows.proofs.Ticking.{seen_is}
+use Rattle.tcp_flows.proofs.Keeping.{flows_as, raw_here, read_here, settings_as, slot_raw, table_is}
 use Rattle.tcp_flows.proofs.Sending.{pumped_ours, pumped_served, pumping_of, pumps_of, stayed_clear, unmarked}
 use Rattle.tcp_flows.proofs.Staying.{stays_set}
 use Rattle.tcp_flows.proofs.flows.TcpFlows.pump_slot.Goals as goal
@@ -132,6 +136,36 @@ returns-else-eq-clause-makes g c =
     c.self.invariant.0.slots_are c.self.invariant.0.kept c.args.slot p mid q is.at is.some (ours.known is.some) (ours.vhost is.some ∙ ap (λ (s : Kept). s.vhost) view) is.pumped is.stayed
     (flows_as table_then (set parts c.args.slot q) c.self.inside.opened) (λ config. settings_as view refl) c.pump-pumped.result made
     (subst (λ (x : Splice). SendsOn x mid c.args.link.now c.pump-pumped.new.link c.args.ident.now c.pump-pumped.new.ident c.args.now made) read goes.0.0) goes.0.1 goes.1)
+
+pub returns-then-eq-clause-ahead : goal.returns-then-eq-clause-ahead
+returns-then-eq-clause-ahead g c p here =
+    let parts = c.self.inside.parts.items in
+    let view = c.self.view_is in
+    let q : Splice = c.stay.new.part in
+    let raw = raw_here parts c.args.slot p (ap (λ (s : Kept). slice_get s.flows.parts c.args.slot) view ∙ here) in
+    let read = read_here parts c.args.slot p c.index_mut-part.result.now raw c.index_mut-part.ensures.value in (
+      part_of q,
+      map-set part_of parts c.args.slot q ∙ ap (λ (s : Kept). set s.flows.parts c.args.slot (part_of q)) view,
+      λ r is has ahead. subst (λ (x : Splice). IsAhead x.conn c.args.now) (sym (seen_is q r is))
+          (stayed_ahead c.args.now c.pump-pumped.new.self q c.stay.ensures.change
+          (c.pump-pumped.ensures.ahead has.settings has.story has.at (subst (λ (x : Splice). Follows has.settings x has.story has.at) (sym read) has.follows)
+          (subst (λ (x : Splice). IsAhead x.conn c.args.now) (sym read) ahead))),
+    )
+
+pub returns-else-eq-clause-ahead : goal.returns-else-eq-clause-ahead
+returns-else-eq-clause-ahead g c p here =
+    let parts = c.self.inside.parts.items in
+    let view = c.self.view_is in
+    let q : Splice = c.stay.new.part in
+    let raw = raw_here parts c.args.slot p (ap (λ (s : Kept). slice_get s.flows.parts c.args.slot) view ∙ here) in
+    let read = read_here parts c.args.slot p c.index_mut-part.result.now raw c.index_mut-part.ensures.value in (
+      part_of q,
+      map-set part_of parts c.args.slot q ∙ ap (λ (s : Kept). set s.flows.parts c.args.slot (part_of q)) view,
+      λ r is has ahead. subst (λ (x : Splice). IsAhead x.conn c.args.now) (sym (seen_is q r is))
+          (stayed_ahead c.args.now c.pump-pumped.new.self q c.stay.ensures.change
+          (c.pump-pumped.ensures.ahead has.settings has.story has.at (subst (λ (x : Splice). Follows has.settings x has.story has.at) (sym read) has.follows)
+          (subst (λ (x : Splice). IsAhead x.conn c.args.now) (sym read) ahead))),
+    )
 
 pub returns-then-eq-clause-stays : goal.returns-then-eq-clause-stays
 returns-then-eq-clause-stays g c =

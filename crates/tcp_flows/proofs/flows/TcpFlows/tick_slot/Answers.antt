@@ -2,6 +2,8 @@ use Rattle.std.proofs.Common.{refl, ◌≡◌, set, Some, inl, false, arith, ap,
 use Rattle.std.proofs.lemmas.List.{length-set, map-set}
 use Rattle.std.proofs.lemmas.Option.{slice_get_within}
 use Rattle.world_face.proofs.Telling.{makes_as, makes_none}
+use Rattle.flow_splice.specs.Ahead.{IsAhead}
+use Rattle.flow_splice.specs.Follows.{Follows}
 use Rattle.flow_splice.specs.Hosts.{IsAsOld}
 use Rattle.flow_splice.specs.Serves.{TicksOn}
 use Rattle.flow_splice.specs.Splice.{Face, Splice, is_open}
@@ -14,6 +16,8 @@ use Rattle.spliced_flows.specs.Core.{ends_of}
 use Rattle.tcp_flows.specs.Kept.{Kept, part_of}
 use Rattle.tcp_flows.specs.Reading.{IsTicked}
 use Rattle.tcp_flows.specs.Runs.{ClosesOne}
+use Rattle.tcp_flows.specs.Settled.{GetsAhead}
+use Rattle.tcp_flows.proofs.Ahead.{early_ahead}
 use Rattle.tcp_flows.proofs.Following.{has_tuple}
 use Rattle.tcp_flows.proofs.Keeping.{flows_as, open_moves, open_used, ours_as_old, placed, raw_open, read_here, served_same, settings_as, slot_raw, stays_early, table_is}
 use Rattle.tcp_flows.proofs.Lists.{set_same}
@@ -50,6 +54,14 @@ returns-then-not-is_due-clause-ticked g c p q was is =
     let read = read_here parts c.args.slot p c.index.result.now raw c.index.ensures in
     subst (IsTicked c.args.now p) (sym (open_same c.args.self.now.flows.parts c.args.slot p q was is))
     (ticked_late c.args.now p was.open_yet (λ at due. c.is_due.ensures.no c.if-not-is_due.true at (c.due.ensures ∙ ap due_of read ∙ due)))
+
+pub returns-then-not-is_due-clause-ahead : goal.returns-then-not-is_due-clause-ahead
+returns-then-not-is_due-clause-ahead g c p q was is =
+    let parts = c.self.inside.parts.items in
+    let raw = raw_open parts c.args.slot p _ (ap (λ (s : Kept). s.flows.parts) c.self.view_is) was in
+    let read = read_here parts c.args.slot p c.index.result.now raw c.index.ensures in
+    subst (GetsAhead c.args.now p) (sym (open_same c.args.self.now.flows.parts c.args.slot p q was is))
+    (λ has unowed. early_ahead c.args.now p has was.open_yet (λ at due. c.is_due.ensures.no c.if-not-is_due.true at (c.due.ensures ∙ ap due_of read ∙ due)))
 
 pub index_mut-part-requires : goal.index_mut-part-requires
 index_mut-part-requires g c =
@@ -135,6 +147,16 @@ returns-clause-ticked g c p q was is connects knows =
     same
     ∙ c.tick.ensures.again (ap is_open read ∙ was.open_yet) (ap (λ (x : Splice). is_connects x.conn.stage) read ∙ connects) (ap seeks read ∙ knows) (ap is_open (sym same) ∙ is.open_yet)
     ∙ ap (λ (x : Splice). record x { conn = after_tick x.conn c.args.now }) read
+
+pub returns-clause-ahead : goal.returns-clause-ahead
+returns-clause-ahead g c p q was is has unowed =
+    let parts = c.self.inside.parts.items in
+    let raw = raw_open parts c.args.slot p _ (ap (λ (s : Kept). s.flows.parts) c.self.view_is) was in
+    let read = read_here parts c.args.slot p c.index_mut-part.result.now raw c.index_mut-part.ensures.value in
+    let then : Splice = c.tick.new.self in
+    let same : q ≡ then = get_set_same parts c.args.slot p then q raw (raw_open (set parts c.args.slot then) c.args.slot q _ refl is) in
+    subst (λ (x : Splice). IsAhead x.conn c.args.now) (sym same)
+    (c.tick.ensures.ahead has.settings has.story has.at (subst (λ (x : Splice). Follows has.settings x has.story has.at) (sym read) has.follows) (ap (λ (x : Splice). x.conn.ack_owed) read ∙ unowed))
 
 pub returns-then-not-is_due-clause-stays : goal.returns-then-not-is_due-clause-stays
 returns-then-not-is_due-clause-stays g c = stays_same c.args.self.now
