@@ -1,4 +1,4 @@
-use crate::tests::{ARP_REPLY, ARP_REQUEST, ends};
+use crate::tests::{ARP_REPLY, ARP_REQUEST, BEGINS, ends, gives_with};
 use std::alloc::Global;
 use std::test::Fail;
 
@@ -48,10 +48,29 @@ fn zeros(alloc: Global, count: u64) -> Result<String, Fail> {
     Ok(digits)
 }
 
-/// Whether a link that ends so many octets after the begin of a length is told of, where these calls bring them.
+/// Whether a link that ends so many octets after the begin of a length is told of, where these calls bring them to a network with room for one connection.
 fn is_cut(alloc: Global, came: u64, calls: &str) -> Result<bool, Fail> {
     let told = format!(in alloc; "slirpd: link ended inside a frame, {came} octets\n")?;
-    ends(alloc, calls, 7, told.as_str())
+    let schedule = format!(in alloc; "{BEGINS}{calls}")?;
+    let out = format!(in alloc; "{schedule}end 7\n")?;
+    gives_with(
+        alloc,
+        &["replay", "f", "--flows", "1"][..],
+        schedule.as_str(),
+        7,
+        out.as_str(),
+        told.as_str(),
+    )
+}
+
+/// The calls that bring so many octets, more than 4, of a length and its frame of 44.
+fn part(alloc: Global, came: u64) -> Result<String, Fail> {
+    let octets = zeros(alloc, came.saturating_sub(4))?;
+    let left = 48u64.saturating_sub(came);
+    let calls = format!(in alloc;
+        "lread 4 = done 0000002c\nlread 44 = done {octets}\nlread {left} = end\n"
+    )?;
+    Ok(calls)
 }
 
 #[test]
@@ -66,16 +85,37 @@ fn a_link_that_ends_inside_a_length(rt: HostRuntime) -> Result<(), Fail> {
 }
 
 #[test]
-fn a_link_that_ends_inside_a_frame(rt: HostRuntime) -> Result<(), Fail> {
-    let length = "lread 4 = done 0000002c\n";
-    let calls = format!(in rt.alloc(); "{length}lread 44 = end\n")?;
-    assert!(rt; is_cut(rt.alloc(), 4, calls.as_str())?);
-    for came in 5..48u64 {
-        let octets = zeros(rt.alloc(), came.saturating_sub(4))?;
-        let left = 48u64.saturating_sub(came);
-        let calls = format!(in rt.alloc();
-            "{length}lread 44 = done {octets}\nlread {left} = end\n"
-        )?;
+fn a_link_that_ends_at_the_begin_of_a_frame(rt: HostRuntime) -> Result<(), Fail> {
+    assert!(rt; is_cut(rt.alloc(), 4, "lread 4 = done 0000002c\nlread 44 = end\n")?);
+    for came in 5..16u64 {
+        let calls = part(rt.alloc(), came)?;
+        assert!(rt; is_cut(rt.alloc(), came, calls.as_str())?);
+    }
+    Ok(())
+}
+
+#[test]
+fn a_link_that_ends_in_the_front_of_a_frame(rt: HostRuntime) -> Result<(), Fail> {
+    for came in 16..27u64 {
+        let calls = part(rt.alloc(), came)?;
+        assert!(rt; is_cut(rt.alloc(), came, calls.as_str())?);
+    }
+    Ok(())
+}
+
+#[test]
+fn a_link_that_ends_in_the_back_of_a_frame(rt: HostRuntime) -> Result<(), Fail> {
+    for came in 27..38u64 {
+        let calls = part(rt.alloc(), came)?;
+        assert!(rt; is_cut(rt.alloc(), came, calls.as_str())?);
+    }
+    Ok(())
+}
+
+#[test]
+fn a_link_that_ends_before_the_end_of_a_frame(rt: HostRuntime) -> Result<(), Fail> {
+    for came in 38..48u64 {
+        let calls = part(rt.alloc(), came)?;
         assert!(rt; is_cut(rt.alloc(), came, calls.as_str())?);
     }
     Ok(())

@@ -132,6 +132,11 @@ fn settings_out_of_their_range_are_named(rt: HostRuntime) -> Result<(), Fail> {
         (&["--net", "10.0.2.0/28"][..], "slirpd: config: vnetmask\n"),
         (&["--host", "10.0.2.255"][..], "slirpd: config: vhost\n"),
         (&["--dns", "10.0.2.2"][..], "slirpd: config: vnameserver\n"),
+        (&["--ring", "65534"][..], "slirpd: config: ring\n"),
+        (
+            &["--ring", "1048577", "--flows", "1"][..],
+            "slirpd: config: ring\n",
+        ),
         (
             &["--flows", "257", "--ring", "1048576"][..],
             "slirpd: config: ring\n",

@@ -36,10 +36,11 @@ fn a_reset_acknowledges_all_that_came(rt: HostRuntime) -> Result<(), Fail> {
     Ok(())
 }
 
-/// RST with the number 7, and RST and ACK.
-const RESETS: [&str; 2] = [
+/// RST with the number 7, RST and ACK, and SYN and RST.
+const RESETS: [&str; 3] = [
     "lread 4 = done 00000036\nlread 54 = done 52550a000202525400123456080045000028000300004006acb70a00020fc00002070fa0005000000007000000005004ffffd1d30000\n",
     "lread 4 = done 00000036\nlread 54 = done 52550a000202525400123456080045000028000300004006acb70a00020fc00002070fa0005000000007000000095014ffffd1ba0000\n",
+    "lread 4 = done 00000036\nlread 54 = done 52550a000202525400123456080045000028000300004006acb70a00020fc00002070fa0005000000007000000005006ffffd1d10000\n",
 ];
 
 #[test]
