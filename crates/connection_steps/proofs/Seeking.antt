@@ -11,8 +11,9 @@ use Rattle.flow_laws.specs.Event.{Accepts, AsksAddress, At, Connects, Event, Ope
 use Rattle.flow_laws.specs.Close.{times_asked}
 use Rattle.flow_laws.specs.Flow.{has_connected, host, is_closed, syn_is_out}
 use Rattle.flow_laws.specs.Host.{answered}
-use Rattle.flow_laws.specs.Dutiful.{AreAhead, IsSettled, moment_if, waits_since}
+use Rattle.flow_laws.specs.Dutiful.{AreAhead, moment_if, waits_since}
 use Rattle.flow_steps.specs.Resends.{Seeks}
+use Rattle.flow_steps.specs.Settled.{IsSettledIf}
 use Rattle.connection_steps.specs.Holding.{Holds, is_calls}
 use Rattle.connection_steps.proofs.Settling.{nothing_to_acknowledge, open_owes_none}
 use Rattle.connection_steps.proofs.Watching.{syn_under_way}
@@ -45,9 +46,9 @@ some_asked : (n : ℕ) → 0 < n → (not false && nat_lt 0 n) ≡ true
 some_asked n some = grind (arith, nat_tests)
 
 -- Once it asked for the address, all holds that is to hold while the program waits, though its SYN is to go out.
-pub seeking_settled : (s : Settings) (c : Connection) (up : Upward) (down : Downward) (past : Story) (now count at : ℕ) → Holds s c up down past now
-    → is_calls c.stage ≡ true → has_gone c.sendings ≡ false → 0 < count → Seeks past count at → IsSettled s past false false now
-seeking_settled s c up down past now count at h calls unsent some a = record {
+pub seeking_settled : (in_time : Type 0) (s : Settings) (c : Connection) (up : Upward) (down : Downward) (past : Story) (now count at : ℕ) → Holds s c up down past now
+    → is_calls c.stage ≡ true → has_gone c.sendings ≡ false → 0 < count → Seeks past count at → IsSettledIf in_time s past false false now
+seeking_settled in_time s c up down past now count at h calls unsent some a = record {
   sends = record {
     reset = open_owes_none past h.goes.open_yet;
     syn_ack = λ is. absurd (no_both (has_connected past) (not (is_closed past)) (h.awaits calls).unasked is);
@@ -56,7 +57,7 @@ seeking_settled s c up down past now count at h calls unsent some a = record {
   };
   acknowledges = nothing_to_acknowledge s c up down past now h calls;
   window = λ honest is. absurd (no_both (answered (host past)) (not (is_closed past)) unanswered is);
-  resends = subst (λ (b : Bool). AreAhead now (moment_if (b && not (is_closed past)) (waits_since past + 60000))) (sym (syn_under_way s c past h.opened (calls_opens c.stage calls).0 ∙ unsent)) tt;
+  resends = λ soon. subst (λ (b : Bool). AreAhead now (moment_if (b && not (is_closed past)) (waits_since past + 60000))) (sym (syn_under_way s c past h.opened (calls_opens c.stage calls).0 ∙ unsent)) tt;
 }
   where
     unanswered : answered (host past) ≡ false

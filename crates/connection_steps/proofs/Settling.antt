@@ -27,8 +27,9 @@ use Rattle.flow_laws.specs.Guest.{AckIsDue, Asks, Up}
 use Rattle.flow_laws.specs.Flow.{has_connected, host, is_accepted, is_closed, is_under_way, syn_is_out, their_number}
 use Rattle.flow_laws.specs.Windows.{edge_of as edge_told, mss, our_shift as shift_told, told}
 use Rattle.flow_laws.specs.Close.{is_owed_reset, owes_reset, times_asked}
-use Rattle.flow_laws.specs.Dutiful.{HasAcknowledged, HasSent, IsSettled}
+use Rattle.flow_laws.specs.Dutiful.{HasAcknowledged, HasSent}
 use Rattle.flow_steps.specs.Resends.{Expired, Until}
+use Rattle.flow_steps.specs.Settled.{IsSettledIf}
 use Rattle.flow_steps.proofs.Edges.{edge_is}
 use Rattle.flow_steps.proofs.InTime.{all_in_time}
 use Rattle.flow_steps.proofs.Waiting.{acknowledged_is, settled_is}
@@ -117,7 +118,11 @@ nothing_to_acknowledge s c up down past now h calls =
     second_none true false d so is = absurd cc
     second_none false b d so is = absurd cc
 
-module _ (s : Settings) (c : Connection) (up : Upward) (down : Downward) (past : Story) (now : ℕ) (h : Holds s c up down past now) (nothing : owed_of c up down ≡ None) (early : (at : ℕ) → due_of c ≡ Some at → now < at) (known : Bool) where
+module _ (s : Settings) (c : Connection) (up : Upward) (down : Downward) (past : Story) (now : ℕ) (h : Holds s c up down past now) (nothing : owed_of c up down ≡ None) (known : Bool) where
+  -- the timer isn't due
+  abbrev pub Early : Type 0
+  Early = (at : ℕ) → due_of c ≡ Some at → now < at
+
   e_now : ℕ
   e_now = if s.congestion then min (edge_told (window_by c.transmission.window)) (c.transmission.acked + mss s past) else edge_told (window_by c.transmission.window)
 
@@ -154,10 +159,10 @@ module _ (s : Settings) (c : Connection) (up : Upward) (down : Downward) (past :
         let shift : told (shift_told s past false) (s.ring - length up.held) ≡ told (our_shift c) (s.ring - length up.held) = ap (λ (k : ℕ). told k (s.ring - length up.held)) (shift_is s c past h.suits h.opened) in
         omega (arith, near, same, shift)
 
-    pub synchronized_settled : IsSettled s past known false now
+    pub synchronized_settled : IsSettledIf Early s past known false now
     synchronized_settled =
         let r = h.receives reached in
-        settled_is s past (part_of c up) (outward_of c.transmission down) known false now (timer_of (resending_of c)) (count_of (is_under_way past) (resending_of c)) (resending_of c).estimate.wait
+        settled_is Early s past (part_of c up) (outward_of c.transmission down) known false now (timer_of (resending_of c)) (count_of (is_under_way past) (resending_of c)) (resending_of c).estimate.wait
         (if s.congestion then min (edge_told (window_by c.transmission.window)) (c.transmission.acked + mss s past) else edge_told (window_by c.transmission.window)) c.told
         r.follows h.gives.keeps h.gives.resends r.told apart.0 (r.due apart.0)
         (λ is. r.once (first_of (is_accepted past) (is_some (their_number past)) (not (is_closed past)) is) apart.0) (λ is. absurd cc)
@@ -168,7 +173,7 @@ module _ (s : Settings) (c : Connection) (up : Upward) (down : Downward) (past :
         (λ is. octets_out)
         update_near
         (λ under expired. let not_it = sym (expires_by c.transmission.resend.timer c.transmission.resend.estimate.wait (sym (ap (λ (q : Resending). timer_of q) runs) ∙ expired)) ∙ not_expired in absurd cc)
-        (λ moment is. waits_for c.transmission.resend.timer c.transmission.resend.estimate.wait now moment (sym (ap (λ (q : Resending). timer_of q) runs) ∙ is) (λ d due. early d (at.1 ∙ due)))
+        (λ early moment is. waits_for c.transmission.resend.timer c.transmission.resend.estimate.wait now moment (sym (ap (λ (q : Resending). timer_of q) runs) ∙ is) (λ d due. early d (at.1 ∙ due)))
       where
         runs : resending_of c ≡ c.transmission.resend
         runs = ap (λ (b : Bool). if b then c.syn else c.transmission.resend) opening
@@ -213,7 +218,7 @@ module _ (s : Settings) (c : Connection) (up : Upward) (down : Downward) (past :
 
     -- where nothing is owed, our SYN went out and isn't owed again, and no acknowledgement is owed
     module _ (unowed : c.ack_owed ≡ false) (gone : is_connects c.stage ≡ false → has_gone c.sendings ≡ true) (no_syn : has_gone c.sendings ≡ true → c.syn_owed ≡ false)
-        (soon : (d : ℕ) → resend_due c.syn ≡ Some d → now < d) where
+        (soon : Early → (d : ℕ) → resend_due c.syn ≡ Some d → now < d) where
       sends_all : HasSent s past known
       sends_all = record {
         reset = open_owes_none past h.goes.open_yet;
@@ -247,15 +252,15 @@ module _ (s : Settings) (c : Connection) (up : Upward) (down : Downward) (past :
               acknowledged_is s past (part_of c up) false r.follows unowed (r.due unowed)
               (λ is. r.once (first_of (is_accepted past) (is_some (their_number past)) (not (is_closed past)) is) unowed) (λ is. absurd cc)
 
-      pub opening_settled : IsSettled s past known false now
+      pub opening_settled : IsSettledIf Early s past known false now
       opening_settled = record {
         sends = sends_all;
         acknowledges = acknowledges_all;
         window = λ honest is. absurd (no_both (answered (host past)) (not (is_closed past)) unanswered is);
-        resends = all_in_time past now (timer_of (resending_of c)) (count_of (is_under_way past) (resending_of c)) (resending_of c).estimate.wait h.gives.resends
+        resends = λ early. all_in_time past now (timer_of (resending_of c)) (count_of (is_under_way past) (resending_of c)) (resending_of c).estimate.wait h.gives.resends
             (λ under over.
             let expired = expires_by c.syn.timer c.syn.estimate.wait (sym (ap (λ (q : Resending). timer_of q) runs_syn) ∙ over) in
             let out = sym (syn_under_way s c past h.opened opening) ∙ under in
             let not_it = sym (h.gives.owes_syn opening expired) ∙ no_syn out in absurd cc)
-            (λ moment is. waits_for c.syn.timer c.syn.estimate.wait now moment (sym (ap (λ (q : Resending). timer_of q) runs_syn) ∙ is) soon);
+            (λ moment is. waits_for c.syn.timer c.syn.estimate.wait now moment (sym (ap (λ (q : Resending). timer_of q) runs_syn) ∙ is) (soon early));
       }

@@ -8,7 +8,7 @@ use Rattle.retransmit.specs.declared.Timer.TheVariants as timer
 use Rattle.tcp_guest.specs.Connection.{Connection, has_gone, is_opening, is_synchronized}
 use Rattle.tcp_guest.specs.Hosts.{is_open as is_host_open}
 use Rattle.tcp_guest.specs.Owing.{ack_if, owed_by, owed_of}
-use Rattle.tcp_guest.specs.Timing.{due_by, due_of}
+use Rattle.tcp_guest.specs.Timing.{due_by}
 use Rattle.tcp_guest.specs.declared.Owed.{Owed}
 use Rattle.tcp_guest.specs.declared.Owed.TheVariants.{Syn, SynAck}
 use Rattle.tcp_guest.specs.declared.Stage.{Stage}
@@ -20,7 +20,8 @@ use Rattle.flow_laws.specs.Host.{answered, got, got_end, acked}
 use Rattle.flow_laws.specs.Flow.{guest, has_connected, host, is_accepted, is_closed, is_connecting, is_under_way, opened_at}
 use Rattle.flow_laws.specs.Close.{host_was_ended, is_in_use as is_in_use_by_law, our_fin_is_acked, fin_was_acknowledged, owes_reset, rests_since}
 use Rattle.flow_laws.specs.Lawful.{IsLawful, IsPrefixOf}
-use Rattle.flow_laws.specs.Dutiful.{AreAhead, IsDutiful, IsSettled, MayWait, MayWaitToWrite, fin_is_answered, moment_if, must_wait_to_write, waits_since, waits_to_read}
+use Rattle.flow_laws.specs.Dutiful.{AreAhead, IsDutiful, MayWait, MayWaitToWrite, fin_is_answered, moment_if, must_wait_to_write, waits_since, waits_to_read}
+use Rattle.flow_steps.specs.Settled.{IsSettledIf}
 use Rattle.flow_steps.proofs.Wanting.{acknowledged_few, begins_front}
 use Rattle.connection_steps.specs.Holding.{Holds, is_calls, is_connects, is_live}
 use Rattle.connection_steps.specs.Over.{is_resets}
@@ -28,6 +29,7 @@ use Rattle.connection_steps.specs.Seen.{part_of}
 use Rattle.connection_steps.proofs.Seeking.{seeking_settled}
 use Rattle.connection_steps.proofs.Settling.{opening_settled, synchronized_settled}
 use Rattle.connection_steps.proofs.Wanting.{may_wait, may_write as may_write_by, must_write, reads_where_room}
+use Rattle.flow_splice.specs.Ahead.{IsAhead}
 use Rattle.flow_splice.specs.Follows.{Follows, FollowsAt, IsOpen}
 use Rattle.flow_splice.specs.Sends.{IsClear, IsClearBy, takes_part_at}
 use Rattle.flow_splice.specs.Splice.{Splice, is_at_rest, is_in_use, is_open}
@@ -111,8 +113,8 @@ closed_last : (a b d : Bool) → d ≡ true → IsTrue (a && b && not d) → ⊥
 closed_last true b d is so = closed_not b d is so
 closed_last false b d is so = absurd cc
 
-module _ (s : Settings) (past : Story) (now : ℕ) (known rests : Bool) (shut : is_closed past ≡ true) (none : owes_reset past ≡ false) (answers : IsTrue rests → IsTrue (fin_is_answered past)) where
-  closed_settled : IsSettled s past known rests now
+module _ (in_time : Type 0) (s : Settings) (past : Story) (now : ℕ) (known rests : Bool) (shut : is_closed past ≡ true) (none : owes_reset past ≡ false) (answers : IsTrue rests → IsTrue (fin_is_answered past)) where
+  pub closed_settled : IsSettledIf in_time s past known rests now
   closed_settled = record {
     sends = record {
       reset = none;
@@ -127,7 +129,7 @@ module _ (s : Settings) (past : Story) (now : ℕ) (known rests : Bool) (shut : 
       resting = answers;
     };
     window = λ honest is. absurd (closed_not (answered (host past)) (is_closed past) shut is);
-    resends = subst (λ (b : Bool). AreAhead now (moment_if b (waits_since past + 60000))) (sym (no_way (is_under_way past) (is_closed past) shut)) tt;
+    resends = λ early. subst (λ (b : Bool). AreAhead now (moment_if b (waits_since past + 60000))) (sym (no_way (is_under_way past) (is_closed past) shut)) tt;
   }
     where
       no_way : (a b : Bool) → b ≡ true → (a && not b) ≡ false
@@ -145,7 +147,7 @@ off_none timer.Off w is at due = cc
 off_none (timer.Since base) w is at due = cc
 off_none (timer.Expired base) w is at due = cc
 
-module _ (s : Settings) (f : Splice) (past : Story) (now : ℕ) (known : Bool) (o : IsOpen s f past now) (early : (at : ℕ) → due_of f.conn ≡ Some at → now < at) where
+module _ (s : Settings) (f : Splice) (past : Story) (now : ℕ) (known : Bool) (o : IsOpen s f past now) where
   abbrev c : Connection
   c = f.conn
 
@@ -156,38 +158,38 @@ module _ (s : Settings) (f : Splice) (past : Story) (now : ℕ) (known : Bool) (
   went true is apart opening none = is
   went false is apart opening none = let not_it = sym (h.opened.owes apart opening is) ∙ none in absurd cc
 
-  known_settled : owed_of c f.up f.down ≡ None → IsSettled s past known false now
+  known_settled : owed_of c f.up f.down ≡ None → IsSettledIf (IsAhead f.conn now) s past known false now
   known_settled nothing = by c.stage refl h.opened.live
     where
-      by : (st : Stage) → c.stage ≡ st → is_live st ≡ true → IsSettled s past known false now
+      by : (st : Stage) → c.stage ≡ st → is_live st ≡ true → IsSettledIf (IsAhead f.conn now) s past known false now
       by stage.Connects at live =
           let unsent = h.opened.unsent (ap (λ (q : Stage). is_connects q) at) in
-          opening_settled s c f.up f.down past now h nothing early known (ap (λ (q : Stage). is_opening q) at) (h.opened.quiet (ap (λ (q : Stage). is_connects q) at))
+          opening_settled s c f.up f.down past now h nothing known (ap (λ (q : Stage). is_opening q) at) (h.opened.quiet (ap (λ (q : Stage). is_connects q) at))
           (λ is. let not_it = sym is ∙ ap (λ (q : Stage). is_connects q) at in absurd cc) (λ is. let not_it = sym is ∙ unsent in absurd cc)
-          (λ d is. absurd (off_none c.syn.timer c.syn.estimate.wait (h.gives.unset unsent) d is))
+          (λ early d is. absurd (off_none c.syn.timer c.syn.estimate.wait (h.gives.unset unsent) d is))
       by stage.Calls at live =
           let calls = ap (λ (q : Stage). is_calls q) at in
           let opening = ap (λ (q : Stage). is_opening q) at in
           let no_syn = if_none c.syn_owed Syn (sym (ap (λ (q : Stage). owed_by q c f.up f.down) at) ∙ nothing) in
-          opening_settled s c f.up f.down past now h nothing early known opening (h.awaits calls).ack_owed (λ is. went (has_gone c.sendings) refl is opening no_syn) (λ is. no_syn)
-          (λ d is. early d (ap (λ (q : Stage). due_by q c) at ∙ is))
+          opening_settled s c f.up f.down past now h nothing known opening (h.awaits calls).ack_owed (λ is. went (has_gone c.sendings) refl is opening no_syn) (λ is. no_syn)
+          (λ early d is. early d (ap (λ (q : Stage). due_by q c) at ∙ is))
       by stage.Answers at live =
           let opening = ap (λ (q : Stage). is_opening q) at in
           let two = both c.syn_owed c.ack_owed (sym (ap (λ (q : Stage). owed_by q c f.up f.down) at) ∙ nothing) in
-          opening_settled s c f.up f.down past now h nothing early known opening two.1 (λ is. went (has_gone c.sendings) refl is opening two.0) (λ is. two.0) (λ d is. early d (ap (λ (q : Stage). due_by q c) at ∙ is))
+          opening_settled s c f.up f.down past now h nothing known opening two.1 (λ is. went (has_gone c.sendings) refl is opening two.0) (λ is. two.0) (λ early d is. early d (ap (λ (q : Stage). due_by q c) at ∙ is))
         where
           both : (a b : Bool) → (if a then Some SynAck else ack_if b) ≡ None → (a ≡ false) × (b ≡ false)
           both true b is = absurd cc
           both false true is = absurd cc
           both false false is = (refl, refl)
       by stage.Synchronized at live =
-          synchronized_settled s c f.up f.down past now h nothing early known (ap (λ (st : Stage). is_calls st) at) (ap (λ (st : Stage). is_opening st) at) (ap (λ (st : Stage). is_synchronized st) at)
+          synchronized_settled s c f.up f.down past now h nothing known (ap (λ (st : Stage). is_calls st) at) (ap (λ (st : Stage). is_opening st) at) (ap (λ (st : Stage). is_synchronized st) at)
           (ap (λ (st : Stage). owed_by st c f.up f.down) at, ap (λ (st : Stage). due_by st c) at)
       by stage.Rests at live = absurd cc
       by (stage.Resets seq ack) at live = absurd cc
       by stage.Gone at live = absurd cc
 
-  open_settled : is_open f ≡ true → (f.mac ≡ None → known ≡ false) → IsClearBy f.mac f → IsSettled s past known false now
+  open_settled : is_open f ≡ true → (f.mac ≡ None → known ≡ false) → IsClearBy f.mac f → IsSettledIf (IsAhead f.conn now) s past known false now
   open_settled open_yet unknown clear = by f.mac refl clear
     where
       takes : (p : Place) (q : Option Owed) → is_in_use p ≡ true → takes_part_at p q ≡ None → q ≡ None
@@ -199,14 +201,14 @@ module _ (s : Settings) (f : Splice) (past : Story) (now : ℕ) (known : Bool) (
       in_use true b is = refl
       in_use false b is = absurd cc
 
-      by : (m : Option Mac) → f.mac ≡ m → IsClearBy m f → IsSettled s past known false now
+      by : (m : Option Mac) → f.mac ≡ m → IsClearBy m f → IsSettledIf (IsAhead f.conn now) s past known false now
       by None is some =
           let two = o.unsent is in
-          subst (λ (k : Bool). IsSettled s past k false now) (sym (unknown is)) (seeking_settled s c f.up f.down past now f.asked f.ask_at h two.0 two.1 (some open_yet) (o.seeks is (some open_yet)))
+          subst (λ (k : Bool). IsSettledIf (IsAhead f.conn now) s past k false now) (sym (unknown is)) (seeking_settled (IsAhead f.conn now) s c f.up f.down past now f.asked f.ask_at h two.0 two.1 (some open_yet) (o.seeks is (some open_yet)))
       by (Some mac) is none = known_settled (takes f.place (owed_of c f.up f.down) (in_use (is_in_use f.place) f.shut open_yet) none)
 
-pub settled_is : (s : Settings) (f : Splice) (past : Story) (now : ℕ) (known : Bool) → Follows s f past now → IsClear f → (f.mac ≡ None → known ≡ false) → ((at : ℕ) → due_of f.conn ≡ Some at → now < at) → IsSettled s past known (is_at_rest f.place) now
-settled_is s f past now known h clear unknown early = by f.place f.shut refl refl h
+pub settled_is : (s : Settings) (f : Splice) (past : Story) (now : ℕ) (known : Bool) → Follows s f past now → IsClear f → (f.mac ≡ None → known ≡ false) → IsSettledIf (IsAhead f.conn now) s past known (is_at_rest f.place) now
+settled_is s f past now known h clear unknown = by f.place f.shut refl refl h
   where
     some_mac : (m : Option Mac) → f.mac ≡ m → (f.mac ≡ None → ⊥) → IsClearBy f.mac f → takes_part_at f.place (owed_of f.conn f.up f.down) ≡ None
     some_mac None is known_it clear = absurd (known_it is)
@@ -225,16 +227,16 @@ settled_is s f past now known h clear unknown early = by f.place f.shut refl ref
     no_ack true is = absurd cc
     no_ack false is = refl
 
-    by : (p : Place) (b : Bool) → f.place ≡ p → f.shut ≡ b → FollowsAt p b s f past now → IsSettled s past known (is_at_rest p) now
-    by Empty b at shut q = closed_settled s past now known false q.over.closed (q.over.owes ∙ q.owes_none) (λ is. absurd cc)
+    by : (p : Place) (b : Bool) → f.place ≡ p → f.shut ≡ b → FollowsAt p b s f past now → IsSettledIf (IsAhead f.conn now) s past known (is_at_rest p) now
+    by Empty b at shut q = closed_settled (IsAhead f.conn now) s past now known false q.over.closed (q.over.owes ∙ q.owes_none) (λ is. absurd cc)
     by InUse true at shut q =
         let none = subst (λ (p : Place). takes_part_at p (owed_of f.conn f.up f.down) ≡ None) at (some_mac f.mac refl q.known clear) in
         absurd (owed_none f.conn.stage refl q.owes none)
-    by InUse false at shut q = open_settled s f past now known q early (ap (λ (p : Place). is_in_use p && not f.shut) at ∙ ap not shut) unknown clear
+    by InUse false at shut q = open_settled s f past now known q (ap (λ (p : Place). is_in_use p && not f.shut) at ∙ ap not shut) unknown clear
     by (Resting since) b at shut q =
         let none = subst (λ (p : Place). takes_part_at p (owed_of f.conn f.up f.down) ≡ None) at (some_mac f.mac refl q.known clear) in
         let unowed = no_ack f.conn.ack_owed (sym (ap (λ (st : Stage). owed_by st f.conn f.up f.down) q.rests.at) ∙ none) in
-        closed_settled s past now known true q.rests.over.closed (q.rests.over.owes ∙ ap is_resets q.rests.at) (λ is. q.rests.answered unowed)
+        closed_settled (IsAhead f.conn now) s past now known true q.rests.over.closed (q.rests.over.owes ∙ ap is_resets q.rests.at) (λ is. q.rests.answered unowed)
 
 -- ---- whether it may be waited at all
 

@@ -6,7 +6,8 @@ ghost use Rattle.flow_laws.specs.Guest.{Honest, IsAcknowledged, front, written};
 ghost use Rattle.flow_laws.specs.Flow.{guest};
 ghost use Rattle.flow_laws.specs.Close.{is_in_use as is_in_use_by_law, rests_since};
 ghost use Rattle.flow_laws.specs.Lawful.{IsLawful, IsPrefixOf};
-ghost use Rattle.flow_laws.specs.Dutiful.{IsDutiful, IsSettled, MayWait};
+ghost use Rattle.flow_laws.specs.Dutiful.{IsDutiful, MayWait};
+ghost use Rattle.flow_steps.specs.Settled.{IsSettledIf};
 ghost use Rattle.connection_steps.specs.Holding.{is_connects};
 ghost use Rattle.flow_splice.specs.Ahead.{IsAhead};
 ghost use Rattle.flow_splice.specs.Follows.{Follows};
@@ -21,12 +22,13 @@ pub fn what_a_flow_did_was_lawful()
     ensures dutiful { (s : Settings) (f : Splice) (past : Story) (now : ℕ) → Follows s f past now → IsDutiful s past }
 {}
 
-/// Where a pump cleared the flow, and its connection's timer isn't due (as after a tick at this moment, by `Spliced::tick` and `pump`: `ahead`), all holds of it that is to hold whenever the program waits, unless the link is
-/// blocked: all octets, ends and resets that may go out are out, what came is acknowledged, the room is told, and what is under way goes again within a
-/// minute. The guest's hardware address isn't known where the flow doesn't have it.
+/// Where a pump cleared the flow, all holds of it that is to hold whenever the program waits, unless the link is blocked: all octets, ends and resets that may
+/// go out are out, what came is acknowledged, and the room is told. Where its connection's timer isn't due either (as after a tick at this moment with no
+/// acknowledgement owed, by `Spliced::tick` and `pump`: `ahead`), what is under way goes again within a minute. The guest's hardware address isn't known where
+/// the flow doesn't have it.
 pub fn a_flow_that_is_clear_is_settled()
     ensures { (s : Settings) (f : Splice) (past : Story) (now : ℕ) (known : Bool) → Follows s f past now → IsClear f → (f.mac ≡ None → known ≡ false)
-        → IsAhead f.conn now → IsSettled s past known (is_at_rest f.place) now }
+        → IsSettledIf (IsAhead f.conn now) s past known (is_at_rest f.place) now }
 {}
 
 /// It may be waited at all, where the socket's time to connect isn't over: a flow of which both ends passed is closed.

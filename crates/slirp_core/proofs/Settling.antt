@@ -1,4 +1,4 @@
--- After a tick no flow is late, and after a pump that ended clear each is settled.
+-- After a pump that ended clear each flow is settled.
 use Rattle.std.proofs.Common.{◌≡◌, ℕ, true, List, ◌++◌, Option, None, subst, sym}
 use Rattle.world_face.specs.Journal.{Entry}
 use Rattle.world_face.specs.Tells.{Brings, Telling}
@@ -7,24 +7,20 @@ use Rattle.flow_splice.specs.Splice.{Splice}
 use Rattle.spliced_flows.specs.Core.{CoreHolds}
 use Rattle.stream_netdev.specs.State.{LinkState}
 use Rattle.tcp_flows.specs.Reading.{AllClear}
-use Rattle.tcp_flows.specs.Settled.{AreSettled, ComeAhead, NoneLate, NoneOwesAck}
+use Rattle.tcp_flows.specs.Settled.{AreSettled, IsInTime}
 use Rattle.tcp_flows.proofs.Settling.{are_settled}
 use Rattle.slirp_core.specs.Holds.{AfterPump, Holds, Standing, flowing}
 use Rattle.slirp_core.specs.State.{SlirpState}
 use Rattle.slirp_core.specs.declared.sending.Pumped.{Pumped}
 use Rattle.slirp_core.specs.declared.sending.Pumped.TheVariants.{Clear}
 
--- none is late where none owed an acknowledgement
-pub none_late : (now : ℕ) (old new : List (Option Splice)) → ComeAhead now old new → NoneOwesAck old → NoneLate now new
-none_late now old new come unowed k q is = let was = come k q is in was.2 (unowed k was.0 was.1)
-
--- all flows of the record are settled where those of the slots are clear, and none is late
+-- all flows of the record are settled where those of the slots are clear
 pub pumped_settled : {a b : Telling} (config : Config) (at : Standing) (now : ℕ) (old new : SlirpState) (link next : LinkState) (result : Pumped) → result ≡ Clear → new.moment ≡ now
     → Brings a b (Holds config at old (flowing true old.flows) link) (AfterPump result config at new (flowing true new.flows) next)
     → AllClear new.flows.flows.parts
-    → ((past : List Entry) → CoreHolds config old.moment true None old.flows.flows past → NoneLate now new.flows.flows.parts)
-    → Brings a b (Holds config at old (flowing true old.flows) link) (λ past. Holds config at new (flowing true new.flows) next past × AreSettled config now past)
-pumped_settled config at now old new link next result ended same pumps clear late = record {
+    → ((past : List Entry) → CoreHolds config old.moment true None old.flows.flows past → (n : ℕ) → IsInTime now old.flows.flows.parts n → IsInTime now new.flows.flows.parts n)
+    → Brings a b (Holds config at old (flowing true old.flows) link) (λ past. Holds config at new (flowing true new.flows) next past × AreSettled config now old.flows.flows.parts past)
+pumped_settled config at now old new link next result ended same pumps clear keeps = record {
   made = pumps.made;
   same = pumps.same;
   allowed = pumps.allowed;
@@ -35,7 +31,13 @@ pumped_settled config at now old new link next result ended same pumps clear lat
       (after, settles past holds after);
 }
   where
-    settles : (past : List Entry) → Holds config at old (flowing true old.flows) link past → Holds config at new (flowing true new.flows) next (pumps.made ++ past) → AreSettled config now (pumps.made ++ past)
-    settles past holds after =
-        subst (λ (m : ℕ). AreSettled config m (pumps.made ++ past)) same
-        (are_settled config new.moment new.flows.flows (pumps.made ++ past) after.clock.moment after.flows.holds clear (subst (λ (m : ℕ). NoneLate m new.flows.flows.parts) (sym same) (late past holds.flows.holds)))
+    settles : (past : List Entry) → Holds config at old (flowing true old.flows) link past → Holds config at new (flowing true new.flows) next (pumps.made ++ past) → AreSettled config now old.flows.flows.parts (pumps.made ++ past)
+    settles past holds after n f known found opened =
+        let settled = subst (λ (m : ℕ). AreSettled config m new.flows.flows.parts (pumps.made ++ past)) same
+            (are_settled config new.moment new.flows.flows (pumps.made ++ past) after.clock.moment after.flows.holds clear) n f known found opened in
+        record {
+          sends = settled.sends;
+          acknowledges = settled.acknowledges;
+          window = settled.window;
+          resends = λ early. settled.resends (keeps past holds.flows.holds n early);
+        }

@@ -72,7 +72,7 @@ impl Slirp {
     ghost use Rattle.slirp_core.specs.Hearing.{ClosesByKind, WhereItTicks};
     ghost use Rattle.tcp_flows.specs.Runs.{ClosesRising};
     ghost use Rattle.tcp_flows.specs.Reading.{IsFirst, IsOpenAt, NoneIsAbove};
-    ghost use Rattle.tcp_flows.specs.Settled.{NoneLate, NoneOwesAck};
+    ghost use Rattle.tcp_flows.specs.Settled.{IsInTime, OwesNoAck};
     ghost use Rattle.world_face.specs.Journal.{Entry};
     ghost use Rattle.flow_splice.specs.Splice.{Splice};
     ghost use Rattle.flow_splice.specs.Wants.{connect_end};
@@ -234,7 +234,7 @@ impl Slirp {
 
     /// Begins a turn after which another wait may come: the flows are told the time, the fragments that have waited for 60,000 milliseconds are dropped, and the
     /// sockets of datagrams whose idle life is over are closed. Of each kind sockets are closed by rising number. There are at most 2^45 turns.
-    /// Where no open flow owed an acknowledgement, the timer of none is due then.
+    /// A flow that owed no acknowledgement is in time then: its timer isn't due.
     pub fn tick<W: World>(&mut self, world: &mut W)
         requires { self.old.flows.turn < 2 ^ 45 }
         ensures makes { (config : Config) (count : ℕ) (link : LinkState) → count < config.turns → Brings (W.tells world.old) (W.tells world.new)
@@ -243,7 +243,7 @@ impl Slirp {
         ensures none { All (λ a. is_over self.new.moment a ≡ false) self.new.associations }
         ensures connects { (k : ℕ) (p : Splice) → IsOpenAt self.new.flows.flows.parts k p → is_connects p.conn.stage ≡ true → self.new.moment < connect_end p }
         ensures ahead { (config : Config) (at : Standing) (aged : Bool) (link : LinkState) (past : List Entry) → Holds config at self.old (flowing aged self.old.flows) link past
-            → NoneOwesAck self.old.flows.flows.parts → NoneLate self.new.moment self.new.flows.flows.parts }
+            → (n : ℕ) → OwesNoAck self.old.flows.flows.parts n → IsInTime self.new.moment self.new.flows.flows.parts n }
         ensures parts { (held : List PartSet) → IsHeld self.old.parts held → IsHeld self.new.parts (young self.old.moment held) }
         ensures turn { self.new.flows.turn ≡ self.old.flows.turn + 1 }
         ensures same { self.new ≡ record self.old { associations = self.new.associations; parts = self.new.parts; flows = self.new.flows } }
@@ -260,8 +260,8 @@ impl Slirp {
             (Holds config (after count) self.old (flowing false self.old.flows) link) (Holds config (after count) self.new (flowing true self.new.flows) link) }
         ensures rising { Makes (W.tells world.old) (W.tells world.new) (λ made. WhereItTicks self.old (ClosesRising made)) }
         ensures connects { (k : ℕ) (p : Splice) → IsOpenAt self.new.flows.flows.parts k p → is_connects p.conn.stage ≡ true → self.new.moment < connect_end p }
-        ensures ahead { (config : Config) (before : ℕ) (aged : Bool) (past : List Entry) → CoreHolds config before aged None self.old.flows.flows past → NoneOwesAck self.old.flows.flows.parts
-            → NoneLate self.new.moment self.new.flows.flows.parts }
+        ensures ahead { (config : Config) (before : ℕ) (aged : Bool) (past : List Entry) → CoreHolds config before aged None self.old.flows.flows past → (n : ℕ) → OwesNoAck self.old.flows.flows.parts n
+            → IsInTime self.new.moment self.new.flows.flows.parts n }
         ensures turn { self.new.flows.turn ≡ self.old.flows.turn }
         ensures same { self.new ≡ record self.old { flows = self.new.flows } }
     {

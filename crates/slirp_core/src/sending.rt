@@ -34,7 +34,7 @@ impl Slirp {
     ghost use Rattle.std.specs.Prelude.{ℕ, Bool, List, None, true};
     ghost use Rattle.world_face.specs.Journal.{Entry};
     ghost use Rattle.spliced_flows.specs.Core.{CoreHolds};
-    ghost use Rattle.tcp_flows.specs.Settled.{AreSettled, NoneLate};
+    ghost use Rattle.tcp_flows.specs.Settled.{AreSettled, IsInTime};
 
     /// Whether nothing is left to be sent.
     pub fn is_settled(&self, link: &Link) -> bool
@@ -51,14 +51,15 @@ impl Slirp {
     }
 
     /// Sends what is owed, until the link is blocked: the rest of the frame before, then the pending ones, then what the flows owe, by rising number.
-    /// Where all of it is out, and no open flow's timer was due before, each flow of the record that its guest opened is settled: it may be waited.
+    /// Where all of it is out, each flow of the record that its guest opened is settled: it may be waited. What is under way goes again within a minute for each
+    /// flow whose timer wasn't due before.
     pub fn pump<W: World>(&mut self, world: &mut W, link: &mut Link) -> Pumped
         ensures makes { (config : Config) (at : Standing) (aged : Bool) → Brings (W.tells world.old) (W.tells world.new)
             (Holds config at self.old (flowing aged self.old.flows) link.old) (AfterPump result config at self.new (flowing aged self.new.flows) link.new) }
         ensures failed { result ≡ Pumped.Failed → Rose (W.tells world.old).faults.link (W.tells world.new).faults.link }
         ensures leaves { Leaves result self.new link.new }
-        ensures settled { (config : Config) (at : Standing) → result ≡ Pumped.Clear → NoneLate self.old.moment self.old.flows.flows.parts → Brings (W.tells world.old) (W.tells world.new)
-            (Holds config at self.old (flowing true self.old.flows) link.old) (λ past. Holds config at self.new (flowing true self.new.flows) link.new past × AreSettled config self.old.moment past) }
+        ensures settled { (config : Config) (at : Standing) → result ≡ Pumped.Clear → Brings (W.tells world.old) (W.tells world.new)
+            (Holds config at self.old (flowing true self.old.flows) link.old) (λ past. Holds config at self.new (flowing true self.new.flows) link.new past × AreSettled config self.old.moment self.old.flows.flows.parts past) }
         ensures same { under_way link.new ≡ under_way link.old }
         ensures config { self.new.config ≡ self.old.config }
         ensures number { self.new.number ≡ self.old.number }
@@ -81,8 +82,8 @@ impl Slirp {
             (Holds config at self.old (flowing aged self.old.flows) link.old) (AfterPump result config at self.new (flowing aged self.new.flows) link.new) }
         ensures failed { result ≡ Pumped.Failed → Rose (W.tells world.old).faults.link (W.tells world.new).faults.link }
         ensures leaves { Leaves result self.new link.new }
-        ensures ahead { (config : Config) (before : ℕ) (aged : Bool) (past : List Entry) → CoreHolds config before aged None self.old.flows.flows past → NoneLate self.old.moment self.old.flows.flows.parts
-            → NoneLate self.old.moment self.new.flows.flows.parts }
+        ensures ahead { (config : Config) (before : ℕ) (aged : Bool) (past : List Entry) → CoreHolds config before aged None self.old.flows.flows past → (n : ℕ) → IsInTime self.old.moment self.old.flows.flows.parts n
+            → IsInTime self.old.moment self.new.flows.flows.parts n }
         ensures same { under_way link.new ≡ under_way link.old }
         ensures turn { self.new.flows.turn ≡ self.old.flows.turn }
         ensures others { self.new ≡ record self.old { sent = self.new.sent; flows = self.new.flows } }

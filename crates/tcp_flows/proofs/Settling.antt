@@ -1,4 +1,4 @@
--- Where no flow owes a frame and none is late, each flow of the record is settled.
+-- Where no flow owes a frame, each flow of the record is settled.
 use Rattle.std.proofs.Common.{refl, ◌≡◌, ℕ, ◌+◌, Bool, true, false, not, ◌&&◌, ◌||◌, List, filter, slice_get, Some, None, Option, IsTrue, ap, sym, ◌∙◌, subst}
 use Rattle.world_face.specs.Journal.{Entry}
 use Rattle.host_policy.specs.Addresses.{Config}
@@ -8,10 +8,8 @@ use Rattle.flow_table.specs.declared.Tuple.{Tuple}
 use Rattle.run_laws.specs.Moments.{moment}
 use Rattle.flow_laws.specs.Settings.{Settings}
 use Rattle.flow_laws.specs.Event.{Story}
-use Rattle.flow_laws.specs.Flow.{has_connected, host, is_accepted, is_closed, is_under_way}
-use Rattle.flow_laws.specs.Host.{answered}
+use Rattle.flow_laws.specs.Flow.{is_accepted, is_closed}
 use Rattle.flow_laws.specs.Close.{is_in_use as is_in_use_by_law, owes_reset, rests_since}
-use Rattle.flow_laws.specs.Dutiful.{AreAhead, IsSettled, moment_if, waits_since}
 use Rattle.flow_book.specs.Book.{book, is_young}
 use Rattle.flow_book.specs.Flows.{Flow, Rest, flow_of, rests_among, uses}
 use Rattle.flow_book.specs.Laws.{flow_settings}
@@ -19,51 +17,22 @@ use Rattle.run_laws.specs.Sockets.{is_among}
 use Rattle.core_flows.proofs.Only.{number_of_found}
 use Rattle.core_flows.specs.FlowsHold.{FlowsState}
 use Rattle.core_flows.specs.Seats.{IsSlotOf, number_at, rests_at}
+use Rattle.flow_steps.specs.Settled.{IsSettledIf}
+use Rattle.flow_splice.specs.Ahead.{IsAhead}
 use Rattle.flow_splice.specs.Follows.{FollowsAt}
 use Rattle.flow_splice.specs.Splice.{Splice, is_at_rest, is_in_use}
 use Rattle.flow_splice.specs.declared.Place.{Place}
 use Rattle.flow_splice.specs.declared.Place.TheVariants.{Empty, InUse, Resting}
-use Rattle.flow_splice.proofs.Promises.{lawful_is, place_is, rest_none, settled_is}
+use Rattle.flow_splice.proofs.Promises.{closed_settled, lawful_is, place_is, rest_none, settled_is}
 use Rattle.spliced_flows.specs.Core.{CoreHolds, Following, number_of}
 use Rattle.spliced_flows.proofs.Looking.{among_rests, given, part_of, rests_any}
 use Rattle.spliced_flows.proofs.Options.{none_some, some_same, true_false}
 use Rattle.tcp_flows.specs.Reading.{AllClear}
-use Rattle.tcp_flows.specs.Settled.{AreSettled, NoneLate}
+use Rattle.tcp_flows.specs.Settled.{AreSettled, IsInTime}
 use Rattle.tcp_flows.proofs.Ahead.{have_stories, story_ahead}
 use Rattle.tcp_flows.proofs.Begun.{fewer_filter, rest_begun}
 
 -- ---- a flow that is closed and owes no reset
-
-closed_not : (a b : Bool) → b ≡ true → IsTrue (a && not b) → ⊥
-closed_not true b is so = let not_it = sym (ap not is) ∙ so in absurd cc
-closed_not false b is so = absurd cc
-
-closed_last : (a b d : Bool) → d ≡ true → IsTrue (a && b && not d) → ⊥
-closed_last true b d is so = closed_not b d is so
-closed_last false b d is so = absurd cc
-
--- it is settled, unless it rests
-closed_settled : (s : Settings) (past : Story) (now : ℕ) (known : Bool) → is_closed past ≡ true → owes_reset past ≡ false → IsSettled s past known false now
-closed_settled s past now known shut none = record {
-  sends = record {
-    reset = none;
-    syn_ack = λ is. absurd (closed_not (has_connected past) (is_closed past) shut is);
-    syn = λ is. absurd (closed_not (is_accepted past) (is_closed past) shut is);
-    octets = λ is. absurd (closed_not (answered (host past)) (is_closed past) shut is);
-  };
-  acknowledges = record {
-    opening = λ is. absurd (closed_last (is_accepted past) _ (is_closed past) shut is);
-    each = λ is. let not_it = sym shut ∙ is in absurd cc;
-    all = λ is. let not_it = sym shut ∙ is in absurd cc;
-    resting = λ is. absurd cc;
-  };
-  window = λ honest is. absurd (closed_not (answered (host past)) (is_closed past) shut is);
-  resends = subst (λ (b : Bool). AreAhead now (moment_if b (waits_since past + 60000))) (sym (no_way (is_under_way past) (is_closed past) shut)) tt;
-}
-  where
-    no_way : (a b : Bool) → b ≡ true → (a && not b) ≡ false
-    no_way true b is = ap not is
-    no_way false b is = refl
 
 -- a flow that isn't in use is so
 unused : (a b : Bool) → (not a || b) ≡ false → (a ≡ true) × (b ≡ false)
@@ -99,7 +68,7 @@ unused_rests p some is = by p.place refl is
 -- ---- each flow of the record
 
 module _ (config : Config) (now : ℕ) (state : FlowsState Splice) (past : List Entry) (at : moment past ≡ now) (holds : CoreHolds config now true None state past)
-    (clear : AllClear state.parts) (none : NoneLate now state.parts) where
+    (clear : AllClear state.parts) where
   abbrev young : List Rest
   young = filter (is_young (moment past)) (book config past).rests
 
@@ -107,6 +76,7 @@ module _ (config : Config) (now : ℕ) (state : FlowsState Splice) (past : List 
   record HasSeat (n : ℕ) (f : Flow) (k : ℕ) (p : Splice) (s : Slot) : Type 0 where
     here : slice_get state.parts k ≡ Some (Some p)
     number : f.number ≡ n
+    numbered : f.number ≡ number_of p
     follows : Following config now p f.story
     slot : slice_get state.table.slots k ≡ Some s
     of_it : IsSlotOf young f s
@@ -121,6 +91,7 @@ module _ (config : Config) (now : ℕ) (state : FlowsState Splice) (past : List 
         record {
           here = part.1;
           number = sym (ap (λ (x : Flow). x.number) one) ∙ seat.3 ∙ part.2;
+          numbered = sym (ap (λ (x : Flow). x.number) one) ∙ seat.3;
           follows = subst (λ (x : Flow). Following config now part.0 x.story) one seat.4;
           slot = seat.5;
           of_it = subst (λ (x : Flow). IsSlotOf young x seat.1) one seat.6;
@@ -159,15 +130,23 @@ module _ (config : Config) (now : ℕ) (state : FlowsState Splice) (past : List 
           (fewer_filter (is_young (moment past)) (book config past).rests f.number (rests_any (record { number = f.number; since = since }) young of_it.1)) unrested
 
   -- it is settled as its part is
-  seated_settled : (n k : ℕ) (f : Flow) (p : Splice) (s : Slot) (known : Bool) → flow_of n (book config past).flows ≡ Some f → HasSeat n f k p s → is_accepted f.story ≡ false → IsSettled (flow_settings config) f.story known (is_at_rest p.place) now
-  seated_settled n k f p s known found seat opened =
-      settled_is (flow_settings config) p f.story now known seat.follows (clear k p seat.here)
-      (λ unknown. absurd (known_mac (flow_settings config) p f.story now (placed n k f p s found seat) seat.follows opened unknown))
-      (story_ahead now p (have_stories config now true None state past holds k p seat.here) (λ open_yet. none k p (record { here = seat.here; open_yet = open_yet })))
+  seated_settled : (n k : ℕ) (f : Flow) (p : Splice) (s : Slot) (known : Bool) → flow_of n (book config past).flows ≡ Some f → HasSeat n f k p s → is_accepted f.story ≡ false → IsSettledIf (IsInTime now state.parts n) (flow_settings config) f.story known (is_at_rest p.place) now
+  seated_settled n k f p s known found seat opened = record {
+    sends = settled.sends;
+    acknowledges = settled.acknowledges;
+    window = settled.window;
+    resends = λ soon. settled.resends
+        (story_ahead now p (have_stories config now true None state past holds k p seat.here) (λ open_yet. soon k p (record { here = seat.here; open_yet = open_yet }) (sym seat.numbered ∙ seat.number)));
+  }
+    where
+      settled : IsSettledIf (IsAhead p.conn now) (flow_settings config) f.story known (is_at_rest p.place) now
+      settled =
+          settled_is (flow_settings config) p f.story now known seat.follows (clear k p seat.here)
+          (λ unknown. absurd (known_mac (flow_settings config) p f.story now (placed n k f p s found seat) seat.follows opened unknown))
 
   module _ (n : ℕ) (f : Flow) (known : Bool) (found : flow_of n (book config past).flows ≡ Some f) (opened : is_accepted f.story ≡ false) where
     abbrev Settled : Bool → Type 0
-    Settled rests = IsSettled (flow_settings config) f.story known rests now
+    Settled rests = IsSettledIf (IsInTime now state.parts n) (flow_settings config) f.story known rests now
 
     -- a flow in use
     used_settled : is_in_use_by_law f.story ≡ true → Settled (rests_among young (Some f))
@@ -191,7 +170,7 @@ module _ (config : Config) (now : ℕ) (state : FlowsState Splice) (past : List 
 
     -- one that isn't
     unused_settled : is_in_use_by_law f.story ≡ false → (b : Bool) → rests_among young (Some f) ≡ b → Settled b
-    unused_settled out false is = let two = unused (is_closed f.story) (owes_reset f.story) out in closed_settled (flow_settings config) f.story now known two.0 two.1
+    unused_settled out false is = let two = unused (is_closed f.story) (owes_reset f.story) out in closed_settled (IsInTime now state.parts n) (flow_settings config) f.story now known false two.0 two.1 (λ is. absurd cc)
     unused_settled out true is =
         let other = resting_seat f is in
         let mine = seat_of_rest other.0 other.4 in
@@ -212,6 +191,6 @@ module _ (config : Config) (now : ℕ) (state : FlowsState Splice) (past : List 
         by true is = used_settled is
         by false is = unused_settled is (rests_among young (Some f)) refl
 
-  pub are_settled : AreSettled config now past
+  pub are_settled : AreSettled config now state.parts past
   are_settled n f known found opened =
-      subst (λ (m : ℕ). IsSettled (flow_settings config) f.story known (rests_among (filter (is_young m) (book config past).rests) (Some f)) now) at (young_settled n f known found opened)
+      subst (λ (m : ℕ). IsSettledIf (IsInTime now state.parts n) (flow_settings config) f.story known (rests_among (filter (is_young m) (book config past).rests) (Some f)) now) at (young_settled n f known found opened)

@@ -1,7 +1,7 @@
 use Rattle.std.proofs.Common.{None, sym, ◌∙◌, ap, subst}
 use Rattle.world_face.specs.Tells.{Brings}
 use Rattle.spliced_flows.specs.Core.{CoreHolds}
-use Rattle.tcp_flows.specs.Settled.{NoneLate}
+use Rattle.tcp_flows.specs.Settled.{IsInTime}
 use Rattle.slirp_core.specs.Holds.{AfterPump, Holds, flowing}
 use Rattle.slirp_core.specs.Pumps.{pumped_flows}
 use Rattle.slirp_core.specs.State.{SlirpState}
@@ -24,12 +24,11 @@ returns-clause-makes g c config at aged =
     (pumped_so config at slirp aged i.flows new c.args.link.now c.pump-pumped.new.link past made c.pump-pumped.new.ident result none allowed pumps.0 pumps.1 holds))))
 
 pub returns-clause-ahead : goal.returns-clause-ahead
-returns-clause-ahead g c config before aged past holds none =
-    let i = c.self.inside in
+returns-clause-ahead g c config before aged past holds n early =
     let view = c.self.view_is in
-    subst (λ (s : SlirpState). NoneLate s.moment c.pump-pumped.new.self.flows.parts) view
-    (c.pump-pumped.ensures.ahead config before aged past (subst (λ (s : SlirpState). CoreHolds config before aged None s.flows.flows past) (sym view) holds)
-    (subst (λ (s : SlirpState). NoneLate s.moment s.flows.flows.parts) (sym view) none))
+    subst (λ (s : SlirpState). IsInTime s.moment c.pump-pumped.new.self.flows.parts n) view
+    (c.pump-pumped.ensures.ahead config before aged past (subst (λ (s : SlirpState). CoreHolds config before aged None s.flows.flows past) (sym view) holds) n
+    (subst (λ (s : SlirpState). IsInTime s.moment s.flows.flows.parts n) (sym view) early))
 
 pub invariant_of-self : goal.invariant_of-self
 invariant_of-self g c =

@@ -3,13 +3,12 @@ use Rattle.world_face.specs.Tells.{Brings, Makes}
 use Rattle.world_face.proofs.Telling.{makes_as}
 use Rattle.spliced_flows.specs.Core.{CoreHolds}
 use Rattle.tcp_flows.specs.Runs.{ClosesRising}
-use Rattle.tcp_flows.specs.Settled.{NoneOwesAck}
+use Rattle.tcp_flows.specs.Settled.{OwesNoAck}
 use Rattle.slirp_core.specs.Holds.{Holds, after, flowing}
 use Rattle.slirp_core.specs.State.{SlirpState}
 use Rattle.slirp_core.specs.Hearing.{WhereItTicks}
 use Rattle.slirp_core.proofs.Called.{flows_put, told_rising, told_the_time}
 use Rattle.slirp_core.proofs.Drawn.{drawn_stay}
-use Rattle.slirp_core.proofs.Settling.{none_late}
 use Rattle.slirp_core.proofs.Telling.{brings_allowed}
 use Rattle.slirp_core.proofs.network.Slirp.tell_flows.Goals as goal
 
@@ -29,11 +28,9 @@ returns-clause-rising g c =
     (makes_as _ _ _ (λ made. WhereItTicks slirp (ClosesRising made)) c.tick.ensures.makes (λ made ticks config count link past few holds. told_rising config count slirp i.flows c.tick.new.self link past made few ticks.0 ticks.1 holds))
 
 pub returns-clause-ahead : goal.returns-clause-ahead
-returns-clause-ahead g c config before aged past holds unowed =
-    let i = c.self.inside in
-    none_late i.moment i.flows.flows.parts c.tick.new.self.flows.parts
-    (c.tick.ensures.ahead config before aged past (subst (λ (s : SlirpState). CoreHolds config before aged None s.flows.flows past) (sym c.self.view_is) holds))
-    (subst (λ (s : SlirpState). NoneOwesAck s.flows.flows.parts) (sym c.self.view_is) unowed)
+returns-clause-ahead g c config before aged past holds n unowed =
+    c.tick.ensures.ahead config before aged past (subst (λ (s : SlirpState). CoreHolds config before aged None s.flows.flows past) (sym c.self.view_is) holds) n
+    (subst (λ (s : SlirpState). OwesNoAck s.flows.flows.parts n) (sym c.self.view_is) unowed)
 
 pub invariant_of-self : goal.invariant_of-self
 invariant_of-self g c =

@@ -6,7 +6,7 @@ use Rattle.core_flows.specs.FlowsHold.{FlowsState}
 use Rattle.flow_splice.specs.Splice.{Splice}
 use Rattle.spliced_flows.specs.Core.{CoreHolds}
 use Rattle.tcp_flows.specs.Kept.{Kept}
-use Rattle.tcp_flows.specs.Settled.{NoneLate, NoneOwesAck}
+use Rattle.tcp_flows.specs.Settled.{IsInTime, OwesNoAck}
 use Rattle.tcp_flows.specs.Runs.{ClosesRising}
 use Rattle.slirp_core.specs.Hearing.{ClosesByKind, WhereItTicks}
 use Rattle.slirp_core.specs.Holds.{Holds, after, flowing}
@@ -50,11 +50,11 @@ returns-clause-rising g c =
     }))
 
 pub returns-clause-ahead : goal.returns-clause-ahead
-returns-clause-ahead g c config at aged link past holds unowed =
+returns-clause-ahead g c config at aged link past holds n unowed =
     let i = c.self.inside in
     let begun : Kept = c.begin_turn.new.self in
     let same : begun.flows ≡ c.args.self.now.flows.flows = ap (λ (k : Kept). k.flows) c.begin_turn.ensures.turn ∙ ap (λ (s : SlirpState). s.flows.flows) c.self.view_is in
-    subst (λ (s : SlirpState). NoneLate s.moment s.flows.flows.parts) (sym c.close_unused.ensures.same)
-    (subst (λ (s : SlirpState). NoneLate s.moment s.flows.flows.parts) (sym c.drop_parts.ensures.same)
-    (c.tell_flows.ensures.ahead config c.args.self.now.moment aged past (subst (λ (f : FlowsState Splice). CoreHolds config c.args.self.now.moment aged None f past) (sym same) holds.flows.holds)
-    (subst (λ (f : FlowsState Splice). NoneOwesAck f.parts) (sym same) unowed)))
+    subst (λ (s : SlirpState). IsInTime s.moment s.flows.flows.parts n) (sym c.close_unused.ensures.same)
+    (subst (λ (s : SlirpState). IsInTime s.moment s.flows.flows.parts n) (sym c.drop_parts.ensures.same)
+    (c.tell_flows.ensures.ahead config c.args.self.now.moment aged past (subst (λ (f : FlowsState Splice). CoreHolds config c.args.self.now.moment aged None f past) (sym same) holds.flows.holds) n
+    (subst (λ (f : FlowsState Splice). OwesNoAck f.parts n) (sym same) unowed)))
