@@ -3,21 +3,21 @@ use std::alloc::Global;
 use std::test::Fail;
 
 /// Whether the calls of a run whose link is first readable at the moment 1000 are what it does.
-pub fn is_followed(alloc: Global, calls: &str) -> Result<bool, Fail> {
+pub(crate) fn is_followed(alloc: Global, calls: &str) -> Result<bool, Fail> {
     let schedule = format!(in alloc; "{STARTS}{calls}")?;
     let out = format!(in alloc; "{schedule}end 0\n")?;
     gives(alloc, schedule.as_str(), 0, out.as_str(), "")
 }
 
 /// The same of a run with these words.
-pub fn is_followed_with(alloc: Global, words: &[&str], calls: &str) -> Result<bool, Fail> {
+pub(crate) fn is_followed_with(alloc: Global, words: &[&str], calls: &str) -> Result<bool, Fail> {
     let schedule = format!(in alloc; "{STARTS}{calls}")?;
     let out = format!(in alloc; "{schedule}end 0\n")?;
     gives_with(alloc, words, schedule.as_str(), 0, out.as_str(), "")
 }
 
 /// Whether a network with room for one connection makes these calls behind a beginning, and ends with 0. Waits and offers may be stars.
-pub fn ends_well(alloc: Global, beginning: &str, calls: &str) -> Result<bool, Fail> {
+pub(crate) fn ends_well(alloc: Global, beginning: &str, calls: &str) -> Result<bool, Fail> {
     let schedule = format!(in alloc; "{beginning}{calls}")?;
     let words = ["replay", "f", "--flows", "1"];
     let ran = replayed(alloc, &words, schedule.as_str())?;
@@ -25,29 +25,29 @@ pub fn ends_well(alloc: Global, beginning: &str, calls: &str) -> Result<bool, Fa
 }
 
 /// Whether these calls follow those by which a connection is opened, at the moment 1020: the guest's next number is 1001, ours 250001.
-pub fn goes_on(alloc: Global, calls: &str) -> Result<bool, Fail> {
+pub(crate) fn goes_on(alloc: Global, calls: &str) -> Result<bool, Fail> {
     let opened = format!(in alloc;
         "{SYN}{CONNECTED}{SYN_ACK}wait 1000 link:r,t0:r = ready link:r\nnow = 1020\n{ACK}{calls}"
     )?;
     is_followed(alloc, opened.as_str())
 }
 
-pub const STARTS: &str = "now = 0\nwait - link:r = ready link:r\nnow = 1000\n";
+pub(crate) const STARTS: &str = "now = 0\nwait - link:r = ready link:r\nnow = 1000\n";
 
 /// SYN with the number 1000 from port 4000 to 192.0.2.7:80, MSS 1460.
-pub const SYN: &str =
+pub(crate) const SYN: &str =
     "lread 4 = done 0000003a\nlread 58 = done 52550a00020252540012345608004500002c000300004006acb30a00020fc00002070fa00050000003e8000000006002ffffb6380000020405b4\n";
 
 /// The host connects, and has connected at the moment 1010.
-pub const CONNECTED: &str =
+pub(crate) const CONNECTED: &str =
     "connect 0 192.0.2.7:80 = done\nwait 75000 link:r,t0:w = ready t0:w\nnow = 1010\nconnected 0 = yes\n";
 
 /// SYN and ACK with the number 250000, which acknowledges 1001: window 65535, MSS 1460.
-pub const SYN_ACK: &str =
+pub(crate) const SYN_ACK: &str =
     "lwrite 0000003a52540012345652550a00020208004500002c000000004006acb6c00002070a00020f00500fa00003d090000003e96012ffffe5930000020405b4 = done 62\n";
 
 /// ACK of 250001 with the number 1001.
-pub const ACK: &str =
+pub(crate) const ACK: &str =
     "lread 4 = done 00000036\nlread 54 = done 52550a000202525400123456080045000028000300004006acb70a00020fc00002070fa00050000003e90003d0915010fffffd500000\n";
 
 /// RST and ACK with the number 0, which acknowledges 1001; window 0.
@@ -61,7 +61,7 @@ const EARLY: &str =
 const RST_1002: &str =
     "lread 4 = done 00000036\nlread 54 = done 52550a000202525400123456080045000028000300004006acb70a00020fc00002070fa00050000003ea000000005004ffffcdf00000\n";
 
-pub const RST_1001: &str =
+pub(crate) const RST_1001: &str =
     "lread 4 = done 00000036\nlread 54 = done 52550a000202525400123456080045000028000300004006acb70a00020fc00002070fa00050000003e9000000005004ffffcdf10000\n";
 
 /// SYN with the number 1000 to 10.0.2.2:7, and SYN and ACK with 250000 from there.

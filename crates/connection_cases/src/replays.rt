@@ -6,10 +6,10 @@ use world_face::VecSink;
 
 /// What `slirp_main` gave: its status, and what it put.
 #[derive(Drop)]
-pub struct Outputs {
-    pub status: u8,
-    pub out: VecSink,
-    pub err: VecSink,
+pub(crate) struct Outputs {
+    pub(crate) status: u8,
+    pub(crate) out: VecSink,
+    pub(crate) err: VecSink,
 }
 
 /// Room for what a run puts.
@@ -32,7 +32,7 @@ fn ran(alloc: Global, words: &[&str], outer: &str) -> Result<Outputs, Fail> {
 }
 
 /// Runs these words where the file f has this content.
-pub fn replayed(alloc: Global, words: &[&str], content: &str) -> Result<Outputs, Fail> {
+pub(crate) fn replayed(alloc: Global, words: &[&str], content: &str) -> Result<Outputs, Fail> {
     let length = content.len();
     let mut outer = format!(in alloc; "flen 66 = len {length}\n")?;
     let mut place = 0u64;
@@ -47,12 +47,12 @@ pub fn replayed(alloc: Global, words: &[&str], content: &str) -> Result<Outputs,
 }
 
 /// Whether the content's replay has this status and puts this.
-pub fn gives(alloc: Global, content: &str, status: u8, out: &str, err: &str) -> Result<bool, Fail> {
+pub(crate) fn gives(alloc: Global, content: &str, status: u8, out: &str, err: &str) -> Result<bool, Fail> {
     gives_with(alloc, &["replay", "f"][..], content, status, out, err)
 }
 
 /// The same of a run of these words, where the file f has this content.
-pub fn gives_with(
+pub(crate) fn gives_with(
     alloc: Global,
     words: &[&str],
     content: &str,
@@ -68,8 +68,8 @@ pub fn gives_with(
     )
 }
 
-pub const ARP_REQUEST: &str =
+pub(crate) const ARP_REQUEST: &str =
     "lread 4 = done 0000002a\nlread 42 = done ffffffffffff525400123456080600010800060400015254001234560a00020f0000000000000a0002";
 
-pub const ARP_REPLY: &str =
+pub(crate) const ARP_REPLY: &str =
     "lwrite 0000002a52540012345652550a0002020806000108000604000252550a0002020a0002025254001234560a00020f = done 46\n";

@@ -3,7 +3,7 @@ use std::alloc::Global;
 use std::test::Fail;
 
 /// The octets of a stream from one place to another in hexadecimal: octet i is i modulo 251.
-pub fn stream(alloc: Global, from: u64, to: u64) -> Result<String, Fail> {
+pub(crate) fn stream(alloc: Global, from: u64, to: u64) -> Result<String, Fail> {
     let mut octets = Vec::new(alloc);
     for place in from..to {
         octets.push((place % 251) as u8)?;
@@ -12,7 +12,7 @@ pub fn stream(alloc: Global, from: u64, to: u64) -> Result<String, Fail> {
 }
 
 /// A frame of the guest of this length: a head, and the octets of the stream from one place to another.
-pub fn comes(alloc: Global, length: &str, head: &str, from: u64, to: u64) -> Result<String, Fail> {
+pub(crate) fn comes(alloc: Global, length: &str, head: &str, from: u64, to: u64) -> Result<String, Fail> {
     let octets = stream(alloc, from, to)?;
     let frame = to.saturating_sub(from).saturating_add(54u64);
     let lines = format!(in alloc;

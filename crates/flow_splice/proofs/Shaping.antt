@@ -8,9 +8,9 @@ use Rattle.stream_netdev.specs.Offers.{offered}
 use Rattle.stream_netdev.specs.declared.Offered.{Offered}
 use Rattle.stream_netdev.specs.declared.Offered.TheVariants.{Failed}
 use Rattle.tcp_guest.specs.declared.Owed.{Owed}
-use Rattle.flow_splice.specs.Hosts.{Sees}
+use Rattle.flow_splice.specs.Hosts.{Sees, is_for_writing, shuts}
 use Rattle.flow_splice.specs.Sends.{Marks, pumped_of}
-use Rattle.flow_splice.specs.Shapes.{IsHostWork, IsPumpWork, are_sending, asks_or_gives, ends, gives, is_at_most_a_close, is_ending, is_reading, is_sending, is_write, is_writing, shuts, wrote}
+use Rattle.flow_splice.specs.Shapes.{IsHostWork, IsPumpWork, are_sending, ends, gives, is_at_most_a_close, is_ending, is_reading, is_sending, is_write, is_writing, wrote}
 use Rattle.flow_splice.specs.Splice.{Splice}
 use Rattle.flow_splice.specs.declared.Pumped.{Pumped}
 use Rattle.flow_splice.specs.declared.Pumped.TheVariants.{Clear, Blocked as PumpBlocked, Failed as PumpFailed}
@@ -38,7 +38,7 @@ pub sees_ending : (b : Bool) (old new : Splice) (now : ℕ) (made : List Entry) 
 sees_ending true old new now made socket answer sees = ap (λ (es : List Entry). is_ending (es ++ (TcpEnd socket answer ∷ []))) sees.0
 sees_ending false old new now made socket answer sees = ap (λ (es : List Entry). is_ending (es ++ (TcpEnd socket answer ∷ []))) sees.0
 
-end_asks : (e : Entry) → ends e ≡ true → asks_or_gives e ≡ true
+end_asks : (e : Entry) → ends e ≡ true → is_for_writing e ≡ true
 end_asks (TcpEnd socket answer) is = refl
 end_asks _ is = absurd cc
 
@@ -47,7 +47,7 @@ ending_writes [] is = refl
 ending_writes (a ∷ []) is = end_asks a is
 ending_writes (b ∷ a ∷ []) is =
     let two = both (shuts b) (ends a) is in
-    or_first (shuts b && asks_or_gives a) (ends b && gives a) (and (shuts b) (asks_or_gives a) two.0 (end_asks a two.1))
+    or_first (shuts b && is_for_writing a) (ends b && gives a) (and (shuts b) (is_for_writing a) two.0 (end_asks a two.1))
 ending_writes (c ∷ b ∷ a ∷ more) is = absurd cc
 
 -- octets are given before

@@ -71,11 +71,13 @@ abbrev pub is_for_reading : Entry → Bool
 is_for_reading (TcpRead socket asked answer octets) = true
 is_for_reading _ = false
 
+abbrev pub shuts : Entry → Bool
+shuts (Close socket) = true
+shuts _ = false
+
 -- a socket is read, or one is closed
 abbrev pub reads_or_shuts : Entry → Bool
-reads_or_shuts (TcpRead socket asked answer octets) = true
-reads_or_shuts (Close socket) = true
-reads_or_shuts _ = false
+reads_or_shuts e = is_for_reading e || shuts e
 
 -- one of these entries is such a call
 abbrev pub some_is : (Entry → Bool) → List Entry → Bool

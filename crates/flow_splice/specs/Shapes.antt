@@ -1,8 +1,9 @@
 -- Which calls one call of a flow makes, and in what order. The newest stands first.
 use Rattle.std.specs.Prelude.{◌≡◌, ℕ, Bool, true, false, ◌&&◌, ◌||◌, List, [], ◌∷◌, ◌++◌}
-use Rattle.world_face.specs.Journal.{Entry, LinkWrite, Connected, TcpRead, TcpWrite, TcpEnd, Close}
+use Rattle.world_face.specs.Journal.{Entry, LinkWrite, TcpWrite, TcpEnd, Close}
 use Rattle.world_face.specs.declared.Io.{Io}
 use Rattle.world_face.specs.declared.Io.TheVariants.{Done, End, NotYet, Failed as IoFailed}
+use Rattle.flow_splice.specs.Hosts.{is_for_reading, is_for_writing, shuts}
 use Rattle.flow_splice.specs.declared.Pumped.{Pumped}
 use Rattle.flow_splice.specs.declared.Pumped.TheVariants.{Clear, Blocked, Failed}
 
@@ -14,13 +15,6 @@ is_at_most_a_close _ = false
 
 -- ---- a report of the host
 
--- one call for writing: the socket is asked whether it connected, or gets octets, or the guest's end
-abbrev pub asks_or_gives : Entry → Bool
-asks_or_gives (Connected socket answer) = true
-asks_or_gives (TcpWrite socket octets answer) = true
-asks_or_gives (TcpEnd socket answer) = true
-asks_or_gives _ = false
-
 abbrev pub gives : Entry → Bool
 gives (TcpWrite socket octets answer) = true
 gives _ = false
@@ -29,19 +23,11 @@ abbrev pub ends : Entry → Bool
 ends (TcpEnd socket answer) = true
 ends _ = false
 
-abbrev pub takes : Entry → Bool
-takes (TcpRead socket asked answer octets) = true
-takes _ = false
-
-abbrev pub shuts : Entry → Bool
-shuts (Close socket) = true
-shuts _ = false
-
 -- For a report for writing: nothing; or one call for writing, and behind octets the end, and then a close or none.
 abbrev pub is_writing : List Entry → Bool
 is_writing [] = true
-is_writing (a ∷ []) = asks_or_gives a
-is_writing (b ∷ a ∷ []) = (shuts b && asks_or_gives a) || (ends b && gives a)
+is_writing (a ∷ []) = is_for_writing a
+is_writing (b ∷ a ∷ []) = (shuts b && is_for_writing a) || (ends b && gives a)
 is_writing (c ∷ b ∷ a ∷ []) = shuts c && ends b && gives a
 is_writing _ = false
 
@@ -55,8 +41,8 @@ is_ending _ = false
 -- For a report for reading: nothing; or one read, and then a close or none.
 abbrev pub is_reading : List Entry → Bool
 is_reading [] = true
-is_reading (a ∷ []) = takes a
-is_reading (b ∷ a ∷ []) = shuts b && takes a
+is_reading (a ∷ []) = is_for_reading a
+is_reading (b ∷ a ∷ []) = shuts b && is_for_reading a
 is_reading _ = false
 
 -- Calls for writing come first, and only where that was reported; then those for reading.

@@ -33,7 +33,8 @@ use Rattle.slirp_laws.specs.Laws.{Lawful, has_just_written, is_closing}
 use Rattle.slirp_laws.proofs.Bools.{and_both, first_of, or_second, same, second_of}
 use Rattle.flow_splice.specs.Entries.{AreEvents, joined, was_ended, was_read, was_written}
 use Rattle.flow_splice.specs.Splice.{Face}
-use Rattle.flow_splice.specs.Shapes.{IsHostWork, asks_or_gives, ends, gives, is_reading, is_writing, shuts as is_shut, takes}
+use Rattle.flow_splice.specs.Hosts.{is_for_reading, is_for_writing, shuts as is_shut}
+use Rattle.flow_splice.specs.Shapes.{IsHostWork, ends, gives, is_reading, is_writing}
 use Rattle.spliced_flows.specs.Stands.{HasFlow, InWork, IsLast, with_beats, with_rest}
 use Rattle.spliced_flows.proofs.Calling.{IsCall, after_call, after_close, may_end, may_give, may_look, may_part_then, may_shut, may_take, rests_closed, since_now}
 use Rattle.spliced_flows.proofs.Pumping.{differ_in, stays_shut}
@@ -337,7 +338,7 @@ module _ (config : Config) (face : Face) (f : Flow) (past : List Entry) (now : �
 
 -- ---- which calls they are
 
-which_writes : (e : Entry) → asks_or_gives e ≡ true
+which_writes : (e : Entry) → is_for_writing e ≡ true
     → ((socket : ℕ) × (answer : Joined) × (e ≡ Connected socket answer)) ⊎ (((socket : ℕ) × (octets : List ℕ) × (answer : Io) × (e ≡ TcpWrite socket octets answer)) ⊎ ((socket : ℕ) × (answer : Made) × (e ≡ TcpEnd socket answer)))
 which_writes (Connected socket answer) is = inl (socket, answer, refl)
 which_writes (TcpWrite socket octets answer) is = inr (inl (socket, octets, answer, refl))
@@ -348,14 +349,14 @@ which_gives : (e : Entry) → gives e ≡ true → (socket : ℕ) × (octets : L
 which_gives (TcpWrite socket octets answer) is = (socket, octets, answer, refl)
 which_gives _ is = absurd cc
 
-give_writes : (e : Entry) → gives e ≡ true → asks_or_gives e ≡ true
-give_writes e is = let w = which_gives e is in subst (λ x. asks_or_gives x ≡ true) (sym w.3) refl
+give_writes : (e : Entry) → gives e ≡ true → is_for_writing e ≡ true
+give_writes e is = let w = which_gives e is in subst (λ x. is_for_writing x ≡ true) (sym w.3) refl
 
 which_ends : (e : Entry) → ends e ≡ true → (socket : ℕ) × (answer : Made) × (e ≡ TcpEnd socket answer)
 which_ends (TcpEnd socket answer) is = (socket, answer, refl)
 which_ends _ is = absurd cc
 
-which_takes : (e : Entry) → takes e ≡ true → (socket : ℕ) × (asked : ℕ) × (answer : Io) × (octets : List ℕ) × (e ≡ TcpRead socket asked answer octets)
+which_takes : (e : Entry) → is_for_reading e ≡ true → (socket : ℕ) × (asked : ℕ) × (answer : Io) × (octets : List ℕ) × (e ≡ TcpRead socket asked answer octets)
 which_takes (TcpRead socket asked answer octets) is = (socket, asked, answer, octets, refl)
 which_takes _ is = absurd cc
 
@@ -365,7 +366,7 @@ which_shuts _ is = absurd cc
 
 -- by none of them a segment came
 module _ (config : Config) (past : List Entry) where
-  quiet_write : (e : Entry) → asks_or_gives e ≡ true → (book config (e ∷ past)).came ≡ None
+  quiet_write : (e : Entry) → is_for_writing e ≡ true → (book config (e ∷ past)).came ≡ None
   quiet_write e is = by_kind (which_writes e is)
     where
       by_kind : ((socket : ℕ) × (answer : Joined) × (e ≡ Connected socket answer)) ⊎ (((socket : ℕ) × (octets : List ℕ) × (answer : Io) × (e ≡ TcpWrite socket octets answer)) ⊎ ((socket : ℕ) × (answer : Made) × (e ≡ TcpEnd socket answer)))
@@ -377,7 +378,7 @@ module _ (config : Config) (past : List Entry) where
   quiet_end : (e : Entry) → ends e ≡ true → (book config (e ∷ past)).came ≡ None
   quiet_end e is = let w = which_ends e is in subst (λ x. (book config (x ∷ past)).came ≡ None) (sym w.2) refl
 
-  quiet_read : (e : Entry) → takes e ≡ true → (book config (e ∷ past)).came ≡ None
+  quiet_read : (e : Entry) → is_for_reading e ≡ true → (book config (e ∷ past)).came ≡ None
   quiet_read e is = let w = which_takes e is in subst (λ x. (book config (x ∷ past)).came ≡ None) (sym w.4) refl
 
 pub or_first : (a b : Bool) → a ≡ true → (a || b) ≡ true
@@ -625,7 +626,7 @@ module _ (config : Config) (face : Face) (mac : Option Mac) (f : Flow) (past : L
 
     -- ---- the same by the shape
 
-    writes_next : (e : Entry) → asks_or_gives e ≡ true → Before made (Facing ForWriting made) → Makes (e ∷ made) beats → IsWell beats → Facing There (e ∷ made) beats
+    writes_next : (e : Entry) → is_for_writing e ≡ true → Before made (Facing ForWriting made) → Makes (e ∷ made) beats → IsWell beats → Facing There (e ∷ made) beats
     writes_next e is go_on are lawful = by_kind (which_writes e is)
       where
         by_kind : ((socket : ℕ) × (answer : Joined) × (e ≡ Connected socket answer)) ⊎ (((socket : ℕ) × (octets : List ℕ) × (answer : Io) × (e ≡ TcpWrite socket octets answer)) ⊎ ((socket : ℕ) × (answer : Made) × (e ≡ TcpEnd socket answer)))
@@ -644,7 +645,7 @@ module _ (config : Config) (face : Face) (mac : Option Mac) (f : Flow) (past : L
         let w = which_ends e is in
         subst (λ x. Makes (x ∷ made) beats → Facing There (x ∷ made) beats) (sym w.2) (λ a. end_behind w.0 w.1 wrote go_on a lawful) are
 
-    takes_next : (e : Entry) → takes e ≡ true → read ≡ true → Before made (Facing There made) → Makes (e ∷ made) beats → IsWell beats → Facing (IsLast items) (e ∷ made) beats
+    takes_next : (e : Entry) → is_for_reading e ≡ true → read ≡ true → Before made (Facing There made) → Makes (e ∷ made) beats → IsWell beats → Facing (IsLast items) (e ∷ made) beats
     takes_next e is reported go_on are lawful =
         let k = which_takes e is in
         subst (λ x. Makes (x ∷ made) beats → Facing (IsLast items) (x ∷ made) beats) (sym k.4) (λ a. take_next k.0 k.1 k.2 k.3 reported go_on a lawful) are
@@ -683,7 +684,7 @@ module _ (config : Config) (face : Face) (mac : Option Mac) (f : Flow) (past : L
 
     -- one call for writing, two, and three
     module _ (wanted : write ≡ true) where
-      one_for_writing : (a : Entry) → asks_or_gives a ≡ true → Before (a ∷ []) (Facing There (a ∷ []))
+      one_for_writing : (a : Entry) → is_for_writing a ≡ true → Before (a ∷ []) (Facing There (a ∷ []))
       one_for_writing a is rest are lawful = writes_next [] rest a is (for_writing wanted) are lawful
 
       given : (a : Entry) → gives a ≡ true → Before (a ∷ []) (Facing ForEnding (a ∷ []))
@@ -692,10 +693,10 @@ module _ (config : Config) (face : Face) (mac : Option Mac) (f : Flow) (past : L
       given_and_ended : (b a : Entry) → ends b ≡ true → gives a ≡ true → Before (b ∷ a ∷ []) (Facing There (b ∷ a ∷ []))
       given_and_ended b a is_end is_give rest are lawful = ends_next (a ∷ []) rest b is_end (wrote_it [] are.0 a is_give are.1) (given a is_give) are lawful
 
-      two_for_writing : (b a : Entry) → ((is_shut b && asks_or_gives a) ≡ true) ⊎ ((ends b && gives a) ≡ true) → Before (b ∷ a ∷ []) (Facing There (b ∷ a ∷ []))
+      two_for_writing : (b a : Entry) → ((is_shut b && is_for_writing a) ≡ true) ⊎ ((ends b && gives a) ≡ true) → Before (b ∷ a ∷ []) (Facing There (b ∷ a ∷ []))
       two_for_writing b a (inl is) rest are lawful =
-          let one = first_of (is_shut b) (asks_or_gives a) is in
-          let two = second_of (is_shut b) (asks_or_gives a) is in
+          let one = first_of (is_shut b) (is_for_writing a) is in
+          let two = second_of (is_shut b) (is_for_writing a) is in
           shuts_next (a ∷ []) rest There b one (quiet_write config past a two) (one_for_writing a two) are lawful
       two_for_writing b a (inr is) rest are lawful = given_and_ended b a (first_of (ends b) (gives a) is) (second_of (ends b) (gives a) is) rest are lawful
 
@@ -710,7 +711,7 @@ module _ (config : Config) (face : Face) (mac : Option Mac) (f : Flow) (past : L
     written_for : (l : List Entry) → is_writing l ≡ true → (write ≡ false → l ≡ []) → Before l (Facing There l)
     written_for [] is unless = first_of_all
     written_for (a ∷ []) is unless = one_for_writing (was_wanted write a [] unless) a is
-    written_for (b ∷ a ∷ []) is unless = two_for_writing (was_wanted write b (a ∷ []) unless) b a (either (is_shut b && asks_or_gives a) (ends b && gives a) is)
+    written_for (b ∷ a ∷ []) is unless = two_for_writing (was_wanted write b (a ∷ []) unless) b a (either (is_shut b && is_for_writing a) (ends b && gives a) is)
     written_for (c ∷ b ∷ a ∷ []) is unless = three_for_writing (was_wanted write c (b ∷ a ∷ []) unless) c b a is
     written_for (d ∷ c ∷ b ∷ a ∷ l) is unless = absurd (not_both is)
       where
@@ -723,8 +724,8 @@ module _ (config : Config) (face : Face) (mac : Option Mac) (f : Flow) (past : L
         heard made rest (record { called = faces.called; agenda = pass_over face.number read items (agenda (made ++ past)) faces.agenda })
     read_for (a ∷ []) made is unless go_on rest are lawful = heard (a ∷ made) rest (takes_next made rest a is (was_wanted read a [] unless) go_on are lawful)
     read_for (b ∷ a ∷ []) made is unless go_on rest are lawful =
-        let one = first_of (is_shut b) (takes a) is in
-        let two = second_of (is_shut b) (takes a) is in
+        let one = first_of (is_shut b) (is_for_reading a) is in
+        let two = second_of (is_shut b) (is_for_reading a) is in
         heard (b ∷ a ∷ made) rest
         (shuts_next (a ∷ made) rest (IsLast items) b one (quiet_read config (made ++ past) a two)
         (λ r m well. takes_next made r a two (was_wanted read b (a ∷ []) unless) go_on m well) are lawful)
