@@ -1,9 +1,12 @@
 -- One open socket after another, by rising number, and how many are left without one.
-use Rattle.std.proofs.Common.{refl, ◌≡◌, ℕ, ◌+◌, ◌<◌, ◌≤◌, ◌==◌, nat_lt, Bool, true, false, List, [], ◌∷◌, length, Some, None, ap, sym, ◌∙◌, subst, arith}
+use Rattle.std.proofs.Common.{refl, ◌≡◌, ℕ, ◌+◌, ◌<◌, ◌≤◌, ◌==◌, nat_lt, Bool, true, false, List, [], ◌∷◌, length, Some, None, ap, sym, ◌∙◌, subst, arith, zero, suc}
+use Rattle.std.specs.Prelude.{slice_get}
+use Rattle.std.proofs.lemmas.Option.{same_Some}
 use Rattle.std.proofs.lemmas.Bool.Decides.{nat_tests}
 use Rattle.socket_slots.specs.declared.Numbered.{Numbered}
 use Rattle.socket_slots.specs.Slots.{AreAbove, Rise, after, slot_of, without}
 use Rattle.socket_slots.proofs.Finding.{differ, equal, first_or, kept_or, next_or, none_above}
+use Rattle.socket_slots.proofs.Rising.{above_there}
 
 -- numbers that pass a test for the same are
 pub same_number : (a b : ℕ) → (a == b) ≡ true → a ≡ b
@@ -127,3 +130,37 @@ none_next n (x ∷ rows) is m k found less = by (nat_lt n x.number) refl (λ non
         some_none : Some x ≡ None → ⊥
         some_none is = cc
     by false lower rest = rest (sym (ap (next_or x n rows) lower) ∙ is) (sym (found_behind x rows m (λ same. apart same (not_above n x.number lower))) ∙ found)
+
+-- ---- one place after another
+
+over : (n m : ℕ) → n < m → nat_lt n m ≡ true
+over n m less = grind (arith, nat_tests, less)
+
+not_over : (n m : ℕ) → m ≤ n → nat_lt n m ≡ false
+not_over n m most = grind (arith, nat_tests, most)
+
+-- the first of all stands at the first place
+pub first_place : (rows : List Numbered) → after None rows ≡ slice_get rows 0
+first_place [] = refl
+first_place (r ∷ rows) = refl
+
+all_above : (n : ℕ) (rows : List Numbered) → AreAbove n rows → after (Some n) rows ≡ slice_get rows 0
+all_above n [] above = refl
+all_above n (r ∷ rows) above = ap (next_or r n rows) (over n r.number above.0)
+
+-- and the first above one stands at the place behind it
+next_place_of : (rows : List Numbered) (i : ℕ) (r : Numbered) → Rise rows → slice_get rows i ≡ Some r → after (Some r.number) rows ≡ slice_get rows (suc i)
+next_place_of [] i r rise here = cc
+next_place_of (x ∷ rows) zero r rise here =
+    let same = same_Some x r here in
+    subst (λ (y : Numbered). after (Some y.number) (x ∷ rows) ≡ slice_get rows 0) same
+    (ap (next_or x x.number rows) (not_over x.number x.number (omega arith)) ∙ all_above x.number rows rise.0)
+next_place_of (x ∷ rows) (suc i) r rise here =
+    let less = above_there x.number rows i r rise.0 here in
+    ap (next_or x r.number rows) (not_over r.number x.number (omega (arith, less))) ∙ next_place_of rows i r rise.1 here
+
+pub next_place : (rows : List Numbered) (i : ℕ) (r : Numbered) → Rise rows → slice_get rows i ≡ Some r → after (Some r.number) rows ≡ slice_get rows (i + 1)
+next_place rows i r rise here = next_place_of rows i r rise here ∙ ap (slice_get rows) (one_more i)
+  where
+    one_more : (n : ℕ) → suc n ≡ n + 1
+    one_more n = omega arith

@@ -80,6 +80,14 @@ impl SocketSlots {
         Some(self.rows[place].slot)
     }
 
+    /// The open sockets by rising number.
+    pub fn rows(&self) -> &[Numbered]
+        ensures rows { result.now ≡ self.now.rows }
+        ensures rise { Rise self.now.rows }
+    {
+        self.rows.as_slice()
+    }
+
     /// The first socket whose number is above this one, or the first of all. None exactly where there is none.
     pub fn after(&self, last: Option<u64>) -> Option<Numbered>
         ensures first { result ≡ after last self.now.rows }
@@ -190,6 +198,8 @@ mod tests {
             number: 1_000,
             slot: 3,
         };
+        let all = [first, second, third];
+        assert_eq!(rt; sockets.rows(), all.as_slice());
         assert_eq!(rt; sockets.after(None), Some(first));
         assert_eq!(rt; sockets.after(Some(6)), Some(first));
         assert_eq!(rt; sockets.after(Some(7)), Some(second));

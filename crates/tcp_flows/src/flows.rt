@@ -10,7 +10,7 @@ ghost use Rattle.tcp_flows.specs.Rows.{AreEmpty, AreSized};
 use crate::rows::{LONGEST_REST, Rows};
 use flow_splice::Spliced;
 use net_octets::{Ip4, NoMemory};
-use poll_list::Wants;
+use poll_list::{Want, Wants, Who};
 use socket_slots::Numbered;
 use std::alloc::Global;
 use std::marker::Model;
@@ -62,7 +62,7 @@ impl Model for TcpFlows {
       turn = s.turn;
     } };
 
-    ghost invariant = { λ s. AreRows s.parts.items s.rows.table s.rows.used s.rows.sockets.rows s.rows.timers s.rows.rests s.rows.owing
+    ghost invariant = { λ s. AreRows s.parts.items s.rows.table s.rows.used s.rows.sockets.rows s.rows.waits.items s.rows.timers s.rows.rests s.rows.owing
         × (s.rows.sockets.room ≡ length s.parts.items) × AreOurs s.sizes.ring s.sizes.mru s.sizes.vhost.0 s.parts.items × AreServed s.turn s.served.items s.parts.items
         × AreSized s.sizes.ring s.sizes.mtu s.sizes.mru × (s.turn ≤ 2 ^ 45) };
 }
@@ -74,6 +74,7 @@ impl TcpFlows {
     ghost use Rattle.flow_table.specs.declared.Slot.TheVariants.{Resting as RestingSlot};
     ghost use Rattle.flow_table.specs.declared.Tuple.{Tuple as ATuple};
     ghost use Rattle.poll_list.specs.declared.Want.{Want as AWant};
+    ghost use Rattle.spliced_flows.specs.Core.{number_of};
     ghost use Rattle.tcp_flows.specs.Reading.{AllClear, AreWantsOf, HasRestedSince, HasSocket, IsDue, IsFirst, IsNextOpen, IsOpenAt, NoneDue, NoneIsAbove, NoneOpen, wanted};
 
     /// Room for so many flows, of which none was opened. All of it is taken now: no other call takes memory.
@@ -162,21 +163,24 @@ impl TcpFlows {
         ensures wants { (added : List AWant) × (wants.new.items ≡ wants.old.items ++ added) × AreWantsOf self.now.flows.parts added × (length added ≤ length self.now.flows.parts) }
         ensures capacity { wants.new.capacity ≡ wants.old.capacity }
     {
-        let mut last = None;
-        while let Some(socket) = self.next_open(last) {
-            self.put_want(socket.slot, wants);
-            last = Some(socket.number);
+        for socket in self.rows.sockets.rows() {
+            self.put_want(*socket, wants);
         }
     }
 
-    // Puts what the flow of a slot waits for at the end, if anything.
-    fn put_want(&self, slot: usize, wants: &mut Wants)
-        requires slot { (p : Splice) × IsOpenAt self.now.flows.parts slot p }
+    // Puts what is waited for on an open socket at the end, if anything. The flow itself isn't looked at.
+    fn put_want(&self, socket: Numbered, wants: &mut Wants)
+        requires slot { (p : Splice) × IsOpenAt self.now.flows.parts socket.slot p × (number_of p ≡ socket.number) }
         requires room { length wants.old.items < wants.old.capacity }
-        ensures wants { (p : Splice) → IsOpenAt self.now.flows.parts slot p → wants.new.items ≡ wants.old.items ++ wanted p }
+        ensures wants { (p : Splice) → IsOpenAt self.now.flows.parts socket.slot p → number_of p ≡ socket.number → wants.new.items ≡ wants.old.items ++ wanted p }
         ensures capacity { wants.new.capacity ≡ wants.old.capacity }
     {
-        let want = self.parts[slot].want();
+        let waits = self.rows.waits[socket.slot];
+        let want = Want {
+            of: Who::Tcp(socket.number),
+            read: waits.read,
+            write: waits.write,
+        };
         if want.read || want.write {
             wants.add(want);
         }
