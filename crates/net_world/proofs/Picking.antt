@@ -1,5 +1,6 @@
 -- Facts on lists that are picked from a list of wants.
-use Rattle.std.proofs.Common.{◌≡◌, true, false, ◌||◌, ◌&&◌, not, List, [], ◌∷◌, ◌++◌, inl, inr, append_assoc, append-nil, suc, zero, length, length-append, drop, get_or, drop-cons, ℕ, ◌+◌, ◌<◌, ◌≤◌, Option, refl, arith, sym, subst}
+use Rattle.std.proofs.Common.{◌≡◌, true, false, ◌||◌, ◌&&◌, not, List, [], ◌∷◌, ◌++◌, inl, inr, append_assoc, append-nil, suc, zero, length, length-append, take, drop, get_or, drop-cons, ℕ, ◌+◌, ◌<◌, ◌≤◌, Option, refl, arith, sym, subst}
+use Rattle.std.proofs.lemmas.List.{take-append-drop, drop_all}
 use Rattle.std.proofs.lemmas.Bool.{and_parts, and_from, or_parts, or_from, not-true, not_from_false}
 use Rattle.std.specs.List.{list_any}
 use Rattle.poll_list.specs.declared.Want.{Want}
@@ -71,9 +72,23 @@ goes_on_after all wants old new i d below goes adds =
     let goes' : GoesOn all (get_or wants i d ∷ drop (i + 1) wants) old = λ more p. goes more (picked_past i wants more (rw parts p)) in
     goes_on_part all (drop (i + 1) wants) old new (get_or wants i d) goes' adds
 
--- it begins with nothing
-pub goes_on_first : (wants : List Want) → GoesOn wants wants []
-goes_on_first wants more p = p
+-- on from the want at a place, where others stand behind all of them
+pub goes_on_step : (all wants rest old new : List Want) (i : ℕ) (d : Want) → i < length wants → GoesOn all (drop i wants ++ rest) old → Adds (get_or wants i d) old new → GoesOn all (drop (i + 1) wants ++ rest) new
+goes_on_step all wants rest old new i d below goes adds =
+    let next : i + 1 ≡ suc i = omega arith in
+    let parts : drop i wants ≡ get_or wants i d ∷ drop (i + 1) wants = rw next (drop-cons wants i d below) in
+    let goes' : GoesOn all (get_or wants i d ∷ (drop (i + 1) wants ++ rest)) old = subst (λ (l : List Want). GoesOn all (l ++ rest) old) parts goes in
+    goes_on_part all (drop (i + 1) wants ++ rest) old new (get_or wants i d) goes' adds
+
+-- all wants but those behind are passed
+pub goes_on_passed : (all wants rest ready : List Want) (i : ℕ) → i ≡ length wants → GoesOn all (drop i wants ++ rest) ready → GoesOn all rest ready
+goes_on_passed all wants rest ready i end goes =
+    let past : length wants ≤ i = omega (arith, end) in
+    subst (λ (l : List Want). GoesOn all (l ++ rest) ready) (drop_all i wants past) goes
+
+-- on from the wants in front to those behind
+pub goes_on_split : (all wants ready : List Want) (i : ℕ) → GoesOn all wants ready → GoesOn all (take i wants ++ drop i wants) ready
+goes_on_split all wants ready i goes = subst (λ (l : List Want). GoesOn all l ready) (sym (take-append-drop i wants)) goes
 
 -- at the end all is picked
 pub goes_on_last : (wants rest ready : List Want) → GoesOn wants rest ready → IsPickedFrom wants ready
@@ -81,6 +96,12 @@ goes_on_last wants rest ready goes =
     let none : IsPickedFrom wants (ready ++ []) = goes [] tt in
     let same : ready ≡ ready ++ [] = sym (append-nil ready) in
     rw same none
+
+-- at the end, once those that were left are passed
+pub goes_on_end : (wants left old new : List Want) → GoesOn wants left old → ((all rest : List Want) → GoesOn all (left ++ rest) old → GoesOn all rest new) → IsPickedFrom wants new
+goes_on_end wants left old new goes on =
+    let goes' : GoesOn wants (left ++ []) old = subst (λ (l : List Want). GoesOn wants l old) (sym (append-nil left)) goes in
+    goes_on_last wants [] new (on wants [] goes')
 
 -- what goes on from nothing
 pub goes_on_from : (wants items rest old new : List Want) → items ≡ wants → old ≡ [] → ((all : List Want) → GoesOn all items old → GoesOn all rest new) → GoesOn wants rest new

@@ -52,7 +52,7 @@ struct Slot {
     ended: bool,
     /// The system refused to give a connection that has come, since it had no descriptor for it.
     starved: bool,
-    /// It stands in the list of those that are ready.
+    /// It stands in the list of those that are ready for reading.
     listed: bool,
 }
 
@@ -63,28 +63,28 @@ struct Place {
     key: usize,
 }
 
-/// A socket that is ready in a direction, and where the slab keeps it.
+/// A socket that is ready for reading, and where the slab keeps it.
 #[derive(Clone, Copy)]
 pub(crate) struct Listed {
     pub of: Who,
     key: usize,
 }
 
-/// The open sockets, the places of their numbers, the least first, and those that are ready, in the order of wants.
+/// The open sockets, the places of their numbers, the least first, and those that are ready for reading, in the order of wants. One that is ready for writing alone, as each connection is while it idles, stands in no list.
 #[derive(Drop)]
 pub(crate) struct Sockets {
     slots: Slab<Slot>,
     places: Vec<Place>,
-    ready: Vec<Listed>,
+    readable: Vec<Listed>,
     /// A listener waits for a descriptor.
     starved: bool,
-    ghost room: { (MOST ≤ slots.capacity) × (MOST ≤ vec_capacity places) × (MOST ≤ vec_capacity ready) },
+    ghost room: { (MOST ≤ slots.capacity) × (MOST ≤ vec_capacity places) × (MOST ≤ vec_capacity readable) },
 }
 
 impl Sockets {
     /// No socket, and room for all.
     pub fn open(alloc: Global) -> Result<Sockets, NoMemory> {
-        let (Ok(slots), Ok(places), Ok(ready)) = (
+        let (Ok(slots), Ok(places), Ok(readable)) = (
             Slab::with_capacity(alloc, MOST),
             Vec::with_capacity(alloc, MOST),
             Vec::with_capacity(alloc, MOST),
@@ -94,24 +94,35 @@ impl Sockets {
         Ok(Sockets {
             slots,
             places,
-            ready,
+            readable,
             starved: false,
         })
     }
 
-    /// Those that are ready in a direction, in the order of wants.
-    pub fn ready(&self) -> &[Listed] {
-        self.ready.as_slice()
+    /// Those that are ready for reading, in the order of wants.
+    pub fn readable(&self) -> &[Listed] {
+        self.readable.as_slice()
     }
 
-    /// In which directions a socket is ready.
+    /// In which directions a socket of that list is ready.
     pub fn known(&self, listed: &Listed) -> Known {
-        match self.slots.get(listed.key) {
-            Some(slot) => Known {
+        self.known_at(listed.key, listed.of)
+    }
+
+    /// In which directions a socket is ready that is looked up by what it is; in none where there is no such socket.
+    pub fn look_up(&self, of: Who) -> Known {
+        let (_, number) = rank(of);
+        self.known_at(self.key_of(number), of)
+    }
+
+    // In which directions a socket is ready, where it stands at that key.
+    fn known_at(&self, key: usize, of: Who) -> Known {
+        match self.slots.get(key) {
+            Some(slot) if slot.of == of => Known {
                 read: slot.readable,
                 write: slot.writable,
             },
-            None => NOTHING,
+            _ => NOTHING,
         }
     }
 
@@ -154,29 +165,29 @@ impl Sockets {
         }
     }
 
-    // Puts a socket into the list of those that are ready, or takes it out, as what is known of it says.
+    // Puts a socket into the list of those that are ready for reading, or takes it out, as what is known of it says.
     fn list(&mut self, key: usize) {
         let Some(slot) = self.slots.get_mut(key) else {
             return;
         };
-        let (of, ready) = (slot.of, slot.readable || slot.writable);
-        if slot.listed != ready {
-            slot.listed = ready;
-            self.put_into_list(Listed { of, key }, ready);
+        let (of, readable) = (slot.of, slot.readable);
+        if slot.listed != readable {
+            slot.listed = readable;
+            self.put_into_list(Listed { of, key }, readable);
         }
     }
 
     // Puts a socket at its place in the list, or takes it out.
-    fn put_into_list(&mut self, listed: Listed, ready: bool) {
-        match find_listed(&self.ready, listed.of) {
+    fn put_into_list(&mut self, listed: Listed, readable: bool) {
+        match find_listed(&self.readable, listed.of) {
             Ok(at) => {
-                if !ready {
-                    let _was = self.ready.remove(at);
+                if !readable {
+                    let _was = self.readable.remove(at);
                 }
             }
             Err(at) => {
-                if ready && self.ready.len() < MOST {
-                    let _put = self.ready.insert(at, listed);
+                if readable && self.readable.len() < MOST {
+                    let _put = self.readable.insert(at, listed);
                 }
             }
         }
@@ -246,12 +257,10 @@ impl Sockets {
     /// What became of a connection.
     pub fn connected(&mut self, number: u64) -> Joined {
         let key = self.key_of(number);
-        let Some(slot) = self.slots.get_mut(key) else {
-            return Joined::Failed;
-        };
-        let joined = joined(slot);
-        self.list(key);
-        joined
+        match self.slots.get_mut(key) {
+            Some(slot) => joined(slot),
+            None => Joined::Failed,
+        }
     }
 
     /// Takes a connection from a listener, and puts it under its number. Where the system or this list has no room for it, it waits until another socket was closed, and the listener isn't ready before.
@@ -296,12 +305,10 @@ impl Sockets {
         ensures { MayWrite (length from.now) result }
     {
         let key = self.key_of(number);
-        let Some(slot) = self.slots.get_mut(key) else {
-            return Io::Failed;
-        };
-        let written = write(slot, from);
-        self.list(key);
-        written
+        match self.slots.get_mut(key) {
+            Some(slot) => write(slot, from),
+            None => Io::Failed,
+        }
     }
 
     /// Ends the writing direction.
@@ -375,11 +382,11 @@ fn find(places: &[Place], number: u64) -> Result<usize, usize>
     places.binary_search_by_key(&number, |place| place.number)
 }
 
-// The place of a socket among those that are ready, or where it would stand.
-fn find_listed(ready: &[Listed], of: Who) -> Result<usize, usize>
-    ensures { IsSearchInRange result (length ready.now) }
+// The place of a socket among those that are ready for reading, or where it would stand.
+fn find_listed(readable: &[Listed], of: Who) -> Result<usize, usize>
+    ensures { IsSearchInRange result (length readable.now) }
 {
-    ready.binary_search_by_key(&rank(of), |listed| rank(listed.of))
+    readable.binary_search_by_key(&rank(of), |listed| rank(listed.of))
 }
 
 /// Where something stands in the order of wants: its kind, then its number.

@@ -261,6 +261,49 @@ fn a_limit_on_descriptors_is_a_fault_of_a_socket(rt: HostRuntime) -> Result<(), 
     Ok(())
 }
 
+/// The system tells once that a connection is ready for writing. While it isn't wanted for that it isn't told, and once it is wanted it is, alone and beside what is ready for reading.
+fn is_told_once_wanted<W: World>(
+    alloc: Global,
+    asker: &mut Asker,
+    world: &mut W,
+    far: &UdpSocket,
+    port: u16,
+) -> bool {
+    let (Ok(mut wants), Ok(mut ready)) = (Wants::open(alloc, 4), ReadyList::open(alloc, 5155))
+    else {
+        return false;
+    };
+    if world.connected(7) != Joined::Yes
+        || asker.is_ready(world, READING, 10)
+        || asker.is_ready(world, READING, 10)
+        || !asker.is_ready(world, WRITING, 0)
+        || !is_answered(asker, world, far, port, 2)
+        || !is_answered(asker, world, far, port, 9)
+    {
+        return false;
+    }
+    wants.add(FIRST);
+    wants.add(SENDING);
+    wants.add(LAST);
+    wants.add(WRITING);
+    let told = [FIRST, LAST, WRITING];
+    world.wait(&wants, Some(1000), &mut ready) == Waited::Ready && ready.items() == told.as_slice()
+}
+
+#[test]
+fn a_direction_is_told_once_it_is_wanted(rt: HostRuntime) -> Result<(), Fail> {
+    let mut asker = Asker::open(rt.alloc())?;
+    let mut world = NetWorld::open(&rt, rt.alloc())?;
+    let host = TcpListener::bind(&rt, "127.0.0.1:0")?;
+    let host_port = host.local_addr()?.port();
+    let far = UdpSocket::bind(&rt, "127.0.0.1:0")?;
+    let port = far.local_addr()?.port();
+    assert!(rt; world.connect(7, here(host_port)) == Made::Done);
+    assert!(rt; asker.is_ready(&mut world, WRITING, 1000));
+    assert!(rt; is_told_once_wanted(rt.alloc(), &mut asker, &mut world, &far, port));
+    Ok(())
+}
+
 /// Of what is ready exactly what is wanted is told, in the order of the wants.
 fn picks<W: World>(
     alloc: Global,

@@ -1,5 +1,5 @@
 use Rattle.std.proofs.Common.{rules}
-use Rattle.net_world.proofs.Picking.{goes_on_from, goes_on_last}
+use Rattle.net_world.proofs.Picking.{goes_on_from, goes_on_end}
 use Rattle.net_world.proofs.gathering.gather.Goals as goal
 
 pub loop-listed-init : goal.loop-listed-init
@@ -10,4 +10,4 @@ loop-listed-init c = record {
 }
 
 pub returns-clause-picked : goal.returns-clause-picked
-returns-clause-picked c = goes_on_last _ _ _ c.loop-listed.invariant.picks
+returns-clause-picked c = goes_on_end _ _ _ _ c.loop-listed.invariant.picks c.gather_written.ensures.goes_on
