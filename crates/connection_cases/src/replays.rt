@@ -47,7 +47,13 @@ pub(crate) fn replayed(alloc: Global, words: &[&str], content: &str) -> Result<O
 }
 
 /// Whether the content's replay has this status and puts this.
-pub(crate) fn gives(alloc: Global, content: &str, status: u8, out: &str, err: &str) -> Result<bool, Fail> {
+pub(crate) fn gives(
+    alloc: Global,
+    content: &str,
+    status: u8,
+    out: &str,
+    err: &str,
+) -> Result<bool, Fail> {
     gives_with(alloc, &["replay", "f"][..], content, status, out, err)
 }
 

@@ -12,7 +12,13 @@ pub(crate) fn stream(alloc: Global, from: u64, to: u64) -> Result<String, Fail> 
 }
 
 /// A frame of the guest of this length: a head, and the octets of the stream from one place to another.
-pub(crate) fn comes(alloc: Global, length: &str, head: &str, from: u64, to: u64) -> Result<String, Fail> {
+pub(crate) fn comes(
+    alloc: Global,
+    length: &str,
+    head: &str,
+    from: u64,
+    to: u64,
+) -> Result<String, Fail> {
     let octets = stream(alloc, from, to)?;
     let frame = to.saturating_sub(from).saturating_add(54u64);
     let lines = format!(in alloc;

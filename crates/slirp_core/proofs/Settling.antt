@@ -34,7 +34,7 @@ pumped_settled config at now old new link next result ended same pumps clear kee
     settles : (past : List Entry) → Holds config at old (flowing true old.flows) link past → Holds config at new (flowing true new.flows) next (pumps.made ++ past) → AreSettled config now old.flows.flows.parts (pumps.made ++ past)
     settles past holds after n f known found opened =
         let settled = subst (λ (m : ℕ). AreSettled config m new.flows.flows.parts (pumps.made ++ past)) same
-            (are_settled config new.moment new.flows.flows (pumps.made ++ past) after.clock.moment after.flows.holds clear) n f known found opened in
+        (are_settled config new.moment new.flows.flows (pumps.made ++ past) after.clock.moment after.flows.holds clear) n f known found opened in
         record {
           sends = settled.sends;
           acknowledges = settled.acknowledges;
