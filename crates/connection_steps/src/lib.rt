@@ -20,7 +20,8 @@ ghost use Rattle.tcp_guest.specs.declared.Stage.TheVariants as stage;
 ghost use Rattle.flow_laws.specs.Settings.{Settings};
 ghost use Rattle.flow_laws.specs.Event.{Story, At, Departs, Writes};
 ghost use Rattle.flow_laws.specs.Lawful.{May, Send, Write};
-ghost use Rattle.flow_laws.specs.Dutiful.{Must, IsSettled};
+ghost use Rattle.flow_laws.specs.Dutiful.{Must};
+ghost use Rattle.flow_steps.specs.Settled.{IsSettledIf};
 ghost use Rattle.connection_steps.specs.Holding.{Holds, is_calls, without};
 ghost use Rattle.connection_steps.specs.Sending.{segment_out};
 
@@ -54,11 +55,11 @@ pub fn octets_that_are_held_may_be_written()
         → Holds s c (without up n) down (At m (Writes (take k up.held) n) ∷ past) m }
 {}
 
-/// Where a connection owes nothing, once both SYNs were acknowledged, and its timer isn't due, all holds of its flow that is
-/// to hold whenever the program waits: all octets and ends that may go out are out, what came is acknowledged, the room is
-/// told, and what is under way goes again within a minute.
+/// Where a connection owes nothing, once both SYNs were acknowledged, all holds of its flow that is to hold whenever the
+/// program waits: all octets and ends that may go out are out, what came is acknowledged, and the room is told. Where its
+/// timer isn't due either, what is under way goes again within a minute.
 pub fn a_flow_that_is_owed_nothing_is_settled()
     ensures { (s : Settings) (c : Connection) (up : Upward) (down : Downward) (past : Story) (now : ℕ) (known : Bool)
         → Holds s c up down past now → c.stage ≡ stage.Synchronized → owed_of c up down ≡ None
-        → ((at : ℕ) → due_of c ≡ Some at → now < at) → IsSettled s past known false now }
+        → IsSettledIf ((at : ℕ) → due_of c ≡ Some at → now < at) s past known false now }
 {}

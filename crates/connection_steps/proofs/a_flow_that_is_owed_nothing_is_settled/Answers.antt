@@ -8,6 +8,6 @@ use Rattle.connection_steps.proofs.Settling.{synchronized_settled}
 use Rattle.connection_steps.proofs.a_flow_that_is_owed_nothing_is_settled.Goals as goal
 
 pub returns : goal.returns
-returns c = λ s conn up down past now known h at nothing early.
-    synchronized_settled s conn up down past now h nothing early known (ap (λ (st : Stage). is_calls st) at) (ap (λ (st : Stage). is_opening st) at) (ap (λ (st : Stage). is_synchronized st) at)
+returns c = λ s conn up down past now known h at nothing.
+    synchronized_settled s conn up down past now h nothing known (ap (λ (st : Stage). is_calls st) at) (ap (λ (st : Stage). is_opening st) at) (ap (λ (st : Stage). is_synchronized st) at)
     (ap (λ (st : Stage). owed_by st conn up down) at, ap (λ (st : Stage). due_by st conn) at)
