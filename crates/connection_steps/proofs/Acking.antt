@@ -24,6 +24,7 @@ use Rattle.flow_steps.proofs.Gone.{bare_goes}
 use Rattle.connection_steps.specs.Holding.{Gives, Holds, IsOpened, is_calls, is_connects, is_live}
 use Rattle.connection_steps.specs.Seen.{count_of, outward_of, resending_of, timer_of}
 use Rattle.connection_steps.specs.Sending.{segment_out}
+use Rattle.connection_steps.proofs.Counting.{counts_on}
 use Rattle.connection_steps.proofs.Leaving.{leaves_goes, leaves_kept, leaves_received, stands}
 use Rattle.connection_steps.proofs.Quiet.{opened_on}
 
@@ -100,6 +101,7 @@ module _ (s : Settings) (c : Connection) (up : Upward) (down : Downward) (past :
         alone = g.alone;
         resends = subst (λ (b : Bool). Resends after m (timer_of (resending_of c)) (count_of b (resending_of c)) (resending_of c).estimate.wait) (sym way)
             (bare_goes past seg m refl refl c.transmission.sent 0 place refl now (timer_of (resending_of c)) (count_of (is_under_way past) (resending_of c)) (resending_of c).estimate.wait refl (omega (arith, g.keeps.sent)) on g.resends);
+        counts = counts_on past after c.transmission.resend.timer refl refl g.counts;
         steady = g.steady;
         unset = g.unset;
         set = g.set;

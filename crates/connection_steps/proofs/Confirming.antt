@@ -28,10 +28,12 @@ use Rattle.flow_laws.proofs.Sides.{host_confirmed}
 use Rattle.flow_steps.specs.Resends.{Expired, Resends, Timer as FlowTimer, Until}
 use Rattle.flow_steps.specs.Sends.{Keeps, Outward}
 use Rattle.flow_steps.proofs.Edges.{next_window}
-use Rattle.flow_steps.proofs.Heard.{all_acked, answers_syn, comes_again, comes_overdue, moves_on}
+use Rattle.flow_steps.proofs.Heard.{all_acked, answers_syn, comes_again, comes_overdue, moves_on, same_at}
 use Rattle.flow_steps.proofs.SendSteps.{confirms as confirms_step}
 use Rattle.flow_steps.proofs.Sendings.{Rises}
 use Rattle.connection_steps.specs.Seen.{count_of, outward_of, timer_by, timer_of, window_by}
+use Rattle.connection_steps.specs.Holding.{CountsSince}
+use Rattle.connection_steps.proofs.Counting.{counts_on, moved_counts, now_counts}
 use Rattle.connection_steps.proofs.Hearing.{Stays, congested_stays, acked_by, heard_acked, heard_by, heard_resend, heard_stays, heard_window}
 
 -- the place of an acknowledgement, by the counts of the sending half
@@ -317,6 +319,23 @@ module _ (s : Settings) (past : Story) (now m : ℕ) (seg : Segment) (t : Transm
             let more : t.acked < acked_by t seen = let is_a = ap (λ (q : AckSeen). acked_by t q) same in omega (arith, is_a) in
             subst (λ (q : AckSeen). Running (acknowledged (congested t w bare q) q m).resend) (sym same) (moved_runs (acknowledged (congested t w bare (FinToo j)) (FinToo j) m).resend moved more)
         by TooFar is yes_ same = absurd cc
+
+  -- the timer counts since the acknowledgement where that moved, and else as before
+  pub heard_counts : Rises past → newest_moment past ≤ m → CountsSince past t.resend.timer → CountsSince later_on (heard_by t seq w bare m seen).resend.timer
+  heard_counts rising newest counts = subst (λ (r : Resending). CountsSince later_on r.timer) (sym (heard_resend t seq w bare m seen)) (by seen ok refl)
+    where
+      set_now : CountsSince later_on (timer.Since m)
+      set_now = now_counts later_on m (newest, rising) (omega arith)
+
+      same_now : acked_by t seen ≡ t.acked → CountsSince later_on t.resend.timer
+      same_now same = counts_on past later_on t.resend.timer refl (same_at past seg m it fits (acked_by t seen) stands_at (omega (arith, same, k.acked))) counts
+
+      by : (q : AckSeen) → is_accepted_ack q ≡ true → seen ≡ q → CountsSince later_on (acknowledged (congested t w bare q) q m).resend.timer
+      by Old yes_ same = absurd cc
+      by Same yes_ same = subst (λ (r : Resending). CountsSince later_on (after_answered r).timer) (sym (congested_stays t w bare Same).3) (same_now (ap (λ (q : AckSeen). acked_by t q) same))
+      by (Forward j) yes_ same = moved_counts later_on (nat_lt ((congested t w bare (Forward j)).acked + j) (congested t w bare (Forward j)).sent) m set_now
+      by (FinToo j) yes_ same = moved_counts later_on (nat_lt ((congested t w bare (FinToo j)).acked + j + 1) (congested t w bare (FinToo j)).sent) m set_now
+      by TooFar yes_ same = absurd cc
 
   -- our SYN is acknowledged
   pub syn_heard_runs : t.sent ≡ 0 → Running (heard_by t seq w bare m seen).resend

@@ -4,7 +4,7 @@ use Rattle.std.proofs.lemmas.Bool.Decides.{nat_tests}
 use Rattle.std.proofs.lemmas.Int.{ints}
 use Rattle.cwnd.specs.Congestion.{at_first, initial_window}
 use Rattle.std.specs.Option.{option_map}
-use Rattle.retransmit.specs.Resending.{after_stop}
+use Rattle.retransmit.specs.Resending.{Resending, after_stop}
 use Rattle.retransmit.proofs.Steady.{steady_stop}
 use Rattle.seq_space.specs.Places.{number_of}
 use Rattle.seq_space.specs.declared.Seq.{Seq}
@@ -36,9 +36,9 @@ use Rattle.flow_steps.specs.Sends.{Keeps}
 use Rattle.flow_steps.proofs.Reasons.{by_arrival}
 use Rattle.flow_steps.proofs.SendSteps.{place_of_number}
 use Rattle.flow_steps.proofs.Sendings.{rises}
-use Rattle.connection_steps.specs.Holding.{Gives, Goes, Holds, IsOpened, Receives, Suits, is_calls, is_connects}
+use Rattle.connection_steps.specs.Holding.{CountsSince, Gives, Goes, Holds, IsOpened, Receives, Suits, is_calls, is_connects}
 use Rattle.connection_steps.specs.Seen.{count_of, outward_of, segment_of, timer_of, window_by}
-use Rattle.connection_steps.proofs.Confirming.{answered_now, far_is, heard_fin, heard_keeps, heard_runs, heard_steady, heard_told, not_past, old_is, place_same, syn_heard_runs}
+use Rattle.connection_steps.proofs.Confirming.{answered_now, far_is, heard_counts, heard_fin, heard_keeps, heard_runs, heard_steady, heard_told, not_past, old_is, place_same, syn_heard_runs}
 use Rattle.connection_steps.proofs.Going.{comes as comes_on, nothing_to_close}
 use Rattle.connection_steps.proofs.Hearing.{heard_alone, heard_by, heard_stays, seen_as}
 use Rattle.connection_steps.proofs.Quiet.{gives_as, opened_on, same_mss}
@@ -94,6 +94,13 @@ congested_same c = by c.congestion
         × ((if b then record c.transmission { cwnd = Some (at_first c.transmission.mss (has_gone_again c.sendings)) } else c.transmission).end ≡ c.transmission.end)
     by true = (refl, refl, refl, refl, refl, (λ down. refl), refl)
     by false = (refl, refl, refl, refl, refl, (λ down. refl), refl)
+
+pub congested_resend : (c : Connection) → (congested c).resend ≡ c.transmission.resend
+congested_resend c = by c.congestion
+  where
+    by : (b : Bool) → (if b then record c.transmission { cwnd = Some (at_first c.transmission.mss (has_gone_again c.sendings)) } else c.transmission).resend ≡ c.transmission.resend
+    by true = refl
+    by false = refl
 
 pub congested_alone : (c : Connection) → c.congestion ≡ false → c.transmission.cwnd ≡ None → (congested c).cwnd ≡ None
 congested_alone c is none = ap (λ (b : Bool). (if b then record c.transmission { cwnd = Some (at_first c.transmission.mss (has_gone_again c.sendings)) } else c.transmission).cwnd) is ∙ none
@@ -252,6 +259,7 @@ module _ (s : Settings) (c : Connection) (up : Upward) (down : Downward) (past :
           alone = λ is. heard_alone t seq w (is_bare tcp) m seen (g.alone is);
           resends = subst (λ (b : Bool). Resends after m (timer_of (if b then c.syn else u.resend)) (count_of (is_under_way after) (if b then c.syn else u.resend)) (if b then c.syn else u.resend).estimate.wait) (sym opening)
               (heard_runs s past now m seg t down seq w (is_bare tcp) seen h.buffers.feeds g.keeps it seen_is ok on late ans h.goes.lawful (rises past h.goes.story) (omega (arith, h.goes.moment, on)) ran);
+          counts = heard_counts s past now m seg t down seq w (is_bare tcp) seen h.buffers.feeds g.keeps it seen_is ok on late (rises past h.goes.story) (omega (arith, h.goes.moment, on)) g.counts;
           steady = g.steady;
           unset = g.unset;
           set = λ yet gone. let not_it = sym yet ∙ opening in absurd cc;
@@ -269,7 +277,7 @@ module _ (s : Settings) (c : Connection) (up : Upward) (down : Downward) (past :
     gives_now : (owed : Bool) → Gives s (with_all watched_u owed (c.fin_acked || is_fin_too seen)) later_down after m
     gives_now owed =
         let g = heard_gives owed in
-        gives_watched s (with_all u owed (c.fin_acked || is_fin_too seen)) later_down after m (nat_lt u.sent (places u later_down)) (heard_steady t seq w (is_bare tcp) m seen late h.buffers.feeds.sound.steady)
+        gives_watched s (with_all u owed (c.fin_acked || is_fin_too seen)) later_down after m (nat_lt u.sent (places u later_down)) (heard_steady t seq w (is_bare tcp) m seen late h.buffers.feeds.sound.steady) (omega (arith, h.goes.moment, on), rises past h.goes.story)
         (λ is. under_way_is s (with_all u owed (c.fin_acked || is_fin_too seen)) later_down after (opened_all u owed (c.fin_acked || is_fin_too seen) (heard_stays t seq w (is_bare tcp) m seen).mss u_answered) g.keeps is) g
 
     ack_is : after_ack t later_down seq w (is_bare tcp) m seen ≡ watched_u
@@ -541,6 +549,8 @@ module _ (s : Settings) (c : Connection) (up : Upward) (down : Downward) (past :
         window = heard_told s past now m segment t0 down seq0 w0 (is_bare tcp) seen0 feeds0 keeps0 it0 seen_is0 ok0 (g.window ∙ ap (λ o. window_by o) (sym (congested_same c).4)) refl (window_same s c past tcp h.suits h.opened syn);
         alone = λ is. heard_alone t0 seq0 w0 (is_bare tcp) m seen0 (congested_alone c (h.suits.congestion ∙ is) (g.alone is));
         resends = syn_heard_runs s past now m segment t0 down seq0 w0 (is_bare tcp) seen0 feeds0 keeps0 it0 seen_is0 ok0 on late sent0;
+        counts = heard_counts s past now m segment t0 down seq0 w0 (is_bare tcp) seen0 feeds0 keeps0 it0 seen_is0 ok0 on late (rises past h.goes.story) (omega (arith, h.goes.moment, on))
+            (subst (λ (r : Resending). CountsSince past r.timer) (sym (congested_resend c)) g.counts);
         steady = steady_stop c.syn g.steady;
         unset = λ none. let not_it = sym none ∙ gone in absurd cc;
         set = λ yet so. absurd cc;
@@ -564,7 +574,7 @@ module _ (s : Settings) (c : Connection) (up : Upward) (down : Downward) (past :
   watched_gives : Gives s (opened_with watched0 owed0 fa0) down0 next m
   watched_gives =
       let g = gives0 owed0 in
-      gives_watched s (opened_with u0 owed0 fa0) down0 next m (nat_lt u0.sent (places u0 down0)) (heard_steady t0 seq0 w0 (is_bare tcp) m seen0 late feeds0.sound.steady)
+      gives_watched s (opened_with u0 owed0 fa0) down0 next m (nat_lt u0.sent (places u0 down0)) (heard_steady t0 seq0 w0 (is_bare tcp) m seen0 late feeds0.sound.steady) (omega (arith, h.goes.moment, on), rises past h.goes.story)
       (λ is. under_way_is s (opened_with u0 owed0 fa0) down0 next (opened0 u0 owed0 fa0 mss0) g.keeps is) g
 
   heeded0 : is_heeded past segment ≡ true

@@ -1,8 +1,10 @@
 pub mod Calling
+pub mod Bounds
 pub mod Causes
 pub mod Closing
 pub mod Coming
 pub mod Confirming
+pub mod Counting
 pub mod Departing
 pub mod Going
 pub mod Acking

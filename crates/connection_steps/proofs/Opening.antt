@@ -83,6 +83,7 @@ module _ (s : Settings) (m ours most size : ℕ) (scales : s.scales ≡ true) (f
         window = refl;
         alone = λ is. refl;
         resends = opens m ours (segment_of syn);
+        counts = λ base is. absurd cc;
         steady = steady_at_rest;
         unset = λ is. refl;
         set = λ is gone. absurd cc;
@@ -152,6 +153,7 @@ module _ (s : Settings) (m ours most size : ℕ) (scales : s.scales ≡ true) (f
         window = refl;
         alone = λ is. refl;
         resends = accepts m ours;
+        counts = λ base is. absurd cc;
         steady = steady_at_rest;
         unset = λ is. refl;
         set = λ is gone. absurd cc;

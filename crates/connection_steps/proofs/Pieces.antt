@@ -34,6 +34,7 @@ use Rattle.flow_steps.proofs.Sendings.{rises, sent_once}
 use Rattle.connection_steps.specs.Holding.{Gives, Holds, is_calls}
 use Rattle.connection_steps.specs.Seen.{count_of, outward_of, timer_by, timer_of}
 use Rattle.connection_steps.specs.Sending.{octets_of, segment_out}
+use Rattle.connection_steps.proofs.Counting.{counts_on, now_counts, sent_counts}
 use Rattle.connection_steps.proofs.Acking.{opened_told}
 use Rattle.connection_steps.proofs.Leaving.{leaves_goes, leaves_kept, leaves_received, near_sent, read_is, stands}
 use Rattle.connection_steps.proofs.Quiet.{opened_on, opened_sending, receives_sending}
@@ -335,6 +336,8 @@ module _ (s : Settings) (c : Connection) (up : Upward) (down : Downward) (past :
         window = g.window;
         alone = g.alone;
         resends = subst (λ (b : Bool). Running (if b then c.syn else resend_sent t.resend (goes_again t p) m)) (sym opening) (runs_on kind);
+        counts = sent_counts after t.resend (goes_again t p) m (now_counts after m (omega (arith, h.goes.moment, on), rises past h.goes.story) (omega arith))
+            (counts_on past after t.resend.timer refl refl g.counts);
         steady = g.steady;
         unset = g.unset;
         set = g.set;

@@ -20,9 +20,10 @@ use Rattle.flow_steps.specs.Sends.{Keeps}
 use Rattle.flow_steps.proofs.Reasons.{reason_stays, reason_later}
 use Rattle.flow_steps.proofs.Resent.{IsQuiet, later, quiet}
 use Rattle.flow_steps.proofs.Rests.{quiet_ends}
-use Rattle.connection_steps.specs.Holding.{Awaits, Gives, Holds, IsOpened, Receives}
+use Rattle.connection_steps.specs.Holding.{Awaits, CountsSince, Gives, Holds, IsOpened, Receives}
 use Rattle.connection_steps.specs.Same.{SameGuest, SameHost, SameStart}
 use Rattle.connection_steps.specs.Seen.{count_of, outward_of, part_of, resending_of, timer_of, window_by}
+use Rattle.connection_steps.proofs.Counting.{counts_on, quiet_same}
 use Rattle.connection_steps.proofs.Going.{later as goes_later}
 
 pub same_number : (past next : Story) → their_syn next ≡ their_syn past → their_number next ≡ their_number past
@@ -105,6 +106,7 @@ gives_on s c down past now m e silent on out same g = record {
   alone = g.alone;
   resends = subst (λ (b : Bool). Resends (At m e ∷ past) m (timer_of (resending_of c)) (count_of b (resending_of c)) (resending_of c).estimate.wait) (sym (same_under_way past (At m e ∷ past) same.host out))
       (quiet past m e now (timer_of (resending_of c)) (count_of (is_under_way past) (resending_of c)) (resending_of c).estimate.wait silent on g.resends);
+  counts = let same = quiet_same past m e silent in counts_on past (At m e ∷ past) c.transmission.resend.timer same.0 same.1 g.counts;
   steady = g.steady;
   unset = g.unset;
   set = g.set;
@@ -123,6 +125,7 @@ gives_later s c down past now m on g = record {
   window = g.window;
   alone = g.alone;
   resends = later past now m (timer_of (resending_of c)) (count_of (is_under_way past) (resending_of c)) (resending_of c).estimate.wait on g.resends;
+  counts = g.counts;
   steady = g.steady;
   unset = g.unset;
   set = g.set;
@@ -161,6 +164,7 @@ gives_as s c d down past now open_is t_is syn_is gone_is fin_is reason still g =
   window = g.window ∙ ap (λ (t : Transmission). window_by t.window) (sym t_is);
   alone = λ is. ap (λ (t : Transmission). t.cwnd) t_is ∙ g.alone is;
   resends = subst (λ (r : Resending). Resends past now (timer_of r) (count_of (is_under_way past) r) r.estimate.wait) (sym (resending_as c d open_is t_is syn_is)) g.resends;
+  counts = subst (λ (t : Transmission). CountsSince past t.resend.timer) (sym t_is) g.counts;
   steady = subst (λ (r : Resending). IsSteady r) (sym syn_is) g.steady;
   unset = λ none. ap (λ (r : Resending). is_off r.timer) syn_is ∙ g.unset (ap (λ (n : Sendings). has_gone n) (sym gone_is) ∙ none);
   set = λ opening gone. ap (λ (r : Resending). is_off r.timer) syn_is ∙ g.set (sym open_is ∙ opening) (ap (λ (n : Sendings). has_gone n) (sym gone_is) ∙ gone);
@@ -231,6 +235,7 @@ gives_most s c k down past now g = record {
   window = g.window;
   alone = g.alone;
   resends = g.resends;
+  counts = g.counts;
   steady = g.steady;
   unset = g.unset;
   set = g.set;

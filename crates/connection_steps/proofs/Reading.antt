@@ -18,6 +18,7 @@ use Rattle.flow_laws.proofs.HostLaws.{InOrder, in_order}
 use Rattle.flow_steps.proofs.Acts.{may_read, must_read}
 use Rattle.flow_steps.proofs.Reasons.{reason_later, reason_stays}
 use Rattle.flow_steps.proofs.Resent.{quiet}
+use Rattle.flow_steps.proofs.Sendings.{rises}
 use Rattle.flow_steps.proofs.SendSteps.{reads as reads_step, reads_end as end_step}
 use Rattle.connection_steps.specs.Holding.{Gives, Holds}
 use Rattle.connection_steps.specs.Seen.{count_of, outward_of, resending_of, timer_of}
@@ -62,6 +63,7 @@ module _ (s : Settings) (c : Connection) (up : Upward) (down : Downward) (past :
         window = g.window;
         alone = g.alone;
         resends = quiet past m (Reads xs) now (timer_of (resending_of c)) (count_of (is_under_way past) (resending_of c)) (resending_of c).estimate.wait tt on g.resends;
+        counts = g.counts;
         steady = g.steady;
         unset = g.unset;
         set = g.set;
@@ -86,7 +88,7 @@ module _ (s : Settings) (c : Connection) (up : Upward) (down : Downward) (past :
             (awaits_on s c up past (At m (Reads xs) ∷ past) (record { ours = refl; connecting = refl; out = refl; accepted = refl; theirs = refl; unasked = refl }) (record { guest = refl; ended = refl; edge = refl; prompted = refl; answered = refl }) (h.awaits is));
         receives = λ is. receives_sending s c (watched_over c.transmission (with_octets xs) m) up (At m (Reads xs) ∷ past)
             (receives_on s c up past m (Reads xs) tt refl (record { guest = refl; ended = refl; edge = refl; prompted = refl; answered = refl }) (h.receives is));
-        gives = gives_watched s c (with_octets xs) (At m (Reads xs) ∷ past) m (nat_lt c.transmission.sent (places c.transmission (with_octets xs))) h.buffers.feeds.sound.steady
+        gives = gives_watched s c (with_octets xs) (At m (Reads xs) ∷ past) m (nat_lt c.transmission.sent (places c.transmission (with_octets xs))) h.buffers.feeds.sound.steady (omega (arith, h.goes.moment, on), rises past h.goes.story)
             (λ is. under_way_is s c (with_octets xs) (At m (Reads xs) ∷ past) o g.keeps is) g;
       }
 
@@ -101,6 +103,7 @@ module _ (s : Settings) (c : Connection) (up : Upward) (down : Downward) (past :
         window = g.window;
         alone = g.alone;
         resends = quiet past m ReadsEnd now (timer_of (resending_of c)) (count_of (is_under_way past) (resending_of c)) (resending_of c).estimate.wait tt on g.resends;
+        counts = g.counts;
         steady = g.steady;
         unset = g.unset;
         set = g.set;
@@ -128,6 +131,6 @@ module _ (s : Settings) (c : Connection) (up : Upward) (down : Downward) (past :
             (awaits_on s c up past (At m ReadsEnd ∷ past) (record { ours = refl; connecting = refl; out = refl; accepted = refl; theirs = refl; unasked = refl }) (record { guest = refl; ended = refl; edge = refl; prompted = refl; answered = refl }) (h.awaits is));
         receives = λ is. receives_sending s c (watched unsent_end true m) up (At m ReadsEnd ∷ past)
             (receives_on s c up past m ReadsEnd tt refl (record { guest = refl; ended = refl; edge = refl; prompted = refl; answered = refl }) (h.receives is));
-        gives = gives_watched s ended_c down (At m ReadsEnd ∷ past) m true h.buffers.feeds.sound.steady
+        gives = gives_watched s ended_c down (At m ReadsEnd ∷ past) m true h.buffers.feeds.sound.steady (omega (arith, h.goes.moment, on), rises past h.goes.story)
             (λ is. under_way_is s ended_c down (At m ReadsEnd ∷ past) (opened_sending s c unsent_end (At m ReadsEnd ∷ past) refl o) g.keeps is) g;
       }

@@ -71,7 +71,7 @@ within_reach None most acked edge_ false segments alone = omega arith
 within_reach (Some c) most acked edge_ true segments alone = omega (arith, segments.0, segments.1)
 within_reach (Some c) most acked edge_ false segments alone = let not_it = alone refl in absurd cc
 
-end_is : (e : End) → (if not (is_open e) then 1 else 0) ≡ end_places e
+pub end_is : (e : End) → (if not (is_open e) then 1 else 0) ≡ end_places e
 end_is our_end.Open = refl
 end_is our_end.Unsent = refl
 end_is our_end.Sent = refl
@@ -138,7 +138,7 @@ module _ (s : Settings) (c : Connection) (up : Upward) (down : Downward) (past :
     apart : (c.ack_owed ≡ false) × (is_update_owed c up ≡ false)
     apart = or_both c.ack_owed (is_update_owed c up) two.1
 
-    not_expired : is_expired c.transmission.resend.timer ≡ false
+    pub not_expired : is_expired c.transmission.resend.timer ≡ false
     not_expired = (or_both (is_expired c.transmission.resend.timer) c.transmission.early owes.0).0
 
     octets_out : min (if s.congestion then min (edge_told (window_by c.transmission.window)) (c.transmission.acked + mss s past) else edge_told (window_by c.transmission.window)) (down.first + length down.octets + (if not (is_open c.transmission.end) then 1 else 0)) ≤ c.transmission.sent

@@ -32,6 +32,7 @@ use Rattle.flow_steps.proofs.SynGone.{syn_again, syn_anyway, syn_goes}
 use Rattle.connection_steps.specs.Holding.{Gives, Goes, Holds, is_calls, is_connects}
 use Rattle.connection_steps.specs.Seen.{count_of, outward_of, timer_by, timer_of}
 use Rattle.connection_steps.specs.Sending.{segment_out}
+use Rattle.connection_steps.proofs.Counting.{counts_on}
 use Rattle.connection_steps.proofs.Going.{does}
 use Rattle.connection_steps.proofs.Leaving.{granted}
 use Rattle.connection_steps.proofs.Quiet.{gives_as}
@@ -141,6 +142,7 @@ module _ (s : Settings) (c : Connection) (down : Downward) (up : Upward) (past :
         window = g.window;
         alone = g.alone;
         resends = subst (λ (b : Bool). Running (if b then resend_sent c.syn (has_gone c.sendings) m else c.transmission.resend)) (sym opening) (runs (has_gone c.sendings) refl);
+        counts = counts_on past after c.transmission.resend.timer refl refl g.counts;
         steady = steady_sent c.syn (has_gone c.sendings) m late g.steady;
         unset = λ none. let not_it = sym none ∙ gone_once c.sendings in absurd cc;
         set = λ yet gone. sent_set c.syn (has_gone c.sendings) m;

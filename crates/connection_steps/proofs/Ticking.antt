@@ -21,8 +21,9 @@ use Rattle.flow_steps.specs.Sends.{Keeps}
 use Rattle.flow_steps.proofs.InTime.{gives_up_now}
 use Rattle.flow_steps.proofs.Reasons.{by_expiry}
 use Rattle.flow_steps.proofs.Resent.{counted, expires_now}
-use Rattle.connection_steps.specs.Holding.{Holds}
+use Rattle.connection_steps.specs.Holding.{CountsSince, Holds}
 use Rattle.connection_steps.specs.Seen.{count_of, outward_of, resending_of, timer_by, timer_of, window_by}
+use Rattle.connection_steps.proofs.Counting.{expired_counts}
 use Rattle.connection_steps.proofs.Quiet.{opened_sending, receives_sending, awaits_sending}
 use Rattle.connection_steps.proofs.Watching.{syn_under_way, under_way_is}
 
@@ -156,6 +157,7 @@ module _ (s : Settings) (c : Connection) (up : Upward) (down : Downward) (past :
                 (if b then resend_expired c.syn else c.transmission.resend).estimate.wait) (sym opening)
                 (subst (λ (q : Resending). Resends past now (timer_of q) (count_of (is_under_way past) q) q.estimate.wait) (sym (expired_is c.syn fresh))
                 (after_due past now at late c.syn.timer c.syn.resent c.syn.estimate.wait (is_under_way past) refl due (ran c.syn syn_runs)));
+            counts = g.counts;
             steady = steady_expired c.syn g.steady;
             unset = λ none. let not_it = sym none ∙ gone in absurd cc;
             owes_syn = λ yet over. refl;
@@ -210,6 +212,8 @@ module _ (s : Settings) (c : Connection) (up : Upward) (down : Downward) (past :
                 (if b then c.syn else (after_expired c.transmission).resend).estimate.wait) (sym opening)
                 (subst (λ (q : Resending). Resends past now (timer_of q) (count_of (is_under_way past) q) q.estimate.wait) (sym (ap (λ (u : Transmission). u.resend) is ∙ expired_is c.transmission.resend fresh))
                 (after_due past now at late c.transmission.resend.timer c.transmission.resend.resent c.transmission.resend.estimate.wait (is_under_way past) refl due (ran c.transmission.resend piece_runs)));
+            counts = subst (λ (q : Resending). CountsSince past q.timer) (sym (ap (λ (u : Transmission). u.resend) is ∙ expired_is c.transmission.resend fresh))
+                (expired_counts past c.transmission.resend.timer c.transmission.resend.estimate.wait);
             steady = g.steady;
             unset = g.unset;
             set = λ yet gone. let not_it = sym yet ∙ opening in absurd cc;

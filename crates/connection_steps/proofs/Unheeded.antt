@@ -29,6 +29,7 @@ use Rattle.flow_steps.proofs.Steps.{passed}
 use Rattle.flow_steps.proofs.Wanting.{reset_at_next}
 use Rattle.connection_steps.specs.Holding.{Gives, Holds, Receives, is_calls, is_connects}
 use Rattle.connection_steps.specs.Seen.{count_of, outward_of, part_of, resending_of, timer_of}
+use Rattle.connection_steps.proofs.Counting.{counts_on, unmoved_at}
 use Rattle.connection_steps.proofs.Acking.{way_same}
 use Rattle.connection_steps.proofs.Going.{comes}
 use Rattle.connection_steps.proofs.Quiet.{opened_on}
@@ -112,6 +113,7 @@ module _ (s : Settings) (c : Connection) (up : Upward) (down : Downward) (past :
         window = no_window s past m seg none ∙ g.window;
         alone = g.alone;
         resends = subst (λ (b : Bool). Resends after m (timer_of (resending_of c)) (count_of b (resending_of c)) (resending_of c).estimate.wait) (sym way) runs;
+        counts = counts_on past after c.transmission.resend.timer refl (unmoved_at past m seg none) g.counts;
         steady = g.steady;
         unset = g.unset;
         set = g.set;

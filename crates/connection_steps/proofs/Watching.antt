@@ -16,8 +16,10 @@ use Rattle.flow_laws.specs.Flow.{host, is_under_way, syn_is_out}
 use Rattle.flow_steps.specs.Resends.{HasReason, Resends}
 use Rattle.flow_steps.specs.Sends.{Keeps}
 use Rattle.flow_steps.proofs.Resent.{rests_now}
-use Rattle.connection_steps.specs.Holding.{Gives, IsOpened, is_live}
+use Rattle.flow_steps.proofs.Sendings.{Rises}
+use Rattle.connection_steps.specs.Holding.{CountsSince, Gives, IsOpened, is_live}
 use Rattle.connection_steps.specs.Seen.{count_of, outward_of, timer_of, window_by}
+use Rattle.connection_steps.proofs.Counting.{now_counts, watched_counts}
 
 -- a live connection that isn't opening is synchronized
 pub synchronized_is : (st : Stage) → is_live st ≡ true → is_opening st ≡ false → is_synchronized st ≡ true
@@ -101,16 +103,17 @@ wait_stays r true now = refl
 wait_stays r false now = refl
 
 -- the window is watched
-pub gives_watched : (s : Settings) (c : Connection) (down : Downward) (past : Story) (now : ℕ) (unsent : Bool) → IsSteady c.transmission.resend
+pub gives_watched : (s : Settings) (c : Connection) (down : Downward) (past : Story) (now : ℕ) (unsent : Bool) → IsSteady c.transmission.resend → Rises past
     → (is_opening c.stage ≡ false → is_under_way past ≡ nat_lt c.transmission.acked c.transmission.sent)
     → Gives s c down past now → Gives s (record c { transmission = watched c.transmission unsent now }) down past now
-gives_watched s c down past now unsent steady under g = record {
+gives_watched s c down past now unsent steady rising under g = record {
   keeps = subst (λ o. Keeps o (host past)) (sym (watched_outward c.transmission down unsent now)) g.keeps;
   fin_acked = g.fin_acked ∙ ap (λ (a : ℕ). nat_eq a (octets_read down + 1)) (sym (watched_acked c.transmission down unsent now));
   fin_out = g.fin_out ∙ ap is_sent (sym (watched_end c.transmission down unsent now));
   window = g.window ∙ ap window_by (sym (watched_window c.transmission down unsent now));
   alone = λ is. watched_cwnd c.transmission down unsent now ∙ g.alone is;
   resends = by_stage (is_opening c.stage) refl;
+  counts = by_counts (nat_lt t.acked t.sent);
   steady = g.steady;
   unset = g.unset;
   set = g.set;
@@ -140,6 +143,10 @@ gives_watched s c down past now unsent steady under g = record {
     by_stage : (b : Bool) → is_opening c.stage ≡ b → Running (if b then c.syn else (watched t unsent now).resend)
     by_stage true is = subst (λ (b : Bool). Running (if b then c.syn else t.resend)) is g.resends
     by_stage false is = by_under (nat_lt t.acked t.sent) refl (under is) (subst (λ (b : Bool). Running (if b then c.syn else t.resend)) is g.resends)
+
+    by_counts : (b : Bool) → CountsSince past (if b then t else record t { resend = starts }).resend.timer
+    by_counts true = g.counts
+    by_counts false = watched_counts past t.resend (is_closed t && unsent) now (now_counts past now rising g.resends.moment) g.counts
 
     by_again : (b : Bool) → nat_lt t.acked t.sent ≡ b → is_owed_again (if b then t else record t { resend = starts }) ≡ true
         → (if b then t else record t { resend = starts }).acked < (if b then t else record t { resend = starts }).sent → HasReason past now

@@ -28,12 +28,13 @@ use Rattle.flow_laws.specs.Windows.{is_scaled, their_scale, their_window}
 use Rattle.flow_steps.specs.Sends.{Keeps}
 use Rattle.flow_steps.proofs.Reasons.{by_arrival}
 use Rattle.flow_steps.proofs.SendSteps.{place_of_number}
-use Rattle.connection_steps.specs.Holding.{Gives, Holds, IsOpened, Receives, is_calls, is_connects, is_live}
+use Rattle.flow_steps.proofs.Sendings.{rises}
+use Rattle.connection_steps.specs.Holding.{CountsSince, Gives, Holds, IsOpened, Receives, is_calls, is_connects, is_live}
 use Rattle.connection_steps.specs.Seen.{outward_of, segment_of, window_by}
-use Rattle.connection_steps.proofs.Confirming.{answered_now, heard_fin, heard_keeps, heard_steady, heard_told, place_same, syn_heard_runs}
+use Rattle.connection_steps.proofs.Confirming.{answered_now, heard_counts, heard_fin, heard_keeps, heard_steady, heard_told, place_same, syn_heard_runs}
 use Rattle.connection_steps.proofs.Greeting.{goes_greeted, greeted_receives, known_now, most_now, unknown, unknown_is}
 use Rattle.connection_steps.proofs.Hearing.{heard_alone, heard_by, heard_stays, seen_as}
-use Rattle.connection_steps.proofs.Heeding.{congested_alone, congested_feeds, congested_same}
+use Rattle.connection_steps.proofs.Heeding.{congested_alone, congested_feeds, congested_resend, congested_same}
 use Rattle.connection_steps.proofs.Quiet.{gives_as, gives_most}
 use Rattle.connection_steps.proofs.Unheeded.{answered_same, gives_after}
 use Rattle.connection_steps.proofs.Watching.{gives_watched, under_way_is, watched_mss}
@@ -215,6 +216,8 @@ module _ (s : Settings) (c : Connection) (up : Upward) (down : Downward) (past :
           window = heard_told s past now m seg t0 down seq0 tcp.window false seen0 feeds0 keeps0 it seen_is0 ok0 (g.window ∙ ap (λ o. window_by o) (sym (congested_same (greeted c tcp)).4)) refl window0;
           alone = λ is. heard_alone t0 seq0 tcp.window false m seen0 (congested_alone (greeted c tcp) (h.suits.congestion ∙ is) (g.alone is));
           resends = syn_heard_runs s past now m seg t0 down seq0 tcp.window false seen0 feeds0 keeps0 it seen_is0 ok0 on late sent0;
+          counts = heard_counts s past now m seg t0 down seq0 tcp.window false seen0 feeds0 keeps0 it seen_is0 ok0 on late (rises past h.goes.story) (omega (arith, h.goes.moment, on))
+              (subst (λ (r : Resending). CountsSince past r.timer) (sym (congested_resend (greeted c tcp))) g.counts);
           steady = steady_stop c.syn g.steady;
           unset = λ none. let not_it = sym none ∙ gone in absurd cc;
           set = λ yet so. absurd cc;
@@ -225,7 +228,7 @@ module _ (s : Settings) (c : Connection) (up : Upward) (down : Downward) (past :
 
     watched_gives : Gives s (opened_with watched0) down0 after m
     watched_gives =
-        gives_watched s (opened_with u0) down0 after m (nat_lt u0.sent (places u0 down0)) (heard_steady t0 seq0 tcp.window false m seen0 late feeds0.sound.steady)
+        gives_watched s (opened_with u0) down0 after m (nat_lt u0.sent (places u0 down0)) (heard_steady t0 seq0 tcp.window false m seen0 late feeds0.sound.steady) (omega (arith, h.goes.moment, on), rises past h.goes.story)
         (λ is. under_way_is s (opened_with u0) down0 after (opened_after stage.Synchronized u0 (after_stop c.syn) false fa0 refl refl refl mss0 answered0 (λ yet. absurd cc)) gives0.keeps is) gives0
 
     ack_is0 : after_ack t0 down0 seq0 tcp.window false m seen0 ≡ watched0

@@ -1,6 +1,8 @@
 -- A connection and its buffers, against the story of its flow.
 use Rattle.std.specs.Prelude.{◌≡◌, ℕ, ◌+◌, ◌-◌, ◌<◌, ◌≤◌, ◌^◌, [], length, drop, Bool, true, false, None, Some, if◌then◌else◌, IsTrue, nat_eq}
 use Rattle.retransmit.specs.Resending.{IsSteady, is_expired, is_off}
+use Rattle.retransmit.specs.declared.Timer.{Timer}
+use Rattle.retransmit.specs.declared.Timer.TheVariants.{Since}
 use Rattle.sock_buffers.specs.Downward.{Downward}
 use Rattle.sock_buffers.specs.Upward.{Upward}
 use Rattle.tcp_receive.specs.Received.{next_number, received}
@@ -13,7 +15,7 @@ use Rattle.flow_laws.specs.Settings.{Settings}
 use Rattle.flow_laws.specs.Event.{IsStory, Story, newest_moment}
 use Rattle.flow_laws.specs.Guest.{AckIsDue, Honest, was_acked}
 use Rattle.flow_laws.specs.Host.{answered}
-use Rattle.flow_laws.specs.Flow.{guest, has_connected, host, is_accepted, is_closed, is_connecting, is_under_way, our_number, syn_is_out, their_number, their_syn}
+use Rattle.flow_laws.specs.Flow.{acknowledged_at, guest, has_connected, host, is_accepted, is_closed, is_connecting, is_under_way, opened_at, our_number, syn_is_out, their_number, their_syn}
 use Rattle.flow_laws.specs.Windows.{mss, right_edge, their_scale, window}
 use Rattle.flow_laws.specs.Close.{fin_is_out, host_failed, host_was_ended}
 use Rattle.flow_laws.specs.Lawful.{IsLawful, is_prompted}
@@ -124,6 +126,10 @@ pub record Receives (s : Settings) (c : Connection) (up : Upward) (past : Story)
   pub prompted : c.ack_owed ≡ true → is_prompted past ≡ true
   pub updated : is_prompted past ≡ false → is_synchronized c.stage ≡ true → c.told ≡ Some (told_edge c up (our_shift c))
 
+-- A timer that runs counts since a moment at which the flow was open, and after which nothing of ours was acknowledged.
+abbrev pub CountsSince : Story → Timer → Type 0
+CountsSince past timer = (base : ℕ) → timer ≡ Since base → (opened_at past ≤ base) × (acknowledged_at past ≤ base)
+
 -- the host's stream, and when what is under way goes again
 pub record Gives (s : Settings) (c : Connection) (down : Downward) (past : Story) (now : ℕ) : Type 0 where
   pub keeps : Keeps (outward_of c.transmission down) (host past)
@@ -132,6 +138,7 @@ pub record Gives (s : Settings) (c : Connection) (down : Downward) (past : Story
   pub window : window s past ≡ window_by c.transmission.window
   pub alone : s.congestion ≡ false → c.transmission.cwnd ≡ None
   pub resends : Resends past now (timer_of (resending_of c)) (count_of (is_under_way past) (resending_of c)) (resending_of c).estimate.wait
+  pub counts : CountsSince past c.transmission.resend.timer
   pub steady : IsSteady c.syn
   pub unset : has_gone c.sendings ≡ false → is_off c.syn.timer ≡ true
   pub set : is_opening c.stage ≡ true → has_gone c.sendings ≡ true → is_off c.syn.timer ≡ false

@@ -15,6 +15,7 @@ pub mod Lessening
 pub mod Marking
 pub mod Asking
 pub mod Promises
+pub mod Bounds
 pub mod Ahead
 pub mod Shaping
 pub mod Sizing

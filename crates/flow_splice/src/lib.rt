@@ -122,7 +122,9 @@ impl Spliced {
     ghost use Rattle.flow_splice.specs.Wants.{due_of, reads, writes};
     ghost use Rattle.flow_splice.specs.declared.Place.TheVariants.{Empty};
     ghost use Rattle.poll_list.specs.declared.Who.TheVariants.{Tcp as OnTcp};
-    ghost use Rattle.flow_laws.specs.Dutiful.{MayWaitToWrite, must_wait_to_write, waits_to_read};
+    ghost use Rattle.flow_laws.specs.Dutiful.{MayWaitToWrite, connect_deadline, must_wait_to_write, resend_deadline, waits_to_read, wakes};
+    ghost use Rattle.flow_steps.specs.Bounds.{IsBy, IsFrom};
+    ghost use Rattle.flow_splice.specs.Sends.{IsClear};
 
     /// The place for a flow, with all the memory that one will ever need: `ring` octets for each direction, from 1 to 1,048,576. `mru` is the longest
     /// datagram that comes from the guest, from 576 to 9,216 octets.
@@ -237,17 +239,15 @@ impl Spliced {
     /// The moment at which the flow is to be looked at: the end of the time to connect, that of a wait for the guest's hardware address, or that of the
     /// connection's timer. `None` exactly where there is none.
     pub fn due(&self) -> Option<u64>
-        ensures { result ≡ due_of self.now }
+        ensures due { result ≡ due_of self.now }
+        // No later than 75,000 ms after the flow was opened, while it connects.
+        ensures by_connect { (s : Settings) (past : Story) (now : ℕ) → Follows s self.now past now → IsBy result (connect_deadline past) }
+        // Where a pump cleared the flow, no later than a minute after what is under way went out, or after the last acknowledgement that moved.
+        ensures by_resend { (s : Settings) (past : Story) (now : ℕ) → Follows s self.now past now → IsClear self.now → IsBy result (resend_deadline past) }
+        // Not before the earliest moment for which a wait may be cut short, and without end where there is none.
+        ensures from { (s : Settings) (past : Story) (now : ℕ) → Follows s self.now past now → IsFrom result (wakes past) }
     {
-        if !self.is_open() {
-            None
-        } else if self.connects() {
-            Some(self.connect_end())
-        } else if self.seeks() {
-            Some(self.ask_at)
-        } else {
-            self.conn.due()
-        }
+        self.next_moment()
     }
 
     /// What is waited for: that the socket has octets, where there is room for them; that it connects or takes octets or the guest's end.
@@ -278,7 +278,7 @@ impl Spliced {
 impl Spliced {
     ghost use Rattle.flow_splice.specs.Hosts.{Sees, ends};
     ghost use Rattle.flow_splice.specs.Splice.{closed, place_after as place_after_by};
-    ghost use Rattle.flow_splice.specs.Wants.{connect_end as connect_end_by, may_end, may_read as may_read_by, may_write as may_write_by, owes_octets as owes_octets_by, reads as reads_by, seeks as seeks_by, writes as writes_by};
+    ghost use Rattle.flow_splice.specs.Wants.{connect_end as connect_end_by, due_of, may_end, may_read as may_read_by, may_write as may_write_by, owes_octets as owes_octets_by, reads as reads_by, seeks as seeks_by, writes as writes_by};
 
     // Whether the socket is to connect.
     pub(crate) fn connects(&self) -> bool
@@ -292,6 +292,21 @@ impl Spliced {
         ensures { result ≡ seeks_by self.now }
     {
         self.mac.is_none() && self.asked > 0
+    }
+
+    // The moment at which it is to be looked at.
+    fn next_moment(&self) -> Option<u64>
+        ensures { result ≡ due_of self.now }
+    {
+        if !self.is_open() {
+            None
+        } else if self.connects() {
+            Some(self.connect_end())
+        } else if self.seeks() {
+            Some(self.ask_at)
+        } else {
+            self.conn.due()
+        }
     }
 
     // The moment at which the socket's time to connect is over.

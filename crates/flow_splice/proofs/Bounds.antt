@@ -1,0 +1,230 @@
+-- How long it may be waited for a flow, and how long it is waited at least: the moment at which it is to be looked at, against those of its story.
+use Rattle.std.proofs.Common.{refl, ◌≡◌, ℕ, ◌+◌, ◌<◌, List, ◌++◌, Bool, true, false, not, ◌&&◌, ◌||◌, Option, None, Some, is_some, nat_lt, if◌then◌else◌, arith, ap, subst, sym, ◌∙◌}
+use Rattle.std.proofs.lemmas.Bool.Decides.{nat_tests}
+use Rattle.net_octets.specs.declared.Mac.{Mac}
+use Rattle.retransmit.specs.Resending.{due_of as resend_due}
+use Rattle.tcp_guest.specs.Connection.{has_gone, is_opening, is_synchronized}
+use Rattle.tcp_guest.specs.Owing.{ack_if, owed_by, owed_of}
+use Rattle.tcp_guest.specs.Timing.{due_by as conn_due_by, due_of as conn_due}
+use Rattle.tcp_guest.specs.declared.Owed.{Owed}
+use Rattle.tcp_guest.specs.declared.Owed.TheVariants.{Syn, SynAck}
+use Rattle.tcp_guest.specs.declared.Stage.{Stage}
+use Rattle.tcp_guest.specs.declared.Stage.TheVariants as stage
+use Rattle.flow_laws.specs.Settings.{Settings}
+use Rattle.flow_laws.specs.Event.{Story}
+use Rattle.flow_laws.specs.Flow.{has_connected, is_accepted, is_closed, is_connecting, is_under_way, opened_at, syn_is_out}
+use Rattle.flow_laws.specs.Dutiful.{connect_deadline, moment_if, resend_deadline, waits_since, wakes}
+use Rattle.flow_steps.specs.Bounds.{IsBy, IsFrom}
+use Rattle.flow_steps.proofs.InTime.{not_before}
+use Rattle.connection_steps.specs.Holding.{is_calls, is_connects, is_live}
+use Rattle.connection_steps.proofs.Bounds.{from_first, from_if, from_second, opening_by, opening_from, synchronized_by, synchronized_from}
+use Rattle.connection_steps.proofs.Settling.{not_expired}
+use Rattle.connection_steps.proofs.Watching.{opening_is, syn_under_way}
+use Rattle.flow_splice.specs.Follows.{Follows, FollowsAt, IsOpen}
+use Rattle.flow_splice.specs.Sends.{IsClear, IsClearBy, takes_part_at}
+use Rattle.flow_splice.specs.Splice.{Splice, is_in_use, is_open}
+use Rattle.flow_splice.specs.Wants.{connect_end, due_of, seeks}
+use Rattle.flow_splice.specs.declared.Place.{Place}
+use Rattle.flow_splice.specs.declared.Place.TheVariants.{Empty, InUse, Resting}
+
+-- ---- once its socket was closed
+
+no_way : (a b : Bool) → b ≡ true → (a && not b) ≡ false
+no_way true b is = ap not is
+no_way false b is = refl
+
+no_connecting : (a b : Bool) → b ≡ true → not (a || b) ≡ false
+no_connecting true b is = refl
+no_connecting false b is = ap not is
+
+shut_by : (f : Splice) (past : Story) → is_closed past ≡ true → IsBy (due_of f) (connect_deadline past) × IsBy (due_of f) (resend_deadline past)
+shut_by f past shut = (
+  subst (λ (b : Bool). IsBy (due_of f) (moment_if b (opened_at past + 75000))) (sym (no_connecting (is_accepted past || has_connected past) (is_closed past) shut)) tt,
+  subst (λ (b : Bool). IsBy (due_of f) (moment_if b (waits_since past + 60000))) (sym (no_way (is_under_way past) (is_closed past) shut)) tt,
+)
+
+shut_from : (f : Splice) (past : Story) → is_open f ≡ false → IsFrom (due_of f) (wakes past)
+shut_from f past shut =
+    subst (λ (o : Option ℕ). IsFrom o (wakes past))
+    (sym (ap (λ (b : Bool). if b then (if is_connects f.conn.stage then Some (connect_end f) else (if seeks f then Some f.ask_at else conn_due f.conn)) else None) shut)) tt
+
+-- ---- while it is open
+
+if_none : (b : Bool) (w : Owed) → (if b then Some w else None) ≡ None → b ≡ false
+if_none true w is = absurd cc
+if_none false w is = refl
+
+module _ (s : Settings) (f : Splice) (past : Story) (now : ℕ) (o : IsOpen s f past now) (open_yet : is_open f ≡ true) where
+  due_open : due_of f ≡ (if is_connects f.conn.stage then Some (connect_end f) else (if seeks f then Some f.ask_at else conn_due f.conn))
+  due_open = ap (λ (b : Bool). if b then (if is_connects f.conn.stage then Some (connect_end f) else (if seeks f then Some f.ask_at else conn_due f.conn)) else None) open_yet
+
+  due_connects : is_connects f.conn.stage ≡ true → due_of f ≡ Some (connect_end f)
+  due_connects is = due_open ∙ ap (λ (b : Bool). if b then Some (connect_end f) else (if seeks f then Some f.ask_at else conn_due f.conn)) is
+
+  due_apart : is_connects f.conn.stage ≡ false → due_of f ≡ (if seeks f then Some f.ask_at else conn_due f.conn)
+  due_apart is = due_open ∙ ap (λ (b : Bool). if b then Some (connect_end f) else (if seeks f then Some f.ask_at else conn_due f.conn)) is
+
+  due_known : is_connects f.conn.stage ≡ false → seeks f ≡ false → due_of f ≡ conn_due f.conn
+  due_known apart none = due_apart apart ∙ ap (λ (b : Bool). if b then Some f.ask_at else conn_due f.conn) none
+
+  pub open_by_connect : IsBy (due_of f) (connect_deadline past)
+  open_by_connect = by (is_connects f.conn.stage) refl
+    where
+      by : (b : Bool) → is_connects f.conn.stage ≡ b → IsBy (due_of f) (connect_deadline past)
+      by true is =
+          let since = o.since in
+          subst (λ (d : Option ℕ). IsBy d (connect_deadline past)) (sym (due_connects is))
+          (subst (λ (b : Bool). IsBy (Some (connect_end f)) (moment_if b (opened_at past + 75000))) (sym (o.holds.opened.connects ∙ is)) (omega (arith, since), tt))
+      by false is = subst (λ (b : Bool). IsBy (due_of f) (moment_if b (opened_at past + 75000))) (sym (o.holds.opened.connects ∙ is)) tt
+
+  -- nothing is under way before its SYN went out
+  none_by : is_opening f.conn.stage ≡ true → has_gone f.conn.sendings ≡ false → IsBy (due_of f) (resend_deadline past)
+  none_by opening unsent =
+      subst (λ (b : Bool). IsBy (due_of f) (moment_if (b && not (is_closed past)) (waits_since past + 60000))) (sym (syn_under_way s f.conn past o.holds.opened opening ∙ unsent)) tt
+
+  calls_opens : (t : Stage) → is_calls t ≡ true → is_opening t ≡ true
+  calls_opens stage.Connects is = absurd cc
+  calls_opens stage.Calls is = refl
+  calls_opens stage.Answers is = absurd cc
+  calls_opens stage.Synchronized is = absurd cc
+  calls_opens stage.Rests is = absurd cc
+  calls_opens (stage.Resets seq ack) is = absurd cc
+  calls_opens stage.Gone is = absurd cc
+
+  known_seeks : (mac : Mac) → f.mac ≡ Some mac → seeks f ≡ false
+  known_seeks mac is = ap (λ (m : Option Mac). not (is_some m) && nat_lt 0 f.asked) is
+
+  -- where nothing is owed
+  known_by : seeks f ≡ false → owed_of f.conn f.up f.down ≡ None → IsBy (due_of f) (resend_deadline past)
+  known_by known nothing = by f.conn.stage refl o.holds.opened.live
+    where
+      of_conn : (d : Option ℕ) → is_connects f.conn.stage ≡ false → conn_due f.conn ≡ d → IsBy d (resend_deadline past) → IsBy (due_of f) (resend_deadline past)
+      of_conn d apart is within = subst (λ (x : Option ℕ). IsBy x (resend_deadline past)) (sym (due_known apart known ∙ is)) within
+
+      both : (a b : Bool) → (if a then Some SynAck else ack_if b) ≡ None → a ≡ false
+      both true b is = absurd cc
+      both false true is = absurd cc
+      both false false is = refl
+
+      by : (st : Stage) → f.conn.stage ≡ st → is_live st ≡ true → IsBy (due_of f) (resend_deadline past)
+      by stage.Connects at live = none_by (ap (λ (q : Stage). is_opening q) at) (o.holds.opened.unsent (ap (λ (q : Stage). is_connects q) at))
+      by stage.Calls at live =
+          let no_syn = if_none f.conn.syn_owed Syn (sym (ap (λ (q : Stage). owed_by q f.conn f.up f.down) at) ∙ nothing) in
+          of_conn (resend_due f.conn.syn) (ap (λ (q : Stage). is_connects q) at) (ap (λ (q : Stage). conn_due_by q f.conn) at)
+          (opening_by s f.conn f.up f.down past now o.holds (ap (λ (q : Stage). is_opening q) at) (λ gone. no_syn))
+      by stage.Answers at live =
+          let no_syn = both f.conn.syn_owed f.conn.ack_owed (sym (ap (λ (q : Stage). owed_by q f.conn f.up f.down) at) ∙ nothing) in
+          of_conn (resend_due f.conn.syn) (ap (λ (q : Stage). is_connects q) at) (ap (λ (q : Stage). conn_due_by q f.conn) at)
+          (opening_by s f.conn f.up f.down past now o.holds (ap (λ (q : Stage). is_opening q) at) (λ gone. no_syn))
+      by stage.Synchronized at live =
+          let opening = ap (λ (q : Stage). is_opening q) at in
+          let synchronized = ap (λ (q : Stage). is_synchronized q) at in
+          of_conn (resend_due f.conn.transmission.resend) (ap (λ (q : Stage). is_connects q) at) (ap (λ (q : Stage). conn_due_by q f.conn) at)
+          (synchronized_by s f.conn f.up f.down past now o.holds opening synchronized
+          (not_expired s f.conn f.up f.down past now o.holds nothing true (ap (λ (q : Stage). is_calls q) at) opening synchronized
+          (ap (λ (q : Stage). owed_by q f.conn f.up f.down) at, ap (λ (q : Stage). conn_due_by q f.conn) at)))
+      by stage.Rests at live = absurd cc
+      by (stage.Resets seq ack) at live = absurd cc
+      by stage.Gone at live = absurd cc
+
+  pub open_by_resend : IsClear f → IsBy (due_of f) (resend_deadline past)
+  open_by_resend clear = by f.mac refl clear
+    where
+      takes : (p : Place) (q : Option Owed) → is_in_use p ≡ true → takes_part_at p q ≡ None → q ≡ None
+      takes Empty q is none = absurd cc
+      takes InUse q is none = none
+      takes (Resting since) q is none = absurd cc
+
+      in_use : (a b : Bool) → (a && not b) ≡ true → a ≡ true
+      in_use true b is = refl
+      in_use false b is = absurd cc
+
+      by : (m : Option Mac) → f.mac ≡ m → IsClearBy m f → IsBy (due_of f) (resend_deadline past)
+      by None is some = let two = o.unsent is in none_by (calls_opens f.conn.stage two.0) two.1
+      by (Some mac) is none = known_by (known_seeks mac is) (takes f.place (owed_of f.conn f.up f.down) (in_use (is_in_use f.place) f.shut open_yet) none)
+
+  -- ---- at least
+
+  -- it asks for its guest's hardware address
+  seeking_from : seeks f ≡ true → IsFrom (Some f.ask_at) (wakes past)
+  seeking_from seeking = by f.mac refl seeking
+    where
+      some : (n : ℕ) → nat_lt 0 n ≡ true → 0 < n
+      some n is = grind (arith, nat_tests)
+
+      three : (a b d : Bool) → a ≡ true → b ≡ false → d ≡ false → (a && not b && not d) ≡ true
+      three a b d is unsent yet = rw (is, unsent, yet) refl
+
+      by : (m : Option Mac) → f.mac ≡ m → (not (is_some m) && nat_lt 0 f.asked) ≡ true → IsFrom (Some f.ask_at) (wakes past)
+      by (Some mac) is asks = absurd cc
+      by None is asks =
+          let two = o.unsent is in
+          let asked = some f.asked asks in
+          from_first f.ask_at (connect_deadline past ++ moment_if (is_accepted past && not (syn_is_out past) && not (is_closed past)) (opened_at past + 1000)) _
+          (from_second f.ask_at (connect_deadline past) _
+          (from_if f.ask_at (opened_at past + 1000) (is_accepted past && not (syn_is_out past) && not (is_closed past))
+          (three (is_accepted past) (syn_is_out past) (is_closed past) (o.holds.opened.calls two.0) (o.holds.opened.out ∙ two.1) o.holds.goes.open_yet)
+          (not_before past f.asked f.ask_at asked (o.seeks is asked))))
+
+  -- its connection's timer
+  conn_from : (st : Stage) → f.conn.stage ≡ st → is_connects st ≡ false → is_live st ≡ true → IsFrom (conn_due f.conn) (wakes past)
+  conn_from stage.Connects at apart live = absurd cc
+  conn_from stage.Calls at apart live =
+      subst (λ (d : Option ℕ). IsFrom d (wakes past)) (sym (ap (λ (q : Stage). conn_due_by q f.conn) at)) (opening_from s f.conn f.up f.down past now o.holds (ap (λ (q : Stage). is_opening q) at))
+  conn_from stage.Answers at apart live =
+      subst (λ (d : Option ℕ). IsFrom d (wakes past)) (sym (ap (λ (q : Stage). conn_due_by q f.conn) at)) (opening_from s f.conn f.up f.down past now o.holds (ap (λ (q : Stage). is_opening q) at))
+  conn_from stage.Synchronized at apart live =
+      subst (λ (d : Option ℕ). IsFrom d (wakes past)) (sym (ap (λ (q : Stage). conn_due_by q f.conn) at))
+      (synchronized_from s f.conn f.up f.down past now o.holds (ap (λ (q : Stage). is_opening q) at) (ap (λ (q : Stage). is_synchronized q) at))
+  conn_from stage.Rests at apart live = absurd cc
+  conn_from (stage.Resets seq ack) at apart live = absurd cc
+  conn_from stage.Gone at apart live = absurd cc
+
+  pub open_from : IsFrom (due_of f) (wakes past)
+  open_from = by (is_connects f.conn.stage) (seeks f) refl refl
+    where
+      by : (a b : Bool) → is_connects f.conn.stage ≡ a → seeks f ≡ b → IsFrom (due_of f) (wakes past)
+      by true b is seeking =
+          let since = o.since in
+          subst (λ (d : Option ℕ). IsFrom d (wakes past)) (sym (due_connects is))
+          (from_first (connect_end f) (connect_deadline past ++ moment_if (is_accepted past && not (syn_is_out past) && not (is_closed past)) (opened_at past + 1000)) _
+          (from_first (connect_end f) (connect_deadline past) _ (from_if (connect_end f) (opened_at past + 75000) (is_connecting past) (o.holds.opened.connects ∙ is) (omega (arith, since)))))
+      by false true apart seeking =
+          subst (λ (d : Option ℕ). IsFrom d (wakes past)) (sym (due_apart apart ∙ ap (λ (b : Bool). if b then Some f.ask_at else conn_due f.conn) seeking)) (seeking_from seeking)
+      by false false apart known = subst (λ (d : Option ℕ). IsFrom d (wakes past)) (sym (due_known apart known)) (conn_from f.conn.stage refl apart o.holds.opened.live)
+
+-- ---- by where it stands
+
+module _ (s : Settings) (f : Splice) (past : Story) (now : ℕ) (h : Follows s f past now) where
+  shut_place : (p : Place) (b : Bool) → f.place ≡ p → f.shut ≡ b → (is_in_use p && not b) ≡ false → is_open f ≡ false
+  shut_place p b at shut is = ap (λ (q : Place). is_in_use q && not f.shut) at ∙ ap (λ (d : Bool). is_in_use p && not d) shut ∙ is
+
+  open_place : f.place ≡ InUse → f.shut ≡ false → is_open f ≡ true
+  open_place at shut = ap (λ (p : Place). is_in_use p && not f.shut) at ∙ ap not shut
+
+  pub due_by_connect : IsBy (due_of f) (connect_deadline past)
+  due_by_connect = by f.place f.shut refl refl h
+    where
+      by : (p : Place) (b : Bool) → f.place ≡ p → f.shut ≡ b → FollowsAt p b s f past now → IsBy (due_of f) (connect_deadline past)
+      by Empty b at shut q = (shut_by f past q.over.closed).0
+      by InUse true at shut q = (shut_by f past q.over.closed).0
+      by InUse false at shut q = open_by_connect s f past now q (open_place at shut)
+      by (Resting since) b at shut q = (shut_by f past q.rests.over.closed).0
+
+  pub due_by_resend : IsClear f → IsBy (due_of f) (resend_deadline past)
+  due_by_resend clear = by f.place f.shut refl refl h
+    where
+      by : (p : Place) (b : Bool) → f.place ≡ p → f.shut ≡ b → FollowsAt p b s f past now → IsBy (due_of f) (resend_deadline past)
+      by Empty b at shut q = (shut_by f past q.over.closed).1
+      by InUse true at shut q = (shut_by f past q.over.closed).1
+      by InUse false at shut q = open_by_resend s f past now q (open_place at shut) clear
+      by (Resting since) b at shut q = (shut_by f past q.rests.over.closed).1
+
+  pub due_from : IsFrom (due_of f) (wakes past)
+  due_from = by f.place f.shut refl refl h
+    where
+      by : (p : Place) (b : Bool) → f.place ≡ p → f.shut ≡ b → FollowsAt p b s f past now → IsFrom (due_of f) (wakes past)
+      by Empty b at shut q = shut_from f past (shut_place Empty b at shut refl)
+      by InUse true at shut q = shut_from f past (shut_place InUse true at shut refl)
+      by InUse false at shut q = open_from s f past now q (open_place at shut)
+      by (Resting since) b at shut q = shut_from f past (shut_place (Resting since) b at shut refl)
