@@ -16,6 +16,7 @@ pub mod Marking
 pub mod Asking
 pub mod Promises
 pub mod Bounds
+pub mod Held
 pub mod Ahead
 pub mod Shaping
 pub mod Sizing

@@ -125,6 +125,9 @@ impl Spliced {
     ghost use Rattle.flow_laws.specs.Dutiful.{MayWaitToWrite, connect_deadline, must_wait_to_write, resend_deadline, waits_to_read, wakes};
     ghost use Rattle.flow_steps.specs.Bounds.{IsBy, IsFrom};
     ghost use Rattle.flow_splice.specs.Sends.{IsClear};
+    ghost use Rattle.flow_splice.specs.Held.{IsFront};
+    ghost use Rattle.flow_laws.specs.Flow.{guest};
+    ghost use Rattle.flow_laws.specs.Guest.{Honest};
 
     /// The place for a flow, with all the memory that one will ever need: `ring` octets for each direction, from 1 to 1,048,576. `mru` is the longest
     /// datagram that comes from the guest, from 576 to 9,216 octets.
@@ -269,6 +272,9 @@ impl Spliced {
     pub fn held(&self, into: &mut [u8]) -> usize
         ensures count { result ≡ min (length into.old) (length self.now.up.held) }
         ensures copied { into.new ≡ take result self.now.up.held ++ drop result into.old }
+        // Of an honest guest they are what came from where the host stopped, and reach to what was acknowledged at least, where they fit.
+        ensures front { (s : Settings) (past : Story) (now : ℕ) → Follows s self.now past now → is_open_by self.now ≡ true → Honest (guest past)
+            → IsFront past (length into.old) result (take result into.new) }
     {
         self.up.front_piece(into)
     }

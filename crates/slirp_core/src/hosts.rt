@@ -13,7 +13,9 @@ impl Slirp {
     ghost use Rattle.poll_list.specs.declared.Who.TheVariants.{Tcp};
     ghost use Rattle.slirp_laws.specs.Agenda.{wanted_of};
     ghost use Rattle.slirp_core.specs.Counts.{AreGrown};
-    ghost use Rattle.slirp_core.specs.Holds.{Holds, flowing, standing};
+    ghost use Rattle.slirp_core.specs.Holds.{Holds, Standing, flowing, standing};
+    ghost use Rattle.tcp_flows.specs.Fronts.{IsFrontOf};
+    ghost use Rattle.world_face.specs.Journal.{Entry};
     ghost use Rattle.stream_netdev.specs.State.{LinkState};
     ghost use Rattle.tcp_flows.specs.Reading.{HasSocket, IsUnserved, NoneOpen};
     ghost use Rattle.world_face.specs.Tells.{Brings, Makes};
@@ -44,6 +46,9 @@ impl Slirp {
         ensures held { IfSome result (λ count. HasSocket number self.now.flows.flows.parts (λ p. (count ≡ min (length into.old) (length p.up.held))
             × (into.new ≡ take count p.up.held ++ drop count into.old))) }
         ensures unchanged { IfNone result (into.new ≡ into.old) }
+        // Of an honest guest they are what came from where the host stopped, and reach to what was acknowledged at least, where they fit.
+        ensures front { (config : Config) (at : Standing) (aged : Bool) (link : LinkState) (past : List Entry) → Holds config at self.now (flowing aged self.now.flows) link past
+            → IfSome result (λ count. IsFrontOf config number (length into.old) count (take count into.new) past) }
     {
         self.flows.held(number, into)
     }

@@ -1,8 +1,10 @@
-use Rattle.std.proofs.Common.{◌≡◌, ◌<◌, ◌++◌, ℕ, Option, IfNone, length, take, drop, min, ap, sym, subst, ◌∙◌}
+use Rattle.std.proofs.Common.{◌≡◌, ◌<◌, ◌++◌, ℕ, List, Option, IfNone, None, length, take, drop, min, ap, sym, subst, ◌∙◌}
 use Rattle.std.proofs.lemmas.Option.{slice_get_within}
-use Rattle.flow_splice.specs.Splice.{Splice}
+use Rattle.flow_splice.specs.Follows.{Follows}
+use Rattle.flow_splice.specs.Splice.{Splice, is_open}
 use Rattle.tcp_flows.specs.Kept.{Kept}
-use Rattle.tcp_flows.specs.Reading.{HasSocket, NoneOpen}
+use Rattle.tcp_flows.specs.Reading.{HasSocket, IsOpenAt, NoneOpen}
+use Rattle.tcp_flows.proofs.Fronts.{front_at}
 use Rattle.tcp_flows.proofs.Keeping.{read_here}
 use Rattle.tcp_flows.proofs.Looking.{none_open, of_number}
 use Rattle.tcp_flows.proofs.flows.TcpFlows.held.Goals as goal
@@ -32,3 +34,12 @@ returns-clause-held c =
         c.held.ensures.copied ∙ ap (λ (p : Splice). take c.held.result p.up.held ++ drop c.held.result c.args.into.now) is,
       ),
     )
+
+pub returns-clause-front : goal.returns-clause-front
+returns-clause-front c config before aged past holds =
+    let had = of_number c.self.inside.parts.items _ c.self.invariant.0.sockets_are c.args.number c.in_ok-slot.slot (sym c.slot_of.ensures.slot ∙ c.in_ok-slot.was) in
+    let p : Splice = had.0 in
+    let is : c.index.result.now ≡ p = read_here c.self.inside.parts.items c.in_ok-slot.slot p c.index.result.now had.1 c.index.ensures in
+    front_at config before aged c.args.self.now.flows past holds c.in_ok-slot.slot c.args.number p (subst (λ (s : Kept). IsOpenAt s.flows.parts c.in_ok-slot.slot p) c.self.view_is had.2) had.3
+    (length c.args.into.now) c.held.result (take c.held.result c.held.new.into)
+    (λ s story now follows open_yet. c.held.ensures.front s story now (subst (λ (x : Splice). Follows s x story now) (sym is) follows) (ap is_open is ∙ open_yet))
