@@ -1,5 +1,5 @@
 -- How long it may be waited for an open connection: its timer against the moments of its story.
-use Rattle.std.proofs.Common.{refl, ◌≡◌, ℕ, ◌+◌, ◌<◌, ◌≤◌, List, [], ◌∷◌, ◌++◌, length, Bool, true, false, not, ◌&&◌, ◌||◌, None, Some, nat_lt, if◌then◌else◌, max, arith, ap, subst, sym, ◌∙◌, inl, inr}
+use Rattle.std.proofs.Common.{refl, ◌≡◌, ℕ, ◌+◌, ◌<◌, ◌≤◌, List, [], ◌∷◌, ◌++◌, Bool, true, false, not, ◌&&◌, ◌||◌, Some, nat_lt, if◌then◌else◌, max, arith, ap, subst, sym, ◌∙◌, inl, inr}
 use Rattle.std.proofs.lemmas.Bool.Decides.{nat_tests}
 use Rattle.retransmit.specs.Resending.{Resending, due_by, due_of as resend_due, is_expired, is_off}
 use Rattle.retransmit.specs.declared.Timer.{Timer}
@@ -7,9 +7,8 @@ use Rattle.retransmit.specs.declared.Timer.TheVariants as timer
 use Rattle.retransmit.proofs.Steady.{steady_second}
 use Rattle.sock_buffers.specs.Downward.{Downward}
 use Rattle.sock_buffers.specs.Upward.{Upward}
-use Rattle.tcp_transmit.specs.Transmission.{Transmission, end_places, octets_read, places}
+use Rattle.tcp_transmit.specs.Transmission.{Transmission}
 use Rattle.tcp_guest.specs.Connection.{Connection, has_gone, is_opening, is_synchronized}
-use Rattle.tcp_guest.specs.Hosts.{is_open}
 use Rattle.flow_laws.specs.Settings.{Settings}
 use Rattle.flow_laws.specs.Event.{IsStory, Story}
 use Rattle.flow_laws.specs.Host.{acked, answered, owned, sent}

@@ -1,5 +1,5 @@
 -- Since when the timer of pieces and probes counts: step by step it isn't before the flow was opened, nor before something was acknowledged last.
-use Rattle.std.proofs.Common.{refl, ◌≡◌, ℕ, ◌≤◌, [], ◌∷◌, Bool, true, false, ◌&&◌, if◌then◌else◌, int_lt, pos, arith, sym, ◌∙◌}
+use Rattle.std.proofs.Common.{refl, ◌≡◌, ℕ, ◌≤◌, [], ◌∷◌, Bool, true, false, ◌&&◌, if◌then◌else◌, int_lt, pos, arith}
 use Rattle.retransmit.specs.Resending.{Resending, after_sent, after_start, after_stop, begun, expired_by, set_unless_running}
 use Rattle.retransmit.specs.declared.Timer.{Timer}
 use Rattle.retransmit.specs.declared.Timer.TheVariants.{Expired, Off, Since}

@@ -1,5 +1,5 @@
 -- How long it may be waited for a flow, and how long it is waited at least: the moment at which it is to be looked at, against those of its story.
-use Rattle.std.proofs.Common.{refl, ◌≡◌, ℕ, ◌+◌, ◌<◌, List, ◌++◌, Bool, true, false, not, ◌&&◌, ◌||◌, Option, None, Some, is_some, nat_lt, if◌then◌else◌, arith, ap, subst, sym, ◌∙◌}
+use Rattle.std.proofs.Common.{refl, ◌≡◌, ℕ, ◌+◌, ◌<◌, ◌++◌, Bool, true, false, not, ◌&&◌, ◌||◌, Option, None, Some, is_some, nat_lt, if◌then◌else◌, arith, ap, subst, sym, ◌∙◌}
 use Rattle.std.proofs.lemmas.Bool.Decides.{nat_tests}
 use Rattle.net_octets.specs.declared.Mac.{Mac}
 use Rattle.retransmit.specs.Resending.{due_of as resend_due}
@@ -19,7 +19,7 @@ use Rattle.flow_steps.proofs.InTime.{not_before}
 use Rattle.connection_steps.specs.Holding.{is_calls, is_connects, is_live}
 use Rattle.connection_steps.proofs.Bounds.{from_first, from_if, from_second, opening_by, opening_from, synchronized_by, synchronized_from}
 use Rattle.connection_steps.proofs.Settling.{not_expired}
-use Rattle.connection_steps.proofs.Watching.{opening_is, syn_under_way}
+use Rattle.connection_steps.proofs.Watching.{syn_under_way}
 use Rattle.flow_splice.specs.Follows.{Follows, FollowsAt, IsOpen}
 use Rattle.flow_splice.specs.Sends.{IsClear, IsClearBy, takes_part_at}
 use Rattle.flow_splice.specs.Splice.{Splice, is_in_use, is_open}

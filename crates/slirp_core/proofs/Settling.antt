@@ -1,9 +1,8 @@
 -- After a pump that ended clear each flow is settled.
-use Rattle.std.proofs.Common.{◌≡◌, ℕ, true, List, ◌++◌, Option, None, subst, sym}
+use Rattle.std.proofs.Common.{◌≡◌, ℕ, true, List, ◌++◌, None, subst}
 use Rattle.world_face.specs.Journal.{Entry}
 use Rattle.world_face.specs.Tells.{Brings, Telling}
 use Rattle.host_policy.specs.Addresses.{Config}
-use Rattle.flow_splice.specs.Splice.{Splice}
 use Rattle.spliced_flows.specs.Core.{CoreHolds}
 use Rattle.stream_netdev.specs.State.{LinkState}
 use Rattle.tcp_flows.specs.Reading.{AllClear}
