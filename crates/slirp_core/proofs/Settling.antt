@@ -3,6 +3,7 @@ use Rattle.std.proofs.Common.{◌≡◌, ℕ, true, List, ◌++◌, None, subst}
 use Rattle.world_face.specs.Journal.{Entry}
 use Rattle.world_face.specs.Tells.{Brings, Telling}
 use Rattle.host_policy.specs.Addresses.{Config}
+use Rattle.flow_laws.specs.Dutiful.{AreAhead, resend_deadline}
 use Rattle.spliced_flows.specs.Core.{CoreHolds}
 use Rattle.stream_netdev.specs.State.{LinkState}
 use Rattle.tcp_flows.specs.Reading.{AllClear}
@@ -34,9 +35,6 @@ pumped_settled config at now old new link next result ended same pumps clear kee
     settles past holds after n f known found opened =
         let settled = subst (λ (m : ℕ). AreSettled config m new.flows.flows.parts (pumps.made ++ past)) same
         (are_settled config new.moment new.flows.flows (pumps.made ++ past) after.clock.moment after.flows.holds clear) n f known found opened in
-        record {
-          sends = settled.sends;
-          acknowledges = settled.acknowledges;
-          window = settled.window;
-          resends = λ early. settled.resends (keeps past holds.flows.holds n early);
-        }
+        let early_too : IsInTime now old.flows.flows.parts n → AreAhead now (resend_deadline f.story) = λ early. settled.resends (keeps past holds.flows.holds n early) in
+        -- all else of it is as before
+        search
