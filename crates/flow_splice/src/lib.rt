@@ -408,6 +408,4 @@ impl Spliced {
 }
 
 #[cfg(test)]
-mod link_tests;
-#[cfg(test)]
 mod tests;
