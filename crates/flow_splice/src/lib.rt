@@ -407,7 +407,3 @@ impl Spliced {
     }
 }
 
-#[cfg(test)]
-mod link_tests;
-#[cfg(test)]
-mod tests;

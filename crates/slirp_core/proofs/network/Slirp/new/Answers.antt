@@ -37,4 +37,6 @@ invariant_of-result c =
       omega arith,
       ap (λ (s : AssocsState). s.bind) c.new-3.ensures,
       subst (AreDrawn 0) (sym flows) (drawn_none config (flows_between config c.requires).1),
+      c.new-4.ensures.config ∙ sym c.new.ensures,
+      c.in-Ok.ensures,
     )
