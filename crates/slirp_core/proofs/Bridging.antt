@@ -1,5 +1,5 @@
 -- What the core makes of a frame, step by step, is what the packet in it asks for.
-use Rattle.std.proofs.Common.{◌≡◌, ℕ, ◌==◌, ◌&&◌, Bool, true, false, List, [], Option, Some, None, if◌then◌else◌, refl, ap, arith}
+use Rattle.std.proofs.Common.{◌≡◌, ℕ, ◌==◌, ◌&&◌, Bool, true, false, List, [], Option, Some, None, if◌then◌else◌, refl, ap, arith, ◌∙◌}
 use Rattle.std.proofs.lemmas.Bool.Decides.{nat_tests}
 use Rattle.std.specs.Option.{option_and_then, option_map}
 use Rattle.net_octets.specs.declared.Ip4.{Ip4}
@@ -16,7 +16,7 @@ use Rattle.udp_assoc.specs.Udp.{Udp, read_udp}
 use Rattle.tcp_segment.specs.Tcp.{Tcp, read_tcp}
 use Rattle.run_laws.specs.Guests.{with_pair}
 use Rattle.run_laws.specs.Fragments.{arrived}
-use Rattle.run_laws.specs.Packets.{Packet, packet_of_ip, ArpPacket, Message, DatagramPacket, Segment, Datagram, datagram_in, datagram_of, may_come, packet_of, pair_by, pair_by_arp, pair_by_ip, pair_in, pair_of, packet_in, unless_unheard, whole_packet}
+use Rattle.run_laws.specs.Packets.{Packet, Unheard, packet_of_ip, ArpPacket, Message, DatagramPacket, Segment, Datagram, datagram_in, datagram_of, may_come, packet_of, pair_by, pair_by_arp, pair_by_ip, pair_in, pair_of, packet_in, unless_unheard, whole_packet}
 use Rattle.slirp_laws.specs.Answers.{Answer, Serving, owed_for_arp, owed_for_icmp, owed_for_datagram, owed_for_packet}
 use Rattle.dhcp_server.specs.declared.leases.Lease.{Lease}
 use Rattle.run_laws.specs.Happenings.{datagram_by}

@@ -262,8 +262,9 @@ module _ (config : Config) (at : Standing) (slirp : SlirpState) (f : Flowing) (l
     lawful = then_is.lawful;
     over = then_is.over;
     errand = others.errand ∙ errand_for config Settled slirp past holds.relayed;
+    served = none_due_for_services config (made ++ past) holds.services.unresolved;
     idle = then_is.asks;
-    sockets = open_by config slirp.associations (flowing f.aged new) slirp.moment (made ++ past) then_is.lawful (others.list ∙ holds.relayed.list) then_is.holds (sockets_left config past made others holds.sockets.kinds);
+    sockets = open_by config slirp.associations (flowing f.aged new) slirp.moment (made ++ past) holds.services.unresolved then_is.lawful (others.list ∙ holds.relayed.list) then_is.holds (sockets_left config past made others holds.sockets.kinds);
   }
 
   -- the flows were pumped

@@ -146,19 +146,19 @@ asks_none config past errand none is = no_name config errand.datagram errand.to 
 pub no_questions : (config : Config) (past : List Entry) → config.resolver ≡ None → questions config past ≡ []
 no_questions config [] none = refl
 no_questions config (Close socket ∷ past) none = ap (without socket) (no_questions config past none)
-no_questions config (UdpOpen socket at MadeDone ∷ past) none = by (errand_left config past) refl
+no_questions config (UdpOpen socket at MadeDone ∷ past) none = by (errand_left config past) refl (no_questions config past none)
   where
-    by : (o : Option Errand) → errand_left config past ≡ o → with_opened config MadeDone socket (moment past) o (questions config past) ≡ []
-    by None is = no_questions config past none
-    by (Some errand) is =
+    by : (o : Option Errand) → errand_left config past ≡ o → questions config past ≡ [] → with_opened config MadeDone socket (moment past) o (questions config past) ≡ []
+    by None is before = before
+    by (Some errand) is before =
         ap (λ (b : Bool). if b then questions config past ++ (question socket errand (moment past) ∷ []) else questions config past) (asks_none config past errand none is)
-        ∙ no_questions config past none
+        ∙ before
 no_questions config (UdpOpen socket at MadeFailed ∷ past) none = no_questions config past none
-no_questions config (UdpSend socket to octets answer ∷ past) none = by (errand_left config past)
+no_questions config (UdpSend socket to octets answer ∷ past) none = by (errand_left config past) (no_questions config past none)
   where
-    by : (o : Option Errand) → with_sent socket (moment past) o (questions config past) ≡ []
-    by None = no_questions config past none
-    by (Some errand) = ap (with_sent socket (moment past) (Some errand)) (no_questions config past none)
+    by : (o : Option Errand) → questions config past ≡ [] → with_sent socket (moment past) o (questions config past) ≡ []
+    by None before = before
+    by (Some errand) before = ap (with_sent socket (moment past) (Some errand)) before
 no_questions config (UdpRecv socket asked (From peer n) octets ∷ past) none = ap (with_heard (From peer n) socket (moment past)) (no_questions config past none)
 no_questions config (UdpRecv socket asked GotNotYet octets ∷ past) none = no_questions config past none
 no_questions config (UdpRecv socket asked GotFailed octets ∷ past) none = no_questions config past none

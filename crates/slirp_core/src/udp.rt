@@ -65,22 +65,27 @@ impl Slirp {
         let reply = self
             .leases
             .message(self.moment, datagram.body, &mut self.message);
-        let Reply::Datagram {
-            length,
-            from,
-            to,
-            mac: Some(mac),
-        } = reply
-        else {
-            return;
-        };
-        let course = self.course(mac, from.addr, to.addr);
-        let datagram = UdpView {
-            from_port: from.port,
-            to_port: to.port,
-            body: &self.message[..length],
-        };
-        self.outgoing.put_udp(&course, &datagram);
+        match reply {
+            Reply::Datagram {
+                length,
+                from,
+                to,
+                mac,
+            } => match mac {
+                Some(mac) => {
+                    let course = self.course(mac, from.addr, to.addr);
+                    let datagram = UdpView {
+                        from_port: from.port,
+                        to_port: to.port,
+                        body: &self.message[..length],
+                    };
+                    self.outgoing.put_udp(&course, &datagram);
+                }
+                None => {}
+            },
+            Reply::Nothing => {}
+            Reply::Unreachable(_) => {}
+        }
     }
 
     /// Sends a guest's datagram on the socket of its port, which is opened where there is none; where 512 are open the longest unused one is closed before.

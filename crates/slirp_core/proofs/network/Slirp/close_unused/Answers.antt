@@ -23,4 +23,4 @@ pub invariant_of-self : goal.invariant_of-self
 invariant_of-self g c =
     let i = c.self.inside in
     let makes = c.tick.ensures.closes in
-    (below_ticked i.number i.moment i.associations.list c.tick.new.self.list makes.made makes.holds c.self.invariant.0, c.self.invariant.1, c.tick.ensures.bind ∙ c.self.invariant.2, c.self.invariant.3)
+    (below_ticked i.number i.moment i.associations.list c.tick.new.self.list makes.made makes.holds c.self.invariant.0, c.self.invariant.1, c.tick.ensures.bind ∙ c.self.invariant.2, c.self.invariant.3, c.self.invariant.4, c.self.invariant.5)

@@ -32,4 +32,4 @@ pub invariant_of-self : goal.invariant_of-self
 invariant_of-self g c =
     let i = c.self.inside in
     let makes = c.host-reply.ensures.hears in
-    (below_heard i.number i.moment c.args.number (length c.args.into.now) c.host-reply.new.into i.associations.list c.host-reply.new.self.list c.host-reply.result makes.made makes.holds c.self.invariant.0, c.self.invariant.1, c.host-reply.ensures.bind ∙ c.self.invariant.2, c.self.invariant.3)
+    (below_heard i.number i.moment c.args.number (length c.args.into.now) c.host-reply.new.into i.associations.list c.host-reply.new.self.list c.host-reply.result makes.made makes.holds c.self.invariant.0, c.self.invariant.1, c.host-reply.ensures.bind ∙ c.self.invariant.2, c.self.invariant.3, c.self.invariant.4, c.self.invariant.5)

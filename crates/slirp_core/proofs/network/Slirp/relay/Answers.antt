@@ -35,4 +35,4 @@ invariant_of-self g c =
     let i = c.self.inside in
     let errand = errand_of c.args.errand.now in
     let makes = c.guest-reply.ensures.relays in
-    (below_relayed i.associations.bind errand i.moment i.number c.guest-reply.new.number i.associations.list c.guest-reply.new.self.list c.guest-reply.result makes.made makes.holds c.self.invariant.0, c.self.invariant.1, c.guest-reply.ensures.bind ∙ c.self.invariant.2, drawn_up i.number c.guest-reply.new.number i.flows (draws_up i.associations.bind errand i.moment i.number c.guest-reply.new.number i.associations.list c.guest-reply.new.self.list c.guest-reply.result makes.made makes.holds) c.self.invariant.3)
+    (below_relayed i.associations.bind errand i.moment i.number c.guest-reply.new.number i.associations.list c.guest-reply.new.self.list c.guest-reply.result makes.made makes.holds c.self.invariant.0, c.self.invariant.1, c.guest-reply.ensures.bind ∙ c.self.invariant.2, drawn_up i.number c.guest-reply.new.number i.flows (draws_up i.associations.bind errand i.moment i.number c.guest-reply.new.number i.associations.list c.guest-reply.new.self.list c.guest-reply.result makes.made makes.holds) c.self.invariant.3, c.self.invariant.4, c.self.invariant.5)

@@ -24,4 +24,4 @@ returns-clause-counts g c = grown _ _ _ c.host_ready.ensures.makes.counted
 pub invariant_of-self : goal.invariant_of-self
 invariant_of-self g c =
     let i = c.self.inside in
-    (c.self.invariant.0, c.self.invariant.1, c.self.invariant.2, drawn_stay i.number i.flows c.host_ready.new.self c.host_ready.ensures.stays c.self.invariant.3)
+    (c.self.invariant.0, c.self.invariant.1, c.self.invariant.2, drawn_stay i.number i.flows c.host_ready.new.self c.host_ready.ensures.stays c.self.invariant.3, c.self.invariant.4, c.self.invariant.5)

@@ -131,7 +131,7 @@ begin-requires-clause-above g c = (drawn_stay c.self.inside.number c.self.inside
 pub invariant_of-self-in-Reset : goal.invariant_of-self-in-Reset
 invariant_of-self-in-Reset g c =
     let i = c.self.inside in
-    (c.self.invariant.0, c.self.invariant.1, c.self.invariant.2, drawn_stay i.number i.flows c.segment.new.self c.in-Alone.ensures.stays c.self.invariant.3)
+    (c.self.invariant.0, c.self.invariant.1, c.self.invariant.2, drawn_stay i.number i.flows c.segment.new.self c.in-Alone.ensures.stays c.self.invariant.3, c.self.invariant.4, c.self.invariant.5)
 
 pub invariant_of-self-in-Failed : goal.invariant_of-self-in-Failed
 invariant_of-self-in-Failed g c =
@@ -140,6 +140,8 @@ invariant_of-self-in-Failed g c =
       c.self.invariant.1,
       c.self.invariant.2,
       drawn_up i.number (i.number + 1) c.segment.new.self (omega arith) (drawn_stay i.number i.flows c.segment.new.self c.in-Alone.ensures.stays c.self.invariant.3),
+      c.self.invariant.4,
+      c.self.invariant.5,
     )
 
 pub invariant_of-self-in-Done : goal.invariant_of-self-in-Done
@@ -149,4 +151,6 @@ invariant_of-self-in-Done g c =
       c.self.invariant.1,
       c.self.invariant.2,
       drawn_begun i.number c.segment.new.self c.begin.new.self c.begin.ensures.slots c.begin.ensures.opened c.begin.ensures.numbers (drawn_stay i.number i.flows c.segment.new.self c.in-Alone.ensures.stays c.self.invariant.3),
+      c.self.invariant.4,
+      c.self.invariant.5,
     )

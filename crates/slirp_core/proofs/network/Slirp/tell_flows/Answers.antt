@@ -35,4 +35,4 @@ returns-clause-ahead g c config before aged past holds n unowed =
 pub invariant_of-self : goal.invariant_of-self
 invariant_of-self g c =
     let i = c.self.inside in
-    (c.self.invariant.0, c.self.invariant.1, c.self.invariant.2, drawn_stay i.number i.flows c.tick.new.self c.tick.ensures.stays c.self.invariant.3)
+    (c.self.invariant.0, c.self.invariant.1, c.self.invariant.2, drawn_stay i.number i.flows c.tick.new.self c.tick.ensures.stays c.self.invariant.3, c.self.invariant.4, c.self.invariant.5)
