@@ -6,8 +6,6 @@ mod message;
 mod options;
 mod reply;
 mod serving;
-#[cfg(test)]
-mod tests;
 
 pub use leases::{Lease, Leases};
 pub use options::{options_read, options_written};

@@ -84,26 +84,16 @@ mod tests {
     const ARP_REQUEST: &[u8] = b"\xff\xff\xff\xff\xff\xff\x52\x54\x00\x12\x34\x56\x08\x06\x00\x01";
 
     #[test]
-    fn frame_is_read_and_written(rt: HostRuntime) {
-        let frame = decode(ARP_REQUEST).expect(&rt, "a frame");
-        assert_eq!(rt; frame.to, Mac([255; 6]));
-        assert_eq!(rt; frame.from, Mac([0x52, 0x54, 0, 0x12, 0x34, 0x56]));
-        assert_eq!(rt; frame.kind, 0x0806);
-        assert_eq!(rt; frame.body, [0, 1].as_slice());
+    fn a_frame_both_ways(rt: HostRuntime) {
+        let frame = EtherView {
+            to: Mac([255; 6]),
+            from: Mac([0x52, 0x54, 0, 0x12, 0x34, 0x56]),
+            kind: 0x0806,
+            body: &[0, 1],
+        };
+        assert_eq!(rt; decode(ARP_REQUEST), Ok(frame));
         let mut written = [7; 17];
         assert_eq!(rt; encode(&frame, &mut written), Ok(16));
         assert_eq!(rt; &written[..16], ARP_REQUEST);
-    }
-
-    #[test]
-    fn thirteen_octets_are_no_frame(rt: HostRuntime) {
-        let fault = decode(&ARP_REQUEST[..13]).err();
-        assert_eq!(rt;
-            fault,
-            Some(Fault {
-                kind: FaultKind::Short,
-                at: 13
-            })
-        );
     }
 }

@@ -407,3 +407,5 @@ impl Spliced {
     }
 }
 
+#[cfg(test)]
+mod tests;

@@ -44,32 +44,9 @@ mod tests {
     use super::*;
 
     #[test]
-    fn nearest_past_the_wrap(rt: HostRuntime) {
+    fn numbers_past_the_wrap(rt: HostRuntime) {
         assert_eq!(rt; nearest(Seq(8), Seq(0xFFFF_FFFB), 0), 12);
-    }
-
-    #[test]
-    fn nearest_of_the_syn(rt: HostRuntime) {
-        assert_eq!(rt; nearest(Seq(77), Seq(77), 0), -1);
-    }
-
-    #[test]
-    fn nearest_one_round_on(rt: HostRuntime) {
-        assert_eq!(rt; nearest(Seq(78), Seq(77), 1 << 32), 1 << 32);
-    }
-
-    #[test]
-    fn ahead_past_the_wrap(rt: HostRuntime) {
-        assert_eq!(rt; ahead(Seq(0), Seq(0xFFFF_FFFF)), 1);
-    }
-
-    #[test]
-    fn ahead_half_way_round(rt: HostRuntime) {
-        assert_eq!(rt; ahead(Seq(0x8000_0000), Seq(0)), i32::MIN);
-    }
-
-    #[test]
-    fn number_past_the_wrap(rt: HostRuntime) {
         assert_eq!(rt; number_at(Seq(0xFFFF_FFFB), 12), Seq(8));
+        assert_eq!(rt; ahead(Seq(0), Seq(0xFFFF_FFFF)), 1);
     }
 }

@@ -332,185 +332,33 @@ mod tests {
     use super::*;
     use std::test::Fail;
 
-    /// Fills a buffer, gives up all but its last octet, and takes three more octets past its end.
-    /// Answers how many of these fit, and what then stands in front.
-    fn up_round_the_end(alloc: Global, size: u16) -> Result<(usize, [u8; 4]), AllocError> {
-        let size = usize::from(size);
-        let mut up = Up::open(alloc, size)?;
-        up.take(&vec![in alloc; 7; size]?);
-        up.written(up.held().saturating_sub(1));
-        let taken = up.take(&[1, 2, 3]);
-        let mut front = [9; 4];
-        up.front_piece(&mut front);
-        Ok((taken, front))
-    }
-
-    /// The same downward. Answers the first place, and what stands past it.
-    fn down_round_the_end(alloc: Global, size: u16) -> Result<(u64, [u8; 4]), AllocError> {
-        let size = usize::from(size);
-        let mut down = Down::open(alloc, size)?;
-        down.give(&vec![in alloc; 7; size]?);
-        down.acked(down.held().saturating_sub(1));
-        let fits = down.room().min(3);
-        down.give(&[1, 2, 3][..fits]);
-        let mut piece = [9; 4];
-        down.copy_at(down.first() + down.held().min(1) as u64, &mut piece);
-        Ok((down.first(), piece))
-    }
-
     #[test]
-    fn up_goes_round_the_end(rt: HostRuntime) -> Result<(), Fail> {
-        assert_eq!(rt; up_round_the_end(rt.alloc(), 1)?, (0, [7, 9, 9, 9]));
-        assert_eq!(rt; up_round_the_end(rt.alloc(), 2)?, (1, [7, 1, 9, 9]));
-        assert_eq!(rt; up_round_the_end(rt.alloc(), 65_535)?, (3, [7, 1, 2, 3]));
-        Ok(())
-    }
-
-    #[test]
-    fn down_goes_round_the_end(rt: HostRuntime) -> Result<(), Fail> {
-        assert_eq!(rt; down_round_the_end(rt.alloc(), 1)?, (0, [9, 9, 9, 9]));
-        assert_eq!(rt; down_round_the_end(rt.alloc(), 2)?, (1, [1, 9, 9, 9]));
-        assert_eq!(rt;
-            down_round_the_end(rt.alloc(), 65_535)?,
-            (65_534, [1, 2, 3, 9])
-        );
-        Ok(())
-    }
-
-    /// The octets that are held, in a row of eight, with points past them.
-    fn front(up: &Up) -> [u8; 8] {
-        let mut front = *b"........";
-        up.front_piece(&mut front);
-        front
-    }
-
-    #[test]
-    fn a_gap_is_filled_from_behind(rt: HostRuntime) -> Result<(), Fail> {
-        let mut up = Up::open(rt.alloc(), 8)?;
-        assert_eq!(rt; up.keep(4, b"ef"), 2);
-        assert_eq!(rt; (up.ranges(), up.held(), up.room()), (1, 0, 8));
-        assert_eq!(rt; up.keep(2, b"cd"), 2);
-        assert_eq!(rt; (up.ranges(), up.join(), up.held()), (1, 0, 0));
-        assert_eq!(rt; up.take(b"ab"), 2);
-        assert_eq!(rt;
-            (up.join(), up.ranges(), up.held(), up.room()),
-            (4, 0, 6, 2)
-        );
-        assert_eq!(rt; front(&up), *b"abcdef..");
-        Ok(())
-    }
-
-    #[test]
-    fn a_gap_is_filled_from_both_sides(rt: HostRuntime) -> Result<(), Fail> {
-        let mut up = Up::open(rt.alloc(), 8)?;
-        assert_eq!(rt; (up.keep(1, b"b"), up.keep(5, b"fgh")), (1, 3));
-        assert_eq!(rt; (up.keep(3, b"d"), up.ranges()), (1, 3));
-        assert_eq!(rt; (up.keep(1, b"XcXeX"), up.ranges()), (2, 1));
-        assert_eq!(rt; up.take(b"a"), 1);
-        assert_eq!(rt; (up.join(), up.ranges(), up.room()), (7, 0, 0));
-        assert_eq!(rt; front(&up), *b"abcdefgh");
-        Ok(())
-    }
-
-    #[test]
-    fn octets_that_come_next_take_the_places_of_kept_ones(rt: HostRuntime) -> Result<(), Fail> {
-        let mut up = Up::open(rt.alloc(), 8)?;
-        up.keep(1, b"XXdXX");
-        assert_eq!(rt; up.take(b"abc"), 3);
-        assert_eq!(rt; (up.ranges(), up.held()), (1, 3));
-        assert_eq!(rt; (up.join(), up.held()), (3, 6));
-        assert_eq!(rt; front(&up), *b"abcdXX..");
-        up.keep(1, b"h");
-        assert_eq!(rt; up.take(b"gXXX"), 2);
-        assert_eq!(rt; (up.join(), up.ranges()), (0, 0));
-        assert_eq!(rt; front(&up), *b"abcdXXgX");
-        Ok(())
-    }
-
-    #[test]
-    fn kept_octets_lie_across_the_end(rt: HostRuntime) -> Result<(), Fail> {
+    fn each_call_up(rt: HostRuntime) -> Result<(), Fail> {
         let mut up = Up::open(rt.alloc(), 8)?;
         up.take(b"1234567");
         up.written(up.held().min(6));
-        assert_eq!(rt; (up.keep(2, b"cdefXYZ"), up.room()), (5, 7));
-        assert_eq!(rt;
-            (up.keep(7, b"h"), up.keep(1_000, b"i"), up.keep(8, b"i")),
-            (0, 0, 0)
-        );
-        assert_eq!(rt; (up.take(b"ab"), up.join()), (2, 5));
-        assert_eq!(rt; front(&up), *b"7abcdefX");
-        up.written(up.held().min(4));
-        assert_eq!(rt; (up.room(), up.held(), up.count()), (4, 4, 10));
-        assert_eq!(rt; front(&up), *b"defX....");
-        Ok(())
-    }
-
-    #[test]
-    fn forty_octets_in_even_places(rt: HostRuntime) -> Result<(), Fail> {
-        let mut up = Up::open(rt.alloc(), 100)?;
-        let mut kept: usize = 0;
-        for k in 0..40 {
-            kept = kept.saturating_add(up.keep(2 + 2 * k, b"k"));
-        }
-        assert_eq!(rt; (kept, up.ranges()), (32, 32));
-        assert_eq!(rt; (up.keep(65, b"j"), up.ranges()), (1, 32));
-        assert_eq!(rt; (up.keep(3, b"j"), up.ranges()), (1, 31));
-        assert_eq!(rt;
-            (up.keep(80, b"j"), up.keep(90, b"j"), up.ranges()),
-            (1, 0, 32)
-        );
-        assert_eq!(rt; (up.take(&[b'j'; 66]), up.ranges(), up.join()), (66, 1, 0));
+        assert_eq!(rt; (up.keep(2, b"cdefXYZ"), up.ranges(), up.room()), (5, 1, 7));
+        assert_eq!(rt; (up.take(b"ab"), up.join(), up.held()), (2, 5, 8));
+        let mut front = [0; 9];
+        assert_eq!(rt; (up.front_piece(&mut front), up.count()), (8, 6));
+        assert_eq!(rt; front, *b"7abcdefX\0");
         up.reset();
-        assert_eq!(rt; (up.ranges(), up.held(), up.room()), (0, 0, 100));
-        Ok(())
-    }
-
-    /// Lets the host socket take octets, as many as are held.
-    fn drain(up: &mut Up, count: u32) {
-        let count = (count as usize).min(up.held());
-        if up.count() < 1 << 40 {
-            up.written(count);
-        }
-    }
-
-    /// So many octets, all the same.
-    fn filled(alloc: Global, octet: u8, count: u32) -> Result<Vec<u8>, AllocError> {
-        vec![in alloc; octet; count as usize]
-    }
-
-    #[test]
-    fn a_ring_of_a_mebibyte(rt: HostRuntime) -> Result<(), Fail> {
-        let mut up = Up::open(rt.alloc(), 1_048_576)?;
-        let piece = filled(rt.alloc(), 7, 16_384)?;
-        for _ in 0..100 {
-            assert_eq!(rt; up.take(&piece), 16_384);
-            drain(&mut up, 16_384);
-        }
-        assert_eq!(rt; up.keep(1_032_192, &piece), 16_384);
-        assert_eq!(rt;
-            (up.keep(1_048_575, b"8"), up.keep(1_048_576, b"8")),
-            (0, 0)
-        );
-        let all = filled(rt.alloc(), 6, 1_032_192)?;
-        assert_eq!(rt;
-            (up.take(&all), up.join(), up.room()),
-            (1_032_192, 16_384, 0)
-        );
-        drain(&mut up, 1_032_190);
-        assert_eq!(rt; front(&up), [6, 6, 7, 7, 7, 7, 7, 7]);
+        assert_eq!(rt; (up.held(), up.room()), (0, 8));
         Ok(())
     }
 
     #[test]
-    fn a_reset_empties(rt: HostRuntime) -> Result<(), Fail> {
-        let mut up = Up::open(rt.alloc(), 5)?;
-        let mut down = Down::open(rt.alloc(), 5)?;
-        up.take(b"abc");
+    fn each_call_down(rt: HostRuntime) -> Result<(), Fail> {
+        let mut down = Down::open(rt.alloc(), 3)?;
         down.give(b"abc");
-        up.reset();
+        down.acked(down.held().min(2));
+        assert_eq!(rt; (down.first(), down.held(), down.room()), (2, 1, 2));
+        down.give(&b"de"[..down.room().min(2)]);
+        let mut piece = [0; 4];
+        assert_eq!(rt; down.copy_at(down.first(), &mut piece), 3);
+        assert_eq!(rt; piece, *b"cde\0");
         down.reset();
-        assert_eq!(rt; (up.held(), up.room()), (0, 5));
-        assert_eq!(rt; (down.held(), down.room(), down.first()), (0, 5, 0));
+        assert_eq!(rt; (down.held(), down.room(), down.first()), (0, 3, 0));
         Ok(())
     }
 }

@@ -1215,6 +1215,3 @@ fn moves_far(told: Option<u64>, edge: u64) -> bool
         None => false,
     }
 }
-
-#[cfg(test)]
-mod tests;

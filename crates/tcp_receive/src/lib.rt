@@ -228,199 +228,20 @@ mod tests {
     use std::test::Fail;
 
     #[test]
-    fn twelve_octets_past_the_wrap(rt: HostRuntime) -> Result<(), Fail> {
+    fn each_call(rt: HostRuntime) -> Result<(), Fail> {
         let mut up = Up::open(rt.alloc(), 65_535)?;
         let mut receive = Receive::new(Seq(0xFFFF_FFFB));
-        receive.arrive(&mut up, Seq(0xFFFF_FFFC), b"twelve octet", false);
-        assert_eq!(rt; receive.expected(), Seq(8));
-        assert_eq!(rt; up.held(), 12);
-        Ok(())
-    }
-
-    #[test]
-    fn octets_that_come_again_are_taken_once(rt: HostRuntime) -> Result<(), Fail> {
-        let mut up = Up::open(rt.alloc(), 65_535)?;
-        let mut receive = Receive::new(Seq(100));
-        receive.arrive(&mut up, Seq(101), b"0123456789", false);
-        assert_eq!(rt; receive.expected(), Seq(111));
-        receive.arrive(&mut up, Seq(101), b"0123456789", false);
-        receive.arrive(&mut up, Seq(101), b"0123456789", false);
-        assert_eq!(rt; receive.expected(), Seq(111));
-        receive.arrive(&mut up, Seq(107), b"6789abcd", false);
-        assert_eq!(rt; receive.expected(), Seq(115));
-        let probe = receive.arrive(&mut up, Seq(114), b"", false);
-        assert_eq!(rt;
-            probe,
-            Took {
-                octets: 0,
-                fin: false,
-                ack_owed: true
-            }
-        );
-        assert_eq!(rt; receive.expected(), Seq(115));
-        let mut piece = [0; 20];
-        assert_eq!(rt; up.front_piece(&mut piece), 14);
-        assert_eq!(rt; piece, *b"0123456789abcd\0\0\0\0\0\0");
-        Ok(())
-    }
-
-    #[test]
-    fn a_segment_fits_in_part(rt: HostRuntime) -> Result<(), Fail> {
-        let mut up = Up::open(rt.alloc(), 5)?;
-        let mut receive = Receive::new(Seq(100));
-        let took = receive.arrive(&mut up, Seq(101), b"01234567", true);
+        let took = receive.arrive(&mut up, Seq(0xFFFF_FFFC), b"twelve octet", true);
         assert_eq!(rt;
             took,
             Took {
-                octets: 5,
-                fin: false,
-                ack_owed: true
-            }
-        );
-        assert_eq!(rt; receive.expected(), Seq(106));
-        up.written(up.held());
-        let took = receive.arrive(&mut up, Seq(101), b"01234567", true);
-        assert_eq!(rt;
-            took,
-            Took {
-                octets: 3,
+                octets: 12,
                 fin: true,
                 ack_owed: true
             }
         );
-        assert_eq!(rt; receive.expected(), Seq(110));
-        Ok(())
-    }
-
-    /// Octets at a place arrive, where the SYN has the number 100 and the buffer is no larger than usual.
-    fn receive_at(receive: &mut Receive, up: &mut Up, place: u16, octets: &[u8]) {
-        let is_small = up.room() <= 65_535 && up.held() <= 65_535 && octets.len() <= 65_535;
-        if receive.taken() < 1 << 32 && is_small {
-            receive.arrive(up, Seq(101 + u32::from(place)), octets, false);
-        }
-    }
-
-    /// The number that comes next.
-    fn next(receive: &Receive) -> Option<Seq> {
-        if receive.taken() < 1 << 32 {
-            Some(receive.expected())
-        } else {
-            None
-        }
-    }
-
-    #[test]
-    fn octets_come_from_behind(rt: HostRuntime) -> Result<(), Fail> {
-        let mut up = Up::open(rt.alloc(), 65_535)?;
-        let mut receive = Receive::new(Seq(100));
-        receive.arrive(&mut up, Seq(106), b"56789", false);
-        assert_eq!(rt;
-            (receive.expected(), up.held(), up.ranges()),
-            (Seq(101), 0, 1)
-        );
-        let took = receive.arrive(&mut up, Seq(101), b"01234", false);
-        assert_eq!(rt;
-            took,
-            Took {
-                octets: 10,
-                fin: false,
-                ack_owed: true
-            }
-        );
-        assert_eq!(rt;
-            (receive.expected(), receive.taken(), up.held(), up.ranges()),
-            (Seq(111), 10, 10, 0)
-        );
-        let mut piece = [0; 10];
-        up.front_piece(&mut piece);
-        assert_eq!(rt; piece, *b"0123456789");
-        Ok(())
-    }
-
-    #[test]
-    fn kept_octets_past_the_wrap(rt: HostRuntime) -> Result<(), Fail> {
-        let mut up = Up::open(rt.alloc(), 65_535)?;
-        let mut receive = Receive::new(Seq(0xFFFF_FFFB));
-        receive.arrive(&mut up, Seq(2), b"ghijkl", true);
-        assert_eq!(rt; (receive.expected(), up.ranges()), (Seq(0xFFFF_FFFC), 1));
-        receive.arrive(&mut up, Seq(0xFFFF_FFFC), b"abcdef", false);
-        assert_eq!(rt; (receive.expected(), receive.ended()), (Seq(8), false));
-        let took = receive.arrive(&mut up, Seq(8), b"", true);
-        assert!(rt; took.fin);
-        assert_eq!(rt; (receive.expected(), receive.ended()), (Seq(9), true));
-        Ok(())
-    }
-
-    #[test]
-    fn the_thirty_third_range_is_not_kept(rt: HostRuntime) -> Result<(), Fail> {
-        let mut up = Up::open(rt.alloc(), 65_535)?;
-        let mut receive = Receive::new(Seq(100));
-        for k in 1..34 {
-            receive_at(&mut receive, &mut up, 2 * k, b"k");
-        }
-        assert_eq!(rt; (next(&receive), up.ranges()), (Some(Seq(101)), 32));
-        receive_at(&mut receive, &mut up, 0, &[b'u'; 66]);
-        assert_eq!(rt; (next(&receive), up.ranges()), (Some(Seq(167)), 0));
-        Ok(())
-    }
-
-    #[test]
-    fn a_fin_past_a_gap_is_not_kept(rt: HostRuntime) -> Result<(), Fail> {
-        let mut up = Up::open(rt.alloc(), 65_535)?;
-        let mut receive = Receive::new(Seq(100));
-        receive.arrive(&mut up, Seq(111), b"abcdefghij", true);
-        receive.arrive(&mut up, Seq(101), b"0123456789", false);
-        assert_eq!(rt; (receive.expected(), receive.ended()), (Seq(121), false));
-        receive.arrive(&mut up, Seq(121), b"", true);
-        assert_eq!(rt; (receive.expected(), receive.ended()), (Seq(122), true));
-        Ok(())
-    }
-
-    #[test]
-    fn a_fin_in_a_gap_before_a_kept_octet(rt: HostRuntime) -> Result<(), Fail> {
-        let mut up = Up::open(rt.alloc(), 65_535)?;
-        let mut receive = Receive::new(Seq(100));
-        receive.arrive(&mut up, Seq(106), b"5", false);
-        let took = receive.arrive(&mut up, Seq(101), b"01234", true);
-        assert_eq!(rt;
-            took,
-            Took {
-                octets: 6,
-                fin: false,
-                ack_owed: true
-            }
-        );
-        assert_eq!(rt; (receive.expected(), receive.ended()), (Seq(107), false));
-        Ok(())
-    }
-
-    #[test]
-    fn a_fin_waits_for_the_gap(rt: HostRuntime) -> Result<(), Fail> {
-        let mut up = Up::open(rt.alloc(), 6)?;
-        let mut receive = Receive::new(Seq(100));
-        let took = receive.arrive(&mut up, Seq(104), b"345", true);
-        assert_eq!(rt;
-            took,
-            Took {
-                octets: 0,
-                fin: false,
-                ack_owed: true
-            }
-        );
-        assert_eq!(rt; receive.expected(), Seq(101));
-        receive.arrive(&mut up, Seq(101), b"012", false);
-        assert!(rt; !receive.ended());
-        let took = receive.arrive(&mut up, Seq(104), b"345", true);
-        assert_eq!(rt;
-            took,
-            Took {
-                octets: 0,
-                fin: true,
-                ack_owed: true
-            }
-        );
-        assert_eq!(rt; receive.expected(), Seq(108));
-        assert!(rt; receive.ended());
+        assert_eq!(rt; (receive.taken(), receive.ended()), (12, true));
+        assert_eq!(rt; receive.expected(), Seq(9));
         Ok(())
     }
 }

@@ -365,7 +365,6 @@ fn put_option(form: &Form, code: u8, body: &[u8], into: &mut [u8]) -> Option<usi
 #[cfg(test)]
 mod tests {
     use super::*;
-    use std::array;
 
     const TCP: Form = Form {
         end: 0,
@@ -381,137 +380,32 @@ mod tests {
         counts_head: false,
     };
 
-    fn tcp_fault(octets: &[u8]) -> Option<TlvFault> {
-        Table::new(TCP, rows![2: 2 to 2, repeats])?
-            .read(octets)
-            .err()
-    }
-
-    fn tcp_body(octets: &[u8], code: u8) -> Option<&[u8]> {
-        let fields = Table::new(TCP, rows![2: 2 to 2, repeats])?
-            .read(octets)
-            .ok()?;
-        fields.first(code)
-    }
-
-    fn dhcp_fault(octets: &[u8]) -> Option<TlvFault> {
-        let rows = rows![
-            50: 4 to 4, once;
-            53: 1 to 1, once;
-            55: 1 to 32, repeats;
-        ];
-        Table::new(DHCP, rows)?.read(octets).err()
-    }
-
-    fn made(rows: [Row; 2]) -> bool {
-        Table::new(TCP, rows).is_some()
-    }
-
     #[test]
-    fn segment_size_before_an_unknown_option(rt: HostRuntime) {
-        assert_eq!(rt; tcp_fault(b"\x02\x04\x05\xb4\x01\x08\x02"), None);
-        assert_eq!(rt;
-            tcp_body(b"\x02\x04\x05\xb4\x01\x08\x02", 2),
-            Some(b"\x05\xb4".as_slice())
-        );
-        assert_eq!(rt; tcp_body(b"\x02\x04\x05\xb4\x01\x08\x02", 8), None);
-    }
-
-    #[test]
-    fn first_of_two_segment_sizes(rt: HostRuntime) {
-        assert_eq!(rt;
-            tcp_body(b"\x02\x04\x05\xb4\x02\x04\x02\x00", 2),
-            Some(b"\x05\xb4".as_slice())
-        );
-    }
-
-    #[test]
-    fn segment_sizes_that_are_wrong(rt: HostRuntime) {
-        assert_eq!(rt; tcp_fault(b"\x02\x04\x05"), Some(TlvFault::Cut { at: 0 }));
-        assert_eq!(rt;
-            tcp_fault(b"\x02\x03\x05"),
-            Some(TlvFault::BadLength { at: 0 })
-        );
-        assert_eq!(rt; tcp_fault(b"\x08\x01"), Some(TlvFault::BadLength { at: 0 }));
-        assert_eq!(rt; tcp_fault(b"\x01\x08"), Some(TlvFault::Cut { at: 1 }));
-    }
-
-    #[test]
-    fn nothing_is_read_after_the_end(rt: HostRuntime) {
-        assert_eq!(rt; tcp_fault(b"\x00\x02"), None);
-        assert_eq!(rt; tcp_body(b"\x00\x02\x04\x05\xb4", 2), None);
-    }
-
-    #[test]
-    fn options_of_dhcp_that_are_wrong(rt: HostRuntime) {
-        assert_eq!(rt; dhcp_fault(b"\x35\x01\x01"), Some(TlvFault::NoEnd));
-        assert_eq!(rt;
-            dhcp_fault(b"\x35\x01\x01\x00\x35\x01\x01\xff"),
-            Some(TlvFault::Repeated { at: 4 })
-        );
-        assert_eq!(rt; dhcp_fault(b"\x37\x01\x01\x37\x01\x03\xff"), None);
-        assert_eq!(rt;
-            dhcp_fault(b"\x35\x02\x01\x01\xff"),
-            Some(TlvFault::BadLength { at: 0 })
-        );
-    }
-
-    #[test]
-    fn tables_that_are_refused(rt: HostRuntime) {
-        assert!(rt; made(rows![2: 2 to 2, repeats; 3: 1 to 1, once]));
-        assert!(rt; !made(rows![3: 1 to 1, once; 2: 2 to 2, repeats]));
-        assert!(rt; !made(rows![1: 1 to 1, once; 2: 2 to 2, repeats]));
-        assert!(rt; !made(rows![2: 2 to 2, repeats; 3: 2 to 1, once]));
-    }
-
-    #[test]
-    fn table_of_no_rows(rt: HostRuntime) {
-        let table = Table::new(DHCP, rows![]).expect(&rt, "no rows");
-        let fields = table
-            .read(b"\x05\x01\x07\xff")
-            .expect(&rt, "an unknown option");
-        assert_eq!(rt; fields.first(5), None);
-    }
-
-    #[test]
-    fn table_of_64_rows(rt: HostRuntime) {
-        let rows: [Row; 64] = array::from_fn(|i| Row {
-            code: i as u8 + 1,
-            least: 0,
-            greatest: 255,
-            repeats: false,
-        });
-        let table = Table::new(DHCP, rows).expect(&rt, "64 rows");
-        let fields = table
-            .read(b"\x40\x01\x07\xff")
-            .expect(&rt, "the last row's option");
-        assert_eq!(rt; fields.first(64), Some(b"\x07".as_slice()));
-    }
-
-    #[test]
-    fn put_options_are_read(rt: HostRuntime) {
-        let Some(table) = Table::new(DHCP, rows![12: 1 to 127, once; 53: 1 to 1, once]) else {
-            return;
-        };
-        let mut octets = [0xee; 8];
-        assert_eq!(rt; table.put(53, b"\x02", &mut octets), Some(3));
-        assert_eq!(rt; table.put(12, b"ab", &mut octets[3..]), Some(4));
-        assert_eq!(rt; table.put(12, b"ab", &mut octets[5..]), None);
-        octets[7] = 255;
-        assert_eq!(rt; octets.as_slice(), b"\x35\x01\x02\x0c\x02ab\xff".as_slice());
-        let Ok(fields) = table.read(&octets) else {
-            return;
-        };
-        assert_eq!(rt; fields.first(12), Some(b"ab".as_slice()));
-    }
-
-    #[test]
-    fn put_length_counts_the_head(rt: HostRuntime) {
+    fn options_of_tcp_both_ways(rt: HostRuntime) {
         let Some(table) = Table::new(TCP, rows![2: 2 to 2, repeats]) else {
             return;
         };
-        let mut octets = [0xee; 4];
-        assert_eq!(rt; table.put(2, b"\x05\xb4", &mut octets), Some(4));
-        assert_eq!(rt; octets.as_slice(), b"\x02\x04\x05\xb4".as_slice());
+        let octets = b"\x02\x04\x05\xb4\x01\x08\x02";
+        let fields = table
+            .read(octets)
+            .expect(&rt, "a size before an unknown option");
+        assert_eq!(rt; fields.first(2), Some(b"\x05\xb4".as_slice()));
+        let mut written = [0xee; 4];
+        assert_eq!(rt; table.put(2, b"\x05\xb4", &mut written), Some(4));
+        assert_eq!(rt; written.as_slice(), b"\x02\x04\x05\xb4".as_slice());
+    }
+
+    #[test]
+    fn options_of_dhcp_both_ways(rt: HostRuntime) {
+        let Some(table) = Table::new(DHCP, rows![12: 1 to 127, once; 53: 1 to 1, once]) else {
+            return;
+        };
+        let octets = b"\x35\x01\x02\x0c\x02ab\xff";
+        let fields = table.read(octets).expect(&rt, "two options and the end");
+        assert_eq!(rt; fields.first(12), Some(b"ab".as_slice()));
+        let mut written = [255; 8];
+        assert_eq!(rt; table.put(53, b"\x02", &mut written), Some(3));
+        assert_eq!(rt; table.put(12, b"ab", &mut written[3..]), Some(4));
+        assert_eq!(rt; written.as_slice(), octets.as_slice());
     }
 }

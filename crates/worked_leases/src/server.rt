@@ -1,0 +1,100 @@
+use crate::cases::Case;
+use arrayvec::ArrayVec;
+use dhcp_server::Leases;
+use host_policy::{Reply, SlirpConfig};
+use net_octets::{Endpoint, Ip4};
+use std::alloc::{AllocError, Global};
+
+/// Room for a reply, in octets.
+const ROOM: usize = 1024;
+
+/// Gives a server the messages of a case in turn, and says whether each was answered as it was to be: `passed`, or what was otherwise.
+pub fn verdict(alloc: Global, case: &Case) -> Result<String, AllocError> {
+    let config = config_of(case.settings.as_str());
+    if config.check().is_err() {
+        return "FAILED: its settings aren't in their ranges".to_string(alloc);
+    }
+    let mut leases = Leases::new(&config);
+    let mut count = 0usize;
+    for message in case.messages.lines() {
+        let (asked, wanted) = message.split_once(" = ").unwrap_or((message, ""));
+        let answered = answer(alloc, &mut leases, asked)?;
+        if answered.as_str() != wanted {
+            return format!(in alloc;
+                "FAILED: {count} answers are right, and behind them is {answered}"
+            );
+        }
+        count = count.saturating_add(1);
+    }
+    "passed".to_string(alloc)
+}
+
+// The settings that differ from the usual ones by these words.
+fn config_of(words: &str) -> SlirpConfig {
+    let mut config = SlirpConfig::usual();
+    for word in words.split_whitespace() {
+        let (name, value) = word.split_once('=').unwrap_or((word, ""));
+        match name {
+            "restricted" => config.restricted = true,
+            "resolver" => {
+                config.resolver = Some(Endpoint {
+                    addr: Ip4(0x7f000001),
+                    port: 53,
+                })
+            }
+            "no_dns" => {
+                config.version = 2;
+                config.disable_dns = true;
+            }
+            "hostname" => config.vhostname = name_of(value),
+            "domainname" => config.vdomainname = name_of(value),
+            "tftp" => config.tftp_server_name = name_of(value),
+            "bootfile" => config.bootfile = name_of(value),
+            _ => {}
+        }
+    }
+    config
+}
+
+// The octets of a name. None where they are too many.
+fn name_of(text: &str) -> ArrayVec<u8, 127> {
+    let mut name = ArrayVec::new();
+    let _ = name.try_extend_from_slice(text.as_bytes());
+    name
+}
+
+// What a message gets at its moment.
+fn answer(alloc: Global, leases: &mut Leases, asked: &str) -> Result<String, AllocError> {
+    let (moment, octets) = asked.split_once(' ').unwrap_or((asked, ""));
+    let (Ok(now), Ok(body)) = (moment.parse::<u64>(), hex::decode(alloc, octets)) else {
+        return "no message".to_string(alloc);
+    };
+    if now > 1 << 62 {
+        return "no moment".to_string(alloc);
+    }
+    let mut into = [0xee; ROOM];
+    match leases.message(now, &body, &mut into) {
+        Reply::Nothing => "nothing".to_string(alloc),
+        Reply::Unreachable(_) => "an unreachable".to_string(alloc),
+        Reply::Datagram {
+            length,
+            from,
+            to,
+            mac,
+        } => {
+            let sender = place_of(alloc, from)?;
+            let target = place_of(alloc, to)?;
+            let mac = match mac {
+                Some(mac) => hex::encode(alloc, &mac.0)?,
+                None => "-".to_string(alloc)?,
+            };
+            let octets = hex::encode(alloc, into.get(..length).unwrap_or(&[]))?;
+            format!(in alloc; "{sender} {target} {mac} {octets}")
+        }
+    }
+}
+
+fn place_of(alloc: Global, place: Endpoint) -> Result<String, AllocError> {
+    let [a, b, c, d] = place.addr.0.to_be_bytes();
+    format!(in alloc; "{a}.{b}.{c}.{d}:{}", place.port)
+}

@@ -1,0 +1,99 @@
+ghost use Rattle.std.specs.Prelude.{ℕ, ◌≤◌, []};
+ghost use Rattle.sock_buffers.specs.Downward.{downward};
+ghost use Rattle.sock_buffers.specs.Upward.{empty};
+ghost use Rattle.tcp_guest.specs.Connection.{HasBuffers};
+
+use crate::steps::Said;
+use seq_space::Seq;
+use tcp_guest::Conn;
+
+/// How a connection is opened.
+#[derive(Clone, Copy)]
+pub struct Opening {
+    /// The guest's SYN, where the guest opens it.
+    syn: Option<Said>,
+    /// The number of our SYN.
+    ours: u32,
+    /// The size of the buffer of the guest's octets, and of the host's.
+    pub ring: u32,
+    pub host: u32,
+    /// The most octets of a datagram on the link.
+    mtu: u16,
+    pub congestion: bool,
+    pub is_blocked: bool,
+}
+
+impl Opening {
+    /// Reads how a connection is opened. `None` where it has no reading.
+    pub fn read(text: &str) -> Option<Opening> {
+        let (first, rest) = text.split_once(' ').unwrap_or((text, ""));
+        let (numbers, behind) = rest.split_once(' ').unwrap_or((rest, ""));
+        let is_accepted = first == "accept";
+        let mut opening = Opening {
+            syn: None,
+            ours: 250_000,
+            ring: 65_535,
+            host: 140_000,
+            mtu: 1_500,
+            congestion: false,
+            is_blocked: false,
+        };
+        if !is_accepted {
+            opening.syn = Some(Said::usual(first, numbers)?);
+        }
+        let words = if is_accepted { rest } else { behind };
+        for word in words.split_whitespace() {
+            opening.take(word)?;
+        }
+        Some(opening)
+    }
+
+    // Takes a word of what isn't as usual. `None` where it has no reading.
+    fn take(&mut self, word: &str) -> Option<()> {
+        if word == "blocked" {
+            self.is_blocked = true;
+        } else if word == "congestion" {
+            self.congestion = true;
+        } else if let Some(ours) = word.strip_prefix("s=") {
+            self.ours = ours.parse::<u32>().ok()?;
+        } else if let Some(ring) = word.strip_prefix("ring=") {
+            self.ring = ring.parse::<u32>().ok()?;
+        } else if let Some(host) = word.strip_prefix("host=") {
+            self.host = host.parse::<u32>().ok()?;
+        } else if let Some(mtu) = word.strip_prefix("mtu=") {
+            self.mtu = mtu.parse::<u16>().ok()?;
+        } else {
+            self.syn.as_mut()?.take(word)?;
+        }
+        Some(())
+    }
+
+    /// The connection.
+    pub fn connection(&self) -> Conn
+        ensures { (size : ℕ) → HasBuffers result (empty self.now.ring) (downward [] 0 size) }
+    {
+        let link = most_by(self.mtu);
+        match &self.syn {
+            None => Conn::to_guest(Seq(self.ours), link, self.ring, self.congestion),
+            Some(syn) => {
+                let most = link.min(syn.mss.unwrap_or(536).max(64));
+                Conn::from_guest(
+                    Seq(syn.seq),
+                    Seq(self.ours),
+                    most,
+                    syn.scale,
+                    self.ring,
+                    self.congestion,
+                )
+            }
+        }
+    }
+}
+
+// The most octets of a piece that the link lets through.
+fn most_by(mtu: u16) -> u16
+    ensures low { 64 ≤ result }
+    ensures high { result ≤ 1460 }
+{
+    mtu.min(1_500).max(104) - 40
+}

@@ -1,0 +1,90 @@
+//! What words of the command line mean. Each word names a file in the folder where this runs, each line of which has the words of a command line; for each what they
+//! mean is printed, with all settings that an option can name. A line that begins with `#` is a remark, an empty one nothing.
+#![tactic(auto)]
+
+use host_policy::SlirpConfig;
+use net_octets::Ip4;
+use slirp_config::{Command, WordFault, read_words};
+use std::alloc::{AllocError, Global};
+use std::{env, fs, io};
+use world_face::LinkAt;
+
+fn main(rt: HostRuntime) -> io::Result<()> {
+    for name in env::args(&rt)?.skip(1) {
+        let text = fs::read_to_string(&rt, name.as_str())?;
+        for line in text.lines() {
+            if !line.is_empty() && !line.starts_with('#') {
+                let meaning = meaning_of(rt.alloc(), line)?;
+                println!(rt; "{name}: {meaning}")?;
+            }
+        }
+    }
+    Ok(())
+}
+
+// What the words of a line mean.
+fn meaning_of(alloc: Global, line: &str) -> Result<String, AllocError> {
+    let mut words = Vec::new(alloc);
+    for word in line.split_whitespace() {
+        words.push(word.to_string(alloc)?)?;
+    }
+    let read = read_words(&words);
+    match &read {
+        Ok(Command::Replay(file, config)) => {
+            let settings = settings_of(alloc, config)?;
+            format!(in alloc; "replay {}: {settings}", file.as_str())
+        }
+        Ok(Command::Serve(config, at)) => {
+            let settings = settings_of(alloc, config)?;
+            let link = link_of(alloc, at)?;
+            format!(in alloc; "serve {link}: {settings}")
+        }
+        Err(WordFault::Usage) => "no reading".to_string(alloc),
+        Err(WordFault::BadConfig(field)) => {
+            format!(in alloc; "{} is out of its range", field.name())
+        }
+    }
+}
+
+fn link_of(alloc: Global, at: &LinkAt) -> Result<String, AllocError> {
+    match at {
+        LinkAt::Unix(path) => format!(in alloc; "unix:{}", path.as_str()),
+        LinkAt::Tcp(place) => {
+            let addr = dotted(alloc, place.addr)?;
+            format!(in alloc; "tcp:{addr}:{}", place.port)
+        }
+    }
+}
+
+// All settings that an option can name.
+fn settings_of(alloc: Global, config: &SlirpConfig) -> Result<String, AllocError> {
+    let net = dotted(alloc, config.vnetwork)?;
+    let mask = dotted(alloc, config.vnetmask)?;
+    let host = dotted(alloc, config.vhost)?;
+    let dns = dotted(alloc, config.vnameserver)?;
+    let lent = dotted(alloc, config.vdhcp_start)?;
+    let mut text = format!(in alloc;
+        "net {net} mask {mask}, host {host}, dns {dns}, dhcpstart {lent}"
+    )?;
+    let (mtu, mru, flows) = (config.if_mtu, config.if_mru, config.flows);
+    let (ring, turns) = (config.ring, config.turns);
+    let sizes = format!(in alloc;
+        ", mtu {mtu}, mru {mru}, flows {flows}, ring {ring}, turns {turns}"
+    )?;
+    text.push_str(sizes.as_str())?;
+    if config.restricted {
+        text.push_str(", restrict")?;
+    }
+    if config.disable_host_loopback {
+        text.push_str(", no-loopback")?;
+    }
+    if config.congestion {
+        text.push_str(", congestion")?;
+    }
+    Ok(text)
+}
+
+fn dotted(alloc: Global, addr: Ip4) -> Result<String, AllocError> {
+    let [a, b, c, d] = addr.0.to_be_bytes();
+    format!(in alloc; "{a}.{b}.{c}.{d}")
+}
