@@ -1,16 +1,19 @@
 // The link: who is taken, how octets come and go, and what becomes of its file.
-use super::{Asker, LINK, here, is_answered};
-use crate::NetWorld;
+use crate::asker::{Asker, LINK, here, is_answered};
 use arrayvec::ArrayString;
 use mio::net::UnixStream;
+use net_world::NetWorld;
 use poll_list::{ReadyList, Want, Wants, Who};
 use std::alloc::Global;
 use std::fs;
+use std::fs::Files;
 use std::io::{Read, Write};
-use std::net::{SocketAddr, TcpListener, TcpStream, UdpSocket};
+use std::net::{Net, SocketAddr, TcpListener, TcpStream, UdpSocket};
 use std::os::unix::fs::FileTypeExt;
 use std::os::unix::net::UnixListener;
+use std::sync::Wait;
 use std::test::Fail;
+use std::time::Clock;
 use world_face::{Io, LinkAt, Made, Waited, World};
 
 const DATAGRAMS: Want = Want {
@@ -133,129 +136,129 @@ fn ends<W: World>(asker: &mut Asker, world: &mut W) -> bool {
         && world.link_read(&mut into) == Io::End
 }
 
-#[test]
-fn a_link_at_a_path_is_served(rt: HostRuntime) -> Result<(), Fail> {
+/// The first peer at a path is taken and served until it ends; the file is gone then, and nobody else is let in. An open link isn't opened again.
+pub fn at_a_path<
+    R: Net<Listener = TcpListener, Stream = TcpStream> + Wait + Files + Clock + Alloc<A = Global>,
+>(rt: &R) -> Result<bool, Fail> {
     let mut asker = Asker::open(rt.alloc())?;
-    let mut world = NetWorld::open(&rt, rt.alloc())?;
-    assert!(rt; open_at(&mut world, "served") == Some(Made::Done));
-    assert!(rt; has_no_peer(&mut asker, &mut world));
-    let mut peer = UnixStream::connect(&rt, "served")?;
-    assert!(rt; serves_a_peer(&mut asker, &mut world, &mut peer));
-    assert!(rt; comes_by_octets(&mut asker, &mut world, &mut peer));
-    assert!(rt; backs_up(&mut asker, &mut world, &mut peer));
+    let mut world = NetWorld::open(rt, rt.alloc())?;
+    if open_at(&mut world, "served") != Some(Made::Done)
+        || open_at(&mut world, "served") != Some(Made::Failed)
+        || !has_no_peer(&mut asker, &mut world)
+    {
+        return Ok(false);
+    }
+    let mut peer = UnixStream::connect(rt, "served")?;
+    let mut second = UnixStream::connect(rt, "served")?;
+    if !serves_a_peer(&mut asker, &mut world, &mut peer)
+        || matches!(second.write(b"x"), Ok(_)) && matches!(second.read(&mut [0u8; 4]), Ok(1..))
+        || fs::exists(rt, "served")?
+        || UnixStream::connect(rt, "served").is_ok()
+        || open_at(&mut world, "served") != Some(Made::Failed)
+        || !comes_by_octets(&mut asker, &mut world, &mut peer)
+        || !backs_up(&mut asker, &mut world, &mut peer)
+    {
+        return Ok(false);
+    }
     drop(peer);
-    assert!(rt; ends(&mut asker, &mut world));
-    Ok(())
+    Ok(ends(&mut asker, &mut world))
 }
 
-#[test]
-fn a_link_at_an_endpoint_is_served(rt: HostRuntime) -> Result<(), Fail> {
-    let free = TcpListener::bind(&rt, "127.0.0.1:0")?;
+/// A peer at an endpoint is served until it ends.
+pub fn at_an_endpoint<
+    R: Net<Listener = TcpListener, Stream = TcpStream> + Wait + Files + Clock + Alloc<A = Global>,
+>(rt: &R) -> Result<bool, Fail> {
+    let free = TcpListener::bind(rt, "127.0.0.1:0")?;
     let port = free.local_addr()?.port();
     drop(free);
     let mut asker = Asker::open(rt.alloc())?;
-    let mut world = NetWorld::open(&rt, rt.alloc())?;
-    assert!(rt; world.link_open(&LinkAt::Tcp(here(port))) == Made::Done);
-    assert!(rt; has_no_peer(&mut asker, &mut world));
-    let mut peer = TcpStream::connect(&rt, SocketAddr::from(([127, 0, 0, 1], port)))?;
+    let mut world = NetWorld::open(rt, rt.alloc())?;
+    if world.link_open(&LinkAt::Tcp(here(port))) != Made::Done
+        || !has_no_peer(&mut asker, &mut world)
+    {
+        return Ok(false);
+    }
+    let mut peer = TcpStream::connect(rt, SocketAddr::from(([127, 0, 0, 1], port)))?;
     peer.set_nonblocking(true)?;
-    assert!(rt; serves_a_peer(&mut asker, &mut world, &mut peer));
-    assert!(rt; comes_by_octets(&mut asker, &mut world, &mut peer));
-    assert!(rt; backs_up(&mut asker, &mut world, &mut peer));
+    let served = serves_a_peer(&mut asker, &mut world, &mut peer);
     drop(peer);
-    assert!(rt; ends(&mut asker, &mut world));
-    Ok(())
-}
-
-/// The first peer is taken; the file is gone then, and nobody else is let in. An open link isn't opened again.
-#[test]
-fn a_second_peer_is_not_taken(rt: HostRuntime) -> Result<(), Fail> {
-    let mut asker = Asker::open(rt.alloc())?;
-    let mut world = NetWorld::open(&rt, rt.alloc())?;
-    assert!(rt; open_at(&mut world, "first") == Some(Made::Done));
-    assert!(rt; open_at(&mut world, "first") == Some(Made::Failed));
-    let mut peer = UnixStream::connect(&rt, "first")?;
-    let mut second = UnixStream::connect(&rt, "first")?;
-    assert!(rt; serves_a_peer(&mut asker, &mut world, &mut peer));
-    assert!(rt;
-        !matches!(second.write(b"x"), Ok(_)) || !matches!(second.read(&mut [0u8; 4]), Ok(1..))
-    );
-    assert!(rt; !fs::exists(&rt, "first")?);
-    assert!(rt; UnixStream::connect(&rt, "first").is_err());
-    assert!(rt; open_at(&mut world, "first") == Some(Made::Failed));
-    assert!(rt; comes_by_octets(&mut asker, &mut world, &mut peer));
-    Ok(())
+    Ok(served && ends(&mut asker, &mut world))
 }
 
 /// What was written goes out before the end, and a file that no peer came to is gone.
-#[test]
-fn the_end_leaves_nothing_behind(rt: HostRuntime) -> Result<(), Fail> {
+pub fn ends_with_nothing_left<
+    R: Net<Listener = TcpListener, Stream = TcpStream> + Wait + Files + Clock + Alloc<A = Global>,
+>(rt: &R) -> Result<bool, Fail> {
     let mut asker = Asker::open(rt.alloc())?;
-    let mut world = NetWorld::open(&rt, rt.alloc())?;
-    assert!(rt; open_at(&mut world, "lonely") == Some(Made::Done));
-    assert!(rt; fs::exists(&rt, "lonely")?);
+    let mut world = NetWorld::open(rt, rt.alloc())?;
+    let opened = open_at(&mut world, "lonely") == Some(Made::Done) && fs::exists(rt, "lonely")?;
     drop(world);
-    assert!(rt; !fs::exists(&rt, "lonely")?);
-    let mut world = NetWorld::open(&rt, rt.alloc())?;
-    assert!(rt; open_at(&mut world, "last") == Some(Made::Done));
-    let mut peer = UnixStream::connect(&rt, "last")?;
-    assert!(rt; asker.is_ready(&mut world, LINK, 1000));
-    assert!(rt; world.link_write(b"bye") == Io::Done(3));
+    if !opened || fs::exists(rt, "lonely")? {
+        return Ok(false);
+    }
+    let mut world = NetWorld::open(rt, rt.alloc())?;
+    if open_at(&mut world, "last") != Some(Made::Done) {
+        return Ok(false);
+    }
+    let mut peer = UnixStream::connect(rt, "last")?;
+    let written = asker.is_ready(&mut world, LINK, 1000) && world.link_write(b"bye") == Io::Done(3);
     drop(world);
     let mut into = [0u8; 8];
-    assert!(rt; peer.read(&mut into)? == 3);
-    assert!(rt; peer.read(&mut into)? == 0);
-    assert!(rt; into.starts_with(b"bye"));
-    Ok(())
+    Ok(
+        written
+            && peer.read(&mut into)? == 3
+            && peer.read(&mut into)? == 0
+            && into.starts_with(b"bye"),
+    )
 }
 
 /// What isn't a socket that was left over stays, and the link isn't opened there.
-#[test]
-fn what_stands_at_the_path_stays(rt: HostRuntime) -> Result<(), Fail> {
-    let mut world = NetWorld::open(&rt, rt.alloc())?;
-    fs::write(&rt, "regular", b"kept")?;
-    assert!(rt; open_at(&mut world, "regular") == Some(Made::Failed));
-    assert!(rt; fs::metadata(&rt, "regular")?.len() == 4);
-    fs::create_dir(&rt, "folder")?;
-    assert!(rt; open_at(&mut world, "folder") == Some(Made::Failed));
-    assert!(rt; fs::metadata(&rt, "folder")?.is_dir());
-    let listener = UnixListener::bind(&rt, "in_use")?;
-    assert!(rt; open_at(&mut world, "in_use") == Some(Made::Failed));
-    assert!(rt; fs::metadata(&rt, "in_use")?.file_type().is_socket());
-    assert!(rt; listener.accept().is_ok());
-    std::os::unix::fs::symlink(&rt, "nowhere", "link")?;
-    assert!(rt; open_at(&mut world, "link") == Some(Made::Failed));
-    assert!(rt; fs::symlink_metadata(&rt, "link")?.file_type().is_symlink());
-    assert!(rt; open_at(&mut world, "no/such/folder") == Some(Made::Failed));
-    let taken = TcpListener::bind(&rt, "127.0.0.1:0")?;
+pub fn leaves_what_stands_there<
+    R: Net<Listener = TcpListener, Stream = TcpStream> + Wait + Files + Clock + Alloc<A = Global>,
+>(rt: &R) -> Result<bool, Fail> {
+    let mut world = NetWorld::open(rt, rt.alloc())?;
+    fs::write(rt, "regular", b"kept")?;
+    fs::create_dir(rt, "folder")?;
+    let listener = UnixListener::bind(rt, "in_use")?;
+    std::os::unix::fs::symlink(rt, "nowhere", "link")?;
+    let taken = TcpListener::bind(rt, "127.0.0.1:0")?;
     let port = taken.local_addr()?.port();
-    assert!(rt; world.link_open(&LinkAt::Tcp(here(port))) == Made::Failed);
+    let mut refused = world.link_open(&LinkAt::Tcp(here(port))) == Made::Failed;
+    for path in ["regular", "folder", "in_use", "link", "no/such/folder"] {
+        refused = refused && open_at(&mut world, path) == Some(Made::Failed);
+    }
+    let asked = listener.accept().is_ok();
     drop(listener);
     drop(world);
-    assert!(rt; fs::metadata(&rt, "in_use")?.file_type().is_socket());
-    fs::remove_file(&rt, "regular")?;
-    fs::remove_dir(&rt, "folder")?;
-    fs::remove_file(&rt, "in_use")?;
-    fs::remove_file(&rt, "link")?;
-    Ok(())
+    let stays = fs::metadata(rt, "regular")?.len() == 4
+        && fs::metadata(rt, "folder")?.is_dir()
+        && fs::metadata(rt, "in_use")?.file_type().is_socket()
+        && fs::symlink_metadata(rt, "link")?.file_type().is_symlink();
+    fs::remove_file(rt, "regular")?;
+    fs::remove_dir(rt, "folder")?;
+    fs::remove_file(rt, "in_use")?;
+    fs::remove_file(rt, "link")?;
+    Ok(refused && asked && stays)
 }
 
+/// A path of 107 octets.
+const LONG: &str =
+    "a_path_of_107_octets_______________________________________________________________________________________";
+
 /// A socket that nobody listens on is removed; a path may have 107 octets.
-#[test]
-fn a_socket_that_was_left_over_is_removed(rt: HostRuntime) -> Result<(), Fail> {
+pub fn takes_what_was_left_over<
+    R: Net<Listener = TcpListener, Stream = TcpStream> + Wait + Files + Clock + Alloc<A = Global>,
+>(rt: &R) -> Result<bool, Fail> {
     let mut asker = Asker::open(rt.alloc())?;
-    let mut world = NetWorld::open(&rt, rt.alloc())?;
-    let long =
-        "a_path_of_107_octets_______________________________________________________________________________________";
-    assert!(rt; long.len() == 107);
-    drop(UnixListener::bind(&rt, long)?);
-    assert!(rt; fs::exists(&rt, long)?);
-    assert!(rt; open_at(&mut world, long) == Some(Made::Done));
-    let mut peer = UnixStream::connect(&rt, long)?;
-    assert!(rt; serves_a_peer(&mut asker, &mut world, &mut peer));
+    let mut world = NetWorld::open(rt, rt.alloc())?;
+    drop(UnixListener::bind(rt, LONG)?);
+    if !fs::exists(rt, LONG)? || open_at(&mut world, LONG) != Some(Made::Done) {
+        return Ok(false);
+    }
+    let mut peer = UnixStream::connect(rt, LONG)?;
+    let served = serves_a_peer(&mut asker, &mut world, &mut peer);
     drop(world);
-    assert!(rt; !fs::exists(&rt, long)?);
-    Ok(())
+    Ok(served && !fs::exists(rt, LONG)?)
 }
 
 /// A datagram that isn't fetched is told again and again; what came by the link is told all the same, within 65 waits.
@@ -297,14 +300,17 @@ fn takes_turns<W: World>(
     false
 }
 
-#[test]
-fn a_busy_socket_starves_nobody(rt: HostRuntime) -> Result<(), Fail> {
+/// A busy socket starves nobody.
+pub fn is_told_beside_a_busy_socket<
+    R: Net<Listener = TcpListener, Stream = TcpStream> + Wait + Files + Clock + Alloc<A = Global>,
+>(rt: &R) -> Result<bool, Fail> {
     let mut asker = Asker::open(rt.alloc())?;
-    let mut world = NetWorld::open(&rt, rt.alloc())?;
-    assert!(rt; open_at(&mut world, "busy") == Some(Made::Done));
-    let mut peer = UnixStream::connect(&rt, "busy")?;
-    let far = UdpSocket::bind(&rt, "127.0.0.1:0")?;
+    let mut world = NetWorld::open(rt, rt.alloc())?;
+    if open_at(&mut world, "busy") != Some(Made::Done) {
+        return Ok(false);
+    }
+    let mut peer = UnixStream::connect(rt, "busy")?;
+    let far = UdpSocket::bind(rt, "127.0.0.1:0")?;
     let port = far.local_addr()?.port();
-    assert!(rt; takes_turns(rt.alloc(), &mut asker, &mut world, &mut peer, &far, port));
-    Ok(())
+    Ok(takes_turns(rt.alloc(), &mut asker, &mut world, &mut peer, &far, port))
 }

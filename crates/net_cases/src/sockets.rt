@@ -1,11 +1,14 @@
 // Sockets of the host.
-use super::{Asker, here, is_answered};
-use crate::NetWorld;
+use crate::asker::{Asker, here, is_answered};
+use net_world::NetWorld;
 use poll_list::{ReadyList, Want, Wants, Who};
 use std::alloc::Global;
+use std::fs::Files;
 use std::io::{Read, Write};
-use std::net::{SocketAddr, TcpListener, TcpStream, UdpSocket};
+use std::net::{Net, SocketAddr, TcpListener, TcpStream, UdpSocket};
+use std::sync::Wait;
 use std::test::Fail;
+use std::time::Clock;
 use world_face::{Accepted, Endpoint, Got, Io, Ip4, Joined, Made, Sent, Waited, World};
 
 const WRITING: Want = Want {
@@ -86,14 +89,15 @@ fn exchanges_datagrams<W: World>(
         && world.udp_send(3, here(port), b"ask") == Sent::Failed
 }
 
-#[test]
-fn datagrams_are_exchanged(rt: HostRuntime) -> Result<(), Fail> {
+/// Datagrams go both ways.
+pub fn exchange<
+    R: Net<Listener = TcpListener, Stream = TcpStream> + Wait + Files + Clock + Alloc<A = Global>,
+>(rt: &R) -> Result<bool, Fail> {
     let mut asker = Asker::open(rt.alloc())?;
-    let mut world = NetWorld::open(&rt, rt.alloc())?;
-    let peer = UdpSocket::bind(&rt, "127.0.0.1:0")?;
+    let mut world = NetWorld::open(rt, rt.alloc())?;
+    let peer = UdpSocket::bind(rt, "127.0.0.1:0")?;
     let port = peer.local_addr()?.port();
-    assert!(rt; exchanges_datagrams(&mut asker, &mut world, &peer, port));
-    Ok(())
+    Ok(exchanges_datagrams(&mut asker, &mut world, &peer, port))
 }
 
 /// A connection is made, and octets go both ways until each side has ended.
@@ -131,18 +135,6 @@ fn is_refused<W: World>(asker: &mut Asker, world: &mut W, port: u16) -> bool {
     world.connect(7, here(port)) == Made::Done
         && asker.is_ready(world, WRITING, 1000)
         && world.connected(7) == Joined::Failed
-}
-
-#[test]
-fn connections_are_made_and_refused(rt: HostRuntime) -> Result<(), Fail> {
-    let mut asker = Asker::open(rt.alloc())?;
-    let mut world = NetWorld::open(&rt, rt.alloc())?;
-    let host = TcpListener::bind(&rt, "127.0.0.1:0")?;
-    let port = host.local_addr()?.port();
-    assert!(rt; connects(&mut asker, &mut world, &host, port));
-    drop(host);
-    assert!(rt; is_refused(&mut asker, &mut world, port));
-    Ok(())
 }
 
 /// A peer that reads nothing makes writes short and then not yet; once it has read, octets are taken again. A peer that goes with octets unread resets the connection.
@@ -191,14 +183,19 @@ fn backs_up_and_breaks<W: World>(
     again && asker.is_ready(world, READING, 1000) && world.tcp_read(7, &mut into) == Io::Failed
 }
 
-#[test]
-fn a_connection_backs_up_and_breaks(rt: HostRuntime) -> Result<(), Fail> {
+/// Connections are made, back up, break and are refused.
+pub fn connect<
+    R: Net<Listener = TcpListener, Stream = TcpStream> + Wait + Files + Clock + Alloc<A = Global>,
+>(rt: &R) -> Result<bool, Fail> {
     let mut asker = Asker::open(rt.alloc())?;
-    let mut world = NetWorld::open(&rt, rt.alloc())?;
-    let host = TcpListener::bind(&rt, "127.0.0.1:0")?;
+    let mut world = NetWorld::open(rt, rt.alloc())?;
+    let host = TcpListener::bind(rt, "127.0.0.1:0")?;
     let port = host.local_addr()?.port();
-    assert!(rt; backs_up_and_breaks(&mut asker, &mut world, &host, port));
-    Ok(())
+    let made = connects(&mut asker, &mut world, &host, port);
+    let broken = backs_up_and_breaks(&mut asker, &mut world, &host, port);
+    world.close(7);
+    drop(host);
+    Ok(made && broken && is_refused(&mut asker, &mut world, port))
 }
 
 /// A connection is taken from a listener, which then has none.
@@ -208,22 +205,6 @@ fn accepts<W: World>(asker: &mut Asker, world: &mut W) -> bool {
         && world.accept(5, 8) == Accepted::NotYet
         && !asker.is_ready(world, LISTENER, 0)
         && world.tcp_write(7, b"abc") == Io::Done(3)
-}
-
-#[test]
-fn a_connection_is_accepted(rt: HostRuntime) -> Result<(), Fail> {
-    let mut asker = Asker::open(rt.alloc())?;
-    let mut world = NetWorld::open(&rt, rt.alloc())?;
-    let free = TcpListener::bind(&rt, "127.0.0.1:0")?;
-    let port = free.local_addr()?.port();
-    drop(free);
-    assert!(rt; world.listen(5, here(port)) == Made::Done);
-    assert!(rt; world.listen(6, here(port)) == Made::Failed);
-    let mut far = TcpStream::connect(&rt, SocketAddr::from(([127, 0, 0, 1], port)))?;
-    assert!(rt; accepts(&mut asker, &mut world));
-    let mut into = [0u8; 4];
-    assert!(rt; far.read(&mut into)? == 3);
-    Ok(())
 }
 
 /// Where no descriptor or no place is left a socket isn't opened, and a connection isn't accepted; its listener isn't told again before something was closed.
@@ -248,20 +229,28 @@ fn meets_the_limit<W: World>(asker: &mut Asker, world: &mut W) -> bool {
         && matches!(world.accept(5, 7), Accepted::From(_))
 }
 
-#[test]
-fn a_limit_on_descriptors_is_a_fault_of_a_socket(rt: HostRuntime) -> Result<(), Fail> {
+/// A connection is accepted, and another once there is a descriptor for it.
+pub fn accept<
+    R: Net<Listener = TcpListener, Stream = TcpStream> + Wait + Files + Clock + Alloc<A = Global>,
+>(rt: &R) -> Result<bool, Fail> {
     let mut asker = Asker::open(rt.alloc())?;
-    let mut world = NetWorld::open(&rt, rt.alloc())?;
-    let free = TcpListener::bind(&rt, "127.0.0.1:0")?;
+    let mut world = NetWorld::open(rt, rt.alloc())?;
+    let free = TcpListener::bind(rt, "127.0.0.1:0")?;
     let port = free.local_addr()?.port();
     drop(free);
-    assert!(rt; world.listen(5, here(port)) == Made::Done);
-    let _far = TcpStream::connect(&rt, SocketAddr::from(([127, 0, 0, 1], port)))?;
-    assert!(rt; meets_the_limit(&mut asker, &mut world));
-    Ok(())
+    if world.listen(5, here(port)) != Made::Done || world.listen(6, here(port)) != Made::Failed {
+        return Ok(false);
+    }
+    let mut far = TcpStream::connect(rt, SocketAddr::from(([127, 0, 0, 1], port)))?;
+    let accepted = accepts(&mut asker, &mut world);
+    let mut into = [0u8; 4];
+    let came = far.read(&mut into)? == 3;
+    world.close(7);
+    let _other = TcpStream::connect(rt, SocketAddr::from(([127, 0, 0, 1], port)))?;
+    Ok(accepted && came && meets_the_limit(&mut asker, &mut world))
 }
 
-/// The system tells once that a connection is ready for writing. While it isn't wanted for that it isn't told, and once it is wanted it is, alone and beside what is ready for reading.
+/// The system tells once that a connection is ready for writing. While it isn't wanted for that it isn't told, and once it is wanted it is, alone and beside what is ready for reading; of that exactly what is wanted is told, in the order of the wants.
 fn is_told_once_wanted<W: World>(
     alloc: Global,
     asker: &mut Asker,
@@ -277,10 +266,13 @@ fn is_told_once_wanted<W: World>(
         || asker.is_ready(world, READING, 10)
         || asker.is_ready(world, READING, 10)
         || !asker.is_ready(world, WRITING, 0)
-        || !is_answered(asker, world, far, port, 2)
-        || !is_answered(asker, world, far, port, 9)
     {
         return false;
+    }
+    for number in [9u64, 4, 6, 2] {
+        if !is_answered(asker, world, far, port, number) {
+            return false;
+        }
     }
     wants.add(FIRST);
     wants.add(SENDING);
@@ -290,51 +282,19 @@ fn is_told_once_wanted<W: World>(
     world.wait(&wants, Some(1000), &mut ready) == Waited::Ready && ready.items() == told.as_slice()
 }
 
-#[test]
-fn a_direction_is_told_once_it_is_wanted(rt: HostRuntime) -> Result<(), Fail> {
+/// What is wanted is told, once it is wanted.
+pub fn tell_what_is_wanted<
+    R: Net<Listener = TcpListener, Stream = TcpStream> + Wait + Files + Clock + Alloc<A = Global>,
+>(rt: &R) -> Result<bool, Fail> {
     let mut asker = Asker::open(rt.alloc())?;
-    let mut world = NetWorld::open(&rt, rt.alloc())?;
-    let host = TcpListener::bind(&rt, "127.0.0.1:0")?;
+    let mut world = NetWorld::open(rt, rt.alloc())?;
+    let host = TcpListener::bind(rt, "127.0.0.1:0")?;
     let host_port = host.local_addr()?.port();
-    let far = UdpSocket::bind(&rt, "127.0.0.1:0")?;
+    let far = UdpSocket::bind(rt, "127.0.0.1:0")?;
     let port = far.local_addr()?.port();
-    assert!(rt; world.connect(7, here(host_port)) == Made::Done);
-    assert!(rt; asker.is_ready(&mut world, WRITING, 1000));
-    assert!(rt; is_told_once_wanted(rt.alloc(), &mut asker, &mut world, &far, port));
-    Ok(())
-}
-
-/// Of what is ready exactly what is wanted is told, in the order of the wants.
-fn picks<W: World>(
-    alloc: Global,
-    asker: &mut Asker,
-    world: &mut W,
-    far: &UdpSocket,
-    port: u16,
-) -> bool {
-    let (Ok(mut wants), Ok(mut ready)) = (Wants::open(alloc, 4), ReadyList::open(alloc, 5155))
-    else {
-        return false;
-    };
-    for number in [9u64, 4, 6, 2] {
-        if !is_answered(asker, world, far, port, number) {
-            return false;
-        }
-    }
-    wants.add(FIRST);
-    wants.add(DATAGRAMS);
-    wants.add(SENDING);
-    wants.add(LAST);
-    let told = [FIRST, LAST];
-    world.wait(&wants, Some(1000), &mut ready) == Waited::Ready && ready.items() == told.as_slice()
-}
-
-#[test]
-fn exactly_what_is_wanted_is_told(rt: HostRuntime) -> Result<(), Fail> {
-    let mut asker = Asker::open(rt.alloc())?;
-    let mut world = NetWorld::open(&rt, rt.alloc())?;
-    let far = UdpSocket::bind(&rt, "127.0.0.1:0")?;
-    let port = far.local_addr()?.port();
-    assert!(rt; picks(rt.alloc(), &mut asker, &mut world, &far, port));
-    Ok(())
+    Ok(
+        world.connect(7, here(host_port)) == Made::Done
+            && asker.is_ready(&mut world, WRITING, 1000)
+            && is_told_once_wanted(rt.alloc(), &mut asker, &mut world, &far, port),
+    )
 }
