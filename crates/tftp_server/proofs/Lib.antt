@@ -1,0 +1,4 @@
+mod Agreeing
+mod Cutting
+mod Naming
+mod Numbering

@@ -1,21 +1,28 @@
 -- What is read of a packet where it lies: texts that are cut off one after another.
 use Rattle.std.specs.Prelude.{ℕ, ◌==◌, Bool, List, [], ◌∷◌, Option, Some, None, is_some, option_map, unwrap_or, if◌then◌else◌}
 use Rattle.std.specs.Option.{option_and_then}
+use Rattle.std.specs.Borrow.{Bor}
 use Rattle.tftp_server.specs.Packets.{Packet, Asks, AsksToWrite, Acknowledges, GivesUp, Unheard, Request, is_name, pairs_of, texts_in}
 use Rattle.tftp_server.specs.declared.packets.PacketView.{PacketView}
 use Rattle.tftp_server.specs.declared.packets.PacketView.TheVariants.{Asks as AsksBy, AsksToWrite as AsksToWriteIt, Acknowledges as AcknowledgesIt, GivesUp as GivesItUp, Unheard as IsUnheard}
 use Rattle.tftp_server.specs.declared.packets.RequestView.{RequestView}
 use Rattle.tftp_server.specs.declared.packets.PairView.{PairView}
 
+-- octets that are cut in two, with one more in front
+abbrev pub with_front : ℕ → List ℕ × List ℕ → List ℕ × List ℕ
+with_front x parts = (x ∷ parts.0, parts.1)
+
 -- what stands before the first such octet, and what behind it
 abbrev pub cut : ℕ → List ℕ → Option (List ℕ × List ℕ)
 cut octet [] = None
-cut octet (x ∷ octets) = if x == octet then Some ([], octets) else option_map (λ (parts : List ℕ × List ℕ). (x ∷ parts.0, parts.1)) (cut octet octets)
+cut octet (x ∷ octets) = if x == octet then Some ([], octets) else option_map (with_front x) (cut octet octets)
 
 -- the first two texts, and what stands behind them
+abbrev pub pair_with : List ℕ → List ℕ × List ℕ → List ℕ × List ℕ × List ℕ
+pair_with name parts = (name, parts.0, parts.1)
+
 abbrev pub first_pair : List ℕ → Option (List ℕ × List ℕ × List ℕ)
-first_pair octets =
-    option_and_then (λ (name : List ℕ × List ℕ). option_map (λ (value : List ℕ × List ℕ). (name.0, value.0, value.1)) (cut 0 name.1)) (cut 0 octets)
+first_pair octets = option_and_then (λ (parts : List ℕ × List ℕ). option_map (pair_with parts.0) (cut 0 parts.1)) (cut 0 octets)
 
 -- the texts two and two
 abbrev pub pairs_in : List ℕ → Option (List (List ℕ × List ℕ))
@@ -26,6 +33,9 @@ are_pairs octets = is_some (pairs_in octets)
 
 abbrev pub options_of : List ℕ → List (List ℕ × List ℕ)
 options_of octets = unwrap_or (pairs_in octets) []
+
+abbrev pub parts_of : Bor (List ℕ) × Bor (List ℕ) → List ℕ × List ℕ
+parts_of parts = (parts.0.now, parts.1.now)
 
 -- a packet, a request and a pair of texts by their octets
 abbrev pub packet_of : PacketView → Packet

@@ -1,8 +1,8 @@
 //! The options of a request that are known (RFC 2347; RFC 2348; RFC 2349).
-ghost use Rattle.std.specs.Prelude.{◌≡◌, ◌≤◌, codes, length, map, Some, None, false, if◌then◌else◌};
+ghost use Rattle.std.specs.Prelude.{◌≡◌, ◌≤◌, codes, length, map, Some, None, true, false, if◌then◌else◌};
 ghost use Rattle.std.specs.Option.{option_map};
 ghost use Rattle.tftp_server.specs.Packets.{answers, has_answered, number_in, terms_of, usual_terms, with_option, with_size, with_timeout};
-ghost use Rattle.tftp_server.specs.Reading.{options_of};
+ghost use Rattle.tftp_server.specs.Reading.{are_pairs, options_of};
 ghost use Rattle.tftp_server.specs.Options.{answered_pair, is_among, known_by, name_of, with_known};
 ghost use Rattle.tftp_server.specs.declared.options.Known.TheVariants.{BlockSize, Timeout, FileSize};
 
@@ -103,6 +103,7 @@ impl Agreed {
 
     /// What the options come to, for a file of this length. None where a known one stands twice, or has a value that is none of its.
     pub fn read(length: u64, options: &[u8]) -> Option<Agreed>
+        requires { are_pairs options.now ≡ true }
         ensures { result ≡ terms_of length (options_of options.now) }
     {
         let mut agreed = Agreed::usual();

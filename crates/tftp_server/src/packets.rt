@@ -1,9 +1,9 @@
 //! Packets of guests (RFC 1350, 5), and the texts of a request.
-ghost use Rattle.std.specs.Prelude.{◌≡◌, ◌==◌, ◌<◌, ◌≤◌, [], length, map, min, position, IfSome};
+ghost use Rattle.std.specs.Prelude.{◌≡◌, ◌==◌, ◌<◌, ◌≤◌, [], length, map, min, position, true, IfSome};
 ghost use Rattle.std.specs.Option.{option_map};
 ghost use Rattle.std.specs.List.{list_all};
 ghost use Rattle.tftp_server.specs.Packets.{is_digit, is_name, is_part, is_printable, number_from, number_in, packet_in, parts_from, request_in, says, small};
-ghost use Rattle.tftp_server.specs.Reading.{are_pairs, cut, first_pair, name_taken, packet_of, pair_of, request_of_view};
+ghost use Rattle.tftp_server.specs.Reading.{are_pairs, cut, first_pair, name_taken, packet_of, pair_of, parts_of, request_of_view};
 
 use crate::MOST_NAME;
 use byteorder::{BigEndian, ByteOrder};
@@ -68,7 +68,8 @@ pub struct RequestView<'a> {
 
 /// What the texts of a read request say. None where a name, a mode and pairs of texts aren't there, each ended by a 0.
 pub fn read_request(octets: &[u8]) -> Option<RequestView<'_>>
-    ensures { option_map request_of_view result ≡ request_in octets.now }
+    ensures request { option_map request_of_view result ≡ request_in octets.now }
+    ensures pairs { IfSome result (λ r. are_pairs r.options.now ≡ true) }
 {
     let (name, rest) = cut(octets, 0)?;
     let (mode, options) = cut(rest, 0)?;
@@ -113,7 +114,7 @@ fn are_pairs(octets: &[u8]) -> bool
 
 // What stands before the first such octet, and what behind it. None where there is none.
 fn cut(octets: &[u8], octet: u8) -> Option<(&[u8], &[u8])>
-    ensures parts { option_map (λ p. (p.0.now, p.1.now)) result ≡ cut octet octets.now }
+    ensures parts { option_map parts_of result ≡ cut octet octets.now }
     ensures fewer { IfSome result (λ parts. length parts.1.now < length octets.now) }
 {
     let at = place_of(octets, octet)?;

@@ -1,11 +1,11 @@
 //! What a packet of a guest asks for: the calls on files, and what the guest is told (RFC 1350, 2 to 7).
-ghost use Rattle.std.specs.Prelude.{◌≡◌, ◌+◌, ◌^◌, ◌≤◌, ◌<◌, ℕ, List, [], length, find, Option, Some, None, false};
+ghost use Rattle.std.specs.Prelude.{◌≡◌, ◌+◌, ◌^◌, ◌≤◌, ◌<◌, ℕ, List, [], length, find, Option, Some, None, true, false};
 ghost use Rattle.world_face.specs.Tells.{Makes};
 ghost use Rattle.world_face.specs.Limits.{most_name};
 ghost use Rattle.tftp_server.specs.Packets.{error_octets, file_in, options_octets, request_in, terms_of};
 ghost use Rattle.tftp_server.specs.Transfers.{Transfer, acknowledged, came, is_for, measured, most_transfers, octets_of, place_of, requested, seeks_next, sends, settled, transfer};
 ghost use Rattle.tftp_server.specs.Asking.{IsServed};
-ghost use Rattle.tftp_server.specs.Reading.{options_of};
+ghost use Rattle.tftp_server.specs.Reading.{are_pairs};
 ghost use Rattle.tftp_server.specs.Serving.{said_by, IsFromServer};
 ghost use Rattle.tftp_server.specs.Rows.{folder_octets, seeking_length, sought, transfer_of};
 ghost use Rattle.tftp_server.specs.Blocks.{ReadsBlock};
@@ -118,6 +118,7 @@ impl Tftp {
         requires moment { now ≤ 2 ^ 62 }
         requires room { 1472 ≤ length into.old }
         requires few { length name.now ≤ 255 }
+        requires pairs { are_pairs options.now ≡ true }
         requires fresh { find (is_for asker.guest) self.old.transfers ≡ None }
         ensures serves { Makes (W.tells world.old) (W.tells world.new)
             (IsServed now (seeking_length (sought self.old.folder asker.guest asker.mac.0 name.now options.now) self.old.transfers) self.new.transfers (said_by result into.new)) }
@@ -141,24 +142,25 @@ impl Tftp {
         now: u64,
         asker: Asker,
         name: &str,
-        length: u64,
+        size: u64,
         options: &[u8],
         into: &mut [u8],
     ) -> Reply
         requires moment { now ≤ 2 ^ 62 }
         requires room { 1472 ≤ length into.old }
         requires few { length name.now ≤ 255 }
+        requires pairs { are_pairs options.now ≡ true }
         requires fresh { find (is_for asker.guest) self.old.transfers ≡ None }
         ensures serves { let s = sought self.old.folder asker.guest asker.mac.0 name.now options.now in Makes (W.tells world.old) (W.tells world.new)
-            (IsServed now (measured now length s (terms_of length s.options) self.old.transfers) self.new.transfers (said_by result into.new)) }
+            (IsServed now (measured now size s (terms_of size s.options) self.old.transfers) self.new.transfers (said_by result into.new)) }
         ensures from { IsFromServer self.old.vhost result }
         ensures rest { self.new ≡ record self.old { transfers = self.new.transfers } }
     {
-        let Some(agreed) = Agreed::read(length, options) else {
+        let Some(agreed) = Agreed::read(size, options) else {
             return refuse(self.vhost, OPTIONS_REFUSED, asker, into);
         };
         self.make_room();
-        let row = first_row(asker, name, length, &agreed);
+        let row = first_row(asker, name, size, &agreed);
         if agreed.answered().is_empty() {
             self.send_next(world, now, row, into)
         } else {
@@ -256,10 +258,12 @@ impl Tftp {
 }
 
 // A transfer of which nothing was sent yet.
-fn first_row(asker: Asker, name: &str, length: u64, agreed: &Agreed) -> Row
+fn first_row(asker: Asker, name: &str, size: u64, agreed: &Agreed) -> Row
     requires { length name.now ≤ 255 }
     ensures row { (folder : Option (List ℕ)) (options : List (List ℕ × List ℕ))
-        → transfer_of folder result ≡ transfer length (record { guest = asker.guest; mac = asker.mac.0; file = file_in (folder_octets folder) name.now; options = options }) agreed.now }
+        → transfer_of folder result ≡ transfer size (record { guest = asker.guest; mac = asker.mac.0; file = file_in (folder_octets folder) name.now; options = options }) agreed.now }
+    ensures guest { result.guest ≡ asker.guest }
+    ensures more { result.is_last ≡ false }
 {
     let mut text = ArrayString::new();
     text.push_str(name);
@@ -267,7 +271,7 @@ fn first_row(asker: Asker, name: &str, length: u64, agreed: &Agreed) -> Row
         guest: asker.guest,
         mac: asker.mac,
         name: text,
-        length,
+        length: size,
         size: agreed.size(),
         timeout: agreed.timeout(),
         block: 0,
