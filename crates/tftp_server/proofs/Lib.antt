@@ -1,4 +1,7 @@
 mod Agreeing
 mod Cutting
+mod Knowing
+mod Listing
 mod Naming
 mod Numbering
+mod Writing

@@ -1,5 +1,5 @@
 //! The options of a request that are known (RFC 2347; RFC 2348; RFC 2349).
-ghost use Rattle.std.specs.Prelude.{◌≡◌, ◌≤◌, codes, length, map, Some, None, true, false, if◌then◌else◌};
+ghost use Rattle.std.specs.Prelude.{◌≡◌, ◌≤◌, ℕ, List, codes, length, map, Some, None, true, false, if◌then◌else◌};
 ghost use Rattle.std.specs.Option.{option_map};
 ghost use Rattle.tftp_server.specs.Packets.{answers, has_answered, number_in, terms_of, usual_terms, with_option, with_size, with_timeout};
 ghost use Rattle.tftp_server.specs.Reading.{are_pairs, options_of};
@@ -122,9 +122,18 @@ impl Agreed {
         ensures { (if result then Some self.new else None) ≡ with_option length (name.now, value.now) self.old }
     {
         match known_by(name) {
-            None => true,
+            None => self.passes_over(),
             Some(option) => !self.has(option) && self.take_known(length, option, value),
         }
+    }
+
+    // An option that isn't known is passed over: only known ones are answered.
+    fn passes_over(&self) -> bool
+        ensures passes { result ≡ true }
+        ensures known { (length : ℕ) (name value : List ℕ) → known_by name ≡ None → with_option length (name, value) self.now ≡ Some self.now }
+    {
+        let _answered = &self.answered;
+        true
     }
 
     fn has(&self, option: Known) -> bool
