@@ -1,7 +1,9 @@
 mod Agreeing
 mod Cutting
+mod Keeping
 mod Knowing
 mod Listing
 mod Naming
 mod Numbering
+mod Reading
 mod Writing

@@ -12,10 +12,10 @@ pub cut_number : (bound n : ℕ) (digits : List ℕ) → min bound (number_from 
 cut_number bound n digits =
     elim (cases_lt bound n) [
       | inl more ↦ (
-        let same : min n bound ≡ bound = omega arith in
-        let low : bound ≤ number_from (min n bound) digits = subst (λ m. bound ≤ number_from m digits) (sym same) (grows bound digits) in
-        omega (arith, low, grows n digits))
+          let same : min n bound ≡ bound = omega arith in
+          let low : bound ≤ number_from (min n bound) digits = subst (λ m. bound ≤ number_from m digits) (sym same) (grows bound digits) in
+          omega (arith, low, grows n digits))
       | inr few ↦ (
-        let same : min n bound ≡ n = omega arith in
-        ap (λ m. min bound (number_from m digits)) same)
+          let same : min n bound ≡ n = omega arith in
+          ap (λ m. min bound (number_from m digits)) same)
     ]

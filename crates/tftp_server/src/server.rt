@@ -307,10 +307,11 @@ fn read_block<W: World>(world: &mut W, file: &str, place: u64, block: &mut [u8])
 {
     let mut there = 0;
     while there < block.len() {
-        match world.file_read(file, place + there as u64, &mut block[there..]) {
-            Io::Done(count) => there += count,
-            Io::End | Io::NotYet | Io::Failed => return false,
-        }
+        let Io::Done(count) = world.file_read(file, place + there as u64, &mut block[there..])
+        else {
+            return false;
+        };
+        there += count;
     }
     true
 }

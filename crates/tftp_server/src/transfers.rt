@@ -1,5 +1,5 @@
 //! Which file each port of a guest gets, how far it is, and what goes again (RFC 1350, 2 and 6).
-ghost use Rattle.std.specs.Prelude.{◌≡◌, ◌+◌, ◌^◌, ◌≤◌, ◌<◌, ◌++◌, ◌∷◌, ◌&&◌, nat_le, nat_lt, [], length, find, position, IfOk, Some, None, true, false};
+ghost use Rattle.std.specs.Prelude.{◌≡◌, ◌+◌, ◌^◌, ◌≤◌, ◌<◌, ◌++◌, ◌∷◌, ◌&&◌, ◌||◌, not, nat_le, nat_lt, [], length, find, position, IfOk, Some, None, true, false};
 ghost use Rattle.host_policy.specs.Ranges.{IsSound};
 ghost use Rattle.host_policy.specs.Settings.{settings};
 ghost use Rattle.host_policy.specs.Targets.{same_endpoint};
@@ -163,6 +163,13 @@ pub(crate) fn tell(vhost: Ip4, guest: Endpoint, mac: Mac, packet: &[u8], into: &
         to: guest,
         mac: Some(mac),
     }
+}
+
+// Whether a transfer isn't over: its packet isn't due, or goes again.
+fn is_left(row: &Row, now: u64) -> bool
+    ensures { result ≡ (not (nat_le row.now.due now) || nat_lt row.now.again 5) }
+{
+    now < row.due || row.again < MOST_AGAIN
 }
 
 fn place_of(rows: &[Row], guest: Endpoint) -> Option<usize>

@@ -19,9 +19,11 @@ left c =
     ap (map (transfer_of folder)) stays ∙ sym (filter_map_is (transfer_of folder) (λ t. not (is_for c.args.guest t)) c.self.inside.rows.items)
 
 pub invariant_of-self : goal.invariant_of-self
-invariant_of-self c =
-    (omega (arith, c.retain.ensures.bound, c.self.invariant.0), omega (arith, c.retain.ensures.capacity, c.self.invariant.1),
-    subst AreApart (sym (left c)) (apart_filter (λ t. not (is_for c.args.guest t)) (transfers_of (option_map (λ f. f.bytes) c.self.inside.folder) c.self.inside.rows.items) c.self.invariant.2))
+invariant_of-self c = (
+  omega (arith, c.retain.ensures.bound, c.self.invariant.0),
+  omega (arith, c.retain.ensures.capacity, c.self.invariant.1),
+  subst AreApart (sym (left c)) (apart_filter (λ t. not (is_for c.args.guest t)) (transfers_of (option_map (λ f. f.bytes) c.self.inside.folder) c.self.inside.rows.items) c.self.invariant.2),
+)
 
 pub returns-clause-list : goal.returns-clause-list
 returns-clause-list c =
