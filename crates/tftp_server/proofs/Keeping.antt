@@ -5,7 +5,7 @@ use Rattle.std.proofs.lemmas.List.{get_or-map, length-map, map-append, map-set, 
 use Rattle.std.proofs.lemmas.List.Quantifiers.{position-Some}
 use Rattle.net_octets.specs.declared.Endpoint.{Endpoint}
 use Rattle.host_policy.specs.Targets.{same_endpoint}
-use Rattle.tftp_server.specs.Transfers.{Outcome, Transfer, acknowledged, is_for, leaves, seeks_next, sent_again, without}
+use Rattle.tftp_server.specs.Transfers.{Outcome, Transfer, acknowledged, goes_again, is_for, leaves, seeks_next, sent_again, without}
 use Rattle.tftp_server.specs.Rows.{AreApart, transfer_of, transfers_of}
 use Rattle.tftp_server.specs.declared.row.Row.{Row}
 use Rattle.tftp_server.proofs.Listing.{apart_push, find_map, position_none, position_some, removed, same_is}
@@ -87,3 +87,13 @@ apart_pushed folder rows more r true is done apart fresh =
     let same : transfers_of folder more ≡ transfers_of folder rows ++ (transfer_of folder r ∷ []) = ap (transfers_of folder) is ∙ map-append (transfer_of folder) rows (r ∷ []) in
     subst AreApart (sym same) (apart_push (transfers_of folder rows) (transfer_of folder r) apart fresh)
 apart_pushed folder rows more r false is done apart fresh = cc
+
+pub due_none : (now : ℕ) (folder : Option (List ℕ)) (rows : List Row) → position (is_due_row now) rows ≡ None → find (goes_again now) (transfers_of folder rows) ≡ None
+due_none now folder rows is = find_map (transfer_of folder) (goes_again now) rows ∙ ap (option_map (transfer_of folder)) (position_none (is_due_row now) rows is)
+
+pub due_some : (now : ℕ) (folder : Option (List ℕ)) (rows : List Row) (i : ℕ) (d : Row) → position (is_due_row now) rows ≡ Some i
+    → find (goes_again now) (transfers_of folder rows) ≡ Some (get_or (transfers_of folder rows) i (transfer_of folder d))
+due_some now folder rows i d is =
+    let at = position_some (is_due_row now) rows i is in
+    find_map (transfer_of folder) (goes_again now) rows ∙ ap (option_map (transfer_of folder)) (at.first d)
+    ∙ ap (λ (t : Transfer). Some t) (sym (get_or-map (transfer_of folder) rows i d (transfer_of folder d) at.within))

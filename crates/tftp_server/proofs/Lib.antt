@@ -1,4 +1,5 @@
 mod Agreeing
+mod Beginning
 mod Cutting
 mod Keeping
 mod Knowing
@@ -6,4 +7,6 @@ mod Listing
 mod Naming
 mod Numbering
 mod Reading
+mod Serving
+mod Timing
 mod Writing

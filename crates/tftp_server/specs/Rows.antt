@@ -1,5 +1,5 @@
 -- Transfers as the code keeps them: the names of files without their folder.
-use Rattle.std.specs.Prelude.{◌≡◌, ℕ, ◌<◌, List, [], ◌∷◌, length, map, find, Bool, true, Option, Some, None, option_map, unwrap_or, slice_index_or, slice_set, if◌then◌else◌}
+use Rattle.std.specs.Prelude.{◌≡◌, ℕ, ◌+◌, ◌<◌, List, [], ◌∷◌, length, map, find, Bool, true, Option, Some, None, option_map, unwrap_or, slice_index_or, slice_set, if◌then◌else◌}
 use Rattle.net_octets.specs.declared.Endpoint.{Endpoint}
 use Rattle.tftp_server.specs.Packets.{file_in}
 use Rattle.tftp_server.specs.Transfers.{Outcome, Sought, SeeksLength, Transfer, acknowledged, is_for, leaves, seeks_next, sent_again, without}
@@ -25,6 +25,10 @@ transfer_of folder r = record {
   again = r.again;
   due = r.due;
 }
+
+-- the same with the next block
+abbrev pub next_of : Option (List ℕ) → Row → Transfer
+next_of folder r = record (transfer_of folder r) { block = r.block + 1 }
 
 abbrev pub transfers_of : Option (List ℕ) → List Row → List Transfer
 transfers_of folder rows = map (transfer_of folder) rows

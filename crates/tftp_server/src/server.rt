@@ -1,13 +1,13 @@
 //! What a packet of a guest asks for: the calls on files, and what the guest is told (RFC 1350, 2 to 7).
-ghost use Rattle.std.specs.Prelude.{◌≡◌, ◌+◌, ◌^◌, ◌≤◌, ◌<◌, ℕ, List, [], length, find, Option, Some, None, true, false};
+ghost use Rattle.std.specs.Prelude.{◌≡◌, ◌+◌, ◌-◌, ◌*◌, ◌^◌, ◌≤◌, ◌<◌, ℕ, List, [], length, find, min, take, Option, Some, None, true, false};
 ghost use Rattle.world_face.specs.Tells.{Makes};
 ghost use Rattle.world_face.specs.Limits.{most_name};
 ghost use Rattle.tftp_server.specs.Packets.{error_octets, file_in, options_octets, request_in, terms_of};
-ghost use Rattle.tftp_server.specs.Transfers.{Transfer, acknowledged, came, is_for, measured, most_transfers, octets_of, place_of, requested, seeks_next, sends, settled, transfer};
+ghost use Rattle.tftp_server.specs.Transfers.{Transfer, acknowledged, came, is_for, measured, most_transfers, octets_of, place_of, requested, seeks_next, sends, sends_block, settled, transfer};
 ghost use Rattle.tftp_server.specs.Asking.{IsServed};
 ghost use Rattle.tftp_server.specs.Reading.{are_pairs};
 ghost use Rattle.tftp_server.specs.Serving.{said_by, IsFromServer};
-ghost use Rattle.tftp_server.specs.Rows.{folder_octets, seeking_length, sought, transfer_of};
+ghost use Rattle.tftp_server.specs.Rows.{folder_octets, next_of, seeking_length, sought, transfer_of};
 ghost use Rattle.tftp_server.specs.Blocks.{ReadsBlock};
 
 use crate::options::Agreed;
@@ -56,6 +56,28 @@ impl Tftp {
         ensures from { IsFromServer self.old.vhost result }
         ensures rest { self.new ≡ record self.old { transfers = self.new.transfers } }
         ensures few { length self.new.transfers ≤ 20 }
+    {
+        let reply = self.take_in(world, now, from, mac, body, into);
+        let _few = &self.rows;
+        reply
+    }
+
+    // What a packet says is done.
+    fn take_in<W: World>(
+        &mut self,
+        world: &mut W,
+        now: u64,
+        from: Endpoint,
+        mac: Mac,
+        body: &[u8],
+        into: &mut [u8],
+    ) -> Reply
+        requires moment { now ≤ 2 ^ 62 }
+        requires room { 1472 ≤ length into.old }
+        ensures serves { Makes (W.tells world.old) (W.tells world.new)
+            (IsServed now (came self.old.folder now mac.0 from body.now (settled self.old.transfers)) self.new.transfers (said_by result into.new)) }
+        ensures from { IsFromServer self.old.vhost result }
+        ensures rest { self.new ≡ record self.old { transfers = self.new.transfers } }
     {
         let asker = Asker { guest: from, mac };
         match read_packet(body) {
@@ -236,6 +258,24 @@ impl Tftp {
             };
             return refuse(self.vhost, NOT_DEFINED, asker, into);
         }
+        self.send_block(now, row, count, into)
+    }
+
+    // The next block of a file, so many octets that stand at the front of `into`, goes out.
+    fn send_block(&mut self, now: u64, mut row: Row, count: usize, into: &mut [u8]) -> Reply
+        requires moment { now ≤ 2 ^ 62 }
+        requires room { 1472 ≤ length into.old }
+        requires more { row.is_last ≡ false }
+        requires whole { count ≡ min (row.length - row.block * row.size) row.size }
+        requires few { length self.old.transfers < most_transfers }
+        requires fresh { find (is_for row.guest) self.old.transfers ≡ None }
+        ensures list { self.new ≡ record self.old {
+          transfers =
+              (sends_block now (take count into.old) (next_of self.old.folder row) self.old.transfers).files.transfers;
+        } }
+        ensures says { said_by result into.new ≡ (sends_block now (take count into.old) (next_of self.old.folder row) self.old.transfers).told }
+        ensures from { IsFromServer self.old.vhost result }
+    {
         row.packet = block_packet(row.block + 1, &into[..count]);
         row.block += 1;
         row.is_last = count < row.size as usize;

@@ -1,12 +1,12 @@
 //! Which file each port of a guest gets, how far it is, and what goes again (RFC 1350, 2 and 6).
-ghost use Rattle.std.specs.Prelude.{◌≡◌, ◌+◌, ◌^◌, ◌≤◌, ◌<◌, ◌++◌, ◌∷◌, ◌&&◌, ◌||◌, not, nat_le, nat_lt, [], length, find, position, IfOk, Some, None, true, false};
+ghost use Rattle.std.specs.Prelude.{◌≡◌, ◌+◌, ◌^◌, ◌≤◌, ◌<◌, ◌++◌, ◌∷◌, ◌&&◌, ◌||◌, not, nat_le, nat_lt, ℕ, List, [], length, find, position, IfOk, Option, Some, None, true, false};
 ghost use Rattle.host_policy.specs.Ranges.{IsSound};
 ghost use Rattle.host_policy.specs.Settings.{settings};
 ghost use Rattle.host_policy.specs.Targets.{same_endpoint};
 ghost use Rattle.net_octets.specs.declared.Endpoint.{Endpoint as AnEndpoint};
 ghost use Rattle.tftp_server.specs.Transfers.{is_for, without, with_room, sending, ticked, begun, most_transfers};
 ghost use Rattle.tftp_server.specs.Serving.{said_by, earlier, IsFromServer, IsNextDue};
-ghost use Rattle.tftp_server.specs.Rows.{transfer_of, IsSentAgain, TakesAcknowledged};
+ghost use Rattle.tftp_server.specs.Rows.{transfer_of, transfers_of, IsSentAgain, TakesAcknowledged};
 
 use crate::row::Row;
 use crate::{MOST_AGAIN, MOST_TRANSFERS, PORT};
@@ -90,11 +90,7 @@ impl Tftp {
     pub fn next_due(&self, now: u64) -> Option<u64>
         ensures { IsNextDue now self.now.transfers result }
     {
-        let mut next = None;
-        for row in self.rows.as_slice() {
-            next = earlier(now, row.due, next);
-        }
-        next
+        next_due(self.rows.as_slice(), now)
     }
 
     // The transfer of a guest's port ends.
@@ -195,6 +191,17 @@ fn count_again(rows: &mut [Row], place: usize, now: u64)
     let row = &mut rows[place];
     row.again += 1;
     row.due = now + row.timeout;
+}
+
+// The earliest moment after this one at which a packet is due to go again.
+fn next_due(rows: &[Row], now: u64) -> Option<u64>
+    ensures { (folder : Option (List ℕ)) → IsNextDue now (transfers_of folder rows.now) result }
+{
+    let mut next = None;
+    for row in rows {
+        next = earlier(now, row.due, next);
+    }
+    next
 }
 
 // The earlier of two moments after this one.
