@@ -1,0 +1,12 @@
+mod Agreeing
+mod Beginning
+mod Cutting
+mod Keeping
+mod Knowing
+mod Listing
+mod Naming
+mod Numbering
+mod Reading
+mod Serving
+mod Timing
+mod Writing
