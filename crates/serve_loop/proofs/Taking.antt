@@ -123,7 +123,7 @@ module _ (config : Config) (count : ℕ) (wants : List Want) (item : Want) (item
         let packet = packet_of config slirp.moment (waiting config past) (hands answer new) in
         let seg = is_segment c packet (ap coming_by packet_is ∙ brings_same config slirp.moment (waiting config past) frame ∙ sym (of_packet segment_in frame (Some c) brings)) in
         let unowed = done_is ∙ ap (λ (p : Packet). after_packet config slirp p (hands answer new) done.parts) seg.packet
-            ∙ ap (λ (l : List (List ℕ)). record slirp { pending = l; known = with_frame config (hands answer new) slirp.known; parts = done.parts }) (sym no_packet) in
+        ∙ ap (λ (l : List (List ℕ)). record slirp { pending = l; known = with_frame config (hands answer new) slirp.known; parts = done.parts }) (sym no_packet) in
         let h = read_segment config count wants item items reads_it slirp slirp.flows old new answer no_packet out made past allowed read holds done seg.mac seg.ip seg.tcp goes_on kept seg.packet unowed in
         subst (λ (k : Kept). Comes config (standing count wants items) done k new c (made ++ past)) same_flows
         (subst (λ (other : Coming). Comes config (standing count wants items) done slirp.flows new other (made ++ past)) seg.is h)

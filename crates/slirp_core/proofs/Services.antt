@@ -129,13 +129,13 @@ no_name config d to none goes = by (is_to_names config d) refl
     by true is =
         absurd (nowhere config.restricted (d.to.port == 0) ((d.to.port == 53) && not config.no_dns) config.resolver to none
         (sym (ap (λ (b : Bool).
-            if config.restricted then Denied Restricted
-            else (if d.to.port == 0 then Denied PortZero
-            else (if b then unwrap_or (option_map Go (if (d.to.port == 53) && not config.no_dns then config.resolver else None)) (Denied NameServer)
-            else (if address d.to == config.vhost then (if config.no_loopback then Denied HostLoopback else Go (endpoint loopback d.to.port))
-            else (if in_network config (address d.to) then Denied Network
-            else (if (first_octet (address d.to) == 0) || is_loopback (address d.to) || is_group_or_reserved (address d.to) then Denied Reserved
-            else Go d.to)))))) is)
+        if config.restricted then Denied Restricted
+        else (if d.to.port == 0 then Denied PortZero
+        else (if b then unwrap_or (option_map Go (if (d.to.port == 53) && not config.no_dns then config.resolver else None)) (Denied NameServer)
+        else (if address d.to == config.vhost then (if config.no_loopback then Denied HostLoopback else Go (endpoint loopback d.to.port))
+        else (if in_network config (address d.to) then Denied Network
+        else (if (first_octet (address d.to) == 0) || is_loopback (address d.to) || is_group_or_reserved (address d.to) then Denied Reserved
+        else Go d.to)))))) is)
         ∙ goes_to_target config d to goes))
     by false is = refl
 

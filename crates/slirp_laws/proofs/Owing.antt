@@ -348,8 +348,8 @@ module _ (config : Config) (past : List Entry) (octets : List ℕ) (answer : Io)
 
 by_write : (config : Config) (past : List Entry) (octets : List ℕ) (answer : Io) (t : List ℕ) → 28 ≤ config.mtu → tail past ≡ t → May config past (call_of (LinkWrite octets answer)) → OwingAt config past
     → IsOwed config (LinkWrite octets answer ∷ past) (taken (opens (LinkWrite octets answer) t) (again_frames config (identification past) (serving config past)) (left config past))
-        (with_datagrams (opens (LinkWrite octets answer) t) (datagrams_out past))
-        (if begins_again config (identification past) (ledger config past) (opens (LinkWrite octets answer) t) then by_said (may_go_again (serving config past)) (last_occasion config past) else last_occasion config past)
+    (with_datagrams (opens (LinkWrite octets answer) t) (datagrams_out past))
+    (if begins_again config (identification past) (ledger config past) (opens (LinkWrite octets answer) t) then by_said (may_go_again (serving config past)) (last_occasion config past) else last_occasion config past)
 by_write config past octets answer (x ∷ rest) fits clear may is = by_none config past octets answer fits may is
 by_write config past octets (IoDone n) [] fits clear may is = by_frame config past octets (IoDone n) fits may is (drop 4 octets) (left config past) refl (begins_so config past octets clear may.answered)
 by_write config past octets End [] fits clear may is = by_none config past octets End fits may is
@@ -508,7 +508,7 @@ taken_first config past octets answer t frame again out first =
     let b = begins_with frame (left config past) first in
     let here : bytes_eq frame frame ≡ true = subst (λ l. is_first frame l ≡ true) b.1 first in
     let after : taken (opens (LinkWrite octets answer) t) again (left config past) ≡ b.0 =
-        ap (λ o. taken o again (left config past)) out ∙ ap (taken (Some frame) again) b.1 ∙ ap (λ (c : Bool). if c then b.0 else frame ∷ b.0) here in
+    ap (λ o. taken o again (left config past)) out ∙ ap (taken (Some frame) again) b.1 ∙ ap (λ (c : Bool). if c then b.0 else frame ∷ b.0) here in
     b.1 ∙ ap (λ l. frame ∷ l) (sym after)
 
 pub others_stay : (config : Config) (e : Entry) (past : List Entry) (frame : List ℕ) → Lawful config (e ∷ past) → goes_out e past ≡ Some frame → is_first frame (left config past) ≡ true → left config past ≡ frame ∷ left config (e ∷ past)

@@ -138,7 +138,7 @@ replies config e past frame ip fits lawful out c udp =
     by_frame (Beside nothing is) = elim (beside config past frame nothing is) [
       | inl f ↦ absurd (no_udp config past frame ip f c udp)
       | inr other ↦ elim other [
-          | inl r ↦ absurd (no_request config past frame ip r c)
-          | inr g ↦ inr (inr (Again g))
-        ]
+        | inl r ↦ absurd (no_request config past frame ip r c)
+        | inr g ↦ inr (inr (Again g))
+      ]
     ]

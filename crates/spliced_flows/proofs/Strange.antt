@@ -377,7 +377,7 @@ written_calm : (config : Config) (past : List Entry) (octets : List ℕ) (answer
     → (b : Bool) → begins_again config (identification past) (ledger config past) (goes_out (LinkWrite octets answer) past) ≡ b → CalmIf config (LinkWrite octets answer ∷ past)
 written_calm config past octets answer fits lawful calm false is = λ ends.
     let same : last_occasion config (LinkWrite octets answer ∷ past) ≡ last_occasion config past =
-        ap (λ (b : Bool). if b then by_said (may_go_again (serving config past)) (last_occasion config past) else last_occasion config past) is in
+    ap (λ (b : Bool). if b then by_said (may_go_again (serving config past)) (last_occasion config past) else last_occasion config past) is in
     let before : HasEnds config past = subst (λ o. AreEnds (answered o)) same ends in
     after_write config past octets answer fits lawful before (calm before)
 written_calm config past octets answer fits lawful calm true is = λ ends. inr (subst (λ o. IsClear (book config (LinkWrite octets answer ∷ past)).flows (answered o)) (sym now) (clear (may_go_again (serving config past)) (goes_out (LinkWrite octets answer) past) is))
