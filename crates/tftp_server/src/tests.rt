@@ -1,14 +1,16 @@
-ghost use Rattle.std.specs.Prelude.{◌≡◌, [], IfOk};
+ghost use Rattle.std.specs.Prelude.{◌≡◌, ◌<◌, [], length, IfOk};
+ghost use Rattle.world_face.specs.Journal.{MayMeasure, MayReadFile};
 
 use super::*;
 use crate::row::Row;
 use arrayvec::{ArrayString, ArrayVec};
 use host_policy::{Reply, SlirpConfig};
 use net_octets::{Endpoint, Ip4, Mac};
-use replay::ScriptWorld;
 use std::alloc::Global;
 use std::test::Fail;
-use world_face::VecSink;
+use world_face::{
+    Accepted, FileSize, Got, Io, Joined, LinkAt, Made, ReadyList, Sent, Waited, Wants, World,
+};
 
 const GUEST: Endpoint = Endpoint {
     addr: Ip4(0x0a00020f),
@@ -17,21 +19,180 @@ const GUEST: Endpoint = Endpoint {
 
 const MAC: Mac = Mac([0x52, 0x54, 0x00, 0x12, 0x34, 0x56]);
 
-/// The calls on files that are made, each with its answer, and what happens at a moment: a packet of the guest, or, where it is empty, the time; and the octets that the guest is told then, none where it is told nothing.
+/// A call on a file, and its answer.
+enum Call {
+    Length(&'static str, FileSize),
+    /// So many octets are asked for from a place on, and these come; none where it ends there.
+    Read(&'static str, u64, usize, &'static [u8]),
+    /// It can't be read.
+    Unread(&'static str, u64, usize),
+}
+
+/// A World that answers calls on files by a list of calls, each of which has to be the next one, and tells nothing.
+#[derive(Drop)]
+struct Disk {
+    calls: &'static [Call],
+    made: usize,
+    is_right: bool,
+}
+
+impl Disk {
+    fn new(calls: &'static [Call]) -> Disk {
+        Disk {
+            calls,
+            made: 0,
+            is_right: true,
+        }
+    }
+
+    // The call that is to come next.
+    fn next(&mut self) -> Option<&'static Call> {
+        let call = self.calls.get(self.made)?;
+        self.made = self.made.saturating_add(1);
+        Some(call)
+    }
+
+    // Whether each call was the next one, and none is left.
+    fn is_done(&self) -> bool {
+        self.is_right && self.made == self.calls.len()
+    }
+
+    fn measure(&mut self, name: &str) -> FileSize
+        ensures { MayMeasure result }
+    {
+        if let Some(Call::Length(wanted, size)) = self.next() {
+            if *wanted == name {
+                return *size;
+            }
+        }
+        self.is_right = false;
+        FileSize::Failed
+    }
+
+    fn read(&mut self, name: &str, at: u64, into: &mut [u8]) -> Io
+        requires { 0 < length into.old }
+        ensures { MayReadFile (length into.old) result }
+    {
+        match self.next() {
+            Some(Call::Read(wanted, place, asked, octets)) => {
+                if *wanted == name
+                    && *place == at
+                    && *asked == into.len()
+                    && octets.len() <= into.len()
+                {
+                    if octets.is_empty() {
+                        return Io::End;
+                    }
+                    into[..octets.len()].copy_from_slice(octets);
+                    return Io::Done(octets.len());
+                }
+            }
+            Some(Call::Unread(wanted, place, asked)) => {
+                if *wanted == name && *place == at && *asked == into.len() {
+                    return Io::Failed;
+                }
+            }
+            _ => {}
+        }
+        self.is_right = false;
+        Io::Failed
+    }
+}
+
+impl World for Disk {
+    ghost use Rattle.std.specs.Prelude.{[], None, false};
+    ghost use Rattle.world_face.specs.Limits.{last_count};
+
+    ghost tells = { λ q. record { source = []; kept = []; live = false; stop = None; faults = record { link = last_count; wait = last_count; socket = last_count; file = last_count } } };
+
+    fn now(&mut self) -> u64 {
+        0
+    }
+
+    fn wait(&mut self, _wants: &Wants, _timeout: Option<u64>, ready: &mut ReadyList) -> Waited {
+        ready.clear();
+        Waited::Stop
+    }
+
+    fn link_open(&mut self, _at: &LinkAt) -> Made {
+        Made::Done
+    }
+
+    fn link_read(&mut self, _into: &mut [u8]) -> Io {
+        Io::NotYet
+    }
+
+    fn link_write(&mut self, _from: &[u8]) -> Io {
+        Io::NotYet
+    }
+
+    fn connect(&mut self, _c: u64, _to: Endpoint) -> Made {
+        Made::Done
+    }
+
+    fn connected(&mut self, _c: u64) -> Joined {
+        Joined::NotYet
+    }
+
+    fn listen(&mut self, _l: u64, _at: Endpoint) -> Made {
+        Made::Done
+    }
+
+    fn accept(&mut self, _l: u64, _c: u64) -> Accepted {
+        Accepted::NotYet
+    }
+
+    fn tcp_read(&mut self, _c: u64, _into: &mut [u8]) -> Io {
+        Io::NotYet
+    }
+
+    fn tcp_write(&mut self, _c: u64, _from: &[u8]) -> Io {
+        Io::NotYet
+    }
+
+    fn tcp_end(&mut self, _c: u64) -> Made {
+        Made::Done
+    }
+
+    fn close(&mut self, _s: u64) {}
+
+    fn udp_open(&mut self, _s: u64, _at: Endpoint) -> Made {
+        Made::Done
+    }
+
+    fn udp_send(&mut self, _s: u64, _to: Endpoint, _from: &[u8]) -> Sent {
+        Sent::Done
+    }
+
+    fn udp_recv(&mut self, _s: u64, _into: &mut [u8]) -> Got {
+        Got::NotYet
+    }
+
+    fn file_len(&mut self, name: &str) -> FileSize {
+        self.measure(name)
+    }
+
+    fn file_read(&mut self, name: &str, at: u64, into: &mut [u8]) -> Io {
+        self.read(name, at, into)
+    }
+}
+
+/// The calls on files that are made, and what happens at a moment: a packet of the guest, or, where it is empty, the time; and the octets that the guest is told then, none where it is told nothing.
 struct Case {
-    calls: &'static str,
+    calls: &'static [Call],
     steps: &'static [(u64, &'static [u8], &'static [u8])],
 }
 
-/// Files of the folder /srv: `/srv/b` is 2f7372762f62. Packets by RFC 1350, 2347, 2348 and 2349.
+/// Packets by RFC 1350, 2347, 2348 and 2349.
 const CASES: [Case; 9] = [
     // Two whole blocks, the first read in parts, and the empty one behind them; acknowledgements twice.
     Case {
-        calls: "flen 2f7372762f62 = len 16
-fread 2f7372762f62 0 8 = done 000102
-fread 2f7372762f62 3 5 = done 0304050607
-fread 2f7372762f62 8 8 = done 08090a0b0c0d0e0f
-",
+        calls: &[
+            Call::Length("boot/b", FileSize::Length(16)),
+            Call::Read("boot/b", 0, 8, b"\x00\x01\x02"),
+            Call::Read("boot/b", 3, 5, b"\x03\x04\x05\x06\x07"),
+            Call::Read("boot/b", 8, 8, b"\x08\x09\x0a\x0b\x0c\x0d\x0e\x0f"),
+        ],
         steps: &[
             (
                 0,
@@ -60,12 +221,13 @@ fread 2f7372762f62 8 8 = done 08090a0b0c0d0e0f
     },
     // Options that are refused; capitals, leading zeros, one that isn't known.
     Case {
-        calls: "flen 2f7372762f62 = len 10
-flen 2f7372762f62 = len 10
-flen 2f7372762f62 = len 10
-flen 2f7372762f62 = len 10
-flen 2f7372762f62 = len 10
-",
+        calls: &[
+            Call::Length("boot/b", FileSize::Length(10)),
+            Call::Length("boot/b", FileSize::Length(10)),
+            Call::Length("boot/b", FileSize::Length(10)),
+            Call::Length("boot/b", FileSize::Length(10)),
+            Call::Length("boot/b", FileSize::Length(10)),
+        ],
         steps: &[
             (
                 0,
@@ -94,7 +256,7 @@ flen 2f7372762f62 = len 10
     },
     // Requests that are refused without a call.
     Case {
-        calls: "",
+        calls: &[],
         steps: &[
             (0, b"\x00\x01b\0octet", b"\x00\x05\x00\x04\x00"),
             (0, b"\x00\x01b\0octet\0tsize\0", b"\x00\x05\x00\x04\x00"),
@@ -114,9 +276,10 @@ flen 2f7372762f62 = len 10
     },
     // A file that isn't there, and one that can't be looked at.
     Case {
-        calls: "flen 2f7372762f62 = missing
-flen 2f7372762f2e2e2e = fail
-",
+        calls: &[
+            Call::Length("boot/b", FileSize::Missing),
+            Call::Length("boot/...", FileSize::Failed),
+        ],
         steps: &[
             (0, b"\x00\x01b\0octet\0", b"\x00\x05\x00\x01\x00"),
             (0, b"\x00\x01...\0octet\0", b"\x00\x05\x00\x00\x00"),
@@ -124,9 +287,10 @@ flen 2f7372762f2e2e2e = fail
     },
     // The first block isn't acknowledged.
     Case {
-        calls: "flen 2f7372762f62 = len 2
-fread 2f7372762f62 0 2 = done 6869
-",
+        calls: &[
+            Call::Length("boot/b", FileSize::Length(2)),
+            Call::Read("boot/b", 0, 2, b"\x68\x69"),
+        ],
         steps: &[
             (7, b"\x00\x01b\0octet\0", b"\x00\x03\x00\x01hi"),
             (5006, b"", b""),
@@ -141,11 +305,12 @@ fread 2f7372762f62 0 2 = done 6869
     },
     // The file ends in its second block.
     Case {
-        calls: "flen 2f7372762f62 = len 20
-fread 2f7372762f62 0 8 = done 0001020304050607
-fread 2f7372762f62 8 8 = done 08
-fread 2f7372762f62 9 7 = end
-",
+        calls: &[
+            Call::Length("boot/b", FileSize::Length(20)),
+            Call::Read("boot/b", 0, 8, b"\x00\x01\x02\x03\x04\x05\x06\x07"),
+            Call::Read("boot/b", 8, 8, b"\x08"),
+            Call::Read("boot/b", 9, 7, b""),
+        ],
         steps: &[
             (
                 0,
@@ -164,8 +329,7 @@ fread 2f7372762f62 9 7 = end
     },
     // A file without octets; the guest gives up.
     Case {
-        calls: "flen 2f7372762f62 = len 0
-",
+        calls: &[Call::Length("boot/b", FileSize::Length(0))],
         steps: &[
             (0, b"\x00\x01b\0octet\0", b"\x00\x03\x00\x01"),
             (1, b"\x00\x05\x00", b""),
@@ -176,10 +340,11 @@ fread 2f7372762f62 9 7 = end
     },
     // A request ends the transfer before it, though it is refused.
     Case {
-        calls: "flen 2f7372762f62 = len 1
-fread 2f7372762f62 0 1 = fail
-flen 2f7372762f62 = len 0
-",
+        calls: &[
+            Call::Length("boot/b", FileSize::Length(1)),
+            Call::Unread("boot/b", 0, 1),
+            Call::Length("boot/b", FileSize::Length(0)),
+        ],
         steps: &[
             (0, b"\x00\x01b\0octet\0", b"\x00\x05\x00\x00\x00"),
             (0, b"\x00\x01b\0octet\0", b"\x00\x03\x00\x01"),
@@ -189,18 +354,42 @@ flen 2f7372762f62 = len 0
     },
     // A name with folders in it.
     Case {
-        calls: "flen 2f7372762f612f2e622e2e = len 0
-",
+        calls: &[Call::Length("boot/a/.b..", FileSize::Length(0))],
         steps: &[(0, b"\x00\x01a/.b..\0octet\0", b"\x00\x03\x00\x01")],
     },
 ];
 
-// A server of the files in /srv.
+/// 21 files without octets.
+const EMPTY_FILES: [Call; 21] = [
+    Call::Length("boot/b", FileSize::Length(0)),
+    Call::Length("boot/b", FileSize::Length(0)),
+    Call::Length("boot/b", FileSize::Length(0)),
+    Call::Length("boot/b", FileSize::Length(0)),
+    Call::Length("boot/b", FileSize::Length(0)),
+    Call::Length("boot/b", FileSize::Length(0)),
+    Call::Length("boot/b", FileSize::Length(0)),
+    Call::Length("boot/b", FileSize::Length(0)),
+    Call::Length("boot/b", FileSize::Length(0)),
+    Call::Length("boot/b", FileSize::Length(0)),
+    Call::Length("boot/b", FileSize::Length(0)),
+    Call::Length("boot/b", FileSize::Length(0)),
+    Call::Length("boot/b", FileSize::Length(0)),
+    Call::Length("boot/b", FileSize::Length(0)),
+    Call::Length("boot/b", FileSize::Length(0)),
+    Call::Length("boot/b", FileSize::Length(0)),
+    Call::Length("boot/b", FileSize::Length(0)),
+    Call::Length("boot/b", FileSize::Length(0)),
+    Call::Length("boot/b", FileSize::Length(0)),
+    Call::Length("boot/b", FileSize::Length(0)),
+    Call::Length("boot/b", FileSize::Length(0)),
+];
+
+// A server of the files in a folder.
 fn server(alloc: Global) -> Result<Tftp, Fail>
     ensures { IfOk result (λ t. t.transfers ≡ []) }
 {
     let mut config = SlirpConfig::usual();
-    let Ok(folder) = ArrayString::from("/srv") else {
+    let Ok(folder) = ArrayString::from("boot") else {
         return Err(Fail::from("too long"));
     };
     config.tftp_path = Some(folder);
@@ -216,7 +405,7 @@ fn server(alloc: Global) -> Result<Tftp, Fail>
 // What the guest at a port is told.
 fn told<'a>(
     tftp: &mut Tftp,
-    world: &mut ScriptWorld,
+    world: &mut Disk,
     port: u16,
     now: u64,
     body: &[u8],
@@ -253,27 +442,21 @@ fn told<'a>(
 #[test]
 fn packets_are_answered_and_files_are_read(rt: HostRuntime) -> Result<(), Fail> {
     for case in &CASES {
-        let mut world = ScriptWorld::read(rt.alloc(), case.calls.as_bytes())?;
+        let mut world = Disk::new(case.calls);
         let mut tftp = server(rt.alloc())?;
         for (now, body, wanted) in case.steps {
             let mut into = [0xee; 1472];
             let got = told(&mut tftp, &mut world, GUEST.port, *now, body, &mut into);
-            assert_eq!(rt; got, *wanted, "at {now} of {}", case.calls);
+            assert_eq!(rt; got, *wanted, "at {now}");
         }
-        let mut out = VecSink::open(rt.alloc(), 1_000, None)?;
-        assert!(rt; world.print(&mut out).is_ok());
-        assert_eq!(rt; out.octets(), case.calls.as_bytes());
+        assert!(rt; world.is_done());
     }
     Ok(())
 }
 
 #[test]
 fn a_21st_transfer_takes_the_place_of_the_longest_unused(rt: HostRuntime) -> Result<(), Fail> {
-    let mut calls = String::new(rt.alloc());
-    for _ in 0..21 {
-        calls.push_str("flen 2f7372762f62 = len 0\n")?;
-    }
-    let mut world = ScriptWorld::read(rt.alloc(), calls.as_bytes())?;
+    let mut world = Disk::new(&EMPTY_FILES);
     let mut tftp = server(rt.alloc())?;
     for k in 0..21u16 {
         let mut into = [0; 1472];
@@ -304,11 +487,11 @@ fn a_21st_transfer_takes_the_place_of_the_longest_unused(rt: HostRuntime) -> Res
 
 #[test]
 fn block_numbers_begin_again_behind_65535(rt: HostRuntime) -> Result<(), Fail> {
-    let calls = "fread 2f7372762f62 524272 8 = done 6161616161616161
-fread 2f7372762f62 524280 8 = done 6262626262626262
-fread 2f7372762f62 524288 1 = done 63
-";
-    let mut world = ScriptWorld::read(rt.alloc(), calls.as_bytes())?;
+    let mut world = Disk::new(&[
+        Call::Read("boot/b", 524_272, 8, b"aaaaaaaa"),
+        Call::Read("boot/b", 524_280, 8, b"bbbbbbbb"),
+        Call::Read("boot/b", 524_288, 1, b"c"),
+    ]);
     let mut tftp = server(rt.alloc())?;
     let Ok(name) = ArrayString::from("b") else {
         return Err(Fail::from("too long"));
@@ -337,6 +520,6 @@ fread 2f7372762f62 524288 1 = done 63
         let got = told(&mut tftp, &mut world, GUEST.port, 1, number, &mut into);
         assert_eq!(rt; got, wanted);
     }
-    assert!(rt; world.divergence().is_none());
+    assert!(rt; world.is_done());
     Ok(())
 }
