@@ -1,6 +1,4 @@
 // Files, and a wait that takes its time.
-ghost use Rattle.std.specs.Prelude.{◌≤◌};
-
 use crate::asker::{Asker, LINK};
 use net_world::NetWorld;
 use std::alloc::Global;

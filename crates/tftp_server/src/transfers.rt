@@ -82,8 +82,7 @@ impl Tftp {
     pub fn end_over(&mut self, now: u64)
         ensures { self.new ≡ record self.old { transfers = ticked now false self.old.transfers } }
     {
-        self.rows
-            .retain(|row| now < row.due || row.again < MOST_AGAIN);
+        self.rows.retain(|row| is_left(row, now));
     }
 
     /// The earliest moment after this one at which a packet is due to go again. None exactly where there is none.
