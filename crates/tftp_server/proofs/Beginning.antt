@@ -2,7 +2,7 @@
 use Rattle.std.proofs.Common.{◌≡◌, ℕ, nat_eq, codes, Bool, true, false, cond, List, length, Option, Some, None, is_some, option_map, refl, sym, ◌∙◌, ap}
 use Rattle.net_octets.specs.declared.Endpoint.{Endpoint}
 use Rattle.tftp_server.specs.Packets.{Request, Terms, file_in, is_name, options_octets, says}
-use Rattle.tftp_server.specs.Transfers.{Outcome, Sought, SeeksLength, Transfer, measured, refuses, requested, requested_file, seeks_next, sends, transfer, with_room}
+use Rattle.tftp_server.specs.Transfers.{Sought, SeeksLength, Transfer, measured, refuses, requested, requested_file, seeks_next, sends, transfer, with_room}
 use Rattle.tftp_server.specs.Reading.{name_taken}
 
 -- no option is answered, or some are

@@ -1,10 +1,10 @@
 -- The octets of a block are those that its calls brought.
-use Rattle.std.proofs.Common.{◌≡◌, ℕ, ◌+◌, ◌-◌, ◌<◌, ◌≤◌, ◌%◌, ◌^◌, ◌⊎◌, inl, inr, nat_le, Bool, true, false, cond, List, [], ◌∷◌, ◌++◌, length, Option, Some, None, refl, sym, ◌∙◌, ap, subst, arith}
-use Rattle.world_face.specs.Journal.{Call, Entry, FileRead, CallFileRead, call_of}
+use Rattle.std.proofs.Common.{◌≡◌, ℕ, ◌+◌, ◌-◌, ◌%◌, ◌^◌, ◌⊎◌, inl, inr, nat_le, Bool, true, false, cond, List, [], ◌∷◌, ◌++◌, length, Option, Some, None, refl, sym, ◌∙◌, ap, subst}
+use Rattle.world_face.specs.Journal.{Entry, FileRead, CallFileRead, call_of}
 use Rattle.world_face.specs.declared.Io.{Io}
 use Rattle.world_face.specs.declared.Io.TheVariants.{Done, End, NotYet, Failed}
 use Rattle.tftp_server.specs.Packets.{block_octets}
-use Rattle.tftp_server.specs.Transfers.{Outcome, Quest, Said, SeeksOctets, Settled, Transfer, octets_of, place_of, reads_on, refuses, seeks_block, sends_block, told_octets}
+use Rattle.tftp_server.specs.Transfers.{Outcome, Said, SeeksOctets, Settled, Transfer, octets_of, place_of, reads_on, refuses, seeks_block, sends_block, told_octets}
 use Rattle.tftp_server.specs.Asking.{AreAskedFor, IsServed, after_calls, by_answer, call_for, or_outcome}
 use Rattle.tftp_server.specs.Laws.{AreReadsOf, IsRead, octets_done, octets_read}
 use Rattle.tftp_server.proofs.Reading.{from_none, seeking}

@@ -1,9 +1,9 @@
 -- Texts that are cut off one after another.
 use Rattle.std.proofs.Common.{◌≡◌, ℕ, suc, ◌+◌, ◌==◌, not, Bool, true, false, cond, ltb, List, [], ◌∷◌, ◌++◌, length, take, drop, position, Option, Some, None, is_some, unwrap_or, option_map, refl, sym, ◌∙◌, ap, arith, append_assoc, append-nil}
-use Rattle.std.specs.List.{list_all, position_or_len}
+use Rattle.std.specs.List.{position_or_len}
 use Rattle.std.specs.Option.{option_and_then}
 use Rattle.std.proofs.lemmas.Bool.Decides.{nat_tests}
-use Rattle.tftp_server.specs.Packets.{Request, is_part, pairs_of, parts_from, request_in, request_of, texts_from, texts_in}
+use Rattle.tftp_server.specs.Packets.{Request, pairs_of, parts_from, request_in, request_of, texts_from, texts_in}
 use Rattle.tftp_server.specs.Reading.{are_pairs, cut, first_pair, options_of, pair_with, pairs_in, with_front}
 
 -- the parts at a place

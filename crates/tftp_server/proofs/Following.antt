@@ -1,7 +1,7 @@
 -- A block goes out only after the acknowledgement of the one before.
-use Rattle.std.proofs.Common.{◌≡◌, ℕ, ◌+◌, ◌<◌, ◌≤◌, ◌%◌, ◌^◌, ◌⊎◌, inl, inr, nat_eq, nat_le, not, codes, Bool, true, false, cond, All, Contains, List, [], ◌∷◌, ◌++◌, length, drop, filter, find, Option, Some, None, refl, sym, ◌∙◌, ap, subst, arith}
+use Rattle.std.proofs.Common.{◌≡◌, ℕ, ◌+◌, ◌%◌, ◌^◌, ◌⊎◌, inl, inr, nat_eq, nat_le, not, codes, Bool, true, false, cond, All, Contains, List, [], ◌∷◌, ◌++◌, length, drop, filter, find, Option, Some, None, refl, sym, ◌∙◌, ap, subst, arith}
 use Rattle.std.proofs.lemmas.Bool.Decides.{nat_tests}
-use Rattle.std.proofs.lemmas.List.Elements.{All-cons, All-drop, All-head, All-nil, All-push, All-tail, Contains-get_or}
+use Rattle.std.proofs.lemmas.List.Elements.{All-cons, All-drop, All-head, All-push, All-tail, Contains-get_or}
 use Rattle.net_octets.specs.declared.Endpoint.{Endpoint}
 use Rattle.world_face.specs.Journal.{Entry, FileLen, FileRead}
 use Rattle.world_face.specs.declared.FileSize.{FileSize}
@@ -9,7 +9,7 @@ use Rattle.world_face.specs.declared.FileSize.TheVariants.{Length, Missing, Fail
 use Rattle.world_face.specs.declared.Io.{Io}
 use Rattle.world_face.specs.declared.Io.TheVariants.{Done, End, NotYet, Failed}
 use Rattle.tftp_server.specs.Packets.{Packet, Asks, AsksToWrite, Acknowledges, GivesUp, Unheard, Request, Terms, file_in, is_name, options_octets, packet_in, request_in, says, terms_of}
-use Rattle.tftp_server.specs.Transfers.{Outcome, Quest, Said, SeeksLength, SeeksOctets, Settled, Sought, Transfer, acknowledged, begins, came, is_for, leaves, length_came, measured, octets_came, octets_of, reads_on, refuses, requested, requested_file, seeks_block, seeks_next, sending, sends, sends_block, settled, taken_in, told_length, told_octets, transfer, with_room, without}
+use Rattle.tftp_server.specs.Transfers.{Outcome, Quest, Said, SeeksLength, SeeksOctets, Settled, Sought, Transfer, acknowledged, begins, came, is_for, leaves, length_came, measured, octets_came, octets_of, reads_on, refuses, requested, requested_file, seeks_block, seeks_next, sending, sends, sends_block, settled, taken_in, transfer, with_room, without}
 use Rattle.tftp_server.specs.Asking.{IsServed, after_calls, by_answer, or_outcome}
 use Rattle.tftp_server.specs.Laws.{IsBegun, IsNext}
 

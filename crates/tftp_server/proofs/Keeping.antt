@@ -1,11 +1,11 @@
 -- Rows, and the transfers that they stand for.
-use Rattle.std.proofs.Common.{◌≡◌, ℕ, zero, suc, ◌+◌, ◌%◌, ◌<◌, ◌&&◌, nat_eq, nat_le, nat_lt, Bool, true, false, cond, List, [], ◌∷◌, ◌++◌, length, map, find, position, take, drop, get_or, set, Option, Some, None, option_map, refl, sym, ◌∙◌, ap, subst, arith}
+use Rattle.std.proofs.Common.{◌≡◌, ℕ, zero, suc, ◌%◌, ◌<◌, ◌&&◌, nat_eq, nat_le, nat_lt, Bool, true, false, cond, List, [], ◌∷◌, ◌++◌, length, map, find, position, take, drop, get_or, set, Option, Some, None, option_map, refl, sym, ◌∙◌, ap, subst, arith}
 use Rattle.std.proofs.lemmas.Bool.Decides.{nat_tests}
 use Rattle.std.proofs.lemmas.List.{get_or-map, length-map, map-append, map-set, take-map}
 use Rattle.std.proofs.lemmas.List.Quantifiers.{position-Some}
 use Rattle.net_octets.specs.declared.Endpoint.{Endpoint}
 use Rattle.host_policy.specs.Targets.{same_endpoint}
-use Rattle.tftp_server.specs.Transfers.{Outcome, Transfer, acknowledged, goes_again, is_for, leaves, seeks_next, sent_again, without}
+use Rattle.tftp_server.specs.Transfers.{Transfer, acknowledged, goes_again, is_for, leaves, seeks_next, sent_again, without}
 use Rattle.tftp_server.specs.Rows.{AreApart, transfer_of, transfers_of}
 use Rattle.tftp_server.specs.declared.row.Row.{Row}
 use Rattle.tftp_server.proofs.Listing.{apart_push, find_map, position_none, position_some, removed, same_is}

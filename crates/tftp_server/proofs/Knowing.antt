@@ -4,7 +4,7 @@ use Rattle.std.specs.List.{list_any}
 use Rattle.std.specs.Option.{option_and_then}
 use Rattle.std.proofs.lemmas.Bool.Decides.{nat_tests}
 use Rattle.tftp_server.specs.Packets.{Terms, answers, has_answered, number_in, says, small, terms_from, with_option, with_size, with_timeout}
-use Rattle.tftp_server.specs.Options.{answered_pair, known_by, name_of, with_known}
+use Rattle.tftp_server.specs.Options.{known_by, name_of, with_known}
 use Rattle.tftp_server.specs.declared.options.Known.{Known}
 use Rattle.tftp_server.specs.declared.options.Known.TheVariants.{BlockSize, Timeout, FileSize}
 use Rattle.tftp_server.specs.declared.options.Answer.{Answer}

@@ -1,5 +1,5 @@
 -- Lists of transfers of which no two are for one port of a guest.
-use Rattle.std.proofs.Common.{◌≡◌, ℕ, zero, suc, ◌+◌, ◌<◌, ◌&&◌, nat_eq, ltb, not, Bool, true, false, cond, List, [], ◌∷◌, ◌++◌, length, map, filter, find, position, take, drop, get_or, set, slice_get, Option, Some, None, option_map, refl, sym, ◌∙◌, ap, subst, arith}
+use Rattle.std.proofs.Common.{◌≡◌, ℕ, zero, suc, ◌<◌, ◌&&◌, nat_eq, ltb, not, Bool, true, false, cond, List, [], ◌∷◌, ◌++◌, length, map, filter, find, position, take, drop, get_or, set, slice_get, Some, None, option_map, refl, sym, ◌∙◌, ap, subst, arith}
 use Rattle.std.specs.List.{position_or_len}
 use Rattle.std.proofs.lemmas.Bool.Decides.{nat_tests}
 use Rattle.std.proofs.lemmas.List.Folds.{find_at}

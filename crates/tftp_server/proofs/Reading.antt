@@ -1,12 +1,12 @@
 -- A block that is read, call by call.
-use Rattle.std.proofs.Common.{◌≡◌, ℕ, ◌+◌, ◌-◌, ◌<◌, ◌≤◌, nat_eq, nat_le, Bool, true, false, cond, List, [], ◌∷◌, ◌++◌, length, take, drop, Option, Some, None, refl, sym, ◌∙◌, ap, subst, arith}
+use Rattle.std.proofs.Common.{◌≡◌, ℕ, ◌+◌, ◌-◌, ◌<◌, ◌≤◌, nat_eq, nat_le, true, false, cond, List, [], ◌∷◌, ◌++◌, length, Some, None, refl, sym, ◌∙◌, ap, subst, arith}
 use Rattle.std.proofs.lemmas.Bool.Decides.{nat_tests}
-use Rattle.world_face.specs.Journal.{Call, Entry, FileRead, CallFileRead, Allowed}
+use Rattle.world_face.specs.Journal.{Entry, FileRead, CallFileRead}
 use Rattle.world_face.specs.Tells.{Answers, Makes, Telling}
 use Rattle.world_face.specs.declared.Io.{Io}
 use Rattle.world_face.specs.declared.Io.TheVariants.{Done, End, NotYet, Failed}
 use Rattle.world_face.proofs.Telling.{makes_as, makes_next, makes_none}
-use Rattle.tftp_server.specs.Transfers.{Outcome, Transfer, octets_of, place_of, reads_on, refuses, seeks_block, sends_block, Files, Quest, SeeksOctets, told_octets}
+use Rattle.tftp_server.specs.Transfers.{Outcome, Transfer, octets_of, place_of, reads_on, refuses, seeks_block, sends_block, SeeksOctets, told_octets}
 use Rattle.tftp_server.specs.Asking.{AreAskedFor, after_calls, by_answer, call_for, or_outcome}
 use Rattle.tftp_server.specs.Blocks.{ReadsBlock, ReadsOn}
 

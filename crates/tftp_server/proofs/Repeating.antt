@@ -1,7 +1,7 @@
 -- How often a packet goes again, and when.
-use Rattle.std.proofs.Common.{◌≡◌, ℕ, ◌+◌, ◌*◌, ◌<◌, ◌≤◌, ◌&&◌, nat_le, nat_lt, Bool, true, false, cond, Contains, List, [], ◌∷◌, ◌++◌, length, find, Option, Some, None, option_map, refl, sym, ◌∙◌, ap, arith}
+use Rattle.std.proofs.Common.{◌≡◌, ℕ, ◌+◌, ◌*◌, ◌<◌, ◌≤◌, nat_le, nat_lt, Bool, true, false, cond, Contains, List, [], ◌∷◌, length, find, Option, Some, None, option_map, refl, sym, ◌∙◌, ap, arith}
 use Rattle.std.proofs.lemmas.Bool.Decides.{nat_tests}
-use Rattle.std.proofs.lemmas.List.Elements.{Contains-append_left, Contains-append_right}
+use Rattle.std.proofs.lemmas.List.Elements.{Contains-append_right}
 use Rattle.tftp_server.specs.Transfers.{Said, Transfer, begun, goes_again, is_due, next_again, said_again, sending}
 use Rattle.tftp_server.specs.Laws.{AreApartBy, WentAgain, after_again}
 use Rattle.tftp_server.proofs.Naming.{both}

@@ -1,6 +1,6 @@
 -- Calls that a packet asks for, one after another.
-use Rattle.std.proofs.Common.{◌≡◌, ℕ, Bool, true, false, List, [], ◌∷◌, ◌++◌, Option, Some, None, refl, sym, ◌∙◌, ap, subst}
-use Rattle.world_face.specs.Journal.{Call, Entry, FileLen, call_of}
+use Rattle.std.proofs.Common.{◌≡◌, ℕ, true, false, List, [], ◌∷◌, ◌++◌, Option, Some, refl, sym, ◌∙◌, ap, subst}
+use Rattle.world_face.specs.Journal.{Entry, call_of}
 use Rattle.world_face.specs.Tells.{Makes, Telling, Answers}
 use Rattle.world_face.proofs.Telling.{makes_as, makes_none, makes_one, makes_then}
 use Rattle.tftp_server.specs.Transfers.{Outcome, Said, Settled, Transfer, refuses, seeks_block, sends_block}

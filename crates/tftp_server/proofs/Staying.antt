@@ -1,10 +1,10 @@
 -- Names stay in the folder.
-use Rattle.std.proofs.Common.{◌≡◌, ◌≢◌, ℕ, ◌+◌, ◌&&◌, ◌%◌, ◌^◌, nat_eq, bytes_eq, codes, not, Bool, true, false, cond, All, List, [], ◌∷◌, find, Option, Some, None, refl, sym, ◌∙◌, ap}
+use Rattle.std.proofs.Common.{◌≡◌, ◌≢◌, ℕ, ◌+◌, ◌&&◌, ◌%◌, ◌^◌, nat_eq, bytes_eq, codes, not, Bool, true, false, cond, All, List, [], ◌∷◌, find, Option, Some, None, refl, sym, ap}
 use Rattle.std.specs.List.{list_all}
 use Rattle.std.proofs.lemmas.List.Elements.{All-cons, All-nil}
 use Rattle.net_octets.specs.declared.Endpoint.{Endpoint}
 use Rattle.tftp_server.specs.Packets.{Packet, Asks, AsksToWrite, Acknowledges, GivesUp, Unheard, Request, file_in, is_name, is_part, parts_from, request_in, says}
-use Rattle.tftp_server.specs.Transfers.{Outcome, Quest, Settled, SeeksLength, SeeksOctets, Sought, Transfer, acknowledged, is_for, leaves, octets_of, refuses, requested, requested_file, seeks_next, sends_block, taken_in, without}
+use Rattle.tftp_server.specs.Transfers.{SeeksLength, SeeksOctets, Sought, Transfer, acknowledged, is_for, leaves, octets_of, refuses, requested, requested_file, seeks_next, sends_block, taken_in, without}
 use Rattle.tftp_server.specs.Laws.{IsBelow, IsInFolder}
 use Rattle.tftp_server.proofs.Naming.{both, is_taken}
 

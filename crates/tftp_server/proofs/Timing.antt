@@ -1,10 +1,10 @@
 -- The earliest moment after another, and what a tick leaves.
-use Rattle.std.proofs.Common.{◌≡◌, ℕ, zero, suc, ◌+◌, ◌<◌, ◌≤◌, nat_le, nat_lt, not, ◌&&◌, ◌||◌, Bool, true, false, cond, All, Any, List, [], ◌∷◌, ◌++◌, length, map, find, take, drop, get_or, set, Option, Some, None, option_map, refl, sym, ◌∙◌, ap, subst, arith, append-nil}
+use Rattle.std.proofs.Common.{◌≡◌, ℕ, zero, suc, ◌+◌, ◌<◌, ◌≤◌, nat_le, nat_lt, not, ◌||◌, Bool, true, false, cond, Any, List, [], ◌∷◌, ◌++◌, length, find, take, drop, get_or, set, Option, Some, None, option_map, refl, sym, ◌∙◌, ap, subst, arith}
 use Rattle.std.proofs.lemmas.Bool.Decides.{nat_tests}
 use Rattle.std.proofs.lemmas.List.{length-append, map-append, take-append-le, take_all, take_more}
 use Rattle.std.proofs.lemmas.List.Elements.{All-push, All-weaker}
 use Rattle.std.proofs.lemmas.List.Quantifiers.{Any-push}
-use Rattle.tftp_server.specs.Transfers.{Said, Transfer, are_left, begun, goes_again, is_due, next_again, said_again, sent_again, ticked, ticked_by, with_again}
+use Rattle.tftp_server.specs.Transfers.{Transfer, are_left, begun, goes_again, is_due, next_again, said_again, sent_again, ticked, ticked_by, with_again}
 use Rattle.tftp_server.specs.Serving.{IsNextDue, earlier}
 use Rattle.tftp_server.specs.Rows.{AreApart, transfer_of, transfers_of}
 use Rattle.tftp_server.specs.declared.row.Row.{Row}

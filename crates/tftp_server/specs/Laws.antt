@@ -1,10 +1,10 @@
 -- The words of the laws.
-use Rattle.std.specs.Prelude.{◌≡◌, ◌≢◌, ℕ, ◌+◌, ◌-◌, ◌*◌, ◌%◌, ◌^◌, ◌≤◌, ◌⊎◌, Bool, true, false, All, Contains, List, [], ◌∷◌, ◌++◌, length, find, codes, Option, Some, None}
+use Rattle.std.specs.Prelude.{◌≡◌, ◌≢◌, ℕ, ◌+◌, ◌-◌, ◌*◌, ◌%◌, ◌^◌, ◌≤◌, ◌⊎◌, true, false, List, [], ◌∷◌, ◌++◌, length, find, codes, Option, Some}
 use Rattle.net_octets.specs.declared.Endpoint.{Endpoint}
 use Rattle.world_face.specs.Journal.{Entry, FileRead}
 use Rattle.world_face.specs.declared.Io.{Io}
 use Rattle.world_face.specs.declared.Io.TheVariants.{Done, End, NotYet, Failed}
-use Rattle.tftp_server.specs.Packets.{Asks, Acknowledges, block_octets, file_in, is_name, packet_in, parts_from}
+use Rattle.tftp_server.specs.Packets.{Asks, Acknowledges, block_octets, file_in, is_name, packet_in}
 use Rattle.tftp_server.specs.Transfers.{Said, Transfer, goes_again, is_for, octets_of, place_of, refuses, sent_again}
 
 -- a part of a name that leads neither back to its folder nor above it

@@ -1,5 +1,5 @@
 -- The options that are known, as the code keeps them.
-use Rattle.std.specs.Prelude.{◌≡◌, ℕ, ◌+◌, ◌==◌, Bool, List, [], length, bytes_eq, codes, map, Option, Some, None, option_map, if◌then◌else◌}
+use Rattle.std.specs.Prelude.{◌≡◌, ℕ, ◌+◌, Bool, List, length, bytes_eq, codes, Option, Some, None, option_map, if◌then◌else◌}
 use Rattle.std.specs.List.{list_any}
 use Rattle.tftp_server.specs.Packets.{Terms, answers, number_in, says, with_size, with_timeout}
 use Rattle.tftp_server.specs.declared.options.Known.{Known}

@@ -1,5 +1,5 @@
 -- Transfers as the code keeps them: the names of files without their folder.
-use Rattle.std.specs.Prelude.{◌≡◌, ℕ, ◌+◌, ◌<◌, List, [], ◌∷◌, length, map, find, Bool, true, Option, Some, None, option_map, unwrap_or, slice_index_or, slice_set, if◌then◌else◌}
+use Rattle.std.specs.Prelude.{◌≡◌, ℕ, ◌+◌, ◌<◌, List, [], ◌∷◌, length, map, find, Option, Some, None, unwrap_or, slice_index_or, slice_set, if◌then◌else◌}
 use Rattle.net_octets.specs.declared.Endpoint.{Endpoint}
 use Rattle.tftp_server.specs.Packets.{file_in}
 use Rattle.tftp_server.specs.Transfers.{Outcome, Sought, SeeksLength, Transfer, acknowledged, is_for, leaves, seeks_next, sent_again, without}

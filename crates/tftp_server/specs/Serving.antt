@@ -1,7 +1,5 @@
 -- What contracts see of the server, and what it tells a guest.
-use Rattle.std.specs.Prelude.{◌≡◌, ℕ, ◌≤◌, ◌<◌, nat_le, All, Any, List, take, Option, Some, None, option_map, unwrap_or, [], if◌then◌else◌}
-use Rattle.net_octets.specs.declared.Endpoint.{Endpoint}
-use Rattle.net_octets.specs.declared.Mac.{Mac}
+use Rattle.std.specs.Prelude.{◌≡◌, ℕ, ◌≤◌, ◌<◌, nat_le, All, Any, List, take, Option, Some, None, if◌then◌else◌}
 use Rattle.host_policy.specs.Addresses.{endpoint}
 use Rattle.host_policy.specs.declared.Reply.{Reply}
 use Rattle.host_policy.specs.declared.Reply.TheVariants.{Nothing, Datagram, Unreachable}

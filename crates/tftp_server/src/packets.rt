@@ -8,13 +8,16 @@ ghost use Rattle.tftp_server.specs.Reading.{are_pairs, cut, first_pair, name_tak
 use crate::MOST_NAME;
 use byteorder::{BigEndian, ByteOrder};
 
-/// Opcodes (RFC 1350, 5).
+/// Opcodes: a read request (RFC 1350, 5).
 const READ: u16 = 1;
 
+/// A write request.
 const WRITE: u16 = 2;
 
+/// An acknowledgement.
 const ACK: u16 = 4;
 
+/// An error.
 const ERROR: u16 = 5;
 
 /// What a guest's packet says.

@@ -20,15 +20,19 @@ use host_policy::Reply;
 use net_octets::{Endpoint, Ip4, Mac};
 use world_face::{FileSize, Io, World};
 
-/// The numbers of errors (RFC 1350, 5; RFC 2347).
+/// An error that has no number of its own (RFC 1350, 5).
 const NOT_DEFINED: u16 = 0;
 
+/// File not found.
 const NOT_FOUND: u16 = 1;
 
+/// Access violation.
 const ACCESS_VIOLATION: u16 = 2;
 
+/// Illegal TFTP operation.
 const ILLEGAL_OPERATION: u16 = 4;
 
+/// Options refused (RFC 2347).
 const OPTIONS_REFUSED: u16 = 8;
 
 /// A port of a guest, and the hardware address from which its packet came.
@@ -62,7 +66,7 @@ impl Tftp {
         reply
     }
 
-    // What a packet says is done.
+    // A packet is taken in, as `packet` says.
     fn take_in<W: World>(
         &mut self,
         world: &mut W,

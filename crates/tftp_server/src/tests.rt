@@ -21,7 +21,9 @@ const MAC: Mac = Mac([0x52, 0x54, 0x00, 0x12, 0x34, 0x56]);
 
 /// A call on a file, and its answer.
 enum Call {
-    Length(&'static str, FileSize),
+    Length(&'static str, u64),
+    /// It isn't there, or its length can't be asked.
+    Unmeasured(&'static str, bool),
     /// So many octets are asked for from a place on, and these come; none where it ends there.
     Read(&'static str, u64, usize, &'static [u8]),
     /// It can't be read.
@@ -60,10 +62,22 @@ impl Disk {
     fn measure(&mut self, name: &str) -> FileSize
         ensures { MayMeasure result }
     {
-        if let Some(Call::Length(wanted, size)) = self.next() {
-            if *wanted == name {
-                return *size;
+        match self.next() {
+            Some(Call::Length(wanted, length)) => {
+                if *wanted == name {
+                    return measured(*length);
+                }
             }
+            Some(Call::Unmeasured(wanted, is_missing)) => {
+                if *wanted == name {
+                    return if *is_missing {
+                        FileSize::Missing
+                    } else {
+                        FileSize::Failed
+                    };
+                }
+            }
+            _ => {}
         }
         self.is_right = false;
         FileSize::Failed
@@ -97,6 +111,14 @@ impl Disk {
         self.is_right = false;
         Io::Failed
     }
+}
+
+// The answer of a file of so many octets.
+fn measured(length: u64) -> FileSize
+    ensures value { result ≡ FileSize.Length length }
+    ensures range { MayMeasure result }
+{
+    FileSize::Length(length)
 }
 
 impl World for Disk {
@@ -188,7 +210,7 @@ const CASES: [Case; 9] = [
     // Two whole blocks, the first read in parts, and the empty one behind them; acknowledgements twice.
     Case {
         calls: &[
-            Call::Length("boot/b", FileSize::Length(16)),
+            Call::Length("boot/b", 16),
             Call::Read("boot/b", 0, 8, b"\x00\x01\x02"),
             Call::Read("boot/b", 3, 5, b"\x03\x04\x05\x06\x07"),
             Call::Read("boot/b", 8, 8, b"\x08\x09\x0a\x0b\x0c\x0d\x0e\x0f"),
@@ -222,11 +244,11 @@ const CASES: [Case; 9] = [
     // Options that are refused; capitals, leading zeros, one that isn't known.
     Case {
         calls: &[
-            Call::Length("boot/b", FileSize::Length(10)),
-            Call::Length("boot/b", FileSize::Length(10)),
-            Call::Length("boot/b", FileSize::Length(10)),
-            Call::Length("boot/b", FileSize::Length(10)),
-            Call::Length("boot/b", FileSize::Length(10)),
+            Call::Length("boot/b", 10),
+            Call::Length("boot/b", 10),
+            Call::Length("boot/b", 10),
+            Call::Length("boot/b", 10),
+            Call::Length("boot/b", 10),
         ],
         steps: &[
             (
@@ -277,8 +299,8 @@ const CASES: [Case; 9] = [
     // A file that isn't there, and one that can't be looked at.
     Case {
         calls: &[
-            Call::Length("boot/b", FileSize::Missing),
-            Call::Length("boot/...", FileSize::Failed),
+            Call::Unmeasured("boot/b", true),
+            Call::Unmeasured("boot/...", false),
         ],
         steps: &[
             (0, b"\x00\x01b\0octet\0", b"\x00\x05\x00\x01\x00"),
@@ -288,7 +310,7 @@ const CASES: [Case; 9] = [
     // The first block isn't acknowledged.
     Case {
         calls: &[
-            Call::Length("boot/b", FileSize::Length(2)),
+            Call::Length("boot/b", 2),
             Call::Read("boot/b", 0, 2, b"\x68\x69"),
         ],
         steps: &[
@@ -306,7 +328,7 @@ const CASES: [Case; 9] = [
     // The file ends in its second block.
     Case {
         calls: &[
-            Call::Length("boot/b", FileSize::Length(20)),
+            Call::Length("boot/b", 20),
             Call::Read("boot/b", 0, 8, b"\x00\x01\x02\x03\x04\x05\x06\x07"),
             Call::Read("boot/b", 8, 8, b"\x08"),
             Call::Read("boot/b", 9, 7, b""),
@@ -329,7 +351,7 @@ const CASES: [Case; 9] = [
     },
     // A file without octets; the guest gives up.
     Case {
-        calls: &[Call::Length("boot/b", FileSize::Length(0))],
+        calls: &[Call::Length("boot/b", 0)],
         steps: &[
             (0, b"\x00\x01b\0octet\0", b"\x00\x03\x00\x01"),
             (1, b"\x00\x05\x00", b""),
@@ -341,9 +363,9 @@ const CASES: [Case; 9] = [
     // A request ends the transfer before it, though it is refused.
     Case {
         calls: &[
-            Call::Length("boot/b", FileSize::Length(1)),
+            Call::Length("boot/b", 1),
             Call::Unread("boot/b", 0, 1),
-            Call::Length("boot/b", FileSize::Length(0)),
+            Call::Length("boot/b", 0),
         ],
         steps: &[
             (0, b"\x00\x01b\0octet\0", b"\x00\x05\x00\x00\x00"),
@@ -354,34 +376,34 @@ const CASES: [Case; 9] = [
     },
     // A name with folders in it.
     Case {
-        calls: &[Call::Length("boot/a/.b..", FileSize::Length(0))],
+        calls: &[Call::Length("boot/a/.b..", 0)],
         steps: &[(0, b"\x00\x01a/.b..\0octet\0", b"\x00\x03\x00\x01")],
     },
 ];
 
 /// 21 files without octets.
 const EMPTY_FILES: [Call; 21] = [
-    Call::Length("boot/b", FileSize::Length(0)),
-    Call::Length("boot/b", FileSize::Length(0)),
-    Call::Length("boot/b", FileSize::Length(0)),
-    Call::Length("boot/b", FileSize::Length(0)),
-    Call::Length("boot/b", FileSize::Length(0)),
-    Call::Length("boot/b", FileSize::Length(0)),
-    Call::Length("boot/b", FileSize::Length(0)),
-    Call::Length("boot/b", FileSize::Length(0)),
-    Call::Length("boot/b", FileSize::Length(0)),
-    Call::Length("boot/b", FileSize::Length(0)),
-    Call::Length("boot/b", FileSize::Length(0)),
-    Call::Length("boot/b", FileSize::Length(0)),
-    Call::Length("boot/b", FileSize::Length(0)),
-    Call::Length("boot/b", FileSize::Length(0)),
-    Call::Length("boot/b", FileSize::Length(0)),
-    Call::Length("boot/b", FileSize::Length(0)),
-    Call::Length("boot/b", FileSize::Length(0)),
-    Call::Length("boot/b", FileSize::Length(0)),
-    Call::Length("boot/b", FileSize::Length(0)),
-    Call::Length("boot/b", FileSize::Length(0)),
-    Call::Length("boot/b", FileSize::Length(0)),
+    Call::Length("boot/b", 0),
+    Call::Length("boot/b", 0),
+    Call::Length("boot/b", 0),
+    Call::Length("boot/b", 0),
+    Call::Length("boot/b", 0),
+    Call::Length("boot/b", 0),
+    Call::Length("boot/b", 0),
+    Call::Length("boot/b", 0),
+    Call::Length("boot/b", 0),
+    Call::Length("boot/b", 0),
+    Call::Length("boot/b", 0),
+    Call::Length("boot/b", 0),
+    Call::Length("boot/b", 0),
+    Call::Length("boot/b", 0),
+    Call::Length("boot/b", 0),
+    Call::Length("boot/b", 0),
+    Call::Length("boot/b", 0),
+    Call::Length("boot/b", 0),
+    Call::Length("boot/b", 0),
+    Call::Length("boot/b", 0),
+    Call::Length("boot/b", 0),
 ];
 
 // A server of the files in a folder.

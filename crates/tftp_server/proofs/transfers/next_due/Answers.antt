@@ -1,5 +1,5 @@
 -- A row more.
-use Rattle.std.proofs.Common.{ℕ, ◌+◌, List, Option, take, sym, ap, subst}
+use Rattle.std.proofs.Common.{◌+◌, List, take, sym, subst}
 use Rattle.std.proofs.lemmas.List.{take_all}
 use Rattle.tftp_server.specs.Transfers.{Transfer}
 use Rattle.tftp_server.specs.Serving.{IsNextDue, earlier}

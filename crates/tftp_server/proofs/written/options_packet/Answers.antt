@@ -1,8 +1,5 @@
 -- One option more.
-use Rattle.std.proofs.Common.{◌≡◌, length, take, map, ◌∙◌, ap, arith}
-use Rattle.std.proofs.lemmas.List.{take_all}
-use Rattle.tftp_server.specs.Packets.{answered_octets, options_octets}
-use Rattle.tftp_server.specs.Options.{answered_pair}
+use Rattle.std.proofs.Common.{arith}
 use Rattle.tftp_server.specs.declared.options.Known.TheVariants.{BlockSize}
 use Rattle.tftp_server.specs.declared.options.Answer.{Answer}
 use Rattle.tftp_server.proofs.Writing.{all_written, one_more}

@@ -1,8 +1,8 @@
 -- An option less is left.
-use Rattle.std.proofs.Common.{◌≡◌, List, Some, None, refl, sym, ◌∙◌, ap, cond, if◌then◌else◌}
+use Rattle.std.proofs.Common.{sym, ◌∙◌, ap}
 use Rattle.std.specs.Option.{option_map}
-use Rattle.tftp_server.specs.Packets.{Terms, terms_from}
-use Rattle.tftp_server.specs.Reading.{are_pairs, options_of, pair_of}
+use Rattle.tftp_server.specs.Packets.{terms_from}
+use Rattle.tftp_server.specs.Reading.{options_of, pair_of}
 use Rattle.tftp_server.proofs.Cutting.{options_end, options_more, pairs_more}
 use Rattle.tftp_server.proofs.Knowing.{goes_on, stops}
 use Rattle.tftp_server.proofs.options.Agreed.read.Goals as goal

@@ -1,8 +1,7 @@
 -- The length of the file is answered.
 use Rattle.std.proofs.Common.{◌∙◌, sym, ap, is_some, arith}
-use Rattle.tftp_server.specs.Options.{AreOnce}
 use Rattle.tftp_server.specs.declared.options.Known.TheVariants.{FileSize}
-use Rattle.tftp_server.proofs.Agreeing.{answer, not_among, once_push, room_for, told_size}
+use Rattle.tftp_server.proofs.Agreeing.{not_among, once_push, room_for, told_size}
 use Rattle.tftp_server.proofs.options.Agreed.take_length.Goals as goal
 
 pub push-requires : goal.push-requires

@@ -1,8 +1,7 @@
 -- The size of a block is answered.
-use Rattle.std.proofs.Common.{◌≤◌, min, arith}
-use Rattle.tftp_server.specs.Options.{AreOnce}
+use Rattle.std.proofs.Common.{arith}
 use Rattle.tftp_server.specs.declared.options.Known.TheVariants.{BlockSize}
-use Rattle.tftp_server.proofs.Agreeing.{answer, in_its_range, not_among, once_push, room_for, sized}
+use Rattle.tftp_server.proofs.Agreeing.{in_its_range, not_among, once_push, room_for, sized}
 use Rattle.tftp_server.proofs.options.Agreed.take_size.Goals as goal
 
 pub push-requires : goal.push-requires

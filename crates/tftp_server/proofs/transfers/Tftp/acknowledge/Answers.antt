@@ -1,4 +1,4 @@
-use Rattle.std.proofs.Common.{◌≡◌, Bool, cond, None, refl, sym, ◌∙◌, ap, subst}
+use Rattle.std.proofs.Common.{Bool, cond, None, refl, sym, ◌∙◌, ap, subst}
 use Rattle.world_face.specs.Tells.{Makes}
 use Rattle.tftp_server.specs.Transfers.{Outcome, leaves, seeks_next, without}
 use Rattle.tftp_server.specs.Asking.{IsServed}

@@ -1,16 +1,14 @@
 -- The transfer begins.
-use Rattle.std.proofs.Common.{◌≡◌, ℕ, nat_eq, true, false, List, [], length, map, refl, sym, ◌∙◌, ap, subst}
+use Rattle.std.proofs.Common.{◌≡◌, ℕ, nat_eq, true, false, List, [], length, sym, ◌∙◌, ap, subst}
 use Rattle.std.proofs.lemmas.List.{length-map}
 use Rattle.world_face.specs.Tells.{Makes}
 use Rattle.world_face.proofs.Telling.{makes_none}
 use Rattle.tftp_server.specs.Packets.{options_octets, terms_of}
-use Rattle.tftp_server.specs.Transfers.{Outcome, Transfer, seeks_next, sends, with_room}
+use Rattle.tftp_server.specs.Transfers.{Outcome, Transfer, measured, seeks_next, sends, with_room}
 use Rattle.tftp_server.specs.Asking.{IsServed}
 use Rattle.tftp_server.specs.Options.{answered_pair}
-use Rattle.tftp_server.specs.Reading.{options_of}
 use Rattle.tftp_server.specs.Serving.{Serving, said_by}
 use Rattle.tftp_server.specs.Rows.{sought, transfer_of}
-use Rattle.tftp_server.specs.declared.options.Answer.{Answer}
 use Rattle.tftp_server.proofs.Beginning.{begins_next, begins_options}
 use Rattle.tftp_server.proofs.transfers.Tftp.begin.Goals as goal
 
@@ -42,5 +40,6 @@ returns-else-is_empty-clause-serves g c =
     ap (λ (v : Serving). sends now false (options_octets agreed) (transfer_of v.folder row) v.transfers) c.make_room.ensures.list
     ∙ ap (λ (t : Transfer). sends now false (options_octets agreed) t (with_room old.transfers)) (c.first_row-row.ensures.row old.folder s.options)
     ∙ begins_options now c.args.size s agreed (terms_of c.args.size s.options) old.transfers c.in-Some.ensures some in
-    makes_none (g.W.World.tells c.args.world.now) _
-    (subst (λ (o : Outcome). IsServed now o c.send_options.new.self.transfers (said_by c.send_options.result c.send_options.new.into) []) comes c.send_options.ensures.serves)
+    let told = said_by c.send_options.result c.send_options.new.into in
+    makes_none (g.W.World.tells c.args.world.now) (IsServed now (measured now c.args.size s (terms_of c.args.size s.options) old.transfers) c.send_options.new.self.transfers told)
+    (subst (λ (o : Outcome). IsServed now o c.send_options.new.self.transfers told []) comes c.send_options.ensures.serves)

@@ -1,5 +1,5 @@
 -- Those that are left.
-use Rattle.std.proofs.Common.{◌≡◌, ℕ, ◌||◌, not, nat_le, nat_lt, Bool, true, false, List, map, filter, length, refl, sym, ◌∙◌, ap, subst, rules, arith}
+use Rattle.std.proofs.Common.{◌≡◌, ◌||◌, not, nat_le, nat_lt, List, map, filter, sym, ◌∙◌, ap, subst, rules, arith}
 use Rattle.std.specs.Option.{option_map}
 use Rattle.std.proofs.lemmas.Fn.{filter_same}
 use Rattle.tftp_server.specs.Transfers.{Transfer, are_left, is_due}

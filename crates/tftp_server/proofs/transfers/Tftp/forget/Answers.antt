@@ -1,5 +1,5 @@
 -- Those that are left.
-use Rattle.std.proofs.Common.{◌≡◌, ℕ, not, List, find, map, filter, length, Option, refl, sym, ◌∙◌, ap, subst, rules, arith}
+use Rattle.std.proofs.Common.{◌≡◌, not, List, find, map, filter, sym, ◌∙◌, ap, subst, rules, arith}
 use Rattle.std.specs.Option.{option_map}
 use Rattle.std.proofs.lemmas.Fn.{filter_same}
 use Rattle.host_policy.specs.Targets.{same_endpoint}

@@ -1,5 +1,5 @@
 -- One packet goes again, or none is due.
-use Rattle.std.proofs.Common.{◌≡◌, ℕ, ◌+◌, ◌<◌, ◌≤◌, ◌++◌, List, length, find, position, take, drop, get_or, set, Option, Some, None, true, refl, sym, ◌∙◌, ap, subst, arith}
+use Rattle.std.proofs.Common.{◌≡◌, ℕ, ◌<◌, ◌++◌, List, length, find, position, take, drop, get_or, set, Some, true, sym, ◌∙◌, ap, subst, arith}
 use Rattle.std.specs.Option.{option_map}
 use Rattle.std.proofs.lemmas.List.{get_or-map, get_or-set_same, length-map}
 use Rattle.tftp_server.specs.Transfers.{Said, Transfer, are_left, goes_again, said_again, sent_again, ticked}

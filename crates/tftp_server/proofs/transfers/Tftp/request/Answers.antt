@@ -1,6 +1,5 @@
 -- Requests that are refused.
-use Rattle.std.proofs.Common.{◌≡◌, ℕ, not, true, false, List, None, is_some, refl, sym, ◌∙◌, ap, subst}
-use Rattle.std.specs.Option.{option_map}
+use Rattle.std.proofs.Common.{◌≡◌, None, refl, sym, ◌∙◌, ap, subst}
 use Rattle.world_face.specs.Tells.{Makes}
 use Rattle.tftp_server.specs.Packets.{request_in}
 use Rattle.tftp_server.specs.Transfers.{Outcome, refuses, requested_file}

@@ -1,12 +1,11 @@
 -- The transfer is the last of all.
-use Rattle.std.proofs.Common.{◌≡◌, ℕ, ◌+◌, ◌<◌, ◌≤◌, List, [], ◌∷◌, ◌++◌, length, map, find, None, is_ok, Result, Ok, Err, OnErr, cond, true, refl, sym, ◌∙◌, ap, subst, arith}
+use Rattle.std.proofs.Common.{◌≡◌, ℕ, ◌+◌, ◌<◌, ◌≤◌, length, find, None, is_ok, Result, Ok, Err, OnErr, cond, true, refl, sym, subst, arith}
 use Rattle.std.specs.Option.{option_map}
 use Rattle.std.specs.Vec.{vec_len, vec_capacity}
-use Rattle.std.proofs.lemmas.List.{length-map, map-append}
-use Rattle.tftp_server.specs.Transfers.{Transfer, is_for, sending}
+use Rattle.std.proofs.lemmas.List.{length-map}
+use Rattle.tftp_server.specs.Transfers.{is_for}
 use Rattle.tftp_server.specs.Serving.{Serving}
-use Rattle.tftp_server.specs.Rows.{AreApart, transfer_of, transfers_of}
-use Rattle.tftp_server.specs.declared.row.Row.{Row}
+use Rattle.tftp_server.specs.Rows.{transfer_of, transfers_of}
 use Rattle.tftp_server.proofs.Keeping.{apart_pushed}
 use Rattle.tftp_server.proofs.transfers.Tftp.send.Goals as goal
 

@@ -1,8 +1,8 @@
 -- The row of a port, and the number of its last block.
-use Rattle.std.proofs.Common.{◌≡◌, ℕ, ◌+◌, ◌%◌, ◌<◌, ◌≤◌, not, Bool, List, length, find, get_or, position, Option, Some, None, refl, sym, ◌∙◌, ap, subst, arith}
+use Rattle.std.proofs.Common.{◌≡◌, ℕ, ◌%◌, ◌<◌, not, Bool, List, length, find, get_or, position, Option, Some, None, refl, sym, ◌∙◌, ap, subst, arith}
 use Rattle.std.specs.Option.{option_map}
 use Rattle.std.proofs.lemmas.List.{length-map}
-use Rattle.tftp_server.specs.Transfers.{Transfer, acknowledged, is_for, leaves, seeks_next, without}
+use Rattle.tftp_server.specs.Transfers.{Transfer, acknowledged, is_for, leaves, without}
 use Rattle.tftp_server.specs.Serving.{Serving}
 use Rattle.tftp_server.specs.Rows.{AreApart, IsTakenOut, TakesAcknowledged, transfer_of, transfers_of}
 use Rattle.tftp_server.specs.declared.row.Row.{Row}

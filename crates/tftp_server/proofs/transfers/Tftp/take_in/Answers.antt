@@ -1,4 +1,4 @@
-use Rattle.std.proofs.Common.{◌≡◌, None, refl, ap, subst}
+use Rattle.std.proofs.Common.{None, refl, ap, subst}
 use Rattle.world_face.specs.Tells.{Makes}
 use Rattle.tftp_server.specs.Packets.{Packet}
 use Rattle.tftp_server.specs.Transfers.{Outcome, leaves, taken_in, without}
