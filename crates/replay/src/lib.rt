@@ -8,8 +8,6 @@ mod printing;
 mod reading;
 mod reported;
 mod row;
-#[cfg(test)]
-mod tests;
 mod tokens;
 mod world;
 

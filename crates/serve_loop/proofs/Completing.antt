@@ -1,21 +1,19 @@
 -- A frame that is taken in, and what it made whole.
 use Rattle.std.proofs.Common.{◌≡◌, ℕ, List, Option, sym, ◌∙◌, ap, subst}
-use Rattle.ether_frame.specs.Ether.{read_ether}
 use Rattle.host_policy.specs.Addresses.{Config}
 use Rattle.ipv4_head.specs.Sets.{PartSet, young}
 use Rattle.run_laws.specs.Fragments.{fragment_in, with_fragment}
-use Rattle.slirp_laws.specs.Answers.{frames_of}
 use Rattle.slirp_laws.specs.Datagrams.{Errand}
-use Rattle.slirp_core.specs.Fragments.{IsHeld, brought_errand, brought_segment, taken_on}
-use Rattle.slirp_core.specs.Packets.{errand_in, owed_for_frame, with_ether}
+use Rattle.slirp_core.specs.Fragments.{IsHeld, after_frame, brought_errand, brought_segment, taken_on}
+use Rattle.slirp_core.specs.Packets.{errand_for_udp, udp_in}
 use Rattle.slirp_core.specs.Segments.{Coming, segment_in}
 use Rattle.slirp_core.specs.State.{SlirpState}
 use Rattle.slirp_core.specs.declared.fragments.Brought.{Brought}
 
 module _ (slirp mid new : SlirpState) (frame : List ℕ) (brought : Brought) (room octets : List ℕ) (same : octets ≡ room) where
   pub sends_then : (errand : Option Errand) → mid.config ≡ slirp.config → errand ≡ brought_errand mid.config brought octets
-      → ((held : List PartSet) → IsHeld slirp.parts held → brought_errand slirp.config brought room ≡ errand_in slirp.config slirp.moment (young slirp.moment held) frame)
-      → (held : List PartSet) → IsHeld slirp.parts held → errand ≡ errand_in slirp.config slirp.moment (young slirp.moment held) frame
+      → ((held : List PartSet) → IsHeld slirp.parts held → brought_errand slirp.config brought room ≡ errand_for_udp slirp.config (udp_in slirp.config slirp.moment (young slirp.moment held) frame))
+      → (held : List PartSet) → IsHeld slirp.parts held → errand ≡ errand_for_udp slirp.config (udp_in slirp.config slirp.moment (young slirp.moment held) frame)
   sends_then errand settings is brings held h = is ∙ ap (brought_errand mid.config brought) same ∙ ap (λ (k : Config). brought_errand k brought room) settings ∙ brings held h
 
   pub segment_then : (segment : Option Coming) → mid.config ≡ slirp.config → segment ≡ brought_segment mid.config brought octets
@@ -24,23 +22,11 @@ module _ (slirp mid new : SlirpState) (frame : List ℕ) (brought : Brought) (ro
   segment_then segment settings is brings held h = is ∙ ap (brought_segment mid.config brought) same ∙ ap (λ (k : Config). brought_segment k brought room) settings ∙ brings held h
 
   pub owes_then : new ≡ taken_on mid brought octets → new.parts ≡ mid.parts
-      → ((held : List PartSet) → IsHeld slirp.parts held → taken_on mid brought room ≡ record slirp {
-        pending = frames_of slirp.config slirp.sent (owed_for_frame slirp.config slirp.moment (young slirp.moment held) frame);
-        known = with_ether slirp.config (read_ether frame) slirp.known;
-        parts = mid.parts;
-      })
-      → (held : List PartSet) → IsHeld slirp.parts held → new ≡ record slirp {
-        pending = frames_of slirp.config slirp.sent (owed_for_frame slirp.config slirp.moment (young slirp.moment held) frame);
-        known = with_ether slirp.config (read_ether frame) slirp.known;
-        parts = new.parts;
-      }
+      → ((held : List PartSet) → IsHeld slirp.parts held → taken_on mid brought room ≡ after_frame slirp.config slirp (young slirp.moment held) mid.parts frame)
+      → (held : List PartSet) → IsHeld slirp.parts held → new ≡ after_frame slirp.config slirp (young slirp.moment held) new.parts frame
   owes_then is parts changes held h =
       is ∙ ap (taken_on mid brought) same ∙ changes held h
-      ∙ ap (λ l. record slirp {
-        pending = frames_of slirp.config slirp.sent (owed_for_frame slirp.config slirp.moment (young slirp.moment held) frame);
-        known = with_ether slirp.config (read_ether frame) slirp.known;
-        parts = l;
-      }) (sym parts)
+      ∙ ap (λ l. after_frame slirp.config slirp (young slirp.moment held) l frame) (sym parts)
 
   pub waits_then : new.parts ≡ mid.parts → ((held : List PartSet) → IsHeld slirp.parts held → IsHeld mid.parts (with_fragment slirp.moment (fragment_in slirp.config frame) held))
       → (held : List PartSet) → IsHeld slirp.parts held → IsHeld new.parts (with_fragment slirp.moment (fragment_in slirp.config frame) held)

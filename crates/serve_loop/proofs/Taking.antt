@@ -13,20 +13,19 @@ use Rattle.flow_book.specs.Segments.{segment_by}
 use Rattle.run_laws.specs.Fragments.{fragment_in, waiting, with_fragment}
 use Rattle.run_laws.specs.Packets.{Packet, Unheard, ArpPacket, Message, DatagramPacket, Segment, packet_in}
 use Rattle.slirp_laws.specs.Agenda.{is_to_read, wanted_of}
-use Rattle.slirp_laws.specs.Answers.{Answer, frames_of, owed_for_packet}
+use Rattle.slirp_laws.specs.Answers.{frames_of}
 use Rattle.slirp_laws.specs.Datagrams.{Errand, Step, errand_by_packet}
-use Rattle.slirp_laws.specs.Relayed.{step_for}
 use Rattle.stream_netdev.specs.Keeps.{Keeps, ReadsFrame, hands, ending_of}
 use Rattle.stream_netdev.specs.State.{LinkState}
 use Rattle.stream_netdev.specs.declared.Arrived.{Arrived}
 use Rattle.tcp_flows.specs.Kept.{Kept}
-use Rattle.slirp_core.specs.Fragments.{IsHeld}
-use Rattle.slirp_core.specs.Holds.{standing, flowing, Comes, Ended, HoldsAt}
-use Rattle.slirp_core.specs.Packets.{errand_in, owed_for_frame, with_ether, with_frame}
+use Rattle.slirp_core.specs.Fragments.{IsHeld, after_frame}
+use Rattle.slirp_core.specs.Holds.{asked_by, standing, flowing, Comes, Ended, HoldsAt}
+use Rattle.slirp_core.specs.Packets.{errand_for_udp, udp_in, with_ether, with_frame}
 use Rattle.slirp_core.specs.Segments.{Coming, coming, coming_by, segment_in}
-use Rattle.slirp_core.specs.State.{SlirpState}
-use Rattle.slirp_core.proofs.Bridging.{brings_same, owes_same, sends_same}
-use Rattle.slirp_core.proofs.Reading.{KeepsParts, packet_of, read_ends_it, read_on, read_segment}
+use Rattle.slirp_core.specs.State.{SlirpState, serving_of}
+use Rattle.slirp_core.proofs.Bridging.{brings_same, lends_same, owes_same, sends_same}
+use Rattle.slirp_core.proofs.Reading.{KeepsParts, after_packet, packet_of, read_ends_it, read_on, read_segment}
 use Rattle.serve_loop.specs.Turns.{HoldsNow}
 
 -- a packet that holds a segment, or none
@@ -75,11 +74,7 @@ module _ (config : Config) (count : ℕ) (wants : List Want) (item : Want) (item
       ∙ ap (λ w. of config slirp.moment w frame) sets_wait
 
   module _ (done : SlirpState) (frame : List ℕ) (came : hands answer new ≡ Some frame) (goes_on : ending_of answer ≡ None)
-      (is : (held : List PartSet) → IsHeld slirp.parts held → done ≡ record slirp {
-        pending = frames_of slirp.config slirp.sent (owed_for_frame slirp.config slirp.moment (young slirp.moment held) frame);
-        known = with_ether slirp.config (read_ether frame) slirp.known;
-        parts = done.parts;
-      })
+      (is : (held : List PartSet) → IsHeld slirp.parts held → done ≡ after_frame slirp.config slirp (young slirp.moment held) done.parts frame)
       (keeps : (held : List PartSet) → IsHeld slirp.parts held → IsHeld done.parts (with_fragment slirp.moment (fragment_in slirp.config frame) held)) where
     same_flows : slirp.flows ≡ done.flows
     same_flows = sym (ap (λ (s : SlirpState). s.flows) (is holds.guests.fragments.held holds.guests.fragments.is_held))
@@ -94,31 +89,32 @@ module _ (config : Config) (count : ℕ) (wants : List Want) (item : Want) (item
     packet_is : packet_of config slirp.moment (waiting config past) (hands answer new) ≡ packet_in config slirp.moment (waiting config past) frame
     packet_is = ap (packet_of config slirp.moment (waiting config past)) came
 
-    -- what it owes
-    done_is : done ≡ record slirp {
-      pending = frames_of config slirp.sent (owed_for_packet config false (packet_of config slirp.moment (waiting config past) (hands answer new)));
-      known = with_frame config (hands answer new) slirp.known;
-      parts = done.parts;
-    }
+    -- what it owes, and what it makes of the leases
+    done_is : done ≡ after_packet config slirp (packet_of config slirp.moment (waiting config past) (hands answer new)) (hands answer new) done.parts
     done_is =
-        of_packet (λ (k : Config) n w f. record slirp { pending = frames_of k slirp.sent (owed_for_frame k n w f); known = with_ether k (read_ether f) slirp.known; parts = done.parts }) frame done is
-        ∙ sym (ap (λ (l : List Answer). record slirp { pending = frames_of config slirp.sent l; known = with_ether config (read_ether frame) slirp.known; parts = done.parts }) (owes_same config slirp.moment (waiting config past) frame))
-        ∙ sym (ap (λ o. record slirp { pending = frames_of config slirp.sent (owed_for_packet config false (packet_of config slirp.moment (waiting config past) o)); known = with_frame config o slirp.known; parts = done.parts }) came)
+        of_packet (λ (k : Config) n w f. after_frame k slirp w done.parts f) frame done is
+        ∙ sym (λ i. record slirp {
+          pending = frames_of config slirp.sent (owes_same config (serving_of slirp) (waiting config past) frame i);
+          known = with_ether config (read_ether frame) slirp.known;
+          parts = done.parts;
+          leases = lends_same config slirp.moment (waiting config past) frame slirp.leases i;
+        })
+        ∙ sym (ap (λ o. after_packet config slirp (packet_of config slirp.moment (waiting config past) o) o done.parts) came)
 
     -- no segment, and what it asks for is still to be done
-    pub taken_in : (errand : Option Errand) → ((held : List PartSet) → IsHeld slirp.parts held → errand ≡ errand_in slirp.config slirp.moment (young slirp.moment held) frame)
+    pub taken_in : (errand : Option Errand) → ((held : List PartSet) → IsHeld slirp.parts held → errand ≡ errand_for_udp slirp.config (udp_in slirp.config slirp.moment (young slirp.moment held) frame))
         → ((held : List PartSet) → IsHeld slirp.parts held → None ≡ segment_in slirp.config slirp.moment (young slirp.moment held) frame)
-        → HoldsAt config (standing count wants items) (step_for done.associations errand) done (flowing false done.flows) new (made ++ past)
+        → HoldsAt config (standing count wants items) (asked_by config done.associations errand) done (flowing false done.flows) new (made ++ past)
     taken_in errand sends none =
         let packet = packet_of config slirp.moment (waiting config past) (hands answer new) in
         let strays : coming_by packet ≡ None =
         ap coming_by packet_is ∙ brings_same config slirp.moment (waiting config past) frame ∙ sym (of_packet segment_in frame None none) in
         let asks : errand_by_packet config packet ≡ errand =
-        ap (errand_by_packet config) packet_is ∙ sends_same config slirp.moment (waiting config past) frame ∙ sym (of_packet errand_in frame errand sends) in
+        ap (errand_by_packet config) packet_is ∙ sends_same config slirp.moment (waiting config past) frame ∙ sym (of_packet (λ k n w f. errand_for_udp k (udp_in k n w f)) frame errand sends) in
         let h = read_on config count wants item items reads_it slirp slirp.flows old new answer no_packet out made past allowed read holds done goes_on kept (no_segment packet strays) done_is in
-        subst (λ (k : Kept). HoldsAt config (standing count wants items) (step_for done.associations errand) done (flowing false k) new (made ++ past)) same_flows
+        subst (λ (k : Kept). HoldsAt config (standing count wants items) (asked_by config done.associations errand) done (flowing false k) new (made ++ past)) same_flows
         (subst (λ (t : Step). HoldsAt config (standing count wants items) t done (flowing false slirp.flows) new (made ++ past))
-        (ap (step_for slirp.associations) asks ∙ ap (λ l. step_for l errand) same_associations) h)
+        (ap (asked_by config slirp.associations) asks ∙ ap (λ l. asked_by config l errand) same_associations) h)
 
     -- a segment, which is still to be heard
     pub segment_came : (c : Coming) → ((held : List PartSet) → IsHeld slirp.parts held → Some c ≡ segment_in slirp.config slirp.moment (young slirp.moment held) frame)
@@ -126,8 +122,8 @@ module _ (config : Config) (count : ℕ) (wants : List Want) (item : Want) (item
     segment_came c brings =
         let packet = packet_of config slirp.moment (waiting config past) (hands answer new) in
         let seg = is_segment c packet (ap coming_by packet_is ∙ brings_same config slirp.moment (waiting config past) frame ∙ sym (of_packet segment_in frame (Some c) brings)) in
-        let owes : frames_of config slirp.sent (owed_for_packet config false packet) ≡ slirp.pending = ap (λ p. frames_of config slirp.sent (owed_for_packet config false p)) seg.packet ∙ sym no_packet in
-        let unowed = done_is ∙ ap (λ (l : List (List ℕ)). record slirp { pending = l; known = with_frame config (hands answer new) slirp.known; parts = done.parts }) owes in
+        let unowed = done_is ∙ ap (λ (p : Packet). after_packet config slirp p (hands answer new) done.parts) seg.packet
+        ∙ ap (λ (l : List (List ℕ)). record slirp { pending = l; known = with_frame config (hands answer new) slirp.known; parts = done.parts }) (sym no_packet) in
         let h = read_segment config count wants item items reads_it slirp slirp.flows old new answer no_packet out made past allowed read holds done seg.mac seg.ip seg.tcp goes_on kept seg.packet unowed in
         subst (λ (k : Kept). Comes config (standing count wants items) done k new c (made ++ past)) same_flows
         (subst (λ (other : Coming). Comes config (standing count wants items) done slirp.flows new other (made ++ past)) seg.is h)
@@ -140,8 +136,8 @@ module _ (config : Config) (count : ℕ) (wants : List Want) (item : Want) (item
       let h = read_on config count wants item items reads_it slirp slirp.flows old new answer no_packet out made past allowed read holds slirp goes_on
       (subst (λ o. KeepsParts config slirp slirp o) (sym none) refl) (ap segment_by packet_is)
       (ap (λ (p : List (List ℕ)). record slirp { pending = p }) no_packet
-      ∙ sym (ap (λ o. record slirp { pending = frames_of config slirp.sent (owed_for_packet config false (packet_of config slirp.moment at o)); known = with_frame config o slirp.known }) none)) in
-      subst (λ (t : Step). HoldsAt config (standing count wants items) t slirp (flowing false slirp.flows) new (made ++ past)) (ap (λ p. step_for slirp.associations (errand_by_packet config p)) packet_is) h
+      ∙ sym (ap (λ o. after_packet config slirp (packet_of config slirp.moment at o) o slirp.parts) none)) in
+      subst (λ (t : Step). HoldsAt config (standing count wants items) t slirp (flowing false slirp.flows) new (made ++ past)) (ap (λ p. asked_by config slirp.associations (errand_by_packet config p)) packet_is) h
 
   -- the run has ended
   pub read_ended : (why : Ending) → ending_of answer ≡ Some why → hands answer new ≡ None → Ended config why slirp.associations slirp.flows.flows.parts (made ++ past)

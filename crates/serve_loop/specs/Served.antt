@@ -1,6 +1,7 @@
 -- A service, and one that has served nothing.
-use Rattle.std.specs.Prelude.{◌≡◌, ◌^◌, ◌≤◌, List, [], false, None}
+use Rattle.std.specs.Prelude.{◌≡◌, ◌^◌, ◌≤◌, List, [], replicate, false, None}
 use Rattle.host_policy.specs.Addresses.{Config}
+use Rattle.dhcp_server.specs.declared.leases.Lease.TheVariants.{Free}
 use Rattle.poll_list.specs.declared.Want.{Want}
 use Rattle.stream_netdev.specs.State.{LinkState, under_way}
 use Rattle.slirp_core.specs.Numbers.{flows_for}
@@ -22,7 +23,7 @@ pub record IsBuilt (config : Config) : Type 0 where
   pub outbound : config.outbound ≡ None
   pub control : config.control ≡ None
 
--- nothing was read or written, no datagram was sent, no guest is known, no socket is open, no moment was told, nothing is owed and no fragment waits; there is room for as many flows as the settings say, and none of them was used; no port of the host is given to a guest yet, a frame has room for a header and a unit of 8 octets, and there are at most 2^44 turns
+-- nothing was read or written, no datagram was sent, no guest is known, no socket is open, no moment was told, nothing is owed, no fragment waits and no address is lent; there is room for as many flows as the settings say, and none of them was used; no port of the host is given to a guest yet, names aren't served and datagrams go out from every address, a frame has room for a header and a unit of 8 octets, and there are at most 2^44 turns
 pub record IsNew (service : ServiceState) : Type 0 where
   pub forwards : service.slirp.config.forwards ≡ []
   pub flows : service.slirp.flows ≡ flows_for service.slirp.config
@@ -35,6 +36,9 @@ pub record IsNew (service : ServiceState) : Type 0 where
   pub number : service.slirp.number ≡ 0
   pub associations : service.slirp.associations ≡ []
   pub parts : service.slirp.parts ≡ []
+  pub leases : service.slirp.leases ≡ replicate 16 Free
+  pub unresolved : service.slirp.config.resolver ≡ None
+  pub unbound : service.slirp.config.outbound ≡ None
   pub input : under_way service.link ≡ []
   pub output : service.link.tail ≡ []
   pub free : service.link.blocked ≡ false

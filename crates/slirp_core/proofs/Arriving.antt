@@ -8,11 +8,11 @@ use Rattle.ipv4_head.specs.Ip.{Ip, read_ip, is_unbroken}
 use Rattle.ipv4_head.specs.Sets.{Part, PartSet, young}
 use Rattle.ipv4_reasm.specs.Areas.{Gathered}
 use Rattle.run_laws.specs.Fragments.{Fragment, arrived, fragment_by, joined_by, key_by, part_by, with_fragment}
-use Rattle.slirp_laws.specs.Answers.{frames_of}
 use Rattle.slirp_core.specs.Segments.{errand_for, segment_for, segment_of_arrived, segment_of_ip}
-use Rattle.slirp_core.specs.Fragments.{Arrives, CameBy, Gathers, GathersIf, IsHeld, assembled_ip, brought_errand, brought_segment, task_or_none, taken_on, whole_or_none}
-use Rattle.slirp_core.specs.Packets.{errand_of_arrived, errand_of_ip, owed_for, owed_for_arrived, owed_for_ip, with_address, with_ip}
-use Rattle.slirp_core.specs.State.{SlirpState}
+use Rattle.slirp_core.specs.Fragments.{Arrives, CameBy, Gathers, GathersIf, IsHeld, after_ip, after_octets, assembled_ip, brought_errand, brought_segment, task_or_none, taken_on, whole_or_none}
+use Rattle.slirp_core.specs.Packets.{errand_for_udp, leases_with, owed_for, owed_for_ip, udp_of, udp_of_arrived, with_address}
+use Rattle.slirp_laws.specs.Answers.{frames_of}
+use Rattle.slirp_core.specs.State.{SlirpState, serving_of}
 use Rattle.slirp_core.specs.declared.tcp.Task.{Task}
 use Rattle.slirp_core.specs.declared.fragments.Assembled.{Assembled}
 use Rattle.slirp_core.specs.declared.fragments.Brought.TheVariants.{Nothing}
@@ -20,11 +20,11 @@ use Rattle.slirp_core.specs.declared.fragments.Brought.TheVariants.{Nothing}
 -- none is read
 pub none_arrives : (old : SlirpState) (held : List PartSet) (mac octets room : List ℕ) → read_ip octets ≡ None → old.pending ≡ [] → IsHeld old.parts held → Arrives old held mac octets old Nothing room
 none_arrives old held mac octets room read none is = record {
-  errand = sym (ap (option_and_then (errand_of_arrived old.config old.moment (young old.moment held) mac octets)) read);
+  errand = sym (ap (λ o. errand_for_udp old.config (option_and_then (udp_of_arrived old.config old.moment (young old.moment held) mac octets) o)) read);
   segment = sym (ap (option_and_then (segment_of_arrived old.config old.moment (young old.moment held) mac octets)) read);
   changes =
       ap (λ p. record old { pending = p }) none
-      ∙ sym (ap (λ o. record old { pending = frames_of old.config old.sent (owed_for (owed_for_arrived old.config old.moment (young old.moment held) mac octets) o); known = with_ip old.config mac o old.known }) read);
+      ∙ sym (ap (after_octets old (young old.moment held) mac octets old.parts) read);
   parts = subst (λ o. IsHeld old.parts (with_fragment old.moment o held)) (sym (ap (option_and_then (fragment_by old.config octets)) read)) is;
 }
 
@@ -50,25 +50,34 @@ taken_sent s None room = refl
 taken_sent s (Some t) room = refl
 
 module _ (old : SlirpState) (held : List PartSet) (mac octets : List ℕ) (ip : Ip) (room : List ℕ) (read : read_ip octets ≡ Some ip) (is : IsHeld old.parts held) where
+  -- the network once what arrives is taken in, with these areas
+  abbrev after_arrival : List ℕ → Ip → List Gathered → Option Ip → SlirpState
+  after_arrival mac ip parts o = record old {
+    pending = frames_of old.config old.sent (owed_for (owed_for_ip old.config (serving_of old) mac) o);
+    known = with_address old.config ip.from mac old.known;
+    parts = parts;
+    leases = leases_with old.config old.moment (option_and_then (udp_of old.config mac) o) old.leases;
+  }
+
   -- a whole datagram is taken in
-  pub whole_arrives : (new : SlirpState) (o : Option Task) → is_unbroken ip ≡ true → option_and_then errand_for o ≡ errand_of_ip old.config mac ip → option_and_then segment_for o ≡ segment_of_ip old.config mac ip
-      → new ≡ record old { pending = frames_of old.config old.sent (owed_for_ip old.config mac ip); known = with_address old.config ip.from mac old.known } → Arrives old held mac octets new (task_or_none o) room
+  pub whole_arrives : (new : SlirpState) (o : Option Task) → is_unbroken ip ≡ true → option_and_then errand_for o ≡ errand_for_udp old.config (udp_of old.config mac ip) → option_and_then segment_for o ≡ segment_of_ip old.config mac ip
+      → new ≡ after_ip (record old { known = with_address old.config ip.from mac old.known }) mac ip → Arrives old held mac octets new (task_or_none o) room
   whole_arrives new o whole errand segment same =
       let arrives : arrived old.config old.moment (young old.moment held) octets ip ≡ Some ip =
       ap (λ (b : Bool). if b then Some ip else joined_by old.moment (young old.moment held) (fragment_by old.config octets ip)) whole in
       let parts : new.parts ≡ old.parts = ap (λ (s : SlirpState). s.parts) same in
+      let mid : SlirpState = record old { known = with_address old.config ip.from mac old.known } in
       record {
         errand =
             errand_sent old.config o room ∙ errand
-            ∙ sym (ap (option_and_then (errand_of_arrived old.config old.moment (young old.moment held) mac octets)) read ∙ ap (option_and_then (errand_of_ip old.config mac)) arrives);
+            ∙ sym (ap (λ o. errand_for_udp old.config (option_and_then (udp_of_arrived old.config old.moment (young old.moment held) mac octets) o)) read ∙ ap (λ o. errand_for_udp old.config (option_and_then (udp_of old.config mac) o)) arrives);
         segment =
             segment_sent old.config o room ∙ segment
             ∙ sym (ap (option_and_then (segment_of_arrived old.config old.moment (young old.moment held) mac octets)) read ∙ ap (option_and_then (segment_of_ip old.config mac)) arrives);
         changes =
             taken_sent new o room ∙ same
-            ∙ ap (λ l. record old { pending = frames_of old.config old.sent (owed_for_ip old.config mac ip); known = with_address old.config ip.from mac old.known; parts = l }) (sym parts)
-            ∙ sym (ap (λ o. record old { pending = frames_of old.config old.sent (owed_for (owed_for_arrived old.config old.moment (young old.moment held) mac octets) o); known = with_ip old.config mac o old.known; parts = new.parts }) read
-            ∙ ap (λ o. record old { pending = frames_of old.config old.sent (owed_for (owed_for_ip old.config mac) o); known = with_address old.config ip.from mac old.known; parts = new.parts }) arrives);
+            ∙ ap (λ l. record (after_ip mid mac ip) { parts = l }) (sym parts)
+            ∙ sym (ap (after_octets old (young old.moment held) mac octets new.parts) read ∙ ap (after_arrival mac ip new.parts) arrives);
         parts = subst (λ l. IsHeld l (with_fragment old.moment (option_and_then (fragment_by old.config octets) (read_ip octets)) held)) (sym parts)
             (subst (λ o. IsHeld old.parts (with_fragment old.moment o held)) (sym (ap (option_and_then (fragment_by old.config octets)) read ∙ no_fragment old.config octets ip whole)) is);
       }
@@ -77,17 +86,20 @@ module _ (old : SlirpState) (held : List PartSet) (mac octets : List ℕ) (ip : 
   abbrev whole_of : Option Assembled → Option Ip
   whole_of o = option_map (λ (a : Assembled). assembled_ip a room) o
 
-  errand_made : (config : Config) (o : Option Assembled) → CameBy mac o → brought_errand config (whole_or_none o) room ≡ option_and_then (errand_of_ip config mac) (whole_of o)
+  errand_made : (config : Config) (o : Option Assembled) → CameBy mac o → brought_errand config (whole_or_none o) room ≡ errand_for_udp config (option_and_then (udp_of config mac) (whole_of o))
   errand_made config None came = refl
-  errand_made config (Some a) came = ap (λ m. errand_of_ip config m (assembled_ip a room)) came
+  errand_made config (Some a) came = ap (λ m. errand_for_udp config (udp_of config m (assembled_ip a room))) came
 
   segment_made : (config : Config) (o : Option Assembled) → CameBy mac o → brought_segment config (whole_or_none o) room ≡ option_and_then (segment_of_ip config mac) (whole_of o)
   segment_made config None came = refl
   segment_made config (Some a) came = ap (λ m. segment_of_ip config m (assembled_ip a room)) came
 
-  taken_made : (s : SlirpState) (o : Option Assembled) → CameBy mac o → s.pending ≡ [] → taken_on s (whole_or_none o) room ≡ record s { pending = frames_of s.config s.sent (owed_for (owed_for_ip s.config mac) (whole_of o)) }
+  taken_made : (s : SlirpState) (o : Option Assembled) → CameBy mac o → s.pending ≡ [] → taken_on s (whole_or_none o) room ≡ record s {
+    pending = frames_of s.config s.sent (owed_for (owed_for_ip s.config (serving_of s) mac) (whole_of o));
+    leases = leases_with s.config s.moment (option_and_then (udp_of s.config mac) (whole_of o)) s.leases;
+  }
   taken_made s None came none = ap (λ p. record s { pending = p }) none
-  taken_made s (Some a) came none = ap (λ m. record s { pending = frames_of s.config s.sent (owed_for_ip s.config m (assembled_ip a room)) }) came
+  taken_made s (Some a) came none = ap (λ m. after_ip s m (assembled_ip a room)) came
 
   -- what arrives by it, and which sets wait
   record Gathering (areas : List Gathered) (o : Option Assembled) : Type 0 where
@@ -124,15 +136,15 @@ module _ (old : SlirpState) (held : List PartSet) (mac octets : List ℕ) (ip : 
       let mid : SlirpState = record old { known = with_address old.config ip.from mac old.known; parts = new.parts } in
       record {
         errand =
-            errand_made old.config o g.came ∙ ap (option_and_then (errand_of_ip old.config mac)) g.arrives
-            ∙ sym (ap (option_and_then (errand_of_arrived old.config old.moment (young old.moment held) mac octets)) read);
+            errand_made old.config o g.came ∙ ap (λ w. errand_for_udp old.config (option_and_then (udp_of old.config mac) w)) g.arrives
+            ∙ sym (ap (λ o. errand_for_udp old.config (option_and_then (udp_of_arrived old.config old.moment (young old.moment held) mac octets) o)) read);
         segment =
             segment_made old.config o g.came ∙ ap (option_and_then (segment_of_ip old.config mac)) g.arrives
             ∙ sym (ap (option_and_then (segment_of_arrived old.config old.moment (young old.moment held) mac octets)) read);
         changes =
             ap (λ (s : SlirpState). taken_on s (whole_or_none o) room) same
             ∙ taken_made mid o g.came none
-            ∙ ap (λ (w : Option Ip). record mid { pending = frames_of old.config old.sent (owed_for (owed_for_ip old.config mac) w) }) g.arrives
-            ∙ sym (ap (λ o. record old { pending = frames_of old.config old.sent (owed_for (owed_for_arrived old.config old.moment (young old.moment held) mac octets) o); known = with_ip old.config mac o old.known; parts = new.parts }) read);
+            ∙ ap (after_arrival mac ip new.parts) g.arrives
+            ∙ sym (ap (after_octets old (young old.moment held) mac octets new.parts) read);
         parts = subst (λ o. IsHeld new.parts (with_fragment old.moment o held)) (sym (ap (option_and_then (fragment_by old.config octets)) read)) g.held_by;
       }

@@ -9,20 +9,22 @@ use Rattle.world_face.specs.declared.Sent.{Sent}
 use Rattle.world_face.specs.declared.Sent.TheVariants.{Done, NotYet, Failed}
 use Rattle.world_face.specs.declared.Got.{Got}
 use Rattle.world_face.specs.declared.Got.TheVariants.{From, NotYet as GotNotYet, Failed as GotFailed}
-use Rattle.udp_assoc.specs.Associations.{most_associations, numbers, numbered, without, moved_last, sent_from, heard_at}
+use Rattle.udp_assoc.specs.Associations.{most_associations, numbers, numbered, socket_of, without, moved_last, sent_from, heard_at}
 use Rattle.udp_assoc.specs.Relays.{Relays, ByForward, BySocket, ByNewSocket, OpensFor, Opens, OpensNone, Hears, OnForward, OnAssociation, OnNone, Ticks, calls_for_room, with_room, with_reply, opened, told, passed, ClosesLeast}
 use Rattle.udp_assoc.specs.declared.assocs.Association.{Association}
 use Rattle.run_laws.specs.Sockets.{is_among}
 use Rattle.slirp_laws.specs.Agenda.{agenda, all_wanted, is_to_read, wanted_of}
-use Rattle.slirp_laws.specs.Datagrams.{Errand, NeedsRoom, NeedsSocket, NeedsSending}
-use Rattle.slirp_laws.specs.Relayed.{step_for, with_socket, without_socket}
+use Rattle.slirp_laws.specs.Datagrams.{Errand, Step, NeedsRoom, NeedsSocket, NeedsSending}
+use Rattle.slirp_laws.specs.Errands.{errand_left}
+use Rattle.slirp_laws.specs.Relayed.{with_socket, without_socket}
 use Rattle.stream_netdev.specs.State.{LinkState}
-use Rattle.slirp_core.specs.Holds.{Standing, standing, IsLast, Flowing, HoldsAt, Holds}
+use Rattle.slirp_core.specs.Holds.{asked_by, Standing, standing, IsLast, Flowing, HoldsAt, Holds}
 use Rattle.slirp_core.specs.Replies.{outbound_of, told_by, owed_by}
 use Rattle.slirp_core.specs.State.{SlirpState}
-use Rattle.slirp_core.proofs.Parts.{skipped}
+use Rattle.slirp_core.proofs.Parts.{asked_in, errand_for, skipped}
+use Rattle.slirp_core.proofs.Services.{asks_none}
 use Rattle.slirp_core.proofs.Sockets.{last_among, socket_among, no_association}
-use Rattle.slirp_core.proofs.Relaying.{after_open, after_refusal, after_sent, after_failure, after_yielding, after_idling, after_hearing, after_not_yet, after_no_hearing}
+use Rattle.slirp_core.proofs.Relaying.{after_open, asks_by_list, after_refusal, after_sent, after_failure, after_yielding, after_idling, after_hearing, after_not_yet, after_no_hearing}
 use Rattle.slirp_core.specs.Hearing.{Receives as ReceivesOn}
 use Rattle.tcp_flows.specs.Runs.{ClosesBelow, ClosesRising}
 use Rattle.udp_assoc.proofs.Below.{AreBelow, below_last, below_moved, below_up, below_without}
@@ -43,6 +45,7 @@ with_agenda config at after slirp f link past same holds last = record {
   answers = holds.answers;
   guests = holds.guests;
   relayed = holds.relayed;
+  services = holds.services;
   flows = holds.flows;
   sockets = holds.sockets;
   clock = record { moment = holds.clock.moment; counted = holds.clock.counted ∙ sym same };
@@ -97,12 +100,18 @@ module _ (config : Config) (at : Standing) (f : Flowing) (link : LinkState) wher
       by true room allowed holds = after_yielding config at (record slirp { associations = oldest ∷ others }) f link past oldest others errand allowed.0 refl room holds
       by false room allowed holds = holds
 
+  -- no question goes out, so it asks by the list
+  by_list : (slirp : SlirpState) (past : List Entry) (errand : Errand) → HoldsAt config at (asked_by config slirp.associations (Some errand)) slirp f link past → HoldsAt config at (with_socket (socket_of errand.datagram.from slirp.associations) slirp.associations errand) slirp f link past
+  by_list slirp past errand holds =
+      let left : errand_left config past ≡ Some errand = errand_for config (asked_by config slirp.associations (Some errand)) slirp past holds.relayed ∙ asked_in config slirp.associations errand in
+      subst (λ (s : Step). HoldsAt config at s slirp f link past) (asks_by_list config slirp.associations errand (asks_none config past errand holds.services.unresolved left)) holds
+
   pub relayed : (slirp : SlirpState) (past : List Entry) (errand : Errand) (next : ℕ) (new : List Association) (reply : Reply) (made : List Entry)
-      → Relays 0 None (outbound_of errand) slirp.moment slirp.number next slirp.associations new reply made → AreAllowed made → HoldsAt config at (step_for slirp.associations (Some errand)) slirp f link past
+      → Relays 0 None (outbound_of errand) slirp.moment slirp.number next slirp.associations new reply made → AreAllowed made → HoldsAt config at (asked_by config slirp.associations (Some errand)) slirp f link past
       → Holds config at (record slirp { associations = new; pending = told_by slirp errand.datagram reply; number = next }) f link (made ++ past)
   relayed slirp past errand next new reply made (ByForward socket for sends is same) allowed holds = cc
   relayed slirp past errand next new reply made (BySocket socket for found sends is same) allowed holds =
-      let due = subst (λ (o : Option ℕ). HoldsAt config at (with_socket o slirp.associations errand) slirp f link past) found holds in
+      let due = subst (λ (o : Option ℕ). HoldsAt config at (with_socket o slirp.associations errand) slirp f link past) found (by_list slirp past errand holds) in
       subst (λ (n : ℕ). Holds config at (record slirp { associations = new; pending = told_by slirp errand.datagram reply; number = n }) f link (made ++ past)) (sym same)
       (subst (λ (l : List Association). Holds config at (record slirp { associations = l; pending = told_by slirp errand.datagram reply }) f link (made ++ past)) (sym is)
       (subst (λ (r : Reply). Holds config at (record slirp { associations = moved_last (sent_from (record { 0 = errand.datagram.mac }) slirp.moment) socket slirp.associations; pending = told_by slirp errand.datagram r }) f link (made ++ past)) (sym sends.2)
@@ -110,7 +119,7 @@ module _ (config : Config) (at : Standing) (f : Flowing) (link : LinkState) wher
       (sent_on slirp past socket errand (socket_among errand.datagram.from slirp.associations socket found) due sends.0 (subst AreAllowed sends.1 allowed).0))))
   relayed slirp past errand next new reply made (ByNewSocket calls for found room opens is same) allowed holds =
       let all = parted calls (calls_for_room slirp.associations) (subst AreAllowed is allowed) in
-      let due = subst (λ (o : Option ℕ). HoldsAt config at (with_socket o slirp.associations errand) slirp f link past) found holds in
+      let due = subst (λ (o : Option ℕ). HoldsAt config at (with_socket o slirp.associations errand) slirp f link past) found (by_list slirp past errand holds) in
       let ready = roomed slirp past errand slirp.associations room all.1 due in
       subst (λ (n : ℕ). Holds config at (record slirp { associations = new; pending = told_by slirp errand.datagram reply; number = n }) f link (made ++ past)) (sym same)
       (subst (λ (m : List Entry). Holds config at (record slirp { associations = new; pending = told_by slirp errand.datagram reply; number = slirp.number + 1 }) f link (m ++ past)) (sym is)

@@ -12,7 +12,7 @@ use Rattle.run_laws.specs.Moments.{moment, waits}
 use Rattle.run_laws.specs.Shape.{is_ended, is_over}
 use Rattle.run_laws.specs.Sockets.{is_among, kind_of, next_number, open_sockets}
 use Rattle.slirp_laws.specs.Agenda.{agenda, all_wanted, wanted_of}
-use Rattle.slirp_laws.specs.Asking.{errand_left}
+use Rattle.slirp_laws.specs.Errands.{errand_left}
 use Rattle.slirp_laws.specs.Datagrams.{Settled}
 use Rattle.slirp_laws.specs.Laws.{Lawful}
 use Rattle.stream_netdev.specs.State.{LinkState}
@@ -20,6 +20,7 @@ use Rattle.slirp_core.specs.Holds.{Stands, Begins, Standing, InTurn, IsLast, OfG
 use Rattle.slirp_core.specs.State.{SlirpState}
 use Rattle.slirp_core.specs.Waiting.{OfFragments}
 use Rattle.slirp_core.proofs.Parts.{asks_nothing, errand_for, in_turn}
+use Rattle.slirp_core.proofs.Services.{none_due_for_services}
 use Rattle.flow_splice.specs.declared.Pumped.{Pumped as PumpedFlows}
 use Rattle.slirp_core.specs.Pumps.{pumped_flows}
 use Rattle.flow_splice.specs.declared.Pumped.TheVariants.{Clear, Blocked, Failed}
@@ -42,7 +43,7 @@ between config at slirp f link past turn holds = record {
   holds = holds.flows.holds;
   settings = holds.flows.settings;
   lawful = holds.lawful;
-  work = record { working = turn.working; errand = errand_for config Settled slirp past holds.relayed; open_yet = holds.open_yet };
+  work = record { working = turn.working; errand = errand_for config Settled slirp past holds.relayed; services = none_due_for_services config past holds.services.unresolved; open_yet = holds.open_yet };
   at = holds.clock.moment;
 }
 
@@ -83,7 +84,8 @@ after_flows config at later slirp f link past made aged new same allowed turn ho
       };
       answers = record { sent = leaves.counted ∙ holds.answers.sent; pending = leaves.left ∙ holds.answers.pending };
       guests = guests_left config slirp past made moments others holds.guests;
-      relayed = record { list = others.list ∙ holds.relayed.list; asks = asks_nothing slirp.associations (errand_left config (made ++ past)) then_is.work.errand };
+      relayed = record { list = others.list ∙ holds.relayed.list; asks = asks_nothing config slirp.associations (errand_left config (made ++ past)) then_is.work.errand };
+      services = record { leases = others.leases ∙ holds.services.leases; unresolved = holds.services.unresolved; unbound = holds.services.unbound };
       flows = record { holds = then_is.holds; settings = then_is.settings; unit = holds.flows.unit };
       sockets = record { number = leaves.next ∙ holds.sockets.number; kinds = sockets_left config past made others holds.sockets.kinds };
       clock = record { moment = then_is.at; counted = others.waits ∙ holds.clock.counted ∙ sym same };
@@ -134,6 +136,7 @@ unticked config at slirp kept link past unrested holds = record {
   answers = holds.answers;
   guests = holds.guests;
   relayed = holds.relayed;
+  services = holds.services;
   flows = record {
     holds = record {
       seats = subst (λ (r : List Rest). Seats number_of (Following config slirp.moment) kept.flows.table kept.flows.parts (next_number past) (book config past).flows r) (unrested ∙ sym (ap (filter (is_young (moment past))) unrested)) holds.flows.holds.seats;
@@ -161,6 +164,7 @@ flows_put config at slirp k f link past holds = record {
   answers = record { sent = holds.answers.sent; pending = holds.answers.pending };
   guests = record { settings = holds.guests.settings; known = holds.guests.known; fragments = record { held = holds.guests.fragments.held; is_held = holds.guests.fragments.is_held; wait = holds.guests.fragments.wait } };
   relayed = record { list = holds.relayed.list; asks = holds.relayed.asks };
+  services = record { leases = holds.services.leases; unresolved = holds.services.unresolved; unbound = holds.services.unbound };
   flows = holds.flows;
   sockets = holds.sockets;
   clock = record { moment = holds.clock.moment; counted = holds.clock.counted };
@@ -183,6 +187,7 @@ turn_begins config at slirp aged kept link past holds = record {
   answers = holds.answers;
   guests = holds.guests;
   relayed = holds.relayed;
+  services = holds.services;
   flows = record { holds = holds.flows.holds; settings = record { ring = holds.flows.settings.ring; mtu = holds.flows.settings.mtu; mru = holds.flows.settings.mru; congestion = holds.flows.settings.congestion; vhost = holds.flows.settings.vhost }; unit = holds.flows.unit };
   sockets = holds.sockets;
   clock = holds.clock;
@@ -241,7 +246,8 @@ module _ (config : Config) (at : Standing) (slirp : SlirpState) (f : Flowing) (l
         keeps = then_is.keeps;
         answers = record { sent = then_is.counted; pending = then_is.nothing ∙ sym none };
         guests = record { settings = guests.settings; known = guests.known; fragments = record { held = fragments.held; is_held = fragments.is_held; wait = fragments.wait } };
-        relayed = record { list = others.list ∙ holds.relayed.list; asks = asks_nothing slirp.associations (errand_left config (made ++ past)) then_is.between.work.errand };
+        relayed = record { list = others.list ∙ holds.relayed.list; asks = asks_nothing config slirp.associations (errand_left config (made ++ past)) then_is.between.work.errand };
+        services = record { leases = others.leases ∙ holds.services.leases; unresolved = holds.services.unresolved; unbound = holds.services.unbound };
         flows = record { holds = then_is.between.holds; settings = then_is.between.settings; unit = holds.flows.unit };
         sockets = record { number = same ∙ holds.sockets.number; kinds = sockets_left config past made others holds.sockets.kinds };
         clock = record { moment = then_is.between.at; counted = others.waits ∙ holds.clock.counted };
@@ -256,8 +262,9 @@ module _ (config : Config) (at : Standing) (slirp : SlirpState) (f : Flowing) (l
     lawful = then_is.lawful;
     over = then_is.over;
     errand = others.errand ∙ errand_for config Settled slirp past holds.relayed;
+    served = none_due_for_services config (made ++ past) holds.services.unresolved;
     idle = then_is.asks;
-    sockets = open_by config slirp.associations (flowing f.aged new) slirp.moment (made ++ past) then_is.lawful (others.list ∙ holds.relayed.list) then_is.holds (sockets_left config past made others holds.sockets.kinds);
+    sockets = open_by config slirp.associations (flowing f.aged new) slirp.moment (made ++ past) holds.services.unresolved then_is.lawful (others.list ∙ holds.relayed.list) then_is.holds (sockets_left config past made others holds.sockets.kinds);
   }
 
   -- the flows were pumped

@@ -16,7 +16,7 @@ use Rattle.slirp_laws.specs.Asking.{step, step_of}
 use Rattle.slirp_laws.specs.Datagrams.{Settled, due_for}
 use Rattle.slirp_laws.specs.Laws.{Lawful, May, MayDue, due, unless_due}
 use Rattle.slirp_laws.proofs.Bools.{among_without, equal, same}
-use Rattle.slirp_laws.proofs.Deeds.{any_one, this_one}
+use Rattle.slirp_laws.proofs.Deeds.{any_one, quest_none, this_one}
 use Rattle.slirp_laws.proofs.OpenSockets.{peer_next}
 use Rattle.core_flows.proofs.Tables.{get_set_at, get_set_other}
 use Rattle.core_flows.proofs.Seats.{differ, same_or_not}
@@ -104,9 +104,9 @@ module _ (config : Config) (over : Phase) (list : List Association) (parts : Lis
 
   is_due : Rests config past → MayDue config past (CallClose n)
   is_due (OverBy why ended) =
-      this_one config past (CallClose n) (due_in_phase config past (Over (By why)) ended closing.idle
-      ∙ ap (λ (o : Option Call). unless_due o (due_for (step config past) (next_number past))) (ap (option_map CallClose) first_is))
-  is_due (AllWaited working) = any_one config past (CallClose n) (due_is config past Settled working closing.idle (ap (step_of config past) closing.errand))
+      this_one config past (CallClose n) (due_in_phase config past (Over (By why)) ended closing.served closing.idle
+      ∙ ap (λ (o : Option Call). unless_due o (due_for config (step config past) (next_number past))) (ap (option_map CallClose) first_is))
+  is_due (AllWaited working) = any_one config past (CallClose n) (due_is config past Settled working closing.served closing.idle (ap (step_of config past) closing.errand))
   is_due (NoneWaited started shut) = absurd (true_false (sym among ∙ ap (is_among n) shut))
 
   may_close : May config past (CallClose n)
@@ -124,6 +124,7 @@ module _ (config : Config) (over : Phase) (list : List Association) (parts : Lis
     is = closing.is;
     rests = rests_on closing.rests;
     errand = closing.errand;
+    served = quest_none config past closing.served;
     idle = refl;
     sockets = left;
   }
@@ -258,10 +259,10 @@ module _ (config : Config) (over : Phase) (list : List Association) (parts : Lis
 
     none_due : Rests config past → due config past ≡ None
     none_due (OverBy why is) =
-        due_in_phase config past (Over (By why)) is closing.idle
-        ∙ ap (λ (s : List ℕ). unless_due (option_map CallClose (first s)) (due_for (step config past) (next_number past))) shut ∙ ap (λ s. due_for s (next_number past)) (ap (step_of config past) closing.errand)
-    none_due (AllWaited working) = due_in_phase config past Working working closing.idle ∙ ap (λ s. due_for s (next_number past)) (ap (step_of config past) closing.errand)
-    none_due (NoneWaited started was_shut) = due_in_phase config past Started started closing.idle ∙ ap (λ s. due_for s (next_number past)) (ap (step_of config past) closing.errand)
+        due_in_phase config past (Over (By why)) is closing.served closing.idle
+        ∙ ap (λ (s : List ℕ). unless_due (option_map CallClose (first s)) (due_for config (step config past) (next_number past))) shut ∙ ap (λ s. due_for config s (next_number past)) (ap (step_of config past) closing.errand)
+    none_due (AllWaited working) = due_in_phase config past Working working closing.served closing.idle ∙ ap (λ s. due_for config s (next_number past)) (ap (step_of config past) closing.errand)
+    none_due (NoneWaited started was_shut) = due_in_phase config past Started started closing.served closing.idle ∙ ap (λ s. due_for config s (next_number past)) (ap (step_of config past) closing.errand)
 
     pub all_closed : Ran config over past
     all_closed = (closing.lawful, record { ended = closing.ended; none_due = none_due closing.rests; closed = shut }, closing.is)

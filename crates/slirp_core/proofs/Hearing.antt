@@ -23,7 +23,7 @@ use Rattle.flow_book.specs.Taught.{taught}
 use Rattle.run_laws.specs.Sockets.{Flow as FlowKind, is_among, kind_of, next_number, open_sockets, with_made}
 use Rattle.slirp_laws.specs.Agenda.{agenda, all_wanted}
 use Rattle.slirp_laws.specs.Answers.{frames_of, identification, left, owed_for_segment, reset_for, unconnected}
-use Rattle.slirp_laws.specs.Asking.{errand_left}
+use Rattle.slirp_laws.specs.Errands.{errand_left}
 use Rattle.slirp_laws.specs.Laws.{Lawful, May}
 use Rattle.slirp_laws.proofs.Bools.{among_last}
 use Rattle.core_flows.specs.Seats.{in_use_slots}
@@ -33,6 +33,7 @@ use Rattle.slirp_core.specs.Segments.{Coming}
 use Rattle.slirp_core.specs.State.{SlirpState}
 use Rattle.slirp_core.proofs.Guests.{guests_stay}
 use Rattle.slirp_core.proofs.Parts.{asks_nothing, keeps_by}
+use Rattle.slirp_core.proofs.Services.{none_due_for_services}
 use Rattle.spliced_flows.specs.Core.{Following, mac_of, number_of}
 use Rattle.spliced_flows.specs.Stands.{lot_without}
 use Rattle.spliced_flows.proofs.Joined.{may_connect}
@@ -138,7 +139,8 @@ module _ (config : Config) (at : Standing) (slirp : SlirpState) (kept : Kept) (l
         };
         answers = record { sent = leaves.counted ∙ comes.sent; pending = leaves.left ∙ owed };
         guests = record { settings = guests.settings; known = guests.known; fragments = record { held = fragments.held; is_held = fragments.is_held; wait = fragments.wait } };
-        relayed = record { list = others.list ∙ comes.relayed.list; asks = asks_nothing slirp.associations (errand_left config (made ++ past)) then_is.work.errand };
+        relayed = record { list = others.list ∙ comes.relayed.list; asks = asks_nothing config slirp.associations (errand_left config (made ++ past)) then_is.work.errand };
+        services = record { leases = others.leases ∙ comes.services.leases; unresolved = comes.services.unresolved; unbound = comes.services.unbound };
         flows = record { holds = then_is.holds; settings = then_is.settings; unit = comes.unit };
         sockets = record { number = leaves.next ∙ comes.sockets.number; kinds = sockets_left config past made others comes.sockets.kinds };
         clock = record { moment = then_is.at; counted = others.waits ∙ comes.clock.counted };
@@ -214,6 +216,7 @@ module _ (config : Config) (at : Standing) (slirp : SlirpState) (kept : Kept) (l
               answers = record { sent = comes.sent; pending = owed };
               guests = guests_stay config slirp (record slirp { number = slirp.number + 1; pending = pending }) e past refl refl comes.guests;
               relayed = record { list = comes.relayed.list; asks = comes.relayed.asks };
+              services = record { leases = comes.services.leases; unresolved = comes.services.unresolved; unbound = comes.services.unbound };
               flows = record { holds = then_is.holds; settings = then_is.settings; unit = comes.unit };
               sockets = record { number = ap (λ n. n + 1) comes.sockets.number; kinds = kinds_joined slirp.number to answer past comes.sockets.kinds };
               clock = record { moment = comes.clock.moment; counted = comes.clock.counted };
@@ -246,7 +249,7 @@ module _ (config : Config) (at : Standing) (slirp : SlirpState) (kept : Kept) (l
               holds = holds_quiet number_of mac_of (Following config slirp.moment) (Following config slirp.moment) config new.flows past e false (Some (CallConnect (next_number past) to)) refl (omega arith) refl (λ p story follows. follows) due_is.holds;
               settings = due_is.settings;
               lawful = (may, due_is.lawful);
-              work = record { working = due_is.work.working; errand = due_is.work.errand; open_yet = due_is.work.open_yet };
+              work = record { working = due_is.work.working; errand = due_is.work.errand; services = none_due_for_services config (e ∷ past) comes.services.unresolved; open_yet = due_is.work.open_yet };
               at = due_is.at;
             })
             (ap (λ o. unconnected config (identification past) o (left config past)) came_is

@@ -11,6 +11,7 @@ pub mod NextFrames
 pub mod Parts
 pub mod Pumping
 pub mod Relaying
+pub mod Services
 pub mod Sockets
 pub mod Taking
 pub mod Ticking

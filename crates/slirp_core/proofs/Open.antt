@@ -25,7 +25,7 @@ use Rattle.slirp_core.proofs.Parts.{carried}
 none_doomed : (config : Config) (b : Book) (next : ℕ) (n : ℕ) → due_for_flows config b next ≡ None → b.doomed ≡ Some n → ⊥
 none_doomed config b next n asked is = cc (sym asked ∙ ap (λ d. due_by d (connects_to config b) next) is)
 
-module _ (config : Config) (list : List Association) (f : Flowing) (now : ℕ) (past : List Entry) (lawful : Lawful config past) (is_list : associations config past ≡ list) (holds : CoreHolds config now f.aged None f.kept.flows past)
+module _ (config : Config) (list : List Association) (f : Flowing) (now : ℕ) (past : List Entry) (none : config.resolver ≡ None) (lawful : Lawful config past) (is_list : associations config past ≡ list) (holds : CoreHolds config now f.aged None f.kept.flows past)
     (kinds : (n : ℕ) → is_among n (open_sockets past) ≡ true → is_ours (kind_of n past) ≡ true) where
   has_flow : (n : ℕ) → joins past n ≡ true → HasSocket n f.kept.flows.parts (λ p. Unit {0})
   has_flow n joined = by (open_flow config past n lawful joined)
@@ -38,17 +38,17 @@ module _ (config : Config) (list : List Association) (f : Flowing) (now : ℕ) (
 
   by_kind : (n : ℕ) → is_among n (open_sockets past) ≡ true → (a b : Bool) → is_association (kind_of n past) ≡ a → is_flow (kind_of n past) ≡ b → (a || b) ≡ true
       → (is_among n (numbers list) ≡ true) ⊎ HasSocket n f.kept.flows.parts (λ p. Unit {0})
-  by_kind n among true b one two is = inl (sym (carried config list past lawful is_list n) ∙ and_both (is_among n (open_sockets past)) (is_association (kind_of n past)) among one)
+  by_kind n among true b one two is = inl (sym (carried config list past none lawful is_list n) ∙ and_both (is_among n (open_sockets past)) (is_association (kind_of n past)) among one)
   by_kind n among false true one two is = inr (has_flow n (and_both (is_among n (open_sockets past)) (is_flow (kind_of n past)) among two))
   by_kind n among false false one two is = cc
 
   pub open_by : AreOpen list f.kept.flows.parts past
   open_by = record {
     each = λ n among. by_kind n among (is_association (kind_of n past)) (is_flow (kind_of n past)) refl refl (kinds n among);
-    carry = λ n among. first_of (is_among n (open_sockets past)) (is_association (kind_of n past)) (carried config list past lawful is_list n ∙ among);
+    carry = λ n among. first_of (is_among n (open_sockets past)) (is_association (kind_of n past)) (carried config list past none lawful is_list n ∙ among);
     flow = λ k p at_k. first_of (is_among (number_of p) (open_sockets past)) (is_flow (kind_of (number_of p) past)) (seat_open config now f.aged None f.kept.flows past holds lawful k p at_k.here at_k.open_yet);
-    apart = λ k p at_k. sym (carried config list past lawful is_list (number_of p)) ∙ joins_carries_none past (number_of p) (seat_open config now f.aged None f.kept.flows past holds lawful k p at_k.here at_k.open_yet);
+    apart = λ k p at_k. sym (carried config list past none lawful is_list (number_of p)) ∙ joins_carries_none past (number_of p) (seat_open config now f.aged None f.kept.flows past holds lawful k p at_k.here at_k.open_yet);
   }
 
 pub are_open : (config : Config) (at : Standing) (step : Step) (slirp : SlirpState) (f : Flowing) (link : LinkState) (past : List Entry) → HoldsAt config at step slirp f link past → AreOpen slirp.associations f.kept.flows.parts past
-are_open config at step slirp f link past holds = open_by config slirp.associations f slirp.moment past holds.lawful holds.relayed.list holds.flows.holds holds.sockets.kinds
+are_open config at step slirp f link past holds = open_by config slirp.associations f slirp.moment past holds.services.unresolved holds.lawful holds.relayed.list holds.flows.holds holds.sockets.kinds

@@ -1,5 +1,6 @@
 -- What the core has, part by part, after a call on a socket that isn't a flow's.
-use Rattle.std.proofs.Common.{◌≡◌, ℕ, ◌&&◌, ◌||◌, Bool, true, false, List, [], ◌∷◌, Option, Some, None, refl, sym, ◌∙◌, ap, subst, arith, nat_le, ◌++◌, length, if◌then◌else◌}
+use Rattle.std.proofs.Common.{◌≡◌, ℕ, ◌==◌, ◌&&◌, ◌||◌, Bool, true, false, List, [], ◌∷◌, Option, Some, None, refl, sym, ◌∙◌, ap, subst, arith, nat_le, ◌++◌, filter, find, length, if◌then◌else◌}
+use Rattle.net_octets.specs.declared.Endpoint.{Endpoint}
 use Rattle.poll_list.specs.declared.Want.{Want}
 use Rattle.world_face.specs.Journal.{Entry, Call, Allowed, call_of, Close, UdpOpen, UdpSend, UdpRecv}
 use Rattle.world_face.specs.declared.Made.TheVariants.{Done, Failed}
@@ -10,19 +11,23 @@ use Rattle.flow_book.specs.Book.{book}
 use Rattle.flow_book.specs.Lots.{due_for_flows}
 use Rattle.run_laws.specs.Happenings.{happens}
 use Rattle.run_laws.specs.Shape.{Phase, Working, phase, due_in, opened}
-use Rattle.run_laws.specs.Sockets.{is_among, next_number}
+use Rattle.run_laws.specs.Sockets.{Kind, Association as OfAssociation, Flow as OfFlow, Forward, Listener, DnsSocket, is_among, is_association, is_forward, kind_of, next_number, open_sockets}
 use Rattle.slirp_laws.specs.Agenda.{agenda, all_wanted, behind, from, is_to_read}
-use Rattle.slirp_laws.specs.Asking.{errand_left, step}
-use Rattle.slirp_laws.specs.Datagrams.{Step, due_for, Errand, Settled, NeedsRoom, NeedsSocket}
-use Rattle.slirp_laws.specs.Relayed.{associations, step_for, with_socket, without_socket}
-use Rattle.slirp_laws.specs.Laws.{Lawful, May, carries, due, is_closing, unless_due, begins_closing}
+use Rattle.slirp_laws.specs.Asking.{step}
+use Rattle.slirp_laws.specs.Errands.{errand_left}
+use Rattle.slirp_laws.specs.Datagrams.{Step, due_for, Errand, Settled, NeedsRoom, NeedsSocket, asks_a_name}
+use Rattle.slirp_laws.specs.Ports.{forward_for, is_port, opened_for}
+use Rattle.slirp_laws.specs.Relayed.{associations, step_for, with_forward, with_socket, without_socket}
+use Rattle.slirp_laws.specs.Laws.{Lawful, May, carries, due, due_for_services, is_closing, unless_due, begins_closing}
+use Rattle.slirp_laws.proofs.Bools.{same}
 use Rattle.slirp_laws.proofs.Deeds.{FlowsAskNothing}
 use Rattle.slirp_laws.proofs.Joining.{joined, joined_step}
 use Rattle.stream_netdev.specs.Keeps.{Keeps}
 use Rattle.stream_netdev.specs.State.{LinkState}
-use Rattle.slirp_core.specs.Holds.{Standing, InTurn, IsLast, OfAnswers, OfClock, OfRelay, Unbegun, Flowing, HoldsAt, OfFlows, OfSockets, Stands, Turns, Begins}
+use Rattle.slirp_core.specs.Holds.{Standing, InTurn, is_ours, asked_by, no_forward, IsLast, OfAnswers, OfClock, OfRelay, Unbegun, Flowing, HoldsAt, OfFlows, OfSockets, Stands, Turns, Begins}
 use Rattle.slirp_core.specs.State.{SlirpState}
 use Rattle.slirp_core.proofs.Guests.{guests_stay, of_guests}
+use Rattle.slirp_core.proofs.Services.{kinds_are, no_questions, services_stay}
 use Rattle.tcp_flows.specs.Kept.{Kept}
 use Rattle.slirp_core.proofs.Flows.{close_same, flows_same, flows_stay, no_flow}
 use Rattle.poll_list.specs.Listing.{reads, same_who}
@@ -32,23 +37,21 @@ use Rattle.slirp_laws.proofs.Steps.{errand_in}
 
 -- ---- which call is due
 
--- by where the run stands; flows ask for none
-pub due_in_phase : (config : Config) (past : List Entry) (p : Phase) → phase config past ≡ p → FlowsAskNothing config past → due config past ≡ unless_due (due_in p past) (due_for (step config past) (next_number past))
-due_in_phase config past p is asks =
-    ap (λ q. unless_due (due_in q past) (unless_due (due_for (step config past) (next_number past)) (due_for_flows config (book config past) (next_number past)))) is
-    ∙ ap (λ o. unless_due (due_in p past) (unless_due (due_for (step config past) (next_number past)) o)) asks
-    ∙ ap (unless_due (due_in p past)) (unless_none (due_for (step config past) (next_number past)))
+-- by where the run stands; services and flows ask for none
+pub due_in_phase : (config : Config) (past : List Entry) (p : Phase) → phase config past ≡ p → due_for_services config past ≡ None → FlowsAskNothing config past
+    → due config past ≡ unless_due (due_in p past) (due_for config (step config past) (next_number past))
+due_in_phase config past p is serves asks =
+    ap (λ q. unless_due (due_in q past) (unless_due (due_for config (step config past) (next_number past)) (unless_due (due_for_services config past) (due_for_flows config (book config past) (next_number past))))) is
+    ∙ ap (λ o. unless_due (due_in p past) (unless_due (due_for config (step config past) (next_number past)) (unless_due o (due_for_flows config (book config past) (next_number past))))) serves
+    ∙ ap (λ o. unless_due (due_in p past) (unless_due (due_for config (step config past) (next_number past)) o)) asks
+    ∙ ap (unless_due (due_in p past)) (unless_none (due_for config (step config past) (next_number past)))
   where
     unless_none : (o : Option Call) → unless_due o None ≡ o
     unless_none None = refl
     unless_none (Some call) = refl
 
-pub due_is : (config : Config) (past : List Entry) (s : Step) → phase config past ≡ Working → FlowsAskNothing config past → step config past ≡ s → due config past ≡ due_for s (next_number past)
-due_is config past s working asks is = due_in_phase config past Working working asks ∙ ap (λ t. due_for t (next_number past)) is
-
--- what the list asks for is what the record says
-pub asked_for : (config : Config) (at : Standing) (s : Step) (slirp : SlirpState) (f : Flowing) (link : LinkState) (past : List Entry) → HoldsAt config at s slirp f link past → step config past ≡ s
-asked_for config at s slirp f link past holds = joined_step config past holds.lawful ∙ ap (λ l. step_for l (errand_left config past)) holds.relayed.list ∙ holds.relayed.asks
+pub due_is : (config : Config) (past : List Entry) (s : Step) → phase config past ≡ Working → due_for_services config past ≡ None → FlowsAskNothing config past → step config past ≡ s → due config past ≡ due_for config s (next_number past)
+due_is config past s working serves asks is = due_in_phase config past Working working serves asks ∙ ap (λ t. due_for config t (next_number past)) is
 
 -- of which datagram
 in_fresh : (list : List Association) (errand : Errand) → errand_in (without_socket list errand) ≡ Some errand
@@ -63,16 +66,23 @@ in_socket : (o : Option ℕ) (list : List Association) (errand : Errand) → err
 in_socket None list errand = in_fresh list errand
 in_socket (Some socket) list errand = refl
 
-in_step : (list : List Association) (o : Option Errand) → errand_in (step_for list o) ≡ o
-in_step list None = refl
-in_step list (Some errand) = in_socket (socket_of errand.datagram.from list) list errand
+in_step : (config : Config) (list : List Association) (o : Option Errand) → errand_in (asked_by config list o) ≡ o
+in_step config list None = refl
+in_step config list (Some errand) = by (asks_a_name config errand)
+  where
+    by : (b : Bool) → errand_in (if b then NeedsSocket errand else with_socket (socket_of errand.datagram.from list) list errand) ≡ Some errand
+    by true = refl
+    by false = in_socket (socket_of errand.datagram.from list) list errand
+
+pub asked_in : (config : Config) (list : List Association) (errand : Errand) → errand_in (asked_by config list (Some errand)) ≡ Some errand
+asked_in config list errand = in_step config list (Some errand)
 
 pub errand_for : (config : Config) (s : Step) (slirp : SlirpState) (past : List Entry) → OfRelay config s slirp past → errand_left config past ≡ errand_in s
-errand_for config s slirp past relayed = sym (in_step slirp.associations (errand_left config past)) ∙ ap errand_in relayed.asks
+errand_for config s slirp past relayed = sym (in_step config slirp.associations (errand_left config past)) ∙ ap errand_in relayed.asks
 
 -- nothing is asked for, whatever the list
-pub asks_nothing : (list : List Association) (o : Option Errand) → o ≡ None → step_for list o ≡ Settled
-asks_nothing list o is = ap (step_for list) is
+pub asks_nothing : (config : Config) (list : List Association) (o : Option Errand) → o ≡ None → asked_by config list o ≡ Settled
+asks_nothing config list o is = ap (asked_by config list) is
 
 pub or_first : (a b : Bool) → a ≡ true → (a || b) ≡ true
 or_first true b is = refl
@@ -82,12 +92,43 @@ pub or_second : (a b : Bool) → b ≡ true → (a || b) ≡ true
 or_second true b is = refl
 or_second false b is = is
 
+-- no port of the host is given to a guest: each open socket is an association's or a flow's
+none_of : (p : ℕ → Bool) (l : List ℕ) → ((n : ℕ) → is_among n l ≡ true → p n ≡ false) → filter p l ≡ []
+none_of p [] never = refl
+none_of p (n ∷ l) never = ap (λ b. if b then n ∷ filter p l else filter p l) (never n (or_first (n == n) (is_among n l) (same n))) ∙ none_of p l (λ m among. never m (or_second (m == n) (is_among m l) among))
+
+not_given : (kind : Option Kind) → is_ours kind ≡ true → is_forward kind ≡ false
+not_given None is = refl
+not_given (Some OfAssociation) is = refl
+not_given (Some DnsSocket) is = refl
+not_given (Some Forward) is = cc
+not_given (Some Listener) is = refl
+not_given (Some OfFlow) is = refl
+
+none_given : (config : Config) (past : List Entry) (guest : Endpoint) → ((n : ℕ) → is_among n (open_sockets past) ≡ true → is_ours (kind_of n past) ≡ true) → forward_for config guest past ≡ None
+none_given config past guest kinds =
+    ap (λ l. find (λ s. is_port guest (opened_for config s past)) l) (none_of (λ s. is_forward (kind_of s past)) (open_sockets past) (λ n among. not_given (kind_of n past) (kinds n among)))
+
+step_as : (config : Config) (past : List Entry) (list : List Association) (o : Option Errand) → ((n : ℕ) → is_among n (open_sockets past) ≡ true → is_ours (kind_of n past) ≡ true)
+    → step_for config [] (λ guest. forward_for config guest past) list o ≡ asked_by config list o
+step_as config past list None kinds = refl
+step_as config past list (Some errand) kinds = ap (λ f. if asks_a_name config errand then NeedsSocket errand else with_forward f list errand) (none_given config past errand.datagram.from kinds)
+
+-- what the list asks for is what the record says
+pub asked_for : (config : Config) (at : Standing) (s : Step) (slirp : SlirpState) (f : Flowing) (link : LinkState) (past : List Entry) → HoldsAt config at s slirp f link past → step config past ≡ s
+asked_for config at s slirp f link past holds =
+    joined_step config past holds.lawful
+    ∙ ap (λ q. step_for config q (λ guest. forward_for config guest past) (associations config past) (errand_left config past)) (no_questions config past holds.services.unresolved)
+    ∙ step_as config past (associations config past) (errand_left config past) holds.sockets.kinds
+    ∙ ap (λ l. asked_by config l (errand_left config past)) holds.relayed.list ∙ holds.relayed.asks
+
 -- the sockets that carry datagrams are those of the list
-pub carried : (config : Config) (list : List Association) (past : List Entry) → Lawful config past → associations config past ≡ list → (n : ℕ) → carries past n ≡ is_among n (numbers list)
-carried config list past lawful is n = (joined config past lawful).those n ∙ ap (λ l. is_among n (numbers l)) is
+pub carried : (config : Config) (list : List Association) (past : List Entry) → config.resolver ≡ None → Lawful config past → associations config past ≡ list → (n : ℕ) → carries past n ≡ is_among n (numbers list)
+carried config list past none lawful is n =
+    ap (λ k. is_among n (open_sockets past) && is_association k) (sym (kinds_are config past none n)) ∙ (joined config past lawful).those n ∙ ap (λ l. is_among n (numbers l)) is
 
 pub carried_by : (config : Config) (at : Standing) (s : Step) (slirp : SlirpState) (f : Flowing) (link : LinkState) (past : List Entry) → HoldsAt config at s slirp f link past → (n : ℕ) → carries past n ≡ is_among n (numbers slirp.associations)
-carried_by config at s slirp f link past holds n = carried config slirp.associations past holds.lawful holds.relayed.list n
+carried_by config at s slirp f link past holds n = carried config slirp.associations past holds.services.unresolved holds.lawful holds.relayed.list n
 
 -- a turn has begun, where that is against what is so before
 pub in_turn : {config : Config} {step : Step} {slirp : SlirpState} {kept : Kept} {link : LinkState} {past : List Entry} → Stands config step slirp kept link past → (Unbegun config step slirp link past → ⊥) → InTurn config past
@@ -166,15 +207,16 @@ pub record Changes (config : Config) (after : Standing) (step : Step) (new : Sli
 
 -- and the rest stays
 pub after_socket : (config : Config) (at after : Standing) (step new_step : Step) (slirp new : SlirpState) (f : Flowing) (link : LinkState) (e : Entry) (past : List Entry) → IsOnSocket e
-    → of_guests new ≡ of_guests slirp → new.moment ≡ slirp.moment → after.count ≡ at.count → InTurn config past
+    → of_guests new ≡ of_guests slirp → new.moment ≡ slirp.moment → new.leases ≡ slirp.leases → after.count ≡ at.count → InTurn config past
     → HoldsAt config at step slirp f link past → Changes config after new_step new e past → HoldsAt config after new_step new f link (e ∷ past)
-after_socket config at after step new_step slirp new f link e past on same_guests same_moment same_count turn holds changes = record {
+after_socket config at after step new_step slirp new f link e past on same_guests same_moment same_leases same_count turn holds changes = record {
   lawful = (changes.may, holds.lawful);
   allowed = (changes.allowed, holds.allowed);
   keeps = link_stays link e past on holds.keeps;
   answers = changes.answers;
   guests = guests_stay config slirp new e past (brings_none config e past on) same_guests holds.guests;
   relayed = changes.relayed;
+  services = services_stay config slirp new e past (brings_none config e past on) same_leases holds.services;
   flows = subst (λ m. OfFlows config f m (e ∷ past)) (sym same_moment) (flows_on config f slirp.moment e past on changes.own holds.lawful holds.flows);
   sockets = changes.sockets;
   clock = clock_stays at after slirp new e past on same_moment same_count holds.clock;

@@ -1,12 +1,12 @@
 -- Writes of a pump that sends what is owed for the frame or datagram that came last.
-use Rattle.std.proofs.Common.{◌≡◌, ℕ, ◌+◌, ◌%◌, ◌^◌, ◌<◌, ◌==◌, ◌&&◌, Bool, true, false, List, [], ◌∷◌, ◌++◌, drop, length, bytes_eq, None, sym, ◌∙◌, ap, subst, arith, cond, refl}
+use Rattle.std.proofs.Common.{◌≡◌, ℕ, ◌+◌, ◌%◌, ◌^◌, ◌<◌, ◌==◌, ◌&&◌, Bool, true, false, List, [], ◌∷◌, ◌++◌, drop, length, bytes_eq, Some, None, if◌then◌else◌, sym, ◌∙◌, ap, subst, arith, refl}
 use Rattle.std.proofs.lemmas.Bool.Decides.{nat_tests}
 use Rattle.world_face.specs.Journal.{Entry, Allowed, AreAllowed, LinkWrite}
 use Rattle.world_face.specs.declared.Io.{Io}
 use Rattle.world_face.specs.declared.Io.TheVariants.{Done, End, NotYet, Failed}
 use Rattle.world_face.specs.Frames.{LinkFailed, goes_out, tail, spelling, opens}
 use Rattle.host_policy.specs.Addresses.{Config}
-use Rattle.slirp_laws.specs.Answers.{identification, datagrams_in, datagrams_out, with_datagrams, left, taken, is_first, is_out}
+use Rattle.slirp_laws.specs.Answers.{identification, datagrams_in, datagrams_out, with_datagrams, again_frames, left, serving, taken, is_first, is_out}
 use Rattle.flow_book.specs.Book.{book}
 use Rattle.flow_book.specs.Doings.{doing_by}
 use Rattle.flow_book.specs.Laws.{MayWrite, flow_settings}
@@ -24,10 +24,11 @@ use Rattle.slirp_core.specs.Outgoing.{sent_after}
 use Rattle.slirp_core.specs.Pumps.{pumped_of, keep}
 use Rattle.slirp_core.specs.State.{SlirpState}
 use Rattle.slirp_core.specs.declared.sending.Pumped.{Pumped}
-use Rattle.slirp_laws.specs.Asking.{errand_left}
+use Rattle.slirp_laws.specs.Errands.{errand_left}
 use Rattle.slirp_laws.proofs.Deeds.{writes}
 use Rattle.slirp_core.proofs.Guests.{guests_stay, of_guests}
 use Rattle.slirp_core.proofs.Parts.{asks_nothing, asked_for, due_is, errand_for, in_turn, or_first}
+use Rattle.slirp_core.proofs.Services.{none_due_for_services}
 use Rattle.slirp_core.proofs.Flows.{answer_goes, flows_answered, flows_stay}
 use Rattle.slirp_core.proofs.Open.{are_open}
 use Rattle.stream_netdev.specs.declared.Offered.TheVariants.{Taken, Blocked as OfferBlocked, Failed as OfferFailed}
@@ -35,7 +36,7 @@ use Rattle.stream_netdev.specs.declared.Offered.TheVariants.{Taken, Blocked as O
 -- what is owed after a write is what the network then has
 record Left (config : Config) (past : List Entry) (octets : List ℕ) (answer : Io) (slirp : SlirpState) : Type 0 where
   sent : identification (LinkWrite octets answer ∷ past) ≡ slirp.sent
-  pending : taken (goes_out (LinkWrite octets answer) past) (left config past) ≡ slirp.pending
+  pending : taken (goes_out (LinkWrite octets answer) past) (again_frames config (identification past) (serving config past)) (left config past) ≡ slirp.pending
 
 -- after a lawful write in a turn, by its answer
 after_write : (config : Config) (at : Standing) (slirp new_slirp : SlirpState) (f : Flowing) (old new : LinkState) (past : List Entry) (octets : List ℕ) (answer : Io) (blocked : Bool)
@@ -47,7 +48,7 @@ after_write config at slirp new_slirp f old new past octets answer blocked holds
   where
     lawful : (a : Io) → Keeps new (LinkWrite octets a ∷ past) → Lawful config (LinkWrite octets a ∷ past)
     lawful a k = (
-      writes config past octets k.framed.0 (due_is config past Settled turn.working holds.flows.holds.asked (asked_for config at Settled slirp f old past holds)) (ap is_working turn.working) may holds.open_yet sent,
+      writes config past octets k.framed.0 (due_is config past Settled turn.working (none_due_for_services config past holds.services.unresolved) holds.flows.holds.asked (asked_for config at Settled slirp f old past holds)) (ap is_working turn.working) may holds.open_yet sent,
       holds.lawful,
     )
 
@@ -60,8 +61,9 @@ after_write config at slirp new_slirp f old new past octets answer blocked holds
       guests = guests_stay config slirp new_slirp (LinkWrite octets a) past refl (ap of_guests same) holds.guests;
       relayed = record {
         list = holds.relayed.list ∙ sym (ap (λ (s : SlirpState). s.associations) same);
-        asks = asks_nothing new_slirp.associations (errand_left config past) (errand_for config Settled slirp past holds.relayed);
+        asks = asks_nothing config new_slirp.associations (errand_left config past) (errand_for config Settled slirp past holds.relayed);
       };
+      services = record { leases = holds.services.leases ∙ sym (ap (λ (s : SlirpState). s.leases) same); unresolved = holds.services.unresolved; unbound = holds.services.unbound };
       flows = subst (λ m. OfFlows config f m (LinkWrite octets a ∷ past)) (sym (ap (λ (s : SlirpState). s.moment) same)) (flows a);
       sockets = record { number = holds.sockets.number ∙ sym (ap (λ (s : SlirpState). s.number) same); kinds = holds.sockets.kinds };
       clock = record { moment = holds.clock.moment ∙ sym (ap (λ (s : SlirpState). s.moment) same); counted = holds.clock.counted };
@@ -84,6 +86,7 @@ after_write config at slirp new_slirp f old new past octets answer blocked holds
       lawful = lawful Failed k;
       over = ap (λ p. unless_over p LinkFailed) turn.working;
       errand = errand_for config Settled slirp past holds.relayed;
+      served = none_due_for_services config (LinkWrite octets Failed ∷ past) holds.services.unresolved;
       idle = (flows Failed).holds.asked;
       sockets = subst (λ (s : SlirpState). AreOpen s.associations f.kept.flows.parts (LinkWrite octets Failed ∷ past)) (sym same) (record { each = now_open.each; carry = now_open.carry; flow = now_open.flow; apart = now_open.apart });
     }
@@ -123,7 +126,7 @@ after_flush config at slirp f old new made past result pumped some (answer, is, 
         let same_sent : identification (LinkWrite old.tail a ∷ past) ≡ identification past = ap (λ o. with_datagrams o (datagrams_out past) % 2 ^ 16) none in
         record {
           sent = same_sent ∙ holds.answers.sent;
-          pending = ap (λ o. taken o (left config past)) none ∙ holds.answers.pending;
+          pending = ap (λ o. taken o (again_frames config (identification past) (serving config past)) (left config past)) none ∙ holds.answers.pending;
         }
 
 same : (n : ℕ) → (n == n) ≡ true
@@ -167,7 +170,7 @@ after_offer config at slirp new_slirp f old new made past frame rest result pump
     (after_write config at slirp new_slirp f old new past (spelling frame) answer new.blocked holds (in_turn holds.stands (λ u. cc (sym is_pending ∙ u.nothing))) k (subst AreAllowed is allowed).0
     (ap (λ t. may_begin config past t (spelling frame)) tail_is ∙ or_first (is_first (drop 4 (spelling frame)) (left config past)) (is_out (left config past) && is_beside config past (drop 4 (spelling frame))) first)
     (answer_goes config f slirp.moment past holds.lawful holds.allowed holds.flows frame rest only (spelling frame) (spelt frame))
-    (λ a. flows_answered config f slirp.moment past holds.lawful holds.allowed holds.flows frame rest only (spelling frame) a (spelt frame))
+    (λ a. flows_answered config f slirp.moment past holds.lawful holds.allowed holds.flows holds.clock.moment frame rest only (spelling frame) a (spelt frame))
     (remains answer only first tail_is new_pending new_sent) same))
   where
     sent_by : (a : Io) → with_datagrams (opens (LinkWrite (spelling frame) a) []) (datagrams_out past) % 2 ^ 16 ≡ sent_after (offered a) (frame ∷ rest) (identification past)
@@ -176,18 +179,18 @@ after_offer config at slirp new_slirp f old new made past frame rest result pump
     sent_by NotYet = refl
     sent_by Failed = refl
 
-    left_by : (a : Io) (before : List (List ℕ)) → before ≡ frame ∷ rest → is_first (drop 4 (spelling frame)) before ≡ true
-        → taken (opens (LinkWrite (spelling frame) a) []) before ≡ keep (offered a) (frame ∷ rest)
-    left_by (Done n) before only first = ap (λ b. cond b (drop 1 before) before) first ∙ ap (drop 1) only
-    left_by End before only first = only
-    left_by NotYet before only first = only
-    left_by Failed before only first = only
+    left_by : (a : Io) (before again : List (List ℕ)) → before ≡ frame ∷ rest → taken (opens (LinkWrite (spelling frame) a) []) again before ≡ keep (offered a) (frame ∷ rest)
+    left_by (Done n) before again only = ap (taken (Some (drop 4 (spelling frame))) again) only ∙ ap (λ (b : Bool). if b then rest else frame ∷ rest) (is_the_first frame rest)
+    left_by End before again only = only
+    left_by NotYet before again only = only
+    left_by Failed before again only = only
 
     remains : (a : Io) → left config past ≡ frame ∷ rest → is_first (drop 4 (spelling frame)) (left config past) ≡ true → tail past ≡ []
         → new_slirp.pending ≡ keep (offered a) (frame ∷ rest) → new_slirp.sent ≡ sent_after (offered a) (frame ∷ rest) (identification past) → Left config past (spelling frame) a new_slirp
     remains a only first tail_is new_pending new_sent = record {
       sent = ap (λ t. with_datagrams (opens (LinkWrite (spelling frame) a) t) (datagrams_out past) % 2 ^ 16) tail_is ∙ sent_by a ∙ sym new_sent;
-      pending = ap (λ t. taken (opens (LinkWrite (spelling frame) a) t) (left config past)) tail_is ∙ left_by a (left config past) only first ∙ sym new_pending;
+      pending = ap (λ t. taken (opens (LinkWrite (spelling frame) a) t) (again_frames config (identification past) (serving config past)) (left config past)) tail_is
+          ∙ left_by a (left config past) (again_frames config (identification past) (serving config past)) only ∙ sym new_pending;
     }
 
 pub leaves_rest : (new : LinkState) (result : Offered) → Settles result new → LeavesRest (pumped_of result new.blocked) new

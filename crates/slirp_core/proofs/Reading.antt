@@ -22,22 +22,27 @@ use Rattle.run_laws.specs.Moments.{moment, waits}
 use Rattle.run_laws.specs.Packets.{Packet, Unheard, ArpPacket, Message, DatagramPacket, Segment, packet_in}
 use Rattle.run_laws.specs.Shape.{Phase, Working, Over, By, phase, phase_after, is_working}
 use Rattle.slirp_laws.specs.Agenda.{agenda, all_wanted, behind, from, is_to_read, reads_on as goes_on_reading, wanted_of}
-use Rattle.slirp_laws.specs.Answers.{frames_of, identification, is_out, left, left_after, owed_for_packet, strays}
-use Rattle.slirp_laws.specs.Asking.{errand_after, errand_left, step_of}
+use Rattle.dhcp_server.specs.declared.leases.Lease.{Lease}
+use Rattle.ipv4_reasm.specs.Areas.{Gathered}
+use Rattle.slirp_laws.specs.Answers.{Serving, frames_of, identification, is_out, ledger, left, left_after, owed_for_packet, serving, strays}
+use Rattle.slirp_laws.specs.Leasing.{leases, leases_by, leases_by_packet}
+use Rattle.slirp_laws.specs.Asking.{step_of}
+use Rattle.slirp_laws.specs.Errands.{errand_after, errand_left}
 use Rattle.slirp_laws.specs.Datagrams.{Settled, errand_by_packet}
 use Rattle.slirp_laws.specs.Laws.{Lawful, May, is_closing, is_nothing, joins}
 use Rattle.run_laws.specs.Sockets.{next_number}
 use Rattle.spliced_flows.specs.Stands.{InWork}
-use Rattle.slirp_laws.specs.Relayed.{associations, step_for}
+use Rattle.slirp_laws.specs.Relayed.{associations}
 use Rattle.slirp_laws.proofs.Deeds.{reads_on}
 use Rattle.stream_netdev.specs.Frames.{ended, Pieces, Reads}
 use Rattle.stream_netdev.specs.Keeps.{Keeps, ReadsFrame, hands, ending_of}
 use Rattle.stream_netdev.specs.State.{LinkState}
 use Rattle.stream_netdev.specs.declared.Arrived.{Arrived}
 use Rattle.slirp_core.specs.Fragments.{IsHeld}
-use Rattle.slirp_core.specs.Holds.{InTurn, IsLast, standing, Comes, Ended, Holds, HoldsAt, OfFlows, OfSockets, Turns, flowing}
+use Rattle.slirp_core.specs.Holds.{asked_by, InTurn, IsLast, standing, Comes, Ended, Holds, HoldsAt, OfFlows, OfSockets, Turns, flowing}
 use Rattle.slirp_core.specs.Packets.{with_frame}
-use Rattle.slirp_core.specs.State.{SlirpState}
+use Rattle.slirp_core.specs.Services.{OfServices}
+use Rattle.slirp_core.specs.State.{SlirpState, serving_of}
 use Rattle.slirp_core.specs.Waiting.{OfFragments}
 use Rattle.slirp_core.specs.Segments.{coming}
 use Rattle.slirp_core.proofs.Bridging.{teaches_same}
@@ -49,6 +54,7 @@ use Rattle.slirp_core.proofs.Parts.{behind_of, errand_for, from_of, reads_of, sk
 use Rattle.slirp_core.proofs.Waitings.{fragments_stay, fragments_take}
 use Rattle.tcp_flows.specs.Kept.{Kept}
 use Rattle.slirp_core.proofs.Flows.{flows_stay}
+use Rattle.slirp_core.proofs.Services.{none_due_for_services, serving_is}
 use Rattle.slirp_core.proofs.Open.{open_by}
 
 -- reads of a frame, before the last
@@ -66,6 +72,7 @@ record Quiet (config : Config) (count : ℕ) (wants : List Want) (item : Want) (
   clock : moment past ≡ slirp.moment
   fragments : OfFragments config slirp past
   waits : waiting config past ≡ wait
+  serves : OfServices config slirp past
   flows : OfFlows config (flowing false kept) slirp.moment past
   sockets : OfSockets slirp.number past
 
@@ -73,7 +80,7 @@ module _ (config : Config) (count : ℕ) (wants : List Want) (item : Want) (item
   -- a read may come, that asks for what is missing
   may_read : (asked : ℕ) (past : List Entry) → MayFrame past (CallLinkRead asked) → Quiet config count wants item items slirp kept wait past → May config past (CallLinkRead asked)
   may_read asked past framed q =
-      reads_on config past asked framed (due_is config past Settled q.turn.working q.flows.holds.asked (ap (step_of config past) q.unasked)) (ap is_working q.turn.working)
+      reads_on config past asked framed (due_is config past Settled q.turn.working (none_due_for_services config past q.serves.unresolved) q.flows.holds.asked (ap (step_of config past) q.unasked)) (ap is_working q.turn.working)
       (reads_of TheLink (wanted_of wants item) (all_wanted wants items) (agenda past) reads_it q.reported)
       (ap (λ t. is_nothing t && is_out (left config past)) q.out ∙ ap is_out q.none) q.open_yet
 
@@ -94,7 +101,7 @@ module _ (config : Config) (count : ℕ) (wants : List Want) (item : Want) (item
               (sym (not_whole (partial (made ++ past) ++ octets) frame)) (from_of TheLink (wanted_of wants item) (all_wanted wants items) (agenda (made ++ past)) reads_it before.reported);
           open_yet = before.open_yet;
           sent_is = before.sent_is;
-          none = ap (λ o. left_after config (made ++ past) (happens config (made ++ past) e) (option_map (arrival_of config (moment (made ++ past)) (waiting config (made ++ past))) o) (left config (made ++ past))) frame ∙ before.none;
+          none = ap (λ o. left_after config (made ++ past) (happens config (made ++ past) e) (option_map (arrival_of config (moment (made ++ past)) (waiting config (made ++ past))) o) (ledger config (made ++ past))) frame ∙ before.none;
           out = before.out;
           known_is = ap (λ o. with_arrival (option_map (arrival_of config (moment (made ++ past)) (waiting config (made ++ past))) o) (known config (made ++ past))) frame ∙ before.known_is;
           counted = before.counted;
@@ -102,6 +109,11 @@ module _ (config : Config) (count : ℕ) (wants : List Want) (item : Want) (item
           unasked = ap (λ o. errand_after config e (option_map (arrival_of config (moment (made ++ past)) (waiting config (made ++ past))) o) (errand_left config (made ++ past))) frame ∙ before.unasked;
           clock = before.clock;
           fragments = fragments_stay config slirp slirp e (made ++ past) frame refl before.fragments;
+          serves = record {
+            leases = ap (λ o. leases_by config (moment (made ++ past)) (option_map (arrival_of config (moment (made ++ past)) (waiting config (made ++ past))) o) (leases config (made ++ past))) frame ∙ before.serves.leases;
+            unresolved = before.serves.unresolved;
+            unbound = before.serves.unbound;
+          };
           waits = ap (λ o. young (moment (made ++ past)) (waits_with config (moment (made ++ past)) o (sets config (made ++ past)))) frame ∙ before.waits;
           flows = flows_stay config (flowing false kept) slirp.moment e (made ++ past) (ap (λ o. doing_by (option_map (arrival_of config (moment (made ++ past)) (waiting config (made ++ past))) o) None e) frame) (omega arith) refl before.flows;
           sockets = record { number = before.sockets.number; kinds = before.sockets.kinds };
@@ -123,13 +135,22 @@ abbrev pub packet_of : Config → ℕ → List PartSet → Option (List ℕ) →
 packet_of config now wait None = Unheard
 packet_of config now wait (Some frame) = packet_in config now wait frame
 
+-- the network once that packet is taken in, with these areas of fragments; a segment is answered when it is heard
+abbrev pub after_packet : Config → SlirpState → Packet → Option (List ℕ) → List Gathered → SlirpState
+after_packet config s packet frame parts = record s {
+  pending = frames_of config s.sent (owed_for_packet config (serving_of s) false packet);
+  known = with_frame config frame s.known;
+  parts = parts;
+  leases = leases_by_packet config s.moment packet s.leases;
+}
+
 -- where it is no segment, nothing of it strays
-pub strays_none : (config : Config) (b : Bool) (p : Packet) → segment_by p ≡ None → owed_for_packet config b p ≡ owed_for_packet config false p
-strays_none config b Unheard none = refl
-strays_none config b (ArpPacket arp) none = refl
-strays_none config b (Message mac ip message) none = refl
-strays_none config b (DatagramPacket d) none = refl
-strays_none config b (Segment mac ip tcp) none = cc
+pub strays_none : (config : Config) (s : Serving) (b : Bool) (p : Packet) → segment_by p ≡ None → owed_for_packet config s b p ≡ owed_for_packet config s false p
+strays_none config s b Unheard none = refl
+strays_none config s b (ArpPacket arp) none = refl
+strays_none config s b (Message mac ip message) none = refl
+strays_none config s b (DatagramPacket d) none = refl
+strays_none config s b (Segment mac ip tcp) none = cc
 
 -- and which fragments wait
 abbrev pub KeepsParts : Config → SlirpState → SlirpState → Option (List ℕ) → Type 0
@@ -149,7 +170,8 @@ record Newest (config : Config) (count : ℕ) (wants : List Want) (item : Want) 
   reported : IsLast (all_wanted wants items) (agenda all)
   open_yet : is_closing config all ≡ false
   sent_is : identification all ≡ slirp.sent
-  left_is : left config all ≡ frames_of config slirp.sent (owed_for_packet config (strays config (book config all) (packet_of config slirp.moment wait (arrived all))) (packet_of config slirp.moment wait (arrived all)))
+  left_is : left config all ≡ frames_of config slirp.sent (owed_for_packet config (serving_of slirp) (strays config (book config all) (packet_of config slirp.moment wait (arrived all))) (packet_of config slirp.moment wait (arrived all)))
+  lent : leases config all ≡ leases_by_packet config slirp.moment (packet_of config slirp.moment wait (arrived all)) slirp.leases
   known_is : known config all ≡ with_frame config (arrived all) slirp.known
   counted : waits all ≡ count
   list : associations config all ≡ slirp.associations
@@ -180,8 +202,10 @@ newest config count wants item items slirp kept wait reads_it (LinkRead asked an
       open_yet = quiet_before.open_yet;
       sent_is = quiet_before.sent_is;
       left_is = owes (arrives (LinkRead asked answer octets) (made ++ past)) quiet_before.none
-          ∙ (λ i. frames_of config (quiet_before.sent_is i) (owed_for_packet config (strays config (book config ((LinkRead asked answer octets) ∷ (made ++ past))) (packet_of config (quiet_before.clock i) (quiet_before.waits i) (arrives (LinkRead asked answer octets) (made ++ past))))
+          ∙ (λ i. frames_of config (quiet_before.sent_is i) (owed_for_packet config (serving_is config slirp (made ++ past) quiet_before.clock quiet_before.serves i) (strays config (book config ((LinkRead asked answer octets) ∷ (made ++ past))) (packet_of config (quiet_before.clock i) (quiet_before.waits i) (arrives (LinkRead asked answer octets) (made ++ past))))
           (packet_of config (quiet_before.clock i) (quiet_before.waits i) (arrives (LinkRead asked answer octets) (made ++ past)))));
+      lent = lends (arrives (LinkRead asked answer octets) (made ++ past)) (leases config (made ++ past))
+          ∙ (λ i. leases_by_packet config (quiet_before.clock i) (packet_of config (quiet_before.clock i) (quiet_before.waits i) (arrives (LinkRead asked answer octets) (made ++ past))) (quiet_before.serves.leases i));
       known_is = teaches (arrives (LinkRead asked answer octets) (made ++ past)) (known config (made ++ past)) ∙ ap (with_frame config (arrives (LinkRead asked answer octets) (made ++ past))) quiet_before.known_is;
       counted = quiet_before.counted;
       list = quiet_before.list;
@@ -213,10 +237,15 @@ newest config count wants item items slirp kept wait reads_it (LinkRead asked an
     sets_out (Some frame) is = refl
 
     owes : (o : Option (List ℕ)) → left config (made ++ past) ≡ []
-        → left_after config (made ++ past) (happens config (made ++ past) (LinkRead asked answer octets)) (option_map (arrival_of config (moment (made ++ past)) (waiting config (made ++ past))) o) (left config (made ++ past))
-        ≡ frames_of config (identification (made ++ past)) (owed_for_packet config (strays config (book config ((LinkRead asked answer octets) ∷ (made ++ past))) (packet_of config (moment (made ++ past)) (waiting config (made ++ past)) o)) (packet_of config (moment (made ++ past)) (waiting config (made ++ past)) o))
+        → left_after config (made ++ past) (happens config (made ++ past) (LinkRead asked answer octets)) (option_map (arrival_of config (moment (made ++ past)) (waiting config (made ++ past))) o) (ledger config (made ++ past))
+        ≡ frames_of config (identification (made ++ past)) (owed_for_packet config (serving config (made ++ past)) (strays config (book config ((LinkRead asked answer octets) ∷ (made ++ past))) (packet_of config (moment (made ++ past)) (waiting config (made ++ past)) o)) (packet_of config (moment (made ++ past)) (waiting config (made ++ past)) o))
     owes None is = is
     owes (Some frame) is = refl
+
+    lends : (o : Option (List ℕ)) (l : List Lease) → leases_by config (moment (made ++ past)) (option_map (arrival_of config (moment (made ++ past)) (waiting config (made ++ past))) o) l
+        ≡ leases_by_packet config (moment (made ++ past)) (packet_of config (moment (made ++ past)) (waiting config (made ++ past)) o) l
+    lends None l = refl
+    lends (Some frame) l = refl
 
     nothing : (o : Option (List ℕ)) → segment_by (packet_of config (moment (made ++ past)) (waiting config (made ++ past)) o) ≡ None → doing_by (option_map (arrival_of config (moment (made ++ past)) (waiting config (made ++ past))) o) None (LinkRead asked answer octets) ≡ Nothing
     nothing None none = refl
@@ -268,6 +297,7 @@ module _ (config : Config) (count : ℕ) (wants : List Want) (item : Want) (item
         clock = holds.clock.moment;
         fragments = holds.guests.fragments;
         waits = refl;
+        serves = holds.services;
         flows = holds.flows;
         sockets = holds.sockets;
       }) holds.lawful
@@ -281,24 +311,25 @@ module _ (config : Config) (count : ℕ) (wants : List Want) (item : Want) (item
 
   -- no segment of TCP: what it owes is owed from now on
   pub read_on : (new_slirp : SlirpState) → ending_of answer ≡ None → KeepsParts config slirp new_slirp (hands answer new) → segment_by packet ≡ None
-      → new_slirp ≡ record slirp { pending = frames_of config slirp.sent (owed_for_packet config false packet); known = with_frame config (hands answer new) slirp.known; parts = new_slirp.parts }
-      → HoldsAt config (standing count wants items) (step_for slirp.associations (errand_by_packet config packet)) new_slirp (flowing false kept) new (made ++ past)
+      → new_slirp ≡ after_packet config slirp packet (hands answer new) new_slirp.parts
+      → HoldsAt config (standing count wants items) (asked_by config slirp.associations (errand_by_packet config packet)) new_slirp (flowing false kept) new (made ++ past)
   read_on new_slirp goes_on keeps none is =
       let r = read past holds.keeps in
-      let then_is = record slirp { pending = frames_of config slirp.sent (owed_for_packet config false packet); known = with_frame config (hands answer new) slirp.known; parts = new_slirp.parts } in
+      let then_is = after_packet config slirp packet (hands answer new) new_slirp.parts in
       let was = all.quiet_flows (ap segment_by arrived_is ∙ none) in
-      subst (λ (s : SlirpState). HoldsAt config (standing count wants items) (step_for slirp.associations (errand_by_packet config packet)) s (flowing false kept) new (made ++ past)) (sym is) (record {
+      subst (λ (s : SlirpState). HoldsAt config (standing count wants items) (asked_by config slirp.associations (errand_by_packet config packet)) s (flowing false kept) new (made ++ past)) (sym is) (record {
         lawful = all.lawful;
         allowed = allowed_then made past allowed holds.allowed;
         keeps = r.0;
         answers = record {
           sent = all.sent_is;
-          pending = all.left_is ∙ ap (λ p. frames_of config slirp.sent (owed_for_packet config (strays config (book config (made ++ past)) p) p)) arrived_is
-              ∙ ap (frames_of config slirp.sent) (strays_none config (strays config (book config (made ++ past)) packet) packet none);
+          pending = all.left_is ∙ ap (λ p. frames_of config slirp.sent (owed_for_packet config (serving_of slirp) (strays config (book config (made ++ past)) p) p)) arrived_is
+              ∙ ap (frames_of config slirp.sent) (strays_none config (serving_of slirp) (strays config (book config (made ++ past)) packet) packet none);
         };
         guests = guests_learn config slirp then_is (hands answer new) (made ++ past) holds.guests.settings
             (all.known_is ∙ ap (λ o. with_frame config o slirp.known) r.1.frame) refl refl (all.fragments then_is (subst (λ o. KeepsParts config slirp then_is o) (sym r.1.frame) (kept_as (hands answer new) new_slirp keeps)));
-        relayed = record { list = all.list; asks = ap (step_for slirp.associations) (all.asks ∙ ap (errand_by_packet config) arrived_is) };
+        relayed = record { list = all.list; asks = ap (asked_by config slirp.associations) (all.asks ∙ ap (errand_by_packet config) arrived_is) };
+        services = record { leases = all.lent ∙ ap (λ p. leases_by_packet config slirp.moment p slirp.leases) arrived_is; unresolved = holds.services.unresolved; unbound = holds.services.unbound };
         flows = record { holds = was.holds; settings = was.settings; unit = was.unit };
         sockets = all.sockets;
         clock = record { moment = all.clock; counted = all.counted };
@@ -308,7 +339,7 @@ module _ (config : Config) (count : ℕ) (wants : List Want) (item : Want) (item
       })
     where
       kept_as : (o : Option (List ℕ)) (other : SlirpState) → KeepsParts config slirp other o
-          → KeepsParts config slirp (record slirp { pending = frames_of config slirp.sent (owed_for_packet config false packet); known = with_frame config (hands answer new) slirp.known; parts = other.parts }) o
+          → KeepsParts config slirp (after_packet config slirp packet (hands answer new) other.parts) o
       kept_as None other keeps = keeps
       kept_as (Some frame) other keeps = keeps
 
@@ -333,7 +364,7 @@ module _ (config : Config) (count : ℕ) (wants : List Want) (item : Want) (item
           settings = q.flows.settings;
           lawful_before = all.lawful_before;
           lawful = lawful_then;
-          work = subst (InWork config) all.is (record { working = work; errand = unasked; open_yet = all.open_yet });
+          work = subst (InWork config) all.is (record { working = work; errand = unasked; services = none_due_for_services config (made ++ past) holds.services.unresolved; open_yet = all.open_yet });
           at_before = q.clock;
           at = subst (λ l. moment l ≡ slirp.moment) all.is all.clock;
           comes = all.comes on (ap segment_by (arrived_is ∙ seg));
@@ -345,11 +376,12 @@ module _ (config : Config) (count : ℕ) (wants : List Want) (item : Want) (item
         allowed = allowed_then made past allowed holds.allowed;
         keeps = r.0;
         sent = all.sent_is;
-        owed = all.left_is ∙ ap (λ p. frames_of config slirp.sent (owed_for_packet config (strays config (book config (made ++ past)) p) p)) (arrived_is ∙ seg);
+        owed = all.left_is ∙ ap (λ p. frames_of config slirp.sent (owed_for_packet config (serving_of slirp) (strays config (book config (made ++ past)) p) p)) (arrived_is ∙ seg);
         none = no_packet;
         guests = guests_learn config slirp then_is (hands answer new) (made ++ past) holds.guests.settings
             (all.known_is ∙ ap (λ o. with_frame config o slirp.known) r.1.frame) refl refl (all.fragments then_is (subst (λ o. KeepsParts config slirp then_is o) (sym r.1.frame) (kept_as (hands answer new) new_slirp keeps)));
-        relayed = record { list = all.list; asks = ap (step_for slirp.associations) unasked };
+        relayed = record { list = all.list; asks = ap (asked_by config slirp.associations) unasked };
+        services = record { leases = all.lent ∙ ap (λ p. leases_by_packet config slirp.moment p slirp.leases) (arrived_is ∙ seg); unresolved = holds.services.unresolved; unbound = holds.services.unbound };
         learnt = all.taught_it mac ip tcp (arrived_is ∙ seg);
         unit = holds.flows.unit;
         sockets = all.sockets;
@@ -373,6 +405,7 @@ module _ (config : Config) (count : ℕ) (wants : List Want) (item : Want) (item
         lawful = all.lawful;
         over = all.phase_is ∙ ap over_by (r.1.last ∙ is);
         errand = all.asks ∙ ap (errand_by_packet config) nothing;
+        served = none_due_for_services config (made ++ past) holds.services.unresolved;
         idle = flows.holds.asked;
-        sockets = open_by config slirp.associations (flowing false kept) slirp.moment (made ++ past) all.lawful all.list flows.holds all.sockets.kinds;
+        sockets = open_by config slirp.associations (flowing false kept) slirp.moment (made ++ past) holds.services.unresolved all.lawful all.list flows.holds all.sockets.kinds;
       }

@@ -18,7 +18,9 @@ use Rattle.slirp_core.specs.Fragments.{IsHeld}
 use Rattle.slirp_core.specs.Holds.{OfGuests, Standing, after, Begins, Closing, Ended, Flowing, Holds, OfFlows, Rests, OverBy, AllWaited, NoneWaited, Stands, Turns, flowing}
 use Rattle.slirp_core.specs.State.{SlirpState}
 use Rattle.slirp_core.proofs.Guests.{guests_begin, guests_forget}
+use Rattle.dhcp_server.specs.declared.leases.Lease.TheVariants.{Free as LeaseFree}
 use Rattle.slirp_core.proofs.Parts.{errand_for}
+use Rattle.slirp_core.proofs.Services.{none_due_for_services}
 use Rattle.slirp_core.proofs.Waitings.{fragments_dropped}
 use Rattle.flow_table.specs.Slots.{all_free}
 use Rattle.flow_table.specs.declared.Slot.TheVariants.{Free}
@@ -49,6 +51,7 @@ forgets config at slirp new f link past same drops holds =
       answers = record { sent = holds.answers.sent; pending = holds.answers.pending };
       guests = guests_forget config slirp (record slirp { parts = new.parts }) past refl refl (fragments_dropped config slirp (record slirp { parts = new.parts }) past (sym holds.clock.moment) holds.guests.fragments (drops holds.guests.fragments.held holds.guests.fragments.is_held)) holds.guests;
       relayed = record { list = holds.relayed.list; asks = holds.relayed.asks };
+      services = record { leases = holds.services.leases; unresolved = holds.services.unresolved; unbound = holds.services.unbound };
       flows = holds.flows;
       sockets = holds.sockets;
       clock = record { moment = holds.clock.moment; counted = holds.clock.counted };
@@ -77,6 +80,9 @@ pub record IsUnbegun (config : Config) (slirp : SlirpState) (kept : Kept) (link 
   pub number : slirp.number ≡ 0
   pub associations : slirp.associations ≡ []
   pub parts : slirp.parts ≡ []
+  pub leases : slirp.leases ≡ replicate 16 LeaseFree
+  pub unresolved : config.resolver ≡ None
+  pub unbound : config.outbound ≡ None
   pub input : under_way link ≡ []
   pub output : link.tail ≡ []
   pub free : link.blocked ≡ false
@@ -115,6 +121,7 @@ started config slirp kept link told fine new = record {
   answers = record { sent = sym new.sent; pending = sym new.pending };
   guests = subst (λ c. OfGuests c (record slirp { moment = max (min told (2 ^ 62)) slirp.moment }) (Now told ∷ [])) new.settings (guests_begin (record slirp { moment = max (min told (2 ^ 62)) slirp.moment }) (Now told) refl new.known new.parts);
   relayed = record { list = sym new.associations; asks = refl };
+  services = record { leases = sym new.leases; unresolved = new.unresolved; unbound = new.unbound };
   flows = flows_told config kept 0 (max (min told (2 ^ 62)) slirp.moment) told [] (omega arith) (unused_holds config kept 0 new.flows);
   sockets = record { number = sym new.number; kinds = λ n among. cc };
   clock = record { moment = ap (max (min told (2 ^ 62))) (sym new.moment); counted = refl };
@@ -136,6 +143,7 @@ ran config why list parts made ended = record {
   is = refl;
   rests = OverBy why ended.over;
   errand = ended.errand;
+  served = ended.served;
   idle = ended.idle;
   sockets = ended.sockets;
 }
@@ -152,6 +160,7 @@ spent config count slirp f link made all holds = record {
   is = refl;
   rests = rests holds.stands;
   errand = errand_for config Settled slirp made holds.relayed;
+  served = none_due_for_services config made holds.services.unresolved;
   idle = holds.flows.holds.asked;
   sockets = are_open config (after count) Settled slirp f link made holds;
 }

@@ -4,7 +4,8 @@ use Rattle.std.proofs.lemmas.Bool.Decides.{nat_tests}
 use Rattle.std.specs.Option.{option_and_then}
 use Rattle.net_octets.specs.Kinds.{arp_kind, ipv4_kind, icmp_proto, tcp_proto, udp_proto}
 use Rattle.net_octets.specs.declared.Endpoint.{Endpoint}
-use Rattle.host_policy.specs.Addresses.{Config, address, is_ours, is_guest}
+use Rattle.net_octets.specs.declared.Mac.{Mac}
+use Rattle.host_policy.specs.Addresses.{Config, address, endpoint, is_ours, is_guest}
 use Rattle.host_policy.specs.Targets.{shown, is_hidden}
 use Rattle.ether_frame.specs.Ether.{Ether, read_ether}
 use Rattle.arp_table.specs.Arp.{read_arp}
@@ -17,19 +18,27 @@ use Rattle.icmp_echo.specs.declared.IcmpView.TheVariants.{Echo, Unreachable, Oth
 use Rattle.udp_assoc.specs.Udp.{Udp, summed, udp_octets, udp_with, written_sum}
 use Rattle.udp_assoc.proofs.Spelling.{length-udp}
 use Rattle.udp_assoc.specs.declared.assocs.Association.{Association}
-use Rattle.slirp_laws.specs.Answers.{Answer, IpAnswer, our_mac, datagram_frames, fits_datagram, is_untold, told_about, reply_at, frames_of, owed_for_arp, owed_for_icmp, owed_for_datagram, reset_for}
+use Rattle.dhcp_server.specs.declared.leases.Lease.{Lease}
+use Rattle.dhcp_server.specs.declared.message.Message.{Message as ClientMessage}
+use Rattle.dhcp_server.specs.Replies.{everybody, goes_to_all, is_silence, replied_octets, reply_octets, reply_to as lease_reply_to}
+use Rattle.dhcp_server.specs.Serving.{served}
+use Rattle.host_policy.specs.declared.Reply.{Reply}
+use Rattle.host_policy.specs.declared.Reply.TheVariants.{Nothing as ReplyNothing, Datagram as ADatagram, Unreachable as ReplyUnreachable}
+use Rattle.slirp_laws.specs.Leasing.{sending_of}
+use Rattle.slirp_laws.specs.Answers.{Answer, IpAnswer, answers_of, our_mac, datagram_frames, fits_datagram, is_untold, told_about, reply_at, frames_of, owed_for_arp, owed_for_icmp, owed_for_datagram, reset_for}
 use Rattle.tcp_segment.specs.Tcp.{Tcp, read_tcp, tcp_length, tcp_octets}
 use Rattle.flow_table.specs.declared.Tuple.{Tuple}
 use Rattle.flow_laws.specs.Event.{Segment}
 use Rattle.flow_book.specs.Lots.{reset_to}
 use Rattle.flow_book.specs.Segments.{OnTuple}
 use Rattle.slirp_core.specs.Segments.{Coming, coming, segment_in, segment_of_arrived, segment_of_ether, segment_of_ip}
-use Rattle.slirp_core.specs.Packets.{is_message_to_us, is_segment, owed_for, owed_for_arrived, owed_for_ip, owed_for_ether, owed_for_frame, reply_to, udp_of, errand_of_arrived, errand_of_ip, errand_of_ether, errand_in, with_arp, with_ip, with_ether}
+use Rattle.slirp_core.specs.Fragments.{after_frame, after_ip, after_octets}
+use Rattle.slirp_core.specs.Packets.{errand_for_udp, is_message_to_us, is_segment, leases_with, owed_for, owed_for_arrived, owed_for_ether, reply_to, udp_in, udp_of, udp_of_arrived, udp_of_ether, with_arp, with_ip, with_ether}
 use Rattle.run_laws.specs.Fragments.{fragment_by, fragment_in, fragment_of}
 use Rattle.run_laws.specs.Packets.{Datagram}
-use Rattle.slirp_laws.specs.Datagrams.{Errand, errand_of}
+use Rattle.slirp_laws.specs.Datagrams.{Errand}
 use Rattle.slirp_core.specs.Outgoing.{segment_octets}
-use Rattle.slirp_core.specs.State.{SlirpState}
+use Rattle.slirp_core.specs.State.{SlirpState, serving_of}
 use Rattle.slirp_core.specs.declared.outgoing.Course.{Course}
 use Rattle.slirp_core.proofs.Datagramming.{none_of_others}
 
@@ -38,32 +47,34 @@ abbrev after_kind : SlirpState → List Gathered → List PartSet → Ether → 
 after_kind s parts waiting ether kind = record s {
   pending = frames_of s.config s.sent
       (if kind == arp_kind then owed_for (owed_for_arp s.config) (read_arp ether.body)
-      else (if kind == ipv4_kind then owed_for (owed_for_arrived s.config s.moment waiting ether.from ether.body) (read_ip ether.body) else []));
+      else (if kind == ipv4_kind then owed_for (owed_for_arrived s.config (serving_of s) waiting ether.from ether.body) (read_ip ether.body) else []));
   known = if kind == arp_kind then with_arp s.config (read_arp ether.body) s.known
       else (if kind == ipv4_kind then with_ip s.config ether.from (read_ip ether.body) s.known else s.known);
   parts = parts;
+  leases = leases_with s.config s.moment (if kind == ipv4_kind then option_and_then (udp_of_arrived s.config s.moment waiting ether.from ether.body) (read_ip ether.body) else None) s.leases;
 }
 
-module _ (s : SlirpState) (parts : List Gathered) (waiting : List PartSet) (frame : List ℕ) (ether : Ether) (read : read_ether frame ≡ Some ether) (kind : ether.kind ≡ ipv4_kind) where
-  pub frame_of_packet : ◌≡◌ {A = SlirpState}
-      (record s {
-        pending = frames_of s.config s.sent (owed_for (owed_for_arrived s.config s.moment waiting ether.from ether.body) (read_ip ether.body));
-        known = with_ip s.config ether.from (read_ip ether.body) s.known;
-        parts = parts;
-      })
-      (record s {
-        pending = frames_of s.config s.sent (owed_for_frame s.config s.moment waiting frame);
-        known = with_ether s.config (read_ether frame) s.known;
-        parts = parts;
-      })
-  frame_of_packet = sym (
-      ap (λ (o : Option Ether). record s { pending = frames_of s.config s.sent (owed_for (owed_for_ether s.config s.moment waiting) o); known = with_ether s.config o s.known; parts = parts }) read
-      ∙ ap (after_kind s parts waiting ether) kind)
+module _ (s : SlirpState) (parts : List Gathered) (waiting : List PartSet) (frame : List ℕ) (ether : Ether) (read : read_ether frame ≡ Some ether) where
+  -- by what is read of it
+  abbrev after_read : Option Ether → SlirpState
+  after_read o = record s {
+    pending = frames_of s.config s.sent (owed_for (owed_for_ether s.config (serving_of s) waiting) o);
+    known = with_ether s.config o s.known;
+    parts = parts;
+    leases = leases_with s.config s.moment (option_and_then (udp_of_ether s.config s.moment waiting) o) s.leases;
+  }
 
-  pub errand_of_packet : option_and_then (errand_of_arrived s.config s.moment waiting ether.from ether.body) (read_ip ether.body) ≡ errand_in s.config s.moment waiting frame
-  errand_of_packet = sym (
-      ap (option_and_then (errand_of_ether s.config s.moment waiting)) read
-      ∙ ap (λ (k : ℕ). if k == ipv4_kind then option_and_then (errand_of_arrived s.config s.moment waiting ether.from ether.body) (read_ip ether.body) else None) kind)
+  pub frame_of_arp : ether.kind ≡ arp_kind → after_kind s parts waiting ether arp_kind ≡ after_frame s.config s waiting parts frame
+  frame_of_arp kind = sym (ap after_read read ∙ ap (after_kind s parts waiting ether) kind)
+
+  pub frame_of_packet : ether.kind ≡ ipv4_kind → after_octets s waiting ether.from ether.body parts (read_ip ether.body) ≡ after_frame s.config s waiting parts frame
+  frame_of_packet kind = sym (ap after_read read ∙ ap (after_kind s parts waiting ether) kind)
+
+module _ (s : SlirpState) (parts : List Gathered) (waiting : List PartSet) (frame : List ℕ) (ether : Ether) (read : read_ether frame ≡ Some ether) (kind : ether.kind ≡ ipv4_kind) where
+  pub errand_of_packet : errand_for_udp s.config (option_and_then (udp_of_arrived s.config s.moment waiting ether.from ether.body) (read_ip ether.body)) ≡ errand_for_udp s.config (udp_in s.config s.moment waiting frame)
+  errand_of_packet = ap (errand_for_udp s.config) (sym (
+      ap (option_and_then (udp_of_ether s.config s.moment waiting)) read
+      ∙ ap (λ (k : ℕ). if k == ipv4_kind then option_and_then (udp_of_arrived s.config s.moment waiting ether.from ether.body) (read_ip ether.body) else None) kind))
 
   pub segment_of_packet : option_and_then (segment_of_arrived s.config s.moment waiting ether.from ether.body) (read_ip ether.body) ≡ segment_in s.config s.moment waiting frame
   segment_of_packet = sym (
@@ -102,27 +113,33 @@ no_udp_in_segment config ip asked udp =
 
 -- what a whole datagram asks for
 module _ (s : SlirpState) (mac : List ℕ) (ip : Ip) where
-  -- by its tests, with these answers
+  -- by its tests, with these answers, and the datagram of UDP that it holds
   abbrev by_tests : (message segment : Bool) (udp : Option Datagram) → SlirpState
   by_tests message segment udp = record s {
     pending = frames_of s.config s.sent
         (if message then owed_for (owed_for_icmp mac ip) (read_icmp ip.body)
-        else (if segment then [] else owed_for (owed_for_datagram s.config) udp));
+        else (if segment then [] else owed_for (owed_for_datagram s.config (serving_of s)) udp));
+    leases = leases_with s.config s.moment udp s.leases;
   }
+
+  -- a message or a segment holds none
+  none_held : (ip.proto ≡ 17 → ⊥) → None ≡ udp_of s.config mac ip
+  none_held other = none_of_others s.config mac ip other
 
   pub message_to_us : is_message_to_us s.config ip ≡ true → ◌≡◌ {A = SlirpState}
       (record s { pending = frames_of s.config s.sent (owed_for (owed_for_icmp mac ip) (read_icmp ip.body)) })
-      (record s { pending = frames_of s.config s.sent (owed_for_ip s.config mac ip) })
-  message_to_us asked = sym (ap (λ (b : Bool). by_tests b (is_segment s.config ip) (udp_of s.config mac ip)) asked)
+      (after_ip s mac ip)
+  message_to_us asked = sym (
+      ap (λ (b : Bool). by_tests b (is_segment s.config ip) (udp_of s.config mac ip)) asked
+      ∙ ap (λ (o : Option Datagram). by_tests true (is_segment s.config ip) o) (sym (none_held (no_udp s.config ip asked))))
 
-  pub segment_came : is_message_to_us s.config ip ≡ false → is_segment s.config ip ≡ true → ◌≡◌ {A = SlirpState}
-      (record s { pending = [] })
-      (record s { pending = frames_of s.config s.sent (owed_for_ip s.config mac ip) })
-  segment_came asked carries = sym (ap (λ (b : Bool). by_tests b (is_segment s.config ip) (udp_of s.config mac ip)) asked ∙ ap (λ (b : Bool). by_tests false b (udp_of s.config mac ip)) carries)
+  pub segment_came : is_message_to_us s.config ip ≡ false → is_segment s.config ip ≡ true → ◌≡◌ {A = SlirpState} (record s { pending = [] }) (after_ip s mac ip)
+  segment_came asked carries = sym (
+      ap (λ (b : Bool). by_tests b (is_segment s.config ip) (udp_of s.config mac ip)) asked
+      ∙ ap (λ (b : Bool). by_tests false b (udp_of s.config mac ip)) carries
+      ∙ ap (λ (o : Option Datagram). by_tests false true o) (sym (none_held (no_udp_in_segment s.config ip carries))))
 
-  pub no_message : is_message_to_us s.config ip ≡ false → is_segment s.config ip ≡ false → (d : Option Datagram) → d ≡ udp_of s.config mac ip → ◌≡◌ {A = SlirpState}
-      (record s { pending = frames_of s.config s.sent (owed_for (owed_for_datagram s.config) d) })
-      (record s { pending = frames_of s.config s.sent (owed_for_ip s.config mac ip) })
+  pub no_message : is_message_to_us s.config ip ≡ false → is_segment s.config ip ≡ false → (d : Option Datagram) → d ≡ udp_of s.config mac ip → by_tests false false d ≡ after_ip s mac ip
   no_message asked carries d udp = sym (
       ap (λ (b : Bool). by_tests b (is_segment s.config ip) (udp_of s.config mac ip)) asked
       ∙ ap (λ (b : Bool). by_tests false b (udp_of s.config mac ip)) carries
@@ -141,11 +158,11 @@ module _ (s : SlirpState) (mac : List ℕ) (ip : Ip) where
   pub one_segment : is_segment s.config ip ≡ true → option_map (coming mac ip) (read_tcp ip.from ip.to ip.body) ≡ segment_of_ip s.config mac ip
   one_segment carries = sym (ap (λ (b : Bool). if b then option_map (coming mac ip) (read_tcp ip.from ip.to ip.body) else None) carries)
 
-  pub no_errand : is_message_to_us s.config ip ≡ true → ◌≡◌ {A = Option Errand} None (errand_of_ip s.config mac ip)
-  no_errand asked = ap (option_and_then (errand_of s.config)) (none_of_others s.config mac ip (no_udp s.config ip asked))
+  pub no_errand : is_message_to_us s.config ip ≡ true → ◌≡◌ {A = Option Errand} None (errand_for_udp s.config (udp_of s.config mac ip))
+  no_errand asked = ap (errand_for_udp s.config) (none_of_others s.config mac ip (no_udp s.config ip asked))
 
-  pub no_errand_of_segment : is_segment s.config ip ≡ true → ◌≡◌ {A = Option Errand} None (errand_of_ip s.config mac ip)
-  no_errand_of_segment carries = ap (option_and_then (errand_of s.config)) (none_of_others s.config mac ip (no_udp_in_segment s.config ip carries))
+  pub no_errand_of_segment : is_segment s.config ip ≡ true → ◌≡◌ {A = Option Errand} None (errand_for_udp s.config (udp_of s.config mac ip))
+  no_errand_of_segment carries = ap (errand_for_udp s.config) (none_of_others s.config mac ip (no_udp_in_segment s.config ip carries))
 
 -- the frames of an answer that a datagram can carry
 pub frames_whole : (config : Config) (ident : ℕ) (to : List ℕ) (proto from guest : ℕ) (body : List ℕ) → length body ≤ 65515
@@ -246,3 +263,33 @@ answered config ident peer from octets a is short =
     frames_whole config ident a.mac.0 udp_proto (address from) (address a.guest) (reply_datagram from octets a) (omega (arith, long))
     ∙ ap (λ (e : Endpoint). frames_of config ident (reply_packet e octets a ∷ [])) p.1
     ∙ sym (ap (λ (b : Bool). frames_of config ident (if b then [] else reply_packet (shown config peer) octets a ∷ [])) p.0)
+
+-- the reply to a client goes out whole
+pub lease_sent : (config : Config) (ident count : ℕ) (from to : Endpoint) (mac : Mac) (octets : List ℕ) → length octets ≤ 790
+    → datagram_frames config.mtu mac.0 (our_mac config.vhost) ident udp_proto (address from) (address to) (udp_octets (address from) (address to) (record { from_port = from.port; to_port = to.port; body = octets }))
+    ≡ frames_of config ident (answers_of (sending_of (ADatagram count from to (Some mac)) octets))
+lease_sent config ident count from to mac octets few =
+    let udp : Udp = record { from_port = from.port; to_port = to.port; body = octets } in
+    let long : length (udp_octets (address from) (address to) udp) ≡ 8 + length octets = length-udp (written_sum (summed (address from) (address to) (udp_with 0 udp))) udp in
+    frames_whole config ident mac.0 udp_proto (address from) (address to) (udp_octets (address from) (address to) udp) (omega (arith, long, few))
+
+-- its octets are as many as it says
+pub lease_count : (config : Config) (now : ℕ) (leases : List Lease) (m : Option ClientMessage) (count : ℕ) (from to : Endpoint) (mac : Option Mac)
+    → lease_reply_to config now leases m ≡ ADatagram count from to mac → count ≡ length (replied_octets config now leases m)
+lease_count config now leases None count from to mac is = cc
+lease_count config now leases (Some m) count from to mac is =
+    by (is_silence (served config now leases (Some m)).answer) (goes_to_all m (served config now leases (Some m)).answer) (reply_octets config m (served config now leases (Some m)).answer) is
+  where
+    by : (silent all : Bool) (octets : List ℕ)
+        → (if silent then ReplyNothing else (if all then ADatagram (length octets) (endpoint config.vhost 67) (endpoint 0xffffffff 68) (Some everybody) else ADatagram (length octets) (endpoint config.vhost 67) (endpoint m.client.0 68) (Some m.mac))) ≡ ADatagram count from to mac
+        → count ≡ length (if silent then [] else octets)
+    by true all octets is = cc
+    by false true octets is = cc
+    by false false octets is = cc
+
+-- a client that gets none is owed none
+pub lease_none : (config : Config) (ident : ℕ) (reply : Reply) (octets : List ℕ) → ((count : ℕ) (from to : Endpoint) (mac : Mac) → reply ≡ ADatagram count from to (Some mac) → ⊥) → [] ≡ frames_of config ident (answers_of (sending_of reply octets))
+lease_none config ident ReplyNothing octets never = refl
+lease_none config ident (ADatagram count from to None) octets never = refl
+lease_none config ident (ADatagram count from to (Some mac)) octets never = absurd (never count from to mac refl)
+lease_none config ident (ReplyUnreachable code) octets never = refl

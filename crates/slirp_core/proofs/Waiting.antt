@@ -20,6 +20,7 @@ use Rattle.slirp_core.specs.Holds.{after, standing, AreOpen, Begins, Ended, Hold
 use Rattle.slirp_core.specs.State.{SlirpState}
 use Rattle.slirp_core.proofs.Guests.{guests_stay}
 use Rattle.slirp_core.proofs.Parts.{errand_for, asked_for, due_in_phase, due_is}
+use Rattle.slirp_core.proofs.Services.{none_due_for_services}
 use Rattle.tcp_flows.specs.Kept.{Kept}
 use Rattle.slirp_core.proofs.Flows.{flows_paused, flows_told}
 use Rattle.slirp_core.proofs.Open.{are_open}
@@ -31,10 +32,10 @@ module _ (config : Config) (count : ℕ) (slirp : SlirpState) (kept : Kept) (old
     (few : count < config.turns) (holds : Holds config (after count) slirp (flowing true kept) old past) where
   -- a wait may begin a turn, the first or a later one
   none_due : Stands config Settled slirp kept old past → due config past ≡ None
-  none_due (Turns turn) = due_is config past Settled turn.working holds.flows.holds.asked (asked_for config (after count) Settled slirp (flowing true kept) old past holds)
+  none_due (Turns turn) = due_is config past Settled turn.working (none_due_for_services config past holds.services.unresolved) holds.flows.holds.asked (asked_for config (after count) Settled slirp (flowing true kept) old past holds)
   none_due (Begins unbegun free unrested shut) =
-      due_in_phase config past Started unbegun.started holds.flows.holds.asked
-      ∙ ap (λ (t : Step). due_for t (next_number past)) (asked_for config (after count) Settled slirp (flowing true kept) old past holds)
+      due_in_phase config past Started unbegun.started (none_due_for_services config past holds.services.unresolved) holds.flows.holds.asked
+      ∙ ap (λ (t : Step). due_for config t (next_number past)) (asked_for config (after count) Settled slirp (flowing true kept) old past holds)
 
   turns_on : Stands config Settled slirp kept old past → may_turn (phase config past) ≡ true
   turns_on (Turns turn) = ap may_turn turn.working
@@ -64,6 +65,7 @@ module _ (config : Config) (count : ℕ) (slirp : SlirpState) (kept : Kept) (old
     lawful = waited answer ready;
     over = ap (λ o. phase_after (Wait wants timeout answer ready) o (phase config past)) is ∙ ends why holds.stands;
     errand = errand_for config Settled slirp past holds.relayed;
+    served = none_due_for_services config (Wait wants timeout answer ready ∷ past) holds.services.unresolved;
     idle = (flows_then answer ready).holds.asked;
     sockets = record { each = now_open.each; carry = now_open.carry; flow = now_open.flow; apart = now_open.apart };
   }
@@ -83,6 +85,7 @@ module _ (config : Config) (count : ℕ) (slirp : SlirpState) (kept : Kept) (old
     answers = record { sent = holds.answers.sent; pending = holds.answers.pending };
     guests = guests_stay config slirp (record slirp { moment = max (min told (2 ^ 62)) slirp.moment }) (Now told) (Wait wants timeout Ready ready ∷ past) refl refl (guests_stay config slirp slirp (Wait wants timeout Ready ready) past refl refl holds.guests);
     relayed = record { list = holds.relayed.list; asks = holds.relayed.asks };
+    services = record { leases = holds.services.leases; unresolved = holds.services.unresolved; unbound = holds.services.unbound };
     flows = flows_told config kept slirp.moment (max (min told (2 ^ 62)) slirp.moment) told (Wait wants timeout Ready ready ∷ past) (not_before told slirp.moment) (flows_then Ready ready);
     sockets = record { number = holds.sockets.number; kinds = holds.sockets.kinds };
     clock = record { moment = ap (max (min told (2 ^ 62))) holds.clock.moment; counted = ap (λ n. n + 1) holds.clock.counted };

@@ -3,6 +3,7 @@ use Rattle.std.specs.Prelude.{◌≡◌, ℕ, ◌+◌, ◌≤◌, Bool, true, fa
 use Rattle.std.specs.Option.{option_and_then, option_map}
 use Rattle.net_octets.specs.Octets.{part}
 use Rattle.host_policy.specs.Addresses.{Config, is_guest}
+use Rattle.ether_frame.specs.Ether.{read_ether}
 use Rattle.ipv4_head.specs.Ip.{Ip, read_ip}
 use Rattle.ipv4_head.specs.Sets.{Carrying, Key, OfSets, Part, PartSet, sets_left, whole_with, young}
 use Rattle.ipv4_reasm.specs.Areas.{Gathered, StandFor}
@@ -11,8 +12,8 @@ use Rattle.slirp_laws.specs.Answers.{frames_of}
 use Rattle.slirp_laws.specs.Datagrams.{Errand}
 use Rattle.slirp_core.specs.Segments.{Coming, FitsTask, errand_for, segment_for, segment_of_arrived, segment_of_ip}
 use Rattle.slirp_core.specs.declared.tcp.Task.{Task}
-use Rattle.slirp_core.specs.Packets.{errand_of_arrived, errand_of_ip, owed_for, owed_for_arrived, owed_for_ip, with_ip}
-use Rattle.slirp_core.specs.State.{SlirpState}
+use Rattle.slirp_core.specs.Packets.{errand_for_udp, leases_with, owed_for, owed_for_arrived, owed_for_frame, owed_for_ip, udp_in, udp_of, udp_of_arrived, with_ether, with_ip}
+use Rattle.slirp_core.specs.State.{SlirpState, serving_of}
 use Rattle.slirp_core.specs.declared.fragments.Assembled.{Assembled}
 use Rattle.slirp_core.specs.declared.fragments.Brought.{Brought}
 use Rattle.slirp_core.specs.declared.fragments.Brought.TheVariants.{Nothing, Task as ATask, Datagram}
@@ -52,7 +53,7 @@ Gathers slirp held mac ip p areas assembled octets = GathersIf (is_guest slirp.c
 abbrev pub brought_errand : Config → Brought → List ℕ → Option Errand
 brought_errand config Nothing octets = None
 brought_errand config (ATask t) octets = errand_for t
-brought_errand config (Datagram a) octets = errand_of_ip config a.mac.0 (assembled_ip a octets)
+brought_errand config (Datagram a) octets = errand_for_udp config (udp_of config a.mac.0 (assembled_ip a octets))
 
 -- and the segment that is to be heard
 abbrev pub brought_segment : Config → Brought → List ℕ → Option Coming
@@ -60,20 +61,41 @@ brought_segment config Nothing octets = None
 brought_segment config (ATask t) octets = segment_for t
 brought_segment config (Datagram a) octets = segment_of_ip config a.mac.0 (assembled_ip a octets)
 
+-- the network once a whole datagram is taken in that came from this hardware address
+abbrev pub after_ip : SlirpState → List ℕ → Ip → SlirpState
+after_ip s mac ip = record s {
+  pending = frames_of s.config s.sent (owed_for_ip s.config (serving_of s) mac ip);
+  leases = leases_with s.config s.moment (udp_of s.config mac ip) s.leases;
+}
+
 abbrev pub taken_on : SlirpState → Brought → List ℕ → SlirpState
 taken_on slirp Nothing octets = slirp
 taken_on slirp (ATask t) octets = slirp
-taken_on slirp (Datagram a) octets = record slirp { pending = frames_of slirp.config slirp.sent (owed_for_ip slirp.config a.mac.0 (assembled_ip a octets)) }
+taken_on slirp (Datagram a) octets = after_ip slirp a.mac.0 (assembled_ip a octets)
+
+-- once octets of IPv4 are that came from it, while these sets of fragments wait, with these areas then
+abbrev pub after_octets : SlirpState → List PartSet → List ℕ → List ℕ → List Gathered → Option Ip → SlirpState
+after_octets s waiting mac octets parts ip = record s {
+  pending = frames_of s.config s.sent (owed_for (owed_for_arrived s.config (serving_of s) waiting mac octets) ip);
+  known = with_ip s.config mac ip s.known;
+  parts = parts;
+  leases = leases_with s.config s.moment (option_and_then (udp_of_arrived s.config s.moment waiting mac octets) ip) s.leases;
+}
+
+-- and once a frame is, by these settings
+abbrev pub after_frame : Config → SlirpState → List PartSet → List Gathered → List ℕ → SlirpState
+after_frame config s waiting parts frame = record s {
+  pending = frames_of config s.sent (owed_for_frame config (serving_of s) waiting frame);
+  known = with_ether config (read_ether frame) s.known;
+  parts = parts;
+  leases = leases_with config s.moment (udp_in config s.moment waiting frame) s.leases;
+}
 
 -- what octets of IPv4 brought that came from this hardware address: what is sent on, heard and owed for it, whom it makes known, and which fragments wait then
 pub record Arrives (old : SlirpState) (held : List PartSet) (mac octets : List ℕ) (new : SlirpState) (brought : Brought) (room : List ℕ) : Type 0 where
-  pub errand : brought_errand old.config brought room ≡ option_and_then (errand_of_arrived old.config old.moment (young old.moment held) mac octets) (read_ip octets)
+  pub errand : brought_errand old.config brought room ≡ errand_for_udp old.config (option_and_then (udp_of_arrived old.config old.moment (young old.moment held) mac octets) (read_ip octets))
   pub segment : brought_segment old.config brought room ≡ option_and_then (segment_of_arrived old.config old.moment (young old.moment held) mac octets) (read_ip octets)
-  pub changes : taken_on new brought room ≡ record old {
-    pending = frames_of old.config old.sent (owed_for (owed_for_arrived old.config old.moment (young old.moment held) mac octets) (read_ip octets));
-    known = with_ip old.config mac (read_ip octets) old.known;
-    parts = new.parts;
-  }
+  pub changes : taken_on new brought room ≡ after_octets old (young old.moment held) mac octets new.parts (read_ip octets)
   pub parts : IsHeld new.parts (with_fragment old.moment (option_and_then (fragment_by old.config octets) (read_ip octets)) held)
 
 -- so many octets hold it, and nothing is owed where something is still to be taken in or sent

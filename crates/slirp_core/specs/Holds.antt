@@ -1,5 +1,6 @@
 -- What the core keeps of the calls made on the World.
 use Rattle.std.specs.Prelude.{◌≡◌, ℕ, ◌<◌, ◌≤◌, ◌||◌, ◌⊎◌, Bool, true, false, List, [], ◌∷◌, ◌++◌, drop, Contains, Option, None}
+use Rattle.net_octets.specs.declared.Endpoint.{Endpoint}
 use Rattle.poll_list.specs.declared.Want.{Want}
 use Rattle.world_face.specs.Journal.{Entry, AreAllowed}
 use Rattle.world_face.specs.Frames.{Ending, LinkFailed}
@@ -16,13 +17,14 @@ use Rattle.run_laws.specs.Shape.{Phase, By, Started, Working, Over, phase, is_en
 use Rattle.run_laws.specs.Sockets.{Kind, is_among, is_association, is_flow, kind_of, next_number, open_sockets}
 use Rattle.slirp_laws.specs.Agenda.{agenda, all_wanted}
 use Rattle.slirp_laws.specs.Answers.{frames_of, identification, left, owed_for_segment}
-use Rattle.slirp_laws.specs.Asking.{errand_left}
-use Rattle.slirp_laws.specs.Datagrams.{Step, Settled}
+use Rattle.slirp_laws.specs.Errands.{errand_left}
+use Rattle.slirp_laws.specs.Datagrams.{Errand, Step, Settled}
 use Rattle.slirp_laws.specs.Relayed.{associations, step_for}
-use Rattle.slirp_laws.specs.Laws.{Finished, Lawful, is_closing}
+use Rattle.slirp_laws.specs.Laws.{Finished, Lawful, due_for_services, is_closing}
 use Rattle.stream_netdev.specs.Keeps.{Keeps}
 use Rattle.stream_netdev.specs.State.{LinkState}
 use Rattle.slirp_core.specs.Segments.{Coming}
+use Rattle.slirp_core.specs.Services.{OfServices}
 use Rattle.slirp_core.specs.State.{SlirpState}
 use Rattle.slirp_core.specs.Waiting.{OfFragments}
 use Rattle.slirp_core.specs.declared.sending.Pumped.{Pumped}
@@ -79,10 +81,17 @@ pub record OfGuests (config : Config) (slirp : SlirpState) (past : List Entry) :
   pub known : known config past ≡ slirp.known
   pub fragments : OfFragments config slirp past
 
--- the associations in the order of use, and what the datagram that came last still asks for
+-- What a datagram asks for by the list of associations: no port of the host is given to a guest yet, and no question waits.
+abbrev pub no_forward : Endpoint → Option ℕ
+no_forward guest = None
+
+abbrev pub asked_by : Config → List AnAssociation → Option Errand → Step
+asked_by config associations errand = step_for config [] no_forward associations errand
+
+-- the associations in the order of use, and what the datagram that came last still asks for; no question waits
 pub record OfRelay (config : Config) (step : Step) (slirp : SlirpState) (past : List Entry) : Type 0 where
   pub list : associations config past ≡ slirp.associations
-  pub asks : step_for slirp.associations (errand_left config past) ≡ step
+  pub asks : asked_by config slirp.associations (errand_left config past) ≡ step
 
 -- what is kept of flows, and whether the rests that are over have ended
 pub record Flowing : Type 0 where
@@ -119,6 +128,7 @@ pub record HoldsAt (config : Config) (at : Standing) (step : Step) (slirp : Slir
   pub answers : OfAnswers config slirp past
   pub guests : OfGuests config slirp past
   pub relayed : OfRelay config step slirp past
+  pub services : OfServices config slirp past
   pub flows : OfFlows config f slirp.moment past
   pub sockets : OfSockets slirp.number past
   pub clock : OfClock at slirp past
@@ -145,6 +155,7 @@ pub record Comes (config : Config) (at : Standing) (slirp : SlirpState) (kept : 
   pub none : slirp.pending ≡ []
   pub guests : OfGuests config slirp past
   pub relayed : OfRelay config Settled slirp past
+  pub services : OfServices config slirp past
   pub learnt : Contains (taught config past) (c.on.tuple.guest.addr, record { 0 = c.on.mac })
   pub unit : 28 ≤ config.mtu
   pub sockets : OfSockets slirp.number past
@@ -166,6 +177,7 @@ pub record Ended (config : Config) (why : Ending) (list : List AnAssociation) (p
   pub lawful : Lawful config past
   pub over : phase config past ≡ Over (By why)
   pub errand : errand_left config past ≡ None
+  pub served : due_for_services config past ≡ None
   pub idle : due_for_flows config (book config past) (next_number past) ≡ None
   pub sockets : AreOpen list parts past
 
@@ -212,6 +224,7 @@ pub record Closing (config : Config) (over : Phase) (list : List AnAssociation) 
   pub is : over ≡ phase config past
   pub rests : Rests config past
   pub errand : errand_left config past ≡ None
+  pub served : due_for_services config past ≡ None
   pub idle : due_for_flows config (book config past) (next_number past) ≡ None
   pub sockets : AreOpen list parts past
 

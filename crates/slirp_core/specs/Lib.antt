@@ -3,12 +3,14 @@ pub mod Datagrams
 pub mod Fragments
 pub mod Hearing
 pub mod Holds
+pub mod Leases
 pub mod Numbers
 pub mod Outgoing
 pub mod Packets
 pub mod Pumps
 pub mod Replies
 pub mod Segments
+pub mod Services
 pub mod Sockets
 pub mod State
 pub mod Timeouts

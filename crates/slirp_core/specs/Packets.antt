@@ -12,12 +12,14 @@ use Rattle.icmp_echo.specs.Icmp.{read_icmp}
 use Rattle.udp_assoc.specs.Udp.{read_udp}
 use Rattle.run_laws.specs.Fragments.{arrived}
 use Rattle.run_laws.specs.Packets.{Datagram, datagram_of, may_come}
-use Rattle.slirp_laws.specs.Datagrams.{Errand, errand_of}
+use Rattle.dhcp_server.specs.declared.leases.Lease.{Lease}
+use Rattle.slirp_laws.specs.Datagrams.{Errand, errand_of, fate}
+use Rattle.slirp_laws.specs.Leasing.{leases_by_fate}
 use Rattle.arp_table.specs.declared.ArpView.{ArpView}
 use Rattle.arp_table.specs.Arp.{Arp, arp_of, read_arp}
 use Rattle.icmp_echo.specs.declared.IcmpView.{IcmpView}
 use Rattle.icmp_echo.specs.declared.IcmpView.TheVariants.{Echo, Unreachable, Other}
-use Rattle.slirp_laws.specs.Answers.{Answer, ArpAnswer, owed_for_arp, owed_for_icmp, owed_for_datagram}
+use Rattle.slirp_laws.specs.Answers.{Answer, ArpAnswer, Serving, owed_for_arp, owed_for_icmp, owed_for_datagram}
 
 abbrev pub packet_of : ArpView → Answer
 packet_of view = ArpAnswer view.target_mac.0 (arp_of view)
@@ -53,36 +55,41 @@ udp_of config mac ip =
     else None
 
 -- a segment is answered, if at all, when it is heard
-abbrev pub owed_for_ip : Config → List ℕ → Ip → List Answer
-owed_for_ip config mac ip =
+abbrev pub owed_for_ip : Config → Serving → List ℕ → Ip → List Answer
+owed_for_ip config serving mac ip =
     if is_message_to_us config ip then owed_for (owed_for_icmp mac ip) (read_icmp ip.body)
     else (if is_segment config ip then []
-    else owed_for (owed_for_datagram config) (udp_of config mac ip))
+    else owed_for (owed_for_datagram config serving) (udp_of config mac ip))
 
--- the errand of a datagram
-abbrev pub errand_of_ip : Config → List ℕ → Ip → Option Errand
-errand_of_ip config mac ip = option_and_then (errand_of config) (udp_of config mac ip)
+-- the same of what arrives by a frame at the moment in force, while these sets wait
+abbrev pub owed_for_arrived : Config → Serving → List PartSet → List ℕ → List ℕ → Ip → List Answer
+owed_for_arrived config serving waiting mac octets ip = owed_for (owed_for_ip config serving mac) (arrived config serving.now waiting octets ip)
 
--- the same of what arrives by a frame at this moment, while these sets wait
-abbrev pub owed_for_arrived : Config → ℕ → List PartSet → List ℕ → List ℕ → Ip → List Answer
-owed_for_arrived config now waiting mac octets ip = owed_for (owed_for_ip config mac) (arrived config now waiting octets ip)
-
-abbrev pub owed_for_ether : Config → ℕ → List PartSet → Ether → List Answer
-owed_for_ether config now waiting ether =
+abbrev pub owed_for_ether : Config → Serving → List PartSet → Ether → List Answer
+owed_for_ether config serving waiting ether =
     if ether.kind == arp_kind then owed_for (owed_for_arp config) (read_arp ether.body)
-    else (if ether.kind == ipv4_kind then owed_for (owed_for_arrived config now waiting ether.from ether.body) (read_ip ether.body) else [])
+    else (if ether.kind == ipv4_kind then owed_for (owed_for_arrived config serving waiting ether.from ether.body) (read_ip ether.body) else [])
 
-abbrev pub owed_for_frame : Config → ℕ → List PartSet → List ℕ → List Answer
-owed_for_frame config now waiting frame = owed_for (owed_for_ether config now waiting) (read_ether frame)
+abbrev pub owed_for_frame : Config → Serving → List PartSet → List ℕ → List Answer
+owed_for_frame config serving waiting frame = owed_for (owed_for_ether config serving waiting) (read_ether frame)
 
-abbrev pub errand_of_arrived : Config → ℕ → List PartSet → List ℕ → List ℕ → Ip → Option Errand
-errand_of_arrived config now waiting mac octets ip = option_and_then (errand_of_ip config mac) (arrived config now waiting octets ip)
+-- the datagram of UDP that arrives by a frame at this moment, while these sets wait
+abbrev pub udp_of_arrived : Config → ℕ → List PartSet → List ℕ → List ℕ → Ip → Option Datagram
+udp_of_arrived config now waiting mac octets ip = option_and_then (udp_of config mac) (arrived config now waiting octets ip)
 
-abbrev pub errand_of_ether : Config → ℕ → List PartSet → Ether → Option Errand
-errand_of_ether config now waiting ether = if ether.kind == ipv4_kind then option_and_then (errand_of_arrived config now waiting ether.from ether.body) (read_ip ether.body) else None
+abbrev pub udp_of_ether : Config → ℕ → List PartSet → Ether → Option Datagram
+udp_of_ether config now waiting ether = if ether.kind == ipv4_kind then option_and_then (udp_of_arrived config now waiting ether.from ether.body) (read_ip ether.body) else None
 
-abbrev pub errand_in : Config → ℕ → List PartSet → List ℕ → Option Errand
-errand_in config now waiting frame = option_and_then (errand_of_ether config now waiting) (read_ether frame)
+abbrev pub udp_in : Config → ℕ → List PartSet → List ℕ → Option Datagram
+udp_in config now waiting frame = option_and_then (udp_of_ether config now waiting) (read_ether frame)
+
+-- what a datagram, if one came, asks for: that it goes out, or of the leases
+abbrev pub errand_for_udp : Config → Option Datagram → Option Errand
+errand_for_udp config d = option_and_then (errand_of config) d
+
+abbrev pub leases_with : Config → ℕ → Option Datagram → List Lease → List Lease
+leases_with config now None leases = leases
+leases_with config now (Some d) leases = leases_by_fate config now d (fate config d) leases
 
 -- whom a frame makes known
 abbrev pub with_address : Config → ℕ → List ℕ → List (Ip4 × Mac) → List (Ip4 × Mac)

@@ -1,13 +1,16 @@
 -- What contracts see of the network.
-use Rattle.std.specs.Prelude.{ℕ, List}
+use Rattle.std.specs.Prelude.{ℕ, List, None}
 use Rattle.net_octets.specs.declared.Ip4.{Ip4}
 use Rattle.net_octets.specs.declared.Mac.{Mac}
 use Rattle.host_policy.specs.Addresses.{Config}
+use Rattle.dhcp_server.specs.declared.leases.Lease.{Lease}
 use Rattle.udp_assoc.specs.declared.assocs.Association.{Association}
 use Rattle.ipv4_reasm.specs.Areas.{Gathered}
+use Rattle.tftp_server.specs.Transfers.{no_files}
+use Rattle.slirp_laws.specs.Answers.{Serving}
 use Rattle.tcp_flows.specs.Kept.{Kept}
 
--- its settings, the guests that are known, the identification of the next datagram, the frames that are owed and aren't out yet, the moment in force, the number of the next socket, the associations, what is in the areas of fragments, and the flows of TCP
+-- its settings, the guests that are known, the identification of the next datagram, the frames that are owed and aren't out yet, the moment in force, the number of the next socket, the associations, what is in the areas of fragments, the flows of TCP, and who has which address
 pub record SlirpState : Type 0 where
   pub config : Config
   pub known : List (Ip4 × Mac)
@@ -18,3 +21,8 @@ pub record SlirpState : Type 0 where
   pub associations : List Association
   pub parts : List Gathered
   pub flows : Kept
+  pub leases : List Lease
+
+-- what its services keep: the leases alone, since no files are served
+abbrev pub serving_of : SlirpState → Serving
+serving_of slirp = record { now = slirp.moment; leases = slirp.leases; files = no_files; again = None }

@@ -5,9 +5,10 @@ ghost use Rattle.host_policy.specs.Addresses.{is_guest};
 ghost use Rattle.ipv4_head.specs.Ip.{ip_of};
 ghost use Rattle.slirp_core.specs.Packets.{udp_of};
 ghost use Rattle.run_laws.specs.Packets.{quoted};
-ghost use Rattle.slirp_laws.specs.Datagrams.{fate};
+ghost use Rattle.slirp_laws.specs.Datagrams.{fate, fate_by};
 ghost use Rattle.slirp_core.specs.Datagrams.{Lies, datagram_of, fate_of};
 
+use dns_relay::is_question;
 use host_policy::{Policy, Proto, Verdict};
 use ipv4_head::IpView;
 use net_octets::{Endpoint, Ip4, Mac};
@@ -50,6 +51,8 @@ pub enum Outcome {
     Ignored,
     /// The guest is told that it may go nowhere.
     Refused,
+    /// It is a message for the server of leases.
+    ForLeases,
     GoesTo(Endpoint),
 }
 
@@ -105,20 +108,39 @@ fn may_come(policy: &Policy, from: Ip4, to_port: u16) -> bool
     policy.is_guest(from) || from == Ip4(0) && to_port == DHCP_PORT
 }
 
-/// What becomes of a datagram: nothing of one from port 0, nor of one to a service of ours that isn't there yet.
+/// What becomes of a datagram: nothing of one from port 0, nor of one to a service of ours that isn't there yet or isn't wanted; nor of one to the name server that is no question.
 pub fn fate(policy: &Policy, datagram: &DatagramView<'_>) -> Outcome
     ensures { fate_of result ≡ fate policy.now (datagram_of datagram.now) }
 {
-    let (from, to) = (datagram.from, datagram.to);
+    let to = datagram.to;
     let ours = to.addr == policy.vhost();
-    if from.port == 0
-        || to.port == DHCP_PORT && (ours || to.addr == ALL_HOSTS)
-        || to.port == TFTP_PORT && ours
-    {
-        return Outcome::Ignored;
+    if datagram.from.port == 0 {
+        Outcome::Ignored
+    } else if to.port == DHCP_PORT && (ours || to.addr == ALL_HOSTS) {
+        if policy.lends_addresses() {
+            Outcome::ForLeases
+        } else {
+            Outcome::Ignored
+        }
+    } else if to.port == TFTP_PORT && ours {
+        Outcome::Ignored
+    } else {
+        fate_by(policy, datagram, policy.target(Proto::Udp, to))
     }
-    match policy.target(Proto::Udp, to) {
-        Verdict::Go(to) => Outcome::GoesTo(to),
+}
+
+// What becomes of one that no server of ours takes: to the name server go questions alone.
+fn fate_by(policy: &Policy, datagram: &DatagramView<'_>, verdict: Verdict) -> Outcome
+    ensures { fate_of result ≡ fate_by policy.now (datagram_of datagram.now) verdict }
+{
+    match verdict {
+        Verdict::Go(to) => {
+            if policy.is_name_server(datagram.to.addr) && !is_question(datagram.body) {
+                Outcome::Ignored
+            } else {
+                Outcome::GoesTo(to)
+            }
+        }
         Verdict::Denied(_) => Outcome::Refused,
     }
 }

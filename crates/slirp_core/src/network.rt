@@ -9,6 +9,7 @@ use crate::icmp::is_message_to_us;
 use crate::outgoing::{ARP, IPV4, Outgoing};
 use crate::tcp::{Task, is_segment, segment_in};
 use arp_table::ArpTable;
+use dhcp_server::Leases;
 use host_policy::{Policy, SlirpConfig};
 use ipv4_head::IpView;
 use ipv4_reasm::Reasm;
@@ -22,7 +23,10 @@ use world_face::World;
 /// The greatest moment, in milliseconds.
 const LAST_MOMENT: u64 = 1 << 62;
 
-/// The virtual network: who its guests are, which sockets are open for them, how many datagrams went out, the frames that are owed to a guest and aren't out yet, the fragments that wait to be joined, and the flows of TCP.
+/// The room for a reply to a client of DHCP, in octets.
+const MESSAGE_ROOM: usize = 1024;
+
+/// The virtual network: who its guests are, which sockets are open for them, how many datagrams went out, the frames that are owed to a guest and aren't out yet, the fragments that wait to be joined, the flows of TCP, and who has which address.
 #[derive(Drop)]
 pub struct Slirp {
     pub(crate) policy: Policy,
@@ -34,40 +38,41 @@ pub struct Slirp {
     pub(crate) number: u64,
     pub(crate) reasm: Reasm,
     pub(crate) flows: TcpFlows,
+    pub(crate) leases: Leases,
+    /// Room for the reply to a client of DHCP.
+    pub(crate) message: Vec<u8>,
 }
 
 impl Model for Slirp {
-    ghost use Rattle.std.specs.Prelude.{◌≡◌, ◌<◌, ◌≤◌, ◌^◌, All};
+    ghost use Rattle.std.specs.Prelude.{◌≡◌, ◌<◌, ◌≤◌, ◌^◌, All, length};
     ghost use Rattle.udp_assoc.specs.Associations.{numbers};
     ghost use Rattle.slirp_core.specs.State.{SlirpState};
     ghost use Rattle.slirp_core.specs.Numbers.{AreDrawn};
 
     ghost Value = { SlirpState };
 
-    ghost view = { λ s. record { config = s.policy; known = s.guests; sent = s.sent; pending = s.outgoing; moment = s.moment; number = s.number; associations = s.associations.list; parts = s.reasm; flows = s.flows } };
+    ghost view = { λ s. record { config = s.policy; known = s.guests; sent = s.sent; pending = s.outgoing; moment = s.moment; number = s.number; associations = s.associations.list; parts = s.reasm; flows = s.flows; leases = s.leases.leases } };
 
-    // each socket has a number under that of the next one, those of flows too, of which there are at most 4,096; and sockets are opened at 0.0.0.0, every address of the host
-    ghost invariant = { λ s. All (λ n. n < s.number) (numbers s.associations.list) × (s.moment ≤ 2 ^ 62) × (s.associations.bind ≡ 0) × AreDrawn s.number s.flows };
+    // each socket has a number under that of the next one, those of flows too, of which there are at most 4,096; sockets are opened at 0.0.0.0, every address of the host; and the server of leases has the settings, and room for a reply
+    ghost invariant = { λ s. All (λ n. n < s.number) (numbers s.associations.list) × (s.moment ≤ 2 ^ 62) × (s.associations.bind ≡ 0) × AreDrawn s.number s.flows × (s.leases.config ≡ s.policy) × (length s.message.items ≡ 1024) };
 }
 
 impl Slirp {
-    ghost use Rattle.std.specs.Prelude.{false, Bool, ℕ, List, ◌≤◌, ◌+◌, IfOk, IfSome, Some, None, min, max};
+    ghost use Rattle.dhcp_server.specs.declared.leases.Lease.TheVariants.{Free};
+    ghost use Rattle.std.specs.Prelude.{replicate, false, Bool, ℕ, List, ◌≤◌, ◌+◌, IfOk, IfSome, Some, None, min, max};
     ghost use Rattle.std.specs.Option.{option_map};
     ghost use Rattle.host_policy.specs.Addresses.{Config};
     ghost use Rattle.host_policy.specs.Ranges.{IsSound};
     ghost use Rattle.host_policy.specs.Settings.{settings};
-    ghost use Rattle.ether_frame.specs.Ether.{read_ether};
     ghost use Rattle.udp_assoc.specs.Associations.{is_over};
-    ghost use Rattle.slirp_core.specs.Packets.{with_address, with_ether};
-    ghost use Rattle.slirp_laws.specs.Answers.{frames_of};
-    ghost use Rattle.slirp_core.specs.Packets.{owed_for_ip, owed_for_frame};
+    ghost use Rattle.slirp_core.specs.Packets.{with_address};
     ghost use Rattle.slirp_core.specs.Segments.{FitsTask, errand_for, segment_for, segment_in, segment_of_ip};
     ghost use Rattle.std.specs.Option.{option_and_then};
     ghost use Rattle.slirp_core.specs.Numbers.{flows_for};
-    ghost use Rattle.slirp_core.specs.Packets.{errand_of_ip, errand_in};
+    ghost use Rattle.slirp_core.specs.Packets.{errand_for_udp, udp_in, udp_of};
     ghost use Rattle.ipv4_head.specs.Sets.{PartSet, young};
     ghost use Rattle.run_laws.specs.Fragments.{fragment_in, with_fragment};
-    ghost use Rattle.slirp_core.specs.Fragments.{Arrives, FitsBrought, IsHeld, brought_errand, brought_segment, taken_on};
+    ghost use Rattle.slirp_core.specs.Fragments.{Arrives, FitsBrought, IsHeld, after_frame, after_ip, brought_errand, brought_segment, taken_on};
     ghost use Rattle.world_face.specs.Tells.{Brings, Makes};
     ghost use Rattle.slirp_core.specs.Hearing.{ClosesByKind, WhereItTicks};
     ghost use Rattle.tcp_flows.specs.Runs.{ClosesRising};
@@ -98,7 +103,11 @@ impl Slirp {
         ensures associations { IfOk result (λ slirp. slirp.associations ≡ []) }
         ensures parts { IfOk result (λ slirp. slirp.parts ≡ []) }
         ensures flows { IfOk result (λ slirp. slirp.flows ≡ flows_for (settings c.now)) }
+        ensures leases { IfOk result (λ slirp. slirp.leases ≡ replicate 16 Free) }
     {
+        let Ok(message) = vec![in alloc; 0; MESSAGE_ROOM] else {
+            return Err(NoMemory);
+        };
         let outgoing = Outgoing::open(alloc)?;
         let reasm = Reasm::open(alloc)?;
         let flows = TcpFlows::open(alloc, &sizes_of(c))?;
@@ -113,6 +122,8 @@ impl Slirp {
             number: 0,
             reasm,
             flows,
+            leases: Leases::new(c),
+            message,
         })
     }
 
@@ -127,17 +138,14 @@ impl Slirp {
     pub fn input<'a>(&mut self, frame: &'a [u8], room: &mut [u8]) -> Brought<'a>
         requires { length room.old ≡ 65575 }
         ensures errand { (held : List PartSet) → IsHeld self.old.parts held
-            → brought_errand self.old.config result room.new ≡ errand_in self.old.config self.old.moment (young self.old.moment held) frame.now }
+            → brought_errand self.old.config result room.new ≡ errand_for_udp self.old.config (udp_in self.old.config self.old.moment (young self.old.moment held) frame.now) }
         ensures segment { (held : List PartSet) → IsHeld self.old.parts held
             → brought_segment self.old.config result room.new ≡ segment_in self.old.config self.old.moment (young self.old.moment held) frame.now }
-        ensures changes { (held : List PartSet) → IsHeld self.old.parts held → taken_on self.new result room.new ≡ record self.old {
-          pending = frames_of self.old.config self.old.sent (owed_for_frame self.old.config self.old.moment (young self.old.moment held) frame.now);
-          known = with_ether self.old.config (read_ether frame.now) self.old.known;
-          parts = self.new.parts;
-        } }
+        ensures changes { (held : List PartSet) → IsHeld self.old.parts held
+            → taken_on self.new result room.new ≡ after_frame self.old.config self.old (young self.old.moment held) self.new.parts frame.now }
         ensures parts { (held : List PartSet) → IsHeld self.old.parts held
             → IsHeld self.new.parts (with_fragment self.old.moment (fragment_in self.old.config frame.now) held) }
-        ensures others { self.new ≡ record self.old { pending = self.new.pending; known = self.new.known; parts = self.new.parts } }
+        ensures others { self.new ≡ record self.old { pending = self.new.pending; known = self.new.known; parts = self.new.parts; leases = self.new.leases } }
         ensures fits { FitsBrought result self.new.pending 65575 }
         ensures room { length room.new ≡ 65575 }
     {
@@ -161,7 +169,7 @@ impl Slirp {
         ensures errand { option_and_then errand_for result ≡ brought_errand self.old.config brought.entry octets.now }
         ensures segment { option_and_then segment_for result ≡ brought_segment self.old.config brought.entry octets.now }
         ensures changes { self.new ≡ taken_on self.old brought.entry octets.now }
-        ensures others { self.new ≡ record self.old { pending = self.new.pending } }
+        ensures others { self.new ≡ record self.old { pending = self.new.pending; leases = self.new.leases } }
         ensures fits { IfSome result FitsTask }
         ensures none { IfSome result (λ t. self.new.pending ≡ []) }
     {
@@ -180,7 +188,7 @@ impl Slirp {
         requires none { self.old.pending ≡ [] }
         requires room { length room.old ≡ 65575 }
         ensures arrives { (held : List PartSet) → IsHeld self.old.parts held → Arrives self.old held mac.0 body.now self.new result room.new }
-        ensures others { self.new ≡ record self.old { pending = self.new.pending; known = self.new.known; parts = self.new.parts } }
+        ensures others { self.new ≡ record self.old { pending = self.new.pending; known = self.new.known; parts = self.new.parts; leases = self.new.leases } }
         ensures fits { FitsBrought result self.new.pending 65575 }
         ensures room { length room.new ≡ 65575 }
     {
@@ -205,11 +213,11 @@ impl Slirp {
     ) -> Option<Task<'a>>
         requires none { self.old.pending ≡ [] }
         requires lies { Lies octets.now datagram.now.head.now datagram.now.body.now }
-        ensures errand { option_and_then errand_for result ≡ errand_of_ip self.old.config mac.0 (ip_of datagram.now) }
+        ensures errand { option_and_then errand_for result ≡ errand_for_udp self.old.config (udp_of self.old.config mac.0 (ip_of datagram.now)) }
         ensures segment { option_and_then segment_for result ≡ segment_of_ip self.old.config mac.0 (ip_of datagram.now) }
         ensures fits { IfSome result FitsTask }
         ensures none { IfSome result (λ t. self.new.pending ≡ []) }
-        ensures changes { self.new ≡ record self.old { pending = frames_of self.old.config self.old.sent (owed_for_ip self.old.config mac.0 (ip_of datagram.now)) } }
+        ensures changes { self.new ≡ after_ip self.old mac.0 (ip_of datagram.now) }
     {
         if is_message_to_us(&self.policy, datagram) {
             self.take_icmp(mac, datagram);

@@ -18,16 +18,16 @@ impl Slirp {
     ghost use Rattle.host_policy.specs.Addresses.{Config};
     ghost use Rattle.udp_assoc.specs.Associations.{numbered};
     ghost use Rattle.udp_assoc.specs.declared.assocs.Association.{Association as AnAssociation};
-    ghost use Rattle.slirp_laws.specs.Answers.{frames_of, owed_for_datagram, reply_at};
+    ghost use Rattle.slirp_laws.specs.Answers.{frames_of, reply_at};
+    ghost use Rattle.slirp_core.specs.Leases.{after_message, after_udp};
     ghost use Rattle.slirp_laws.specs.Datagrams.{errand_of as errand_by_law};
-    ghost use Rattle.slirp_laws.specs.Relayed.{step_for};
     ghost use Rattle.slirp_core.specs.Replies.{told_by, owed_by};
     ghost use Rattle.udp_assoc.specs.Relays.{FitsRoom};
     ghost use Rattle.world_face.specs.Tells.{Brings, Makes};
     ghost use Rattle.slirp_core.specs.Hearing.{Receives};
     ghost use Rattle.stream_netdev.specs.State.{LinkState};
     ghost use Rattle.slirp_core.specs.Datagrams.{datagram_of, errand_of, FitsErrand};
-    ghost use Rattle.slirp_core.specs.Holds.{Standing, flowing, standing, Holds, HoldsAt};
+    ghost use Rattle.slirp_core.specs.Holds.{asked_by, Standing, flowing, standing, Holds, HoldsAt};
     ghost use Rattle.std.specs.Prelude.{Bool};
     ghost use Rattle.slirp_core.specs.Counts.{AreGrown};
 
@@ -38,12 +38,16 @@ impl Slirp {
         ensures errand { option_map errand_of result ≡ errand_by_law self.old.config (datagram_of datagram.now) }
         ensures same { IfSome result (λ e. e.datagram ≡ datagram.now) }
         ensures none { IfSome result (λ e. self.new.pending ≡ []) }
-        ensures changes { self.new ≡ record self.old { pending = frames_of self.old.config self.old.sent (owed_for_datagram self.old.config (datagram_of datagram.now)) } }
+        ensures changes { self.new ≡ after_udp self.old (datagram_of datagram.now) }
     {
         match fate(&self.policy, datagram) {
             Outcome::Ignored => None,
             Outcome::Refused => {
                 self.tell_about(PROHIBITED, datagram);
+                None
+            }
+            Outcome::ForLeases => {
+                self.take_message(datagram);
                 None
             }
             Outcome::GoesTo(to) => Some(ErrandView {
@@ -53,13 +57,44 @@ impl Slirp {
         }
     }
 
+    // A message of a client of DHCP: what it makes of the leases, and the reply that is owed for it from now on.
+    fn take_message(&mut self, datagram: &DatagramView<'_>)
+        requires none { self.old.pending ≡ [] }
+        ensures { self.new ≡ after_message self.old (datagram_of datagram.now) }
+    {
+        let reply = self
+            .leases
+            .message(self.moment, datagram.body, &mut self.message);
+        match reply {
+            Reply::Datagram {
+                length,
+                from,
+                to,
+                mac,
+            } => match mac {
+                Some(mac) => {
+                    let course = self.course(mac, from.addr, to.addr);
+                    let datagram = UdpView {
+                        from_port: from.port,
+                        to_port: to.port,
+                        body: &self.message[..length],
+                    };
+                    self.outgoing.put_udp(&course, &datagram);
+                }
+                None => {}
+            },
+            Reply::Nothing => {}
+            Reply::Unreachable(_) => {}
+        }
+    }
+
     /// Sends a guest's datagram on the socket of its port, which is opened where there is none; where 512 are open the longest unused one is closed before.
     pub fn relay<W: World>(&mut self, world: &mut W, errand: &ErrandView<'_>)
         requires none { self.old.pending ≡ [] }
         requires fits { FitsErrand errand.now }
         requires number { self.old.number + 1 < 2 ^ 64 }
         ensures makes { (config : Config) (at : Standing) (aged : Bool) (link : LinkState) → Brings (W.tells world.old) (W.tells world.new)
-            (HoldsAt config at (step_for self.old.associations (Some (errand_of errand.now))) self.old (flowing aged self.old.flows) link) (Holds config at self.new (flowing aged self.new.flows) link) }
+            (HoldsAt config at (asked_by config self.old.associations (Some (errand_of errand.now))) self.old (flowing aged self.old.flows) link) (Holds config at self.new (flowing aged self.new.flows) link) }
         ensures number { self.new.number ≤ self.old.number + 1 }
         ensures config { self.new.config ≡ self.old.config }
         ensures others { self.new ≡ record self.old { associations = self.new.associations; pending = self.new.pending; number = self.new.number } }

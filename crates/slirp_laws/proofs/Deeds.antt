@@ -1,24 +1,29 @@
 -- A call may come: one lemma for each kind of call, which has what is to be shown of that kind. Only `gathered` builds the record of the sentences, so that one more sentence is one more line there, and a premise of the kinds of which it speaks.
-use Rattle.std.proofs.Common.{◌≡◌, ℕ, ◌==◌, ◌&&◌, ◌||◌, not, nat_lt, Bool, true, false, List, is_some, MatchOption, Option, Some, None, if◌then◌else◌, refl, sym, ◌∙◌, ap, subst}
+use Rattle.std.proofs.Common.{◌∷◌, ◌≡◌, ℕ, ◌==◌, ◌||◌, not, nat_lt, Bool, true, false, List, is_some, MatchOption, Option, Some, None, refl, sym, ◌∙◌, ap, subst}
 use Rattle.poll_list.specs.Listing.{reads}
 use Rattle.poll_list.specs.declared.Want.{Want}
-use Rattle.poll_list.specs.declared.Who.TheVariants.{Link, Udp}
-use Rattle.world_face.specs.Journal.{Entry, Call, CallNow, CallWait, CallLinkRead, CallLinkWrite, CallClose, CallUdpOpen, CallUdpSend, CallUdpRecv}
-use Rattle.world_face.specs.Frames.{MayFrame, tail}
+use Rattle.poll_list.specs.declared.Who.TheVariants.{Link, Udp, Listener as AListener}
+use Rattle.world_face.specs.Journal.{Entry, LinkWrite, Call, CallNow, CallWait, CallLinkRead, CallLinkWrite, CallClose, CallUdpOpen, CallUdpSend, CallUdpRecv, CallFileLen, CallFileRead, CallListen, CallAccept}
+use Rattle.world_face.specs.Frames.{MayFrame, goes_out, tail}
 use Rattle.world_face.specs.Limits.{most_to_udp}
 use Rattle.net_octets.specs.declared.Endpoint.{Endpoint}
 use Rattle.host_policy.specs.Addresses.{Config}
 use Rattle.run_laws.specs.Shape.{due_in, is_over, is_working, may_turn, phase}
-use Rattle.run_laws.specs.Sockets.{is_among, next_number, open_sockets}
+use Rattle.run_laws.specs.Sockets.{next_number}
 use Rattle.flow_book.specs.Book.{book}
 use Rattle.flow_book.specs.Laws.{MayFlow, MayTouch, MayWrite, flow_settings}
 use Rattle.flow_book.specs.Lots.{due_for_flows}
 use Rattle.run_laws.specs.Moments.{moment, waits}
 use Rattle.slirp_laws.specs.Agenda.{agenda}
-use Rattle.slirp_laws.specs.Laws.{Deed, May, MayDue, begins_closing, carries, deed_of, due, goes_on, has_place, has_socket, is_all_out, is_answered, is_closing, is_least, is_served, is_shut, may_begin, may_close, parts, unless_due}
+use Rattle.slirp_laws.specs.Laws.{May, MayDue, deed_of, due, due_for_answer, due_for_services, goes_on, has_place, has_socket, is_all_out, is_answered, is_closing, is_served, may_begin, may_close, unless_due, relays, takes_peers}
 use Rattle.slirp_laws.specs.Asking.{step}
 use Rattle.slirp_laws.specs.Datagrams.{due_for}
-use Rattle.slirp_laws.proofs.Bools.{and_both, same}
+use Rattle.world_face.specs.declared.Io.{Io}
+use Rattle.slirp_laws.specs.Answers.{Serving, begins_again, begun_by, files_begun, files_sent, identification, ledger, serving}
+use Rattle.slirp_laws.specs.Names.{answered}
+use Rattle.tftp_server.specs.Asking.{call_for}
+use Rattle.tftp_server.specs.Transfers.{Said, Transfer, next_again}
+use Rattle.slirp_laws.proofs.Bools.{and_both, same, equal}
 
 pub gathered : (config : Config) (past : List Entry) (call : Call) → MayFrame past call → MayDue config past call → has_place config past (deed_of call) ≡ true → has_socket config past (deed_of call) ≡ true
     → is_served past (deed_of call) ≡ true → is_answered config past (deed_of call) ≡ true → goes_on config past (deed_of call) ≡ true → MayFlow config past call → May config past call
@@ -41,8 +46,11 @@ second_none (Some call) second is = cc
 -- where no call is due none is for a flow
 pub ask_nothing : (config : Config) (past : List Entry) → due config past ≡ None → FlowsAskNothing config past
 ask_nothing config past none =
-    second_none (due_for (step config past) (next_number past)) (due_for_flows config (book config past) (next_number past))
-    (second_none (due_in (phase config past) past) (unless_due (due_for (step config past) (next_number past)) (due_for_flows config (book config past) (next_number past))) none)
+    let flows = due_for_flows config (book config past) (next_number past) in
+    let services = unless_due (due_for_services config past) flows in
+    let datagrams = unless_due (due_for config (step config past) (next_number past)) services in
+    second_none (due_for_services config past) flows
+    (second_none (due_for config (step config past) (next_number past)) services (second_none (due_in (phase config past) past) datagrams none))
 
 -- where a call is due, and where none is
 pub this_one : (config : Config) (past : List Entry) (call : Call) → due config past ≡ Some call → MayDue config past call
@@ -53,6 +61,26 @@ any_one config past call is = subst (λ o. MatchOption o (Unit {0}) (λ d. call 
 
 some_due : (config : Config) (past : List Entry) (call : Call) → due config past ≡ Some call → is_some (due config past) ≡ true
 some_due config past call is = ap is_some is
+
+-- where no service asks for a call, none asks for a file, and what is written changes none of it
+pub quest_none : (config : Config) (past : List Entry) → due_for_services config past ≡ None → call_for (serving config past).files.quest ≡ None
+quest_none config past none = second_none (due_for_answer (answered config past)) (call_for (serving config past).files.quest) none
+
+quest_sent : (b : Bool) (s : Serving) → (files_sent b s).quest ≡ s.files.quest
+quest_sent false s = refl
+quest_sent true s = by s.again
+  where
+    next : (o : Option Transfer) → (begun_by s.now o s.files).quest ≡ s.files.quest
+    next None = refl
+    next (Some t) = refl
+
+    by : (o : Option Said) → (files_begun s.now o s.files).quest ≡ s.files.quest
+    by None = next (next_again s.now s.files.transfers)
+    by (Some said) = refl
+
+pub services_written : (config : Config) (past : List Entry) (octets : List ℕ) (answer : Io) → due_for_services config past ≡ None → due_for_services config (LinkWrite octets answer ∷ past) ≡ None
+services_written config past octets answer none =
+    ap call_for (quest_sent (begins_again config (identification past) (ledger config past) (goes_out (LinkWrite octets answer) past)) (serving config past)) ∙ quest_none config past none
 
 shuts : (config : Config) (past : List Entry) → (not (is_closing config past) || true) ≡ true
 shuts config past = either (not (is_closing config past))
@@ -92,22 +120,44 @@ module _ (config : Config) (past : List Entry) where
   opens socket at is next nothing open_yet =
       gathered config past (CallUdpOpen socket at) tt (this_one config past (CallUdpOpen socket at) is) (some_due config past (CallUdpOpen socket at) is) next refl refl (on_yet open_yet) (untouched config past (CallUdpOpen socket at) nothing tt)
 
+  -- and so is a port of the host that takes connections
+  pub listens : (socket : ℕ) (at : Endpoint) → due config past ≡ Some (CallListen socket at) → (socket == next_number past) ≡ true → FlowsAskNothing config past → is_closing config past ≡ false → May config past (CallListen socket at)
+  listens socket at is next nothing open_yet =
+      gathered config past (CallListen socket at) tt (this_one config past (CallListen socket at) is) (some_due config past (CallListen socket at) is) next refl refl (on_yet open_yet) (untouched config past (CallListen socket at) nothing tt)
+
+  -- a peer is taken where the last wait reported the port, while there is room for a flow more
+  pub accepts : (listener socket : ℕ) → due config past ≡ None → is_working (phase config past) ≡ true → takes_peers config past listener ≡ true → (socket == next_number past) ≡ true → reads (AListener listener) (agenda past) ≡ true
+      → is_closing config past ≡ false → May config past (CallAccept listener socket)
+  accepts listener socket none working room next reported open_yet =
+      gathered config past (CallAccept listener socket) tt (any_one config past (CallAccept listener socket) none) working (and_both (takes_peers config past listener) (socket == next_number past) room next) reported refl (on_yet open_yet)
+      (untouched config past (CallAccept listener socket) (ask_nothing config past none) (equal socket (next_number past) next))
+
   -- a datagram is sent where that is due
-  pub sends : (socket : ℕ) (to : Endpoint) (octets : List ℕ) → due config past ≡ Some (CallUdpSend socket to octets) → carries past socket ≡ true → FlowsAskNothing config past → is_closing config past ≡ false
+  pub sends : (socket : ℕ) (to : Endpoint) (octets : List ℕ) → due config past ≡ Some (CallUdpSend socket to octets) → relays past socket ≡ true → FlowsAskNothing config past → is_closing config past ≡ false
       → May config past (CallUdpSend socket to octets)
   sends socket to octets is on nothing open_yet =
       gathered config past (CallUdpSend socket to octets) tt (this_one config past (CallUdpSend socket to octets) is) (some_due config past (CallUdpSend socket to octets) is) on refl refl
       (on_yet open_yet) (untouched config past (CallUdpSend socket to octets) nothing tt)
 
   -- one is asked for where the last wait reported the socket and nothing is left to be sent
-  pub hears : (socket asked : ℕ) → due config past ≡ None → is_working (phase config past) ≡ true → carries past socket ≡ true → asked ≡ most_to_udp → reads (Udp socket) (agenda past) ≡ true → is_all_out config past ≡ true
+  pub hears : (socket asked : ℕ) → due config past ≡ None → is_working (phase config past) ≡ true → relays past socket ≡ true → asked ≡ most_to_udp → reads (Udp socket) (agenda past) ≡ true → is_all_out config past ≡ true
       → is_closing config past ≡ false → May config past (CallUdpRecv socket asked)
   hears socket asked none working on whole reported out open_yet =
       gathered config past (CallUdpRecv socket asked) tt (any_one config past (CallUdpRecv socket asked) none) working
-      (and_both (carries past socket) (asked == most_to_udp) on (ap (λ n. n == most_to_udp) whole ∙ same most_to_udp)) reported out (on_yet open_yet)
+      (and_both (relays past socket) (asked == most_to_udp) on (ap (λ n. n == most_to_udp) whole ∙ same most_to_udp)) reported out (on_yet open_yet)
       (untouched config past (CallUdpRecv socket asked) (ask_nothing config past none) tt)
 
   -- a socket is closed
   pub closes : (socket : ℕ) → MayDue config past (CallClose socket) → (is_working (phase config past) || is_over (phase config past)) ≡ true → may_close config past socket ≡ true → MayFlow config past (CallClose socket)
       → May config past (CallClose socket)
   closes socket is_due place may flows = gathered config past (CallClose socket) tt is_due place may refl refl (shuts config past) flows
+
+  -- the length of a file, or octets of it, are asked for where that is due
+  pub measures : (name : List ℕ) → due config past ≡ Some (CallFileLen name) → FlowsAskNothing config past → is_closing config past ≡ false → May config past (CallFileLen name)
+  measures name is nothing open_yet =
+      gathered config past (CallFileLen name) tt (this_one config past (CallFileLen name) is) (some_due config past (CallFileLen name) is) refl refl refl (on_yet open_yet) (untouched config past (CallFileLen name) nothing tt)
+
+  pub takes_octets : (name : List ℕ) (place asked : ℕ) → due config past ≡ Some (CallFileRead name place asked) → FlowsAskNothing config past → is_closing config past ≡ false → May config past (CallFileRead name place asked)
+  takes_octets name place asked is nothing open_yet =
+      gathered config past (CallFileRead name place asked) tt (this_one config past (CallFileRead name place asked) is) (some_due config past (CallFileRead name place asked) is) refl refl refl
+      (on_yet open_yet) (untouched config past (CallFileRead name place asked) nothing tt)

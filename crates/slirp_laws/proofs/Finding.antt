@@ -7,12 +7,12 @@ use Rattle.host_policy.specs.Addresses.{Config}
 use Rattle.host_policy.specs.Targets.{same_endpoint}
 use Rattle.udp_assoc.specs.Associations.{idle_life, is_idle, is_of, is_over, most_associations, numbered, numbers, socket_of}
 use Rattle.udp_assoc.specs.declared.assocs.Association.{Association}
-use Rattle.run_laws.specs.Sockets.{first, is_among, is_association, kind_of, open_sockets}
-use Rattle.slirp_laws.specs.Asking.{is_full, step_of, step_on, yields}
-use Rattle.slirp_laws.specs.Datagrams.{Errand, Step, NeedsRoom, NeedsSocket}
-use Rattle.slirp_laws.specs.Laws.{carries}
-use Rattle.slirp_laws.specs.Ports.{associations_open, is_port, last_use, longest_unused, opened_for, socket_for, used_at}
-use Rattle.slirp_laws.specs.Relayed.{step_for, with_socket, without_socket}
+use Rattle.run_laws.specs.Sockets.{first, is_among, is_association, open_sockets}
+use Rattle.slirp_laws.specs.Asking.{step_of, step_on, yields, step_at}
+use Rattle.slirp_laws.specs.Datagrams.{Errand, NeedsRoom, NeedsSocket, asks_a_name}
+use Rattle.slirp_laws.specs.Names.{kind_for, questions, step_to_names}
+use Rattle.slirp_laws.specs.Ports.{associations_open, is_port, last_use, longest_unused, opened_for, serves_port, socket_for, used_at, forward_for}
+use Rattle.slirp_laws.specs.Relayed.{step_for, with_socket, without_socket, with_forward}
 use Rattle.slirp_laws.specs.Said.{AllUsedAfter, AreByLastUse, SaysOf}
 use Rattle.slirp_laws.proofs.Bools.{equal, or_second, same, turned}
 use Rattle.slirp_laws.proofs.Longest.{IsLeastOf, Once, among_if, equal_endpoints, find_none, find_some, least_of, no_longer, once_if, same_port}
@@ -20,13 +20,13 @@ use Rattle.slirp_laws.proofs.Uses.{AreKept, BeforeAll, InOrder}
 
 -- the open sockets are those of the list, which is in the order of use and has of each what the record says
 pub record Joined (config : Config) (past : List Entry) (list : List Association) : Type 0 where
-  pub those : (n : ℕ) → carries past n ≡ is_among n (numbers list)
+  pub those : (n : ℕ) → serves_port config past n ≡ is_among n (numbers list)
   pub kept : AreKept config past list
   pub order : InOrder past list
 
 -- the open ones are those of the list
-pub same_sockets : (config : Config) (past : List Entry) (list : List Association) → Joined config past list → (n : ℕ) → is_among n (associations_open past) ≡ is_among n (numbers list)
-same_sockets config past list j n = among_if (λ s. is_association (kind_of s past)) n (open_sockets past) ∙ j.those n
+pub same_sockets : (config : Config) (past : List Entry) (list : List Association) → Joined config past list → (n : ℕ) → is_among n (associations_open config past) ≡ is_among n (numbers list)
+same_sockets config past list j n = among_if (λ s. is_association (kind_for config s past)) n (open_sockets past) ∙ j.those n
 
 -- ---- of one of them
 
@@ -94,7 +94,7 @@ same_port_socket config past guest list j = by (socket_for config guest past) re
   where
     by : (o : Option ℕ) → socket_for config guest past ≡ o → socket_of guest list ≡ o
     by (Some m) is =
-        let found = find_some (λ s. is_port guest (opened_for config s past)) (associations_open past) m is in
+        let found = find_some (λ s. is_port guest (opened_for config s past)) (associations_open config past) m is in
         only_one config past guest list m j.kept j.order (sym (same_sockets config past list j m) ∙ found.1) found.0
     by None is = none (socket_of guest list) refl
       where
@@ -102,8 +102,8 @@ same_port_socket config past guest list j = by (socket_for config guest past) re
         none None that = refl
         none (Some n) that =
             let port = found_port config past guest list n j.kept that in
-            let among : is_among n (associations_open past) ≡ true = same_sockets config past list j n ∙ socket_among guest list n that in
-            let fails = find_none (λ s. is_port guest (opened_for config s past)) (associations_open past) n is among in
+            let among : is_among n (associations_open config past) ≡ true = same_sockets config past list j n ∙ socket_among guest list n that in
+            let fails = find_none (λ s. is_port guest (opened_for config s past)) (associations_open config past) n is among in
             let passes : is_port guest (opened_for config n past) ≡ true = ap (is_port guest) port ∙ same_port guest in
             cc
 
@@ -138,8 +138,8 @@ oldest_is past (a ∷ list) ns (Some m) order those least = by (m == a.number) r
     by true this among = ap Some (sym (equal m a.number this))
     by false this among = absurd (let later = all_after past a list m order.0 among in let before = sooner in omega (arith, later, before))
 
-pub same_oldest : (config : Config) (past : List Entry) (list : List Association) → Joined config past list → option_map (λ (a : Association). a.number) (first list) ≡ longest_unused past
-same_oldest config past list j = oldest_is past list (associations_open past) (longest_unused past) j.order (same_sockets config past list j) (least_of past (associations_open past))
+pub same_oldest : (config : Config) (past : List Entry) (list : List Association) → Joined config past list → option_map (λ (a : Association). a.number) (first list) ≡ longest_unused config past
+same_oldest config past list j = oldest_is past list (associations_open config past) (longest_unused config past) j.order (same_sockets config past list j) (least_of past (associations_open config past))
 
 -- ---- of the idle life
 
@@ -167,7 +167,7 @@ is_idle_of config past n now (a ∷ list) kept among long = by (a.number == n) r
         ap (λ b. b || is_idle n now list) over
     by false this more = more (sym (ap (λ b. b || is_among n (numbers list)) (turned a.number n false this)) ∙ among)
 
-pub idle_exactly : (config : Config) (past : List Entry) (n now : ℕ) (list : List Association) → Joined config past list → is_among n (associations_open past) ≡ true
+pub idle_exactly : (config : Config) (past : List Entry) (n now : ℕ) (list : List Association) → Joined config past list → is_among n (associations_open config past) ≡ true
     → (is_idle n now list ≡ true → used_at n past + idle_life ≤ now) × (used_at n past + idle_life ≤ now → is_idle n now list ≡ true)
 idle_exactly config past n now list j among = (
   λ is. idle_is config past n now list j.kept is,
@@ -198,10 +198,10 @@ count : (list : List Association) → length (numbers list) ≡ length list
 count [] = refl
 count (a ∷ list) = let rest = count list in omega (arith, rest)
 
-same_count : (config : Config) (past : List Entry) (list : List Association) → Once (open_sockets past) → Joined config past list → length (associations_open past) ≡ length list
+same_count : (config : Config) (past : List Entry) (list : List Association) → Once (open_sockets past) → Joined config past list → length (associations_open config past) ≡ length list
 same_count config past list once j =
-    let fewer_listed = no_longer (numbers list) (associations_open past) (once_numbers past list j.order) (λ n among. same_sockets config past list j n ∙ among) in
-    let fewer_open = no_longer (associations_open past) (numbers list) (once_if (λ s. is_association (kind_of s past)) (open_sockets past) once) (λ n among. sym (same_sockets config past list j n) ∙ among) in
+    let fewer_listed = no_longer (numbers list) (associations_open config past) (once_numbers past list j.order) (λ n among. same_sockets config past list j n ∙ among) in
+    let fewer_open = no_longer (associations_open config past) (numbers list) (once_if (λ s. is_association (kind_for config s past)) (open_sockets past) once) (λ n among. sym (same_sockets config past list j n) ∙ among) in
     omega (arith, fewer_listed, fewer_open, count list)
 
 -- ---- what is asked for
@@ -213,13 +213,23 @@ module _ (config : Config) (past : List Entry) (list : List Association) (once :
   yields_same None (a ∷ list) errand is = cc
   yields_same (Some oldest) (a ∷ list) errand is = (let this : a.number ≡ oldest = cc in ap (λ n. if nat_le most_associations (length (a ∷ list)) then NeedsRoom n errand else NeedsSocket errand) (sym this))
 
-  on_same : (o : Option ℕ) (errand : Errand) → step_on o past errand ≡ with_socket o list errand
+  on_same : (o : Option ℕ) (errand : Errand) → step_on config o past errand ≡ with_socket o list errand
   on_same (Some socket) errand = refl
   on_same None errand =
-      ap (λ n. if nat_le most_associations n then yields (longest_unused past) errand else NeedsSocket errand) (same_count config past list once j)
-      ∙ yields_same (longest_unused past) list errand (same_oldest config past list j)
+      ap (λ n. if nat_le most_associations n then yields (longest_unused config past) errand else NeedsSocket errand) (same_count config past list once j)
+      ∙ yields_same (longest_unused config past) list errand (same_oldest config past list j)
 
-  pub same_step : (o : Option Errand) → step_of config past o ≡ step_for list o
-  same_step None = refl
-  same_step (Some errand) =
+  on_forward : (forward : Option ℕ) (errand : Errand) → step_at config forward (socket_for config errand.datagram.from past) past errand ≡ with_forward forward list errand
+  on_forward (Some forward) errand = refl
+  on_forward None errand =
       on_same (socket_for config errand.datagram.from past) errand ∙ ap (λ o. with_socket o list errand) (sym (same_port_socket config past errand.datagram.from list j))
+
+  by_name : (errand : Errand) (name : Bool)
+      → (if name then step_to_names (questions config past) errand else step_at config (forward_for config errand.datagram.from past) (socket_for config errand.datagram.from past) past errand)
+      ≡ (if name then step_to_names (questions config past) errand else with_forward (forward_for config errand.datagram.from past) list errand)
+  by_name errand true = refl
+  by_name errand false = on_forward (forward_for config errand.datagram.from past) errand
+
+  pub same_step : (o : Option Errand) → step_of config past o ≡ step_for config (questions config past) (λ guest. forward_for config guest past) list o
+  same_step None = refl
+  same_step (Some errand) = by_name errand (asks_a_name config errand)

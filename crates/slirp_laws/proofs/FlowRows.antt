@@ -1,9 +1,10 @@
 -- Worked runs with TCP are lawful, and what breaks them is refused by the law.
 use Rattle.std.proofs.Common.{◌≡◌, Bool, true, false, [], ◌∷◌, take, None, refl}
 use Rattle.world_face.specs.declared.Io.{Io}
+use Rattle.world_face.specs.declared.Io.TheVariants.{Done}
 use Rattle.world_face.specs.declared.Made.{Made}
 use Rattle.world_face.specs.declared.Waited.{Waited}
-use Rattle.world_face.specs.Journal.{Entry, Wait, LinkWrite, Connect, TcpWrite}
+use Rattle.world_face.specs.Journal.{Wait, LinkWrite, Connect, TcpRead, TcpWrite}
 use Rattle.world_face.specs.Frames.{spelling, missing, is_too_long, spelt_length}
 use Rattle.tlv_table.specs.Reading.{read_on}
 use Rattle.host_policy.specs.Addresses.{endpoint}
@@ -136,3 +137,13 @@ not_both {b} off on = cc
 reset_again : (answer : Io) → Lawful usual (LinkWrite (hex "0000003652540012345652550a000202080045000028000200004006acb8c00002070a00020f00500fa00003d091000003e950140000fd4c0000") answer ∷ run (take 19 failed_read)) → ⊥
 unfolding missing spelling is_too_long spelt_length read_on
 reset_again answer lawful = not_both refl lawful.0.answered
+
+-- a SYN-ACK with an option that isn't the segment's (SACK-permitted), and octets with timestamps, URG, ECE and CWR: a flow's frame is that of the segment and no other
+foreign_option : (answer : Io) → Lawful usual (LinkWrite (hex "0000003e52540012345652550a000202080045000030000000004006acb2c00002070a00020f00500fa00003d090000003e97012ffffd08c0000020405b404020101") answer ∷ run (take 9 failed_read)) → ⊥
+unfolding missing spelling is_too_long spelt_length read_on
+foreign_option answer lawful = not_both refl lawful.0.answered
+
+foreign_flags : (answer : Io)
+    → Lawful usual (LinkWrite (hex "0000004752540012345652550a000202080045000039000100004006aca8c00002070a00020f00500fa00003d091000003e980f8ffff7f7600030101080a000000010000000068656c6c6f") answer ∷ TcpRead 0 16384 (Done 5) (hex "68656c6c6f") ∷ run (take 16 failed_read)) → ⊥
+unfolding missing spelling is_too_long spelt_length read_on
+foreign_flags answer lawful = not_both refl lawful.0.answered

@@ -1,5 +1,5 @@
 -- The list of associations in the order of use, and what the record says of sockets, are one.
-use Rattle.std.proofs.Common.{◌≡◌, ℕ, ◌<◌, ◌≤◌, ◌==◌, ◌&&◌, ◌||◌, not, nat_lt, Bool, true, false, List, [], ◌∷◌, ◌++◌, length, filter, Option, Some, None, option_map, if◌then◌else◌, inl, inr, refl, sym, ◌∙◌, ap, subst, arith}
+use Rattle.std.proofs.Common.{◌≡◌, ℕ, ◌<◌, ◌==◌, ◌&&◌, ◌||◌, not, nat_lt, Bool, true, false, List, [], ◌∷◌, ◌++◌, length, filter, Option, Some, None, option_map, if◌then◌else◌, inl, inr, refl, sym, ◌∙◌, ap, subst, arith}
 use Rattle.std.proofs.lemmas.Bool.Decides.{nat_tests}
 use Rattle.world_face.specs.Journal.{Entry, Connect, Listen, Accept, Close, UdpOpen, UdpSend, UdpRecv, call_of}
 use Rattle.world_face.specs.declared.Accepted.{Accepted}
@@ -15,11 +15,13 @@ use Rattle.udp_assoc.specs.Associations.{heard_at, is_numbered, moved_last, numb
 use Rattle.udp_assoc.specs.declared.assocs.Association.{Association}
 use Rattle.run_laws.specs.Moments.{moment, waits}
 use Rattle.run_laws.specs.Packets.{Datagram}
-use Rattle.run_laws.specs.Sockets.{Flow as OfFlow, Listener as OfListener, Kind, datagram_kind, is_among, is_association, kind_of, next_number, open_sockets, with_made}
-use Rattle.slirp_laws.specs.Asking.{errand_left, step}
-use Rattle.slirp_laws.specs.Datagrams.{Errand, NeedsSocket, NeedsSending}
-use Rattle.slirp_laws.specs.Laws.{May, Lawful, carries}
-use Rattle.slirp_laws.specs.Ports.{is_used_by, last_datagram, last_mac, last_port, last_use, mac_of, opened_for, used_at}
+use Rattle.run_laws.specs.Sockets.{Flow as OfFlow, Listener as OfListener, Kind, DnsSocket, datagram_kind, is_among, is_association, next_number, open_sockets, with_made}
+use Rattle.slirp_laws.specs.Asking.{step}
+use Rattle.slirp_laws.specs.Errands.{errand_left}
+use Rattle.slirp_laws.specs.Names.{datagram_kind_for, kind_for, questions}
+use Rattle.slirp_laws.specs.Datagrams.{Errand, NeedsSocket, NeedsSending, asks_a_name}
+use Rattle.slirp_laws.specs.Laws.{May, Lawful}
+use Rattle.slirp_laws.specs.Ports.{is_used_by, last_datagram, last_mac, last_port, last_use, mac_of, opened_for, serves_port, used_at, forward_for, given_port, port_for}
 use Rattle.slirp_laws.specs.Relayed.{association, associations, step_for, with_opened, with_sent}
 use Rattle.slirp_laws.proofs.Bools.{and_false, equal, or_second, same, turned, among_last, among_without}
 use Rattle.slirp_laws.proofs.Finding.{Joined, same_port_socket, same_step}
@@ -27,7 +29,7 @@ use Rattle.slirp_laws.proofs.Longest.{once_open}
 use Rattle.slirp_laws.proofs.OpenSockets.{next_is_new, peer_next}
 use Rattle.slirp_laws.proofs.Phases.{asks_after_waits, opens, sends}
 use Rattle.slirp_laws.proofs.Steps.{Asks, OfErrand, errand_asks, errand_is, unopened}
-use Rattle.slirp_laws.proofs.Uses.{AllBefore, AreKept, AreUnused, InOrder, Kept, NoneOf, Use, all_unused, are_kept_on, in_order_last, in_order_moved, in_order_on, in_order_without, kept_last, kept_moved, kept_without, none_of, use_unused}
+use Rattle.slirp_laws.proofs.Uses.{AllBefore, AreKept, AreUnused, Kept, NoneOf, Use, all_unused, are_kept_on, in_order_last, in_order_moved, in_order_on, in_order_without, kept_last, kept_moved, kept_without, none_of, use_unused}
 
 -- ---- numbers
 
@@ -60,14 +62,14 @@ numbers_without m (x ∷ list) = by_test (x.number == m) (numbers_without m list
 
 -- ---- an entry that uses none of them and changes none
 
-quiet : (config : Config) (e : Entry) (past : List Entry) (list : List Association) → AreUnused e list → ((n : ℕ) → carries (e ∷ past) n ≡ carries past n) → Joined config past list → Joined config (e ∷ past) list
+quiet : (config : Config) (e : Entry) (past : List Entry) (list : List Association) → AreUnused e list → ((n : ℕ) → serves_port config (e ∷ past) n ≡ serves_port config past n) → Joined config past list → Joined config (e ∷ past) list
 quiet config e past list unused carried joined = record {
   those = λ n. carried n ∙ joined.those n;
   kept = are_kept_on config e past list unused joined.kept;
   order = in_order_on e past list unused joined.order;
 }
 
-silent : (config : Config) (e : Entry) (past : List Entry) (list : List Association) → ((n : ℕ) → is_used_by n e ≡ false) → ((n : ℕ) → carries (e ∷ past) n ≡ carries past n) → Joined config past list → Joined config (e ∷ past) list
+silent : (config : Config) (e : Entry) (past : List Entry) (list : List Association) → ((n : ℕ) → is_used_by n e ≡ false) → ((n : ℕ) → serves_port config (e ∷ past) n ≡ serves_port config past n) → Joined config past list → Joined config (e ∷ past) list
 silent config e past list none carried joined = quiet config e past list (all_unused e list none) carried joined
 
 -- ---- a socket is opened
@@ -135,9 +137,10 @@ pub none_early : (n : ℕ) (o : Option Errand) → n ≡ 0 → OfErrand (λ (err
 none_early n None is asks = refl
 none_early n (Some errand) is asks = absurd (omega (arith, is, asks))
 
-module _ (config : Config) (past : List Entry) (socket : ℕ) (at : Endpoint) (answer : Made) (errand : Errand) (number : (socket == next_number past) ≡ true) (asks : Asks config (last_datagram config past) errand) where
+module _ (config : Config) (past : List Entry) (socket : ℕ) (at : Endpoint) (answer : Made) (errand : Errand) (number : (socket == next_number past) ≡ true) (waited : nat_lt 0 (waits past) ≡ true) (asks : Asks config (last_datagram config past) errand) where
   port_new : opened_for config socket (UdpOpen socket at answer ∷ past) ≡ Some errand.datagram.from
-  port_new = ap (λ (b : Bool). if b then last_port config past else opened_for config socket past) (same socket) ∙ ap (option_map (λ (d : Datagram). d.from)) asks.datagram
+  port_new = ap (λ (b : Bool). if b then port_for config socket past else opened_for config socket past) (same socket)
+      ∙ ap (λ (b : Bool). if b then last_port config past else given_port config socket) waited ∙ ap (option_map (λ (d : Datagram). d.from)) asks.datagram
 
   use_new : last_use socket (UdpOpen socket at answer ∷ past) ≡ length past
   use_new = ap (λ (b : Bool). if b then length past else last_use socket past) (same socket)
@@ -169,33 +172,53 @@ module _ (config : Config) (past : List Entry) (socket : ℕ) (at : Endpoint) (n
   early_kind : waits past ≡ 0 → is_association (Some (datagram_kind (nat_lt 0 (waits past)))) ≡ false
   early_kind early = let not_yet : nat_lt 0 (waits past) ≡ false = grind (arith, nat_tests, early) in ap (λ (b : Bool). is_association (Some (datagram_kind b))) not_yet
 
-  early_joins : (answer : Made) → waits past ≡ 0 → Joined config (UdpOpen socket at answer ∷ past) (with_opened answer socket (moment past) None list)
-  early_joins answer early = by answer
+  early_joins : (answer : Made) → waits past ≡ 0 → errand_left config past ≡ None → Joined config (UdpOpen socket at answer ∷ past) (with_opened config answer socket (moment past) None list)
+  early_joins answer early none = by answer
     where
-      carried : (answer : Made) (n : ℕ) → carries (UdpOpen socket at answer ∷ past) n ≡ carries past n
-      carried answer n = fresh_other answer n socket (open_sockets past) (Some (datagram_kind (nat_lt 0 (waits past)))) (kind_of n past) new (early_kind early)
+      carried : (answer : Made) (n : ℕ) → serves_port config (UdpOpen socket at answer ∷ past) n ≡ serves_port config past n
+      carried answer n = fresh_other answer n socket (open_sockets past) (Some (datagram_kind_for config (nat_lt 0 (waits past)) (errand_left config past))) (kind_for config n past) new
+          (ap (λ o. is_association (Some (datagram_kind_for config (nat_lt 0 (waits past)) o))) none ∙ early_kind early)
 
-      by : (answer : Made) → Joined config (UdpOpen socket at answer ∷ past) (with_opened answer socket (moment past) None list)
+      by : (answer : Made) → Joined config (UdpOpen socket at answer ∷ past) (with_opened config answer socket (moment past) None list)
       by Done = quiet config (UdpOpen socket at Done) past list (unused Done) (carried Done) joined
       by Failed = quiet config (UdpOpen socket at Failed) past list (unused Failed) (carried Failed) joined
 
   -- a guest's
-  module _ (errand : Errand) (none : NoneOf errand.datagram.from list) (waited : nat_lt 0 (waits past) ≡ true) (asks : Asks config (last_datagram config past) errand) where
+  module _ (errand : Errand) (waited : nat_lt 0 (waits past) ≡ true) (left : errand_left config past ≡ Some errand) (asks : Asks config (last_datagram config past) errand) where
+    kind_is : (name : Bool) → asks_a_name config errand ≡ name → is_association (Some (datagram_kind_for config (nat_lt 0 (waits past)) (errand_left config past))) ≡ not name
+    kind_is name is = ap (λ o. is_association (Some (datagram_kind_for config (nat_lt 0 (waits past)) o))) left ∙ ap (λ (b : Bool). is_association (Some (if b then DnsSocket else datagram_kind (nat_lt 0 (waits past))))) is ∙ by name
+      where
+        by : (name : Bool) → is_association (Some (if name then DnsSocket else datagram_kind (nat_lt 0 (waits past)))) ≡ not name
+        by true = refl
+        by false = ap (λ (b : Bool). is_association (Some (datagram_kind b))) waited
+
     list_last : (n : ℕ) → is_among n (numbers (list ++ (association socket errand (moment past) ∷ []))) ≡ (is_among n (numbers list) || (n == socket))
     list_last n = ap (is_among n) (numbers_last list (association socket errand (moment past))) ∙ among_last n socket (numbers list)
 
-    late_joins : (answer : Made) → Joined config (UdpOpen socket at answer ∷ past) (with_opened answer socket (moment past) (Some errand) list)
-    late_joins Done = record {
-      those = λ n. fresh_one n socket (open_sockets past) (Some (datagram_kind (nat_lt 0 (waits past)))) (kind_of n past) (ap (λ (b : Bool). is_association (Some (datagram_kind b))) waited)
+    -- for a question
+    name_joins : (answer : Made) → asks_a_name config errand ≡ true → Joined config (UdpOpen socket at answer ∷ past) list
+    name_joins answer name = quiet config (UdpOpen socket at answer) past list (unused answer)
+        (λ n. fresh_other answer n socket (open_sockets past) (Some (datagram_kind_for config (nat_lt 0 (waits past)) (errand_left config past))) (kind_for config n past) new (kind_is true name)) joined
+
+    -- for its port
+    port_joins : (answer : Made) → asks_a_name config errand ≡ false → NoneOf errand.datagram.from list → Joined config (UdpOpen socket at answer ∷ past) (with_opened config answer socket (moment past) (Some errand) list)
+    port_joins Done other none = subst (λ (b : Bool). Joined config (UdpOpen socket at Done ∷ past) (if b then list else list ++ (association socket errand (moment past) ∷ []))) (sym other) (record {
+      those = λ n. fresh_one n socket (open_sockets past) (Some (datagram_kind_for config (nat_lt 0 (waits past)) (errand_left config past))) (kind_for config n past) (kind_is false other)
           ∙ ap (λ b. b || (n == socket)) (joined.those n) ∙ sym (list_last n);
       kept = kept_last config (UdpOpen socket at Done ∷ past) list (association socket errand (moment past)) (are_kept_on config (UdpOpen socket at Done) past list (unused Done) joined.kept)
-          (kept_new config past socket at Done errand number asks);
+          (kept_new config past socket at Done errand number waited asks);
       order = in_order_last (UdpOpen socket at Done ∷ past) list (association socket errand (moment past)) (in_order_on (UdpOpen socket at Done) past list (unused Done) joined.order)
-          (before_new config past socket at Done errand number asks list (unused Done) joined.kept none);
-    }
-    late_joins Failed = quiet config (UdpOpen socket at Failed) past list (unused Failed) (λ n. fresh_failed n socket (open_sockets past) (Some (datagram_kind (nat_lt 0 (waits past)))) (kind_of n past) new) joined
+          (before_new config past socket at Done errand number waited asks list (unused Done) joined.kept none);
+    })
+    port_joins Failed other none = quiet config (UdpOpen socket at Failed) past list (unused Failed)
+        (λ n. fresh_failed n socket (open_sockets past) (Some (datagram_kind_for config (nat_lt 0 (waits past)) (errand_left config past))) (kind_for config n past) new) joined
 
-waited_for : (config : Config) (past : List Entry) (errand : Errand) → errand_left config past ≡ Some errand → Lawful config past → nat_lt 0 (waits past) ≡ true
+    late_joins : (answer : Made) (name : Bool) → asks_a_name config errand ≡ name → (name ≡ false → NoneOf errand.datagram.from list) → Joined config (UdpOpen socket at answer ∷ past) (with_opened config answer socket (moment past) (Some errand) list)
+    late_joins Done true name none = subst (λ (b : Bool). Joined config (UdpOpen socket at Done ∷ past) (if b then list else list ++ (association socket errand (moment past) ∷ []))) (sym name) (name_joins Done name)
+    late_joins Failed true name none = name_joins Failed name
+    late_joins answer false name none = port_joins answer name (none refl)
+
+pub waited_for : (config : Config) (past : List Entry) (errand : Errand) → errand_left config past ≡ Some errand → Lawful config past → nat_lt 0 (waits past) ≡ true
 waited_for config past errand is lawful =
     let less : 0 < waits past = subst (λ o. OfErrand (λ (errand : Errand). 0 < waits past) o) is (asks_after_waits config past lawful) in grind (arith, nat_tests, less)
 
@@ -205,8 +228,9 @@ JoinedAt config past = Joined config past (associations config past)
 opened_joins : (config : Config) (past : List Entry) (socket : ℕ) (at : Endpoint) (answer : Made) → May config past (call_of (UdpOpen socket at answer)) → Lawful config past → JoinedAt config past → JoinedAt config (UdpOpen socket at answer ∷ past)
 opened_joins config past socket at answer may lawful joined =
     elim (opens config past socket at may) [
-      | inl early ↦ subst (λ o. Joined config (UdpOpen socket at answer ∷ past) (with_opened answer socket (moment past) o (associations config past))) (sym (none_early (waits past) (errand_left config past) early.0 (asks_after_waits config past lawful)))
-          (early_joins config past socket at may.socket new (associations config past) joined answer early.0)
+      | inl early ↦ subst (λ o. Joined config (UdpOpen socket at answer ∷ past) (with_opened config answer socket (moment past) o (associations config past))) (sym (none_early (waits past) (errand_left config past) early.0 (asks_after_waits config past lawful)))
+          (early_joins config past socket at may.socket new (associations config past) joined answer early.0
+          (none_early (waits past) (errand_left config past) early.0 (asks_after_waits config past lawful)))
       | inr o ↦ late o.errand o.asked
     ]
   where
@@ -216,15 +240,15 @@ opened_joins config past socket at answer may lawful joined =
     late : (errand : Errand) → step config past ≡ NeedsSocket errand → JoinedAt config (UdpOpen socket at answer ∷ past)
     late errand asked =
         let left = errand_is config past (NeedsSocket errand) asked in
-        subst (λ o. Joined config (UdpOpen socket at answer ∷ past) (with_opened answer socket (moment past) o (associations config past))) (sym left)
-        (late_joins config past socket at may.socket new (associations config past) joined errand
-        (none_of errand.datagram.from (associations config past) (same_port_socket config past errand.datagram.from (associations config past) joined ∙ unopened config past errand asked))
-        (waited_for config past errand left lawful) (errand_asks config past errand left) answer)
+        subst (λ o. Joined config (UdpOpen socket at answer ∷ past) (with_opened config answer socket (moment past) o (associations config past))) (sym left)
+        (late_joins config past socket at may.socket new (associations config past) joined errand (waited_for config past errand left lawful) left (errand_asks config past errand left) answer
+        (asks_a_name config errand) refl
+        (λ other. none_of errand.datagram.from (associations config past) (same_port_socket config past errand.datagram.from (associations config past) joined ∙ unopened config past errand other asked)))
 
 -- ---- a socket is used
 
 moved_joins : (config : Config) (e : Entry) (past : List Entry) (change : Association → Association) (socket : ℕ) (list : List Association) → Use config e past change socket
-    → ((n : ℕ) → carries (e ∷ past) n ≡ carries past n) → Joined config past list → Joined config (e ∷ past) (moved_last change socket list)
+    → ((n : ℕ) → serves_port config (e ∷ past) n ≡ serves_port config past n) → Joined config past list → Joined config (e ∷ past) (moved_last change socket list)
 moved_joins config e past change socket list u carried joined = record {
   those = λ n. carried n ∙ joined.those n ∙ sym (among_moved change u.number n socket list);
   kept = kept_moved config e past change socket u list joined.kept joined.order;
@@ -292,8 +316,8 @@ heard_joins config past socket asked GotFailed octets joined = silent config (Ud
 
 closed_joins : (config : Config) (past : List Entry) (socket : ℕ) (list : List Association) → Joined config past list → Joined config (Close socket ∷ past) (without socket list)
 closed_joins config past socket list joined = record {
-  those = λ n. ap (λ b. b && is_association (kind_of n past)) (among_without n socket (open_sockets past))
-      ∙ and_assoc (not (n == socket)) (is_among n (open_sockets past)) (is_association (kind_of n past))
+  those = λ n. ap (λ b. b && is_association (kind_for config n past)) (among_without n socket (open_sockets past))
+      ∙ and_assoc (not (n == socket)) (is_among n (open_sockets past)) (is_association (kind_for config n past))
       ∙ ap (λ b. not (n == socket) && b) (joined.those n)
       ∙ sym (among_without n socket (numbers list))
       ∙ sym (ap (is_among n) (numbers_without socket list));
@@ -306,22 +330,22 @@ closed_joins config past socket list joined = record {
 -- a peer was accepted, or none came
 peer_joins : (config : Config) (past : List Entry) (listener socket : ℕ) (answer : Accepted) (list : List Association) → is_among socket (open_sockets past) ≡ false → Joined config past list → Joined config (Accept listener socket answer ∷ past) list
 peer_joins config past listener socket (FromPeer peer) list new joined =
-    silent config (Accept listener socket (FromPeer peer)) past list (λ n. refl) (λ n. fresh_other Done n socket (open_sockets past) (Some OfFlow) (kind_of n past) new refl) joined
+    silent config (Accept listener socket (FromPeer peer)) past list (λ n. refl) (λ n. fresh_other Done n socket (open_sockets past) (Some OfFlow) (kind_for config n past) new refl) joined
 peer_joins config past listener socket NoPeer list new joined =
-    silent config (Accept listener socket NoPeer) past list (λ n. refl) (λ n. fresh_other Failed n socket (open_sockets past) (Some OfFlow) (kind_of n past) new refl) joined
+    silent config (Accept listener socket NoPeer) past list (λ n. refl) (λ n. fresh_other Failed n socket (open_sockets past) (Some OfFlow) (kind_for config n past) new refl) joined
 peer_joins config past listener socket AcceptFailed list new joined =
-    silent config (Accept listener socket AcceptFailed) past list (λ n. refl) (λ n. fresh_other Failed n socket (open_sockets past) (Some OfFlow) (kind_of n past) new refl) joined
+    silent config (Accept listener socket AcceptFailed) past list (λ n. refl) (λ n. fresh_other Failed n socket (open_sockets past) (Some OfFlow) (kind_for config n past) new refl) joined
 
 joins_by : (config : Config) (e : Entry) (past : List Entry) → May config past (call_of e) → Lawful config past → JoinedAt config past → JoinedAt config (e ∷ past)
 joins_by config (Connect socket to answer) past may lawful joined =
     let new : is_among socket (open_sockets past) ≡ false = ap (λ n. is_among n (open_sockets past)) (equal socket (next_number past) may.socket) ∙ next_is_new config past lawful in
-    silent config (Connect socket to answer) past (associations config past) (λ n. refl) (λ n. fresh_other answer n socket (open_sockets past) (Some OfFlow) (kind_of n past) new refl) joined
+    silent config (Connect socket to answer) past (associations config past) (λ n. refl) (λ n. fresh_other answer n socket (open_sockets past) (Some OfFlow) (kind_for config n past) new refl) joined
 joins_by config (Accept listener socket answer) past may lawful joined =
     let new : is_among socket (open_sockets past) ≡ false = ap (λ n. is_among n (open_sockets past)) (equal socket (next_number past) (peer_next config past listener socket answer may)) ∙ next_is_new config past lawful in
     peer_joins config past listener socket answer (associations config past) new joined
 joins_by config (Listen socket at answer) past may lawful joined =
     let new : is_among socket (open_sockets past) ≡ false = ap (λ n. is_among n (open_sockets past)) (equal socket (next_number past) may.socket) ∙ next_is_new config past lawful in
-    silent config (Listen socket at answer) past (associations config past) (λ n. refl) (λ n. fresh_other answer n socket (open_sockets past) (Some OfListener) (kind_of n past) new refl) joined
+    silent config (Listen socket at answer) past (associations config past) (λ n. refl) (λ n. fresh_other answer n socket (open_sockets past) (Some OfListener) (kind_for config n past) new refl) joined
 joins_by config (UdpOpen socket at answer) past may lawful joined = opened_joins config past socket at answer may lawful joined
 joins_by config (UdpSend socket to octets answer) past may lawful joined = sent_joins config past socket to octets answer may joined
 joins_by config (UdpRecv socket asked answer octets) past may lawful joined = heard_joins config past socket asked answer octets joined
@@ -333,5 +357,5 @@ joined config [] lawful = record { those = λ n. refl; kept = tt; order = tt }
 joined config (e ∷ past) lawful = joins_by config e past lawful.0 lawful.1 (joined config past lawful.1)
 
 -- and so is what the datagram that came last still asks for
-pub joined_step : (config : Config) (past : List Entry) → Lawful config past → step config past ≡ step_for (associations config past) (errand_left config past)
+pub joined_step : (config : Config) (past : List Entry) → Lawful config past → step config past ≡ step_for config (questions config past) (λ guest. forward_for config guest past) (associations config past) (errand_left config past)
 joined_step config past lawful = same_step config past (associations config past) (once_open config past lawful) (joined config past lawful) (errand_left config past)

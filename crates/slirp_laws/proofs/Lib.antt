@@ -1,3 +1,4 @@
+pub mod Asked
 pub mod Beside
 pub mod Bools
 pub mod Checks
@@ -5,12 +6,17 @@ pub mod CutRows
 pub mod Deeds
 pub mod Finding
 pub mod FlowRows
+mod ForwardRows
+pub mod Giving
 pub mod FragmentRows
 pub mod Framing
 pub mod Joining
 pub mod KeepingFlows
+pub mod LeaseRows
 pub mod Longest
+pub mod NameRows
 pub mod Numbers
+pub mod Only
 pub mod OpenSockets
 pub mod Owing
 pub mod Parting
@@ -22,6 +28,7 @@ pub mod Reading
 pub mod Replies
 pub mod Rows
 pub mod Sentences
+pub mod Sorts
 pub mod Steps
 pub mod Strays
 pub mod UdpRows

@@ -9,9 +9,9 @@ use Rattle.world_face.specs.declared.Made.TheVariants.{Done, Failed}
 use Rattle.net_octets.specs.declared.Endpoint.{Endpoint}
 use Rattle.host_policy.specs.Addresses.{Config, address}
 use Rattle.host_policy.specs.Targets.{same_endpoint}
-use Rattle.run_laws.specs.Sockets.{is_among, is_association, kind_of, next_number, open_sockets, with_made, with_peer}
+use Rattle.run_laws.specs.Sockets.{is_among, next_number, open_sockets, with_made, with_peer}
 use Rattle.slirp_laws.specs.Laws.{May, Lawful}
-use Rattle.slirp_laws.specs.Ports.{associations_open, earlier, is_port, last_use, longest_unused, longest_unused_of, opened_for, socket_for}
+use Rattle.slirp_laws.specs.Ports.{associations_open, earlier, is_port, last_use, longest_unused_of, opened_for, socket_for, forward_for, forwards_open}
 use Rattle.slirp_laws.proofs.Bools.{and_both, equal, first_of, second_of, or_second, same, turned, among_last, among_without}
 use Rattle.slirp_laws.proofs.OpenSockets.{next_is_new, peer_next}
 
@@ -153,7 +153,11 @@ is_that_port guest None is = cc
 is_that_port guest (Some port) is = ap Some (equal_endpoints port guest is)
 
 pub found_for : (config : Config) (past : List Entry) (guest : Endpoint) (socket : ℕ) → socket_for config guest past ≡ Some socket → opened_for config socket past ≡ Some guest
-found_for config past guest socket is = is_that_port guest (opened_for config socket past) (find_some (λ s. is_port guest (opened_for config s past)) (associations_open past) socket is).0
+found_for config past guest socket is = is_that_port guest (opened_for config socket past) (find_some (λ s. is_port guest (opened_for config s past)) (associations_open config past) socket is).0
+
+-- and so was a port of the host that is given to it
+pub given_for : (config : Config) (past : List Entry) (guest : Endpoint) (socket : ℕ) → forward_for config guest past ≡ Some socket → opened_for config socket past ≡ Some guest
+given_for config past guest socket is = is_that_port guest (opened_for config socket past) (find_some (λ s. is_port guest (opened_for config s past)) (forwards_open past) socket is).0
 
 -- ---- of the longest unused
 

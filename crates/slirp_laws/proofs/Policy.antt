@@ -1,41 +1,66 @@
 -- Where sockets are opened, and where datagrams go.
-use Rattle.std.proofs.Common.{◌≡◌, ℕ, ◌<◌, List, [], Some, inl, inr, sym, ◌∙◌, ap, subst, arith}
+use Rattle.std.proofs.Common.{◌≡◌, ℕ, ◌<◌, ◌&&◌, ◌⊎◌, Bool, true, false, List, [], Option, Some, None, unwrap_or, if◌then◌else◌, inl, inr, refl, sym, ◌∙◌, ap, subst, arith}
 use Rattle.world_face.specs.Journal.{Entry, CallUdpOpen, CallUdpSend}
 use Rattle.net_octets.specs.declared.Endpoint.{Endpoint}
 use Rattle.host_policy.specs.declared.Proto.TheVariants.{Udp as ByUdp}
 use Rattle.host_policy.specs.declared.Verdict.TheVariants.{Go}
-use Rattle.host_policy.specs.Addresses.{Config}
-use Rattle.host_policy.specs.Targets.{anywhere, target}
+use Rattle.host_policy.specs.Addresses.{Config, address, endpoint}
+use Rattle.host_policy.specs.Targets.{is_loopback, target}
 use Rattle.run_laws.specs.Moments.{waits}
 use Rattle.run_laws.specs.Packets.{Datagram}
-use Rattle.slirp_laws.specs.Datagrams.{Errand, NeedsSending}
+use Rattle.slirp_laws.specs.Datagrams.{Errand, NeedsSending, asks_a_name, opened_at}
+use Rattle.slirp_laws.specs.Asking.{step}
+use Rattle.dns_relay.specs.Questions.{ident_in}
 use Rattle.slirp_laws.specs.Laws.{May, Lawful}
-use Rattle.slirp_laws.specs.Ports.{last_datagram}
-use Rattle.slirp_laws.specs.Said.{SendsWhatCame}
-use Rattle.slirp_laws.proofs.Longest.{found_for}
+use Rattle.slirp_laws.specs.Ports.{last_datagram, opened_for}
+use Rattle.slirp_laws.specs.Said.{IsFromHost, SendsWhatCame}
+use Rattle.slirp_laws.proofs.Asked.{asked_for}
+use Rattle.slirp_laws.proofs.Longest.{found_for, given_for}
 use Rattle.slirp_laws.proofs.Phases.{opens, opens_none, sends}
-use Rattle.slirp_laws.proofs.Steps.{Asks, errand_asks, errand_is, goes_to_target, opened_for_it}
+use Rattle.slirp_laws.proofs.Steps.{Asks, errand_asks, errand_is, goes_to_target, opened_for_it, opened_for_question}
 
-pub opens_anywhere : (config : Config) (past : List Entry) (socket : ℕ) (at : Endpoint) → config.forwards ≡ [] → May config past (CallUdpOpen socket at) → at ≡ anywhere
+of_host : (config : Config) (errand : Errand) (at : Endpoint) → at ≡ opened_at config errand → IsFromHost config at
+of_host config errand at is = subst (IsFromHost config) (sym is) (by (asks_a_name config errand && is_loopback (address errand.to)))
+  where
+    bound : (o : Option ℕ) → config.outbound ≡ o → (unwrap_or config.outbound 0 ≡ 0) ⊎ (config.outbound ≡ Some (unwrap_or config.outbound 0))
+    bound None set = inl (ap (λ o. unwrap_or o 0) set)
+    bound (Some address) set = inr (set ∙ ap Some (sym (ap (λ o. unwrap_or o 0) set)))
+
+    by : (b : Bool) → IsFromHost config (if b then endpoint 0 0 else endpoint (unwrap_or config.outbound 0) 0)
+    by true = (refl, inl refl)
+    by false = (refl, bound config.outbound refl)
+
+pub opens_anywhere : (config : Config) (past : List Entry) (socket : ℕ) (at : Endpoint) → config.forwards ≡ [] → May config past (CallUdpOpen socket at) → IsFromHost config at
 opens_anywhere config past socket at none may = elim (opens config past socket at may) [
   | inl early ↦ absurd (early.1 (opens_none config past none))
-  | inr o ↦ o.anywhere
+  | inr o ↦ of_host config o.errand at o.at_address
 ]
 
-pub opens_later : (config : Config) (past : List Entry) (socket : ℕ) (at : Endpoint) → 0 < waits past → May config past (CallUdpOpen socket at) → at ≡ anywhere
+pub opens_later : (config : Config) (past : List Entry) (socket : ℕ) (at : Endpoint) → 0 < waits past → May config past (CallUdpOpen socket at) → IsFromHost config at
 opens_later config past socket at waited may = elim (opens config past socket at may) [
   | inl early ↦ (let none = early.0 in absurd (omega (arith, waited, none)))
-  | inr o ↦ o.anywhere
+  | inr o ↦ of_host config o.errand at o.at_address
 ]
 
-pub sends_what_came : (config : Config) (past : List Entry) (socket : ℕ) (to : Endpoint) (octets : List ℕ) → May config past (CallUdpSend socket to octets) → SendsWhatCame config past socket to octets
-sends_what_came config past socket to octets may =
+-- the socket on which an errand is sent was opened for its port
+port_of : (config : Config) (past : List Entry) (socket : ℕ) (errand : Errand) → Lawful config past → step config past ≡ NeedsSending socket errand → opened_for config socket past ≡ Some errand.datagram.from
+port_of config past socket errand lawful asked = by (asks_a_name config errand) refl
+  where
+    by : (b : Bool) → asks_a_name config errand ≡ b → opened_for config socket past ≡ Some errand.datagram.from
+    by true name = asked_for config past errand.datagram.from (ident_in errand.datagram.body) socket lawful (opened_for_question config past socket errand name asked)
+    by false other = elim (opened_for_it config past socket errand other asked) [
+      | inl given ↦ given_for config past errand.datagram.from socket given
+      | inr own ↦ found_for config past errand.datagram.from socket own
+    ]
+
+pub sends_what_came : (config : Config) (past : List Entry) (socket : ℕ) (to : Endpoint) (octets : List ℕ) → Lawful config past → May config past (CallUdpSend socket to octets) → SendsWhatCame config past socket to octets
+sends_what_came config past socket to octets lawful may =
     let s = sends config past socket to octets may in
     let asks : Asks config (last_datagram config past) s.errand = errand_asks config past s.errand (errand_is config past (NeedsSending socket s.errand) s.asked) in
     record {
       datagram = s.errand.datagram;
       last = asks.datagram;
-      port = found_for config past s.errand.datagram.from socket (opened_for_it config past socket s.errand s.asked);
+      port = port_of config past socket s.errand lawful s.asked;
       goes = goes_to_target config s.errand.datagram s.errand.to asks.goes ∙ ap Go (sym s.target);
       whole = s.whole;
     }

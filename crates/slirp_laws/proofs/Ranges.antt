@@ -1,12 +1,12 @@
 -- What guests and peers say is in its range where each answer is one that a World may give.
-use Rattle.std.proofs.Common.{◌≡◌, ℕ, ◌-◌, ◌/◌, ◌%◌, ◌^◌, ◌<◌, ◌==◌, ◌&&◌, not, cond, find, lit<, nat_le, Bool, true, false, List, [], ◌∷◌, ◌++◌, get_or, length, take, drop, Option, Some, None, option_map, option_and_then, if◌then◌else◌, inl, inr, refl, ap, subst, arith}
+use Rattle.std.proofs.Common.{◌≡◌, ℕ, ◌-◌, ◌/◌, ◌%◌, ◌^◌, ◌<◌, ◌==◌, ◌&&◌, not, cond, find, lit<, nat_le, Bool, true, false, List, [], ◌∷◌, ◌++◌, get_or, length, nat_lt, slice_get, take, drop, Option, Some, None, option_map, option_and_then, if◌then◌else◌, inl, inr, refl, ap, subst, arith}
 use Rattle.std.proofs.lemmas.Bool.{cases_lt}
 use Rattle.std.proofs.lemmas.List.{get_or_past}
 use Rattle.std.specs.List.{range_with_len}
 use Rattle.std.proofs.lemmas.List.Elements.{All-append, All-drop, All-get_or, All-map, All-take}
 use Rattle.std.proofs.lemmas.Option.{cond_some}
-use Rattle.world_face.specs.Journal.{Entry, LinkRead, Connect, UdpOpen, UdpSend, UdpRecv, AreAllowed, AreOctets, IsEndpoint}
-use Rattle.world_face.specs.Frames.{arrives, is_whole, partial}
+use Rattle.world_face.specs.Journal.{Entry, LinkRead, LinkWrite, Connect, UdpOpen, UdpSend, UdpRecv, FileLen, FileRead, AreAllowed, AreOctets, IsEndpoint}
+use Rattle.world_face.specs.Frames.{arrives, goes_out, is_whole, partial}
 use Rattle.world_face.specs.declared.Made.{Made}
 use Rattle.world_face.specs.declared.Made.TheVariants.{Done as MadeDone, Failed as MadeFailed}
 use Rattle.world_face.specs.declared.Sent.{Sent}
@@ -16,6 +16,9 @@ use Rattle.net_octets.specs.declared.Endpoint.{Endpoint}
 use Rattle.net_octets.specs.Kinds.{arp_kind, ipv4_kind, icmp_proto, udp_proto, tcp_proto}
 use Rattle.net_octets.specs.Octets.{IsOctets, one_at, two_at, four_at, part}
 use Rattle.net_octets.proofs.Parts.{two_at-fits, four_at-fits}
+use Rattle.host_policy.specs.declared.Forward.{Forward}
+use Rattle.host_policy.specs.declared.Proto.{Proto}
+use Rattle.host_policy.specs.declared.Proto.TheVariants.{Tcp as ByTcp, Udp as ByUdp}
 use Rattle.host_policy.specs.Addresses.{Config, is_guest}
 use Rattle.ether_frame.specs.Ether.{Ether, read_ether}
 use Rattle.arp_table.specs.Arp.{Arp, read_arp}
@@ -26,13 +29,19 @@ use Rattle.icmp_echo.specs.Icmp.{Icmp, read_icmp}
 use Rattle.udp_assoc.specs.Udp.{Udp, is_udp, read_udp}
 use Rattle.tcp_segment.specs.Tcp.{Tcp, read_tcp}
 use Rattle.run_laws.specs.Fragments.{Fragment, arrived, fragment_by, fragment_in, fragment_of, joined_by, key_by, part_by, sets, waiting, with_fragment, with_frame}
-use Rattle.run_laws.specs.Moments.{moment}
+use Rattle.run_laws.specs.Moments.{moment, waits}
 use Rattle.flow_book.specs.Book.{book}
 use Rattle.flow_book.specs.Segments.{OnTuple}
 use Rattle.run_laws.specs.Happenings.{Arrival, arrival_of, happens, datagram_by, datagram_came}
 use Rattle.run_laws.specs.Packets.{Datagram, Packet, Unheard, ArpPacket, Message, DatagramPacket, Segment, datagram_in, datagram_of, may_come, packet_in, packet_of, packet_of_ip, unless_unheard, whole_packet}
-use Rattle.slirp_laws.specs.Ports.{last_datagram, last_port, opened_by, opened_for, or_before}
-use Rattle.slirp_laws.specs.Said.{Occasion, Heard, by_call, by_joined, by_made, by_sent, last_occasion, occasion_after, refused_or, unsent_or}
+use Rattle.slirp_laws.specs.Ports.{last_datagram, last_port, opened_by, opened_for, or_before, given_by, given_port, port_for}
+use Rattle.slirp_laws.specs.Answers.{begins_again, identification, ledger, may_go_again, serving}
+use Rattle.slirp_laws.specs.Names.{questions}
+use Rattle.dns_relay.specs.declared.Question.{Question}
+use Rattle.dns_relay.specs.Questions.{numbered}
+use Rattle.tftp_server.specs.Asking.{by_answer}
+use Rattle.tftp_server.specs.Transfers.{Outcome as FileOutcome, Said}
+use Rattle.slirp_laws.specs.Said.{Occasion, Heard, by_call, by_joined, by_made, by_outcome, by_said, by_sent, heard_on, last_occasion, occasion_after, refused_or, unsent_or, HasPorts}
 
 abbrev IsOctet : ℕ → Type 0
 IsOctet octet = octet < 2 ^ 8
@@ -276,9 +285,24 @@ range_opened : (n : ℕ) (e : Entry) (one before : Option Endpoint) → RangePor
 range_opened n (UdpOpen s at answer) one before is was = range_either (s == n) one before is was
 range_opened n _ one before is was = was
 
-pub range_port : (config : Config) (n : ℕ) (past : List Entry) → AreAllowed past → RangePort (opened_for config n past)
-range_port config n [] allowed = tt
-range_port config n (e ∷ past) allowed = range_opened n e (last_port config past) (opened_for config n past) (range_from (last_datagram config past) (range_last config past allowed.1)) (range_port config n past allowed.1)
+range_given_by : (proto : Proto) (guest : Endpoint) → IsEndpoint guest → RangePort (given_by proto guest)
+range_given_by ByUdp guest is = is
+range_given_by ByTcp guest is = tt
+
+range_given : (config : Config) (n : ℕ) → HasPorts config → RangePort (given_port config n)
+range_given config n ports = by (slice_get config.forwards n) refl
+  where
+    by : (o : Option Forward) → slice_get config.forwards n ≡ o → RangePort (option_and_then (λ (f : Forward). given_by f.proto f.guest) o)
+    by None is = tt
+    by (Some f) is = range_given_by f.proto f.guest (ports n f is)
+
+range_next : (config : Config) (n : ℕ) (past : List Entry) → HasPorts config → AreAllowed past → RangePort (port_for config n past)
+range_next config n past ports allowed =
+    range_either (nat_lt 0 (waits past)) (last_port config past) (given_port config n) (range_from (last_datagram config past) (range_last config past allowed)) (range_given config n ports)
+
+pub range_port : (config : Config) (n : ℕ) (past : List Entry) → HasPorts config → AreAllowed past → RangePort (opened_for config n past)
+range_port config n [] ports allowed = tt
+range_port config n (e ∷ past) ports allowed = range_opened n e (port_for config n past) (opened_for config n past) (range_next config n past ports allowed.1) (range_port config n past ports allowed.1)
 
 -- ---- peers
 
@@ -307,17 +331,37 @@ peer_joined : (answer : Made) (on : Option OnTuple) (o : Occasion) → RangePeer
 peer_joined MadeDone on o before = before
 peer_joined MadeFailed on o before = peer_refused on o before
 
-peer_by : (e : Entry) (past : List Entry) (last : Option Datagram) (on : Option OnTuple) (o : Occasion) → AreAllowed (e ∷ past) → RangePeer o → RangePeer (by_call e last on o)
-peer_by (Connect socket to answer) past last on o allowed before = peer_joined answer on o before
-peer_by (UdpOpen socket at answer) past last on o allowed before = peer_made answer last o before
-peer_by (UdpSend socket to octets answer) past last on o allowed before = peer_sent answer last o before
-peer_by (UdpRecv socket asked (From peer n) octets) past last on o allowed before = allowed.0.0.1
-peer_by (UdpRecv socket asked GotNotYet octets) past last on o allowed before = before
-peer_by (UdpRecv socket asked GotFailed octets) past last on o allowed before = before
-peer_by _ past last on o allowed before = before
+peer_said : (o : Option Said) (before : Occasion) → RangePeer before → RangePeer (by_said o before)
+peer_said None before is = is
+peer_said (Some said) before is = tt
+
+peer_outcome : (o : Option FileOutcome) (before : Occasion) → RangePeer before → RangePeer (by_outcome o before)
+peer_outcome None before is = is
+peer_outcome (Some o) before is = peer_said o.told before is
+
+peer_heard : (socket : ℕ) (peer : Endpoint) (octets : List ℕ) (o : Option Question) → IsEndpoint peer → RangePeer (heard_on socket peer octets o)
+peer_heard socket peer octets None is = is
+peer_heard socket peer octets (Some q) is = tt
+
+peer_if : (b : Bool) (one other : Occasion) → RangePeer one → RangePeer other → RangePeer (if b then one else other)
+peer_if true one other is else_ = is
+peer_if false one other is else_ = else_
+
+peer_by : (config : Config) (e : Entry) (past : List Entry) (last : Option Datagram) (on : Option OnTuple) (o : Occasion) → AreAllowed (e ∷ past) → RangePeer o → RangePeer (by_call config past e last on o)
+peer_by config (Connect socket to answer) past last on o allowed before = peer_joined answer on o before
+peer_by config (UdpOpen socket at answer) past last on o allowed before = peer_made answer last o before
+peer_by config (UdpSend socket to octets answer) past last on o allowed before = peer_sent answer last o before
+peer_by config (UdpRecv socket asked (From peer n) octets) past last on o allowed before = peer_heard socket peer octets (numbered socket (questions config past)) allowed.0.0.1
+peer_by config (UdpRecv socket asked GotNotYet octets) past last on o allowed before = before
+peer_by config (UdpRecv socket asked GotFailed octets) past last on o allowed before = before
+peer_by config (LinkWrite octets answer) past last on o allowed before =
+    peer_if (begins_again config (identification past) (ledger config past) (goes_out (LinkWrite octets answer) past)) _ o (peer_said (may_go_again (serving config past)) o before) before
+peer_by config (FileLen name answer) past last on o allowed before = peer_outcome (by_answer (serving config past).now (FileLen name answer) (serving config past).files) o before
+peer_by config (FileRead name place asked answer octets) past last on o allowed before = peer_outcome (by_answer (serving config past).now (FileRead name place asked answer octets) (serving config past).files) o before
+peer_by config _ past last on o allowed before = before
 
 peer_after : (config : Config) (e : Entry) (past : List Entry) (came : Option Arrival) (o : Occasion) → AreAllowed (e ∷ past) → RangePeer o → RangePeer (occasion_after config e past came o)
-peer_after config e past None o allowed before = peer_by e past (last_datagram config past) (book config past).came o allowed before
+peer_after config e past None o allowed before = peer_by config e past (last_datagram config past) (book config past).came o allowed before
 peer_after config e past (Some arrival) o allowed before = tt
 
 pub range_peer : (config : Config) (past : List Entry) → AreAllowed past → RangePeer (last_occasion config past)

@@ -1,5 +1,5 @@
 -- A reply as it is read has what the peer sent, for the port that asked.
-use Rattle.std.proofs.Common.{◌≡◌, ℕ, ◌+◌, ◌*◌, ◌^◌, ◌<◌, ◌≤◌, ◌==◌, ◌&&◌, not, Bool, true, false, List, [], ◌∷◌, length, take, drop, Option, Some, if◌then◌else◌, refl, sym, ◌∙◌, ap, subst, arith, append-nil}
+use Rattle.std.proofs.Common.{◌⊎◌, inl, inr, ◌≡◌, ℕ, ◌+◌, ◌*◌, ◌^◌, ◌<◌, ◌≤◌, ◌==◌, ◌&&◌, not, Bool, true, false, List, [], ◌∷◌, length, take, drop, Option, Some, if◌then◌else◌, refl, sym, ◌∙◌, ap, subst, arith, append-nil}
 use Rattle.std.proofs.lemmas.Bool.Decides.{nat_tests}
 use Rattle.std.proofs.lemmas.List.{take_all}
 use Rattle.world_face.specs.Journal.{Entry, AreAllowed, IsEndpoint}
@@ -17,11 +17,11 @@ use Rattle.udp_assoc.proofs.Spelling.{length-udp, reads as reads_udp}
 use Rattle.udp_assoc.proofs.Writing.{front_is}
 use Rattle.slirp_laws.specs.Answers.{our_mac, part_frame, uncut}
 use Rattle.slirp_laws.specs.Laws.{Lawful}
-use Rattle.slirp_laws.specs.Said.{Carries, Heard, IsReplyToItsPort, RepliesToItsPort, identification_with}
+use Rattle.slirp_laws.specs.Said.{AnswersQuestion, Carries, Heard, IsOfServer, IsReplyToItsPort, RepliesToItsPort, identification_with, HasPorts}
 use Rattle.slirp_laws.proofs.Ranges.{RangePeer, RangePort, range_peer, range_port}
 use Rattle.slirp_laws.proofs.Framing.{part_of_frames}
 use Rattle.slirp_laws.proofs.Numbers.{ident_fits, reads_cut}
-use Rattle.slirp_laws.proofs.Reading.{SixMac, carried_ip, six_mac}
+use Rattle.slirp_laws.proofs.Reading.{SixMac, carried_ip, six_mac_for}
 use Rattle.slirp_laws.proofs.Replies.{replies}
 
 same_some : {A : Type 0} (o : Option A) (one two : A) → o ≡ Some one → o ≡ Some two → one ≡ two
@@ -107,11 +107,11 @@ module _ (config : Config) (past : List Entry) (frame : List ℕ) (ip : Ip) (udp
         source = sent_from;
       }
 
-pub reply_as_read : (config : Config) (e : Entry) (past : List Entry) (frame : List ℕ) (ip : Ip) (udp : Udp) → 28 ≤ config.mtu → Lawful config (e ∷ past) → AreAllowed past → config.vhost < 2 ^ 32 → goes_out e past ≡ Some frame
-    → Carries frame ip → is_unbroken ip ≡ true → ip.proto ≡ udp_proto → read_udp ip.from ip.to ip.body ≡ Some udp → IsReplyToItsPort config past ip udp
-reply_as_read config e past frame ip udp room lawful allowed ours out c unbroken proto is =
-    let r = replies config e past frame ip room lawful out c proto in
-    let peer : IsEndpoint r.peer = subst RangePeer r.last (range_peer config past allowed) in
-    let guest : IsEndpoint r.guest = subst RangePort r.port (range_port config r.socket past allowed) in
-    let six : length r.mac ≡ 6 = subst SixMac r.at (six_mac config r.socket past) in
-    as_read config past frame ip udp r (shown_range config r.peer ours peer) guest room six c unbroken is
+pub reply_as_read : (config : Config) (e : Entry) (past : List Entry) (frame : List ℕ) (ip : Ip) (udp : Udp) → 28 ≤ config.mtu → Lawful config (e ∷ past) → AreAllowed past → config.vhost < 2 ^ 32 → HasPorts config → goes_out e past ≡ Some frame
+    → Carries frame ip → is_unbroken ip ≡ true → ip.proto ≡ udp_proto → read_udp ip.from ip.to ip.body ≡ Some udp
+    → IsReplyToItsPort config past ip udp ⊎ (AnswersQuestion config past frame ⊎ IsOfServer config past frame)
+reply_as_read config e past frame ip udp room lawful allowed ours ports out c unbroken proto is = elim (replies config e past frame ip room lawful out c proto) [
+  | inl r ↦ inl (as_read config past frame ip udp r (shown_range config r.peer ours (subst RangePeer r.last (range_peer config past allowed))) (subst RangePort r.port (range_port config r.socket past ports allowed)) room
+      (subst SixMac r.at (six_mac_for config r.socket past)) c unbroken is)
+  | inr other ↦ inr other
+]

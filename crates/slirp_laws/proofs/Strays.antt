@@ -1,6 +1,5 @@
 -- Of the frames of answers only those of resets are read as segments.
-use Rattle.std.proofs.Common.{◌≡◌, ℕ, ◌+◌, ◌-◌, ◌/◌, ◌%◌, ◌^◌, ◌<◌, ◌≤◌, ◌==◌, ◌&&◌, ◌||◌, not, Bool, true, false, List, [], ◌∷◌, length, take, drop, Option, Some, None, option_map, option_and_then, Result, Ok, Err, if◌then◌else◌, refl, sym, ◌∙◌, ap, subst, arith}
-use Rattle.std.proofs.lemmas.Bool.Decides.{nat_tests}
+use Rattle.std.proofs.Common.{◌≡◌, ℕ, ◌+◌, ◌-◌, ◌/◌, ◌%◌, ◌^◌, ◌<◌, ◌≤◌, ◌==◌, ◌&&◌, not, Bool, true, false, List, [], ◌∷◌, length, take, drop, Option, Some, None, option_and_then, Result, Ok, Err, if◌then◌else◌, refl, sym, ◌∙◌, ap, subst, arith}
 use Rattle.std.proofs.lemmas.List.{take_all}
 use Rattle.std.proofs.lemmas.Nat.{from_be_bytes-to_be_bytes_2}
 use Rattle.std.proofs.lemmas.Option.{cond_some}
@@ -20,13 +19,16 @@ use Rattle.tcp_segment.specs.Tcp.{Tcp, fields_of, has, head_reading, options_rea
 use Rattle.flow_table.specs.declared.Tuple.{Tuple}
 use Rattle.flow_laws.specs.Event.{Segment}
 use Rattle.flow_book.specs.Lots.{reset_to}
-use Rattle.flow_book.specs.Segments.{OnTuple, from_guest, segment_in, tcp_of, to_guest, went_by, went_of}
+use Rattle.flow_book.specs.Segments.{OnTuple, from_guest, segment_in, tcp_of, went_by, went_of}
 use Rattle.run_laws.specs.Packets.{Datagram, Packet, Unheard, ArpPacket, Message, DatagramPacket, Segment as SegmentPacket}
-use Rattle.slirp_laws.specs.Answers.{Answer, ArpAnswer, IpAnswer, arp_reply, frames_for, is_untold, left, no_network, our_mac, owed_for_fate, owed_for_icmp, owed_for_packet, part_frame, reply_for, reset_for, told_about, uncut}
-use Rattle.slirp_laws.specs.Datagrams.{Fate, Ignored, Refused, GoesTo, fate}
+use Rattle.slirp_laws.specs.Leasing.{Sending, lease_reply}
+use Rattle.tftp_server.specs.Transfers.{Said}
+use Rattle.dns_relay.specs.Questions.{is_answered}
+use Rattle.slirp_laws.specs.Answers.{Serving, answers_of, served_file, told_of_files, Answer, ArpAnswer, IpAnswer, arp_reply, frames_for, is_untold, left, no_network, our_mac, owed_for_fate, owed_for_icmp, owed_for_packet, part_frame, reply_for, reset_for, told_about, uncut}
+use Rattle.slirp_laws.specs.Datagrams.{Fate, Ignored, Refused, ForLeases, ForFiles, GoesTo, fate}
 use Rattle.slirp_laws.specs.Laws.{Lawful}
-use Rattle.slirp_laws.specs.Ports.{mac_of, opened_for}
-use Rattle.slirp_laws.specs.Said.{AnswersLast, Carries, Occasion, NoOccasion, Came, Heard, Unsent, Unconnected, identification_with, last_occasion, owed_for}
+use Rattle.slirp_laws.specs.Ports.{opened_for, mac_for}
+use Rattle.slirp_laws.specs.Said.{Carries, Occasion, NoOccasion, Came, Heard, HeardOfName, OfFile, Unsent, Unconnected, identification_with, last_occasion, owed_for}
 use Rattle.slirp_laws.proofs.Beside.{carried_segment}
 use Rattle.slirp_laws.proofs.Bools.{equal, first_of, second_of}
 use Rattle.slirp_laws.proofs.Framing.{part_of_frames}
@@ -57,29 +59,42 @@ by_icmp mac ip (another kind code) = tt
 by_told : (config : Config) (code : ℕ) (d : Datagram) → AllAnswers IsReset (told_about config code d)
 by_told config code d = all_if IsReset (is_untold config d) [] _ tt (no_message _ config.vhost (address d.from), tt)
 
-by_fate : (config : Config) (d : Datagram) (what : Fate) → AllAnswers IsReset (owed_for_fate config d what)
-by_fate config d Ignored = tt
-by_fate config d Refused = by_told config _ d
-by_fate config d (GoesTo to) = tt
+-- what servers of ours say is no segment
+by_sendings : (sendings : List Sending) → AllAnswers IsReset (answers_of sendings)
+by_sendings [] = tt
+by_sendings (s ∷ sendings) = (no_datagram _ _ _, by_sendings sendings)
 
-by_packet : (config : Config) (stray : Bool) (packet : Packet) → AllAnswers IsReset (owed_for_packet config stray packet)
-by_packet config stray Unheard = tt
-by_packet config stray (ArpPacket arp) = all_if IsReset (not arp.is_reply && is_ours config arp.target) (arp_reply arp ∷ []) [] (tt, tt) tt
-by_packet config stray (Message mac ip message) = all_if IsReset (is_ours config ip.to) (owed_for_icmp mac ip message) [] (by_icmp mac ip message) tt
-by_packet config stray (DatagramPacket d) = by_fate config d (fate config d)
-by_packet config stray (SegmentPacket mac ip tcp) =
+by_files : (config : Config) (o : Option Said) → AllAnswers IsReset (told_of_files config o)
+by_files config None = tt
+by_files config (Some said) = (no_datagram _ _ _, tt)
+
+by_fate : (config : Config) (s : Serving) (d : Datagram) (what : Fate) → AllAnswers IsReset (owed_for_fate config s d what)
+by_fate config s d Ignored = tt
+by_fate config s d Refused = by_told config _ d
+by_fate config s d ForLeases = by_sendings (lease_reply config s.now s.leases d)
+by_fate config s d ForFiles = by_files config (served_file config s d).told
+by_fate config s d (GoesTo to) = tt
+
+by_packet : (config : Config) (s : Serving) (stray : Bool) (packet : Packet) → AllAnswers IsReset (owed_for_packet config s stray packet)
+by_packet config s stray Unheard = tt
+by_packet config s stray (ArpPacket arp) = all_if IsReset (not arp.is_reply && is_ours config arp.target) (arp_reply arp ∷ []) [] (tt, tt) tt
+by_packet config s stray (Message mac ip message) = all_if IsReset (is_ours config ip.to) (owed_for_icmp mac ip message) [] (by_icmp mac ip message) tt
+by_packet config s stray (DatagramPacket d) = by_fate config s d (fate config d)
+by_packet config s stray (SegmentPacket mac ip tcp) =
     let on = from_guest mac ip tcp in
     all_if IsReset stray (reset_for on ∷ []) [] ((λ is. (on.tuple, on.segment, refl)), tt) tt
 
 by_reply : (config : Config) (peer : Endpoint) (octets : List ℕ) (port : Option Endpoint) (mac : Option (List ℕ)) → AllAnswers IsReset (reply_for config peer octets port mac)
 by_reply config peer octets (Some guest) (Some mac) = all_if IsReset (is_hidden config peer) [] _ tt (no_datagram _ _ _, tt)
-by_reply config peer octets (Some guest) None = tt
+by_reply config peer octets (Some guest) None = all_if IsReset (is_hidden config peer) [] _ tt (tt, tt)
 by_reply config peer octets None mac = tt
 
 by_occasion : (config : Config) (past : List Entry) (o : Occasion) → AllAnswers IsReset (owed_for config past o)
 by_occasion config past NoOccasion = tt
-by_occasion config past (Came stray packet) = by_packet config stray packet
-by_occasion config past (Heard socket peer octets) = by_reply config peer octets (opened_for config socket past) (mac_of config socket past)
+by_occasion config past (Came s stray packet) = by_packet config s stray packet
+by_occasion config past (HeardOfName q peer octets) = all_if IsReset (is_answered config.resolver q peer octets) _ [] (no_datagram _ _ _, tt) tt
+by_occasion config past (OfFile said) = by_files config (Some said)
+by_occasion config past (Heard socket peer octets) = by_reply config peer octets (opened_for config socket past) (mac_for config socket past)
 by_occasion config past (Unsent d) = by_told config no_network d
 by_occasion config past (Unconnected on) = ((λ is. (on.tuple, on.segment, refl)), tt)
 

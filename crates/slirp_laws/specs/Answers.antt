@@ -1,7 +1,7 @@
 -- What is owed to a guest for the frame or datagram that came last, and what of it isn't out yet.
-use Rattle.std.specs.Prelude.{◌≡◌, ℕ, ◌+◌, ◌%◌, ◌^◌, ◌==◌, ◌&&◌, ◌||◌, not, nat_le, Bool, true, false, List, [], ◌∷◌, ◌++◌, drop, length, map, bytes_eq, Option, Some, None, if◌then◌else◌}
+use Rattle.std.specs.Prelude.{ℕ, ◌+◌, ◌%◌, ◌^◌, ◌==◌, ◌&&◌, ◌||◌, not, nat_le, Bool, true, false, is_some, List, [], ◌∷◌, ◌++◌, drop, length, map, bytes_eq, Option, Some, None, option_map, if◌then◌else◌}
 use Rattle.world_face.specs.Frames.{goes_out}
-use Rattle.world_face.specs.Journal.{Entry, LinkWrite, Connect, UdpOpen, UdpSend, UdpRecv}
+use Rattle.world_face.specs.Journal.{Entry, Wait, LinkWrite, Connect, UdpOpen, UdpSend, UdpRecv, FileLen, FileRead}
 use Rattle.world_face.specs.declared.Made.{Made}
 use Rattle.world_face.specs.declared.Made.TheVariants.{Done as MadeDone, Failed as MadeFailed}
 use Rattle.world_face.specs.declared.Sent.{Sent}
@@ -11,7 +11,7 @@ use Rattle.world_face.specs.declared.Got.TheVariants.{From, NotYet as GotNotYet,
 use Rattle.net_octets.specs.declared.Endpoint.{Endpoint}
 use Rattle.net_octets.specs.Kinds.{arp_kind, ipv4_kind, icmp_proto, tcp_proto, udp_proto}
 use Rattle.net_octets.specs.Octets.{two_at, four}
-use Rattle.host_policy.specs.Addresses.{Config, address, last_address, is_ours, is_guest}
+use Rattle.host_policy.specs.Addresses.{Config, address, endpoint, last_address, is_ours}
 use Rattle.host_policy.specs.Targets.{is_group_or_reserved, shown, is_hidden}
 use Rattle.ether_frame.specs.Ether.{ether_octets}
 use Rattle.arp_table.specs.Arp.{Arp, arp_octets}
@@ -24,12 +24,20 @@ use Rattle.tcp_segment.specs.Tcp.{tcp_octets}
 use Rattle.flow_book.specs.Book.{book}
 use Rattle.flow_book.specs.Flows.{Book}
 use Rattle.flow_book.specs.Lots.{is_reset, reset_to}
-use Rattle.flow_book.specs.Segments.{OnTuple, from_guest}
+use Rattle.flow_book.specs.Segments.{OnTuple, asked_in, from_guest, segment_in}
+use Rattle.dhcp_server.specs.declared.leases.Lease.{Lease}
+use Rattle.dns_relay.specs.declared.Question.{Question}
+use Rattle.dns_relay.specs.Questions.{is_answered, numbered}
+use Rattle.tftp_server.specs.Transfers.{Files, Outcome, Said, Transfer, begun, came, next_again, no_files, said_again, ticked, with_again}
+use Rattle.tftp_server.specs.Asking.{by_answer}
+use Rattle.run_laws.specs.Moments.{moment}
 use Rattle.run_laws.specs.Happenings.{Arrival, Happening, happens}
 use Rattle.run_laws.specs.Packets.{Packet, Unheard, ArpPacket, Message, DatagramPacket, Segment, Datagram}
 use Rattle.slirp_laws.specs.Asking.{step}
-use Rattle.slirp_laws.specs.Datagrams.{Fate, Ignored, Refused, GoesTo, fate, Step, Settled, NeedsRoom, NeedsSocket, NeedsSending}
-use Rattle.slirp_laws.specs.Ports.{mac_of, opened_for}
+use Rattle.slirp_laws.specs.Datagrams.{Fate, Ignored, Refused, ForLeases, ForFiles, GoesTo, fate, Step, Settled, NeedsRoom, NeedsSocket, NeedsSending}
+use Rattle.slirp_laws.specs.Leasing.{Sending, lease_reply, leases}
+use Rattle.slirp_laws.specs.Names.{questions}
+use Rattle.slirp_laws.specs.Ports.{mac_for, opened_for}
 
 -- the hardware address of one of ours: 52:55 and the four octets of its address
 abbrev pub our_mac : ℕ → List ℕ
@@ -72,14 +80,39 @@ no_network = 0
 abbrev pub told_about : Config → ℕ → Datagram → List Answer
 told_about config code d = if is_untold config d then [] else IpAnswer d.mac icmp_proto config.vhost (address d.from) (unreachable_octets code d.quote) ∷ []
 
--- a datagram that may go nowhere is answered
-abbrev pub owed_for_fate : Config → Datagram → Fate → List Answer
-owed_for_fate config d Ignored = []
-owed_for_fate config d Refused = told_about config prohibited d
-owed_for_fate config d (GoesTo to) = []
+-- a datagram of ours
+abbrev pub answer_of : Sending → Answer
+answer_of s = IpAnswer s.mac udp_proto (address s.from) (address s.to) (udp_octets (address s.from) (address s.to) (record { from_port = s.from.port; to_port = s.to.port; body = s.body }))
 
-abbrev pub owed_for_datagram : Config → Datagram → List Answer
-owed_for_datagram config d = owed_for_fate config d (fate config d)
+abbrev pub answers_of : List Sending → List Answer
+answers_of sendings = map answer_of sendings
+
+-- what the server of files tells a guest, from port 69 of the virtual host
+abbrev pub told_of_files : Config → Option Said → List Answer
+told_of_files config None = []
+told_of_files config (Some s) = answer_of (record { mac = s.mac; from = endpoint config.vhost 69; to = s.guest; body = s.octets }) ∷ []
+
+-- what the services of ours keep: who has which address, the transfers of files, and a packet of these that is to go again and isn't out yet
+pub record Serving : Type 0 where
+  pub now : ℕ
+  pub leases : List Lease
+  pub files : Files
+  pub again : Option Said
+
+-- a datagram for the server of files
+abbrev pub served_file : Config → Serving → Datagram → Outcome
+served_file config s d = came config.tftp_path s.now d.mac d.from d.body s.files
+
+-- a datagram that may go nowhere is answered, and so are those for servers of ours
+abbrev pub owed_for_fate : Config → Serving → Datagram → Fate → List Answer
+owed_for_fate config s d Ignored = []
+owed_for_fate config s d Refused = told_about config prohibited d
+owed_for_fate config s d ForLeases = answers_of (lease_reply config s.now s.leases d)
+owed_for_fate config s d ForFiles = told_of_files config (served_file config s d).told
+owed_for_fate config s d (GoesTo to) = []
+
+abbrev pub owed_for_datagram : Config → Serving → Datagram → List Answer
+owed_for_datagram config s d = owed_for_fate config s d (fate config d)
 
 -- a reset, from the end to which the segment went, to the hardware address from which it came (RFC 9293, 3.10.7.1)
 abbrev pub reset_for : OnTuple → Answer
@@ -95,14 +128,27 @@ abbrev pub owed_for_segment : Bool → OnTuple → List Answer
 owed_for_segment stray on = if stray then reset_for on ∷ [] else []
 
 -- what a packet of the guests owes
-abbrev pub owed_for_packet : Config → (stray : Bool) → Packet → List Answer
-owed_for_packet config stray Unheard = []
-owed_for_packet config stray (ArpPacket arp) = owed_for_arp config arp
-owed_for_packet config stray (Message mac ip message) = owed_for_message config mac ip message
-owed_for_packet config stray (DatagramPacket d) = owed_for_datagram config d
-owed_for_packet config stray (Segment mac ip tcp) = owed_for_segment stray (from_guest mac ip tcp)
+abbrev pub owed_for_packet : Config → Serving → (stray : Bool) → Packet → List Answer
+owed_for_packet config s stray Unheard = []
+owed_for_packet config s stray (ArpPacket arp) = owed_for_arp config arp
+owed_for_packet config s stray (Message mac ip message) = owed_for_message config mac ip message
+owed_for_packet config s stray (DatagramPacket d) = owed_for_datagram config s d
+owed_for_packet config s stray (Segment mac ip tcp) = owed_for_segment stray (from_guest mac ip tcp)
 
--- What a peer's datagram owes: its payload, whole, to the port of a guest for which the socket was opened, at the hardware address from which that port spoke last. Nothing where the peer isn't shown.
+-- the virtual host asks everyone for the hardware address of a guest (RFC 826)
+abbrev pub everyone : List ℕ
+everyone = 255 ∷ 255 ∷ 255 ∷ 255 ∷ 255 ∷ 255 ∷ []
+
+abbrev pub nobody : List ℕ
+nobody = 0 ∷ 0 ∷ 0 ∷ 0 ∷ 0 ∷ 0 ∷ []
+
+abbrev pub request : Config → ℕ → Arp
+request config guest = record { is_reply = false; sender_mac = our_mac config.vhost; sender = config.vhost; target_mac = nobody; target = guest }
+
+-- What a peer's datagram owes: its payload, whole, to the port of a guest for which the socket was opened, at this hardware address. Where that isn't known the guest is asked for it in place of the datagram. Nothing where the peer isn't shown.
+abbrev pub asks_for : Config → Endpoint → Endpoint → List Answer
+asks_for config peer guest = if is_hidden config peer then [] else ArpAnswer everyone (request config (address guest)) ∷ []
+
 abbrev pub reply_at : Config → Endpoint → List ℕ → Endpoint → List ℕ → List Answer
 reply_at config peer octets guest mac =
     let from = shown config peer in
@@ -111,8 +157,19 @@ reply_at config peer octets guest mac =
 
 abbrev pub reply_for : Config → Endpoint → List ℕ → Option Endpoint → Option (List ℕ) → List Answer
 reply_for config peer octets (Some guest) (Some mac) = reply_at config peer octets guest mac
-reply_for config peer octets (Some guest) None = []
+reply_for config peer octets (Some guest) None = asks_for config peer guest
 reply_for config peer octets None mac = []
+
+-- What came on the socket of a question: where it answers it, its payload, whole, to the port that asked, from port 53 of the name server.
+abbrev pub name_answer : Config → Question → List ℕ → Answer
+name_answer config q octets = answer_of (record { mac = q.mac.0; from = endpoint config.vnameserver 53; to = q.guest; body = octets })
+
+abbrev pub name_reply : Config → Question → Endpoint → List ℕ → List Answer
+name_reply config q peer octets = if is_answered config.resolver q peer octets then name_answer config q octets ∷ [] else []
+
+abbrev pub reply_on : Config → List Entry → ℕ → Endpoint → List ℕ → Option Question → List Answer
+reply_on config past socket peer octets None = reply_for config peer octets (opened_for config socket past) (mac_for config socket past)
+reply_on config past socket peer octets (Some q) = name_reply config q peer octets
 
 -- a datagram that isn't cut yet, as a part of its own
 abbrev pub uncut : List ℕ → Part
@@ -159,7 +216,7 @@ abbrev pub identification : List Entry → ℕ
 identification past = datagrams_out past % 2 ^ 16
 
 abbrev pub left_by_got : Config → List Entry → ℕ → Got → List ℕ → List (List ℕ) → List (List ℕ)
-left_by_got config past socket (From peer n) octets left = frames_of config (identification past) (reply_for config peer octets (opened_for config socket past) (mac_of config socket past))
+left_by_got config past socket (From peer n) octets left = frames_of config (identification past) (reply_on config past socket peer octets (numbered socket (questions config past)))
 left_by_got config past socket GotNotYet octets left = left
 left_by_got config past socket GotFailed octets left = left
 
@@ -189,29 +246,138 @@ abbrev pub is_first : List ℕ → List (List ℕ) → Bool
 is_first frame [] = false
 is_first frame (first ∷ frames) = bytes_eq frame first
 
--- a frame that goes out takes the first one away where it is that one
-abbrev pub taken : Option (List ℕ) → List (List ℕ) → List (List ℕ)
-taken None left = left
-taken (Some frame) left = if is_first frame left then drop 1 left else left
-
-abbrev pub left_by_call : Config → List Entry → Happening → Entry → List (List ℕ) → List (List ℕ)
-left_by_call config past h (LinkWrite octets answer) left = taken h.went left
-left_by_call config past h (Connect socket to answer) left = unless_made answer (unconnected config (identification past) (book config past).came left) left
-left_by_call config past h (UdpOpen socket at answer) left = unless_made answer (unsent config (identification past) (step config past) left) left
-left_by_call config past h (UdpSend socket to octets answer) left = unless_sent answer (unsent config (identification past) (step config past) left) left
-left_by_call config past h (UdpRecv socket asked answer octets) left = left_by_got config past socket answer octets left
-left_by_call config past h _ left = left
-
--- the frames that are owed for the frame or datagram that came last and aren't out; a datagram has the identification that was the next one when it came to be owed
-abbrev pub left_after : Config → List Entry → Happening → Option Arrival → List (List ℕ) → List (List ℕ)
-left_after config past h None left = left_by_call config past h h.call left
-left_after config past h (Some arrival) left = frames_of config (identification past) (owed_for_packet config (strays config (book config (h.call ∷ past)) arrival.packet) arrival.packet)
-
-abbrev pub left : Config → List Entry → List (List ℕ)
-left config [] = []
-left config (e ∷ past) = left_after config past (happens config past e) (happens config past e).came (left config past)
-
 -- nothing is left
 abbrev pub is_out : List (List ℕ) → Bool
 is_out [] = true
 is_out (frame ∷ frames) = false
+
+-- ---- what is left, and what the services keep
+
+-- the frames that aren't out of what is owed for what came last, or of a packet of a file that goes again
+pub record Ledger : Type 0 where
+  pub left : List (List ℕ)
+  pub serving : Serving
+
+-- A packet that may go again: the one that is on its way, else the longest unused one that is due. Its frames, as they would go out now.
+abbrev pub or_begun : Option Said → Option Said → Option Said
+or_begun (Some said) new = Some said
+or_begun None new = new
+
+abbrev pub may_go_again : Serving → Option Said
+may_go_again s = or_begun s.again (option_map said_again (next_again s.now s.files.transfers))
+
+abbrev pub again_frames : Config → ℕ → Serving → List (List ℕ)
+again_frames config ident s = frames_of config ident (told_of_files config (may_go_again s))
+
+-- a frame, which is no segment's and no request for a hardware address, is the first of these
+abbrev pub is_flows : List ℕ → Bool
+is_flows frame = is_some (segment_in frame) || is_some (asked_in frame)
+
+abbrev pub starts : List ℕ → List (List ℕ) → Bool
+starts frame again = not (is_flows frame) && is_first frame again
+
+-- a frame that goes out takes the first one away where it is that one; where none is left it may begin a packet that goes again, of which the others are left then
+abbrev pub taken : Option (List ℕ) → List (List ℕ) → List (List ℕ) → List (List ℕ)
+taken None again left = left
+taken (Some frame) again [] = if starts frame again then drop 1 again else []
+taken (Some frame) again (first ∷ left) = if bytes_eq frame first then left else first ∷ left
+
+abbrev pub left_by_file : Config → ℕ → Option Said → List (List ℕ) → List (List ℕ)
+left_by_file config ident None left = left
+left_by_file config ident (Some said) left = frames_of config ident (told_of_files config (Some said))
+
+abbrev pub left_by_outcome : Config → ℕ → Option Outcome → List (List ℕ) → List (List ℕ)
+left_by_outcome config ident None left = left
+left_by_outcome config ident (Some o) left = left_by_file config ident o.told left
+
+abbrev pub left_by_call : Config → List Entry → Happening → Entry → Ledger → List (List ℕ)
+left_by_call config past h (LinkWrite octets answer) l = taken h.went (again_frames config (identification past) l.serving) l.left
+left_by_call config past h (Connect socket to answer) l = unless_made answer (unconnected config (identification past) (book config past).came l.left) l.left
+left_by_call config past h (UdpOpen socket at answer) l = unless_made answer (unsent config (identification past) (step config past) l.left) l.left
+left_by_call config past h (UdpSend socket to octets answer) l = unless_sent answer (unsent config (identification past) (step config past) l.left) l.left
+left_by_call config past h (UdpRecv socket asked answer octets) l = left_by_got config past socket answer octets l.left
+left_by_call config past h (FileLen name answer) l = left_by_outcome config (identification past) (by_answer l.serving.now (FileLen name answer) l.serving.files) l.left
+left_by_call config past h (FileRead name place asked answer octets) l = left_by_outcome config (identification past) (by_answer l.serving.now (FileRead name place asked answer octets) l.serving.files) l.left
+left_by_call config past h _ l = l.left
+
+-- the frames that are owed for the frame or datagram that came last and aren't out; a datagram has the identification that was the next one when it came to be owed
+abbrev pub left_after : Config → List Entry → Happening → Option Arrival → Ledger → List (List ℕ)
+left_after config past h None l = left_by_call config past h h.call l
+left_after config past h (Some arrival) l =
+    frames_of config (identification past) (owed_for_packet config l.serving (strays config (book config (h.call ∷ past)) arrival.packet) arrival.packet)
+
+-- ---- files
+
+abbrev pub files_by_fate : Config → Serving → Datagram → Fate → Files
+files_by_fate config s d ForFiles = (served_file config s d).files
+files_by_fate config s d _ = s.files
+
+abbrev pub files_by_packet : Config → Serving → Packet → Files
+files_by_packet config s (DatagramPacket d) = files_by_fate config s d (fate config d)
+files_by_packet config s _ = s.files
+
+-- a packet began to go again by this frame
+abbrev pub begins_again : Config → ℕ → Ledger → Option (List ℕ) → Bool
+begins_again config ident l None = false
+begins_again config ident l (Some frame) = is_out l.left && starts frame (again_frames config ident l.serving)
+
+abbrev pub begun_by : ℕ → Option Transfer → Files → Files
+begun_by now None files = files
+begun_by now (Some t) files = record files { transfers = with_again now t.guest files.transfers }
+
+-- one that was on its way was counted when it was due
+abbrev pub files_begun : ℕ → Option Said → Files → Files
+files_begun now None files = begun_by now (next_again now files.transfers) files
+files_begun now (Some said) files = files
+
+abbrev pub files_sent : Bool → Serving → Files
+files_sent true s = files_begun s.now s.again s.files
+files_sent false s = s.files
+
+abbrev pub files_by_outcome : Option Outcome → Files → Files
+files_by_outcome None files = files
+files_by_outcome (Some o) files = o.files
+
+-- nothing else is to be sent
+abbrev pub is_free : Ledger → Bool
+is_free l = is_out l.left && not (is_some l.serving.again)
+
+abbrev pub files_by_call : Config → List Entry → Happening → Entry → Ledger → Files
+files_by_call config past h (Wait wants timeout answer ready) l = record l.serving.files { transfers = ticked l.serving.now (is_free l) l.serving.files.transfers }
+files_by_call config past h (LinkWrite octets answer) l = files_sent (begins_again config (identification past) l h.went) l.serving
+files_by_call config past h e l = files_by_outcome (by_answer l.serving.now e l.serving.files) l.serving.files
+
+abbrev pub files_after : Config → List Entry → Happening → Option Arrival → Ledger → Files
+files_after config past h None l = files_by_call config past h h.call l
+files_after config past h (Some arrival) l = files_by_packet config l.serving arrival.packet
+
+-- a packet that is on its way, until the link takes some of it
+abbrev pub unless_begun : Bool → Option Said → Option Said
+unless_begun true again = None
+unless_begun false again = again
+
+abbrev pub again_by_call : Config → List Entry → Happening → Entry → Ledger → Option Said
+again_by_call config past h (Wait wants timeout answer ready) l = or_begun l.serving.again (begun l.serving.now (is_free l) l.serving.files.transfers)
+again_by_call config past h (LinkWrite octets answer) l = unless_begun (begins_again config (identification past) l h.went) l.serving.again
+again_by_call config past h _ l = l.serving.again
+
+abbrev pub ledger_after : Config → List Entry → Happening → Ledger → Ledger
+ledger_after config past h l = record {
+  left = left_after config past h h.came l;
+  serving = record {
+    now = moment (h.call ∷ past);
+    leases = leases config (h.call ∷ past);
+    files = files_after config past h h.came l;
+    again = again_by_call config past h h.call l;
+  };
+}
+
+abbrev pub ledger : Config → List Entry → Ledger
+ledger config [] = record { left = []; serving = record { now = 0; leases = leases config []; files = no_files; again = None } }
+ledger config (e ∷ past) = ledger_after config past (happens config past e) (ledger config past)
+
+abbrev pub left : Config → List Entry → List (List ℕ)
+left config past = (ledger config past).left
+
+abbrev pub serving : Config → List Entry → Serving
+serving config past = (ledger config past).serving

@@ -1,9 +1,7 @@
 -- What call may follow what past.
-use Rattle.std.specs.Prelude.{◌≡◌, ℕ, ◌+◌, ◌==◌, ◌&&◌, ◌||◌, not, nat_le, nat_lt, Bool, true, false, is_some, List, [], ◌∷◌, drop, slice_index, MatchOption, Option, Some, None, if◌then◌else◌}
+use Rattle.std.specs.Prelude.{◌≡◌, ℕ, ◌+◌, ◌==◌, ◌&&◌, ◌||◌, not, nat_le, nat_lt, Bool, true, false, is_some, List, [], ◌∷◌, drop, MatchOption, Option, Some, None, if◌then◌else◌}
 use Rattle.poll_list.specs.Listing.{reads, writes}
-use Rattle.poll_list.specs.declared.Want.{Want}
 use Rattle.poll_list.specs.declared.Who.TheVariants.{Link, Listener as AListener, Tcp, Udp}
-use Rattle.net_octets.specs.declared.Endpoint.{Endpoint}
 use Rattle.world_face.specs.Journal.{Entry, Call, Follows, Close, TcpWrite, CallNow, CallWait, CallLinkOpen, CallLinkRead, CallLinkWrite, CallConnect, CallConnected, CallListen, CallAccept, CallTcpRead, CallTcpWrite, CallTcpEnd, CallClose, CallUdpOpen, CallUdpSend, CallUdpRecv, CallFileLen, CallFileRead}
 use Rattle.world_face.specs.Frames.{MayFrame, tail}
 use Rattle.world_face.specs.Limits.{most_to_udp}
@@ -11,20 +9,22 @@ use Rattle.host_policy.specs.Addresses.{Config}
 use Rattle.udp_assoc.specs.Associations.{idle_life}
 use Rattle.run_laws.specs.Moments.{moment, waits}
 use Rattle.run_laws.specs.Shape.{phase, may_turn, is_working, is_over, is_ended, due_in}
-use Rattle.run_laws.specs.Sockets.{Kind, Association, DnsSocket, Forward, Listener, Flow, is_among, is_association, is_flow, is_listener, kind_of, next_number, open_sockets}
+use Rattle.run_laws.specs.Sockets.{Kind, Association, DnsSocket, Forward, Listener, Flow, is_among, is_association, is_flow, is_forward, is_listener, kind_of, next_number, open_sockets}
 use Rattle.flow_laws.specs.Close.{is_done, host_failed, finds_no_guest, follows_reset, gives_up, connects_too_long, newest_rst}
 use Rattle.flow_book.specs.Book.{book, scene}
 use Rattle.flow_book.specs.Flows.{Flow as AFlow, Book, Scene, comes_directly, flow_of, guest_is_known, is_it, used}
 use Rattle.flow_book.specs.Laws.{MayFlow}
 use Rattle.flow_book.specs.Lots.{due_for_flows}
 use Rattle.slirp_laws.specs.Agenda.{agenda}
-use Rattle.slirp_laws.specs.Answers.{is_out, left}
+use Rattle.slirp_laws.specs.Answers.{is_out, left, serving}
+use Rattle.slirp_laws.specs.Names.{answered, has_waited, kind_for}
+use Rattle.tftp_server.specs.Asking.{call_for}
 use Rattle.slirp_laws.specs.Asking.{step}
-use Rattle.slirp_laws.specs.Datagrams.{Step, Settled, NeedsRoom, NeedsSocket, NeedsSending, due_for}
+use Rattle.slirp_laws.specs.Datagrams.{Step, NeedsRoom, asks_a_name, due_for}
 use Rattle.slirp_laws.specs.Ports.{used_at}
 use Rattle.slirp_laws.specs.Sending.{is_explained}
 
--- What a call does: it asks the clock, waits, reads of the link or writes to it; opens a socket, sends a datagram on one, asks for one; connects to the host, accepts a peer, asks whether a connection is there, writes to it, ends that, reads from it; or closes a socket. Files aren't read yet, and the link isn't opened by these calls.
+-- What a call does: it asks the clock, waits, reads of the link or writes to it; opens a socket, sends a datagram on one, asks for one; connects to the host, accepts a peer, asks whether a connection is there, writes to it, ends that, reads from it; closes a socket; or asks for the length or octets of a file. The link isn't opened by these calls.
 pub data Deed : Type 0 where
   Asks : Deed
   Waits : Deed
@@ -40,6 +40,7 @@ pub data Deed : Type 0 where
   Ends : (socket : ℕ) → Deed
   Takes : (socket : ℕ) → Deed
   Shuts : (socket : ℕ) → Deed
+  Seeks : Deed
   Unbuilt : Deed
 
 abbrev pub deed_of : Call → Deed
@@ -59,16 +60,28 @@ deed_of (CallClose socket) = Shuts socket
 deed_of (CallUdpOpen socket at) = Opens socket
 deed_of (CallUdpSend socket to octets) = Sends socket
 deed_of (CallUdpRecv socket asked) = Hears socket asked
-deed_of (CallFileLen name) = Unbuilt
-deed_of (CallFileRead name place asked) = Unbuilt
+deed_of (CallFileLen name) = Seeks
+deed_of (CallFileRead name place asked) = Seeks
 
--- the call that must come next, if one must: by where the run stands, else for the datagram that came last, else for a flow
+-- the socket of a question that was answered is closed at once
+abbrev pub due_for_answer : Option ℕ → Option Call
+due_for_answer None = None
+due_for_answer (Some socket) = Some (CallClose socket)
+
+-- the call that must come next, if one must: by where the run stands, else for the datagram that came last, for a service or for a flow
 abbrev pub unless_due : Option Call → Option Call → Option Call
 unless_due None other = other
 unless_due (Some call) other = Some call
 
+-- for a service of ours: an answer to a question came, or a file is asked for
+abbrev pub due_for_services : Config → List Entry → Option Call
+due_for_services config past = unless_due (due_for_answer (answered config past)) (call_for (serving config past).files.quest)
+
 abbrev pub due : Config → List Entry → Option Call
-due config past = unless_due (due_in (phase config past) past) (unless_due (due_for (step config past) (next_number past)) (due_for_flows config (book config past) (next_number past)))
+due config past =
+    unless_due (due_in (phase config past) past)
+    (unless_due (due_for config (step config past) (next_number past))
+    (unless_due (due_for_services config past) (due_for_flows config (book config past) (next_number past))))
 
 -- Where a call is due, it is the one that comes.
 abbrev pub MayDue : Config → List Entry → Call → Type 0
@@ -90,14 +103,17 @@ has_place config past (Gives socket) = is_working (phase config past)
 has_place config past (Ends socket) = is_working (phase config past)
 has_place config past (Takes socket) = is_working (phase config past)
 has_place config past (Shuts socket) = is_working (phase config past) || is_over (phase config past)
+has_place config past Seeks = is_some (due config past)
 has_place config past Unbuilt = false
 
--- the longest unused of as many as may be open gives way
-abbrev pub gives_way : ℕ → Step → Bool
-gives_way socket Settled = false
-gives_way socket (NeedsRoom oldest errand) = socket == oldest
-gives_way socket (NeedsSocket errand) = false
-gives_way socket (NeedsSending number errand) = false
+-- the longest unused of as many as may be open gives way, of each kind to one of its kind
+abbrev pub gives_way : Config → ℕ → Step → Bool
+gives_way config socket (NeedsRoom oldest errand) = (socket == oldest) && not (asks_a_name config errand)
+gives_way config socket _ = false
+
+abbrev pub name_gives_way : Config → ℕ → Step → Bool
+name_gives_way config socket (NeedsRoom oldest errand) = (socket == oldest) && asks_a_name config errand
+name_gives_way config socket _ = false
 
 -- the idle life of a socket is over (RFC 4787, 4.3)
 abbrev pub is_unused : ℕ → List Entry → Bool
@@ -114,17 +130,21 @@ may_leave at b socket (Some f) =
 abbrev pub leaves : Config → List Entry → ℕ → Bool
 leaves config past socket = may_leave (scene config past) (book config past) socket (flow_of socket (book config past).flows)
 
--- Why a socket may be closed before the end, by its kind: an association gives way as the longest unused, or its idle life is over; a flow has its cause.
+-- a question was answered, or waited for long enough
+abbrev pub is_just_answered : Config → List Entry → ℕ → Bool
+is_just_answered config past socket = is_it socket (answered config past)
+
+-- Why a socket may be closed before the end, by its kind: an association, or one of a question, gives way as the longest unused of its kind, or its idle life is over; that of a question also where the answer came; a flow has its cause.
 abbrev pub may_part : Config → List Entry → ℕ → Option Kind → Bool
 may_part config past socket None = false
-may_part config past socket (Some Association) = gives_way socket (step config past) || is_unused socket past
-may_part config past socket (Some DnsSocket) = false
+may_part config past socket (Some Association) = gives_way config socket (step config past) || is_unused socket past
+may_part config past socket (Some DnsSocket) = name_gives_way config socket (step config past) || is_just_answered config past socket || has_waited config past socket
 may_part config past socket (Some Forward) = false
 may_part config past socket (Some Listener) = false
 may_part config past socket (Some Flow) = leaves config past socket
 
 abbrev pub parts : Config → List Entry → ℕ → Bool
-parts config past socket = may_part config past socket (kind_of socket past)
+parts config past socket = may_part config past socket (kind_for config socket past)
 
 -- A close that only the end allows begins the closing.
 abbrev pub begins_closing : Config → List Entry → Entry → Bool
@@ -151,6 +171,13 @@ may_close config past socket =
 abbrev pub carries : List Entry → ℕ → Bool
 carries past socket = is_among socket (open_sockets past) && is_association (kind_of socket past)
 
+-- one, or an open port of the host for datagrams that is given to a guest
+abbrev pub is_for_datagrams : Option Kind → Bool
+is_for_datagrams kind = is_association kind || is_forward kind
+
+abbrev pub relays : List Entry → ℕ → Bool
+relays past socket = is_among socket (open_sockets past) && is_for_datagrams (kind_of socket past)
+
 -- an open connection; a port of the host that is given to a guest, while there is room for a flow more
 abbrev pub joins : List Entry → ℕ → Bool
 joins past socket = is_among socket (open_sockets past) && is_flow (kind_of socket past)
@@ -165,8 +192,8 @@ has_socket config past Waits = true
 has_socket config past Reads = true
 has_socket config past (Writes octets) = true
 has_socket config past (Opens socket) = socket == next_number past
-has_socket config past (Sends socket) = carries past socket
-has_socket config past (Hears socket asked) = carries past socket && (asked == most_to_udp)
+has_socket config past (Sends socket) = relays past socket
+has_socket config past (Hears socket asked) = relays past socket && (asked == most_to_udp)
 has_socket config past (Connects socket) = socket == next_number past
 has_socket config past (Accepts listener socket) = takes_peers config past listener && (socket == next_number past)
 has_socket config past (Looks socket) = joins past socket
@@ -174,6 +201,7 @@ has_socket config past (Gives socket) = joins past socket
 has_socket config past (Ends socket) = joins past socket
 has_socket config past (Takes socket) = joins past socket
 has_socket config past (Shuts socket) = may_close config past socket
+has_socket config past Seeks = true
 has_socket config past Unbuilt = false
 
 -- the newest call wrote to this connection
@@ -198,6 +226,7 @@ is_served past (Gives socket) = writes (Tcp socket) (agenda past)
 is_served past (Ends socket) = writes (Tcp socket) (agenda past) || has_just_written socket past
 is_served past (Takes socket) = reads (Tcp socket) (agenda past)
 is_served past (Shuts socket) = true
+is_served past Seeks = true
 is_served past Unbuilt = true
 
 -- nothing is left of the frame before, nor of the answer to what came last
@@ -229,6 +258,7 @@ is_answered config past (Gives socket) = true
 is_answered config past (Ends socket) = true
 is_answered config past (Takes socket) = true
 is_answered config past (Shuts socket) = true
+is_answered config past Seeks = true
 is_answered config past Unbuilt = true
 
 -- Once the closing has begun nothing comes but that sockets are closed.

@@ -5,21 +5,24 @@ use Rattle.world_face.specs.declared.Made.{Made}
 use Rattle.world_face.specs.declared.Made.TheVariants.{Done, Failed}
 use Rattle.world_face.specs.declared.Got.{Got}
 use Rattle.world_face.specs.declared.Got.TheVariants.{From, NotYet as GotNotYet, Failed as GotFailed}
+use Rattle.net_octets.specs.declared.Endpoint.{Endpoint}
 use Rattle.host_policy.specs.Addresses.{Config}
 use Rattle.udp_assoc.specs.Associations.{most_associations, socket_of, without, moved_last, sent_from, heard_at}
 use Rattle.udp_assoc.specs.declared.assocs.Association.{Association}
+use Rattle.dns_relay.specs.declared.Question.{Question}
 use Rattle.run_laws.specs.Moments.{moment}
-use Rattle.slirp_laws.specs.Asking.{errand_left}
-use Rattle.slirp_laws.specs.Datagrams.{Errand, Step, Settled, NeedsRoom, NeedsSocket, NeedsSending}
+use Rattle.slirp_laws.specs.Errands.{errand_left}
+use Rattle.slirp_laws.specs.Names.{step_to_names}
+use Rattle.slirp_laws.specs.Datagrams.{Errand, Step, Settled, NeedsRoom, NeedsSocket, NeedsSending, asks_a_name}
 
--- a socket was opened for a datagram
+-- a socket was opened for a datagram that isn't a question to the name server
 abbrev pub association : ℕ → Errand → ℕ → Association
 association socket errand now = record { number = socket; guest = errand.datagram.from; mac = record { 0 = errand.datagram.mac }; used = now }
 
-abbrev pub with_opened : Made → ℕ → ℕ → Option Errand → List Association → List Association
-with_opened Done socket now None list = list
-with_opened Done socket now (Some errand) list = list ++ (association socket errand now ∷ [])
-with_opened Failed socket now errand list = list
+abbrev pub with_opened : Config → Made → ℕ → ℕ → Option Errand → List Association → List Association
+with_opened config Done socket now None list = list
+with_opened config Done socket now (Some errand) list = if asks_a_name config errand then list else list ++ (association socket errand now ∷ [])
+with_opened config Failed socket now errand list = list
 
 -- it was sent on
 abbrev pub with_sent : ℕ → ℕ → Option Errand → List Association → List Association
@@ -32,16 +35,16 @@ with_heard (From peer n) socket now list = moved_last (heard_at now) socket list
 with_heard GotNotYet socket now list = list
 with_heard GotFailed socket now list = list
 
-abbrev pub after_call : Entry → ℕ → Option Errand → List Association → List Association
-after_call (Close socket) now errand list = without socket list
-after_call (UdpOpen socket at answer) now errand list = with_opened answer socket now errand list
-after_call (UdpSend socket to octets answer) now errand list = with_sent socket now errand list
-after_call (UdpRecv socket asked answer octets) now errand list = with_heard answer socket now list
-after_call _ now errand list = list
+abbrev pub after_call : Config → Entry → ℕ → Option Errand → List Association → List Association
+after_call config (Close socket) now errand list = without socket list
+after_call config (UdpOpen socket at answer) now errand list = with_opened config answer socket now errand list
+after_call config (UdpSend socket to octets answer) now errand list = with_sent socket now errand list
+after_call config (UdpRecv socket asked answer octets) now errand list = with_heard answer socket now list
+after_call config _ now errand list = list
 
 abbrev pub associations : Config → List Entry → List Association
 associations config [] = []
-associations config (e ∷ past) = after_call e (moment past) (errand_left config past) (associations config past)
+associations config (e ∷ past) = after_call config e (moment past) (errand_left config past) (associations config past)
 
 -- What is asked for, as the list has it: a new socket takes the place of the longest unused one where as many are open as may be
 abbrev pub without_socket : List Association → Errand → Step
@@ -53,6 +56,14 @@ abbrev pub with_socket : Option ℕ → List Association → Errand → Step
 with_socket None associations errand = without_socket associations errand
 with_socket (Some socket) associations errand = NeedsSending socket errand
 
-abbrev pub step_for : List Association → Option Errand → Step
-step_for associations None = Settled
-step_for associations (Some errand) = with_socket (socket_of errand.datagram.from associations) associations errand
+-- where this is the first port of the host that is given to a port of a guest, it is sent on that
+abbrev pub with_forward : Option ℕ → List Association → Errand → Step
+with_forward (Some forward) associations errand = NeedsSending forward errand
+with_forward None associations errand = with_socket (socket_of errand.datagram.from associations) associations errand
+
+-- a question to the name server has a socket of its own
+abbrev pub step_for : Config → List Question → (forward : Endpoint → Option ℕ) → List Association → Option Errand → Step
+step_for config questions forward associations None = Settled
+step_for config questions forward associations (Some errand) =
+    if asks_a_name config errand then step_to_names questions errand
+    else with_forward (forward errand.datagram.from) associations errand

@@ -1,6 +1,7 @@
 -- What the laws come to, in the words of guests, their ports and their datagrams.
-use Rattle.std.specs.Prelude.{◌≡◌, ℕ, zero, suc, ◌+◌, ◌-◌, ◌%◌, ◌^◌, ◌<◌, ◌≤◌, ◌||◌, not, nat_le, Bool, true, false, List, [], ◌∷◌, drop, length, Option, Some, None, if◌then◌else◌}
-use Rattle.world_face.specs.Journal.{Entry, Connect, UdpOpen, UdpSend, UdpRecv}
+use Rattle.std.specs.Prelude.{◌≡◌, ℕ, zero, suc, ◌+◌, ◌-◌, ◌%◌, ◌^◌, ◌<◌, ◌≤◌, ◌⊎◌, Bool, true, false, List, [], ◌∷◌, drop, length, slice_get, Option, Some, None, if◌then◌else◌}
+use Rattle.world_face.specs.Frames.{goes_out}
+use Rattle.world_face.specs.Journal.{Entry, Connect, LinkWrite, UdpOpen, UdpSend, UdpRecv, IsEndpoint}
 use Rattle.world_face.specs.declared.Made.{Made}
 use Rattle.world_face.specs.declared.Made.TheVariants.{Done as MadeDone, Failed as MadeFailed}
 use Rattle.world_face.specs.declared.Sent.{Sent}
@@ -9,6 +10,7 @@ use Rattle.world_face.specs.declared.Got.{Got}
 use Rattle.world_face.specs.declared.Got.TheVariants.{From, NotYet as GotNotYet, Failed as GotFailed}
 use Rattle.net_octets.specs.declared.Endpoint.{Endpoint}
 use Rattle.net_octets.specs.Kinds.{ipv4_kind, udp_proto}
+use Rattle.host_policy.specs.declared.Forward.{Forward}
 use Rattle.host_policy.specs.declared.Proto.TheVariants.{Udp as ByUdp}
 use Rattle.host_policy.specs.declared.Verdict.TheVariants.{Go}
 use Rattle.host_policy.specs.Addresses.{Config, address, endpoint}
@@ -21,13 +23,23 @@ use Rattle.udp_assoc.specs.Udp.{Udp, udp_octets}
 use Rattle.flow_book.specs.Book.{book}
 use Rattle.flow_book.specs.Flows.{Flow, is_strange, owner}
 use Rattle.flow_book.specs.Segments.{OnTuple, asked_in, segment_in}
+use Rattle.dns_relay.specs.declared.Question.{Question}
+use Rattle.dns_relay.specs.Questions.{is_answered, numbered as numbered_question}
+use Rattle.tftp_server.specs.Asking.{by_answer}
+use Rattle.tftp_server.specs.Transfers.{Outcome, Said}
+use Rattle.slirp_laws.specs.Names.{questions}
 use Rattle.run_laws.specs.Happenings.{Arrival, happens}
 use Rattle.run_laws.specs.Moments.{moment}
-use Rattle.run_laws.specs.Packets.{Datagram, Packet}
+use Rattle.run_laws.specs.Packets.{Datagram, DatagramPacket, Packet}
+use Rattle.slirp_laws.specs.Datagrams.{Fate, ForLeases, ForFiles, fate}
 use Rattle.run_laws.specs.Sockets.{is_among}
-use Rattle.slirp_laws.specs.Answers.{Answer, IpAnswer, datagrams_out, frames_for, frames_of, identification, left, no_network, owed_for_packet, reply_for, reset_for, strays, told_about}
-use Rattle.slirp_laws.specs.Ports.{associations_open, last_datagram, last_use, mac_of, opened_for, used_at}
+use Rattle.slirp_laws.specs.Answers.{Answer, IpAnswer, Serving, begins_again, ledger, may_go_again, name_reply, serving, told_of_files, datagrams_out, frames_for, frames_of, identification, is_first, left, no_network, owed_for_packet, reply_for, reset_for, strays, told_about}
+use Rattle.slirp_laws.specs.Ports.{associations_open, last_datagram, last_use, mac_for, mac_of, opened_for, used_at}
 use Rattle.slirp_laws.specs.Sending.{is_well_sent, may_ask}
+
+-- A socket for datagrams is opened at port 0, which the host chooses: at every address of the host, or at that from which datagrams are to go out.
+abbrev pub IsFromHost : Config → Endpoint → Type 0
+IsFromHost config at = (at.port ≡ 0) × ((address at ≡ 0) ⊎ (config.outbound ≡ Some (address at)))
 
 -- A datagram that is sent is the payload, whole, of the one that came last; it goes where that one may go, on a socket that was opened for the port from which it came.
 pub record SendsWhatCame (config : Config) (past : List Entry) (socket : ℕ) (to : Endpoint) (octets : List ℕ) : Type 0 where
@@ -38,19 +50,27 @@ pub record SendsWhatCame (config : Config) (past : List Entry) (socket : ℕ) (t
   pub whole : octets ≡ datagram.body
 
 -- As many sockets of guests' ports are open as may be, and none of them was used before this one.
-pub record IsLongestUnused (socket : ℕ) (past : List Entry) : Type 0 where
-  pub full : most_associations ≤ length (associations_open past)
-  pub least : (other : ℕ) → is_among other (associations_open past) ≡ true → last_use socket past ≤ last_use other past
+pub record IsLongestUnused (config : Config) (socket : ℕ) (past : List Entry) : Type 0 where
+  pub full : most_associations ≤ length (associations_open config past)
+  pub least : (other : ℕ) → is_among other (associations_open config past) ≡ true → last_use socket past ≤ last_use other past
 
 -- the life of a socket is over that was not used for so long (RFC 4787, 4.3)
 abbrev pub IsIdle : ℕ → List Entry → Type 0
 IsIdle socket past = used_at socket past + idle_life ≤ moment past
 
+-- the datagram is for a server of ours
+abbrev pub is_for_server : Fate → Bool
+is_for_server ForLeases = true
+is_for_server ForFiles = true
+is_for_server _ = false
+
 -- What came last that an answer may be owed for: a packet of the guests, a segment among them that is no flow's or not; or a peer's datagram, on a socket; or word that the datagram of a guest that came last could get no socket, or couldn't be sent; or that the host refused the connection for which the segment asked that came last.
 pub data Occasion : Type 0 where
   NoOccasion : Occasion
-  Came : (stray : Bool) → Packet → Occasion
+  Came : Serving → (stray : Bool) → Packet → Occasion
   Heard : (socket : ℕ) (peer : Endpoint) (octets : List ℕ) → Occasion
+  HeardOfName : Question → (peer : Endpoint) (octets : List ℕ) → Occasion
+  OfFile : Said → Occasion
   Unsent : Datagram → Occasion
   Unconnected : OnTuple → Occasion
 
@@ -67,10 +87,23 @@ by_sent SentDone last before = before
 by_sent SentNotYet last before = before
 by_sent SentFailed last before = unsent_or last before
 
-abbrev pub by_got : Got → ℕ → List ℕ → Occasion → Occasion
-by_got (From peer n) socket octets before = Heard socket peer octets
-by_got GotNotYet socket octets before = before
-by_got GotFailed socket octets before = before
+abbrev pub heard_on : ℕ → Endpoint → List ℕ → Option Question → Occasion
+heard_on socket peer octets None = Heard socket peer octets
+heard_on socket peer octets (Some q) = HeardOfName q peer octets
+
+abbrev pub by_got : Got → ℕ → List ℕ → Option Question → Occasion → Occasion
+by_got (From peer n) socket octets q before = heard_on socket peer octets q
+by_got GotNotYet socket octets q before = before
+by_got GotFailed socket octets q before = before
+
+-- a file's answer made a packet, or a packet goes again
+abbrev pub by_said : Option Said → Occasion → Occasion
+by_said None before = before
+by_said (Some said) before = OfFile said
+
+abbrev pub by_outcome : Option Outcome → Occasion → Occasion
+by_outcome None before = before
+by_outcome (Some o) before = by_said o.told before
 
 abbrev pub refused_or : Option OnTuple → Occasion → Occasion
 refused_or None before = before
@@ -80,16 +113,18 @@ abbrev pub by_joined : Made → Option OnTuple → Occasion → Occasion
 by_joined MadeDone on before = before
 by_joined MadeFailed on before = refused_or on before
 
-abbrev pub by_call : Entry → Option Datagram → Option OnTuple → Occasion → Occasion
-by_call (Connect socket to answer) last on before = by_joined answer on before
-by_call (UdpOpen socket at answer) last on before = by_made answer last before
-by_call (UdpSend socket to octets answer) last on before = by_sent answer last before
-by_call (UdpRecv socket asked answer octets) last on before = by_got answer socket octets before
-by_call _ last on before = before
+abbrev pub by_call : Config → List Entry → Entry → Option Datagram → Option OnTuple → Occasion → Occasion
+by_call config past (Connect socket to answer) last on before = by_joined answer on before
+by_call config past (UdpOpen socket at answer) last on before = by_made answer last before
+by_call config past (UdpSend socket to octets answer) last on before = by_sent answer last before
+by_call config past (UdpRecv socket asked answer octets) last on before = by_got answer socket octets (numbered_question socket (questions config past)) before
+by_call config past (LinkWrite octets answer) last on before =
+    if begins_again config (identification past) (ledger config past) (goes_out (LinkWrite octets answer) past) then by_said (may_go_again (serving config past)) before else before
+by_call config past e last on before = by_outcome (by_answer (serving config past).now e (serving config past).files) before
 
 abbrev pub occasion_after : Config → Entry → List Entry → Option Arrival → Occasion → Occasion
-occasion_after config e past None before = by_call e (last_datagram config past) (book config past).came before
-occasion_after config e past (Some arrival) before = Came (strays config (book config (e ∷ past)) arrival.packet) arrival.packet
+occasion_after config e past None before = by_call config past e (last_datagram config past) (book config past).came before
+occasion_after config e past (Some arrival) before = Came (serving config past) (strays config (book config (e ∷ past)) arrival.packet) arrival.packet
 
 abbrev pub last_occasion : Config → List Entry → Occasion
 last_occasion config [] = NoOccasion
@@ -98,8 +133,10 @@ last_occasion config (e ∷ past) = occasion_after config e past (happens config
 -- what is owed for it
 abbrev pub owed_for : Config → List Entry → Occasion → List Answer
 owed_for config past NoOccasion = []
-owed_for config past (Came stray packet) = owed_for_packet config stray packet
-owed_for config past (Heard socket peer octets) = reply_for config peer octets (opened_for config socket past) (mac_of config socket past)
+owed_for config past (Came s stray packet) = owed_for_packet config s stray packet
+owed_for config past (Heard socket peer octets) = reply_for config peer octets (opened_for config socket past) (mac_for config socket past)
+owed_for config past (HeardOfName q peer octets) = name_reply config q peer octets
+owed_for config past (OfFile said) = told_of_files config (Some said)
 owed_for config past (Unsent d) = told_about config no_network d
 owed_for config past (Unconnected on) = reset_for on ∷ []
 
@@ -121,7 +158,7 @@ pub record AnswersLast (config : Config) (past : List Entry) (frame : List ℕ) 
   pub rest : List (List ℕ)
   pub is : drop out (frames_for config (identification_with out past) answer) ≡ frame ∷ rest
 
--- A frame is a flow's own: nothing is left of the answer to what came last; the frame carries a segment between the two ends of the flow, which was opened last on these, and answers no stray segment; it is written as that of a whole datagram is, with the next identification, and goes to a hardware address from which the flow's guest was learnt.
+-- A frame is a flow's own: nothing is left of the answer to what came last; the frame carries a segment between the two ends of the flow, which was opened last on these, and answers no stray segment; it is exactly the frame of that segment, in a whole datagram with the next identification, and goes to a hardware address from which the flow's guest was learnt.
 pub record IsOfFlow (config : Config) (past : List Entry) (frame : List ℕ) : Type 0 where
   pub nothing : left config past ≡ []
   pub on : OnTuple
@@ -137,6 +174,17 @@ pub record AsksForGuest (config : Config) (past : List Entry) (frame : List ℕ)
   pub guest : ℕ
   pub asked : asked_in frame ≡ Some guest
   pub may : may_ask config past frame (Some guest) ≡ true
+
+-- the ports of guests to which the settings give ports of the host are endpoints
+abbrev pub HasPorts : Config → Type 0
+HasPorts config = (n : ℕ) (f : Forward) → slice_get config.forwards n ≡ Some f → IsEndpoint f.guest
+
+-- A frame is the first of a packet of a file that wasn't acknowledged for its timeout and goes again as it was, and nothing is left of the answer to what came last.
+pub record GoesAgain (config : Config) (past : List Entry) (frame : List ℕ) : Type 0 where
+  pub nothing : left config past ≡ []
+  pub said : Said
+  pub may : may_go_again (serving config past) ≡ Some said
+  pub first : is_first frame (frames_of config (identification past) (told_of_files config (Some said))) ≡ true
 
 -- what a frame carries, as it is read: a datagram of IPv4 (RFC 894; RFC 791, 3.1)
 pub record Carries (frame : List ℕ) (ip : Ip) : Type 0 where
@@ -156,12 +204,29 @@ pub record RepliesToItsPort (config : Config) (past : List Entry) (frame : List 
   pub guest : Endpoint
   pub port : opened_for config socket past ≡ Some guest
   pub mac : List ℕ
-  pub at : mac_of config socket past ≡ Some mac
+  pub at : mac_for config socket past ≡ Some mac
   pub out : ℕ
   pub rest : List (List ℕ)
   pub is : drop out (frames_for config (identification_with out past) (IpAnswer mac udp_proto (address (shown config peer)) (address guest)
       (udp_octets (address (shown config peer)) (address guest) (record { from_port = (shown config peer).port; to_port = guest.port; body = octets }))))
       ≡ frame ∷ rest
+
+-- A frame is one of the answer to a question to the name server, to the port that asked it, and from port 53 of the name server: what was received last came on the socket of that question, from the resolver, and has its identifier. So many frames of it are out.
+pub record AnswersQuestion (config : Config) (past : List Entry) (frame : List ℕ) : Type 0 where
+  pub question : Question
+  pub peer : Endpoint
+  pub octets : List ℕ
+  pub last : last_occasion config past ≡ HeardOfName question peer octets
+  pub counts : is_answered config.resolver question peer octets ≡ true
+  pub out : ℕ
+  pub rest : List (List ℕ)
+  pub is : drop out (frames_of config (identification_with out past) (name_reply config question peer octets)) ≡ frame ∷ rest
+
+-- A frame is one of what a server of ours says: a reply to a client's message or to a packet for the server of files, which came last; what was made by an answer of a file; or a packet that goes again.
+pub data IsOfServer (config : Config) (past : List Entry) (frame : List ℕ) : Type 0 where
+  ForPacket : (s : Serving) (stray : Bool) (d : Datagram) → last_occasion config past ≡ Came s stray (DatagramPacket d) → is_for_server (fate config d) ≡ true → IsOfServer config past frame
+  ByFile : (said : Said) → last_occasion config past ≡ OfFile said → IsOfServer config past frame
+  Again : GoesAgain config past frame → IsOfServer config past frame
 
 -- The same of a frame as it is read: what it carries is what was received last, whole; it goes to the port for which the socket was opened, and from the peer as it is shown.
 pub record IsReplyToItsPort (config : Config) (past : List Entry) (ip : Ip) (udp : Udp) : Type 0 where

@@ -1,5 +1,5 @@
 -- What a pump of one flow makes is lawful, and the record has it as the flow's events.
-use Rattle.std.proofs.Common.{◌≡◌, ℕ, ◌+◌, ◌%◌, ◌^◌, ◌<◌, ◌≤◌, ◌&&◌, not, nat_lt, Bool, true, false, List, [], ◌∷◌, ◌++◌, drop, length, Option, Some, None, if◌then◌else◌, ◌⊎◌, inl, inr, refl, sym, ◌∙◌, ap, subst, arith}
+use Rattle.std.proofs.Common.{◌||◌, is_some, ◌≡◌, ℕ, ◌+◌, ◌%◌, ◌^◌, ◌<◌, ◌≤◌, ◌&&◌, not, nat_lt, Bool, true, false, List, [], ◌∷◌, ◌++◌, drop, length, Option, Some, None, if◌then◌else◌, ◌⊎◌, inl, inr, refl, sym, ◌∙◌, ap, subst, arith}
 use Rattle.std.specs.List.{list_any}
 use Rattle.std.proofs.lemmas.Bool.Decides.{nat_tests}
 use Rattle.std.proofs.lemmas.List.{drop_all}
@@ -29,7 +29,8 @@ use Rattle.flow_book.proofs.Keeping.{are_kept}
 use Rattle.flow_book.proofs.Newest.{is_newest}
 use Rattle.core_flows.specs.Only.{AreOf, IsOf}
 use Rattle.flow_splice.proofs.Restless.{open_none}
-use Rattle.slirp_laws.specs.Answers.{datagrams_in, datagrams_out, identification, left, taken, with_datagrams}
+use Rattle.flow_book.specs.Segments.{asked_in}
+use Rattle.slirp_laws.specs.Answers.{again_frames, is_first, serving, datagrams_in, datagrams_out, identification, left, taken, with_datagrams}
 use Rattle.slirp_laws.specs.Laws.{Lawful, May, is_closing}
 use Rattle.slirp_laws.specs.Sending.{ip_in, is_written}
 use Rattle.slirp_laws.proofs.Bools.{first_of, second_of}
@@ -41,15 +42,22 @@ use Rattle.flow_splice.specs.Shapes.{are_sending, is_sending, is_write, wrote}
 use Rattle.spliced_flows.specs.Stands.{HasFlow, InWork, with_beats, with_rest}
 use Rattle.spliced_flows.proofs.Calling.{after_close, may_part_then, may_shut, rests_closed, since_now}
 use Rattle.spliced_flows.proofs.ReadBack.{four_off, one_datagram, segment_back, written_back}
-use Rattle.spliced_flows.proofs.Writing.{CarriesOf, after_offer, may_write, of_offer, offered_flow}
+use Rattle.slirp_laws.proofs.Deeds.{quest_none, services_written}
+use Rattle.spliced_flows.proofs.Writing.{on_ends, CarriesOf, after_offer, may_write, of_offer, offered_flow}
 
 pub differ_in : (config : Config) (past : List Entry) → Lawful config past → Differ (book config past).flows
 differ_in config past lawful = (are_kept config past (keeps_flows config past lawful)).differ
 
--- nothing is taken away where nothing is left
-taken_none : (o : Option (List ℕ)) → taken o [] ≡ []
-taken_none None = refl
-taken_none (Some frame) = refl
+-- nothing is taken away where nothing is left, and no packet of a file begins to go again, where the frame carries a segment
+taken_none : (again : List (List ℕ)) (frame : List ℕ) (on : OnTuple) (o : Option (List ℕ)) → segment_in frame ≡ Some on → (o ≡ None) ⊎ (o ≡ Some frame) → taken o again [] ≡ []
+taken_none again frame on None carried is = refl
+taken_none again frame on (Some other) carried is = elim is [
+  | inl none ↦ cc
+  | inr some ↦ ap (λ (b : Bool). if b then drop 1 again else []) (ap (λ o. not (is_some o || is_some (asked_in other)) && is_first other again) (ap segment_in (same_frame some) ∙ carried))
+]
+  where
+    same_frame : Some other ≡ Some frame → other ≡ frame
+    same_frame is = cc
 
 counts_one : (out count : ℕ) → out % 2 ^ 16 ≡ count % 2 ^ 16 → (1 + out) % 2 ^ 16 ≡ (count + 1) % 2 ^ 16
 counts_one out count is = omega (arith, is)
@@ -152,13 +160,16 @@ module _ (config : Config) (face : Face) (to : Mac) (f : Flow) (past : List Entr
       none : tail before ≡ []
       none = sent.clear framed.1
 
+      abbrev again : List (List ℕ)
+      again = again_frames config (identification before) (serving config before)
+
       is : drop 4 octets ≡ frame
       is = ap (drop 4) offers.frame ∙ four_off (segment_frame face offers.to (ident_after ident rest) seg) ∙ ap (λ m. segment_frame face m (ident_after ident rest) seg) same
 
       carries : CarriesOf config face to seg frame before
       carries = record {
         carried = segment_back face to (ident_after ident rest) seg sized;
-        written = ap (λ n. is_written config n frame to.0 (ip_in frame)) sent.counted ∙ written_back face to (ident_after ident rest) seg config sized vhost;
+        written = ap (λ n. is_written config n frame (on_ends face to seg) (ip_in frame)) sent.counted ∙ written_back face to (ident_after ident rest) seg config sized vhost;
         learnt = sent.learnt;
       }
 
@@ -188,11 +199,11 @@ module _ (config : Config) (face : Face) (to : Mac) (f : Flow) (past : List Entr
       taken_it : (n : ℕ) → Sent (LinkWrite octets (Done n) ∷ made) (At now (Departs seg) ∷ rest)
       taken_it n = record {
         lawful = (may_offer, sent.lawful);
-        work = record { working = sent.work.working; errand = sent.work.errand; open_yet = sent.work.open_yet };
+        work = record { working = sent.work.working; errand = sent.work.errand; services = services_written config before octets (Done n) sent.work.services; open_yet = sent.work.open_yet };
         has = subst (λ m. HasFlow config face (with_event m (Departs seg) (with_beats f rest)) (LinkWrite octets (Done n) ∷ before)) sent.at (has_after (Done n));
         at = sent.at;
         of = (of_after (Done n), sent.of);
-        left = ap (taken (goes_out (LinkWrite octets (Done n)) before)) sent.left ∙ taken_none (goes_out (LinkWrite octets (Done n)) before);
+        left = ap (taken (goes_out (LinkWrite octets (Done n)) before) again) sent.left ∙ taken_none again frame (on_ends face to seg) (goes_out (LinkWrite octets (Done n)) before) carries.carried (inr (ap (λ t. opens (LinkWrite octets (Done n)) t) none ∙ ap Some is));
         clear = λ free. drop_all n octets (all_was n (length octets) free);
         counted = ident_taken n;
         learnt = sent.learnt;
@@ -209,11 +220,11 @@ module _ (config : Config) (face : Face) (to : Mac) (f : Flow) (past : List Entr
       blocked_it : Sent (LinkWrite octets NotYet ∷ made) rest
       blocked_it = record {
         lawful = (may_offer, sent.lawful);
-        work = record { working = sent.work.working; errand = sent.work.errand; open_yet = sent.work.open_yet };
+        work = record { working = sent.work.working; errand = sent.work.errand; services = services_written config before octets NotYet sent.work.services; open_yet = sent.work.open_yet };
         has = has_after NotYet;
         at = sent.at;
         of = (of_after NotYet, sent.of);
-        left = ap (taken (goes_out (LinkWrite octets NotYet) before)) sent.left ∙ taken_none (goes_out (LinkWrite octets NotYet) before);
+        left = ap (taken (goes_out (LinkWrite octets NotYet) before) again) sent.left ∙ taken_none again frame (on_ends face to seg) (goes_out (LinkWrite octets NotYet) before) carries.carried (inl (ap (λ t. opens (LinkWrite octets NotYet) t) none));
         clear = λ free. none;
         counted = ident_none;
         learnt = sent.learnt;
@@ -288,6 +299,7 @@ module _ (config : Config) (face : Face) (to : Mac) (f : Flow) (past : List Entr
         work = record {
           working = sent.work.working;
           errand = sent.work.errand;
+          services = quest_none config before sent.work.services;
           open_yet = ap (λ b. if not b then true else is_closing config before) (may_part_then config face g before sent.work sent.has cause_here open_yet) ∙ sent.work.open_yet;
         };
         has = subst (λ h. HasFlow config face h (Close face.number ∷ before)) shuts_is (after_close config face g before sent.work sent.has differ);

@@ -19,11 +19,14 @@ use Rattle.flow_laws.specs.Event.{Segment}
 use Rattle.flow_book.specs.Lots.{reset_to}
 use Rattle.flow_book.specs.Segments.{OnTuple, from_guest, segment_by, segment_in, tcp_of, to_guest, went_by, went_of}
 use Rattle.run_laws.specs.Packets.{Datagram, Packet, Unheard, ArpPacket, Message, DatagramPacket, Segment as SegmentPacket}
-use Rattle.slirp_laws.specs.Answers.{Answer, ArpAnswer, IpAnswer, arp_reply, frames_for, is_untold, left, no_network, our_mac, owed_for_fate, owed_for_icmp, owed_for_packet, owed_for_segment, part_frame, reply_for, told_about, uncut}
-use Rattle.slirp_laws.specs.Datagrams.{Fate, Ignored, Refused, GoesTo, fate}
+use Rattle.slirp_laws.specs.Answers.{Serving, answers_of, served_file, told_of_files, Answer, ArpAnswer, IpAnswer, arp_reply, frames_for, is_untold, left, no_network, our_mac, owed_for_fate, owed_for_icmp, owed_for_packet, owed_for_segment, part_frame, reply_for, told_about, uncut}
+use Rattle.slirp_laws.specs.Datagrams.{Fate, Ignored, Refused, ForLeases, ForFiles, GoesTo, fate}
+use Rattle.slirp_laws.specs.Leasing.{Sending, lease_reply}
+use Rattle.tftp_server.specs.Transfers.{Said}
+use Rattle.dns_relay.specs.Questions.{is_answered}
 use Rattle.slirp_laws.specs.Laws.{Lawful}
-use Rattle.slirp_laws.specs.Ports.{mac_of, opened_for}
-use Rattle.slirp_laws.specs.Said.{Carries, Occasion, NoOccasion, Came, Heard, Unsent, Unconnected, identification_with, last_occasion, owed_for}
+use Rattle.slirp_laws.specs.Ports.{opened_for, mac_for}
+use Rattle.slirp_laws.specs.Said.{Carries, Occasion, NoOccasion, Came, Heard, HeardOfName, OfFile, Unsent, Unconnected, identification_with, last_occasion, owed_for}
 use Rattle.slirp_laws.proofs.Beside.{carried_segment}
 use Rattle.slirp_laws.proofs.Bools.{equal, first_of, second_of}
 use Rattle.slirp_laws.proofs.Framing.{part_of_frames}
@@ -37,7 +40,7 @@ use Rattle.spliced_flows.proofs.Within.{AreEnds, EndsOf, IsTuple, ends_last, rea
 
 -- the segment that a reset answers: one that strays, or whose connection the host refused
 abbrev pub answered : Occasion → Option OnTuple
-answered (Came stray packet) = if stray then segment_by packet else None
+answered (Came s stray packet) = if stray then segment_by packet else None
 answered (Unconnected on) = Some on
 answered _ = None
 
@@ -49,9 +52,9 @@ pub record ResetOf (o : Option OnTuple) (source guest : ℕ) (body : List ℕ) :
   pub guest_end : guest ≡ address on.tuple.guest
   pub whole : body ≡ tcp_octets source guest (reset_to on.tuple on.segment)
 
--- an answer of ARP asks for nothing, and one that carries a segment carries the reset
+-- one that carries a segment carries the reset
 abbrev pub IsFor : Option OnTuple → Answer → Type 0
-IsFor o (ArpAnswer to arp) = arp.is_reply ≡ true
+IsFor o (ArpAnswer to arp) = Unit {0}
 IsFor o (IpAnswer to proto source guest body) = proto ≡ tcp_proto → ResetOf o source guest body
 
 no_message : (o : Option OnTuple) (body : List ℕ) (source guest : ℕ) → ◌≡◌ {A = ℕ} icmp_proto tcp_proto → ResetOf o source guest body
@@ -69,10 +72,21 @@ by_icmp o mac ip (another kind code) = tt
 by_told : (o : Option OnTuple) (config : Config) (code : ℕ) (d : Datagram) → AllAnswers (IsFor o) (told_about config code d)
 by_told o config code d = all_if (IsFor o) (is_untold config d) [] _ tt (no_message o _ config.vhost (address d.from), tt)
 
-by_fate : (o : Option OnTuple) (config : Config) (d : Datagram) (what : Fate) → AllAnswers (IsFor o) (owed_for_fate config d what)
-by_fate o config d Ignored = tt
-by_fate o config d Refused = by_told o config _ d
-by_fate o config d (GoesTo to) = tt
+-- what servers of ours say is no segment
+by_sendings : (o : Option OnTuple) (sendings : List Sending) → AllAnswers (IsFor o) (answers_of sendings)
+by_sendings o [] = tt
+by_sendings o (s ∷ sendings) = (no_datagram o _ _ _, by_sendings o sendings)
+
+by_files : (o : Option OnTuple) (config : Config) (said : Option Said) → AllAnswers (IsFor o) (told_of_files config said)
+by_files o config None = tt
+by_files o config (Some said) = (no_datagram o _ _ _, tt)
+
+by_fate : (o : Option OnTuple) (config : Config) (s : Serving) (d : Datagram) (what : Fate) → AllAnswers (IsFor o) (owed_for_fate config s d what)
+by_fate o config s d Ignored = tt
+by_fate o config s d Refused = by_told o config _ d
+by_fate o config s d ForLeases = by_sendings o (lease_reply config s.now s.leases d)
+by_fate o config s d ForFiles = by_files o config (served_file config s d).told
+by_fate o config s d (GoesTo to) = tt
 
 this_reset : (on : OnTuple) → ResetOf (Some on) (address on.tuple.other) (address on.tuple.guest) (tcp_octets (address on.tuple.other) (address on.tuple.guest) (reset_to on.tuple on.segment))
 this_reset on = record { on = on; is = refl; other_end = refl; guest_end = refl; whole = refl }
@@ -81,23 +95,25 @@ by_segment : (stray : Bool) (on : OnTuple) → AllAnswers (IsFor (if stray then 
 by_segment true on = ((λ is. this_reset on), tt)
 by_segment false on = tt
 
-by_packet : (config : Config) (stray : Bool) (packet : Packet) → AllAnswers (IsFor (answered (Came stray packet))) (owed_for_packet config stray packet)
-by_packet config stray Unheard = tt
-by_packet config stray (ArpPacket arp) = all_if (IsFor (if stray then None else None)) (not arp.is_reply && is_ours config arp.target) (arp_reply arp ∷ []) [] (refl, tt) tt
-by_packet config stray (Message mac ip message) =
+by_packet : (config : Config) (s : Serving) (stray : Bool) (packet : Packet) → AllAnswers (IsFor (answered (Came s stray packet))) (owed_for_packet config s stray packet)
+by_packet config s stray Unheard = tt
+by_packet config s stray (ArpPacket arp) = all_if (IsFor (if stray then None else None)) (not arp.is_reply && is_ours config arp.target) (arp_reply arp ∷ []) [] (tt, tt) tt
+by_packet config s stray (Message mac ip message) =
     all_if (IsFor (if stray then None else None)) (is_ours config ip.to) (owed_for_icmp mac ip message) [] (by_icmp (if stray then None else None) mac ip message) tt
-by_packet config stray (DatagramPacket d) = by_fate (if stray then None else None) config d (fate config d)
-by_packet config stray (SegmentPacket mac ip tcp) = by_segment stray (from_guest mac ip tcp)
+by_packet config s stray (DatagramPacket d) = by_fate (if stray then None else None) config s d (fate config d)
+by_packet config s stray (SegmentPacket mac ip tcp) = by_segment stray (from_guest mac ip tcp)
 
 by_reply : (o : Option OnTuple) (config : Config) (peer : Endpoint) (octets : List ℕ) (port : Option Endpoint) (mac : Option (List ℕ)) → AllAnswers (IsFor o) (reply_for config peer octets port mac)
 by_reply o config peer octets (Some guest) (Some mac) = all_if (IsFor o) (is_hidden config peer) [] _ tt (no_datagram o _ _ _, tt)
-by_reply o config peer octets (Some guest) None = tt
+by_reply o config peer octets (Some guest) None = all_if (IsFor o) (is_hidden config peer) [] _ tt (tt, tt)
 by_reply o config peer octets None mac = tt
 
 by_occasion : (config : Config) (past : List Entry) (o : Occasion) → AllAnswers (IsFor (answered o)) (owed_for config past o)
 by_occasion config past NoOccasion = tt
-by_occasion config past (Came stray packet) = by_packet config stray packet
-by_occasion config past (Heard socket peer octets) = by_reply None config peer octets (opened_for config socket past) (mac_of config socket past)
+by_occasion config past (Came s stray packet) = by_packet config s stray packet
+by_occasion config past (HeardOfName q peer octets) = all_if (IsFor None) (is_answered config.resolver q peer octets) _ [] (no_datagram None _ _ _, tt) tt
+by_occasion config past (OfFile said) = by_files None config (Some said)
+by_occasion config past (Heard socket peer octets) = by_reply None config peer octets (opened_for config socket past) (mac_for config socket past)
 by_occasion config past (Unsent d) = by_told None config no_network d
 by_occasion config past (Unconnected on) = ((λ is. this_reset on), tt)
 
@@ -230,8 +246,10 @@ HasEnds config past = AreEnds (answered (last_occasion config past))
 
 ends_answered : (o : Occasion) → EndsOf o → AreEnds (answered o)
 ends_answered NoOccasion is = tt
-ends_answered (Came true packet) is = is
-ends_answered (Came false packet) is = tt
+ends_answered (Came s true packet) is = is
+ends_answered (Came s false packet) is = tt
+ends_answered (HeardOfName q peer octets) is = tt
+ends_answered (OfFile said) is = tt
 ends_answered (Heard socket peer octets) is = tt
 ends_answered (Unsent d) is = tt
 ends_answered (Unconnected on) is = is

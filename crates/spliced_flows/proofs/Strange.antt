@@ -1,10 +1,7 @@
 -- A reset that is still owed as the answer to what came last is no flow's own segment, and the frames of answers leave the flows as they are.
-use Rattle.std.proofs.Common.{nat_eq, nat_lt, ◌≡◌, ℕ, ◌^◌, ◌<◌, ◌≤◌, ◌==◌, ◌&&◌, ◌||◌, not, Bool, true, false, List, [], ◌∷◌, length, drop, filter, MatchBool, Option, Some, None, option_and_then, if◌then◌else◌, ◌⊎◌, inl, inr, refl, sym, ◌∙◌, ap, subst, lit<}
-use Rattle.std.proofs.lemmas.Option.{cond_some}
+use Rattle.std.proofs.Common.{nat_eq, nat_lt, ◌≡◌, ℕ, ◌≤◌, ◌&&◌, ◌||◌, not, Bool, true, false, List, [], ◌∷◌, length, drop, filter, MatchBool, Option, Some, None, if◌then◌else◌, ◌⊎◌, inl, inr, refl, sym, ◌∙◌, ap, subst}
 use Rattle.net_octets.specs.declared.Endpoint.{Endpoint}
 use Rattle.net_octets.specs.declared.Mac.{Mac}
-use Rattle.net_octets.specs.Kinds.{arp_kind, ipv4_kind}
-use Rattle.net_octets.specs.Octets.{four_at, part, two_at}
 use Rattle.std.specs.Option.{unwrap_or}
 use Rattle.seq_space.specs.Places.{number_of}
 use Rattle.world_face.specs.Journal.{Entry, Call, Now, Wait, LinkOpen, LinkRead, LinkWrite, Connect, Connected as CallsConnected, Listen, Accept, TcpRead, TcpWrite, TcpEnd, Close, UdpOpen, UdpSend, UdpRecv, FileLen, FileRead, CallConnect}
@@ -26,23 +23,18 @@ use Rattle.host_policy.specs.Targets.{target}
 use Rattle.host_policy.specs.declared.Proto.TheVariants.{Tcp as OverTcp}
 use Rattle.host_policy.specs.declared.Verdict.{Verdict}
 use Rattle.host_policy.specs.declared.Verdict.TheVariants.{Go, Denied}
-use Rattle.arp_table.specs.Arp.{Arp, arp_octets, is_arp, read_arp}
-use Rattle.ether_frame.specs.Ether.{Ether, ether_octets, read_ether}
-use Rattle.ether_frame.proofs.Spelling.{reads as reads_frame}
-use Rattle.ipv4_head.specs.Cuts.{cut_at}
-use Rattle.ipv4_head.specs.Ip.{fragment_of, ip_octets}
-use Rattle.flow_laws.specs.Event.{Segment, Story}
+use Rattle.flow_laws.specs.Event.{AsksAddress, At, Segment, Story}
 use Rattle.flow_laws.specs.Close.{is_owed_reset, owes_reset}
 use Rattle.flow_laws.specs.Lawful.{Send, May as MayFor}
 use Rattle.flow_laws.specs.Flow.{host, is_accepted, is_closed, next_number, our_number, syn_is_out, their_number}
 use Rattle.flow_laws.specs.Host.{answered as answered_yet, sent}
 use Rattle.flow_book.specs.Book.{book, is_young, quiet, scene, turned}
-use Rattle.flow_book.specs.Doings.{Doing, comes, doing, doing_by, ended_by, goes, joined, read_by, seeks, visits, written_by}
+use Rattle.flow_book.specs.Doings.{Doing, Seeks, comes, doing, doing_by, ended_by, goes, joined, read_by, seeks, visits, written_by}
 use Rattle.flow_book.specs.Flows.{Flow, Book, Rest, Scene, flow_of, is_on, is_resting, is_strange, is_used, owner, sends, used}
 use Rattle.flow_book.specs.Laws.{MaySend, MaySendOn, MayShut, MayWrite, flow_settings}
 use Rattle.flow_book.specs.Lots.{Lot, OfFlow, Dropped, Strange, due_for_flows, is_mistaken, is_opening, is_reset, is_reset_by, is_to_many, lot_by}
 use Rattle.flow_book.specs.Said.{ConnectsAsAsked}
-use Rattle.flow_book.specs.Segments.{OnTuple, asked_by, asked_in, asked_of, from_guest, segment_by, segment_came, segment_in}
+use Rattle.flow_book.specs.Segments.{OnTuple, asked_in, from_guest, segment_by, segment_came, segment_in}
 use Rattle.flow_book.proofs.Laws.{connects_as_asked}
 use Rattle.flow_book.proofs.Newest.{is_newest}
 use Rattle.run_laws.specs.Happenings.{Arrival, happens}
@@ -50,22 +42,26 @@ use Rattle.run_laws.specs.Moments.{moment}
 use Rattle.run_laws.specs.Packets.{Datagram, Packet, Unheard, ArpPacket, Message, DatagramPacket, Segment as SegmentPacket}
 use Rattle.run_laws.specs.Sockets.{next_number as next_socket}
 use Rattle.slirp_laws.specs.Asking.{step}
-use Rattle.slirp_laws.specs.Answers.{Answer, ArpAnswer, IpAnswer, frames_for, frames_of, identification, left, left_after, our_mac, owed_for_packet, owed_for_segment, strays, taken, uncut, unsent}
+use Rattle.slirp_laws.specs.Names.{questions}
+use Rattle.dns_relay.specs.declared.Question.{Question}
+use Rattle.dns_relay.specs.Questions.{numbered}
+use Rattle.tftp_server.specs.Asking.{by_answer}
+use Rattle.tftp_server.specs.Transfers.{Outcome, Said}
+use Rattle.slirp_laws.specs.Answers.{Serving, is_flows, starts, again_frames, begins_again, is_first, is_out, ledger, left_by_file, left_by_outcome, may_go_again, serving, told_of_files, frames_of, identification, left, left_after, owed_for_packet, owed_for_segment, strays, taken, unsent}
 use Rattle.slirp_laws.specs.Datagrams.{Step, Settled, NeedsRoom, NeedsSocket, NeedsSending}
 use Rattle.slirp_laws.specs.Laws.{Lawful, May}
 use Rattle.slirp_laws.specs.Ports.{last_datagram}
-use Rattle.slirp_laws.specs.Said.{Came, identification_with, last_occasion, occasion_after, refused_or, unsent_or}
+use Rattle.slirp_laws.specs.Said.{Occasion, Came, by_outcome, by_said, heard_on, last_occasion, occasion_after, refused_or, unsent_or}
 use Rattle.slirp_laws.proofs.Bools.{first_of, second_of}
-use Rattle.slirp_laws.proofs.Framing.{arp_frame, our_six, part_of_frames}
-use Rattle.slirp_laws.proofs.Owing.{Begins, Next, Beside, next_left, none_stays, others_stay, out_by, out_six}
-use Rattle.slirp_laws.proofs.Reading.{SixAnswer}
+use Rattle.slirp_laws.proofs.Owing.{Begins, Next, Beside, none_stays, others_stay, out_by}
 use Rattle.slirp_laws.proofs.Steps.{errand_asks, errand_is}
 use Rattle.slirp_laws.proofs.Strays.{left_resets}
 use Rattle.core_flows.specs.FlowsHold.{FlowsHold, FlowsState, rests_at}
 use Rattle.core_flows.specs.Seats.{Seats}
 use Rattle.core_flows.proofs.Holding.{taught_on}
 use Rattle.spliced_flows.proofs.Meanwhile.{IsMeanwhile, is_apart, is_free, meanwhile, quiet_owes, strange_sends, told_same, unused_free}
-use Rattle.spliced_flows.proofs.Resets.{Answering, HasEnds, IsFor, answered, left_answers, owed_is}
+use Rattle.spliced_flows.proofs.Resets.{Answering, HasEnds, answered, left_answers}
+use Rattle.spliced_flows.proofs.Sought.{holds_sought}
 use Rattle.spliced_flows.proofs.Within.{AreEnds}
 use Rattle.spliced_flows.proofs.Options.{none_some, some_same, true_false}
 
@@ -192,7 +188,7 @@ module _ (config : Config) (past : List Entry) (asked : ℕ) (answer : Io) (octe
     | inr free ↦ inr (unused_free (owner on.tuple (book config (the_read ∷ past)).flows) free)
   ]
 
-  after_packet : (packet : Packet) → IsClear (book config (the_read ∷ past)).flows (answered (Came (strays config (book config (the_read ∷ past)) packet) packet))
+  after_packet : (packet : Packet) → IsClear (book config (the_read ∷ past)).flows (answered (Came (serving config past) (strays config (book config (the_read ∷ past)) packet) packet))
   after_packet Unheard = tt
   after_packet (ArpPacket arp) = tt
   after_packet (Message mac ip message) = tt
@@ -208,7 +204,7 @@ module _ (config : Config) (past : List Entry) (asked : ℕ) (answer : Io) (octe
   reads_meanwhile (Some arrival) = comes_meanwhile (segment_came (Some arrival))
 
   by_arrival : CalmIf config past → (o : Option Arrival) → AreEnds (answered (occasion_after config the_read past o (last_occasion config past)))
-      → (left_after config past (happens config past the_read) o (left config past) ≡ []) ⊎ IsClear (book config (the_read ∷ past)).flows (answered (occasion_after config the_read past o (last_occasion config past)))
+      → (left_after config past (happens config past the_read) o (ledger config past) ≡ []) ⊎ IsClear (book config (the_read ∷ past)).flows (answered (occasion_after config the_read past o (last_occasion config past)))
   by_arrival calm (Some arrival) ends = inr (after_packet arrival.packet)
   by_arrival calm None ends = elim (calm ends) [
     | inl none ↦ inl none
@@ -232,18 +228,43 @@ module _ (config : Config) (past : List Entry) (octets : List ℕ) (answer : Io)
   goes_meanwhile frame rest None is read = seeks_meanwhile (asked_in frame)
   goes_meanwhile frame rest (Some on) is read = λ f owned. strange_by config past frame rest on f fits lawful.1 ends calm is read owned
 
+  -- a packet of a file begins to go again, or what came last is as it was
+  abbrev begins : Option (List ℕ) → Bool
+  begins o = begins_again config (identification past) (ledger config past) o
+
+  abbrev last_by : Bool → Occasion
+  last_by b = if b then by_said (may_go_again (serving config past)) (last_occasion config past) else last_occasion config past
+
+  -- one that goes again answers no segment
+  again_calm : (frame : List ℕ) (o : Option Said) → is_first frame (frames_of config (identification past) (told_of_files config o)) ≡ true → IsClear (book config (the_write ∷ past)).flows (answered (by_said o (last_occasion config past)))
+  again_calm frame None is = cc
+  again_calm frame (Some said) is = tt
+
+  by_again : (frame : List ℕ) → goes_out the_write past ≡ Some frame → left config past ≡ [] → (b : Bool) → starts frame (again_frames config (identification past) (serving config past)) ≡ b → IsCalm config (the_write ∷ past)
+  by_again frame out nothing true first = inr (subst (λ b. IsClear (book config (the_write ∷ past)).flows (answered (last_by b)))
+      (sym (ap begins out ∙ ap (λ l. is_out l && starts frame (again_frames config (identification past) (serving config past))) nothing ∙ first))
+      (again_calm frame (may_go_again (serving config past)) (second_of (not (is_flows frame)) (is_first frame (again_frames config (identification past) (serving config past))) first)))
+  by_again frame out nothing false other = inl (none_stays config the_write past frame out nothing other)
+
+  -- while an answer is left none begins
+  none_begins : (frame : List ℕ) (rest : List (List ℕ)) → goes_out the_write past ≡ Some frame → left config past ≡ frame ∷ rest → last_occasion config (the_write ∷ past) ≡ last_occasion config past
+  none_begins frame rest out some = ap last_by (ap begins out ∙ ap (λ l. is_out l && starts frame (again_frames config (identification past) (serving config past))) some)
+
   by_frame : (frame : List ℕ) → goes_out the_write past ≡ Some frame → Begins config past frame → IsCalm config (the_write ∷ past)
-  by_frame frame out (Beside nothing is) = inl (none_stays config the_write past frame out nothing)
+  by_frame frame out (Beside nothing is) = by_again frame out nothing (starts frame (again_frames config (identification past) (serving config past))) refl
   by_frame frame out (Next first) = elim calm [
-    | inl none ↦ inl (none_stays config the_write past frame out none)
-    | inr clear ↦ inr (clear_on config (scene config past) (book config past) (doing config past the_write) (answered (last_occasion config past))
+    | inl none ↦ (let never : is_first frame [] ≡ true = subst (λ l. is_first frame l ≡ true) none first in cc)
+    | inr clear ↦ inr (subst (λ o. IsClear (book config (the_write ∷ past)).flows (answered o))
+        (sym (none_begins frame (left config (the_write ∷ past)) out (others_stay config the_write past frame lawful out first)))
+        (clear_on config (scene config past) (book config past) (doing config past the_write) (answered (last_occasion config past))
         (subst (λ w. IsMeanwhile (book config past) (doing_by None w the_write)) (sym out)
-        (goes_meanwhile frame (left config (the_write ∷ past)) (segment_in frame) (others_stay config the_write past frame lawful out first) refl)) clear)
+        (goes_meanwhile frame (left config (the_write ∷ past)) (segment_in frame) (others_stay config the_write past frame lawful out first) refl)) clear))
   ]
 
   by_out : (o : Option (List ℕ)) → goes_out the_write past ≡ o → IsCalm config (the_write ∷ past)
   by_out None none =
-      goes_on config the_write past (ap (λ w. taken w (left config past)) none) refl (subst (λ w. IsMeanwhile (book config past) (doing_by None w the_write)) (sym none) tt) calm
+      goes_on config the_write past (ap (λ w. taken w (again_frames config (identification past) (serving config past)) (left config past)) none) (ap last_by (ap begins none))
+      (subst (λ w. IsMeanwhile (book config past) (doing_by None w the_write)) (sym none) tt) calm
   by_out (Some frame) out = by_frame frame out (out_by config the_write past frame lawful.0 out)
 
   after_write : IsCalm config (the_write ∷ past)
@@ -279,21 +300,21 @@ visits_meanwhile b NotYetAccepted listener socket = tt
 visits_meanwhile b AcceptFailed listener socket = tt
 
 -- where a segment asked for a connection that came last, nothing is left
-none_owed : (config : Config) (b : Book) (on : OnTuple) (ident : ℕ) (packet : Packet) → is_reset config b on ≡ false → segment_by packet ≡ Some on → frames_of config ident (owed_for_packet config (strays config b packet) packet) ≡ []
-none_owed config b on ident (SegmentPacket mac ip tcp) none is =
-    ap (λ s. frames_of config ident (owed_for_segment s (from_guest mac ip tcp))) (ap (is_reset config b) (some_same (from_guest mac ip tcp) on is) ∙ none)
-none_owed config b on ident Unheard none is = cc
-none_owed config b on ident (ArpPacket arp) none is = cc
-none_owed config b on ident (Message mac ip message) none is = cc
-none_owed config b on ident (DatagramPacket d) none is = cc
+none_owed : (config : Config) (s : Serving) (b : Book) (on : OnTuple) (ident : ℕ) (packet : Packet) → is_reset config b on ≡ false → segment_by packet ≡ Some on → frames_of config ident (owed_for_packet config s (strays config b packet) packet) ≡ []
+none_owed config s b on ident (SegmentPacket mac ip tcp) none is =
+    ap (λ t. frames_of config ident (owed_for_segment t (from_guest mac ip tcp))) (ap (is_reset config b) (some_same (from_guest mac ip tcp) on is) ∙ none)
+none_owed config s b on ident Unheard none is = cc
+none_owed config s b on ident (ArpPacket arp) none is = cc
+none_owed config s b on ident (Message mac ip message) none is = cc
+none_owed config s b on ident (DatagramPacket d) none is = cc
 
 none_left : (config : Config) (past : List Entry) (on : OnTuple) → (book config past).came ≡ Some on → is_reset config (book config past) on ≡ false → left config past ≡ []
 none_left config [] on is none = cc
 none_left config (e ∷ past) on is none = by (happens config past e).came (is_newest on config e past is)
   where
-    by : (o : Option Arrival) → segment_came o ≡ Some on → left_after config past (happens config past e) o (left config past) ≡ []
+    by : (o : Option Arrival) → segment_came o ≡ Some on → left_after config past (happens config past e) o (ledger config past) ≡ []
     by None came = cc
-    by (Some arrival) came = none_owed config (book config (e ∷ past)) on (identification past) arrival.packet none came
+    by (Some arrival) came = none_owed config (serving config past) (book config (e ∷ past)) on (identification past) arrival.packet none came
 
 -- a connect follows what asked for it, directly
 after_connect : (config : Config) (past : List Entry) (socket : ℕ) (to : Endpoint) (answer : Made) → May config past (CallConnect socket to) → IsCalm config (Connect socket to answer ∷ past)
@@ -338,9 +359,68 @@ after_send config past socket to octets SentNotYet calm = calm
 after_send config past socket to octets SentFailed calm = after_unsent config past calm
 
 after_hearing : (config : Config) (past : List Entry) (socket asked : ℕ) (answer : Got) (octets : List ℕ) → CalmIf config past → CalmIf config (UdpRecv socket asked answer octets ∷ past)
-after_hearing config past socket asked (GotFrom peer n) octets calm = λ ends. inr tt
+after_hearing config past socket asked (GotFrom peer n) octets calm = λ ends. inr (by (numbered socket (questions config past)))
+  where
+    by : (q : Option Question) → IsClear (book config (UdpRecv socket asked (GotFrom peer n) octets ∷ past)).flows (answered (heard_on socket peer octets q))
+    by None = tt
+    by (Some q) = tt
 after_hearing config past socket asked GotNotYet octets calm = calm
 after_hearing config past socket asked GotFailed octets calm = calm
+
+-- with this packet that may go again
+abbrev begun_of : Config → List Entry → Option Said → Option (List ℕ) → Bool
+begun_of config past o None = false
+begun_of config past o (Some frame) = is_out (left config past) && starts frame (frames_of config (identification past) (told_of_files config o))
+
+-- something was written: a packet began to go again, or what came last is as it was
+written_calm : (config : Config) (past : List Entry) (octets : List ℕ) (answer : Io) → 28 ≤ config.mtu → Lawful config (LinkWrite octets answer ∷ past) → CalmIf config past
+    → (b : Bool) → begins_again config (identification past) (ledger config past) (goes_out (LinkWrite octets answer) past) ≡ b → CalmIf config (LinkWrite octets answer ∷ past)
+written_calm config past octets answer fits lawful calm false is = λ ends.
+    let same : last_occasion config (LinkWrite octets answer ∷ past) ≡ last_occasion config past =
+    ap (λ (b : Bool). if b then by_said (may_go_again (serving config past)) (last_occasion config past) else last_occasion config past) is in
+    let before : HasEnds config past = subst (λ o. AreEnds (answered o)) same ends in
+    after_write config past octets answer fits lawful before (calm before)
+written_calm config past octets answer fits lawful calm true is = λ ends. inr (subst (λ o. IsClear (book config (LinkWrite octets answer ∷ past)).flows (answered o)) (sym now) (clear (may_go_again (serving config past)) (goes_out (LinkWrite octets answer) past) is))
+  where
+    now : last_occasion config (LinkWrite octets answer ∷ past) ≡ by_said (may_go_again (serving config past)) (last_occasion config past)
+    now = ap (λ (b : Bool). if b then by_said (may_go_again (serving config past)) (last_occasion config past) else last_occasion config past) is
+
+    clear : (o : Option Said) (out : Option (List ℕ)) → begun_of config past o out ≡ true → IsClear (book config (LinkWrite octets answer ∷ past)).flows (answered (by_said o (last_occasion config past)))
+    clear (Some said) out is = tt
+    clear None None is = cc
+    clear None (Some frame) is = (let never : false ≡ true = sym (no_start frame (is_out (left config past))) ∙ is in cc)
+      where
+        no_start : (frame : List ℕ) (out : Bool) → (out && starts frame []) ≡ false
+        no_start frame false = refl
+        no_start frame true = by (is_flows frame)
+          where
+            by : (b : Bool) → (not b && false) ≡ false
+            by true = refl
+            by false = refl
+
+-- an answer of a file came
+after_file : (config : Config) (e : Entry) (past : List Entry) (o : Option Outcome) → by_answer (serving config past).now e (serving config past).files ≡ o
+    → left config (e ∷ past) ≡ left_by_outcome config (identification past) (by_answer (serving config past).now e (serving config past).files) (left config past)
+    → last_occasion config (e ∷ past) ≡ by_outcome (by_answer (serving config past).now e (serving config past).files) (last_occasion config past)
+    → IsMeanwhile (book config past) (doing config past e) → CalmIf config past → CalmIf config (e ∷ past)
+after_file config e past o is lefts lasts may calm = λ ends. by o is ends
+  where
+    same : by_answer (serving config past).now e (serving config past).files ≡ None → HasEnds config (e ∷ past) → IsCalm config (e ∷ past)
+    same none ends =
+        goes_on config e past (lefts ∙ ap (λ o. left_by_outcome config (identification past) o (left config past)) none) (lasts ∙ ap (λ o. by_outcome o (last_occasion config past)) none) may
+        (calm (subst (λ o. AreEnds (answered o)) (lasts ∙ ap (λ o. by_outcome o (last_occasion config past)) none) ends))
+
+    by : (o : Option Outcome) → by_answer (serving config past).now e (serving config past).files ≡ o → HasEnds config (e ∷ past) → IsCalm config (e ∷ past)
+    by None is ends = same is ends
+    by (Some outcome) is ends = by_told outcome.told refl
+      where
+        by_told : (told : Option Said) → outcome.told ≡ told → IsCalm config (e ∷ past)
+        by_told None none =
+            let same_last : last_occasion config (e ∷ past) ≡ last_occasion config past = lasts ∙ ap (λ o. by_outcome o (last_occasion config past)) is ∙ ap (λ t. by_said t (last_occasion config past)) none in
+            goes_on config e past (lefts ∙ ap (λ o. left_by_outcome config (identification past) o (left config past)) is ∙ ap (λ t. left_by_file config (identification past) t (left config past)) none) same_last may
+            (calm (subst (λ o. AreEnds (answered o)) same_last ends))
+        by_told (Some said) some =
+            inr (subst (λ o. IsClear (book config (e ∷ past)).flows (answered o)) (sym (lasts ∙ ap (λ o. by_outcome o (last_occasion config past)) is ∙ ap (λ t. by_said t (last_occasion config past)) some)) tt)
 
 -- ---- all entries
 
@@ -349,7 +429,7 @@ calm_by config (Now told) past fits lawful calm = λ ends. goes_on config (Now t
 calm_by config (Wait wants timeout answer ready) past fits lawful calm = λ ends. goes_on config (Wait wants timeout answer ready) past refl refl tt (calm ends)
 calm_by config (LinkOpen at answer) past fits lawful calm = λ ends. goes_on config (LinkOpen at answer) past refl refl tt (calm ends)
 calm_by config (LinkRead asked answer octets) past fits lawful calm = after_read config past asked answer octets calm
-calm_by config (LinkWrite octets answer) past fits lawful calm = λ ends. after_write config past octets answer fits lawful ends (calm ends)
+calm_by config (LinkWrite octets answer) past fits lawful calm = written_calm config past octets answer fits lawful calm (begins_again config (identification past) (ledger config past) (goes_out (LinkWrite octets answer) past)) refl
 calm_by config (Connect socket to answer) past fits lawful calm = λ ends. after_connect config past socket to answer lawful.0
 calm_by config (CallsConnected socket answer) past fits lawful calm = λ ends. goes_on config (CallsConnected socket answer) past refl refl (joined_apart answer) (calm ends)
 calm_by config (Listen socket at answer) past fits lawful calm = λ ends. goes_on config (Listen socket at answer) past refl refl tt (calm ends)
@@ -363,8 +443,9 @@ calm_by config (Close socket) past fits lawful calm =
 calm_by config (UdpOpen socket at answer) past fits lawful calm = after_open config past socket at answer calm
 calm_by config (UdpSend socket to octets answer) past fits lawful calm = after_send config past socket to octets answer calm
 calm_by config (UdpRecv socket asked answer octets) past fits lawful calm = after_hearing config past socket asked answer octets calm
-calm_by config (FileLen name answer) past fits lawful calm = λ ends. goes_on config (FileLen name answer) past refl refl tt (calm ends)
-calm_by config (FileRead name place asked answer octets) past fits lawful calm = λ ends. goes_on config (FileRead name place asked answer octets) past refl refl tt (calm ends)
+calm_by config (FileLen name answer) past fits lawful calm = after_file config (FileLen name answer) past (by_answer (serving config past).now (FileLen name answer) (serving config past).files) refl refl refl tt calm
+calm_by config (FileRead name place asked answer octets) past fits lawful calm =
+    after_file config (FileRead name place asked answer octets) past (by_answer (serving config past).now (FileRead name place asked answer octets) (serving config past).files) refl refl refl tt calm
 
 -- as long as anything is left of a reset that answers a segment without ACK, no flow on its tuple owes a reset
 pub is_calm : (config : Config) (past : List Entry) → 28 ≤ config.mtu → Lawful config past → HasEnds config past → IsCalm config past
@@ -377,41 +458,6 @@ is_calm config (e ∷ past) fits lawful = calm_by config e past fits lawful (is_
 pub left_strange : (config : Config) (past : List Entry) (frame : List ℕ) (rest : List (List ℕ)) (on : OnTuple) (f : Flow) → 28 ≤ config.mtu → Lawful config past → HasEnds config past → left config past ≡ frame ∷ rest → segment_in frame ≡ Some on
     → owner on.tuple (book config past).flows ≡ Some f → is_strange on.segment f ≡ true
 left_strange config past frame rest on f fits lawful ends is read owned = strange_by config past frame rest on f fits lawful ends (is_calm config past fits lawful ends) is read owned
-
--- a frame is read as it was written
-ether_back : (to from body : List ℕ) (kind : ℕ) → length to ≡ 6 → length from ≡ 6 → kind < 2 ^ 16 → read_ether (ether_octets to from kind body) ≡ Some (record { to = to; from = from; kind = kind; body = body })
-ether_back to from body kind to_six from_six fits =
-    reads_frame (ether_octets to from kind body) (record { to = to; from = from; kind = kind; body = body }) (record { to = to_six; from = from_six; kind = fits; is = refl })
-
--- one that isn't of ARP asks for no hardware address, nor does a reply
-asks_of : (frame : List ℕ) (ether : Ether) (o : Option Arp) → read_ether frame ≡ Some ether → (ether.kind == arp_kind) ≡ true → read_arp ether.body ≡ o → option_and_then asked_by o ≡ None → asked_in frame ≡ None
-asks_of frame ether o framed kind holds none =
-    ap (option_and_then asked_of) framed ∙ ap (λ (b : Bool). if b then option_and_then asked_by (read_arp ether.body) else None) kind ∙ ap (option_and_then asked_by) holds ∙ none
-
-reply_asks_none : (arp : Arp) (o : Option Arp) → arp.is_reply ≡ true → read_arp (arp_octets arp) ≡ o → option_and_then asked_by o ≡ None
-reply_asks_none arp None reply is = refl
-reply_asks_none arp (Some read) reply is =
-    let octets = arp_octets arp in
-    let found = cond_some (is_arp octets) (record { is_reply = two_at octets 6 == 2; sender_mac = part octets 8 6; sender = four_at octets 14; target_mac = part octets 18 6; target = four_at octets 24 }) read is in
-    let is_reply : read.is_reply ≡ true = ap (λ (a : Arp). a.is_reply) (sym found.1) ∙ ap (λ (b : Bool). two_at (arp_octets (record arp { is_reply = b })) 6 == 2) reply in
-    ap (λ (b : Bool). if not b then Some read.target else None) is_reply
-
-answer_asks_none : (config : Config) (ident : ℕ) (o : Option OnTuple) (a : Answer) (k : ℕ) (frame : List ℕ) (rest : List (List ℕ)) → SixAnswer a → IsFor o a → drop k (frames_for config ident a) ≡ frame ∷ rest → asked_in frame ≡ None
-answer_asks_none config ident o (ArpAnswer to arp) k frame rest six is_for is =
-    ap asked_in (arp_frame config ident to arp frame rest k is).1
-    ∙ asks_of (ether_octets to arp.sender_mac arp_kind (arp_octets arp)) (record { to = to; from = arp.sender_mac; kind = arp_kind; body = arp_octets arp }) (read_arp (arp_octets arp))
-    (ether_back to arp.sender_mac (arp_octets arp) arp_kind six.0 six.1 (lit< tt)) refl refl (reply_asks_none arp (read_arp (arp_octets arp)) is_for refl)
-answer_asks_none config ident o (IpAnswer to proto source guest body) k frame rest six is_for is =
-    let p = part_of_frames config ident to proto source guest body frame rest k is in
-    let cut = cut_at config.mtu (uncut body) k in
-    ap asked_in p.is
-    ∙ ap (option_and_then asked_of) (ether_back to (our_mac config.vhost) (ip_octets ident (fragment_of cut.more cut.place) proto source guest cut.body) ipv4_kind six (our_six config.vhost) (lit< tt))
-
--- the first frame that is left asks for none
-pub left_asks_none : (config : Config) (past : List Entry) (frame : List ℕ) (rest : List (List ℕ)) → 28 ≤ config.mtu → Lawful config past → left config past ≡ frame ∷ rest → asked_in frame ≡ None
-left_asks_none config past frame rest fits lawful is =
-    let a = next_left config past frame rest fits lawful is in
-    answer_asks_none config (identification_with a.out past) (answered (last_occasion config past)) a.answer a.out frame a.rest (out_six config past a.answer a.owed) (owed_is config past a.answer a.owed) a.is
 
 -- ---- a frame of an answer may go out, and leaves the flows as they are
 
@@ -432,52 +478,54 @@ module _ (config : Config) (past : List Entry) (frame : List ℕ) (rest : List (
       by [] = subst (λ f. MaySendOn (flow_settings config) (moment past) (book config past).flows (segment_in f)) (sym begins) (may_send_on (segment_in frame) refl)
       by (x ∷ rest) = tt
 
-  -- it is nothing to the flows
+  -- it is nothing to the flows, or asks for the hardware address of a guest
   IsSame : Doing → Type 0
   IsSame d = turned config (scene config past) d (book config past) ≡ quiet (book config past)
 
-  goes_same : (o : Option OnTuple) → segment_in frame ≡ o → IsSame (goes o None)
-  unfolding IsSame
-  goes_same None read = refl
-  goes_same (Some on) read =
-      ap (λ (flows : List Flow). record (quiet (book config past)) { flows = flows })
+  AsksForOne : Doing → Type 0
+  AsksForOne d = (guest : ℕ) × (d ≡ Seeks guest)
+
+  goes_either : (o : Option OnTuple) (asked : Option ℕ) → segment_in frame ≡ o → IsSame (goes o asked) ⊎ AsksForOne (goes o asked)
+  unfolding IsSame AsksForOne
+  goes_either None None read = inl refl
+  goes_either None (Some guest) read = inr (guest, refl)
+  goes_either (Some on) asked read = inl (ap (λ (flows : List Flow). record (quiet (book config past)) { flows = flows })
       (told_same (is_on on.tuple) (sends (moment past) on.segment) (book config past).flows
-      (λ f owned. strange_sends (moment past) on.segment f (left_strange config past frame rest on f fits lawful ends is read owned)))
+      (λ f owned. strange_sends (moment past) on.segment f (left_strange config past frame rest on f fits lawful ends is read owned))))
 
-  frame_same : IsSame (goes (segment_in frame) (asked_in frame))
-  frame_same = subst (λ asked. IsSame (goes (segment_in frame) asked)) (sym (left_asks_none config past frame rest fits lawful is)) (goes_same (segment_in frame) refl)
+  abbrev IsAnswer : Doing → Type 0
+  IsAnswer d = IsSame d ⊎ AsksForOne d
 
-  write_same : (octets : List ℕ) (answer : Io) → drop 4 octets ≡ frame → (t : List ℕ) → IsSame (doing_by None (opens_by (LinkWrite octets answer) t) (LinkWrite octets answer))
+  write_either : (octets : List ℕ) (answer : Io) → drop 4 octets ≡ frame → (t : List ℕ) → IsAnswer (doing_by None (opens_by (LinkWrite octets answer) t) (LinkWrite octets answer))
   unfolding IsSame
-  write_same octets (IoDone n) begins [] = subst (λ f. IsSame (goes (segment_in f) (asked_in f))) (sym begins) frame_same
-  write_same octets End begins [] = refl
-  write_same octets IoNotYet begins [] = refl
-  write_same octets IoFailed begins [] = refl
-  write_same octets answer begins (x ∷ rest) = refl
-
-  pub answer_quiet : (octets : List ℕ) (answer : Io) → drop 4 octets ≡ frame → book config (LinkWrite octets answer ∷ past) ≡ quiet (book config past)
-  unfolding IsSame
-  answer_quiet octets answer begins = write_same octets answer begins (tail past)
-
-  pub answer_leaves_flows : (octets : List ℕ) (answer : Io) → drop 4 octets ≡ frame → (book config (LinkWrite octets answer ∷ past)).flows ≡ (book config past).flows
-  answer_leaves_flows octets answer begins = ap (λ (b : Book). b.flows) (answer_quiet octets answer begins)
-
-  pub answer_leaves_rests : (octets : List ℕ) (answer : Io) → drop 4 octets ≡ frame → (book config (LinkWrite octets answer ∷ past)).rests ≡ (book config past).rests
-  answer_leaves_rests octets answer begins = ap (λ (b : Book). b.rests) (answer_quiet octets answer begins)
+  write_either octets (IoDone n) begins [] = subst (λ f. IsAnswer (goes (segment_in f) (asked_in f))) (sym begins) (goes_either (segment_in frame) (asked_in frame) refl)
+  write_either octets End begins [] = inl refl
+  write_either octets IoNotYet begins [] = inl refl
+  write_either octets IoFailed begins [] = inl refl
+  write_either octets answer begins (x ∷ rest) = inl refl
 
   -- and the slots go on to stand for the flows
   module _ {P : Type 0} (number : P → ℕ) (mac : P → Option Mac) (F : P → Story → Type 0) (state : FlowsState P) (aged : Bool) (task : Option Call) where
-    pub holds_answered : (octets : List ℕ) (answer : Io) → drop 4 octets ≡ frame → FlowsHold number mac F config aged task state past → FlowsHold number mac F config aged None state (LinkWrite octets answer ∷ past)
-    holds_answered octets answer begins holds =
-        let e = LinkWrite octets answer in
-        let new = answer_quiet octets answer begins in
+    holds_quiet : (e : Entry) → book config (e ∷ past) ≡ quiet (book config past) → next_socket (e ∷ past) ≡ next_socket past → moment (e ∷ past) ≡ moment past
+        → FlowsHold number mac F config aged task state past → FlowsHold number mac F config aged None state (e ∷ past)
+    holds_quiet e new next at holds =
         let flows_are : (book config (e ∷ past)).flows ≡ (book config past).flows = ap (λ (b : Book). b.flows) new in
-        let rests_are : rests_at aged config (e ∷ past) ≡ rests_at aged config past = ap (λ (b : Book). if aged then filter (is_young (moment past)) b.rests else b.rests) new in
+        let rests_are : rests_at aged config (e ∷ past) ≡ rests_at aged config past =
+        ap (λ (b : Book). if aged then filter (is_young (moment (e ∷ past))) b.rests else b.rests) new ∙ ap (λ (m : ℕ). if aged then filter (is_young m) (book config past).rests else (book config past).rests) at in
         record {
-          seats = subst (λ (r : List Rest). Seats number F state.table state.parts (next_socket past) (book config (e ∷ past)).flows r) (sym rests_are)
-              (subst (λ (l : List Flow). Seats number F state.table state.parts (next_socket past) l (rests_at aged config past)) (sym flows_are) holds.seats);
+          seats = subst (λ (n : ℕ). Seats number F state.table state.parts n (book config (e ∷ past)).flows (rests_at aged config (e ∷ past))) (sym next)
+              (subst (λ (r : List Rest). Seats number F state.table state.parts (next_socket past) (book config (e ∷ past)).flows r) (sym rests_are)
+              (subst (λ (l : List Flow). Seats number F state.table state.parts (next_socket past) l (rests_at aged config past)) (sym flows_are) holds.seats));
           slots = holds.slots;
           opened = ap (λ (l : List Flow). length l) flows_are ∙ holds.opened;
-          asked = ap (λ b. due_for_flows config b (next_socket past)) new;
+          asked = ap (λ b. due_for_flows config b (next_socket (e ∷ past))) new;
           learnt = λ k p f m at found is_mac. taught_on config past (e ∷ []) (f.tuple.guest.addr, m) (holds.learnt k p f m at (ap (flow_of (number p)) (sym flows_are) ∙ found) is_mac);
         }
+
+    pub holds_answered : ((p : P) (story : Story) → F p story → F p (At (moment past) AsksAddress ∷ story)) → (octets : List ℕ) (answer : Io) → drop 4 octets ≡ frame → FlowsHold number mac F config aged task state past
+        → FlowsHold number mac F config aged None state (LinkWrite octets answer ∷ past)
+    unfolding IsSame AsksForOne
+    holds_answered on octets answer begins holds = elim (write_either octets answer begins (tail past)) [
+      | inl same ↦ holds_quiet (LinkWrite octets answer) same refl refl holds
+      | inr one ↦ holds_sought number mac F config aged task state past (LinkWrite octets answer) one.0 holds on one.1 refl refl
+    ]

@@ -45,4 +45,4 @@ invariant_of-self-else-flow_is_first g c =
     let i = c.self.inside in
     let closing = c.close_first-else-flow_is_first in
     let makes = closing.ensures.closes in
-    (below_first i.number closing.result i.associations.list closing.new.self.list makes.made makes.holds c.self.invariant.0, c.self.invariant.1, closing.ensures.bind ∙ c.self.invariant.2, c.self.invariant.3)
+    (below_first i.number closing.result i.associations.list closing.new.self.list makes.made makes.holds c.self.invariant.0, c.self.invariant.1, closing.ensures.bind ∙ c.self.invariant.2, c.self.invariant.3, c.self.invariant.4, c.self.invariant.5)

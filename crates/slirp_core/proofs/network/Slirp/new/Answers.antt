@@ -1,4 +1,5 @@
-use Rattle.std.proofs.Common.{◌≡◌, ◌<◌, ◌≤◌, All, None, replicate, sym, ◌∙◌, ap, subst, arith}
+use Rattle.std.proofs.Common.{ℕ, ◌≡◌, ◌<◌, ◌≤◌, All, None, length, replicate, sym, ◌∙◌, ap, subst, arith}
+use Rattle.std.proofs.lemmas.List.{length-replicate}
 use Rattle.std.proofs.lemmas.List.Elements.{All-nil}
 use Rattle.host_policy.specs.Settings.{settings}
 use Rattle.flow_table.specs.Slots.{all_free}
@@ -37,4 +38,6 @@ invariant_of-result c =
       omega arith,
       ap (λ (s : AssocsState). s.bind) c.new-3.ensures,
       subst (AreDrawn 0) (sym flows) (drawn_none config (flows_between config c.requires).1),
+      c.new-4.ensures.config ∙ sym c.new.ensures,
+      ap length (c.in-Ok.ensures.items_if_clones_equal (λ y is. is)) ∙ length-replicate {A = ℕ} 1024 0,
     )

@@ -2,9 +2,8 @@ use Rattle.std.proofs.Common.{ℕ, ◌≤◌, ◌+◌, ◌++◌, Some, None, sym
 use Rattle.world_face.specs.Tells.{Brings}
 use Rattle.slirp_core.proofs.Telling.{brings_allowed}
 use Rattle.udp_assoc.specs.Relays.{Relays}
-use Rattle.slirp_laws.specs.Relayed.{step_for}
 use Rattle.slirp_core.specs.Datagrams.{errand_of}
-use Rattle.slirp_core.specs.Holds.{HoldsAt, Holds, flowing}
+use Rattle.slirp_core.specs.Holds.{asked_by, HoldsAt, Holds, flowing}
 use Rattle.slirp_core.specs.Replies.{outbound_of}
 use Rattle.slirp_core.specs.State.{SlirpState}
 use Rattle.slirp_core.proofs.Associating.{below_relayed, counts_up, draws_up, relayed}
@@ -14,9 +13,9 @@ use Rattle.slirp_core.proofs.network.Slirp.relay.Goals as goal
 pub returns-clause-makes : goal.returns-clause-makes
 returns-clause-makes g c config at aged link =
     let i = c.self.inside in
-    let slirp : SlirpState = record { config = i.policy; known = i.guests; sent = i.sent; pending = i.outgoing; moment = i.moment; number = i.number; associations = i.associations.list; parts = i.reasm; flows = i.flows } in
+    let slirp : SlirpState = record { config = i.policy; known = i.guests; sent = i.sent; pending = i.outgoing; moment = i.moment; number = i.number; associations = i.associations.list; parts = i.reasm; flows = i.flows; leases = i.leases.leases } in
     let errand = errand_of c.args.errand.now in
-    subst (λ (s : SlirpState). Brings (g.W.World.tells c.args.world.now) (g.W.World.tells c.guest-reply.new.world) (HoldsAt config at (step_for s.associations (Some errand)) s (flowing aged s.flows) link) (Holds config at c.tell.new.self (flowing aged c.tell.new.self.flows) link)) c.self.view_is
+    subst (λ (s : SlirpState). Brings (g.W.World.tells c.args.world.now) (g.W.World.tells c.guest-reply.new.world) (HoldsAt config at (asked_by config s.associations (Some errand)) s (flowing aged s.flows) link) (Holds config at c.tell.new.self (flowing aged c.tell.new.self.flows) link)) c.self.view_is
     (brings_allowed c.guest-reply.ensures.relays (λ made relays allowed past holds.
     subst (λ (s : SlirpState). Holds config at s (flowing aged s.flows) link (made ++ past)) (sym c.tell.ensures)
     (relayed config at (flowing aged i.flows) link slirp past errand c.guest-reply.new.number c.guest-reply.new.self.list c.guest-reply.result made
@@ -36,4 +35,4 @@ invariant_of-self g c =
     let i = c.self.inside in
     let errand = errand_of c.args.errand.now in
     let makes = c.guest-reply.ensures.relays in
-    (below_relayed i.associations.bind errand i.moment i.number c.guest-reply.new.number i.associations.list c.guest-reply.new.self.list c.guest-reply.result makes.made makes.holds c.self.invariant.0, c.self.invariant.1, c.guest-reply.ensures.bind ∙ c.self.invariant.2, drawn_up i.number c.guest-reply.new.number i.flows (draws_up i.associations.bind errand i.moment i.number c.guest-reply.new.number i.associations.list c.guest-reply.new.self.list c.guest-reply.result makes.made makes.holds) c.self.invariant.3)
+    (below_relayed i.associations.bind errand i.moment i.number c.guest-reply.new.number i.associations.list c.guest-reply.new.self.list c.guest-reply.result makes.made makes.holds c.self.invariant.0, c.self.invariant.1, c.guest-reply.ensures.bind ∙ c.self.invariant.2, drawn_up i.number c.guest-reply.new.number i.flows (draws_up i.associations.bind errand i.moment i.number c.guest-reply.new.number i.associations.list c.guest-reply.new.self.list c.guest-reply.result makes.made makes.holds) c.self.invariant.3, c.self.invariant.4, c.self.invariant.5)

@@ -1,0 +1,300 @@
+// Sockets of the host.
+use crate::asker::{Asker, here, is_answered};
+use net_world::NetWorld;
+use poll_list::{ReadyList, Want, Wants, Who};
+use std::alloc::Global;
+use std::fs::Files;
+use std::io::{Read, Write};
+use std::net::{Net, SocketAddr, TcpListener, TcpStream, UdpSocket};
+use std::sync::Wait;
+use std::test::Fail;
+use std::time::Clock;
+use world_face::{Accepted, Endpoint, Got, Io, Ip4, Joined, Made, Sent, Waited, World};
+
+const WRITING: Want = Want {
+    of: Who::Tcp(7),
+    read: false,
+    write: true,
+};
+
+const READING: Want = Want {
+    of: Who::Tcp(7),
+    read: true,
+    write: false,
+};
+
+const LISTENER: Want = Want {
+    of: Who::Listener(5),
+    read: true,
+    write: false,
+};
+
+const DATAGRAMS: Want = Want {
+    of: Who::Udp(3),
+    read: true,
+    write: false,
+};
+
+const FIRST: Want = Want {
+    of: Who::Udp(2),
+    read: true,
+    write: false,
+};
+
+const SENDING: Want = Want {
+    of: Who::Udp(6),
+    read: false,
+    write: true,
+};
+
+const LAST: Want = Want {
+    of: Who::Udp(9),
+    read: true,
+    write: false,
+};
+
+/// A datagram goes out and its answer comes, once.
+fn exchanges_datagrams<W: World>(
+    asker: &mut Asker,
+    world: &mut W,
+    peer: &UdpSocket,
+    port: u16,
+) -> bool {
+    let mut into = [0u8; 16];
+    let anywhere = Endpoint {
+        addr: Ip4(0),
+        port: 0,
+    };
+    if world.udp_open(3, anywhere) != Made::Done
+        || world.udp_open(3, anywhere) != Made::Failed
+        || world.udp_send(3, here(port), b"ask") != Sent::Done
+    {
+        return false;
+    }
+    let answered = match peer.recv_from(&mut into) {
+        Ok((3, sender)) => peer.send_to(b"answer", sender).is_ok()
+            && peer.send_to(b"", sender).is_ok(),
+        _ => false,
+    };
+    let came = answered
+        && asker.is_ready(world, DATAGRAMS, 1000)
+        && matches!(world.udp_recv(3, &mut into), Got::From(from, 6) if from == here(port))
+        && into[..6].starts_with(b"answer")
+        && asker.is_ready(world, DATAGRAMS, 1000)
+        && matches!(world.udp_recv(3, &mut into), Got::From(_, 0))
+        && world.udp_recv(3, &mut into) == Got::NotYet
+        && !asker.is_ready(world, DATAGRAMS, 0);
+    world.close(3);
+    came && world.udp_recv(3, &mut into) == Got::Failed
+        && world.udp_send(3, here(port), b"ask") == Sent::Failed
+}
+
+/// Datagrams go both ways.
+pub fn exchange<
+    R: Net<Listener = TcpListener, Stream = TcpStream> + Wait + Files + Clock + Alloc<A = Global>,
+>(rt: &R) -> Result<bool, Fail> {
+    let mut asker = Asker::open(rt.alloc())?;
+    let mut world = NetWorld::open(rt, rt.alloc())?;
+    let peer = UdpSocket::bind(rt, "127.0.0.1:0")?;
+    let port = peer.local_addr()?.port();
+    Ok(exchanges_datagrams(&mut asker, &mut world, &peer, port))
+}
+
+/// A connection is made, and octets go both ways until each side has ended.
+fn connects<W: World>(asker: &mut Asker, world: &mut W, host: &TcpListener, port: u16) -> bool {
+    let mut into = [0u8; 8];
+    if world.connect(7, here(port)) != Made::Done
+        || !asker.is_ready(world, WRITING, 1000)
+        || world.connected(7) != Joined::Yes
+        || world.tcp_write(7, b"abc") != Io::Done(3)
+    {
+        return false;
+    }
+    let Ok((mut far, _)) = host.accept() else {
+        return false;
+    };
+    if !matches!(far.read(&mut into), Ok(3)) || far.write_all(b"defg").is_err() {
+        return false;
+    }
+    if !asker.is_ready(world, READING, 1000)
+        || world.tcp_read(7, &mut into) != Io::Done(4)
+        || world.tcp_read(7, &mut into) != Io::NotYet
+        || world.tcp_end(7) != Made::Done
+        || !matches!(far.read(&mut into), Ok(0))
+    {
+        return false;
+    }
+    drop(far);
+    let ended = asker.is_ready(world, READING, 1000) && world.tcp_read(7, &mut into) == Io::End;
+    world.close(7);
+    ended && world.tcp_write(7, b"x") == Io::Failed
+}
+
+/// Nobody listens there.
+fn is_refused<W: World>(asker: &mut Asker, world: &mut W, port: u16) -> bool {
+    world.connect(7, here(port)) == Made::Done
+        && asker.is_ready(world, WRITING, 1000)
+        && world.connected(7) == Joined::Failed
+}
+
+/// A peer that reads nothing makes writes short and then not yet; once it has read, octets are taken again. A peer that goes with octets unread resets the connection.
+fn backs_up_and_breaks<W: World>(
+    asker: &mut Asker,
+    world: &mut W,
+    host: &TcpListener,
+    port: u16,
+) -> bool {
+    if world.connect(7, here(port)) != Made::Done
+        || !asker.is_ready(world, WRITING, 1000)
+        || world.connected(7) != Joined::Yes
+    {
+        return false;
+    }
+    let Ok((mut far, _)) = host.accept() else {
+        return false;
+    };
+    let piece = [7u8; 16_384];
+    let mut sent = 0u64;
+    for _ in 0..10_000u32 {
+        match world.tcp_write(7, &piece) {
+            Io::Done(count) => sent = sent.saturating_add(count as u64),
+            Io::NotYet => break,
+            _ => return false,
+        }
+    }
+    if sent < 16_384 || asker.is_ready(world, WRITING, 0) {
+        return false;
+    }
+    let mut came = 0u64;
+    let mut into = [0u8; 16_384];
+    for _ in 0..100_000u32 {
+        match far.read(&mut into) {
+            Ok(count) if count > 0 => came = came.saturating_add(count as u64),
+            _ => return false,
+        }
+        if came == sent {
+            break;
+        }
+    }
+    let again = came == sent
+        && asker.is_ready(world, WRITING, 1000)
+        && world.tcp_write(7, b"unread") == Io::Done(6);
+    drop(far);
+    again && asker.is_ready(world, READING, 1000) && world.tcp_read(7, &mut into) == Io::Failed
+}
+
+/// Connections are made, back up, break and are refused.
+pub fn connect<
+    R: Net<Listener = TcpListener, Stream = TcpStream> + Wait + Files + Clock + Alloc<A = Global>,
+>(rt: &R) -> Result<bool, Fail> {
+    let mut asker = Asker::open(rt.alloc())?;
+    let mut world = NetWorld::open(rt, rt.alloc())?;
+    let host = TcpListener::bind(rt, "127.0.0.1:0")?;
+    let port = host.local_addr()?.port();
+    let made = connects(&mut asker, &mut world, &host, port);
+    let broken = backs_up_and_breaks(&mut asker, &mut world, &host, port);
+    world.close(7);
+    drop(host);
+    Ok(made && broken && is_refused(&mut asker, &mut world, port))
+}
+
+/// A connection is taken from a listener, which then has none.
+fn accepts<W: World>(asker: &mut Asker, world: &mut W) -> bool {
+    asker.is_ready(world, LISTENER, 1000)
+        && matches!(world.accept(5, 7), Accepted::From(_))
+        && world.accept(5, 8) == Accepted::NotYet
+        && !asker.is_ready(world, LISTENER, 0)
+        && world.tcp_write(7, b"abc") == Io::Done(3)
+}
+
+/// Where no descriptor or no place is left a socket isn't opened, and a connection isn't accepted; its listener isn't told again before something was closed.
+fn meets_the_limit<W: World>(asker: &mut Asker, world: &mut W) -> bool {
+    let mut last = 0u64;
+    for number in 100..6100u64 {
+        if world.udp_open(number, here(0)) != Made::Done {
+            break;
+        }
+        last = number;
+    }
+    if last == 0 || last == 6099 {
+        return false;
+    }
+    let refused = asker.is_ready(world, LISTENER, 1000)
+        && world.accept(5, 7) == Accepted::Failed
+        && !asker.is_ready(world, LISTENER, 0)
+        && world.connect(7, here(9)) == Made::Failed;
+    world.close(100);
+    refused
+        && asker.is_ready(world, LISTENER, 1000)
+        && matches!(world.accept(5, 7), Accepted::From(_))
+}
+
+/// A connection is accepted, and another once there is a descriptor for it.
+pub fn accept<
+    R: Net<Listener = TcpListener, Stream = TcpStream> + Wait + Files + Clock + Alloc<A = Global>,
+>(rt: &R) -> Result<bool, Fail> {
+    let mut asker = Asker::open(rt.alloc())?;
+    let mut world = NetWorld::open(rt, rt.alloc())?;
+    let free = TcpListener::bind(rt, "127.0.0.1:0")?;
+    let port = free.local_addr()?.port();
+    drop(free);
+    if world.listen(5, here(port)) != Made::Done || world.listen(6, here(port)) != Made::Failed {
+        return Ok(false);
+    }
+    let mut far = TcpStream::connect(rt, SocketAddr::from(([127, 0, 0, 1], port)))?;
+    let accepted = accepts(&mut asker, &mut world);
+    let mut into = [0u8; 4];
+    let came = far.read(&mut into)? == 3;
+    world.close(7);
+    let _other = TcpStream::connect(rt, SocketAddr::from(([127, 0, 0, 1], port)))?;
+    Ok(accepted && came && meets_the_limit(&mut asker, &mut world))
+}
+
+/// The system tells once that a connection is ready for writing. While it isn't wanted for that it isn't told, and once it is wanted it is, alone and beside what is ready for reading; of that exactly what is wanted is told, in the order of the wants.
+fn is_told_once_wanted<W: World>(
+    alloc: Global,
+    asker: &mut Asker,
+    world: &mut W,
+    far: &UdpSocket,
+    port: u16,
+) -> bool {
+    let (Ok(mut wants), Ok(mut ready)) = (Wants::open(alloc, 4), ReadyList::open(alloc, 5155))
+    else {
+        return false;
+    };
+    if world.connected(7) != Joined::Yes
+        || asker.is_ready(world, READING, 10)
+        || asker.is_ready(world, READING, 10)
+        || !asker.is_ready(world, WRITING, 0)
+    {
+        return false;
+    }
+    for number in [9u64, 4, 6, 2] {
+        if !is_answered(asker, world, far, port, number) {
+            return false;
+        }
+    }
+    wants.add(FIRST);
+    wants.add(SENDING);
+    wants.add(LAST);
+    wants.add(WRITING);
+    let told = [FIRST, LAST, WRITING];
+    world.wait(&wants, Some(1000), &mut ready) == Waited::Ready && ready.items() == told.as_slice()
+}
+
+/// What is wanted is told, once it is wanted.
+pub fn tell_what_is_wanted<
+    R: Net<Listener = TcpListener, Stream = TcpStream> + Wait + Files + Clock + Alloc<A = Global>,
+>(rt: &R) -> Result<bool, Fail> {
+    let mut asker = Asker::open(rt.alloc())?;
+    let mut world = NetWorld::open(rt, rt.alloc())?;
+    let host = TcpListener::bind(rt, "127.0.0.1:0")?;
+    let host_port = host.local_addr()?.port();
+    let far = UdpSocket::bind(rt, "127.0.0.1:0")?;
+    let port = far.local_addr()?.port();
+    Ok(
+        world.connect(7, here(host_port)) == Made::Done
+            && asker.is_ready(&mut world, WRITING, 1000)
+            && is_told_once_wanted(rt.alloc(), &mut asker, &mut world, &far, port),
+    )
+}

@@ -1,0 +1,22 @@
+-- What the core makes of datagrams for its server of leases.
+use Rattle.std.specs.Prelude.{}
+use Rattle.dhcp_server.specs.Serving.{leases_after}
+use Rattle.run_laws.specs.Packets.{Datagram}
+use Rattle.slirp_laws.specs.Answers.{answers_of, frames_of, owed_for_datagram}
+use Rattle.slirp_laws.specs.Datagrams.{fate}
+use Rattle.slirp_laws.specs.Leasing.{lease_reply, leases_by_fate}
+use Rattle.slirp_core.specs.State.{SlirpState, serving_of}
+
+-- the network once a message of a client is taken in
+abbrev pub after_message : SlirpState → Datagram → SlirpState
+after_message s d = record s {
+  pending = frames_of s.config s.sent (answers_of (lease_reply s.config s.moment s.leases d));
+  leases = leases_after s.config s.moment d.body s.leases;
+}
+
+-- and once any datagram of UDP is
+abbrev pub after_udp : SlirpState → Datagram → SlirpState
+after_udp s d = record s {
+  pending = frames_of s.config s.sent (owed_for_datagram s.config (serving_of s) d);
+  leases = leases_by_fate s.config s.moment d (fate s.config d) s.leases;
+}

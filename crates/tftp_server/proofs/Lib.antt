@@ -1,0 +1,16 @@
+mod Agreeing
+mod Beginning
+mod Bringing
+mod Cutting
+mod Following
+mod Keeping
+mod Knowing
+mod Listing
+mod Naming
+mod Numbering
+mod Reading
+mod Repeating
+mod Serving
+mod Staying
+mod Timing
+mod Writing

@@ -1,0 +1,28 @@
+//! One transfer, as it is kept.
+ghost use Rattle.std.specs.Prelude.{◌≡◌, ◌≤◌, ◌*◌, false};
+
+use crate::{MOST_NAME, MOST_PACKET};
+use arrayvec::{ArrayString, ArrayVec};
+use net_octets::{Endpoint, Mac};
+
+/// A file that a port of a guest gets: the port, and the hardware address from which its request came; the name and the length of the file; the octets of a
+/// block and the timeout in milliseconds; the block that was sent last, counted on, 0 for the options; whether it is the file's last, and its packet; how often
+/// this went again, and the moment at which it is due to go again.
+#[derive(Drop)]
+pub(crate) struct Row {
+    pub guest: Endpoint,
+    pub mac: Mac,
+    pub name: ArrayString<MOST_NAME>,
+    pub length: u64,
+    pub size: u16,
+    pub timeout: u64,
+    pub block: u64,
+    pub is_last: bool,
+    pub packet: ArrayVec<u8, MOST_PACKET>,
+    pub again: u8,
+    pub due: u64,
+    ghost least: { 8 ≤ size },
+    ghost most: { size ≤ 1468 },
+    ghost waits: { timeout ≤ 255000 },
+    ghost within: { is_last ≡ false → block * size ≤ length },
+}
