@@ -406,6 +406,3 @@ impl Spliced {
         }
     }
 }
-
-#[cfg(test)]
-mod tests;

@@ -9,6 +9,3 @@ mod reasm;
 
 pub use cutting::{cut, cuts_join};
 pub use reasm::{Added, Reasm, freed_datagram_leaves, parts_join_to_one_body};
-
-#[cfg(test)]
-mod tests;

@@ -17,8 +17,6 @@
 mod line;
 mod options;
 mod settings;
-#[cfg(test)]
-mod tests;
 mod values;
 
 ghost use Rattle.std.specs.Prelude.{◌≡◌, ℕ, List, Err, IfErr, IfOk, OnErr, None, Some, codes, map, ◌∷◌, ◌<◌, ◌≤◌, length, option_copied};

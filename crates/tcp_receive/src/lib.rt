@@ -221,27 +221,3 @@ fn from_place(octets: &[u8], place: i64, taken: u64) -> &[u8]
     let skip = ((at - place) as usize).min(octets.len());
     &octets[skip..]
 }
-
-#[cfg(test)]
-mod tests {
-    use super::*;
-    use std::test::Fail;
-
-    #[test]
-    fn each_call(rt: HostRuntime) -> Result<(), Fail> {
-        let mut up = Up::open(rt.alloc(), 65_535)?;
-        let mut receive = Receive::new(Seq(0xFFFF_FFFB));
-        let took = receive.arrive(&mut up, Seq(0xFFFF_FFFC), b"twelve octet", true);
-        assert_eq!(rt;
-            took,
-            Took {
-                octets: 12,
-                fin: true,
-                ack_owed: true
-            }
-        );
-        assert_eq!(rt; (receive.taken(), receive.ended()), (12, true));
-        assert_eq!(rt; receive.expected(), Seq(9));
-        Ok(())
-    }
-}

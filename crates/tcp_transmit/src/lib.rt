@@ -705,6 +705,3 @@ fn is_newer(window: Option<Window>, seq: Seq, acked: u64) -> bool
         None => true,
     }
 }
-
-#[cfg(test)]
-mod tests;
