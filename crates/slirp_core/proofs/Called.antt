@@ -225,17 +225,18 @@ told_rising config count slirp kept new link past made few ticks idle holds = by
 
 -- nothing is left of an answer
 pub sendable : (config : Config) (at : Standing) (slirp : SlirpState) (f : Flowing) (link : LinkState) (past : List Entry) → slirp.pending ≡ [] → InTurn config past → Holds config at slirp f link past
-    → Sendable config slirp.moment f.aged f.kept link slirp.sent past
+    → Sendable config slirp.moment f.aged slirp.known f.kept link slirp.sent past
 sendable config at slirp f link past none turn holds = record {
   between = between config at slirp f link past turn holds;
   keeps = holds.keeps;
   nothing = holds.answers.pending ∙ none;
   counted = holds.answers.sent;
+  knows = holds.guests.known;
 }
 
 module _ (config : Config) (at : Standing) (slirp : SlirpState) (f : Flowing) (link next : LinkState) (past made : List Entry) (new : Kept) (last : ℕ) (none : slirp.pending ≡ []) (allowed : AreAllowed made) (turn : InTurn config past) (holds : Holds config at slirp f link past) where
   -- they were taken, or the link is blocked
-  went_on : Sendable config slirp.moment f.aged new next last (made ++ past) → next_number (made ++ past) ≡ next_number past → LeavesOthers config past made → agenda (made ++ past) ≡ agenda past
+  went_on : Sendable config slirp.moment f.aged slirp.known new next last (made ++ past) → next_number (made ++ past) ≡ next_number past → LeavesOthers config past made → agenda (made ++ past) ≡ agenda past
       → Holds config at (record slirp { sent = last }) (flowing f.aged new) next (made ++ past)
   went_on then_is same others reported =
       let guests = guests_left config slirp past made (then_is.between.at ∙ sym holds.clock.moment) others holds.guests in
@@ -268,14 +269,14 @@ module _ (config : Config) (at : Standing) (slirp : SlirpState) (f : Flowing) (l
   }
 
   -- the flows were pumped
-  pub pumped : (result : PumpedFlows) → Pumps slirp.moment f.kept new link next slirp.sent last result made → AfterPump (pumped_flows result) config at (record slirp { sent = last }) (flowing f.aged new) next (made ++ past)
+  pub pumped : (result : PumpedFlows) → Pumps slirp.moment slirp.known f.kept new link next slirp.sent last result made → AfterPump (pumped_flows result) config at (record slirp { sent = last }) (flowing f.aged new) next (made ++ past)
   pumped Clear pumps = let then_is = pumps config f.aged past (sendable config at slirp f link past none turn holds) in went_on then_is.0 then_is.1 then_is.2 then_is.3
   pumped Blocked pumps = let then_is = pumps config f.aged past (sendable config at slirp f link past none turn holds) in went_on then_is.0 then_is.1 then_is.2 then_is.3
   pumped Failed pumps = let then_is = pumps config f.aged past (sendable config at slirp f link past none turn holds) in broke then_is.0 then_is.2
 
 -- the flows of a turn were pumped, or of none
 pub pumped_so : (config : Config) (at : Standing) (slirp : SlirpState) (aged : Bool) (kept new : Kept) (link next : LinkState) (past made : List Entry) (last : ℕ) (result : PumpedFlows) → slirp.pending ≡ [] → AreAllowed made
-    → Pumps slirp.moment kept new link next slirp.sent last result made → IsIdlePump kept new link next slirp.sent last result made → Holds config at slirp (flowing aged kept) link past
+    → Pumps slirp.moment slirp.known kept new link next slirp.sent last result made → IsIdlePump kept new link next slirp.sent last result made → Holds config at slirp (flowing aged kept) link past
     → AfterPump (pumped_flows result) config at (record slirp { sent = last }) (flowing aged new) next (made ++ past)
 pumped_so config at slirp aged kept new link next past made last result none allowed pumps idle holds = by holds.stands
   where

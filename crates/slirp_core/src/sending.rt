@@ -88,7 +88,9 @@ impl Slirp {
         ensures turn { self.new.flows.turn ≡ self.old.flows.turn }
         ensures others { self.new ≡ record self.old { sent = self.new.sent; flows = self.new.flows } }
     {
-        let pumped = self.flows.pump(world, link, &mut self.sent, self.moment);
+        let pumped = self
+            .flows
+            .pump(world, link, &mut self.sent, &self.guests, self.moment);
         pumped_flows(pumped)
     }
 

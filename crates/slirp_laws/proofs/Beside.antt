@@ -9,19 +9,21 @@ use Rattle.net_octets.proofs.Parts.{length-part}
 use Rattle.world_face.specs.Journal.{Entry}
 use Rattle.host_policy.specs.Addresses.{Config, address}
 use Rattle.ether_frame.specs.Ether.{Ether, read_ether}
+use Rattle.arp_table.specs.Table.{mac_of as learnt_for}
 use Rattle.ipv4_head.specs.Ip.{Ip, is_unbroken, read_ip}
 use Rattle.tcp_segment.specs.Tcp.{Tcp, read_tcp}
 use Rattle.flow_book.specs.Book.{book}
 use Rattle.flow_book.specs.Flows.{Flow, is_strange, owner}
 use Rattle.flow_book.specs.Segments.{OnTuple, asked_in, segment_in, tcp_of, to_guest, went_by, went_of}
 use Rattle.flow_book.specs.Taught.{is_pair, taught}
+use Rattle.run_laws.specs.Guests.{known}
 use Rattle.slirp_laws.specs.Answers.{is_flows, again_frames, frames_of, may_go_again, serving, told_of_files, begins_datagram, datagrams_in, identification, is_first, left, our_mac, part_frame, uncut, everyone, request}
 use Rattle.world_face.specs.Frames.{goes_out}
 use Rattle.slirp_laws.specs.Laws.{Lawful}
 use Rattle.slirp_laws.specs.Said.{AnswersLast, AsksForGuest, Carries, GoesAgain, IsOfFlow}
 use Rattle.tftp_server.specs.Transfers.{Said}
 use Rattle.tcp_segment.specs.Tcp.{tcp_octets}
-use Rattle.slirp_laws.specs.Sending.{ip_in, ip_of, is_beside, is_own, is_well_sent, is_written, may_ask, request_for, sends_again, sends_segment, tcp_for}
+use Rattle.slirp_laws.specs.Sending.{ip_in, ip_of, is_beside, is_latest, is_own, is_well_sent, is_written, may_ask, request_for, sends_again, sends_segment, tcp_for}
 use Rattle.slirp_laws.proofs.Bools.{equal, equal_octets, first_of, second_of}
 use Rattle.slirp_laws.proofs.Framing.{our_six, part_begins}
 use Rattle.slirp_laws.proofs.Owing.{Begins, Next, Beside, first_answers, out_by}
@@ -138,7 +140,7 @@ sends_whole config past frame ip f c =
     let s = carried_segment frame ip f.on c f.carried in
     let six : length f.on.mac ≡ 6 = ap (λ (on : OnTuple). length on.mac) (sym s.2) ∙ to_six frame c.ether c.framed in
     let written : is_written config (identification past) frame f.on (Some ip) ≡ true =
-    ap (is_written config (identification past) frame f.on) (sym (as_read frame ip c)) ∙ second_of (list_any (is_pair (address f.on.tuple.guest) f.on.mac) (taught config past)) (is_written config (identification past) frame f.on (ip_in frame)) f.sent in
+    ap (is_written config (identification past) frame f.on) (sym (as_read frame ip c)) ∙ second_of (list_any (is_pair (address f.on.tuple.guest) f.on.mac) (taught config past) && is_latest f.on.mac (learnt_for f.on.tuple.guest.addr (known config past))) (is_written config (identification past) frame f.on (ip_in frame)) f.sent in
     let whole = part_frame f.on.mac (our_mac config.vhost) (identification past) ip.proto ip.from ip.to (uncut ip.body) in
     let same = equal_octets frame whole (first_of (bytes_eq frame whole) (bytes_eq ip.body (tcp_octets ip.from ip.to (tcp_for f.on))) written) in
     let fits : identification past < 2 ^ 16 = omega arith in
@@ -157,7 +159,7 @@ sends_whole config past frame ip f c =
 pub carries_only : (config : Config) (past : List Entry) (frame : List ℕ) (ip : Ip) (f : IsOfFlow config past frame) → Carries frame ip → ip.body ≡ tcp_octets ip.from ip.to (tcp_for f.on)
 carries_only config past frame ip f c =
     let written : is_written config (identification past) frame f.on (Some ip) ≡ true =
-    ap (is_written config (identification past) frame f.on) (sym (as_read frame ip c)) ∙ second_of (list_any (is_pair (address f.on.tuple.guest) f.on.mac) (taught config past)) (is_written config (identification past) frame f.on (ip_in frame)) f.sent in
+    ap (is_written config (identification past) frame f.on) (sym (as_read frame ip c)) ∙ second_of (list_any (is_pair (address f.on.tuple.guest) f.on.mac) (taught config past) && is_latest f.on.mac (learnt_for f.on.tuple.guest.addr (known config past))) (is_written config (identification past) frame f.on (ip_in frame)) f.sent in
     let whole = part_frame f.on.mac (our_mac config.vhost) (identification past) ip.proto ip.from ip.to (uncut ip.body) in
     let only = tcp_octets ip.from ip.to (tcp_for f.on) in
     equal_octets ip.body only (second_of (bytes_eq frame whole) (bytes_eq ip.body only) written)

@@ -2,6 +2,7 @@
 use Rattle.std.specs.Prelude.{ℕ, ◌+◌, ◌*◌, ◌==◌, ◌&&◌, ◌||◌, not, nat_lt, Bool, false, List, [], ◌∷◌, length, filter, bytes_eq, Option, Some, None, is_some, option_and_then, if◌then◌else◌}
 use Rattle.std.specs.List.{list_any}
 use Rattle.net_octets.specs.Kinds.{arp_kind, ipv4_kind}
+use Rattle.net_octets.specs.declared.Mac.{Mac}
 use Rattle.world_face.specs.Journal.{Entry}
 use Rattle.world_face.specs.Frames.{goes_out}
 use Rattle.host_policy.specs.Addresses.{Config, address}
@@ -57,10 +58,17 @@ is_written config ident frame on (Some ip) =
     bytes_eq frame (part_frame on.mac (our_mac config.vhost) ident ip.proto ip.from ip.to (uncut ip.body))
     && bytes_eq ip.body (tcp_octets ip.from ip.to (tcp_for on))
 
--- it goes to a hardware address from which its guest was learnt (RFC 826), with the next identification
+-- the hardware address is the one that was learnt last, where one is known
+abbrev pub is_latest : List ℕ → Option Mac → Bool
+is_latest mac None = true
+is_latest mac (Some latest) = bytes_eq mac latest.0
+
+-- it goes to the hardware address that was learnt last for its guest (RFC 826), with the next identification
 abbrev pub is_well_sent : Config → List Entry → List ℕ → OnTuple → Bool
 is_well_sent config past frame on =
-    list_any (is_pair (address on.tuple.guest) on.mac) (taught config past) && is_written config (identification past) frame on (ip_in frame)
+    list_any (is_pair (address on.tuple.guest) on.mac) (taught config past)
+    && is_latest on.mac (learnt_for on.tuple.guest.addr (known config past))
+    && is_written config (identification past) frame on (ip_in frame)
 
 -- the segment is one of the flow that was opened last between these two ends, and answers no stray one
 abbrev pub is_own : Segment → Option Flow → Bool

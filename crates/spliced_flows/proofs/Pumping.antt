@@ -9,6 +9,8 @@ use Rattle.world_face.specs.Frames.{LinkFailed, MayFrame, goes_out, is_blocked, 
 use Rattle.world_face.specs.declared.Io.{Io}
 use Rattle.world_face.specs.declared.Io.TheVariants.{Done, End, NotYet, Failed}
 use Rattle.host_policy.specs.Addresses.{Config, address}
+use Rattle.arp_table.specs.Table.{mac_of as learnt_for}
+use Rattle.run_laws.specs.Guests.{known as known_guests}
 use Rattle.run_laws.specs.Happenings.{happens}
 use Rattle.run_laws.specs.Moments.{moment}
 use Rattle.run_laws.specs.Sockets.{next_number}
@@ -32,7 +34,7 @@ use Rattle.flow_splice.proofs.Restless.{open_none}
 use Rattle.flow_book.specs.Segments.{asked_in}
 use Rattle.slirp_laws.specs.Answers.{again_frames, is_first, serving, datagrams_in, datagrams_out, identification, left, taken, with_datagrams}
 use Rattle.slirp_laws.specs.Laws.{Lawful, May, is_closing}
-use Rattle.slirp_laws.specs.Sending.{ip_in, is_written}
+use Rattle.slirp_laws.specs.Sending.{ip_in, is_latest, is_written}
 use Rattle.slirp_laws.proofs.Bools.{first_of, second_of}
 use Rattle.slirp_laws.proofs.KeepingFlows.{keeps_flows}
 use Rattle.flow_splice.specs.Entries.{AreEvents, OffersSegment, datagrams, ident_after, went}
@@ -127,6 +129,7 @@ module _ (config : Config) (face : Face) (to : Mac) (f : Flow) (past : List Entr
     pub clear : is_blocked (made ++ past) ≡ false → tail (made ++ past) ≡ []
     pub counted : identification (made ++ past) ≡ ident_after ident beats
     pub learnt : list_any (is_pair (address face.guest) to.0) (taught config (made ++ past)) ≡ true
+    pub latest : is_latest to.0 (learnt_for face.guest.addr (known_guests config (made ++ past))) ≡ true
     pub knows : guest_is_known (scene config (made ++ past)) (with_beats f beats) ≡ known
     pub last : is_closed (beats ++ f.story) ≡ false → comes_last (scene config (made ++ past)) (with_beats f beats) ≡ ended
     -- a flow that was open rests where its story says so; one that wasn't goes on as it did
@@ -171,6 +174,7 @@ module _ (config : Config) (face : Face) (to : Mac) (f : Flow) (past : List Entr
         carried = segment_back face to (ident_after ident rest) seg sized;
         written = ap (λ n. is_written config n frame (on_ends face to seg) (ip_in frame)) sent.counted ∙ written_back face to (ident_after ident rest) seg config sized vhost;
         learnt = sent.learnt;
+        latest = sent.latest;
       }
 
       may : MayOfOne (flow_settings config) (with_beats f rest).story (moment before) (Send seg)
@@ -207,6 +211,7 @@ module _ (config : Config) (face : Face) (to : Mac) (f : Flow) (past : List Entr
         clear = λ free. drop_all n octets (all_was n (length octets) free);
         counted = ident_taken n;
         learnt = sent.learnt;
+        latest = sent.latest;
         knows = sent.knows;
         last = sent.last;
         rests = λ was_open. rests_written config octets (Done n) before ∙ sent.rests was_open;
@@ -228,6 +233,7 @@ module _ (config : Config) (face : Face) (to : Mac) (f : Flow) (past : List Entr
         clear = λ free. none;
         counted = ident_none;
         learnt = sent.learnt;
+        latest = sent.latest;
         knows = sent.knows;
         last = sent.last;
         rests = λ was_open. rests_written config octets NotYet before ∙ sent.rests was_open;
@@ -309,6 +315,7 @@ module _ (config : Config) (face : Face) (to : Mac) (f : Flow) (past : List Entr
         clear = sent.clear;
         counted = sent.counted;
         learnt = sent.learnt;
+        latest = sent.latest;
         knows = sent.knows;
         last = λ open_still. cc;
         rests = λ was_open. closed_rests was_open;

@@ -7,6 +7,8 @@ use Rattle.world_face.specs.declared.Io.{Io}
 use Rattle.world_face.specs.declared.Io.TheVariants.{Done, End, NotYet, Failed}
 use Rattle.net_octets.specs.declared.Mac.{Mac}
 use Rattle.host_policy.specs.Addresses.{Config, address}
+use Rattle.arp_table.specs.Table.{mac_of as learnt_for}
+use Rattle.run_laws.specs.Guests.{known}
 use Rattle.run_laws.specs.Moments.{moment}
 use Rattle.run_laws.specs.Shape.{is_working}
 use Rattle.run_laws.specs.Sockets.{next_number}
@@ -28,7 +30,7 @@ use Rattle.core_flows.proofs.Only.{found_by, number_of_found, only_happens}
 use Rattle.core_flows.proofs.Seats.{owner_id}
 use Rattle.slirp_laws.specs.Answers.{identification, is_first, is_out, left}
 use Rattle.slirp_laws.specs.Laws.{May, may_begin}
-use Rattle.slirp_laws.specs.Sending.{ip_in, is_beside, is_explained, is_own, is_well_sent, is_written, may_ask, sends_again, sends_segment}
+use Rattle.slirp_laws.specs.Sending.{ip_in, is_beside, is_explained, is_latest, is_own, is_well_sent, is_written, may_ask, sends_again, sends_segment}
 use Rattle.slirp_laws.proofs.Bools.{and_both}
 use Rattle.slirp_laws.proofs.Deeds.{writes}
 use Rattle.flow_splice.specs.Splice.{Face}
@@ -40,11 +42,12 @@ use Rattle.spliced_flows.proofs.Calling.{due_is}
 abbrev pub on_ends : Face → Mac → Segment → OnTuple
 on_ends face to seg = record { mac = to.0; tuple = ends_of face; segment = seg }
 
--- A frame carries a segment between the two ends to a hardware address that was learnt for its guest, and is exactly that of the segment.
+-- A frame carries a segment between the two ends to the hardware address that was learnt last for its guest, and is exactly that of the segment.
 pub record CarriesOf (config : Config) (face : Face) (to : Mac) (seg : Segment) (frame : List ℕ) (past : List Entry) : Type 0 where
   pub carried : segment_in frame ≡ Some (on_ends face to seg)
   pub written : is_written config (identification past) frame (on_ends face to seg) (ip_in frame) ≡ true
   pub learnt : list_any (is_pair (address face.guest) to.0) (taught config past) ≡ true
+  pub latest : is_latest to.0 (learnt_for face.guest.addr (known config past)) ≡ true
 
 -- the flow after its segment was offered
 abbrev pub offered_flow : Io → ℕ → Segment → Flow → Flow
@@ -91,7 +94,8 @@ module _ (config : Config) (face : Face) (f : Flow) (past : List Entry) (has : H
         ap (sends_segment config past frame) on
         ∙ and_both (is_own seg (owner (ends_of face) (book config past).flows)) (is_well_sent config past frame (on_ends face to seg))
         (ap (is_own seg) (owner_is differ) ∙ ap not (not_strange seg may))
-        (and_both (list_any (is_pair (address face.guest) to.0) (taught config past)) (is_written config (identification past) frame (on_ends face to seg) (ip_in frame)) carries.learnt carries.written)
+        (and_both (list_any (is_pair (address face.guest) to.0) (taught config past) && is_latest to.0 (learnt_for face.guest.addr (known config past))) (is_written config (identification past) frame (on_ends face to seg) (ip_in frame))
+        (and_both (list_any (is_pair (address face.guest) to.0) (taught config past)) (is_latest to.0 (learnt_for face.guest.addr (known config past))) carries.learnt carries.latest) carries.written)
 
     or_true : (a b : Bool) → a ≡ true → (a || b) ≡ true
     or_true true b is = refl
