@@ -1,5 +1,5 @@
 -- What a turn, and each part of it, comes to.
-use Rattle.std.specs.Prelude.{◌≡◌, ℕ, ◌&&◌, not, Bool, false, List, Option}
+use Rattle.std.specs.Prelude.{◌≡◌, ℕ, ◌&&◌, not, Bool, true, false, List, [], ◌∷◌, Option}
 use Rattle.poll_list.specs.Listing.{same_who}
 use Rattle.poll_list.specs.declared.Want.{Want}
 use Rattle.poll_list.specs.declared.Who.TheVariants.{Link}
@@ -9,6 +9,8 @@ use Rattle.host_policy.specs.Addresses.{Config}
 use Rattle.udp_assoc.specs.declared.assocs.Association.{Association as AnAssociation}
 use Rattle.flow_splice.specs.Splice.{Splice}
 use Rattle.run_laws.specs.Shape.{phase}
+use Rattle.slirp_laws.specs.Agenda.{wanted_of}
+use Rattle.slirp_laws.specs.Laws.{Finished, Lawful}
 use Rattle.stream_netdev.specs.Keeps.{ReadsOn}
 use Rattle.stream_netdev.specs.State.{LinkState, under_way}
 use Rattle.slirp_core.specs.Holds.{Standing, standing, flowing, Holds, Ended, Closing}
@@ -56,3 +58,20 @@ GoesOnAfter (TurnEnded end) link = Unit {0}
 pub record Closes (config : Config) (end : End) (associations : List AnAssociation) (parts : List (Option Splice)) (past : List Entry) : Type 0 where
   pub closing : Closing config (phase config past) associations parts past
   pub is : end ≡ end_of config (phase config past)
+
+-- the sockets of a run that has this end are closed, and it is the end of the whole
+abbrev pub RanTo : Config → End → List Entry → Type 0
+RanTo config end made = Lawful config made × Finished config made × (end ≡ end_of config (phase config made))
+
+-- after a whole turn: where it ended the run all sockets are closed
+abbrev pub AfterWholeTurn : Turn → Config → Standing → SlirpState → LinkState → List Entry → Type 0
+AfterWholeTurn Again config at slirp link past = HoldsNow config at false slirp link past
+AfterWholeTurn (TurnEnded end) config at slirp link past = RanTo config end past
+
+-- nothing of what was reported of an item was waited for
+abbrev pub is_passed_over : List Want → Want → Bool
+is_passed_over wants item = not (wanted_of wants item).read && not (wanted_of wants item).write
+
+abbrev pub all_passed_over : List Want → List Want → Bool
+all_passed_over wants [] = true
+all_passed_over wants (item ∷ items) = is_passed_over wants item && all_passed_over wants items

@@ -4,7 +4,7 @@
 // idle too long, sends what is owed, and waits for what it wants; then it asks for the moment and serves what was reported, in the order of the list: a
 // frame is read and taken in, a peer's datagram is received, or a flow's socket is served, writing before reading, and after each what is owed for it is
 // sent. A frame or a datagram is read only while nothing is left to be sent. At the end every socket is closed, by rising number.
-ghost use Rattle.std.specs.Prelude.{◌≡◌, ◌&&◌, ◌++◌, List, true, false, IfSome, if◌then◌else◌};
+ghost use Rattle.std.specs.Prelude.{◌≡◌, ◌&&◌, ◌||◌, ◌++◌, List, true, false, IfSome, if◌then◌else◌};
 ghost use Rattle.slirp_laws.specs.Agenda.{is_to_read};
 ghost use Rattle.slirp_core.specs.Holds.{Standing};
 ghost use Rattle.serve_loop.specs.Turns.{still, is_read_now};
@@ -103,7 +103,7 @@ impl Service {
     ghost use Rattle.serve_loop.specs.Ends.{end_of, IsCounted};
     ghost use Rattle.slirp_core.specs.Counts.{AreGrown};
     ghost use Rattle.slirp_core.specs.Holds.{after, standing};
-    ghost use Rattle.serve_loop.specs.Turns.{AfterSleep, AfterTurn, Closes, GoesOnAfter, HoldsNow};
+    ghost use Rattle.serve_loop.specs.Turns.{AfterSleep, AfterTurn, AfterWholeTurn, GoesOnAfter, HoldsNow, all_passed_over, is_passed_over};
     ghost use Rattle.slirp_core.specs.Pumps.{is_settled};
     ghost use Rattle.serve_loop.specs.Served.{IsBuilt, IsNew};
     ghost use Rattle.slirp_core.specs.Hearing.{Receives};
@@ -151,18 +151,6 @@ impl Service {
         // What a World that was live tells of them.
         ensures served { Served self.old.slirp.config (W.tells world.old) (W.tells world.new) }
     {
-        let end = self.run(world);
-        self.slirp.close_all(world);
-        end
-    }
-
-    // Takes turns until the run ends.
-    fn run<W: World>(&mut self, world: &mut W) -> End
-        requires { IsNew self.old }
-        ensures makes { Makes (W.tells world.old) (W.tells world.new) (Closes self.old.slirp.config result self.new.slirp.associations self.new.slirp.flows.flows.parts) }
-        ensures faults { IsCounted (Turn.Ended result) (W.tells world.old).faults (W.tells world.new).faults }
-        ensures config { self.new.slirp.config ≡ self.old.slirp.config }
-    {
         let _begun = self.start(world);
         let turns = self.turns;
         for _count in 0..turns {
@@ -171,6 +159,7 @@ impl Service {
                 Turn::Ended(end) => return end,
             }
         }
+        self.slirp.close_all(world);
         End::TurnsSpent(self.turns)
     }
 
@@ -189,14 +178,34 @@ impl Service {
         Turn::Again
     }
 
-    /// One turn: the flows are told the time, sockets that were idle for long are closed and what is owed is sent, then it waits, then what the wait reported is served, with what is then owed. A turn opens at most one socket, and needs a number for it under 2^64. There are at most 2^45 turns.
+    /// One turn: the flows are told the time, sockets that were idle for long are closed and what is owed is sent, then it waits, then what the wait reported is served, with what is then owed. Where it ends the run all sockets are closed, by rising number. A turn opens at most one socket, and needs a number for it under 2^64. There are at most 2^45 turns.
     pub fn turn<W: World>(&mut self, world: &mut W) -> Turn
         requires on { ReadsOn (under_way self.old.link) }
         requires number { self.old.slirp.number + 1 < 2 ^ 64 }
         requires turns { self.old.slirp.flows.turn < 2 ^ 45 }
         ensures makes { (config : Config) (count : ℕ) → count < config.turns → Brings (W.tells world.old) (W.tells world.new)
-            (HoldsNow config (after count) false self.old.slirp self.old.link) (AfterTurn result config (after (count + 1)) false self.new.slirp self.new.link) }
+            (HoldsNow config (after count) false self.old.slirp self.old.link) (AfterWholeTurn result config (after (count + 1)) self.new.slirp self.new.link) }
         // Where it ended by a fault the count of the link's, or of the waits', rose.
+        ensures faults { IsCounted result (W.tells world.old).faults (W.tells world.new).faults }
+        ensures on { GoesOnAfter result self.new.link }
+        ensures config { self.new.slirp.config ≡ self.old.slirp.config }
+        ensures number { self.new.slirp.number ≤ self.old.slirp.number + 1 }
+        ensures turns { self.new.slirp.flows.turn ≤ self.old.slirp.flows.turn + 1 }
+    {
+        let taken = self.take_turn(world);
+        if let Turn::Ended(_) = taken {
+            self.slirp.close_all(world);
+        }
+        taken
+    }
+
+    // The same, with the sockets left open where it ended the run.
+    fn take_turn<W: World>(&mut self, world: &mut W) -> Turn
+        requires on { ReadsOn (under_way self.old.link) }
+        requires number { self.old.slirp.number + 1 < 2 ^ 64 }
+        requires turns { self.old.slirp.flows.turn < 2 ^ 45 }
+        ensures makes { (config : Config) (count : ℕ) → count < config.turns → Brings (W.tells world.old) (W.tells world.new)
+            (HoldsNow config (after count) false self.old.slirp self.old.link) (AfterTurn result config (after (count + 1)) false self.new.slirp self.new.link) }
         ensures faults { IsCounted result (W.tells world.old).faults (W.tells world.new).faults }
         ensures on { GoesOnAfter result self.new.link }
         ensures config { self.new.slirp.config ≡ self.old.slirp.config }
@@ -264,6 +273,7 @@ impl Service {
         ensures config { self.new.slirp.config ≡ self.old.slirp.config }
         ensures number { self.new.slirp.number ≤ self.old.slirp.number + 1 }
         ensures turns { self.new.slirp.flows.turn ≡ self.old.slirp.flows.turn }
+        ensures passed { all_passed_over self.old.wants self.old.ready ≡ true → (result ≡ Turn.Again) × (self.new ≡ self.old) × (world.new ≡ world.old) }
     {
         let mut to_read = self.may_read();
         for place in 0..self.ready.items().len() {
@@ -291,7 +301,7 @@ impl Service {
         self.ready.items()[place]
     }
 
-    // The same, and sends what is then owed.
+    // Serves an item of what a wait reported in the directions that were waited for, and sends what is then owed. Of what wasn't waited for no call comes, and no pump after it.
     fn attend<W: World>(&mut self, world: &mut W, item: &Want, to_read: bool) -> Turn
         requires on { ReadsOn (under_way self.old.link) }
         requires number { to_read ≡ true → self.old.slirp.number + 1 < 2 ^ 64 }
@@ -303,15 +313,19 @@ impl Service {
         ensures number { self.new.slirp.number ≤ self.old.slirp.number + (if is_read_now to_read item.now then 1 else 0) }
         ensures turns { self.new.slirp.flows.turn ≡ self.old.slirp.flows.turn }
         ensures reports { (self.new.wants ≡ self.old.wants) × (self.new.ready ≡ self.old.ready) }
+        ensures passed { (to_read ≡ true → reads TheLink self.old.wants ≡ true) → is_passed_over self.old.wants item.now ≡ true → (result ≡ Turn.Again) × (self.new ≡ self.old) × (world.new ≡ world.old) }
     {
-        match self.serve_item(world, item, to_read) {
-            Turn::Again => self.pump(world),
-            Turn::Ended(end) => Turn::Ended(end),
+        match item.of {
+            Who::Link => self.attend_link(world, item, to_read),
+            Who::Udp(number) => self.attend_port(world, number, item),
+            Who::Tcp(number) => self.attend_flow(world, number, item),
+            Who::Listener(_) => Turn::Again,
         }
     }
 
-    // Serves an item of what a wait reported: the link where a frame is still to be read, or a socket, in the directions that were waited for.
-    fn serve_item<W: World>(&mut self, world: &mut W, item: &Want, to_read: bool) -> Turn
+    // The link: a frame is read where one is still to be read, or the link takes more.
+    fn attend_link<W: World>(&mut self, world: &mut W, item: &Want, to_read: bool) -> Turn
+        requires of { item.now.of ≡ TheLink }
         requires on { ReadsOn (under_way self.old.link) }
         requires number { to_read ≡ true → self.old.slirp.number + 1 < 2 ^ 64 }
         ensures makes { (config : Config) (count : ℕ) (items : List AnItem) → (to_read ≡ true → reads TheLink self.old.wants ≡ true) → Brings (W.tells world.old) (W.tells world.new)
@@ -322,51 +336,68 @@ impl Service {
         ensures number { self.new.slirp.number ≤ self.old.slirp.number + (if is_read_now to_read item.now then 1 else 0) }
         ensures turns { self.new.slirp.flows.turn ≡ self.old.slirp.flows.turn }
         ensures reports { (self.new.wants ≡ self.old.wants) × (self.new.ready ≡ self.old.ready) }
+        ensures passed { (to_read ≡ true → reads TheLink self.old.wants ≡ true) → is_passed_over self.old.wants item.now ≡ true → (result ≡ Turn.Again) × (self.new ≡ self.old) × (world.new ≡ world.old) }
     {
-        match item.of {
-            Who::Link => {
-                if is_read_now(to_read, item) {
-                    self.receive(world)
-                } else {
-                    Turn::Again
-                }
-            }
-            Who::Udp(number) => {
-                if self.waits_for(number, item) {
-                    self.hear(world, number);
-                }
-                Turn::Again
-            }
-            Who::Tcp(number) => {
-                self.serve_flow(world, number, item);
-                Turn::Again
-            }
-            Who::Listener(_) => Turn::Again,
+        if is_read_now(to_read, item) {
+            return match self.receive(world) {
+                Turn::Again => self.pump(world),
+                Turn::Ended(end) => Turn::Ended(end),
+            };
         }
+        if item.write && writes_link(self.wants.items()) {
+            return self.pump(world);
+        }
+        Turn::Again
     }
 
-    // Serves the flow of a socket, in the directions that were waited for.
-    fn serve_flow<W: World>(&mut self, world: &mut W, number: u64, item: &Want)
-        requires { item.now.of ≡ Tcp number }
+    // A guest's port: a datagram is received.
+    fn attend_port<W: World>(&mut self, world: &mut W, number: u64, item: &Want) -> Turn
+        requires of { item.now.of ≡ Udp number }
+        requires on { ReadsOn (under_way self.old.link) }
         ensures makes { (config : Config) (count : ℕ) (items : List AnItem) → Brings (W.tells world.old) (W.tells world.new)
-            (HoldsNow config (standing count self.old.wants (item.now ∷ items)) false self.old.slirp self.old.link) (HoldsNow config (standing count self.old.wants items) false self.new.slirp self.new.link) }
-        ensures counts { AreGrown (W.tells world.old).faults (W.tells world.new).faults }
-        ensures link { self.new.link ≡ self.old.link }
+            (HoldsNow config (standing count self.old.wants (item.now ∷ items)) false self.old.slirp self.old.link) (AfterTurn result config (standing count self.old.wants items) false self.new.slirp self.new.link) }
+        ensures faults { IsCounted result (W.tells world.old).faults (W.tells world.new).faults }
+        ensures on { GoesOnAfter result self.new.link }
         ensures config { self.new.slirp.config ≡ self.old.slirp.config }
         ensures number { self.new.slirp.number ≡ self.old.slirp.number }
         ensures turns { self.new.slirp.flows.turn ≡ self.old.slirp.flows.turn }
         ensures reports { (self.new.wants ≡ self.old.wants) × (self.new.ready ≡ self.old.ready) }
+        ensures passed { is_passed_over self.old.wants item.now ≡ true → (result ≡ Turn.Again) × (self.new ≡ self.old) × (world.new ≡ world.old) }
     {
-        if let Some(wanted) = self.counted(number, item) {
-            self.slirp
-                .take_report(world, number, wanted.read, wanted.write);
+        if !self.waits_for(number, item) {
+            return Turn::Again;
         }
+        self.hear(world, number);
+        self.pump(world)
     }
 
-    // What counts of a report on a flow's socket: the directions that were waited for. What is waited for of flows stands behind all else, by rising numbers.
+    // A flow's socket.
+    fn attend_flow<W: World>(&mut self, world: &mut W, number: u64, item: &Want) -> Turn
+        requires of { item.now.of ≡ Tcp number }
+        requires on { ReadsOn (under_way self.old.link) }
+        ensures makes { (config : Config) (count : ℕ) (items : List AnItem) → Brings (W.tells world.old) (W.tells world.new)
+            (HoldsNow config (standing count self.old.wants (item.now ∷ items)) false self.old.slirp self.old.link) (AfterTurn result config (standing count self.old.wants items) false self.new.slirp self.new.link) }
+        ensures faults { IsCounted result (W.tells world.old).faults (W.tells world.new).faults }
+        ensures on { GoesOnAfter result self.new.link }
+        ensures config { self.new.slirp.config ≡ self.old.slirp.config }
+        ensures number { self.new.slirp.number ≡ self.old.slirp.number }
+        ensures turns { self.new.slirp.flows.turn ≡ self.old.slirp.flows.turn }
+        ensures reports { (self.new.wants ≡ self.old.wants) × (self.new.ready ≡ self.old.ready) }
+        ensures passed { is_passed_over self.old.wants item.now ≡ true → (result ≡ Turn.Again) × (self.new ≡ self.old) × (world.new ≡ world.old) }
+    {
+        let Some(wanted) = self.counted(number, item) else {
+            return Turn::Again;
+        };
+        self.slirp
+            .take_report(world, number, wanted.read, wanted.write);
+        self.pump(world)
+    }
+
+    // What counts of a report on a flow's socket: the directions that were waited for, if any was. What is waited for of flows stands behind all else, by rising numbers.
     fn counted(&self, number: u64, item: &Want) -> Option<Want>
         requires { item.now.of ≡ Tcp number }
-        ensures { IfSome result (λ w. w ≡ wanted_of self.now.wants item.now) }
+        ensures counts { IfSome result (λ w. w ≡ wanted_of self.now.wants item.now) }
+        ensures some { IfSome result (λ w. (w.read || w.write) ≡ true) }
     {
         let wants = self.wants.of_flows();
         match wants.binary_search_by_key(&Some(number), |want| socket_of(want.of)) {
@@ -524,7 +555,8 @@ fn reads_at(wants: &[Want], place: usize, number: u64) -> bool
 // What counts of a report on the flow's socket with this number, where that stands at the place: the directions that were waited for.
 fn counted_at(wants: &[Want], place: usize, number: u64, item: &Want) -> Option<Want>
     requires { item.now.of ≡ Tcp number }
-    ensures { (before : List AnItem) → TcpOnce (before ++ wants.now) → IfSome result (λ w. w ≡ wanted_of (before ++ wants.now) item.now) }
+    ensures counts { (before : List AnItem) → TcpOnce (before ++ wants.now) → IfSome result (λ w. w ≡ wanted_of (before ++ wants.now) item.now) }
+    ensures some { IfSome result (λ w. (w.read || w.write) ≡ true) }
 {
     let want = wants.get(place)?;
     counted_by(want, number, item)
@@ -532,15 +564,18 @@ fn counted_at(wants: &[Want], place: usize, number: u64, item: &Want) -> Option<
 
 // The same of the want at the place.
 fn counted_by(want: &Want, number: u64, item: &Want) -> Option<Want>
-    ensures { IfSome result (λ w. (want.now.of ≡ Tcp number) × (w ≡ record { of = item.now.of; read = item.now.read && want.now.read; write = item.now.write && want.now.write })) }
+    ensures counts { IfSome result (λ w. (want.now.of ≡ Tcp number) × (w ≡ record { of = item.now.of; read = item.now.read && want.now.read; write = item.now.write && want.now.write })) }
+    ensures some { IfSome result (λ w. (w.read || w.write) ≡ true) }
 {
-    if want.of != Who::Tcp(number) {
+    let read = item.read && want.read;
+    let write = item.write && want.write;
+    if want.of != Who::Tcp(number) || !(read || write) {
         return None;
     }
     Some(Want {
         of: item.of,
-        read: item.read && want.read,
-        write: item.write && want.write,
+        read,
+        write,
     })
 }
 

@@ -1,5 +1,5 @@
 -- The sockets of a run that is over are closed by rising number, those of associations and of flows.
-use Rattle.std.proofs.Common.{◌≡◌, ℕ, ◌<◌, ◌≤◌, ◌+◌, ◌==◌, ◌&&◌, ◌||◌, ◌⊎◌, not, All, Bool, true, false, List, [], ◌∷◌, ◌++◌, filter, set, slice_get, Option, Some, None, option_map, inl, inr, refl, sym, ◌∙◌, ap, subst, arith}
+use Rattle.std.proofs.Common.{append_assoc, ◌≡◌, ℕ, ◌<◌, ◌≤◌, ◌+◌, ◌==◌, ◌&&◌, ◌||◌, ◌⊎◌, not, All, Bool, true, false, List, [], ◌∷◌, ◌++◌, filter, set, slice_get, Option, Some, None, option_map, inl, inr, refl, sym, ◌∙◌, ap, subst, arith}
 use Rattle.std.proofs.lemmas.List.Elements.{All-head, All-tail}
 use Rattle.world_face.specs.Journal.{Entry, Call, call_of, Connect, Listen, Accept, Close, UdpOpen, CallClose}
 use Rattle.world_face.specs.declared.Accepted.{Accepted}
@@ -26,7 +26,7 @@ use Rattle.spliced_flows.specs.Core.{number_of}
 use Rattle.spliced_flows.proofs.Ending.{may_close_least}
 use Rattle.spliced_flows.proofs.Options.{none_some, some_same, true_false}
 use Rattle.tcp_flows.specs.Reading.{HasSocket, IsNextOpen, IsOpenAt, NoneIsAbove}
-use Rattle.slirp_core.specs.Holds.{AreOpen, Closing, Ran, Rests, OverBy, AllWaited, NoneWaited}
+use Rattle.slirp_core.specs.Holds.{AreOpen, Closing, ClosesAll, ClosesNext, Ran, Rests, OverBy, AllWaited, NoneWaited}
 use Rattle.slirp_core.proofs.Parts.{due_in_phase, due_is}
 
 -- ---- open sockets stand by rising number
@@ -266,3 +266,15 @@ module _ (config : Config) (over : Phase) (list : List Association) (parts : Lis
 
     pub all_closed : Ran config over past
     all_closed = (closing.lawful, record { ended = closing.ended; none_due = none_due closing.rests; closed = shut }, closing.is)
+
+-- ---- one after another
+
+pub closes_on : (first old new : List Association) (first_parts old_parts new_parts : List (Option Splice)) (made more : List Entry) → ClosesNext true first old first_parts old_parts made → ClosesNext true old new old_parts new_parts more
+    → ClosesNext true first new first_parts new_parts (more ++ made)
+closes_on first old new first_parts old_parts new_parts made more closes later config over past closing =
+    subst (Closing config over new new_parts) (sym (append_assoc more made past)) (later config over (made ++ past) (closes config over past closing))
+
+pub closes_last : (first old new : List Association) (first_parts old_parts new_parts : List (Option Splice)) (made more : List Entry) → ClosesNext true first old first_parts old_parts made → ClosesNext false old new old_parts new_parts more
+    → ClosesAll first first_parts (more ++ made)
+closes_last first old new first_parts old_parts new_parts made more closes later config over past closing =
+    subst (Ran config over) (sym (append_assoc more made past)) (later config over (made ++ past) (closes config over past closing))

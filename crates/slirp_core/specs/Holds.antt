@@ -236,3 +236,12 @@ Ran config over made = Lawful config made × Finished config made × (over ≡ p
 abbrev pub AfterClosing : Bool → Config → Phase → List AnAssociation → List (Option Splice) → List Entry → Type 0
 AfterClosing true config over list parts past = Closing config over list parts past
 AfterClosing false config over list parts past = Ran config over past
+
+-- one socket of these was closed, if there was one
+abbrev pub ClosesNext : Bool → (list new : List AnAssociation) → (parts new_parts : List (Option Splice)) → List Entry → Type 0
+ClosesNext more list new parts new_parts made =
+    (config : Config) (over : Phase) (past : List Entry) → Closing config over list parts past → AfterClosing more config over new new_parts (made ++ past)
+
+-- all of these sockets were closed: whatever run had them, and had ended, is finished
+abbrev pub ClosesAll : List AnAssociation → List (Option Splice) → List Entry → Type 0
+ClosesAll list parts made = (config : Config) (over : Phase) (past : List Entry) → Closing config over list parts past → Ran config over (made ++ past)

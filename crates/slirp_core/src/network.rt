@@ -88,8 +88,7 @@ impl Slirp {
     ghost use Rattle.slirp_core.specs.Numbers.{open_flows};
     ghost use Rattle.stream_netdev.specs.State.{LinkState};
     ghost use Rattle.slirp_core.specs.Datagrams.{errand_of, FitsErrand, Lies};
-    ghost use Rattle.slirp_core.specs.Holds.{Standing, after, flowing, Holds, Closing, AfterClosing, Ran};
-    ghost use Rattle.run_laws.specs.Shape.{Phase};
+    ghost use Rattle.slirp_core.specs.Holds.{Standing, after, flowing, Holds, ClosesAll, ClosesNext};
 
     /// A network in which no guest is known, no socket is open and nothing is owed, with room for as many flows of TCP as the settings say. It takes all the memory that it will ever need.
     pub fn new(alloc: Global, c: &SlirpConfig) -> Result<Slirp, NoMemory>
@@ -297,8 +296,10 @@ impl Slirp {
 
     /// Closes all sockets, by rising number.
     pub fn close_all<W: World>(&mut self, world: &mut W)
-        ensures makes { (config : Config) (over : Phase) → Brings (W.tells world.old) (W.tells world.new) (Closing config over self.old.associations self.old.flows.flows.parts) (Ran config over) }
+        ensures makes { Makes (W.tells world.old) (W.tells world.new) (ClosesAll self.old.associations self.old.flows.flows.parts) }
         ensures config { self.new.config ≡ self.old.config }
+        ensures number { self.new.number ≡ self.old.number }
+        ensures turn { self.new.flows.turn ≡ self.old.flows.turn }
         ensures none { self.new.associations ≡ [] }
     {
         while self.close_next(world) {}
@@ -306,10 +307,12 @@ impl Slirp {
 
     // Closes the socket with the least number, of a flow or of datagrams, and answers whether there was one.
     fn close_next<W: World>(&mut self, world: &mut W) -> bool
-        ensures makes { (config : Config) (over : Phase) → Brings (W.tells world.old) (W.tells world.new)
-            (Closing config over self.old.associations self.old.flows.flows.parts) (AfterClosing result config over self.new.associations self.new.flows.flows.parts) }
+        ensures makes { Makes (W.tells world.old) (W.tells world.new)
+            (ClosesNext result self.old.associations self.new.associations self.old.flows.flows.parts self.new.flows.flows.parts) }
         ensures fewer { result ≡ true → length self.new.associations + open_flows self.new.flows.flows.parts < length self.old.associations + open_flows self.old.flows.flows.parts }
         ensures config { self.new.config ≡ self.old.config }
+        ensures number { self.new.number ≡ self.old.number }
+        ensures turn { self.new.flows.turn ≡ self.old.flows.turn }
         ensures none { result ≡ false → self.new.associations ≡ [] }
     {
         if self.flow_is_first() {

@@ -1,11 +1,18 @@
 use Rattle.std.proofs.Common.{false}
-use Rattle.world_face.proofs.Telling.{brings_then}
-use Rattle.slirp_core.specs.Holds.{standing}
-use Rattle.serve_loop.proofs.Counted.{counted_after}
+use Rattle.world_face.proofs.Telling.{brings_none}
+use Rattle.slirp_core.specs.Holds.{flowing}
+use Rattle.slirp_core.proofs.Associating.{passes_over}
 use Rattle.serve_loop.proofs.service.Service.attend.Goals as goal
 
-pub returns-in-Again-clause-makes : goal.returns-in-Again-clause-makes
-returns-in-Again-clause-makes g c config count items wanted = brings_then (c.in-Again.ensures.makes config count items wanted) (c.pump.ensures.makes config (standing count c.args.self.now.wants items) false)
+pub returns-in-Link-clause-makes : goal.returns-in-Link-clause-makes
+returns-in-Link-clause-makes g c config count items wanted = c.attend_link.ensures.makes config count items wanted
 
-pub returns-in-Again-clause-faults : goal.returns-in-Again-clause-faults
-returns-in-Again-clause-faults g c = counted_after c.pump.result (g.W.World.tells c.args.world.now).faults (g.W.World.tells c.serve_item.new.world).faults (g.W.World.tells c.pump.new.world).faults c.in-Again.ensures.faults c.pump.ensures.faults
+pub returns-in-Udp-clause-makes : goal.returns-in-Udp-clause-makes
+returns-in-Udp-clause-makes g c config count items wanted = c.attend_port.ensures.makes config count items
+
+pub returns-in-Tcp-clause-makes : goal.returns-in-Tcp-clause-makes
+returns-in-Tcp-clause-makes g c config count items wanted = c.attend_flow.ensures.makes config count items
+
+pub returns-in-Listener-clause-makes : goal.returns-in-Listener-clause-makes
+returns-in-Listener-clause-makes g c config count items wanted =
+    brings_none (λ past holds. passes_over config count c.args.self.now.wants c.args.item.now items c.args.self.now.slirp (flowing false c.args.self.now.slirp.flows) c.args.self.now.link past holds)

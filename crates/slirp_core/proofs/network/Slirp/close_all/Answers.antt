@@ -1,36 +1,47 @@
 use Rattle.std.proofs.Common.{Bool, refl, ◌∙◌, subst}
-use Rattle.world_face.specs.Tells.{Brings}
-use Rattle.world_face.proofs.Telling.{brings_none, brings_then}
-use Rattle.slirp_core.specs.Holds.{Closing, AfterClosing}
+use Rattle.world_face.specs.Tells.{Makes}
+use Rattle.world_face.proofs.Telling.{makes_none, makes_then}
+use Rattle.slirp_core.specs.Holds.{ClosesNext}
+use Rattle.slirp_core.proofs.Closing.{closes_on, closes_last}
 use Rattle.slirp_core.proofs.network.Slirp.close_all.Goals as goal
 
 pub loop-init : goal.loop-init
-loop-init g c = record { makes = λ config over. brings_none (λ past holds. holds); config = refl }
+loop-init g c = record { makes = makes_none _ _ (λ config over past holds. holds); config = refl; number = refl; turn = refl }
 
 pub loop-smaller : goal.loop-smaller
 loop-smaller g c = c.close_next.ensures.fewer c.loop-test.true
 
 pub loop-preserved : goal.loop-preserved
 loop-preserved g c =
+    let first = c.args.self.now in
     let old = c.loop.self in
     let new = c.close_next.new in
     record {
-      makes = λ config over. brings_then (c.loop.invariant.makes config over)
-          (subst (λ (b : Bool). Brings (g.W.World.tells c.loop.world) (g.W.World.tells new.world) (Closing config over old.associations old.flows.flows.parts) (AfterClosing b config over new.self.associations new.self.flows.flows.parts)) c.loop-test.true
-          (c.close_next.ensures.makes config over));
+      makes = makes_then _ _ _ _ _ _ c.loop.invariant.makes
+          (subst (λ (b : Bool). Makes (g.W.World.tells c.loop.world) (g.W.World.tells new.world) (ClosesNext b old.associations new.self.associations old.flows.flows.parts new.self.flows.flows.parts)) c.loop-test.true c.close_next.ensures.makes)
+          (λ made more closes later. closes_on first.associations old.associations new.self.associations first.flows.flows.parts old.flows.flows.parts new.self.flows.flows.parts made more closes later);
       config = c.close_next.ensures.config ∙ c.loop.invariant.config;
+      number = c.close_next.ensures.number ∙ c.loop.invariant.number;
+      turn = c.close_next.ensures.turn ∙ c.loop.invariant.turn;
     }
 
 pub returns-clause-makes : goal.returns-clause-makes
-returns-clause-makes g c config over =
+returns-clause-makes g c =
+    let first = c.args.self.now in
     let old = c.loop.self in
     let new = c.close_next.new in
-    brings_then (c.loop.invariant.makes config over)
-    (subst (λ (b : Bool). Brings (g.W.World.tells c.loop.world) (g.W.World.tells new.world) (Closing config over old.associations old.flows.flows.parts) (AfterClosing b config over new.self.associations new.self.flows.flows.parts)) c.loop-test.false
-    (c.close_next.ensures.makes config over))
+    makes_then _ _ _ _ _ _ c.loop.invariant.makes
+    (subst (λ (b : Bool). Makes (g.W.World.tells c.loop.world) (g.W.World.tells new.world) (ClosesNext b old.associations new.self.associations old.flows.flows.parts new.self.flows.flows.parts)) c.loop-test.false c.close_next.ensures.makes)
+    (λ made more closes later. closes_last first.associations old.associations new.self.associations first.flows.flows.parts old.flows.flows.parts new.self.flows.flows.parts made more closes later)
 
 pub returns-clause-config : goal.returns-clause-config
 returns-clause-config g c = c.close_next.ensures.config ∙ c.loop.invariant.config
+
+pub returns-clause-number : goal.returns-clause-number
+returns-clause-number g c = c.close_next.ensures.number ∙ c.loop.invariant.number
+
+pub returns-clause-turn : goal.returns-clause-turn
+returns-clause-turn g c = c.close_next.ensures.turn ∙ c.loop.invariant.turn
 
 pub returns-clause-none : goal.returns-clause-none
 returns-clause-none g c = c.close_next.ensures.none c.loop-test.false

@@ -1,15 +1,15 @@
-use Rattle.std.proofs.Common.{◌≡◌, ◌+◌, length}
-use Rattle.world_face.specs.Tells.{Brings}
-use Rattle.host_policy.specs.Addresses.{Config}
-use Rattle.slirp_core.specs.Holds.{Closing}
+use Rattle.std.proofs.Common.{◌≡◌, ◌+◌, length, true}
+use Rattle.world_face.specs.Tells.{Makes}
+use Rattle.slirp_core.specs.Holds.{ClosesNext}
 use Rattle.slirp_core.specs.Numbers.{open_flows}
-use Rattle.run_laws.specs.Shape.{Phase}
 use Rattle.slirp_core.proofs.network.Slirp.close_all.Given as goal
 
 abbrev pub invariant-loop : goal.invariant-loop
 invariant-loop g l = record {
-  makes : (config : Config) (over : Phase) → Brings (g.W.World.tells l.fn.world) (g.W.World.tells l.world) (Closing config over l.fn.self.associations l.fn.self.flows.flows.parts) (Closing config over l.self.associations l.self.flows.flows.parts);
+  makes : Makes (g.W.World.tells l.fn.world) (g.W.World.tells l.world) (ClosesNext true l.fn.self.associations l.self.associations l.fn.self.flows.flows.parts l.self.flows.flows.parts);
   config : l.self.config ≡ l.fn.self.config;
+  number : l.self.number ≡ l.fn.self.number;
+  turn : l.self.flows.turn ≡ l.fn.self.flows.turn;
 }
 
 abbrev pub decreases-loop : goal.decreases-loop
