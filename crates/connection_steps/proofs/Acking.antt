@@ -115,7 +115,7 @@ module _ (s : Settings) (c : Connection) (up : Upward) (down : Downward) (past :
     suits = record { ring = h.suits.ring; congestion = h.suits.congestion; scales = h.suits.scales; few = h.suits.few };
     buffers = buffers;
     within = h.within;
-    goes = leaves_goes s c up down past now m seg on h known out refl refl refl refl refl refl refl c.transmission.sent refl low (omega arith) near refl
+    goes = leaves_goes s c up down past now m seg on h known out refl refl refl refl refl refl refl c.transmission.sent refl low (omega arith) near refl (omega arith)
         (prompted_is seg.rst (not (repeats past seg)) (is_prompted past) (is_overdue m past seg) prompted) (λ is. absurd cc);
     opened = opened_told s c up (our_shift c) after (opened_on s c past after (record { ours = refl; connecting = refl; out = refl; accepted = refl; theirs = refl; unasked = refl }) refl h.opened);
     awaits = λ is. let not_it = sym is ∙ known in absurd cc;

@@ -59,9 +59,9 @@ module _ (s : Settings) (c : Connection) (up : Upward) (down : Downward) (past :
 
   goes_now : Goes s (At m (Departs seg) ∷ past) m
   goes_now = does s past now m (Departs seg) (Send seg) h.goes on (λ none. none) refl
-      (may_send s past m seg (refl, refl) (syn_reason s c down up past now m seg on late h opening refl refl owed) (λ is. absurd cc)
+      (may_send s past m seg (refl, refl) (omega arith) (syn_reason s c down up past now m seg on late h opening refl refl owed) (λ is. absurd cc)
       (λ sent. (sym (ap (λ (o : Option ℕ). is_some o) unknown), λ is. absurd cc))
-      h.goes.well (λ is. absurd cc) (λ is. absurd (none_if (is_closed past) h.goes.open_yet is))
+      (λ is. absurd cc) h.goes.well (λ is. absurd cc) (λ is. absurd (none_if (is_closed past) h.goes.open_yet is))
       (λ is. granted s c past h.opened h.goes.open_yet (ap (λ (st : Stage). is_connects st) at)) opens
       (refl, scale_is s.scales (is_scaled s past) (least_shift c.ring) (least_told s.ring) h.suits.scales (ap least_shift h.suits.ring ∙ sym (least_same s.ring))))
       (must_send s past m seg tells h.goes.free)

@@ -15,6 +15,7 @@ use Rattle.tcp_guest.specs.Segments.{is_done as takes_for_done, settled}
 use Rattle.tcp_guest.specs.declared.Stage.{Stage}
 use Rattle.tcp_guest.specs.declared.Stage.TheVariants as stage
 use Rattle.flow_laws.specs.Settings.{Settings}
+use Rattle.flow_laws.proofs.GuestLaws.{honest_before}
 use Rattle.flow_laws.specs.Event.{Arrives, Closes, ConnectFails, WriteFails, ReadFails, EndFails, At, Event, Opens, Segment, Story}
 use Rattle.flow_laws.specs.Host.{answered, got_end}
 use Rattle.flow_laws.specs.Flow.{guest, host, is_accepted, is_closed, next_number as number_after, our_number, syn_is_out, their_number}
@@ -66,14 +67,14 @@ module _ (s : Settings) (c : Connection) (up : Upward) (down : Downward) (past :
       -- nothing of what went out nine times was acknowledged
       pub gives_up_closes : IsTrue (gives_up m past) → IsOver s (reset c) (At m (Closes directly false known) ∷ past) m
       gives_up_closes is =
-          resets_over s c up down past now m h past refl refl refl h.gives.keeps directly false known
+          resets_over s c up down past now m h past refl refl refl h.gives.keeps (λ n come. come) directly false known
           (closes s past now m directly false known runs on h.goes.open_yet (late_cause (or_first (gives_up m past) (connects_too_long m past) is)))
           (late_owes past m directly false known (or_first (gives_up m past) (connects_too_long m past) is) calm refl (given_up_not_done s past m h.goes.lawful is))
 
       -- the host didn't connect in time
       pub late_closes : is_opening c.stage ≡ true → IsTrue (connects_too_long m past) → IsOver s (reset c) (At m (Closes directly false known) ∷ past) m
       late_closes opening is =
-          resets_over s c up down past now m h past refl refl refl h.gives.keeps directly false known
+          resets_over s c up down past now m h past refl refl refl h.gives.keeps (λ n come. come) directly false known
           (closes s past now m directly false known runs on h.goes.open_yet (late_cause (or_second (gives_up m past) (connects_too_long m past) is)))
           (late_owes past m directly false known (or_second (gives_up m past) (connects_too_long m past) is) calm refl (unanswered_not_done past (unanswered opening)))
 
@@ -83,7 +84,7 @@ module _ (s : Settings) (c : Connection) (up : Upward) (down : Downward) (past :
 
     pub unfound_closes : IsTrue (finds_no_guest known m past) → (is_accepted past && not (syn_is_out past)) ≡ true → IsOver s (reset c) (At m (Closes directly false known) ∷ past) m
     unfound_closes is silent =
-        resets_over s c up down past now m h past refl refl refl h.gives.keeps directly false known
+        resets_over s c up down past now m h past refl refl refl h.gives.keeps (λ n come. come) directly false known
         (closes s past now m directly false known runs on h.goes.open_yet (unfound_cause is))
         (λ no_silence. let not_it = sym silent ∙ no_silence in absurd cc)
 
@@ -99,13 +100,13 @@ module _ (s : Settings) (c : Connection) (up : Upward) (down : Downward) (past :
 
   pub refused_closes : (at_end : Bool) → is_connects c.stage ≡ true → is_opening c.stage ≡ true → IsOver s (reset c) (At m (Closes false at_end known) ∷ At m ConnectFails ∷ past) m
   refused_closes at_end connects opening =
-      resets_over s c up down past now m h (At m ConnectFails ∷ past) refl refl refl h.gives.keeps false at_end known
+      resets_over s c up down past now m h (At m ConnectFails ∷ past) refl refl refl h.gives.keeps (λ n come. come) false at_end known
       (fails at_end ConnectFails AskConnected (λ none. none) refl (may_ask s past m h.goes.well h.goes.open_yet) (must_ask s past m h.goes.free) h.goes.open_yet refl)
       (failed_owes (At m ConnectFails ∷ past) m false at_end known refl (unanswered_not_done (At m ConnectFails ∷ past) (unanswered opening)))
 
   pub read_fails_closes : (at_end : Bool) → is_open c.transmission.end ≡ true → IsOver s (reset c) (At m (Closes false at_end known) ∷ At m ReadFails ∷ past) m
   read_fails_closes at_end yet =
-      resets_over s c up down past now m h (At m ReadFails ∷ past) refl refl refl h.gives.keeps false at_end known
+      resets_over s c up down past now m h (At m ReadFails ∷ past) refl refl refl h.gives.keeps (λ n come. come) false at_end known
       (fails at_end ReadFails Read (λ none. none) refl (may_read s past m none_ended h.goes.well h.goes.open_yet) (must_read s past m h.goes.free) h.goes.open_yet refl)
       (failed_owes (At m ReadFails ∷ past) m false at_end known refl (unacked_not_done (At m ReadFails ∷ past) not_acked))
     where
@@ -134,14 +135,14 @@ module _ (s : Settings) (c : Connection) (up : Upward) (down : Downward) (past :
     write_fails_closes at_end k all =
         let w = wrote s.ring (part_of c up) (guest past) k 0 (omega arith) (omega (arith, all)) (h.receives reached).follows in
         let enough : OffersEnough past (take k up.held) = subst (λ (j : ℕ). OffersEnough past (take j up.held)) (sym all) (offers s past (part_of c up) (h.receives reached).follows) in
-        resets_over s c up down past now m h (At m (WriteFails (take k up.held)) ∷ past) refl refl refl h.gives.keeps false at_end known
+        resets_over s c up down past now m h (At m (WriteFails (take k up.held)) ∷ past) refl refl refl h.gives.keeps (λ n come honest. come (honest_before (At m (WriteFails (take k up.held))) past honest)) false at_end known
         (fails at_end (WriteFails (take k up.held)) (Write (take k up.held)) (λ none. none) refl (may_write s past m (take k up.held) w.1 w.2 h.goes.well h.goes.open_yet) (must_write s past m (take k up.held) enough h.goes.free) h.goes.open_yet refl)
         (failed_owes (At m (WriteFails (take k up.held)) ∷ past) m false at_end known refl (unended_not_done (At m (WriteFails (take k up.held)) ∷ past) not_ended))
 
     pub end_fails_closes : (at_end : Bool) → up.held ≡ [] → c.received.ended ≡ true → IsOver s (reset c) (At m (Closes false at_end known) ∷ At m EndFails ∷ past) m
     end_fails_closes at_end none ended =
         let t = told_the_end s.ring (part_of c up) (guest past) none ended untold (h.receives reached).follows in
-        resets_over s c up down past now m h (At m EndFails ∷ past) refl refl refl h.gives.keeps false at_end known
+        resets_over s c up down past now m h (At m EndFails ∷ past) refl refl refl h.gives.keeps (λ n come honest. come (honest_before (At m EndFails) past honest)) false at_end known
         (fails at_end EndFails EndHost (λ none. none) refl (may_end s past m (t.1, t.2) h.goes.well h.goes.open_yet) (must_end s past m h.goes.free) h.goes.open_yet refl)
         (failed_owes (At m EndFails ∷ past) m false at_end known refl (unended_not_done (At m EndFails ∷ past) not_ended))
 
@@ -184,6 +185,7 @@ module _ (s : Settings) (c : Connection) (up : Upward) (down : Downward) (past :
       over = dead;
       owes = done_owes_none past m directly ended known is_done_now ∙ sym none;
       pays = λ seq ack is. absurd (never seq ack is);
+      came = λ seq ack is. absurd (never seq ack is);
     }
 
     -- the host ended last: it is gone
@@ -247,6 +249,7 @@ module _ (s : Settings) (c : Connection) (up : Upward) (down : Downward) (past :
     over = refl;
     owes = reset_owes_none (At m (Arrives seg) ∷ past) m true at_end known fatal;
     pays = λ seq ack is. absurd cc;
+    came = λ seq ack is. absurd cc;
   }
 
   -- at the number that is expected next

@@ -9,10 +9,12 @@ use Rattle.tcp_guest.specs.Hosts.{numbers_sent, over_by, reset, resets}
 use Rattle.tcp_guest.specs.declared.Stage.{Stage}
 use Rattle.tcp_guest.specs.declared.Stage.TheVariants as stage
 use Rattle.flow_laws.specs.Settings.{Settings}
+use Rattle.connection_steps.proofs.Telling.{came_of}
+use Rattle.flow_laws.specs.Guest.{Acked, HasCome, Honest, ackd}
 use Rattle.flow_laws.specs.Event.{Closes, At, Event, Story, Opens}
 use Rattle.flow_laws.specs.Flow.{host, is_accepted, is_closed, next_number as number_after, syn_is_out, their_number}
 use Rattle.flow_laws.specs.Close.{host_failed, owes_reset}
-use Rattle.flow_laws.specs.Lawful.{Act, Close, HasCause, May, act_of}
+use Rattle.flow_laws.specs.Lawful.{Act, Close, HasCause, May, act_of, HasNumberThatCame}
 use Rattle.flow_laws.specs.Dutiful.{Must, MustClose}
 use Rattle.flow_steps.specs.Sends.{Keeps}
 use Rattle.flow_steps.proofs.Acts.{may_close, must_close}
@@ -54,6 +56,7 @@ or_is false b is = absurd cc
 -- The flow's story goes on from `past` to `last` by at most a call that failed.
 module _ (s : Settings) (c : Connection) (up : Upward) (down : Downward) (past : Story) (now m : ℕ) (h : Holds s c up down past now) (last : Story)
     (out_is : syn_is_out last ≡ syn_is_out past) (accepted_is : is_accepted last ≡ is_accepted past) (theirs_is : their_number last ≡ their_number past) (keeps : Keeps (outward_of c.transmission down) (host last))
+    (comes : (n : ℕ) → (Honest (guest past) → HasCome (guest past) (ackd (Acked n ∷ guest past))) → Honest (guest last) → HasCome (guest last) (ackd (Acked n ∷ guest last)))
     (directly ended known : Bool) where
   abbrev shut : Story
   shut = At m (Closes directly ended known) ∷ last
@@ -118,6 +121,37 @@ module _ (s : Settings) (c : Connection) (up : Upward) (down : Downward) (past :
   pays_at (stage.Resets a b) at live seq ack is = absurd cc
   pays_at stage.Gone at live seq ack is = absurd cc
 
+  -- and acknowledges what came
+  came_next : is_calls c.stage ≡ false → HasNumberThatCame shut (next_number c.received)
+  came_next no_call =
+      subst (λ (o : Option ℕ). MatchOption o (next_number c.received ≡ 0) (λ f. Honest (guest last) → HasCome (guest last) (ackd (Acked (next_number c.received) ∷ guest last))))
+      (sym (theirs_is ∙ h.opened.theirs ∙ ap (λ (b : Bool). if b then None else Some c.received.first) no_call))
+      (comes (next_number c.received) (came_of s c up past h.opened (h.receives no_call)))
+
+  came_none : is_calls c.stage ≡ true → HasNumberThatCame shut 0
+  came_none calls =
+      subst (λ (o : Option ℕ). MatchOption o (0 ≡ 0) (λ f. Honest (guest last) → HasCome (guest last) (ackd (Acked 0 ∷ guest last))))
+      (sym (theirs_is ∙ h.opened.theirs ∙ ap (λ (b : Bool). if b then None else Some c.received.first) calls)) refl
+
+  came_at : (st : Stage) → c.stage ≡ st → is_live st ≡ true → (seq ack : Seq) → over_by st c ≡ stage.Resets seq ack → HasNumberThatCame shut ack.0
+  came_at stage.Connects at live seq ack is =
+      let two = resets_are 0 (next_number c.received) seq ack is in
+      subst (HasNumberThatCame shut) two.1 (came_next (ap (λ (q : Stage). is_calls q) at))
+  came_at stage.Calls at live seq ack is = by (has_gone c.sendings) is
+    where
+      by : (b : Bool) → (if b then resets (numbers_sent c) 0 else stage.Gone) ≡ stage.Resets seq ack → HasNumberThatCame shut ack.0
+      by true so = let two = resets_are (numbers_sent c) 0 seq ack so in subst (HasNumberThatCame shut) two.1 (came_none (ap (λ (q : Stage). is_calls q) at))
+      by false so = absurd cc
+  came_at stage.Answers at live seq ack is =
+      let two = resets_are (if has_gone c.sendings then numbers_sent c else 0) (next_number c.received) seq ack is in
+      subst (HasNumberThatCame shut) two.1 (came_next (ap (λ (q : Stage). is_calls q) at))
+  came_at stage.Synchronized at live seq ack is =
+      let two = resets_are (numbers_sent c) (next_number c.received) seq ack is in
+      subst (HasNumberThatCame shut) two.1 (came_next (ap (λ (q : Stage). is_calls q) at))
+  came_at stage.Rests at live seq ack is = absurd cc
+  came_at (stage.Resets a b) at live seq ack is = absurd cc
+  came_at stage.Gone at live seq ack is = absurd cc
+
   -- whether it owes one
   silent : (a b : Bool) → (a ≡ true → b ≡ true) → not (a && not b) ≡ true
   silent true true only = refl
@@ -164,6 +198,7 @@ module _ (s : Settings) (c : Connection) (up : Upward) (down : Downward) (past :
     over = dead_at c.stage h.opened.live;
     owes = by (is_accepted last && not (syn_is_out last)) refl ∙ sym (speaks_at c.stage refl h.opened.live);
     pays = pays_at c.stage refl h.opened.live;
+    came = came_at c.stage refl h.opened.live;
   }
     where
       by : (b : Bool) → (is_accepted last && not (syn_is_out last)) ≡ b → owes_reset shut ≡ not b
@@ -179,4 +214,5 @@ module _ (s : Settings) (c : Connection) (up : Upward) (down : Downward) (past :
     over = refl;
     owes = none;
     pays = λ seq ack is. absurd cc;
+    came = λ seq ack is. absurd cc;
   }

@@ -15,7 +15,7 @@ use Rattle.flow_laws.specs.Event.{At, Departs, Segment, Story}
 use Rattle.flow_laws.specs.Host.{Down, Sent, StandAt, acked, answered, got, our_place, sent}
 use Rattle.flow_laws.specs.Flow.{has_connected, host, is_accepted, is_closed, syn_is_out}
 use Rattle.flow_laws.specs.Windows.{is_scaled, least_shift as least_told, our_shift as shift_told}
-use Rattle.flow_laws.specs.Lawful.{IsPiece, May, Send, SendsAgainWithReason, SendsEndAfterAll, SendsWhatTheHostSent}
+use Rattle.flow_laws.specs.Lawful.{IsPiece, May, Send, SendsAgainWithReason, SendsEndAfterAll, SendsWhatTheHostSent, SendsWithinMss}
 use Rattle.flow_laws.proofs.Sides.{host_sent}
 use Rattle.flow_steps.specs.Sends.{Keeps}
 use Rattle.flow_steps.proofs.Acts.{may_send, must_send}
@@ -120,9 +120,10 @@ module _ (s : Settings) (c : Connection) (up : Upward) (down : Downward) (past :
   and_left false b is = absurd cc
 
   -- it may go out
-  pub leaves_lawfully : SendsAgainWithReason past m (Send seg) → SendsEndAfterAll past (Send seg) → May s past m (Send seg)
-  leaves_lawfully reason end_after = may_send s past m seg carries reason end_after
+  pub leaves_lawfully : SendsWithinMss s past (Send seg) → SendsAgainWithReason past m (Send seg) → SendsEndAfterAll past (Send seg) → May s past m (Send seg)
+  leaves_lawfully within reason end_after = may_send s past m seg carries within reason end_after
       (acknowledges s c up past now m seg h.suits h.goes h.opened known h.gives.fin_out (h.receives known) ack rst number)
+      (λ is. absurd (none_if seg.rst rst is))
       h.goes.well
       (λ is. absurd (none_if seg.rst rst is))
       (λ is. absurd (none_if (is_closed past) h.goes.open_yet is))
@@ -132,8 +133,8 @@ module _ (s : Settings) (c : Connection) (up : Upward) (down : Downward) (past :
         no_scale_said ∙ sym (ap (λ (b : Bool). if s.scales && b && not seg.rst && (not seg.ack || is_scaled s past) then Some (least_told s.ring) else None) syn ∙ no_scale s.scales (not seg.rst) (not seg.ack || is_scaled s past) (least_told s.ring)),
       )
 
-  pub leaves_goes : SendsAgainWithReason past m (Send seg) → SendsEndAfterAll past (Send seg) → Goes s (At m (Departs seg) ∷ past) m
-  leaves_goes reason end_after = does s past now m (Departs seg) (Send seg) h.goes on (λ none. none) refl (leaves_lawfully reason end_after)
+  pub leaves_goes : SendsWithinMss s past (Send seg) → SendsAgainWithReason past m (Send seg) → SendsEndAfterAll past (Send seg) → Goes s (At m (Departs seg) ∷ past) m
+  leaves_goes within reason end_after = does s past now m (Departs seg) (Send seg) h.goes on (λ none. none) refl (leaves_lawfully within reason end_after)
       (must_send s past m seg (tells_room s c up past now m seg h.suits h.goes h.opened known h.gives.fin_out (h.receives known) ack rst number window_told) h.goes.free)
       h.goes.open_yet refl refl
 

@@ -34,8 +34,8 @@ module _ (s : Settings) (c : Connection) (up : Upward) (down : Downward) (past :
   pays = h.pays seq ack at seg refl refl refl refl refl refl
 
   may : May s past m (Send seg)
-  may = may_send s past m seg (refl, refl) refl (λ is. absurd cc) (λ is. absurd cc) h.well
-      (reset_may_go past m seg refl refl refl refl owed pays) (λ is. (refl, refl, refl)) (λ is. absurd cc) ((λ is. absurd cc), (λ is. absurd cc))
+  may = may_send s past m seg (refl, refl) (omega arith) refl (λ is. absurd cc) (λ is. absurd cc) (λ is. h.came seq ack at) h.well
+      (reset_may_go past m seg refl refl refl refl owed pays) (λ is. (refl, refl, refl, refl)) (λ is. absurd cc) ((λ is. absurd cc), (λ is. absurd cc))
       (refl, no_scale s.scales false (not true || is_scaled s past) (least_shift s.ring))
 
   none_must : MustClose past → ⊥
@@ -50,4 +50,5 @@ module _ (s : Settings) (c : Connection) (up : Upward) (down : Downward) (past :
     over = refl;
     owes = reset_pays past m seg refl refl refl refl pays;
     pays = λ q a is. absurd cc;
+    came = λ q a is. absurd cc;
   }

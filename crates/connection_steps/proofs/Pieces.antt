@@ -20,6 +20,7 @@ use Rattle.tcp_guest.specs.Owing.{data_gone, told}
 use Rattle.tcp_guest.specs.Windows.{our_shift}
 use Rattle.tcp_guest.specs.declared.Owed.TheVariants.{Data}
 use Rattle.flow_laws.specs.Settings.{Settings}
+use Rattle.flow_laws.specs.Windows.{mss}
 use Rattle.flow_laws.specs.Event.{At, Departs, Segment, Story}
 use Rattle.flow_laws.specs.Guest.{is_empty}
 use Rattle.flow_laws.specs.Host.{acked, answered, got, got_end, our_place, sent}
@@ -62,6 +63,16 @@ long_of p = by p.fin
     by true = refl
     by false = omega arith
 
+-- it has no more octets than go in a segment
+piece_within : (t : Transmission) (down : Downward) → 64 ≤ t.mss → (next t down).length ≤ t.mss
+piece_within t down some = by (is_owed_again t) (nat_lt t.acked t.sent) (nat_lt t.sent (octets_read down))
+  where
+    by : (a b d : Bool) → (if a then (if b then oldest t down else (if d then piece t.sent 1 false else piece t.sent 0 (is_unsent t.end))) else fresh t down).length ≤ t.mss
+    by true true d = omega arith
+    by true false true = omega (arith, some)
+    by true false false = omega arith
+    by false b d = omega arith
+
 -- the end of what is owed is known where its FIN is
 fin_places : (e : End) → end_places e ≡ 1 → is_open e ≡ false
 fin_places our_end.Open is = absurd cc
@@ -103,6 +114,13 @@ module _ (s : Settings) (c : Connection) (up : Upward) (down : Downward) (past :
 
   cut : octets_of down p ≡ take (length (octets_of down p)) (drop (p.place - down.first) down.octets)
   cut = sym (ap (λ (n : ℕ). take n (drop (p.place - down.first) down.octets)) long)
+
+  -- no more than the guest takes in a segment
+  within : length (octets_of down p) ≤ mss s past
+  within =
+      let few : p.length ≤ t.mss = subst (λ (q : Piece). q.length ≤ t.mss) (sym p_is) (piece_within t down h.buffers.feeds.sound.least) in
+      let same : t.mss ≡ mss s past = h.opened.mss known in
+      omega (arith, long, few, same)
 
   -- by which of the three it is owed
   data Kind : Type 0 where
@@ -351,7 +369,7 @@ module _ (s : Settings) (c : Connection) (up : Upward) (down : Downward) (past :
     suits = record { ring = h.suits.ring; congestion = h.suits.congestion; scales = h.suits.scales; few = h.suits.few };
     buffers = buffers;
     within = h.within;
-    goes = leaves_goes s c up down past now m seg on h known (h.opened.sent synchronized) refl refl refl refl refl refl refl p.place refl low joins (near kind) cut (reason kind) end_after;
+    goes = leaves_goes s c up down past now m seg on h known (h.opened.sent synchronized) refl refl refl refl refl refl refl p.place refl low joins (near kind) cut within (reason kind) end_after;
     opened = opened_sending s (told c up (our_shift c)) (after_sent t p m) after refl (opened_told s c up (our_shift c) after (opened_on s c past after (record { ours = refl; connecting = refl; out = refl; accepted = refl; theirs = refl; unasked = refl }) refl h.opened));
     awaits = λ is. let not_it = sym is ∙ known in absurd cc;
     receives = λ is. receives_sending s (told c up (our_shift c)) (after_sent t p m) up after

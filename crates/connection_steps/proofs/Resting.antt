@@ -99,8 +99,8 @@ module _ (s : Settings) (c : Connection) (up : Upward) (down : Downward) (past :
   no_scale false b d x = refl
 
   may : May s past m (Send seg)
-  may = may_send s past m seg carries (prompted_is seg.rst (not (repeats past seg)) (is_prompted past) (is_overdue m past seg) (h.prompted owed)) (λ is. absurd cc)
-      (λ is. (sym is_known, λ yes_ honest. step.1 honest)) h.over.well (λ is. absurd cc) (λ is. (refl, refl, refl)) (λ is. h.granted)
+  may = may_send s past m seg carries (omega arith) (prompted_is seg.rst (not (repeats past seg)) (is_prompted past) (is_overdue m past seg) (h.prompted owed)) (λ is. absurd cc)
+      (λ is. (sym is_known, λ yes_ honest. step.1 honest)) (λ is. absurd cc) h.over.well (λ is. absurd cc) (λ is. (refl, refl, refl, ap (λ (o : Option ℕ). is_some o) h.begun)) (λ is. h.granted)
       ((λ is. absurd (none_if (syn_is_out past) h.out is)), (λ is. absurd cc)) (refl, no_scale s.scales true (not true || is_scaled s past) (least_shift s.ring))
 
   none_must : MustClose past → ⊥
@@ -129,6 +129,7 @@ module _ (s : Settings) (c : Connection) (up : Upward) (down : Downward) (past :
       over = h.over.over;
       owes = plain_owes past m seg refl ∙ h.over.owes;
       pays = λ seq ack is. let not_it = sym h.at ∙ is in absurd cc;
+      came = λ seq ack is. let not_it = sym h.at ∙ is in absurd cc;
     };
     at = h.at;
     begun = h.begun;
@@ -195,6 +196,7 @@ module _ (s : Settings) (c : Connection) (up : Upward) (down : Downward) (past :
           over = h.over.over;
           owes = h.over.owes;
           pays = λ seq ack is. let not_it = sym h.at ∙ is in absurd cc;
+          came = λ seq ack is. let not_it = sym h.at ∙ is in absurd cc;
         };
         at = h.at;
         begun = rest_goes_on past m since came h.begun ∙ ap (λ (b : Bool). if b then None else Some (if renews came then m else since)) goes_on;

@@ -213,9 +213,9 @@ module _ (s : Settings) (c : Connection) (up : Upward) (down : Downward) (past :
 
   goes_now : Goes s (At m (Departs seg) ∷ past) m
   goes_now = does s past now m (Departs seg) (Send seg) h.goes on (λ none. none) refl
-      (may_send s past m seg (refl, refl) (syn_reason s c down up past now m seg on late h opening refl refl owed) (λ is. absurd cc)
+      (may_send s past m seg (refl, refl) (omega arith) (syn_reason s c down up past now m seg on late h opening refl refl owed) (λ is. absurd cc)
       (acknowledges s c up past now m seg h.suits h.goes h.opened known h.gives.fin_out (h.receives known) refl refl refl)
-      h.goes.well (λ is. absurd cc) (λ is. absurd (none_if (is_closed past) h.goes.open_yet is))
+      (λ is. absurd cc) h.goes.well (λ is. absurd cc) (λ is. absurd (none_if (is_closed past) h.goes.open_yet is))
       (λ is. granted s c past h.opened h.goes.open_yet (ap (λ (st : Stage). is_connects st) at)) opens options)
       (must_send s past m seg (tells_room s c up past now m seg h.suits h.goes h.opened known h.gives.fin_out (h.receives known) refl refl refl refl) h.goes.free)
       h.goes.open_yet refl refl

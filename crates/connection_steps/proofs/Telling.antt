@@ -57,6 +57,15 @@ shift_is s c past suits o =
     ∙ if_not (is_some c.scale) 0 (least_told s.ring)
     ∙ ap (λ (k : ℕ). if is_some c.scale then k else 0) (least_same s.ring ∙ ap least_shift (sym suits.ring))
 
+-- ---- the number that is expected next
+
+-- all before it came
+pub came_of : (s : Settings) (c : Connection) (up : Upward) (past : Story) → IsOpened s c past → Receives s c up past → Honest (guest past) → HasCome (guest past) (ackd (Acked (next_number c.received) ∷ guest past))
+came_of s c up past o r = (acked s.ring (part_of c up) (guest past) (next_number c.received) (room_of up) whole refl r.follows).1
+  where
+    whole : room_of up + length up.held ≡ s.ring
+    whole = let size : up.size ≡ s.ring = r.follows.size in let within : length up.held ≤ s.ring = r.follows.within in omega (arith, size, within)
+
 -- ---- the segment
 
 module _ (s : Settings) (c : Connection) (up : Upward) (past : Story) (now m : ℕ) (seg : Segment) (suits : Suits s c) (goes : Goes s past now) (o : IsOpened s c past)

@@ -15,7 +15,7 @@ use Rattle.flow_laws.specs.Event.{IsStory, Segment, Story, newest_moment}
 use Rattle.flow_laws.specs.Flow.{guest, has_connected, host, is_accepted, is_closed, syn_is_out, their_number}
 use Rattle.flow_laws.specs.Windows.{our_shift as shift_told}
 use Rattle.flow_laws.specs.Close.{fin_is_out, host_failed, is_owed_reset, owes_reset, rests_since}
-use Rattle.flow_laws.specs.Lawful.{IsLawful, is_prompted}
+use Rattle.flow_laws.specs.Lawful.{HasNumberThatCame, IsLawful, is_prompted}
 use Rattle.flow_laws.specs.Dutiful.{IsDutiful, fin_is_answered}
 use Rattle.flow_steps.specs.Ends.{Ends}
 use Rattle.flow_steps.specs.Follows.{Follows}
@@ -43,7 +43,7 @@ is_resets stage.Gone = false
 abbrev pub Pays : Story → (seq ack : ℕ) → Type 0
 Pays past seq ack = (seg : Segment) → seg.rst ≡ true → seg.ack ≡ true → seg.syn ≡ false → seg.fin ≡ false → seg.number ≡ seq → seg.acknowledgement ≡ ack → is_owed_reset past seg ≡ true
 
--- The socket was closed, and the flow owes a reset exactly where the connection does.
+-- The socket was closed, and the flow owes a reset exactly where the connection does, one that acknowledges what came.
 pub record IsOver (s : Settings) (c : Connection) (past : Story) (now : ℕ) : Type 0 where
   pub runs : Runs s past now
   pub closed : is_closed past ≡ true
@@ -51,6 +51,7 @@ pub record IsOver (s : Settings) (c : Connection) (past : Story) (now : ℕ) : T
   pub over : is_live c.stage ≡ false
   pub owes : owes_reset past ≡ is_resets c.stage
   pub pays : (seq ack : Seq) → c.stage ≡ stage.Resets seq ack → Pays past seq.0 ack.0
+  pub came : (seq ack : Seq) → c.stage ≡ stage.Resets seq ack → HasNumberThatCame past ack.0
 
 -- It rests, since a moment: all that came of the guest was acknowledged, and the host's stream is out with its end.
 pub record IsResting (s : Settings) (c : Connection) (up : Upward) (down : Downward) (past : Story) (now since : ℕ) : Type 0 where

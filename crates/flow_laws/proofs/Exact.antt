@@ -7,17 +7,17 @@ use Rattle.flow_laws.specs.Event.{Segment, Story}
 use Rattle.flow_laws.specs.Guest.{Up, Acked, is_empty, Honest, HasCome, front, written, has_ended, ackd}
 use Rattle.flow_laws.specs.Host.{got, got_end, our_place}
 use Rattle.flow_laws.specs.Flow.{guest, host, their_number, our_number, next_number, is_closed, is_accepted, has_connected, syn_is_out}
-use Rattle.flow_laws.specs.Close.{is_done, IsReset, newest_rst, before, follows_reset, host_failed, gives_up, connects_too_long, finds_no_guest, owes_reset, is_owed_reset}
-use Rattle.flow_laws.specs.Lawful.{our_mss, our_scale, Act, AskConnected, Write, EndHost, Read, Send, Close, May, WritesWhatTheGuestSent, WritesWhatCame, SendsWhatTheHostSent, EndsAfterAll, SendsEndAfterAll, ReadsToTheEnd, AcknowledgesWhatCame, ClosesWithCause, ClosesAfterFailure, CallsOpenSocket, ResetsWhereOwed, SendsNothingAfterClose, OpensAfterHost, OpensWithSyn, SendsItsOptions, SendsAgainWithReason}
+use Rattle.flow_laws.specs.Close.{is_done, IsReset, newest_rst, before, follows_reset, host_failed, gives_up, connects_too_long, finds_no_guest, owes_reset, is_owed_reset, rests_since}
+use Rattle.flow_laws.specs.Lawful.{our_mss, our_scale, Act, AskConnected, Write, EndHost, Read, Send, Close, May, WritesWhatTheGuestSent, WritesWhatCame, SendsWhatTheHostSent, EndsAfterAll, SendsEndAfterAll, ReadsToTheEnd, AcknowledgesWhatCame, ClosesWithCause, ClosesAfterFailure, CallsOpenSocket, ResetsWhereOwed, SendsNothingAfterClose, OpensAfterHost, OpensWithSyn, SendsItsOptions, SendsAgainWithReason, SendsWithinMss, ResetsAtWhatCame}
 use Rattle.flow_laws.specs.Computed.{are_sized, ends_at, has_come, is_at, is_number, same_bool}
-use Rattle.flow_laws.specs.Check.{writes_what_the_guest_sent, writes_what_came, sends_what_the_host_sent, sends_again_with_reason, ends_after_all, sends_end_after_all, reads_to_the_end, acknowledges_what_came, closes_with_cause, closes_after_failure, calls_open_socket, resets_where_owed, sends_nothing_after_close, opens_after_host, opens_with_syn, sends_its_options, acks_syn, is_reset, is_reset_at, may_stream, may_end, may_close, may_open, may}
+use Rattle.flow_laws.specs.Check.{writes_what_the_guest_sent, writes_what_came, sends_what_the_host_sent, sends_again_with_reason, ends_after_all, sends_end_after_all, reads_to_the_end, acknowledges_what_came, closes_with_cause, closes_after_failure, calls_open_socket, resets_where_owed, sends_nothing_after_close, opens_after_host, opens_with_syn, sends_its_options, acks_syn, is_reset, is_reset_at, may_stream, may_end, may_close, may_open, may, sends_within_mss, has_number_that_came, resets_at_what_came, may_be_sent}
 use Rattle.flow_laws.proofs.Streams.{carried_length, front_carried, near_top}
 use Rattle.flow_laws.proofs.Acks.{acked_exact}
 use Rattle.flow_laws.proofs.GuestLaws.{honest_before}
 use Rattle.flow_laws.proofs.Honesty.{honest}
 use Rattle.flow_laws.proofs.Ends.{ends_has}
 use Rattle.flow_laws.proofs.Refuting.{prefix_begins}
-use Rattle.flow_laws.proofs.Holding.{or_left, or_right, and_true, three_true, four_true, implied, not_true, same_nat, same_bools, same_numbers, empty_holds, at_holds, all_hold, come_holds, read_holds}
+use Rattle.flow_laws.proofs.Holding.{or_left, or_right, and_true, four_true, implied, not_true, same_nat, same_bools, same_numbers, empty_holds, at_holds, all_hold, come_holds, read_holds}
 
 -- ---- streams and ends
 
@@ -140,12 +140,24 @@ owed_holds : (past : Story) (act : Act) → ResetsWhereOwed past act → IsTrue 
 owed_holds past (Send seg) is = implied seg.rst (owes_reset past && is_owed_reset past seg) is
 owed_holds past _ is = refl
 
+within_holds : (s : Settings) (past : Story) (act : Act) → SendsWithinMss s past act → IsTrue (sends_within_mss s past act)
+within_holds s past (Send seg) is = grind (arith, nat_tests, is)
+within_holds s past _ is = refl
+
+number_came : (past : Story) → Honest (guest past) → (n : ℕ) (o : Option ℕ) → MatchOption o (n ≡ 0) (λ f. Honest (guest past) → HasCome (guest past) (ackd (Acked n ∷ guest past))) → IsTrue (has_number_that_came (guest past) o n)
+number_came past honest n None is = same_nat n 0 is
+number_came past honest n (Some f) is = come_holds (guest past) (ackd (Acked n ∷ guest past)) (is honest)
+
+reset_holds : (past : Story) → Honest (guest past) → (act : Act) → ResetsAtWhatCame past act → IsTrue (resets_at_what_came past act)
+reset_holds past honest (Send seg) is = implied seg.rst (has_number_that_came (guest past) (their_number past) seg.acknowledgement) (λ rst. number_came past honest seg.acknowledgement (their_number past) (is rst))
+reset_holds past honest _ is = refl
+
 -- ---- opening
 
 quiet_holds : (past : Story) (act : Act) → SendsNothingAfterClose past act → IsTrue (sends_nothing_after_close past act)
 quiet_holds past (Send seg) is =
-    implied (is_closed past) (is_empty seg.octets && not seg.syn && not seg.fin)
-    (λ closed. let n = is closed in three_true (is_empty seg.octets) (not seg.syn) (not seg.fin) (empty_holds seg.octets n.0) (not_true seg.syn n.1) (not_true seg.fin n.2))
+    implied (is_closed past) (is_empty seg.octets && not seg.syn && not seg.fin && (seg.rst || is_some (rests_since past)))
+    (λ closed. let n = is closed in four_true (is_empty seg.octets) (not seg.syn) (not seg.fin) (seg.rst || is_some (rests_since past)) (empty_holds seg.octets n.0) (not_true seg.syn n.1) (not_true seg.fin n.2) n.3)
 quiet_holds past _ is = refl
 
 after_holds : (past : Story) (act : Act) → OpensAfterHost past act → IsTrue (opens_after_host past act)
@@ -173,12 +185,14 @@ options_hold s past _ is = refl
 -- What may be done for an honest guest passes the test.
 pub may_holds : (s : Settings) (past : Story) (now : ℕ) (act : Act) → Honest (guest past) → IsTrue (are_sized (guest past)) → May s past now act → IsTrue (may s past now act)
 may_holds s past now act honest sized m =
-    four_true (may_stream past now act) (may_end past act) (may_close past now act) (may_open s past act)
+    four_true (may_stream past now act) (may_end past act) (may_close past now act) (may_open past act && may_be_sent s past act)
     (four_true (writes_what_the_guest_sent past act) (writes_what_came past act) (sends_what_the_host_sent past act) (sends_again_with_reason past now act)
     (writes_holds past honest act m.writes_what_the_guest_sent) (came_holds past honest sized act m.writes_what_came) (sends_holds past act m.sends_what_the_host_sent) (again_holds past now act m.sends_again_with_reason))
     (four_true (ends_after_all past act) (sends_end_after_all past act) (reads_to_the_end past act) (acknowledges_what_came past act)
     (ends_holds past honest act m.ends_after_all) (fin_holds past act m.sends_end_after_all) (reads_holds past act m.reads_to_the_end) (acks_holds past honest act m.acknowledges_what_came))
     (four_true (closes_with_cause past now act) (closes_after_failure past act) (calls_open_socket past act) (resets_where_owed past act)
     (cause_holds past honest now act m.closes_with_cause) (failure_holds past act m.closes_after_failure) (socket_holds past act m.calls_open_socket) (owed_holds past act m.resets_where_owed))
-    (four_true (sends_nothing_after_close past act) (opens_after_host past act) (opens_with_syn past act) (sends_its_options s past act)
-    (quiet_holds past act m.sends_nothing_after_close) (after_holds past act m.opens_after_host) (syn_holds past act m.opens_with_syn) (options_hold s past act m.sends_its_options))
+    (and_true (may_open past act) (may_be_sent s past act)
+    (and_true (opens_after_host past act) (opens_with_syn past act) (after_holds past act m.opens_after_host) (syn_holds past act m.opens_with_syn))
+    (four_true (sends_within_mss s past act) (resets_at_what_came past act) (sends_nothing_after_close past act) (sends_its_options s past act)
+    (within_holds s past act m.sends_within_mss) (reset_holds past honest act m.resets_at_what_came) (quiet_holds past act m.sends_nothing_after_close) (options_hold s past act m.sends_its_options)))

@@ -7,11 +7,11 @@ use Rattle.flow_laws.specs.Event.{Segment, At, Story}
 use Rattle.flow_laws.specs.Guest.{is_empty, Acked, Honest, HasCome, front, written, has_ended, ackd}
 use Rattle.flow_laws.specs.Host.{got, got_end, our_place}
 use Rattle.flow_laws.specs.Flow.{guest, host, their_number, our_number, next_number, is_closed, is_accepted, has_connected, syn_is_out}
-use Rattle.flow_laws.specs.Close.{is_done, IsReset, newest_rst, before, follows_reset, host_failed, gives_up, connects_too_long, finds_no_guest, owes_reset, is_owed_reset}
-use Rattle.flow_laws.specs.Lawful.{our_mss, our_scale, Act, AskConnected, Write, EndHost, Read, Send, Close, act_of, HasCause, May, IsLawful, WritesWhatTheGuestSent, WritesWhatCame, SendsWhatTheHostSent, SendsAgainWithReason, EndsAfterAll, SendsEndAfterAll, ReadsToTheEnd, AcknowledgesWhatCame, ClosesWithCause, ClosesAfterFailure, CallsOpenSocket, ResetsWhereOwed, SendsNothingAfterClose, OpensAfterHost, OpensWithSyn, SendsItsOptions}
+use Rattle.flow_laws.specs.Close.{is_done, IsReset, newest_rst, before, follows_reset, host_failed, gives_up, connects_too_long, finds_no_guest, owes_reset, is_owed_reset, rests_since}
+use Rattle.flow_laws.specs.Lawful.{our_mss, our_scale, Act, AskConnected, Write, EndHost, Read, Send, Close, act_of, HasCause, May, IsLawful, WritesWhatTheGuestSent, WritesWhatCame, SendsWhatTheHostSent, SendsAgainWithReason, EndsAfterAll, SendsEndAfterAll, ReadsToTheEnd, AcknowledgesWhatCame, ClosesWithCause, ClosesAfterFailure, CallsOpenSocket, ResetsWhereOwed, SendsNothingAfterClose, OpensAfterHost, OpensWithSyn, SendsItsOptions, SendsWithinMss, ResetsAtWhatCame}
 use Rattle.flow_laws.specs.Computed.{ends_at, has_come, is_at, is_number, same_bool}
-use Rattle.flow_laws.specs.Check.{writes_what_the_guest_sent, writes_what_came, sends_what_the_host_sent, sends_again_with_reason, ends_after_all, sends_end_after_all, reads_to_the_end, acknowledges_what_came, closes_with_cause, closes_after_failure, calls_open_socket, resets_where_owed, sends_nothing_after_close, opens_after_host, opens_with_syn, sends_its_options, acks_syn, has_cause, is_reset, is_reset_at, may_stream, may_end, may_close, may_open, may, may_happen, is_lawful}
-use Rattle.flow_laws.proofs.Computing.{all_brought, at_is, begins_prefix, both, either, empty_is, imply, is_false, nat_same, number_is, same_bool_is, sends_read_is, three_parts, four_parts}
+use Rattle.flow_laws.specs.Check.{writes_what_the_guest_sent, writes_what_came, sends_what_the_host_sent, sends_again_with_reason, ends_after_all, sends_end_after_all, reads_to_the_end, acknowledges_what_came, closes_with_cause, closes_after_failure, calls_open_socket, resets_where_owed, sends_nothing_after_close, opens_after_host, opens_with_syn, sends_its_options, acks_syn, has_cause, is_reset, is_reset_at, may_stream, may_end, may_close, may_open, may, may_happen, is_lawful, sends_within_mss, has_number_that_came, resets_at_what_came, may_be_sent}
+use Rattle.flow_laws.proofs.Computing.{all_brought, at_is, begins_prefix, both, either, empty_is, imply, is_false, nat_same, number_is, same_bool_is, sends_read_is, four_parts}
 use Rattle.flow_laws.proofs.Ends.{ends_at_is, has_come_is}
 
 -- ---- streams
@@ -27,6 +27,10 @@ writes_came_is past _ is = tt
 sends_host_is : (past : Story) (act : Act) → IsTrue (sends_what_the_host_sent past act) → SendsWhatTheHostSent past act
 sends_host_is past (Send seg) is = sends_read_is (seg.syn || seg.rst) past seg is
 sends_host_is past _ is = tt
+
+within_is : (s : Settings) (past : Story) (act : Act) → IsTrue (sends_within_mss s past act) → SendsWithinMss s past act
+within_is s past (Send seg) is = grind (arith, nat_tests, is)
+within_is s past _ is = tt
 
 sends_again_is : (past : Story) (now : ℕ) (act : Act) → IsTrue (sends_again_with_reason past now act) → SendsAgainWithReason past now act
 sends_again_is past now (Send seg) is = is
@@ -59,6 +63,14 @@ acknowledges_is past (Send seg) is = λ plain.
       λ ack honest. has_come_is (guest past) (ackd (Acked seg.acknowledgement ∷ guest past)) (imply seg.ack (has_come (guest past) (ackd (Acked seg.acknowledgement ∷ guest past))) p.1 ack),
     )
 acknowledges_is past _ is = tt
+
+came_is : (past : Story) (n : ℕ) (o : Option ℕ) → IsTrue (has_number_that_came (guest past) o n) → MatchOption o (n ≡ 0) (λ f. Honest (guest past) → HasCome (guest past) (ackd (Acked n ∷ guest past)))
+came_is past n None is = nat_same n 0 is
+came_is past n (Some f) is = λ honest. has_come_is (guest past) (ackd (Acked n ∷ guest past)) is
+
+resets_at_is : (past : Story) (act : Act) → IsTrue (resets_at_what_came past act) → ResetsAtWhatCame past act
+resets_at_is past (Send seg) is = λ rst. came_is past seg.acknowledgement (their_number past) (imply seg.rst _ is rst)
+resets_at_is past _ is = tt
 
 number_back : (f a n : ℕ) → IsTrue (nat_lt n (2 ^ 32)) → n ≡ number_of f (a + steps_up n (number_of f a))
 number_back f a n is = let low : n < 2 ^ 32 = grind (arith, nat_tests) in omega arith
@@ -116,7 +128,8 @@ resets_is past _ is = tt
 
 nothing_is : (past : Story) (act : Act) → IsTrue (sends_nothing_after_close past act) → SendsNothingAfterClose past act
 nothing_is past (Send seg) is = λ closed.
-    let p = three_parts (is_empty seg.octets) (not seg.syn) (not seg.fin) (imply (is_closed past) _ is closed) in (empty_is seg.octets p.0, is_false seg.syn p.1, is_false seg.fin p.2)
+    let p = four_parts (is_empty seg.octets) (not seg.syn) (not seg.fin) (seg.rst || is_some (rests_since past)) (imply (is_closed past) _ is closed) in
+    (empty_is seg.octets p.0, is_false seg.syn p.1, is_false seg.fin p.2, p.3)
 nothing_is past _ is = tt
 
 -- ---- opening
@@ -149,28 +162,32 @@ options_is s past _ is = tt
 
 pub may_is : (s : Settings) (past : Story) (now : ℕ) (act : Act) → IsTrue (may s past now act) → May s past now act
 may_is s past now act is =
-    let all = four_parts (may_stream past now act) (may_end past act) (may_close past now act) (may_open s past act) is in
+    let all = four_parts (may_stream past now act) (may_end past act) (may_close past now act) (may_open past act && may_be_sent s past act) is in
     let streams = four_parts (writes_what_the_guest_sent past act) (writes_what_came past act) (sends_what_the_host_sent past act) (sends_again_with_reason past now act) all.0 in
     let ends = four_parts (ends_after_all past act) (sends_end_after_all past act) (reads_to_the_end past act) (acknowledges_what_came past act) all.1 in
     let closes = four_parts (closes_with_cause past now act) (closes_after_failure past act) (calls_open_socket past act) (resets_where_owed past act) all.2 in
-    let opens = four_parts (sends_nothing_after_close past act) (opens_after_host past act) (opens_with_syn past act) (sends_its_options s past act) all.3 in
+    let last = both (may_open past act) (may_be_sent s past act) all.3 in
+    let opens = both (opens_after_host past act) (opens_with_syn past act) last.0 in
+    let sent = four_parts (sends_within_mss s past act) (resets_at_what_came past act) (sends_nothing_after_close past act) (sends_its_options s past act) last.1 in
     record {
       writes_what_the_guest_sent = writes_guest_is past act streams.0;
       writes_what_came = writes_came_is past act streams.1;
       sends_what_the_host_sent = sends_host_is past act streams.2;
+      sends_within_mss = within_is s past act sent.0;
       sends_again_with_reason = sends_again_is past now act streams.3;
       ends_after_all = ends_host_is past act ends.0;
       sends_end_after_all = sends_end_is past act ends.1;
       reads_to_the_end = reads_is past act ends.2;
       acknowledges_what_came = acknowledges_is past act ends.3;
+      resets_at_what_came = resets_at_is past act sent.1;
       closes_with_cause = closes_is past now act closes.0;
       closes_after_failure = after_failure_is past act closes.1;
       calls_open_socket = open_socket_is past act closes.2;
       resets_where_owed = resets_is past act closes.3;
-      sends_nothing_after_close = nothing_is past act opens.0;
-      opens_after_host = opens_after_is past act opens.1;
-      opens_with_syn = opens_with_is past act opens.2;
-      sends_its_options = options_is s past act opens.3;
+      sends_nothing_after_close = nothing_is past act sent.2;
+      opens_after_host = opens_after_is past act opens.0;
+      opens_with_syn = opens_with_is past act opens.1;
+      sends_its_options = options_is s past act sent.3;
     }
 
 happens : (s : Settings) (past : Story) (now : ℕ) (o : Option Act) → IsTrue (may_happen s past now o) → MatchOption o (host_failed past ≡ false) (λ act. May s past now act)

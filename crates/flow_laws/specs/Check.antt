@@ -1,14 +1,15 @@
 -- A test beside each sentence of the law, which computes: where it holds, the sentence does. It asks of each guest what the law asks of an honest one,
 -- so an act that fails the test may still be allowed.
-use Rattle.std.specs.Prelude.{ℕ, ◌+◌, ◌^◌, List, [], ◌∷◌, ◌++◌, length, Option, None, Some, is_some, Bool, true, false, not, ◌&&◌, ◌||◌, pos, ◌+ℤ◌, nat_lt, nat_eq}
+use Rattle.std.specs.Prelude.{ℕ, ◌+◌, ◌^◌, List, [], ◌∷◌, ◌++◌, length, Option, None, Some, is_some, Bool, true, false, not, ◌&&◌, ◌||◌, pos, ◌+ℤ◌, nat_le, nat_lt, nat_eq}
 use Rattle.seq_space.specs.Places.{number_of, steps_up}
 use Rattle.flow_laws.specs.Settings.{Settings}
 use Rattle.flow_laws.specs.Event.{Segment, At, Story}
 use Rattle.flow_laws.specs.Guest.{Up, is_empty, Acked, front, written, has_ended, ackd}
 use Rattle.flow_laws.specs.Host.{got, got_end, our_place}
 use Rattle.flow_laws.specs.Flow.{guest, host, their_number, our_number, next_number, is_closed, is_accepted, has_connected, syn_is_out}
-use Rattle.flow_laws.specs.Close.{is_done, newest_rst, before, follows_reset, host_failed, gives_up, connects_too_long, finds_no_guest, owes_reset, is_owed_reset}
+use Rattle.flow_laws.specs.Close.{is_done, newest_rst, before, follows_reset, host_failed, gives_up, connects_too_long, finds_no_guest, owes_reset, is_owed_reset, rests_since}
 use Rattle.flow_laws.specs.Lawful.{our_mss, our_scale, Act, Write, EndHost, Read, Send, Close, act_of, is_prompted, is_overdue, repeats}
+use Rattle.flow_laws.specs.Windows.{mss}
 use Rattle.flow_laws.specs.Computed.{begins_with, brings_all, ends_at, has_come, is_at, is_number, same_bool, sends_read}
 
 -- ---- streams
@@ -24,6 +25,10 @@ writes_what_came past _ = true
 abbrev pub sends_what_the_host_sent : Story → Act → Bool
 sends_what_the_host_sent past (Send seg) = sends_read (seg.syn || seg.rst) past seg
 sends_what_the_host_sent past _ = true
+
+abbrev pub sends_within_mss : Settings → Story → Act → Bool
+sends_within_mss s past (Send seg) = nat_le (length seg.octets) (mss s past)
+sends_within_mss s past _ = true
 
 abbrev pub sends_again_with_reason : Story → ℕ → Act → Bool
 sends_again_with_reason past now (Send seg) = seg.rst || not (repeats past seg) || is_prompted past || is_overdue now past seg
@@ -50,6 +55,14 @@ abbrev pub acknowledges_what_came : Story → Act → Bool
 acknowledges_what_came past (Send seg) =
     not (not seg.rst) || (same_bool seg.ack (is_some (their_number past)) && (not seg.ack || has_come (guest past) (ackd (Acked seg.acknowledgement ∷ guest past))))
 acknowledges_what_came past _ = true
+
+abbrev pub has_number_that_came : List Up → Option ℕ → ℕ → Bool
+has_number_that_came past None n = nat_eq n 0
+has_number_that_came past (Some f) n = has_come past (ackd (Acked n ∷ past))
+
+abbrev pub resets_at_what_came : Story → Act → Bool
+resets_at_what_came past (Send seg) = not seg.rst || has_number_that_came (guest past) (their_number past) seg.acknowledgement
+resets_at_what_came past _ = true
 
 -- the reset comes at a number that the guest may send next
 abbrev pub is_reset_at : List Up → Option ℕ → Story → Segment → Bool
@@ -83,7 +96,7 @@ resets_where_owed past (Send seg) = not seg.rst || (owes_reset past && is_owed_r
 resets_where_owed past _ = true
 
 abbrev pub sends_nothing_after_close : Story → Act → Bool
-sends_nothing_after_close past (Send seg) = not (is_closed past) || (is_empty seg.octets && not seg.syn && not seg.fin)
+sends_nothing_after_close past (Send seg) = not (is_closed past) || (is_empty seg.octets && not seg.syn && not seg.fin && (seg.rst || is_some (rests_since past)))
 sends_nothing_after_close past _ = true
 
 -- ---- opening
@@ -115,14 +128,17 @@ may_stream past now act =
 abbrev pub may_end : Story → Act → Bool
 may_end past act = ends_after_all past act && sends_end_after_all past act && reads_to_the_end past act && acknowledges_what_came past act
 
+abbrev pub may_be_sent : Settings → Story → Act → Bool
+may_be_sent s past act = sends_within_mss s past act && resets_at_what_came past act && sends_nothing_after_close past act && sends_its_options s past act
+
 abbrev pub may_close : Story → ℕ → Act → Bool
 may_close past now act = closes_with_cause past now act && closes_after_failure past act && calls_open_socket past act && resets_where_owed past act
 
-abbrev pub may_open : Settings → Story → Act → Bool
-may_open s past act = sends_nothing_after_close past act && opens_after_host past act && opens_with_syn past act && sends_its_options s past act
+abbrev pub may_open : Story → Act → Bool
+may_open past act = opens_after_host past act && opens_with_syn past act
 
 abbrev pub may : Settings → Story → ℕ → Act → Bool
-may s past now act = may_stream past now act && may_end past act && may_close past now act && may_open s past act
+may s past now act = may_stream past now act && may_end past act && may_close past now act && (may_open past act && may_be_sent s past act)
 
 abbrev pub may_happen : Settings → Story → ℕ → Option Act → Bool
 may_happen s past now None = not (host_failed past)

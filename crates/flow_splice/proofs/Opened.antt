@@ -43,7 +43,7 @@ pub runs_later : (s : Settings) (past : Story) (now m : ℕ) → now ≤ m → R
 runs_later s past now m on r = record { story = r.story; moment = let low = r.moment in omega (arith, low, on); lawful = r.lawful; dutiful = r.dutiful }
 
 pub over_later : (s : Settings) (c : Connection) (past : Story) (now m : ℕ) → now ≤ m → IsOver s c past now → IsOver s c past m
-over_later s c past now m on h = record { runs = runs_later s past now m on h.runs; closed = h.closed; well = h.well; over = h.over; owes = h.owes; pays = h.pays }
+over_later s c past now m on h = record { runs = runs_later s past now m on h.runs; closed = h.closed; well = h.well; over = h.over; owes = h.owes; pays = h.pays; came = h.came }
 
 pub resting_later : (s : Settings) (c : Connection) (up : Upward) (down : Downward) (past : Story) (now m since : ℕ) → now ≤ m → IsResting s c up down past now since → IsResting s c up down past m since
 resting_later s c up down past now m since on h = record {

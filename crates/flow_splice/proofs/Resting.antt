@@ -1,5 +1,5 @@
 -- A segment of the guest arrives at a flow whose socket was closed.
-use Rattle.std.proofs.Common.{refl, ◌≡◌, ℕ, ◌≤◌, [], ◌∷◌, Bool, true, false, not, ◌&&◌, ◌||◌, Option, None, Some, if◌then◌else◌, nat_eq, arith, ap, subst, sym, ◌∙◌}
+use Rattle.std.proofs.Common.{refl, ◌≡◌, ℕ, ◌≤◌, List, MatchOption, is_some, option_map, [], ◌∷◌, Bool, true, false, not, ◌&&◌, ◌||◌, Option, None, Some, if◌then◌else◌, nat_eq, arith, ap, subst, sym, ◌∙◌}
 use Rattle.std.specs.Option.{option_or, option_map, unwrap_or}
 use Rattle.seq_space.specs.Places.{number_of}
 use Rattle.sock_buffers.specs.Downward.{Downward}
@@ -9,9 +9,10 @@ use Rattle.tcp_receive.specs.Received.{next_number}
 use Rattle.tcp_guest.specs.Connection.{Connection}
 use Rattle.tcp_guest.specs.Segments.{after_segment, down_after_segment, up_after_segment}
 use Rattle.flow_laws.specs.Settings.{Settings}
+use Rattle.flow_laws.specs.Lawful.{HasNumberThatCame}
 use Rattle.flow_laws.specs.Event.{Arrives, At, Segment, Story}
-use Rattle.flow_laws.specs.Flow.{confirms, greets, host, is_accepted, is_ahead, is_closed, our_number, push, syn_is_out, their_number, their_syn}
-use Rattle.flow_laws.specs.Guest.{ackd}
+use Rattle.flow_laws.specs.Flow.{confirms, greets, host, is_accepted, is_ahead, is_closed, our_number, push, syn_is_out, their_number, their_syn, guest, is_heeded, is_plain}
+use Rattle.flow_laws.specs.Guest.{ackd, Up, Acked, Came, HasCome, Honest, Known}
 use Rattle.flow_laws.specs.Host.{Confirmed, sent}
 use Rattle.flow_laws.specs.Flow.{guest}
 use Rattle.flow_laws.specs.Close.{ends_rest as ends_rest_of, is_owed_reset}
@@ -68,6 +69,17 @@ module _ (s : Settings) (c : Connection) (past : Story) (now m : ℕ) (seg : Seg
       ∙ ap (λ (o : Option Segment). g.rst && g.ack && not g.syn && not g.fin && (if syn_is_out past || is_accepted past then nat_eq g.number (number_of (our_number past) (sent (host past)))
       else (nat_eq g.number 0 && nat_eq g.acknowledgement (number_after (unwrap_or (option_map (λ (x : Segment). x.number) o) 0))))) same_syn
 
+  -- what comes after the close isn't looked at
+  same_guest : guest after ≡ guest past
+  same_guest =
+      ap (λ (b : Bool). push (if b then None else (if is_some (their_number past) then (if is_plain seg then Some (Came seg.number seg.octets seg.fin (is_heeded past seg)) else None)
+      else (if greets past seg then Some (Known seg.number) else None))) (guest past)) h.closed
+
+  same_came : (n : ℕ) → HasNumberThatCame past n → HasNumberThatCame after n
+  same_came n came =
+      subst (λ (x : Option Segment). MatchOption (option_map (λ (g : Segment). g.number) x) (n ≡ 0) (λ f. Honest (guest after) → HasCome (guest after) (ackd (Acked n ∷ guest after)))) (sym same_syn)
+      (subst (λ (g : List Up). MatchOption (their_number past) (n ≡ 0) (λ f. Honest g → HasCome g (ackd (Acked n ∷ g)))) (sym same_guest) came)
+
   no_close : MustClose past → ⊥
   no_close must = let not_it = sym must.2 ∙ h.closed in absurd cc
 
@@ -84,6 +96,7 @@ module _ (s : Settings) (c : Connection) (past : Story) (now m : ℕ) (seg : Seg
     over = h.over;
     owes = h.owes;
     pays = λ seq ack at g rst is_ack syn fin number acknowledgement. same_owed g ∙ h.pays seq ack at g rst is_ack syn fin number acknowledgement;
+    came = λ seq ack at. same_came ack.0 (h.came seq ack at);
   }
 
 -- ---- a flow that owes a reset, or nothing

@@ -36,6 +36,9 @@ impl Spliced {
         ensures up { self.new.up ≡ self.old.up }
         ensures down { self.new.down ≡ self.old.down }
         ensures in_time { is_open_by self.new ≡ true → is_connects self.new.conn.stage ≡ true → now < connect_end_by self.new }
+        // A flow that calls a guest still has requests or waits left.
+        ensures waits { is_open_by self.old ≡ true → is_connects self.old.conn.stage ≡ false → seeks_by self.old ≡ true → is_open_by self.new ≡ true
+            → (nat_eq self.new.asked 9 && nat_le self.new.ask_at now) ≡ false }
         // What the connection's timer makes owed again is owed again.
         ensures again { is_open_by self.old ≡ true → is_connects self.old.conn.stage ≡ false → seeks_by self.old ≡ false → is_open_by self.new ≡ true
             → self.new ≡ record self.old { conn = after_tick self.old.conn now } }
@@ -83,6 +86,7 @@ impl Spliced {
         ensures down { self.new.down ≡ self.old.down }
         ensures stage { is_open_by self.new ≡ true → self.new.conn.stage ≡ self.old.conn.stage }
         ensures conn { (self.new.conn ≡ self.old.conn) ⊎ (self.new.conn ≡ reset self.old.conn) }
+        ensures waits { is_open_by self.new ≡ true → (nat_eq self.new.asked 9 && nat_le self.new.ask_at now) ≡ false }
     {
         if self.has_asked_enough(now) {
             self.fail(world, now);

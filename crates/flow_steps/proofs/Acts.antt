@@ -5,7 +5,7 @@ use Rattle.flow_laws.specs.Event.{Segment, Story}
 use Rattle.flow_laws.specs.Host.{got_end}
 use Rattle.flow_laws.specs.Flow.{host, is_closed}
 use Rattle.flow_laws.specs.Close.{host_failed}
-use Rattle.flow_laws.specs.Lawful.{May, AskConnected, Write, EndHost, Read, Send, Close, HasCause, WritesWhatTheGuestSent, WritesWhatCame, SendsWhatTheHostSent, SendsAgainWithReason, EndsAfterAll, SendsEndAfterAll, AcknowledgesWhatCame, ResetsWhereOwed, SendsNothingAfterClose, OpensAfterHost, OpensWithSyn, SendsItsOptions}
+use Rattle.flow_laws.specs.Lawful.{May, AskConnected, Write, EndHost, Read, Send, Close, HasCause, WritesWhatTheGuestSent, WritesWhatCame, SendsWhatTheHostSent, SendsAgainWithReason, EndsAfterAll, SendsEndAfterAll, AcknowledgesWhatCame, ResetsWhereOwed, SendsNothingAfterClose, OpensAfterHost, OpensWithSyn, SendsItsOptions, SendsWithinMss, ResetsAtWhatCame}
 use Rattle.flow_laws.specs.Dutiful.{Must, MustClose, OffersEnough, TellsRoom}
 
 module _ (s : Settings) (past : Story) (now : ℕ) where
@@ -16,11 +16,13 @@ module _ (s : Settings) (past : Story) (now : ℕ) where
     writes_what_the_guest_sent = tt;
     writes_what_came = tt;
     sends_what_the_host_sent = tt;
+    sends_within_mss = tt;
     sends_again_with_reason = tt;
     ends_after_all = tt;
     sends_end_after_all = tt;
     reads_to_the_end = tt;
     acknowledges_what_came = tt;
+    resets_at_what_came = tt;
     closes_with_cause = tt;
     closes_after_failure = fine;
     calls_open_socket = open_yet;
@@ -36,11 +38,13 @@ module _ (s : Settings) (past : Story) (now : ℕ) where
     writes_what_the_guest_sent = guest_sent;
     writes_what_came = came;
     sends_what_the_host_sent = tt;
+    sends_within_mss = tt;
     sends_again_with_reason = tt;
     ends_after_all = tt;
     sends_end_after_all = tt;
     reads_to_the_end = tt;
     acknowledges_what_came = tt;
+    resets_at_what_came = tt;
     closes_with_cause = tt;
     closes_after_failure = fine;
     calls_open_socket = open_yet;
@@ -56,11 +60,13 @@ module _ (s : Settings) (past : Story) (now : ℕ) where
     writes_what_the_guest_sent = tt;
     writes_what_came = tt;
     sends_what_the_host_sent = tt;
+    sends_within_mss = tt;
     sends_again_with_reason = tt;
     ends_after_all = after;
     sends_end_after_all = tt;
     reads_to_the_end = tt;
     acknowledges_what_came = tt;
+    resets_at_what_came = tt;
     closes_with_cause = tt;
     closes_after_failure = fine;
     calls_open_socket = open_yet;
@@ -76,11 +82,13 @@ module _ (s : Settings) (past : Story) (now : ℕ) where
     writes_what_the_guest_sent = tt;
     writes_what_came = tt;
     sends_what_the_host_sent = tt;
+    sends_within_mss = tt;
     sends_again_with_reason = tt;
     ends_after_all = tt;
     sends_end_after_all = tt;
     reads_to_the_end = open_end;
     acknowledges_what_came = tt;
+    resets_at_what_came = tt;
     closes_with_cause = tt;
     closes_after_failure = fine;
     calls_open_socket = open_yet;
@@ -96,11 +104,13 @@ module _ (s : Settings) (past : Story) (now : ℕ) where
     writes_what_the_guest_sent = tt;
     writes_what_came = tt;
     sends_what_the_host_sent = tt;
+    sends_within_mss = tt;
     sends_again_with_reason = tt;
     ends_after_all = tt;
     sends_end_after_all = tt;
     reads_to_the_end = tt;
     acknowledges_what_came = tt;
+    resets_at_what_came = tt;
     closes_with_cause = cause;
     closes_after_failure = tt;
     calls_open_socket = open_yet;
@@ -111,18 +121,20 @@ module _ (s : Settings) (past : Story) (now : ℕ) where
     sends_its_options = tt;
   }
 
-  pub may_send : (seg : Segment) → SendsWhatTheHostSent past (Send seg) → SendsAgainWithReason past now (Send seg) → SendsEndAfterAll past (Send seg) → AcknowledgesWhatCame past (Send seg)
+  pub may_send : (seg : Segment) → SendsWhatTheHostSent past (Send seg) → SendsWithinMss s past (Send seg) → SendsAgainWithReason past now (Send seg) → SendsEndAfterAll past (Send seg) → AcknowledgesWhatCame past (Send seg) → ResetsAtWhatCame past (Send seg)
       → host_failed past ≡ false → ResetsWhereOwed past (Send seg) → SendsNothingAfterClose past (Send seg) → OpensAfterHost past (Send seg) → OpensWithSyn past (Send seg) → SendsItsOptions s past (Send seg)
       → May s past now (Send seg)
-  may_send seg host_sent reason end came fine owed quiet after syn options = record {
+  may_send seg host_sent within reason end came reset fine owed quiet after syn options = record {
     writes_what_the_guest_sent = tt;
     writes_what_came = tt;
     sends_what_the_host_sent = host_sent;
+    sends_within_mss = within;
     sends_again_with_reason = reason;
     ends_after_all = tt;
     sends_end_after_all = end;
     reads_to_the_end = tt;
     acknowledges_what_came = came;
+    resets_at_what_came = reset;
     closes_with_cause = tt;
     closes_after_failure = fine;
     calls_open_socket = tt;

@@ -1,9 +1,9 @@
 -- How long a wait may last.
-use Rattle.std.specs.Prelude.{◌≡◌, ℕ, ◌-◌, min, List, [], Option, Some, None}
+use Rattle.std.specs.Prelude.{◌≡◌, ℕ, ◌-◌, Bool, true, false, min, List, [], Option, Some, None}
 use Rattle.ipv4_head.specs.Sets.{PartSet}
 use Rattle.ipv4_reasm.specs.Answers.{IsFirstDue}
 use Rattle.flow_splice.specs.Splice.{Splice}
-use Rattle.tcp_flows.specs.Reading.{IsDue, NoneDue}
+use Rattle.tcp_flows.specs.Reading.{IsDue, IsDueAfter, NoneDue, NoneDueAfter}
 use Rattle.slirp_core.specs.Pumps.{time_left}
 use Rattle.slirp_core.specs.State.{SlirpState}
 
@@ -17,15 +17,17 @@ abbrev pub IsPartTime : ℕ → List PartSet → Option ℕ → Type 0
 IsPartTime now held None = held ≡ []
 IsPartTime now held (Some left) = (at : ℕ) × (IsFirstDue held at × (left ≡ at - now))
 
--- what is left until the first of these flows is to be told the time
-abbrev pub IsFlowTime : ℕ → List (Option Splice) → Option ℕ → Type 0
-IsFlowTime now parts None = NoneDue parts
-IsFlowTime now parts (Some left) = (at : ℕ) × (IsDue parts at × (left ≡ at - now))
+-- what is left until the first of these flows is to be told the time: as long as the link is blocked none waits for what is due already
+abbrev pub IsFlowTime : Bool → ℕ → List (Option Splice) → Option ℕ → Type 0
+IsFlowTime true now parts None = NoneDueAfter now parts
+IsFlowTime true now parts (Some left) = (at : ℕ) × (IsDueAfter now parts at × (left ≡ at - now))
+IsFlowTime false now parts None = NoneDue parts
+IsFlowTime false now parts (Some left) = (at : ℕ) × (IsDue parts at × (left ≡ at - now))
 
 -- it lasts until the idle life of the longest unused socket is over, these sets are dropped, or a flow is to be told the time
-pub record IsTimeout (slirp : SlirpState) (held : List PartSet) (timeout : Option ℕ) : Type 0 where
+pub record IsTimeout (slirp : SlirpState) (blocked : Bool) (held : List PartSet) (timeout : Option ℕ) : Type 0 where
   pub parts : Option ℕ
   pub of_parts : IsPartTime slirp.moment held parts
   pub flows : Option ℕ
-  pub of_flows : IsFlowTime slirp.moment slirp.flows.flows.parts flows
+  pub of_flows : IsFlowTime blocked slirp.moment slirp.flows.flows.parts flows
   pub is : timeout ≡ sooner (sooner (time_left slirp.moment slirp.associations) parts) flows

@@ -253,6 +253,8 @@ impl Slirp {
             → (n : ℕ) → OwesNoAck self.old.flows.flows.parts n → IsInTime self.new.moment self.new.flows.flows.parts n }
         ensures parts { (held : List PartSet) → IsHeld self.old.parts held → IsHeld self.new.parts (young self.old.moment held) }
         ensures turn { self.new.flows.turn ≡ self.old.flows.turn + 1 }
+        // No socket was served in the turn that begins.
+        ensures unserved { (k : ℕ) → slice_get self.new.flows.served k ≡ Some self.new.flows.turn → ⊥ }
         ensures same { self.new ≡ record self.old { associations = self.new.associations; parts = self.new.parts; flows = self.new.flows } }
     {
         self.flows.begin_turn();
@@ -270,6 +272,7 @@ impl Slirp {
         ensures ahead { (config : Config) (before : ℕ) (aged : Bool) (past : List Entry) → CoreHolds config before aged None self.old.flows.flows past → (n : ℕ) → OwesNoAck self.old.flows.flows.parts n
             → IsInTime self.new.moment self.new.flows.flows.parts n }
         ensures turn { self.new.flows.turn ≡ self.old.flows.turn }
+        ensures served { self.new.flows.served ≡ self.old.flows.served }
         ensures same { self.new ≡ record self.old { flows = self.new.flows } }
     {
         self.flows.tick(world, self.moment);

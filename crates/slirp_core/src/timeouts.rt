@@ -25,11 +25,15 @@ impl Slirp {
         Some(due.saturating_sub(self.moment))
     }
 
-    // How long it is until a flow is to be told the time.
-    pub(crate) fn time_of_flows(&self) -> Option<u64>
-        ensures { IsFlowTime self.now.moment self.now.flows.flows.parts result }
+    // How long it is until a flow is to be told the time. What is due already waits where the link is blocked, and isn't counted.
+    pub(crate) fn time_of_flows(&self, blocked: bool) -> Option<u64>
+        ensures { IsFlowTime blocked self.now.moment self.now.flows.flows.parts result }
     {
         let due = self.flows.due()?;
+        if blocked && due <= self.moment {
+            let later = self.flows.due_after(self.moment)?;
+            return Some(later - self.moment);
+        }
         Some(due.saturating_sub(self.moment))
     }
 }

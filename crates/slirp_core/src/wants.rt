@@ -171,7 +171,7 @@ impl Slirp {
     /// What the network waits for, and how long at most: the link for reading, and each open socket of datagrams by rising number, where nothing is left to be sent; the link for writing where it is blocked; what flows wait for, by rising number; until the idle life of the longest unused socket is over, the first fragments are dropped, or a flow is to be told the time.
     pub fn pollfds_fill(&self, link: &Link, wants: &mut TurnWants) -> Option<u64>
         requires { 4609 ≤ wants.old.capacity }
-        ensures timeout { (held : List PartSet) → IsHeld self.now.parts held → IsTimeout self.now held result }
+        ensures timeout { (held : List PartSet) → IsHeld self.now.parts held → IsTimeout self.now link.now.blocked held result }
         ensures items { WantsOf self.now link.now wants.new.items }
         ensures once { TcpOnce wants.new.items }
         ensures wants { AreWants wants.new.items }
@@ -186,7 +186,7 @@ impl Slirp {
             self.number,
         );
         let datagrams = sooner(self.time_of_sockets(), self.time_of_parts());
-        sooner(datagrams, self.time_of_flows())
+        sooner(datagrams, self.time_of_flows(link.blocked()))
     }
 }
 

@@ -25,3 +25,6 @@ returns-else-has_asked_enough-clause-makes g c = makes_none _ _ (ticks_as c.args
 
 pub returns-then-has_asked_enough-clause-stage : goal.returns-then-has_asked_enough-clause-stage
 returns-then-has_asked_enough-clause-stage g c yet = let f : Splice = c.args.self.now in absurd (shut_is (record f { conn = reset f.conn }) c.args.now (ap is_open (sym c.fail.ensures.change) ∙ yet))
+
+pub returns-then-has_asked_enough-clause-waits : goal.returns-then-has_asked_enough-clause-waits
+returns-then-has_asked_enough-clause-waits g c yet = let f : Splice = c.args.self.now in absurd (shut_is (record f { conn = reset f.conn }) c.args.now (ap is_open (sym c.fail.ensures.change) ∙ yet))
