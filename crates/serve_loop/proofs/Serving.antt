@@ -1,8 +1,8 @@
 -- A run from its first call to its last.
-use Rattle.std.proofs.Common.{◌≡◌, ℕ, ◌^◌, ◌≤◌, min, max, false, List, [], ◌∷◌, Option, refl, sym, ◌∙◌, ap, subst}
+use Rattle.std.proofs.Common.{◌≡◌, ℕ, ◌^◌, ◌≤◌, min, max, false, List, [], ◌∷◌, ◌++◌, Option, refl, sym, ◌∙◌, ap, subst}
 use Rattle.world_face.specs.Journal.{Entry, Allowed, Now}
-use Rattle.world_face.specs.Tells.{Telling, Brings, Makes}
-use Rattle.world_face.proofs.Telling.{makes_as, makes_from}
+use Rattle.world_face.specs.Tells.{Telling, Makes}
+use Rattle.world_face.proofs.Telling.{makes_as, makes_then}
 use Rattle.host_policy.specs.Addresses.{Config}
 use Rattle.udp_assoc.specs.declared.assocs.Association.{Association}
 use Rattle.flow_splice.specs.Splice.{Splice}
@@ -15,11 +15,11 @@ use Rattle.stream_netdev.specs.Keeps.{ReadsOn}
 use Rattle.stream_netdev.specs.State.{under_way}
 use Rattle.stream_netdev.proofs.Reading.{reads_first}
 use Rattle.tcp_flows.specs.Kept.{IsFor, Kept}
-use Rattle.slirp_core.specs.Holds.{after, flowing, Begins, Closing, Ran, Stands, Turns}
+use Rattle.slirp_core.specs.Holds.{after, flowing, Begins, ClosesAll, Stands, Turns}
 use Rattle.slirp_core.specs.Numbers.{flows_for}
 use Rattle.slirp_core.proofs.Starting.{IsUnbegun, ran as ran_by, spent as spent_by, started as started_by}
 use Rattle.serve_loop.specs.Ends.{end_of}
-use Rattle.serve_loop.specs.Turns.{Closes, EndedAs, HoldsNow}
+use Rattle.serve_loop.specs.Turns.{Closes, EndedAs, HoldsNow, RanTo}
 use Rattle.serve_loop.specs.Served.{IsNew, ServiceState}
 use Rattle.serve_loop.specs.declared.service.End.{End}
 use Rattle.serve_loop.specs.declared.service.End.TheVariants.{TurnsSpent}
@@ -70,16 +70,13 @@ spent config count turns service made all is holds = record {
     so (Turns turn) = sym (ap (end_of config) turn.working)
     so (Begins first free unrested shut) = sym (ap (end_of config) first.started)
 
--- the sockets of a run that has this end are closed, and it is the end of the whole
-abbrev pub RanTo : Config → End → List Entry → Type 0
-RanTo config end made = Lawful config made × Finished config made × (end ≡ end_of config (phase config made))
+-- all its sockets were closed then
+pub ran_to : (config : Config) (end : End) (associations : List Association) (parts : List (Option Splice)) (more past : List Entry) → Closes config end associations parts past → ClosesAll associations parts more → RanTo config end (more ++ past)
+ran_to config end associations parts more past closes all =
+    let over = all config (phase config past) past closes.closing in (over.0, over.1, closes.is ∙ ap (end_of config) over.2)
 
-pub finishes : (config : Config) (end : End) (associations : List Association) (parts : List (Option Splice)) (a b c : Telling) → Makes a b (Closes config end associations parts)
-    → ((over : Phase) → Brings b c (Closing config over associations parts) (Ran config over)) → Makes a c (RanTo config end)
-finishes config end associations parts a b c ran closed =
-    let over = phase config ran.made in
-    let closing : Makes a b (Closing config over associations parts) = record { made = ran.made; same = ran.same; allowed = ran.allowed; told = ran.told; counted = ran.counted; holds = ran.holds.closing } in
-    makes_as a c (Ran config over) (RanTo config end) (makes_from closing (closed over)) (λ made all. (all.0, all.1, ran.holds.is ∙ ap (end_of config) all.2))
+pub finishes : (config : Config) (end : End) (associations : List Association) (parts : List (Option Splice)) (a b c : Telling) → Makes a b (Closes config end associations parts) → Makes b c (ClosesAll associations parts) → Makes a c (RanTo config end)
+finishes config end associations parts a b c ran closed = makes_then a b c _ _ (RanTo config end) ran closed (λ made more closes all. ran_to config end associations parts more made closes all)
 
 pub told : (config : Config) (end : End) (old new : Telling) → Makes old new (RanTo config end) → Served config old new
 told config end old new makes = served config old new (makes_as old new (RanTo config end) (λ made. Lawful config made × Finished config made) makes (λ made run. (run.0, run.1)))

@@ -1,7 +1,7 @@
 -- The parts of a turn, and the items that it serves.
 use Rattle.std.proofs.Common.{◌≡◌, ℕ, zero, suc, ◌+◌, ◌^◌, ◌<◌, ◌≤◌, ◌==◌, ◌&&◌, ◌||◌, not, nat_lt, Bool, true, false, List, [], ◌∷◌, ◌++◌, drop, length, get_or, Option, sym, ◌∙◌, ap, arith, refl, if◌then◌else◌}
 use Rattle.std.proofs.lemmas.Bool.Decides.{nat_tests}
-use Rattle.poll_list.specs.Listing.{same_who, reads}
+use Rattle.poll_list.specs.Listing.{same_who, reads, writes}
 use Rattle.poll_list.specs.declared.Want.{Want}
 use Rattle.poll_list.specs.declared.Who.{Who}
 use Rattle.poll_list.specs.declared.Who.TheVariants.{Link as TheLink, Udp}
@@ -21,7 +21,7 @@ use Rattle.slirp_core.proofs.Associating.{with_agenda}
 use Rattle.slirp_core.proofs.Parts.{or_second}
 use Rattle.slirp_core.proofs.Sockets.{same}
 use Rattle.serve_loop.specs.Ends.{end_by, turn_of}
-use Rattle.serve_loop.specs.Turns.{is_read_now, still, AfterTurn, EndedAs, HoldsNow}
+use Rattle.serve_loop.specs.Turns.{all_passed_over, is_passed_over, is_read_now, still, AfterTurn, EndedAs, HoldsNow}
 use Rattle.serve_loop.specs.declared.service.End.{End}
 use Rattle.serve_loop.specs.declared.service.Turn.TheVariants.{Ended as TurnEnded}
 
@@ -142,3 +142,38 @@ weaker config count wants items aged slirp link past holds =
 pub any_left : (number : ℕ) (to_read : Bool) → number + (if to_read then 1 else 0) ≤ number + 1
 any_left number true = omega arith
 any_left number false = omega arith
+
+-- ---- items that are passed over
+
+no_first : (a b : Bool) → a ≡ true → (not a && not b) ≡ true → ⊥
+no_first true b is passed = absurd cc
+no_first false b is passed = absurd cc
+
+no_second : (a b : Bool) → b ≡ true → (not a && not b) ≡ true → ⊥
+no_second true b is passed = absurd cc
+no_second false true is passed = absurd cc
+no_second false false is passed = absurd cc
+
+-- what was waited for isn't
+pub read_counts : (wants : List Want) (item : Want) (who : Who) → item.of ≡ who → item.read ≡ true → reads who wants ≡ true → is_passed_over wants item ≡ true → ⊥
+read_counts wants item who of read wanted =
+    no_first (item.read && reads item.of wants) (item.write && writes item.of wants) (ap (λ (b : Bool). b && reads item.of wants) read ∙ ap (λ (w : Who). reads w wants) of ∙ wanted)
+
+pub write_counts : (wants : List Want) (item : Want) (who : Who) → item.of ≡ who → item.write ≡ true → writes who wants ≡ true → is_passed_over wants item ≡ true → ⊥
+write_counts wants item who of write wanted =
+    no_second (item.read && reads item.of wants) (item.write && writes item.of wants) (ap (λ (b : Bool). b && writes item.of wants) write ∙ ap (λ (w : Who). writes w wants) of ∙ wanted)
+
+pub some_counts : (wants : List Want) (item w : Want) → w ≡ wanted_of wants item → (w.read || w.write) ≡ true → is_passed_over wants item ≡ true → ⊥
+some_counts wants item w is some passed = by (wanted_of wants item).read (wanted_of wants item).write (ap (λ (x : Want). x.read || x.write) (sym is) ∙ some) passed
+  where
+    by : (a b : Bool) → (a || b) ≡ true → (not a && not b) ≡ true → ⊥
+    by true b either none = absurd cc
+    by false true either none = absurd cc
+    by false false either none = absurd cc
+
+-- each of them, where all are
+pub passed_at : (wants items : List Want) (n : ℕ) (item : Want) (rest : List Want) → all_passed_over wants items ≡ true → drop n items ≡ item ∷ rest → is_passed_over wants item ≡ true
+passed_at wants [] zero item rest all is = absurd cc
+passed_at wants [] (suc n) item rest all is = absurd cc
+passed_at wants (x ∷ items) zero item rest all is = let same : x ≡ item = cc in ap (is_passed_over wants) (sym same) ∙ (and_both (is_passed_over wants x) (all_passed_over wants items) all).0
+passed_at wants (x ∷ items) (suc n) item rest all is = passed_at wants items n item rest (and_both (is_passed_over wants x) (all_passed_over wants items) all).1 is

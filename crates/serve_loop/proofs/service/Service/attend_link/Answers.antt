@@ -1,9 +1,10 @@
 use Rattle.std.proofs.Common.{false, sym, ◌∙◌}
+use Rattle.poll_list.specs.declared.Who.TheVariants.{Link as TheLink}
 use Rattle.world_face.proofs.Telling.{brings_none, brings_then}
 use Rattle.slirp_core.specs.Holds.{flowing, standing}
 use Rattle.slirp_core.proofs.Associating.{passes_over}
 use Rattle.serve_loop.proofs.Counted.{counted_after}
-use Rattle.serve_loop.proofs.Turning.{of_link, read_now, link_read_counts, link_write_counts}
+use Rattle.serve_loop.proofs.Turning.{of_link, read_counts, read_now, write_counts}
 use Rattle.serve_loop.proofs.service.Service.attend_link.Goals as goal
 
 pub returns-in-Again-clause-makes : goal.returns-in-Again-clause-makes
@@ -16,3 +17,16 @@ pub returns-in-Ended-clause-makes : goal.returns-in-Ended-clause-makes
 returns-in-Ended-clause-makes g c config count items wanted =
     let now = read_now c.args.to_read c.args.item.now (sym c.is_read_now.ensures ∙ c.if-is_read_now.true) in
     c.in-Ended.ensures.makes config count c.args.self.now.wants c.args.item.now items (of_link c.args.self.now.wants c.args.item.now c.requires.of now.1 (wanted now.0))
+
+pub returns-in-Again-clause-faults : goal.returns-in-Again-clause-faults
+returns-in-Again-clause-faults g c = counted_after c.pump.result (g.W.World.tells c.args.world.now).faults (g.W.World.tells c.receive.new.world).faults (g.W.World.tells c.pump.new.world).faults c.in-Again.ensures.faults c.pump.ensures.faults
+
+pub returns-in-Again-clause-passed : goal.returns-in-Again-clause-passed
+returns-in-Again-clause-passed g c wanted passed =
+    let now = read_now c.args.to_read c.args.item.now (sym c.is_read_now.ensures ∙ c.if-is_read_now.true) in
+    absurd (read_counts c.args.self.now.wants c.args.item.now TheLink c.requires.of now.1 (wanted now.0) passed)
+
+pub returns-in-Ended-clause-passed : goal.returns-in-Ended-clause-passed
+returns-in-Ended-clause-passed g c wanted passed =
+    let now = read_now c.args.to_read c.args.item.now (sym c.is_read_now.ensures ∙ c.if-is_read_now.true) in
+    absurd (read_counts c.args.self.now.wants c.args.item.now TheLink c.requires.of now.1 (wanted now.0) passed)

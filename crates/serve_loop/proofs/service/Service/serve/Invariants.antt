@@ -5,7 +5,7 @@ use Rattle.stream_netdev.specs.State.{under_way}
 use Rattle.slirp_core.specs.Counts.{AreGrown}
 use Rattle.slirp_core.specs.Holds.{after}
 use Rattle.serve_loop.specs.Turns.{HoldsNow}
-use Rattle.serve_loop.proofs.service.Service.run.Given as goal
+use Rattle.serve_loop.proofs.service.Service.serve.Given as goal
 
 abbrev pub invariant-loop-count : goal.invariant-loop-count
 invariant-loop-count g l = record {

@@ -7,7 +7,7 @@ use Rattle.serve_loop.specs.Served.{ServiceState}
 use Rattle.serve_loop.specs.declared.service.Turn.TheVariants.{Ended as TurnEnded}
 use Rattle.slirp_core.proofs.Counted.{grown}
 use Rattle.serve_loop.proofs.Counted.{counted_after, end_after}
-use Rattle.serve_loop.proofs.service.Service.turn.Goals as goal
+use Rattle.serve_loop.proofs.service.Service.take_turn.Goals as goal
 
 pub returns-in-Again-clause-makes : goal.returns-in-Again-clause-makes
 returns-in-Again-clause-makes g c config count few =
