@@ -1,3 +1,3 @@
 mod Adding
 mod Mapping
-mod Owning
+pub mod Owning

@@ -5,7 +5,7 @@ use Rattle.std.specs.List.{position_or_len}
 use Rattle.std.specs.Option.{option_or, option_and_then}
 use Rattle.std.proofs.lemmas.Bool.{false≢true, cases_eq, cases_lt, and_parts}
 use Rattle.std.proofs.lemmas.Bool.Decides.{nat_tests}
-use Rattle.std.proofs.lemmas.List.{get_or_past, length-map}
+use Rattle.std.proofs.lemmas.List.{get_or_past, length-map, length-set}
 use Rattle.std.proofs.lemmas.List.Quantifiers.{position-Some}
 use Rattle.std.proofs.lemmas.List.Sums.{fails_before_first}
 use Rattle.std.proofs.lemmas.Slice.Eq.{bytes_eq-Decides}
@@ -18,7 +18,8 @@ use Rattle.dhcp_server.specs.declared.message.Message.{Message}
 use Rattle.dhcp_server.specs.declared.serving.Answer.TheVariants.{Silence, Lends, Informs, Refuses}
 use Rattle.dhcp_server.specs.declared.serving.Outcome.{Outcome}
 use Rattle.dhcp_server.specs.Leases.{same_mac, at_moment, is_free, is_of, is_reserved_for, lease_at, place_of, free_asked, offered, reserved, freed, not_reserved, can_have, lend, replaced, lease_time, declined_time, IsOneToOne}
-use Rattle.dhcp_server.specs.Serving.{leaves, asked_place, offers, discovered, is_for_another, wanted, lends, requested, given_up, outcome_of}
+use Rattle.dhcp_server.specs.Serving.{leaves, asked_place, offers, discovered, is_for_another, wanted, lends, requested, given_up, leases_after, outcome_of, served}
+use Rattle.dhcp_server.specs.Messages.{read_message}
 use Rattle.dhcp_server.specs.Replies.{IsPlaced}
 
 same_is : (a b : Mac) → same_mac a b ≡ true → a ≡ b
@@ -163,8 +164,9 @@ is_offered mac asked leases k one within is = by (position (is_of mac) leases) r
         record { can = inl own; alone = λ j other. one mac j k other own; within = subst (λ n. n < length leases) pk at.0 }
     by None none is = by_asked asked within none is
 
--- an outcome in which no hardware address has two addresses, and an address that is given has its place
+-- an outcome in which no hardware address has two addresses, there are 16 of them yet, and an address that is given has its place
 pub record IsGood (outcome : Outcome) : Type 0 where
+  pub many : length outcome.leases ≡ 16
   pub one : IsOneToOne outcome.leases
   pub placed : IsPlaced outcome.answer
 
@@ -172,8 +174,8 @@ either : (b : Bool) (x y : Outcome) → IsGood x → IsGood y → IsGood (if b t
 either true x y good other = good
 either false x y other good = good
 
-silent : (leases : List Lease) → IsOneToOne leases → IsGood (leaves leases Silence)
-silent leases one = record { one = one; placed = tt }
+silent : (leases : List Lease) → length leases ≡ 16 → IsOneToOne leases → IsGood (leaves leases Silence)
+silent leases long one = record { many = long; one = one; placed = tt }
 
 place_within : (config : Config) (a : ℕ) → IfSome (place_of config a) (λ k. k < 16)
 place_within config a = by (nat_le config.dhcp_start a && nat_lt a (config.dhcp_start + 16)) refl
@@ -196,37 +198,43 @@ good_discovered : (config : Config) (now : ℕ) (m : Message) (leases : List Lea
 good_discovered config now m leases long one = by (offered m.mac (asked_place config m) leases) refl
   where
     by : (o : Option ℕ) → offered m.mac (asked_place config m) leases ≡ o → IsGood (offers now m.mac leases o)
-    by None is = silent leases one
+    by None is = silent leases long one
     by (Some k) is =
         let offer = is_offered m.mac (asked_place config m) leases k one (subst (λ n. IfSome (asked_place config m) (λ p. p < n)) (sym long) (asked_within config m)) is in
         record {
+          many = length-set leases k (reserved now m.mac (lease_at leases k)) ∙ long;
           one = set_one m.mac leases k (reserved now m.mac (lease_at leases k)) (offer_only now m.mac (lease_at leases k) offer.can) offer.alone offer.within one;
           placed = subst (λ n. k < n) long offer.within;
         }
 
 good_lends : (now : ℕ) (mac : Mac) (leases : List Lease) (o : Option ℕ) → length leases ≡ 16 → IfSome o (λ k. k < 16) → IsOneToOne leases → IsGood (lends now mac leases o)
-good_lends now mac leases None long within one = record { one = one; placed = tt }
+good_lends now mac leases None long within one = record { many = long; one = one; placed = tt }
 good_lends now mac leases (Some k) long within one =
     either (can_have mac (lease_at leases k)) (leaves (lend now mac k leases) (Lends k)) (leaves leases Refuses)
     (record {
+      many = length-set (map (freed mac) leases) k (Bound mac (now + lease_time)) ∙ length-map leases (freed mac) ∙ long;
       one = set_one mac (map (freed mac) leases) k (Bound mac (now + lease_time)) (bound_only mac (now + lease_time))
           (λ j own. absurd (not_of_freed mac (lease_at leases j) (sym (ap (is_of mac) (lease_at-map (freed mac) leases j refl)) ∙ own)))
           (subst (λ n. k < n) (sym (length-map leases (freed mac) ∙ long)) within)
           (map_one (freed mac) leases refl (λ m lease is. or_free (is_of mac lease) m lease is) one);
       placed = within;
     })
-    (record { one = one; placed = tt })
+    (record { many = long; one = one; placed = tt })
 
 good_requested : (config : Config) (now : ℕ) (m : Message) (leases : List Lease) → length leases ≡ 16 → IsOneToOne leases → IsGood (requested config now m leases)
 good_requested config now m leases long one =
     either (is_for_another config m) (leaves (map (not_reserved m.mac) leases) Silence) (lends now m.mac leases (place_of config (wanted m)))
-    (silent (map (not_reserved m.mac) leases) (map_one (not_reserved m.mac) leases refl (λ n lease is. or_free (is_reserved_for m.mac lease) n lease is) one))
+    (silent (map (not_reserved m.mac) leases) (length-map leases (not_reserved m.mac) ∙ long) (map_one (not_reserved m.mac) leases refl (λ n lease is. or_free (is_reserved_for m.mac lease) n lease is) one))
     (good_lends now m.mac leases (place_of config (wanted m)) long (place_within config (wanted m)) one)
 
 good_given_up : (mac : Mac) (lease : Lease) (leases : List Lease) (o : Option ℕ) → ((m : Mac) → is_of m lease ≡ false) → length leases ≡ 16 → IfSome o (λ k. k < 16) → IsOneToOne leases → IsGood (given_up mac lease leases o)
-good_given_up mac lease leases None none long within one = silent leases one
-good_given_up mac lease leases (Some k) none long within one = silent (replaced mac k lease leases) (by (is_of mac (lease_at leases k)))
+good_given_up mac lease leases None none long within one = silent leases long one
+good_given_up mac lease leases (Some k) none long within one = silent (replaced mac k lease leases) (as_many (is_of mac (lease_at leases k))) (by (is_of mac (lease_at leases k)))
   where
+    as_many : (b : Bool) → length (if b then set leases k lease else leases) ≡ 16
+    as_many true = length-set leases k lease ∙ long
+    as_many false = long
+
     by : (b : Bool) → IsOneToOne (if b then set leases k lease else leases)
     by true = set_none leases k lease none (subst (λ n. k < n) (sym long) within) one
     by false = one
@@ -236,8 +244,8 @@ good_outcome config now m old size before =
     let leases = map (at_moment now) old in
     let long : length leases ≡ 16 = length-map old (at_moment now) ∙ size in
     let one : IsOneToOne leases = map_one (at_moment now) old refl (moment_frees now) before in
-    let nothing = silent leases one in
-    let informed : IsGood (leaves leases Informs) = record { one = one; placed = tt } in
+    let nothing = silent leases long one in
+    let informed : IsGood (leaves leases Informs) = record { many = long; one = one; placed = tt } in
     let released = good_given_up m.mac Free leases (place_of config m.client.0) (λ m. refl) long (place_within config m.client.0) one in
     let declined = good_given_up m.mac (Declined (now + declined_time)) leases (asked_place config m) (λ m. refl) long (asked_within config m) one in
     either (m.kind == 1) _ _ (good_discovered config now m leases long one)
@@ -252,3 +260,11 @@ all_free count m i j hi hj = absurd (none count i hi)
     none zero i is = false≢true is
     none (suc count) zero is = false≢true is
     none (suc count) (suc i) is = none count i is
+
+-- whatever octets came, where there were 16 addresses
+pub good_after : (config : Config) (now : ℕ) (octets : List ℕ) (leases : List Lease) → length leases ≡ 16 → IsOneToOne leases → IsOneToOne (leases_after config now octets leases) × (length (leases_after config now octets leases) ≡ 16)
+good_after config now octets leases long one = by (read_message octets)
+  where
+    by : (o : Option Message) → IsOneToOne (served config now leases o).leases × (length (served config now leases o).leases ≡ 16)
+    by None = (one, long)
+    by (Some m) = let good = good_outcome config now m leases long one in (good.one, good.many)

@@ -13,6 +13,7 @@ pub mod Framing
 pub mod Joining
 pub mod KeepingFlows
 pub mod LeaseRows
+pub mod Lent
 pub mod Longest
 pub mod NameRows
 pub mod Numbers
