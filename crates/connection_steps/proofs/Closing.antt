@@ -12,7 +12,7 @@ use Rattle.flow_laws.specs.Settings.{Settings}
 use Rattle.connection_steps.proofs.Telling.{came_of}
 use Rattle.flow_laws.specs.Guest.{Acked, HasCome, Honest, ackd}
 use Rattle.flow_laws.specs.Event.{Closes, At, Event, Story, Opens}
-use Rattle.flow_laws.specs.Flow.{host, is_accepted, is_closed, next_number as number_after, syn_is_out, their_number}
+use Rattle.flow_laws.specs.Flow.{host, is_accepted, is_closed, next_number as number_after, syn_is_out, their_number, guest}
 use Rattle.flow_laws.specs.Close.{host_failed, owes_reset}
 use Rattle.flow_laws.specs.Lawful.{Act, Close, HasCause, May, act_of, HasNumberThatCame}
 use Rattle.flow_laws.specs.Dutiful.{Must, MustClose}
