@@ -130,7 +130,7 @@ module _ (s : Settings) (c : Connection) (up : Upward) (down : Downward) (past :
 
   came_none : is_calls c.stage ≡ true → HasNumberThatCame shut 0
   came_none calls =
-      subst (λ (o : Option ℕ). MatchOption o (0 ≡ 0) (λ f. Honest (guest last) → HasCome (guest last) (ackd (Acked 0 ∷ guest last))))
+      subst (λ (o : Option ℕ). MatchOption o (◌≡◌ {A = ℕ} 0 0) (λ f. Honest (guest last) → HasCome (guest last) (ackd (Acked 0 ∷ guest last))))
       (sym (theirs_is ∙ h.opened.theirs ∙ ap (λ (b : Bool). if b then None else Some c.received.first) calls)) refl
 
   came_at : (st : Stage) → c.stage ≡ st → is_live st ≡ true → (seq ack : Seq) → over_by st c ≡ stage.Resets seq ack → HasNumberThatCame shut ack.0

@@ -9,7 +9,7 @@ use Rattle.sock_buffers.specs.Downward.{Downward}
 use Rattle.sock_buffers.specs.Upward.{Upward}
 use Rattle.tcp_transmit.specs.Pieces.{end_of, fresh, next, numbers, oldest, piece_owed, probe, piece}
 use Rattle.tcp_transmit.specs.Timing.{after_sent, goes_again}
-use Rattle.tcp_transmit.specs.Transmission.{Transmission, edge_of, end_places, is_owed_again, is_sent, octets_read}
+use Rattle.tcp_transmit.specs.Transmission.{Transmission, edge_of, end_places, is_owed_again, is_sent, octets_read, is_unsent}
 use Rattle.tcp_transmit.specs.declared.End.{End}
 use Rattle.tcp_transmit.specs.declared.End.TheVariants as our_end
 use Rattle.tcp_transmit.specs.declared.Piece.{Piece}
