@@ -1,7 +1,7 @@
 use Rattle.std.proofs.Common.{◌-◌, drop, length-take, ap, ◌∙◌, arith}
-use Rattle.net_world.specs.Buffered.{Buffered}
-use Rattle.net_world.proofs.Windows.{window_past}
-use Rattle.net_world.proofs.buffer.Buffer.drain.Goals as goal
+use Rattle.octet_buffer.specs.Buffered.{Buffered}
+use Rattle.octet_buffer.proofs.Windows.{window_past}
+use Rattle.octet_buffer.proofs.buffer.Buffer.drain.Goals as goal
 
 pub returns-clause-left : goal.returns-clause-left
 returns-clause-left g c =

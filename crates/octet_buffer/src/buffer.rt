@@ -3,7 +3,7 @@ ghost use Rattle.std.specs.Prelude.{◌≡◌, ℕ, ◌+◌, ◌<◌, ◌≤◌,
 ghost use Rattle.std.specs.Bool.{OnTrue, OnFalse};
 ghost use Rattle.std.specs.Io.{WritesAtMost};
 ghost use Rattle.std.specs.Io.KnownBytes.{Consumes, IsAtEnd, Keeps, WriteAppends};
-ghost use Rattle.net_world.specs.Buffered.{nothing_in};
+ghost use Rattle.octet_buffer.specs.Buffered.{nothing_in};
 
 use crate::again;
 use net_octets::NoMemory;
@@ -15,7 +15,7 @@ use std::marker::Model;
 /// Octets in the order in which they came, with room for a fixed number, all of it taken at opening. A contract sees the
 /// octets, how many more can be put, and how many there is memory for.
 #[derive(Drop)]
-pub(crate) struct Buffer {
+pub struct Buffer {
     octets: Vec<u8>,
     from: usize,
     to: usize,
@@ -23,7 +23,7 @@ pub(crate) struct Buffer {
 
 impl Model for Buffer {
     ghost use Rattle.std.specs.Prelude.{◌-◌, ◌≤◌, length, take, drop};
-    ghost use Rattle.net_world.specs.Buffered.{Buffered, buffered};
+    ghost use Rattle.octet_buffer.specs.Buffered.{Buffered, buffered};
 
     ghost Value = { Buffered };
 
@@ -33,6 +33,10 @@ impl Model for Buffer {
 }
 
 impl Buffer {
+    /// An empty buffer with room for so many octets. No other call takes memory.
+    ///
+    /// # Errors
+    /// `NoMemory` where no memory is left.
     pub fn open(alloc: Global, room: usize) -> Result<Buffer, NoMemory>
         ensures { IfOk result (λ buffer. buffer ≡ nothing_in room) }
     {
@@ -46,6 +50,7 @@ impl Buffer {
         })
     }
 
+    /// Whether there are no octets.
     pub fn is_empty(&self) -> bool
         ensures { result ≡ (length self.now.octets == 0) }
     {
@@ -73,7 +78,7 @@ impl Buffer {
         count
     }
 
-    /// Puts octets at the end, where there is room.
+    /// Puts octets at the end, all of them, where there is room; else none, and the answer is false.
     pub fn put(&mut self, octets: &[u8]) -> bool
         ensures fits { result ≡ nat_le (length octets.now) self.old.room }
         ensures put { OnTrue result (self.new.octets ≡ self.old.octets ++ octets.now) }
@@ -102,7 +107,10 @@ impl Buffer {
         }
     }
 
-    /// Reads octets to the end by one call, as many as there is room for.
+    /// Reads octets to the end by one call, at most as many as there is room for, and answers how many came.
+    ///
+    /// # Errors
+    /// That of the call, and nothing came.
     pub fn fill<T: Read>(&mut self, source: &mut T) -> io::Result<usize>
         // What came is what the source gave, and it gave no more.
         ensures came { IfOk result (λ count. (came : List ℕ) × (length came ≡ count) × (self.new.octets ≡ self.old.octets ++ came) × Consumes (T.remaining source.old) (T.remaining source.new) came) }
@@ -122,7 +130,10 @@ impl Buffer {
         }
     }
 
-    /// Writes octets by one call, and drops what was taken.
+    /// Writes octets by one call, the first first, drops what was taken, and answers how many that are.
+    ///
+    /// # Errors
+    /// That of the call, and nothing was dropped.
     pub fn drain<T: Write>(&mut self, sink: &mut T) -> io::Result<usize>
         ensures fits { WritesAtMost result self.old.octets }
         ensures left { IfOk result (λ count. self.new.octets ≡ drop count self.old.octets) }

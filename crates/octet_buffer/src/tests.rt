@@ -1,5 +1,5 @@
 // Calls that a signal interrupts.
-use crate::buffer::Buffer;
+use crate::Buffer;
 use std::io;
 use std::io::{ErrorKind, Read, Write};
 use std::test::Fail;

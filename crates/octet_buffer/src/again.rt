@@ -1,4 +1,4 @@
-// Calls that a signal interrupted are made again.
+//! Calls that a signal interrupted are made again.
 ghost use Rattle.std.specs.Prelude.{◌≤◌, length, true, ◌≡◌, IfOk, IsErr};
 ghost use Rattle.std.specs.Io.{ReadsAtMost, WritesAtMost};
 ghost use Rattle.std.specs.Io.KnownBytes.{ReadConsumes, WriteAppends};
@@ -12,7 +12,7 @@ use std::net::SocketAddr;
 const TRIES: u32 = 64;
 
 /// Reads by one call that wasn't interrupted.
-pub(crate) fn read<T: Read>(source: &mut T, into: &mut [u8]) -> io::Result<usize>
+pub fn read<T: Read>(source: &mut T, into: &mut [u8]) -> io::Result<usize>
     ensures fits { ReadsAtMost result into.new }
     // What came is what the source gave, and it gave no more.
     ensures came { ReadConsumes (T.remaining source.old) (T.remaining source.new) result into.new }
@@ -27,7 +27,7 @@ pub(crate) fn read<T: Read>(source: &mut T, into: &mut [u8]) -> io::Result<usize
 }
 
 /// Writes by one call that wasn't interrupted.
-pub(crate) fn write<T: Write>(sink: &mut T, octets: &[u8]) -> io::Result<usize>
+pub fn write<T: Write>(sink: &mut T, octets: &[u8]) -> io::Result<usize>
     ensures fits { WritesAtMost result octets.now }
     // What the sink got are the first of these octets, as many as were taken.
     ensures went { WriteAppends (T.contents sink.old) (T.contents sink.new) result octets.now }
@@ -42,7 +42,7 @@ pub(crate) fn write<T: Write>(sink: &mut T, octets: &[u8]) -> io::Result<usize>
 }
 
 /// Sends a datagram by one call that wasn't interrupted.
-pub(crate) fn send_to(socket: &UdpSocket, octets: &[u8], to: SocketAddr) -> io::Result<usize> {
+pub fn send_to(socket: &UdpSocket, octets: &[u8], to: SocketAddr) -> io::Result<usize> {
     for _ in 0..TRIES {
         let sent = socket.send_to(octets, to);
         if !is_interrupted(&sent) {
@@ -53,7 +53,7 @@ pub(crate) fn send_to(socket: &UdpSocket, octets: &[u8], to: SocketAddr) -> io::
 }
 
 /// Receives a datagram by one call that wasn't interrupted.
-pub(crate) fn recv_from(socket: &UdpSocket, into: &mut [u8]) -> io::Result<(usize, SocketAddr)>
+pub fn recv_from(socket: &UdpSocket, into: &mut [u8]) -> io::Result<(usize, SocketAddr)>
     ensures { IfOk result (λ came. came.0 ≤ length into.new) }
 {
     for _ in 0..TRIES {
