@@ -2,8 +2,8 @@
 ghost use Rattle.std.specs.Prelude.{◌<◌, length};
 ghost use Rattle.world_face.specs.Journal.{MayReadFile};
 
-use crate::again;
 use arrayvec::ArrayString;
+use octet_buffer::again;
 use std::fs::{File, Files, OpenFile};
 use std::io::{ErrorKind, Seek, SeekFrom};
 use std::{fs, io};

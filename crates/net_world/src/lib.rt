@@ -1,8 +1,6 @@
 //! The real outside behind the trait: sockets by readiness, files, and the clock. The link is read and written in large pieces, and the system is asked what is ready only where nothing is known to be.
 #![tactic(auto)]
 
-mod again;
-mod buffer;
 mod edge;
 mod files;
 mod gathering;
@@ -10,7 +8,5 @@ mod link;
 mod net_world;
 mod socket_file;
 mod sockets;
-#[cfg(test)]
-mod tests;
 
 pub use net_world::NetWorld;

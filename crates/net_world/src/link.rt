@@ -2,7 +2,6 @@
 ghost use Rattle.std.specs.Prelude.{◌<◌, length};
 ghost use Rattle.world_face.specs.Journal.{MayRead, MayWrite};
 
-use crate::buffer::Buffer;
 use crate::socket_file;
 use crate::sockets::{address, is_not_yet, send_at_once};
 use arrayvec::ArrayString;
@@ -10,6 +9,7 @@ use mio::event::Event;
 use mio::net::{TcpListener, TcpStream, UnixListener, UnixStream};
 use mio::{Interest, Registry, Token};
 use net_octets::NoMemory;
+use octet_buffer::Buffer;
 use std::alloc::Global;
 use std::fs::Files;
 use std::io;

@@ -6,11 +6,11 @@ ghost use Rattle.slab.specs.Slab.{slab_len};
 ghost use Rattle.world_face.specs.Journal.{MayRead, MayWrite, MayGet};
 ghost use Rattle.net_world.specs.declared.sockets.TheConstants.{MOST};
 
-use crate::again;
 use mio::event::Event;
 use mio::net::{TcpListener, TcpStream, UdpSocket};
 use mio::{Interest, Registry, Token};
 use net_octets::NoMemory;
+use octet_buffer::again;
 use poll_list::Who;
 use slab::Slab;
 use std::alloc::Global;

@@ -34,12 +34,13 @@ impl<T: Write> Sink for StdSink<T> {
 
     ghost faults = { λ s. s.faults };
 
-    /// The writer got all of the octets, and was flushed.
+    /// Where this is Ok the writer got all of the octets.
     fn put(&mut self, octets: &[u8]) -> Result<(), Failed>
         ensures puts { Puts None None (faults_of self.old) (faults_of self.new) octets.now result }
         ensures calm { OnOk result (faults_of self.new ≡ faults_of self.old) }
         ensures written { OnOk result (Appends (T.contents (writer_of self.old)) (T.contents (writer_of self.new)) octets.now) }
     {
+        // A writer of std shows nothing of a flush: that one is made is tested in `app_cases`.
         if self.writer.write_all(octets).is_err() || self.writer.flush().is_err() {
             self.faults = self.faults.saturating_add(1);
             return Err(Failed);

@@ -1,0 +1,11 @@
+//! Octets on their way through a buffer of a fixed size, and single calls on what the system reads and writes, which are made again where a signal interrupted them.
+//!
+//! A call is made at most 64 times, and the answer is `Interrupted` where a signal came each time. No contract sees a signal: what was interrupted, and that a call was made again, is shown by a test.
+#![tactic(auto)]
+
+pub mod again;
+mod buffer;
+#[cfg(test)]
+mod tests;
+
+pub use buffer::Buffer;
