@@ -28,12 +28,18 @@ another_network = (
       dhcp_start = refl;
       restricted = refl;
       no_loopback = refl;
+      hostname = refl;
+      domainname = refl;
+      tftp_server_name = refl;
+      bootfile = refl;
       mtu = refl;
       mru = refl;
       flows = refl;
       ring = refl;
       turns = refl;
       congestion = refl;
+      no_dhcp = refl;
+      version = refl;
       rest = refl;
     },
   ),

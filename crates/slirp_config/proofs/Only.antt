@@ -6,7 +6,7 @@ use Rattle.host_policy.specs.Settings.{usual}
 use Rattle.host_policy.specs.Ranges.{mask_of}
 use Rattle.world_face.specs.Journal.{Place, AtPath, AtEndpoint}
 use Rattle.slirp_config.specs.declared.options.Verb.TheVariants.{Replay, Serve}
-use Rattle.slirp_config.specs.Meaning.{AreSettings, MeansReplay, MeansServe}
+use Rattle.slirp_config.specs.Meaning.{AreSettings, MeansReplay, MeansServe, version_of}
 use Rattle.slirp_config.specs.Options.{Word, value_in}
 use Rattle.slirp_config.specs.Texts.{IsNumber, IsAddress, IsNetwork, IsLink, endpoint_text, is_other}
 use Rattle.slirp_config.specs.Walking.{Walk}
@@ -49,26 +49,38 @@ one_settings given c d h g =
     let dhcp_start : c.dhcp_start ≡ d.dhcp_start = one_of (given (codes "--dhcpstart")) ((c.network + 15) % 2 ^ 32) ((d.network + 15) % 2 ^ 32) IsAddress (ap (λ (n : ℕ). (n + 15) % 2 ^ 32) net.0) same_at c.dhcp_start d.dhcp_start h.dhcp_start g.dhcp_start in
     let restricted : c.restricted ≡ d.restricted = h.restricted ∙ sym g.restricted in
     let no_loopback : c.no_loopback ≡ d.no_loopback = h.no_loopback ∙ sym g.no_loopback in
+    let hostname : c.hostname ≡ d.hostname = h.hostname ∙ sym g.hostname in
+    let domainname : c.domainname ≡ d.domainname = h.domainname ∙ sym g.domainname in
+    let tftp_server_name : c.tftp_server_name ≡ d.tftp_server_name = h.tftp_server_name ∙ sym g.tftp_server_name in
+    let bootfile : c.bootfile ≡ d.bootfile = h.bootfile ∙ sym g.bootfile in
     let mtu : c.mtu ≡ d.mtu = one_of (given (codes "--mtu")) usual.mtu usual.mtu (IsNumber 16) refl same_short c.mtu d.mtu h.mtu g.mtu in
     let mru : c.mru ≡ d.mru = one_of (given (codes "--mru")) usual.mru usual.mru (IsNumber 16) refl same_short c.mru d.mru h.mru g.mru in
     let flows : c.flows ≡ d.flows = one_of (given (codes "--flows")) usual.flows usual.flows (IsNumber 64) refl same_long c.flows d.flows h.flows g.flows in
     let ring : c.ring ≡ d.ring = one_of (given (codes "--ring")) usual.ring usual.ring (IsNumber 64) refl same_long c.ring d.ring h.ring g.ring in
     let turns : c.turns ≡ d.turns = one_of (given (codes "--turns")) usual.turns usual.turns (IsNumber 64) refl same_long c.turns d.turns h.turns g.turns in
     let congestion : c.congestion ≡ d.congestion = h.congestion ∙ sym g.congestion in
+    let no_dhcp : c.no_dhcp ≡ d.no_dhcp = h.no_dhcp ∙ sym g.no_dhcp in
+    let version : c.version ≡ d.version = h.version ∙ ap version_of no_dhcp ∙ sym g.version in
     h.rest
-    ∙ ap (λ (x : ℕ). made usual x c.mask c.vhost c.vnameserver c.dhcp_start c.restricted c.no_loopback c.mtu c.mru c.flows c.ring c.turns c.congestion) network
-    ∙ ap (λ (x : ℕ). made usual d.network x c.vhost c.vnameserver c.dhcp_start c.restricted c.no_loopback c.mtu c.mru c.flows c.ring c.turns c.congestion) mask
-    ∙ ap (λ (x : ℕ). made usual d.network d.mask x c.vnameserver c.dhcp_start c.restricted c.no_loopback c.mtu c.mru c.flows c.ring c.turns c.congestion) vhost
-    ∙ ap (λ (x : ℕ). made usual d.network d.mask d.vhost x c.dhcp_start c.restricted c.no_loopback c.mtu c.mru c.flows c.ring c.turns c.congestion) vnameserver
-    ∙ ap (λ (x : ℕ). made usual d.network d.mask d.vhost d.vnameserver x c.restricted c.no_loopback c.mtu c.mru c.flows c.ring c.turns c.congestion) dhcp_start
-    ∙ ap (λ (x : Bool). made usual d.network d.mask d.vhost d.vnameserver d.dhcp_start x c.no_loopback c.mtu c.mru c.flows c.ring c.turns c.congestion) restricted
-    ∙ ap (λ (x : Bool). made usual d.network d.mask d.vhost d.vnameserver d.dhcp_start d.restricted x c.mtu c.mru c.flows c.ring c.turns c.congestion) no_loopback
-    ∙ ap (λ (x : ℕ). made usual d.network d.mask d.vhost d.vnameserver d.dhcp_start d.restricted d.no_loopback x c.mru c.flows c.ring c.turns c.congestion) mtu
-    ∙ ap (λ (x : ℕ). made usual d.network d.mask d.vhost d.vnameserver d.dhcp_start d.restricted d.no_loopback d.mtu x c.flows c.ring c.turns c.congestion) mru
-    ∙ ap (λ (x : ℕ). made usual d.network d.mask d.vhost d.vnameserver d.dhcp_start d.restricted d.no_loopback d.mtu d.mru x c.ring c.turns c.congestion) flows
-    ∙ ap (λ (x : ℕ). made usual d.network d.mask d.vhost d.vnameserver d.dhcp_start d.restricted d.no_loopback d.mtu d.mru d.flows x c.turns c.congestion) ring
-    ∙ ap (λ (x : ℕ). made usual d.network d.mask d.vhost d.vnameserver d.dhcp_start d.restricted d.no_loopback d.mtu d.mru d.flows d.ring x c.congestion) turns
-    ∙ ap (λ (x : Bool). made usual d.network d.mask d.vhost d.vnameserver d.dhcp_start d.restricted d.no_loopback d.mtu d.mru d.flows d.ring d.turns x) congestion
+    ∙ ap (λ (x : ℕ). made usual x c.mask c.vhost c.vnameserver c.dhcp_start c.restricted c.no_loopback c.hostname c.domainname c.tftp_server_name c.bootfile c.mtu c.mru c.flows c.ring c.turns c.congestion c.no_dhcp c.version) network
+    ∙ ap (λ (x : ℕ). made usual d.network x c.vhost c.vnameserver c.dhcp_start c.restricted c.no_loopback c.hostname c.domainname c.tftp_server_name c.bootfile c.mtu c.mru c.flows c.ring c.turns c.congestion c.no_dhcp c.version) mask
+    ∙ ap (λ (x : ℕ). made usual d.network d.mask x c.vnameserver c.dhcp_start c.restricted c.no_loopback c.hostname c.domainname c.tftp_server_name c.bootfile c.mtu c.mru c.flows c.ring c.turns c.congestion c.no_dhcp c.version) vhost
+    ∙ ap (λ (x : ℕ). made usual d.network d.mask d.vhost x c.dhcp_start c.restricted c.no_loopback c.hostname c.domainname c.tftp_server_name c.bootfile c.mtu c.mru c.flows c.ring c.turns c.congestion c.no_dhcp c.version) vnameserver
+    ∙ ap (λ (x : ℕ). made usual d.network d.mask d.vhost d.vnameserver x c.restricted c.no_loopback c.hostname c.domainname c.tftp_server_name c.bootfile c.mtu c.mru c.flows c.ring c.turns c.congestion c.no_dhcp c.version) dhcp_start
+    ∙ ap (λ (x : Bool). made usual d.network d.mask d.vhost d.vnameserver d.dhcp_start x c.no_loopback c.hostname c.domainname c.tftp_server_name c.bootfile c.mtu c.mru c.flows c.ring c.turns c.congestion c.no_dhcp c.version) restricted
+    ∙ ap (λ (x : Bool). made usual d.network d.mask d.vhost d.vnameserver d.dhcp_start d.restricted x c.hostname c.domainname c.tftp_server_name c.bootfile c.mtu c.mru c.flows c.ring c.turns c.congestion c.no_dhcp c.version) no_loopback
+    ∙ ap (λ (x : List ℕ). made usual d.network d.mask d.vhost d.vnameserver d.dhcp_start d.restricted d.no_loopback x c.domainname c.tftp_server_name c.bootfile c.mtu c.mru c.flows c.ring c.turns c.congestion c.no_dhcp c.version) hostname
+    ∙ ap (λ (x : List ℕ). made usual d.network d.mask d.vhost d.vnameserver d.dhcp_start d.restricted d.no_loopback d.hostname x c.tftp_server_name c.bootfile c.mtu c.mru c.flows c.ring c.turns c.congestion c.no_dhcp c.version) domainname
+    ∙ ap (λ (x : List ℕ). made usual d.network d.mask d.vhost d.vnameserver d.dhcp_start d.restricted d.no_loopback d.hostname d.domainname x c.bootfile c.mtu c.mru c.flows c.ring c.turns c.congestion c.no_dhcp c.version) tftp_server_name
+    ∙ ap (λ (x : List ℕ). made usual d.network d.mask d.vhost d.vnameserver d.dhcp_start d.restricted d.no_loopback d.hostname d.domainname d.tftp_server_name x c.mtu c.mru c.flows c.ring c.turns c.congestion c.no_dhcp c.version) bootfile
+    ∙ ap (λ (x : ℕ). made usual d.network d.mask d.vhost d.vnameserver d.dhcp_start d.restricted d.no_loopback d.hostname d.domainname d.tftp_server_name d.bootfile x c.mru c.flows c.ring c.turns c.congestion c.no_dhcp c.version) mtu
+    ∙ ap (λ (x : ℕ). made usual d.network d.mask d.vhost d.vnameserver d.dhcp_start d.restricted d.no_loopback d.hostname d.domainname d.tftp_server_name d.bootfile d.mtu x c.flows c.ring c.turns c.congestion c.no_dhcp c.version) mru
+    ∙ ap (λ (x : ℕ). made usual d.network d.mask d.vhost d.vnameserver d.dhcp_start d.restricted d.no_loopback d.hostname d.domainname d.tftp_server_name d.bootfile d.mtu d.mru x c.ring c.turns c.congestion c.no_dhcp c.version) flows
+    ∙ ap (λ (x : ℕ). made usual d.network d.mask d.vhost d.vnameserver d.dhcp_start d.restricted d.no_loopback d.hostname d.domainname d.tftp_server_name d.bootfile d.mtu d.mru d.flows x c.turns c.congestion c.no_dhcp c.version) ring
+    ∙ ap (λ (x : ℕ). made usual d.network d.mask d.vhost d.vnameserver d.dhcp_start d.restricted d.no_loopback d.hostname d.domainname d.tftp_server_name d.bootfile d.mtu d.mru d.flows d.ring x c.congestion c.no_dhcp c.version) turns
+    ∙ ap (λ (x : Bool). made usual d.network d.mask d.vhost d.vnameserver d.dhcp_start d.restricted d.no_loopback d.hostname d.domainname d.tftp_server_name d.bootfile d.mtu d.mru d.flows d.ring d.turns x c.no_dhcp c.version) congestion
+    ∙ ap (λ (x : Bool). made usual d.network d.mask d.vhost d.vnameserver d.dhcp_start d.restricted d.no_loopback d.hostname d.domainname d.tftp_server_name d.bootfile d.mtu d.mru d.flows d.ring d.turns d.congestion x c.version) no_dhcp
+    ∙ ap (λ (x : ℕ). made usual d.network d.mask d.vhost d.vnameserver d.dhcp_start d.restricted d.no_loopback d.hostname d.domainname d.tftp_server_name d.bootfile d.mtu d.mru d.flows d.ring d.turns d.congestion d.no_dhcp x) version
     ∙ sym g.rest
 
 -- the link is at one place

@@ -1,5 +1,6 @@
 -- What the words of a command line mean.
-use Rattle.std.specs.Prelude.{◌≡◌, ◌+◌, ◌%◌, ◌^◌, ◌<◌, ◌≤◌, List, [], ◌∷◌, length, codes, Option, is_some, Result, Ok, Err, MatchOption}
+use Rattle.std.specs.Prelude.{◌≡◌, ℕ, ◌+◌, ◌%◌, ◌^◌, ◌<◌, ◌≤◌, Bool, List, [], ◌∷◌, length, codes, Option, is_some, Result, Ok, Err, MatchOption, if◌then◌else◌}
+use Rattle.std.specs.Option.{option_map_or}
 use Rattle.host_policy.specs.Addresses.{Config}
 use Rattle.host_policy.specs.Settings.{settings, usual}
 use Rattle.host_policy.specs.Ranges.{first_broken}
@@ -10,7 +11,7 @@ use Rattle.slirp_config.specs.declared.WordFault.{WordFault}
 use Rattle.slirp_config.specs.declared.WordFault.TheVariants.{BadConfig}
 use Rattle.slirp_config.specs.declared.options.Verb.TheVariants.{Replay, Serve}
 use Rattle.slirp_config.specs.Options.{Word, Line, IsLine, line_words, words_alone, value_of}
-use Rattle.slirp_config.specs.Texts.{IsNumber, IsAddress, IsNetwork, IsLink}
+use Rattle.slirp_config.specs.Texts.{IsNumber, IsAddress, IsNetwork, IsLink, held_text}
 
 -- A schedule in a file is replayed, or the link at a place is served, with these settings.
 pub data Meaning : Type 0 where
@@ -21,6 +22,10 @@ abbrev pub config_of : Meaning → Config
 config_of (Replays file config) = config
 config_of (Serves config at) = config
 
+-- a command with an option that only version 2 of the settings has is of that version
+abbrev pub version_of : (no_dhcp : Bool) → ℕ
+version_of no_dhcp = if no_dhcp then 2 else 1
+
 -- the settings that options give, by the value that each name has; what no option gives is usual
 pub record AreSettings (given : Word → Option Word) (config : Config) : Type 0 where
   pub net : MatchOption (given (codes "--net")) ((config.network ≡ usual.network) × (config.mask ≡ usual.mask)) (λ text. IsNetwork text config.network config.mask)
@@ -29,12 +34,18 @@ pub record AreSettings (given : Word → Option Word) (config : Config) : Type 0
   pub dhcp_start : MatchOption (given (codes "--dhcpstart")) (config.dhcp_start ≡ (config.network + 15) % 2 ^ 32) (λ text. IsAddress text config.dhcp_start)
   pub restricted : config.restricted ≡ is_some (given (codes "--restrict"))
   pub no_loopback : config.no_loopback ≡ is_some (given (codes "--no-loopback"))
+  pub hostname : config.hostname ≡ option_map_or held_text (given (codes "--hostname")) []
+  pub domainname : config.domainname ≡ option_map_or held_text (given (codes "--domainname")) []
+  pub tftp_server_name : config.tftp_server_name ≡ option_map_or held_text (given (codes "--tftp-server-name")) []
+  pub bootfile : config.bootfile ≡ option_map_or held_text (given (codes "--bootfile")) []
   pub mtu : MatchOption (given (codes "--mtu")) (config.mtu ≡ usual.mtu) (λ text. IsNumber 16 text config.mtu)
   pub mru : MatchOption (given (codes "--mru")) (config.mru ≡ usual.mru) (λ text. IsNumber 16 text config.mru)
   pub flows : MatchOption (given (codes "--flows")) (config.flows ≡ usual.flows) (λ text. IsNumber 64 text config.flows)
   pub ring : MatchOption (given (codes "--ring")) (config.ring ≡ usual.ring) (λ text. IsNumber 64 text config.ring)
   pub turns : MatchOption (given (codes "--turns")) (config.turns ≡ usual.turns) (λ text. IsNumber 64 text config.turns)
   pub congestion : config.congestion ≡ is_some (given (codes "--congestion"))
+  pub no_dhcp : config.no_dhcp ≡ is_some (given (codes "--no-dhcp"))
+  pub version : config.version ≡ version_of config.no_dhcp
   pub rest : config ≡ record usual {
     network = config.network;
     mask = config.mask;
@@ -43,12 +54,18 @@ pub record AreSettings (given : Word → Option Word) (config : Config) : Type 0
     dhcp_start = config.dhcp_start;
     restricted = config.restricted;
     no_loopback = config.no_loopback;
+    hostname = config.hostname;
+    domainname = config.domainname;
+    tftp_server_name = config.tftp_server_name;
+    bootfile = config.bootfile;
     mtu = config.mtu;
     mru = config.mru;
     flows = config.flows;
     ring = config.ring;
     turns = config.turns;
     congestion = config.congestion;
+    no_dhcp = config.no_dhcp;
+    version = config.version;
   }
 
 -- the words behind `replay`: one of them stands by itself and names the file

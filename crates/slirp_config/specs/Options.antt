@@ -32,12 +32,17 @@ rows =
     ∷ valued (codes "--dhcpstart")
     ∷ flag (codes "--restrict")
     ∷ flag (codes "--no-loopback")
+    ∷ valued (codes "--hostname")
+    ∷ valued (codes "--domainname")
+    ∷ valued (codes "--tftp-server-name")
+    ∷ valued (codes "--bootfile")
     ∷ valued (codes "--mtu")
     ∷ valued (codes "--mru")
     ∷ valued (codes "--flows")
     ∷ valued (codes "--ring")
     ∷ valued (codes "--turns")
     ∷ flag (codes "--congestion")
+    ∷ flag (codes "--no-dhcp")
     ∷ []
 
 abbrev pub has_row : Verb → Row → Bool

@@ -1,5 +1,5 @@
--- How numbers, addresses, networks and the place of the link are written on a command line.
-use Rattle.std.specs.Prelude.{◌≡◌, ℕ, ◌/◌, ◌%◌, ◌^◌, ◌==◌, ◌<◌, ◌≤◌, not, Bool, List, ◌++◌, length, codes, decimal, Option}
+-- How numbers, addresses, networks and the place of the link are written on a command line, and what is held of a text.
+use Rattle.std.specs.Prelude.{◌≡◌, ℕ, ◌/◌, ◌%◌, ◌^◌, ◌==◌, ◌<◌, ◌≤◌, not, nat_le, Bool, List, [], ◌∷◌, ◌++◌, length, codes, decimal, Option, if◌then◌else◌}
 use Rattle.std.specs.Option.{SomeIff}
 use Rattle.std.specs.Str.Parse.{IsNumeral, digits_value, without_leading_plus}
 use Rattle.net_octets.specs.declared.Endpoint.{Endpoint}
@@ -41,6 +41,10 @@ IsLinkPlace (AtEndpoint at) = IsEndpoint at
 
 abbrev pub IsLink : (text : List ℕ) (at : Place) → Type 0
 IsLink text at = (text ≡ link_text at) × IsLinkPlace at
+
+-- a text as the settings hold it. One of over 127 octets isn't held: in its place stands an octet that no text has, for which its field is refused
+abbrev pub held_text : List ℕ → List ℕ
+held_text text = if nat_le (length text) 127 then text else 0 ∷ []
 
 -- any octet but this one
 abbrev pub is_other : ℕ → ℕ → Bool

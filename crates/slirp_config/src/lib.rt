@@ -9,9 +9,12 @@
 //! | `--link` | `unix:PATH`, PATH of 1 to 107 octets, or `tcp:` and an endpoint; `serve` alone | needed |
 //! | `--net` | an address, `/` and a number up to 32 | 10.0.2.0/24 |
 //! | `--host`, `--dns`, `--dhcpstart` | an address | 2, 3 and 15 behind the network's first address, modulo 2^32 |
-//! | `--restrict`, `--no-loopback`, `--congestion` | flags | not set |
+//! | `--restrict`, `--no-loopback`, `--congestion`, `--no-dhcp` | flags | not set |
+//! | `--hostname`, `--domainname`, `--tftp-server-name`, `--bootfile` | a text | none |
 //! | `--mtu`, `--mru` | a number up to 65,535 | 1500 |
 //! | `--flows`, `--ring`, `--turns` | a number up to 2^64 - 1 | 256, 65,535, 2^44 |
+//!
+//! A setting out of its range is named, the first in the order of `host_policy`: a text of over 127 octets too. With `--no-dhcp` the settings are of version 2.
 #![tactic(auto)]
 
 mod line;

@@ -33,7 +33,7 @@ macro_rules! rows {
 }
 
 /// How many options there are.
-pub(crate) const COUNT: usize = 13;
+pub(crate) const COUNT: usize = 18;
 
 const OPTIONS: [Row; COUNT] = rows![
     "--link" value of serve,
@@ -43,12 +43,17 @@ const OPTIONS: [Row; COUNT] = rows![
     "--dhcpstart" value of all,
     "--restrict" flag of all,
     "--no-loopback" flag of all,
+    "--hostname" value of all,
+    "--domainname" value of all,
+    "--tftp-server-name" value of all,
+    "--bootfile" value of all,
     "--mtu" value of all,
     "--mru" value of all,
     "--flows" value of all,
     "--ring" value of all,
     "--turns" value of all,
     "--congestion" flag of all,
+    "--no-dhcp" flag of all,
 ];
 
 /// Whether a value goes with the command's option of this name; None where it has no such option.

@@ -1,15 +1,17 @@
 //! The settings that options give.
-ghost use Rattle.std.specs.Prelude.{◌≡◌, ℕ, ◌+◌, ◌%◌, ◌^◌, IfOk, MatchOption, OnErr, codes, is_some, min, option_copied};
+ghost use Rattle.std.specs.Prelude.{◌≡◌, ℕ, ◌+◌, ◌%◌, ◌^◌, [], IfOk, MatchOption, OnErr, codes, is_some, min, option_copied};
+ghost use Rattle.std.specs.Option.{option_map_or};
 ghost use Rattle.host_policy.specs.Addresses.{Config};
 ghost use Rattle.host_policy.specs.Settings.{settings};
-ghost use Rattle.slirp_config.specs.Meaning.{AreSettings};
+ghost use Rattle.slirp_config.specs.Meaning.{AreSettings, version_of};
 ghost use Rattle.slirp_config.specs.Options.{value_in};
-ghost use Rattle.slirp_config.specs.Texts.{IsAddress, IsNetwork, IsNumber};
+ghost use Rattle.slirp_config.specs.Texts.{IsAddress, IsNetwork, IsNumber, held_text};
 ghost use Rattle.slirp_config.specs.Narrowing.{narrowed, narrowed_settings};
 ghost use Rattle.slirp_config.specs.Walking.{walk_of};
 
 use crate::line::{Line, NoReading};
-use crate::values::{read_address, read_network, read_number, read_short};
+use crate::values::{held_text, read_address, read_network, read_number, read_short};
+use arrayvec::ArrayVec;
 use host_policy::SlirpConfig;
 use net_octets::Ip4;
 
@@ -28,12 +30,18 @@ impl<'a> Line<'a> {
         config.vdhcp_start = self.address("--dhcpstart", network, 15)?;
         config.restricted = self.has("--restrict");
         config.disable_host_loopback = self.has("--no-loopback");
+        config.vhostname = self.text("--hostname");
+        config.vdomainname = self.text("--domainname");
+        config.tftp_server_name = self.text("--tftp-server-name");
+        config.bootfile = self.text("--bootfile");
         config.if_mtu = self.short("--mtu", config.if_mtu)?;
         config.if_mru = self.short("--mru", config.if_mru)?;
         config.flows = narrow(self.number("--flows", config.flows as u64)?);
         config.ring = narrow(self.number("--ring", config.ring as u64)?);
         config.turns = self.number("--turns", config.turns)?;
         config.congestion = self.has("--congestion");
+        config.disable_dhcp = self.has("--no-dhcp");
+        config.version = version_of(config.disable_dhcp);
         Ok(config)
     }
 
@@ -59,6 +67,16 @@ impl<'a> Line<'a> {
         }
     }
 
+    // The octets of the text that the option of this name gives; none without it.
+    fn text(&self, name: &str) -> ArrayVec<u8, 127>
+        ensures { result.items ≡ option_map_or held_text (value_in (walk_of self.now).options name.now) [] }
+    {
+        match self.value(name) {
+            Some(text) => held_text(text.as_bytes()),
+            None => ArrayVec::new(),
+        }
+    }
+
     // The number of 16 bits that the option of this name gives, else the usual one.
     fn short(&self, name: &str, usual: u16) -> Result<u16, NoReading>
         ensures read { IfOk result (λ n. MatchOption (value_in (walk_of self.now).options name.now) (n ≡ usual) (λ text. IsNumber 16 text n)) }
@@ -80,6 +98,13 @@ impl<'a> Line<'a> {
             None => Ok(usual),
         }
     }
+}
+
+// 2 where a setting is given that only version 2 has.
+fn version_of(disable_dhcp: bool) -> u32
+    ensures { result ≡ version_of disable_dhcp }
+{
+    if disable_dhcp { 2 } else { 1 }
 }
 
 // The number, or the greatest of 32 bits, which is out of every range too.

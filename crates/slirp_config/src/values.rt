@@ -1,14 +1,14 @@
-//! The values of options: numbers, addresses, networks and the place of the link.
+//! The values of options: numbers, addresses, networks, texts and the place of the link.
 ghost use Rattle.std.specs.Prelude.{◌≡◌, ◌≢◌, ◌==◌, ◌++◌, ◌∷◌, ◌&&◌, ◌<◌, ◌≤◌, ◌^◌, ℕ, List, true, IfOk, IfSome, IfNone, OnErr, decimal, length, nat_lt, position, slice_index};
 ghost use Rattle.std.specs.List.{list_all};
 ghost use Rattle.std.specs.Str.{IsUtf8};
 ghost use Rattle.net_octets.specs.declared.Endpoint.{Endpoint as AnEndpoint};
 ghost use Rattle.host_policy.specs.Ranges.{mask_of};
 ghost use Rattle.world_face.specs.Journal.{AreOctets, AtPath, IsPlace, Place, place_of as link_place};
-ghost use Rattle.slirp_config.specs.Texts.{IsNumber, IsAddress, IsNetwork, IsLink, IsEndpointText, is_other, IsReadAs};
+ghost use Rattle.slirp_config.specs.Texts.{IsNumber, IsAddress, IsNetwork, IsLink, IsEndpointText, held_text, is_other, IsReadAs};
 
 use crate::line::NoReading;
-use arrayvec::ArrayString;
+use arrayvec::{ArrayString, ArrayVec};
 use net_octets::{Endpoint, Ip4};
 use world_face::LinkAt;
 
@@ -153,6 +153,20 @@ fn mask_of(ones: u32) -> Ip4
     ensures { result.0 ≡ mask_of ones }
 {
     Ip4(((1u64 << 32) - (1u64 << (32 - ones))) as u32)
+}
+
+/// The octets of a text. One of over 127 isn't held: in its place stands an octet that no text has, for which its field is refused.
+pub(crate) fn held_text(text: &[u8]) -> ArrayVec<u8, 127>
+    ensures { result.items ≡ held_text text.now }
+{
+    match ArrayVec::try_from(text) {
+        Ok(held) => held,
+        Err(_) => {
+            let mut refused = ArrayVec::new();
+            refused.push(0);
+            refused
+        }
+    }
 }
 
 /// Where the link is: a path of 1 to 107 octets, or an endpoint.

@@ -81,7 +81,31 @@ fn settings_of(alloc: Global, config: &SlirpConfig) -> Result<String, AllocError
     if config.congestion {
         text.push_str(", congestion")?;
     }
+    if config.disable_dhcp {
+        text.push_str(", no-dhcp")?;
+    }
+    if config.version != 1 {
+        let version = format!(in alloc; ", version {}", config.version)?;
+        text.push_str(version.as_str())?;
+    }
+    push_told(&mut text, ", hostname ", config.vhostname.as_slice())?;
+    push_told(&mut text, ", domainname ", config.vdomainname.as_slice())?;
+    push_told(
+        &mut text,
+        ", tftp-server-name ",
+        config.tftp_server_name.as_slice(),
+    )?;
+    push_told(&mut text, ", bootfile ", config.bootfile.as_slice())?;
     Ok(text)
+}
+
+// What a guest is told, where there is something.
+fn push_told(text: &mut String, name: &str, told: &[u8]) -> Result<(), AllocError> {
+    if told.is_empty() {
+        return Ok(());
+    }
+    text.push_str(name)?;
+    text.push_str(str::from_utf8(told).unwrap_or("no text"))
 }
 
 fn dotted(alloc: Global, addr: Ip4) -> Result<String, AllocError> {
