@@ -155,6 +155,9 @@ ack_is : (b : Bool) (what : Owed) → ack_if b ≡ Some what → (b ≡ true) ×
 ack_is true what is = (refl, cc)
 ack_is false what is = absurd cc
 
+taken_some : (n : ℕ) → 0 < n → nat_lt 0 n ≡ true
+taken_some n some = grind (arith, nat_tests)
+
 module _ (f : Splice) (now first : ℕ) (what : Owed) (mac : Mac) (known_mac : f.mac ≡ Some mac) (late : now ≤ 2 ^ 62) (small : first < 2 ^ 16) (buffers : HasBuffers f.conn f.up f.down) (owed : owed_of f.conn f.up f.down ≡ Some what) (used : f.place ≡ Empty → ⊥)
     (sized : IsSized f.face mac first (segment_out f.mru f.conn f.up f.down what)) (result : Offered) (answer : Io) (result_is : result ≡ offered answer) (allowed : Allowed (LinkWrite (spelling (segment_frame f.face mac first (segment_out f.mru f.conn f.up f.down what))) answer))
     (new : Splice) (made : List Entry) (marks : Marks result what f new now made) where
@@ -182,7 +185,7 @@ module _ (f : Splice) (now first : ℕ) (what : Owed) (mac : Mac) (known_mac : f
             let taken_now : result ≡ Taken = result_is ∙ ap offered is in
             let some = subst (λ (q : Io). Allowed (LinkWrite frame q)) is allowed in
             subst (λ (r : Offered). Result (ident_if r first)) (sym taken_now)
-            (goes (ap (λ (q : Io). nat_lt 0 (count_of q)) is ∙ (let more = some.0.0 in grind (arith, nat_tests))) (subst (λ (r : Offered). Marks r what f new now made) taken_now marks))
+            (goes (ap (λ (q : Io). nat_lt 0 (count_of q)) is ∙ taken_some n some.0.0) (subst (λ (r : Offered). Marks r what f new now made) taken_now marks))
         by End is =
             let blocked : result ≡ Blocked = result_is ∙ ap offered is in
             subst (λ (r : Offered). Result (ident_if r first)) (sym blocked) (none (ap count_of is) (subst (λ (r : Offered). Marks r what f new now made) blocked marks))
