@@ -15,7 +15,7 @@ pub returns-clause-makes : goal.returns-clause-makes
 returns-clause-makes g c config count items =
     let waited = c.waits_for.ensures c.if-not-waits_for.false in
     brings_then (c.hear.ensures.makes config count c.args.self.now.wants c.args.item.now items (of_socket c.args.number c.args.self.now.wants c.args.item.now c.requires.of waited.0 waited.1))
-        (c.pump.ensures.makes config (standing count c.args.self.now.wants items) false)
+    (c.pump.ensures.makes config (standing count c.args.self.now.wants items) false)
 
 pub returns-clause-passed : goal.returns-clause-passed
 returns-clause-passed g c passed =
