@@ -3,6 +3,7 @@ use Rattle.std.proofs.Common.{◌≡◌, ℕ, zero, suc, ◌+◌, ◌<◌, ◌�
 use Rattle.std.proofs.lemmas.Bool.Decides.{nat_tests}
 use Rattle.std.proofs.lemmas.List.{map-append, take_more}
 use Rattle.flow_splice.specs.Splice.{Splice}
+use Rattle.flow_splice.specs.Wants.{due_of}
 use Rattle.flow_splice.specs.declared.Place.{Place}
 use Rattle.flow_splice.specs.declared.Place.TheVariants.{Empty, InUse, Resting}
 use Rattle.tcp_flows.specs.Kept.{part_at, part_of}
@@ -60,8 +61,8 @@ none_after now at (Some n) none is = by (nat_lt now n) refl none
     same = cc
 
     by : (b : Bool) → nat_lt now n ≡ b → ◌≡◌ {A = Option ℕ} (if b then Some n else None) None → at ≤ now
-    by true later no = absurd cc
-    by false later no = subst (λ (m : ℕ). m ≤ now) same (grind (arith, nat_tests, later))
+    by true later is_none = absurd cc
+    by false later is_none = subst (λ (m : ℕ). m ≤ now) same (grind (arith, nat_tests, later))
 
 same_moment : (a b : ℕ) (o : Option ℕ) → o ≡ Some a → o ≡ Some b → a ≡ b
 same_moment a b o one other = let both : Some a ≡ Some b = sym one ∙ other in cc
