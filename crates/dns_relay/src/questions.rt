@@ -1,7 +1,7 @@
 // Which sockets wait for the answer to which question.
 ghost use Rattle.std.specs.Prelude.{◌≡◌, ◌≤◌, ◌<◌, [], ◌∷◌, ◌++◌, length, position, true, All, IsPermutation, slice_get};
 ghost use Rattle.std.specs.List.Sorted.{IsNonDecreasing};
-ghost use Rattle.dns_relay.specs.Questions.{is_numbered, is_over, most_questions, numbers};
+ghost use Rattle.dns_relay.specs.Questions.{is_numbered, is_of, is_over, most_questions, numbers};
 ghost use Rattle.dns_relay.specs.Relaying.{IsLeast};
 ghost use Rattle.dns_relay.specs.Rows.{is_meant, lesser};
 
@@ -76,12 +76,13 @@ impl Questions {
     pub fn socket_of(&self, guest: Endpoint, ident: u16) -> Option<u64>
         ensures { result ≡ socket_of guest ident self.now }
     {
-        self.rows
+        let question = self
+            .rows
             .as_slice()
             .iter()
             .copied()
-            .find(|question| question.guest == guest && question.ident == ident)
-            .map(|question| question.number)
+            .find(|question| is_of(question, guest, ident))?;
+        Some(question.number)
     }
 
     /// A socket was opened for a question. Its number is greater than that of all.
@@ -154,6 +155,13 @@ fn place_of(rows: &[Question], number: u64) -> Option<usize>
     ensures { result ≡ position (is_numbered number) rows.now }
 {
     rows.iter().position(|question| question.number == number)
+}
+
+// Whether the question is of this port, with this identifier.
+fn is_of(question: &Question, guest: Endpoint, ident: u16) -> bool
+    ensures { result ≡ is_of guest ident question.now }
+{
+    question.guest == guest && question.ident == ident
 }
 
 // The least number of those that have waited for long enough at this moment, or of all where none is given.
