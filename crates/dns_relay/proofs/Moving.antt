@@ -54,7 +54,7 @@ unmoved change number rows is = sym (stays change number rows (position_none (is
 
 -- ---- their numbers
 
-moved_numbers : (change : Question → Question) → ((q : Question) → (change q).number ≡ q.number) → (number : ℕ) (list : List Question)
+pub moved_numbers : (change : Question → Question) → ((q : Question) → (change q).number ≡ q.number) → (number : ℕ) (list : List Question)
     → IsPermutation (numbers list) (numbers (moved_last change number list))
 moved_numbers change keeps number [] = IsPermutation-refl []
 moved_numbers change keeps number (q ∷ list) = by (is_numbered number q) (moved_numbers change keeps number list)

@@ -1,9 +1,8 @@
 -- The longest unused question gives way, and fewer are left where one is closed.
-use Rattle.std.proofs.Common.{◌≡◌, ℕ, ◌<◌, ◌≤◌, ◌&&◌, ◌||◌, not, Bool, true, false, cond, nat_le, All, List, [], ◌∷◌, length, slice_get, Some, None, if◌then◌else◌, refl, ◌∙◌, ap, arith}
-use Rattle.std.proofs.lemmas.List.Elements.{All-cons, All-head, All-tail}
+use Rattle.std.proofs.Common.{◌≡◌, ℕ, ◌<◌, ◌≤◌, ◌&&◌, ◌||◌, not, Bool, true, false, cond, nat_le, List, [], ◌∷◌, length, slice_get, Some, None, if◌then◌else◌, refl, ◌∙◌, ap, arith}
 use Rattle.std.specs.List.{list_any}
 use Rattle.world_face.specs.Journal.{Close}
-use Rattle.dns_relay.specs.Questions.{is_numbered, most_questions, numbers, without}
+use Rattle.dns_relay.specs.Questions.{is_numbered, most_questions, without}
 use Rattle.dns_relay.specs.Relaying.{calls_for_room}
 use Rattle.dns_relay.specs.declared.Question.{Question}
 use Rattle.dns_relay.proofs.Counting.{same}
@@ -42,15 +41,3 @@ fewer_left list others oldest is most =
 pub few_of_none : (list : List Question) → None ≡ slice_get list 0 → length list < 512
 few_of_none [] none = omega arith
 few_of_none (q ∷ list) none = cc
-
--- the numbers of all are under that of the next one
-abbrev pub AreBelow : ℕ → List Question → Type 0
-AreBelow bound list = All (λ n. n < bound) (numbers list)
-
-pub below_without : (bound socket : ℕ) (list : List Question) → AreBelow bound list → AreBelow bound (without socket list)
-below_without bound socket [] below = below
-below_without bound socket (q ∷ list) below = by (is_numbered socket q) (below_without bound socket list (All-tail (λ (n : ℕ). n < bound) q.number (numbers list) below))
-  where
-    by : (b : Bool) → AreBelow bound (without socket list) → AreBelow bound (cond (not b) (q ∷ without socket list) (without socket list))
-    by true rest = rest
-    by false rest = All-cons (λ (n : ℕ). n < bound) q.number (numbers (without socket list)) (All-head (λ (n : ℕ). n < bound) q.number (numbers list) below) rest

@@ -1,5 +1,5 @@
 // Which sockets wait for the answer to which question.
-ghost use Rattle.std.specs.Prelude.{◌≡◌, ◌≤◌, ◌<◌, [], ◌∷◌, ◌++◌, length, position, true, All, IsPermutation, slice_get};
+ghost use Rattle.std.specs.Prelude.{◌≡◌, ◌≤◌, ◌<◌, [], ◌∷◌, ◌++◌, find, length, position, true, All, IsPermutation, slice_get};
 ghost use Rattle.std.specs.List.Sorted.{IsNonDecreasing};
 ghost use Rattle.dns_relay.specs.Questions.{is_numbered, is_of, is_over, most_questions, numbers};
 ghost use Rattle.dns_relay.specs.Relaying.{IsLeast};
@@ -34,7 +34,7 @@ impl Model for Questions {
 
 impl Questions {
     ghost use Rattle.std.specs.Prelude.{nat_le};
-    ghost use Rattle.dns_relay.specs.Questions.{asked_from, heard_at, moved_last, numbered, socket_of, without};
+    ghost use Rattle.dns_relay.specs.Questions.{asked_from, heard_at, moved_last, numbered, without};
 
     /// No question.
     pub fn new() -> Questions
@@ -72,17 +72,15 @@ impl Questions {
             .find(|question| question.number == number)
     }
 
-    /// The socket of the question of this port with this identifier. None exactly where there is none.
-    pub fn socket_of(&self, guest: Endpoint, ident: u16) -> Option<u64>
-        ensures { result ≡ socket_of guest ident self.now }
+    /// The question of this port with this identifier. None exactly where there is none.
+    pub fn question_of(&self, guest: Endpoint, ident: u16) -> Option<Question>
+        ensures { result ≡ find (is_of guest ident) self.now }
     {
-        let question = self
-            .rows
+        self.rows
             .as_slice()
             .iter()
             .copied()
-            .find(|question| is_of(question, guest, ident))?;
-        Some(question.number)
+            .find(|question| is_of(question, guest, ident))
     }
 
     /// A socket was opened for a question. Its number is greater than that of all.

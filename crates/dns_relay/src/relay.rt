@@ -102,8 +102,8 @@ impl Relay {
             body,
         };
         let ident = ident_in(body);
-        match self.list.socket_of(from, ident) {
-            Some(socket) => self.send_on(world, now, socket, &asked),
+        match self.list.question_of(from, ident) {
+            Some(question) => self.send_on(world, now, question.number, &asked),
             None => {
                 self.make_room(world);
                 self.open_for(world, now, number, ident, &asked)

@@ -6,7 +6,8 @@ use Rattle.dns_relay.specs.Questions.{most_questions}
 use Rattle.dns_relay.specs.Relaying.{calls_for_room}
 use Rattle.dns_relay.specs.State.{RelayState}
 use Rattle.dns_relay.specs.declared.Question.{Question}
-use Rattle.dns_relay.proofs.Yielding.{AreBelow, below_without, few_of_none, fewer_left, gives_way}
+use Rattle.dns_relay.proofs.Below.{AreBelow, below_without}
+use Rattle.dns_relay.proofs.Yielding.{few_of_none, fewer_left, gives_way}
 use Rattle.dns_relay.proofs.relay.Relay.make_room.Goals as goal
 
 pub returns-in-Some-clause-calls : goal.returns-in-Some-clause-calls
