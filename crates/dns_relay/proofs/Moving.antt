@@ -1,5 +1,5 @@
 -- What becomes of the row of questions, and of their numbers.
-use Rattle.std.proofs.Common.{◌≡◌, ℕ, zero, suc, ◌+◌, ◌-◌, ◌<◌, ◌==◌, ltb, not, Bool, true, false, cond, All, List, [], ◌∷◌, ◌++◌, length, filter, find, position, get_or, slice_get, Some, None, refl, sym, ◌∙◌, ap, subst, arith}
+use Rattle.std.proofs.Common.{◌≡◌, ℕ, zero, suc, ◌-◌, ◌<◌, ◌==◌, ltb, not, Bool, true, false, cond, All, List, [], ◌∷◌, ◌++◌, length, filter, find, position, get_or, slice_get, Some, None, refl, sym, ◌∙◌, ap, subst, arith}
 use Rattle.std.specs.List.{remove, position_or_len}
 use Rattle.std.specs.List.Sorted.{IsPermutation, IsNonDecreasing}
 use Rattle.std.proofs.lemmas.Bool.Decides.{nat_tests}

@@ -1,5 +1,5 @@
 -- The longest unused question gives way, and fewer are left where one is closed.
-use Rattle.std.proofs.Common.{◌≡◌, ℕ, ◌<◌, ◌≤◌, ◌&&◌, ◌||◌, not, Bool, true, false, cond, nat_le, List, [], ◌∷◌, length, slice_get, Some, None, if◌then◌else◌, refl, ◌∙◌, ap, arith}
+use Rattle.std.proofs.Common.{◌≡◌, ℕ, ◌<◌, ◌≤◌, ◌&&◌, ◌||◌, not, Bool, true, false, cond, nat_le, List, [], ◌∷◌, length, slice_get, Some, None, if◌then◌else◌, ◌∙◌, ap, arith}
 use Rattle.std.specs.List.{list_any}
 use Rattle.world_face.specs.Journal.{Close}
 use Rattle.dns_relay.specs.Questions.{is_numbered, most_questions, without}

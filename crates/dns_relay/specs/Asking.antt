@@ -1,5 +1,5 @@
 -- At which address of the host the sockets of questions are opened, and a question that goes out.
-use Rattle.std.specs.Prelude.{◌≡◌, ℕ, Bool, false, List, [], ◌∷◌, unwrap_or, if◌then◌else◌}
+use Rattle.std.specs.Prelude.{◌≡◌, ℕ, false, List, [], ◌∷◌, unwrap_or, if◌then◌else◌}
 use Rattle.std.specs.Option.{option_map_or}
 use Rattle.host_policy.specs.Addresses.{Config, address}
 use Rattle.host_policy.specs.Targets.{is_loopback}

@@ -15,8 +15,8 @@ use std::marker::Model;
 /// A question waits for one answer, and only one that is asked again moves: so one is found by a walk over the row.
 #[derive(Drop)]
 pub(crate) struct Questions {
-    rows: ArrayVec<Question, 512>,
-    rising: ArrayVec<u64, 512>,
+    rows: ArrayVec<Question, MOST_QUESTIONS>,
+    rising: ArrayVec<u64, MOST_QUESTIONS>,
 }
 
 impl Model for Questions {
@@ -73,7 +73,7 @@ impl Questions {
     }
 
     /// The question of this port with this identifier. None exactly where there is none.
-    pub fn question_of(&self, guest: Endpoint, ident: u16) -> Option<Question>
+    pub fn same_question(&self, guest: Endpoint, ident: u16) -> Option<Question>
         ensures { result ≡ find (is_of guest ident) self.now }
     {
         self.rows

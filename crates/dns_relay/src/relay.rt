@@ -102,7 +102,7 @@ impl Relay {
             body,
         };
         let ident = ident_in(body);
-        match self.list.question_of(from, ident) {
+        match self.list.same_question(from, ident) {
             Some(question) => self.send_on(world, now, question.number, &asked),
             None => {
                 self.make_room(world);

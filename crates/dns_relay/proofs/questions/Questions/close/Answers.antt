@@ -20,7 +20,7 @@ invariant_of-self c =
     let rows = c.self.inside.rows.items in
     let rising = c.self.inside.rising.items in (
       subst (λ (l : List ℕ). IsPermutation (numbers c.retain.new.self.items) l) (sym (rising_left c))
-      (subst (λ (l : List Question). IsPermutation (numbers l) (filter (λ n. not (n == number)) rising)) (sym (rows_left c)) (one_less number rows rising c.self.invariant.0)),
+          (subst (λ (l : List Question). IsPermutation (numbers l) (filter (λ n. not (n == number)) rising)) (sym (rows_left c)) (one_less number rows rising c.self.invariant.0)),
       subst IsNonDecreasing (sym (rising_left c)) (IsNonDecreasingBy-filter (λ (n : ℕ). n) (λ n. not (n == number)) rising c.self.invariant.1),
     )
 

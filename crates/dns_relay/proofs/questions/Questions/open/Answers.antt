@@ -18,6 +18,6 @@ invariant_of-self c =
     let q = c.args.question in
     let above = subst (λ (l : List Question). All (λ n. n < q.number) (numbers l)) (sym c.self.view_is) c.requires.above in (
       subst (λ (l : List ℕ). IsPermutation (numbers c.push-2.new.self.items) l) (sym c.push.ensures.items)
-      (subst (λ (l : List Question). IsPermutation (numbers l) (rising ++ (q.number ∷ []))) (sym c.push-2.ensures.items) (one_more rows q rising c.self.invariant.0)),
+          (subst (λ (l : List Question). IsPermutation (numbers l) (rising ++ (q.number ∷ []))) (sym c.push-2.ensures.items) (one_more rows q rising c.self.invariant.0)),
       subst IsNonDecreasing (sym c.push.ensures.items) (still_rise rows q.number rising c.self.invariant.0 c.self.invariant.1 above),
     )
