@@ -1,10 +1,15 @@
 //! Questions to the name server of a network, and the answers of the resolver (RFC 1035).
 #![tactic(auto)]
 
-ghost use Rattle.std.specs.Prelude.{◌≡◌};
-ghost use Rattle.dns_relay.specs.Questions.{is_question};
+mod messages;
+mod questions;
+mod relay;
 
-use net_octets::{Endpoint, Mac};
+ghost use Rattle.std.specs.Prelude.{◌≡◌, []};
+
+pub use messages::is_question;
+use net_octets::{Endpoint, Ip4, Mac};
+pub use relay::Relay;
 
 /// How many questions wait for their answer at once at most.
 pub const MOST_QUESTIONS: usize = 512;
@@ -23,9 +28,22 @@ pub struct Question {
     pub used: u64,
 }
 
-/// Whether octets are a question: a header of 12 octets, and not the bit of an answer (RFC 1035, 4.1.1).
-pub fn is_question(octets: &[u8]) -> bool
-    ensures { result ≡ is_question octets.now }
-{
-    octets.len() >= 12 && octets[2] < 0x80
+impl Default for Question {
+    ghost use Rattle.dns_relay.specs.Rows.{no_question};
+
+    ghost is_default = { λ question. question ≡ no_question };
+
+    /// Socket 0, for no guest, never used.
+    fn default() -> Question {
+        Question {
+            number: 0,
+            guest: Endpoint {
+                addr: Ip4(0),
+                port: 0,
+            },
+            mac: Mac([0; 6]),
+            ident: 0,
+            used: 0,
+        }
+    }
 }
