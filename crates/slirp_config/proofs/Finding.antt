@@ -7,7 +7,7 @@ use Rattle.slirp_config.specs.Options.{Word, value_in}
 use Rattle.slirp_config.specs.Walking.{given_of}
 
 module _ {X Y Z : Type 0} where
-  first_mapped : (f : X → Y) (g : Y → Z) (p : Y → Bool) (xs : List X) → option_map g (find p (map f xs)) ≡ option_map (λ x. g (f x)) (find (λ x. p (f x)) xs)
+  pub first_mapped : (f : X → Y) (g : Y → Z) (p : Y → Bool) (xs : List X) → option_map g (find p (map f xs)) ≡ option_map (λ x. g (f x)) (find (λ x. p (f x)) xs)
   first_mapped f g p [] = refl
   first_mapped f g p (x ∷ xs) = elim (p (f x)) as (λ b. option_map g (cond b (Some (f x)) (find p (map f xs))) ≡ option_map (λ y. g (f y)) (cond b (Some x) (find (λ y. p (f y)) xs))) [
     | true ↦ refl

@@ -1,5 +1,6 @@
 //! The table of the options.
-ghost use Rattle.std.specs.Prelude.{◌≡◌, find, option_copied};
+ghost use Rattle.std.specs.Prelude.{◌≡◌, find, map, option_copied};
+ghost use Rattle.std.specs.Option.{option_map};
 ghost use Rattle.slirp_config.specs.Options.{takes_value, has_row, is_row};
 ghost use Rattle.slirp_config.specs.Walking.{row_of};
 
@@ -60,7 +61,14 @@ const OPTIONS: [Row; COUNT] = rows![
 pub(crate) fn takes_value(verb: Verb, name: &str) -> Option<bool>
     ensures { result ≡ takes_value verb name.now }
 {
-    match find_row(&OPTIONS, verb, name) {
+    value_among(&OPTIONS, verb, name)
+}
+
+// The same, of some rows.
+fn value_among(rows: &[Row], verb: Verb, name: &str) -> Option<bool>
+    ensures { result ≡ option_map (λ row. row.has_value) (find (is_row verb name.now) (map row_of rows.now)) }
+{
+    match find_row(rows, verb, name) {
         Some(row) => Some(row.has_value),
         None => None,
     }

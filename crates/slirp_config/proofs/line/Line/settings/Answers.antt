@@ -49,7 +49,7 @@ returns-clause-set c =
     let flows = c.in_ok-number.field-0 in
     let ring = c.in_ok-number-2.field-0 in
     let turns = c.in_ok-config-6.field-0 in
-    let set = λ (u : Config) (f r : ℕ). made u network mask c.in_ok-config.field-0.0 c.in_ok-config-2.field-0.0 c.in_ok-config-3.field-0.0 c.has.result c.has-2.result c.text.result.items c.text-2.result.items c.text-3.result.items c.text-4.result.items mtu mru f r turns c.has-3.result c.has-4.result c.version_of.result in (
+    let set = λ (u : Config) (f r : ℕ). made u network mask c.in_ok-config.field-0.0 c.in_ok-config-2.field-0.0 c.in_ok-config-3.field-0.0 c.has.result c.has-2.result c.text-config.result.items c.text-config-2.result.items c.text-config-3.result.items c.text-config-4.result.items mtu mru f r turns c.has-3.result c.has-4.result c.version_of.result in (
       set usual flows ring,
       record {
         net = match_default (given (codes "--net")) ((network ≡ base.vnetwork.0) × (mask ≡ base.vnetmask.0)) ((network ≡ usual.network) × (mask ≡ usual.mask)) (λ text. IsNetwork text network mask) (λ d. (d.0 ∙ ap (λ (u : Config). u.network) is, d.1 ∙ ap (λ (u : Config). u.mask) is)) c.in_ok-network.ensures.read;
@@ -58,10 +58,10 @@ returns-clause-set c =
         dhcp_start = c.in_ok-config-3.ensures.read;
         restricted = c.has.ensures;
         no_loopback = c.has-2.ensures;
-        hostname = c.text.ensures;
-        domainname = c.text-2.ensures;
-        tftp_server_name = c.text-3.ensures;
-        bootfile = c.text-4.ensures;
+        hostname = c.text-config.ensures;
+        domainname = c.text-config-2.ensures;
+        tftp_server_name = c.text-config-3.ensures;
+        bootfile = c.text-config-4.ensures;
         mtu = match_default (given (codes "--mtu")) (mtu ≡ base.if_mtu) (mtu ≡ usual.mtu) (λ text. IsNumber 16 text mtu) (λ d. d ∙ ap (λ (u : Config). u.mtu) is) c.in_ok-config-4.ensures.read;
         mru = match_default (given (codes "--mru")) (mru ≡ base.if_mru) (mru ≡ usual.mru) (λ text. IsNumber 16 text mru) (λ d. d ∙ ap (λ (u : Config). u.mru) is) c.in_ok-config-5.ensures.read;
         flows = match_default (given (codes "--flows")) (flows ≡ base.flows) (flows ≡ usual.flows) (λ text. IsNumber 64 text flows) (λ d. d ∙ ap (λ (u : Config). u.flows) is) c.in_ok-number.ensures.read;
