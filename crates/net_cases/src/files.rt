@@ -14,11 +14,20 @@ fn reads_a_file<W: World>(world: &mut W) -> bool {
         && world.file_read("kept", 1, &mut into) == Io::Done(4)
         && into[..4].starts_with(b"bcde")
         && world.file_read("kept", 5, &mut into) == Io::End
-        && world.file_read("other", 0, &mut into) == Io::Done(2)
+}
+
+/// Another is read, and the first again.
+fn reads_another<W: World>(world: &mut W) -> bool {
+    let mut into = [0u8; 8];
+    world.file_read("other", 0, &mut into) == Io::Done(2)
         && into[..2].starts_with(b"xy")
         && world.file_read("kept", 0, &mut into[..1]) == Io::Done(1)
-        && world.file_len("lost") == FileSize::Missing
-        && world.file_read("lost", 0, &mut into) == Io::Failed
+}
+
+/// There is no such file.
+fn misses_a_file<W: World>(world: &mut W) -> bool {
+    world.file_len("lost") == FileSize::Missing
+        && world.file_read("lost", 0, &mut [0u8; 8]) == Io::Failed
 }
 
 /// What was put in a file's place is seen by the next that asks for its length.
@@ -35,7 +44,7 @@ fn reads_on<W: World>(world: &mut W) -> bool {
 pub fn are_read<R: Files, W: World>(rt: &R, world: &mut W) -> Result<bool, Fail> {
     fs::write(rt, "kept", b"abcde")?;
     fs::write(rt, "other", b"xy")?;
-    let read = reads_a_file(world);
+    let read = reads_a_file(world) && reads_another(world) && misses_a_file(world);
     fs::write(rt, "new", b"new")?;
     fs::rename(rt, "new", "kept")?;
     let again = reads_on(world);
