@@ -5,7 +5,8 @@ ghost use Rattle.world_face.specs.Limits.{most_ready};
 
 use poll_list::{ReadyList, Want, Wants, Who};
 use std::alloc::{AllocError, Global};
-use std::net::UdpSocket;
+use std::net::{Net, TcpListener, TcpStream, UdpSocket};
+use std::test::Fail;
 use world_face::{Endpoint, Ip4, Made, Sent, Waited, World};
 
 pub const LINK: Want = Want {
@@ -20,6 +21,12 @@ pub fn here(port: u16) -> Endpoint {
         addr: Ip4(0x7f00_0001),
         port,
     }
+}
+
+/// A port of the host at which nobody listens.
+pub fn free_port<R: Net<Listener = TcpListener, Stream = TcpStream>>(rt: &R) -> Result<u16, Fail> {
+    let free = TcpListener::bind(rt, "127.0.0.1:0")?;
+    Ok(free.local_addr()?.port())
 }
 
 /// The lists of a wait for one thing.

@@ -1,14 +1,10 @@
 // Files, and a wait that takes its time.
 use crate::asker::{Asker, LINK};
-use net_world::NetWorld;
 use std::alloc::Global;
 use std::fs;
 use std::fs::Files;
-use std::net::{Net, TcpListener, TcpStream};
 use std::os::fd::AsRawFd;
-use std::sync::Wait;
 use std::test::Fail;
-use std::time::Clock;
 use world_face::{FileSize, Io, World};
 
 /// A file is measured and read from a place on.
@@ -18,11 +14,20 @@ fn reads_a_file<W: World>(world: &mut W) -> bool {
         && world.file_read("kept", 1, &mut into) == Io::Done(4)
         && into[..4].starts_with(b"bcde")
         && world.file_read("kept", 5, &mut into) == Io::End
-        && world.file_read("other", 0, &mut into) == Io::Done(2)
+}
+
+/// Another is read, and the first again.
+fn reads_another<W: World>(world: &mut W) -> bool {
+    let mut into = [0u8; 8];
+    world.file_read("other", 0, &mut into) == Io::Done(2)
         && into[..2].starts_with(b"xy")
         && world.file_read("kept", 0, &mut into[..1]) == Io::Done(1)
-        && world.file_len("lost") == FileSize::Missing
-        && world.file_read("lost", 0, &mut into) == Io::Failed
+}
+
+/// There is no such file.
+fn misses_a_file<W: World>(world: &mut W) -> bool {
+    world.file_len("lost") == FileSize::Missing
+        && world.file_read("lost", 0, &mut [0u8; 8]) == Io::Failed
 }
 
 /// What was put in a file's place is seen by the next that asks for its length.
@@ -36,16 +41,13 @@ fn reads_on<W: World>(world: &mut W) -> bool {
 }
 
 /// Files are measured and read.
-pub fn are_read<
-    R: Net<Listener = TcpListener, Stream = TcpStream> + Wait + Files + Clock + Alloc<A = Global>,
->(rt: &R) -> Result<bool, Fail> {
-    let mut world = NetWorld::open(rt, rt.alloc())?;
+pub fn are_read<R: Files, W: World>(rt: &R, world: &mut W) -> Result<bool, Fail> {
     fs::write(rt, "kept", b"abcde")?;
     fs::write(rt, "other", b"xy")?;
-    let read = reads_a_file(&mut world);
+    let read = reads_a_file(world) && reads_another(world) && misses_a_file(world);
     fs::write(rt, "new", b"new")?;
     fs::rename(rt, "new", "kept")?;
-    let again = reads_on(&mut world);
+    let again = reads_on(world);
     fs::remove_file(rt, "kept")?;
     fs::remove_file(rt, "other")?;
     Ok(read && again)
@@ -61,32 +63,19 @@ fn is_no_file<W: World>(world: &mut W, name: &str) -> bool {
 }
 
 /// Only regular files are opened: not a folder, a device, or a pipe whose other end is closed, where who opens it waits for ever.
-pub fn are_regular<
-    R: Net<Listener = TcpListener, Stream = TcpStream> + Wait + Files + Clock + Alloc<A = Global>,
->(rt: &R) -> Result<bool, Fail> {
+pub fn are_regular<R: Files + Alloc<A = Global>, W: World>(
+    rt: &R,
+    world: &mut W,
+) -> Result<bool, Fail> {
     let (reader, writer) = rt.pipe()?;
     drop(writer);
     let name = format!(in rt.alloc(); "/proc/self/fd/{}", reader.as_raw_fd())?;
-    let mut world = NetWorld::open(rt, rt.alloc())?;
-    Ok(
-        is_no_file(&mut world, ".")
-            && is_no_file(&mut world, "/dev/null")
-            && is_no_file(&mut world, name.as_str()),
-    )
+    Ok(is_no_file(world, ".") && is_no_file(world, "/dev/null") && is_no_file(world, name.as_str()))
 }
 
-/// Nothing is ready, and the wait takes its time.
-fn waits<W: World>(asker: &mut Asker, world: &mut W) -> bool {
+/// Before the first wait no time has passed; a wait for what isn't ready takes its time.
+pub fn waits<W: World>(asker: &mut Asker, world: &mut W) -> bool {
     let before = world.now();
     let nothing = !asker.is_ready(world, LINK, 30);
     before == 0 && nothing && (30..30_000).contains(&world.now())
-}
-
-/// A wait ends with its time.
-pub fn a_wait_ends<
-    R: Net<Listener = TcpListener, Stream = TcpStream> + Wait + Files + Clock + Alloc<A = Global>,
->(rt: &R) -> Result<bool, Fail> {
-    let mut asker = Asker::open(rt.alloc())?;
-    let mut world = NetWorld::open(rt, rt.alloc())?;
-    Ok(waits(&mut asker, &mut world))
 }
