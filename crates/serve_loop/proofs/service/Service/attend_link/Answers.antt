@@ -4,7 +4,7 @@ use Rattle.world_face.proofs.Telling.{brings_none, brings_then}
 use Rattle.slirp_core.specs.Holds.{flowing, standing}
 use Rattle.slirp_core.proofs.Associating.{passes_over}
 use Rattle.serve_loop.proofs.Counted.{counted_after}
-use Rattle.serve_loop.proofs.Turning.{of_link, read_counts, read_now, write_counts}
+use Rattle.serve_loop.proofs.Turning.{of_link, read_counts, read_now}
 use Rattle.serve_loop.proofs.service.Service.attend_link.Goals as goal
 
 pub returns-in-Again-clause-makes : goal.returns-in-Again-clause-makes
