@@ -6,7 +6,7 @@ use Rattle.world_face.proofs.Telling.{makes_as, makes_then}
 use Rattle.host_policy.specs.Addresses.{Config}
 use Rattle.udp_assoc.specs.declared.assocs.Association.{Association}
 use Rattle.flow_splice.specs.Splice.{Splice}
-use Rattle.run_laws.specs.Shape.{Phase, phase}
+use Rattle.run_laws.specs.Shape.{phase}
 use Rattle.slirp_laws.specs.Datagrams.{Settled}
 use Rattle.slirp_laws.specs.Laws.{Finished, Lawful}
 use Rattle.slirp_laws.specs.Served.{Served}

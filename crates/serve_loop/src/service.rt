@@ -192,11 +192,13 @@ impl Service {
         ensures number { self.new.slirp.number ≤ self.old.slirp.number + 1 }
         ensures turns { self.new.slirp.flows.turn ≤ self.old.slirp.flows.turn + 1 }
     {
-        let taken = self.take_turn(world);
-        if let Turn::Ended(_) = taken {
-            self.slirp.close_all(world);
+        match self.take_turn(world) {
+            Turn::Again => Turn::Again,
+            Turn::Ended(end) => {
+                self.slirp.close_all(world);
+                Turn::Ended(end)
+            }
         }
-        taken
     }
 
     // The same, with the sockets left open where it ended the run.

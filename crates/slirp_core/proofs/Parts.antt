@@ -24,7 +24,7 @@ use Rattle.slirp_laws.proofs.Deeds.{FlowsAskNothing}
 use Rattle.slirp_laws.proofs.Joining.{joined, joined_step}
 use Rattle.stream_netdev.specs.Keeps.{Keeps}
 use Rattle.stream_netdev.specs.State.{LinkState}
-use Rattle.slirp_core.specs.Holds.{Standing, InTurn, is_ours, asked_by, no_forward, IsLast, OfAnswers, OfClock, OfRelay, Unbegun, Flowing, HoldsAt, OfFlows, OfSockets, Stands, Turns, Begins}
+use Rattle.slirp_core.specs.Holds.{Standing, InTurn, is_ours, asked_by, IsLast, OfAnswers, OfClock, OfRelay, Unbegun, Flowing, HoldsAt, OfFlows, OfSockets, Stands, Turns, Begins}
 use Rattle.slirp_core.specs.State.{SlirpState}
 use Rattle.slirp_core.proofs.Guests.{guests_stay, of_guests}
 use Rattle.slirp_core.proofs.Services.{kinds_are, no_questions, services_stay}

@@ -1,5 +1,5 @@
 -- The services of the network: who has which address; that no question waits, and no file is served.
-use Rattle.std.proofs.Common.{◌≡◌, ℕ, ◌==◌, ◌&&◌, ◌||◌, not, Bool, true, false, List, [], ◌∷◌, ◌++◌, Option, Some, None, option_map, unwrap_or, if◌then◌else◌, nat_lt, refl, sym, ◌∙◌, ap, subst}
+use Rattle.std.proofs.Common.{◌≡◌, ℕ, ◌==◌, ◌&&◌, ◌||◌, not, Bool, true, false, List, [], ◌∷◌, ◌++◌, Option, Some, None, option_map, unwrap_or, if◌then◌else◌, nat_lt, refl, sym, ◌∙◌, ap}
 use Rattle.net_octets.specs.declared.Endpoint.{Endpoint}
 use Rattle.world_face.specs.Journal.{Entry, Wait, LinkWrite, Connect, Listen, Accept, Close, UdpOpen, UdpSend, UdpRecv, FileLen, FileRead}
 use Rattle.world_face.specs.declared.Made.TheVariants.{Done as MadeDone, Failed as MadeFailed}
@@ -18,7 +18,7 @@ use Rattle.run_laws.specs.Moments.{moment, waits}
 use Rattle.run_laws.specs.Packets.{Packet, Unheard, ArpPacket, Message, DatagramPacket, Segment, Datagram}
 use Rattle.run_laws.specs.Sockets.{Kind, DnsSocket, Flow as OfFlow, Listener as OfListener, datagram_kind, kind_of}
 use Rattle.slirp_laws.specs.Answers.{Ledger, Serving, again_by_call, begins_again, files_after, files_by_call, files_by_fate, files_by_packet, files_sent, identification, is_free, ledger, or_begun, serving, unless_begun}
-use Rattle.slirp_laws.specs.Datagrams.{Errand, Fate, Ignored, ForLeases, GoesTo, asks_a_name, fate, fate_by, is_to_names, opened_at}
+use Rattle.slirp_laws.specs.Datagrams.{Errand, Ignored, ForLeases, GoesTo, asks_a_name, fate, fate_by, is_to_names, opened_at}
 use Rattle.slirp_laws.specs.Errands.{errand_left}
 use Rattle.slirp_laws.specs.Laws.{due_for_answer, due_for_services, unless_due}
 use Rattle.slirp_laws.specs.Leasing.{leases, leases_by}

@@ -59,7 +59,7 @@ impl Model for Slirp {
 
 impl Slirp {
     ghost use Rattle.dhcp_server.specs.declared.leases.Lease.TheVariants.{Free};
-    ghost use Rattle.std.specs.Prelude.{replicate, false, Bool, ℕ, List, ◌≤◌, ◌+◌, IfOk, IfSome, Some, None, min, max};
+    ghost use Rattle.std.specs.Prelude.{replicate, slice_get, false, Bool, ℕ, List, ◌≤◌, ◌+◌, IfOk, IfSome, Some, None, min, max};
     ghost use Rattle.std.specs.Option.{option_map};
     ghost use Rattle.host_policy.specs.Addresses.{Config};
     ghost use Rattle.host_policy.specs.Ranges.{IsSound};

@@ -5,7 +5,6 @@ use Rattle.slirp_core.specs.Holds.{flowing, standing}
 use Rattle.slirp_core.proofs.Associating.{passes_over}
 use Rattle.serve_loop.specs.Served.{ServiceState}
 use Rattle.serve_loop.specs.Turns.{HoldsNow}
-use Rattle.serve_loop.proofs.Counted.{counted_after}
 use Rattle.serve_loop.proofs.Turning.{some_counts}
 use Rattle.serve_loop.proofs.Wanted.{counted_as}
 use Rattle.serve_loop.proofs.service.Service.attend_flow.Goals as goal

@@ -4,7 +4,7 @@ use Rattle.world_face.proofs.Telling.{brings_none, brings_then}
 use Rattle.slirp_core.specs.Holds.{flowing, standing}
 use Rattle.slirp_core.proofs.Associating.{passes_over}
 use Rattle.serve_loop.proofs.Counted.{counted_after}
-use Rattle.serve_loop.proofs.Turning.{of_link, read_counts, read_now, write_counts}
+use Rattle.serve_loop.proofs.Turning.{of_link, read_counts, read_now}
 use Rattle.serve_loop.proofs.service.Service.attend_link.Goals as goal
 
 pub returns-in-Again-clause-makes : goal.returns-in-Again-clause-makes
@@ -30,3 +30,12 @@ pub returns-in-Ended-clause-passed : goal.returns-in-Ended-clause-passed
 returns-in-Ended-clause-passed g c wanted passed =
     let now = read_now c.args.to_read c.args.item.now (sym c.is_read_now.ensures ∙ c.if-is_read_now.true) in
     absurd (read_counts c.args.self.now.wants c.args.item.now TheLink c.requires.of now.1 (wanted now.0) passed)
+
+pub returns-then-writes_link-clause-makes : goal.returns-then-writes_link-clause-makes
+returns-then-writes_link-clause-makes g c config count items wanted =
+    brings_then (brings_none (λ past holds. passes_over config count c.args.self.now.wants c.args.item.now items c.args.self.now.slirp (flowing false c.args.self.now.slirp.flows) c.args.self.now.link past holds))
+    (c.pump-then-writes_link.ensures.makes config (standing count c.args.self.now.wants items) false)
+
+pub returns-clause-makes : goal.returns-clause-makes
+returns-clause-makes g c config count items wanted =
+    brings_none (λ past holds. passes_over config count c.args.self.now.wants c.args.item.now items c.args.self.now.slirp (flowing false c.args.self.now.slirp.flows) c.args.self.now.link past holds)

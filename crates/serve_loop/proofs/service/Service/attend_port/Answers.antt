@@ -3,7 +3,6 @@ use Rattle.poll_list.specs.declared.Who.TheVariants.{Udp}
 use Rattle.world_face.proofs.Telling.{brings_none, brings_then}
 use Rattle.slirp_core.specs.Holds.{flowing, standing}
 use Rattle.slirp_core.proofs.Associating.{passes_over}
-use Rattle.serve_loop.proofs.Counted.{counted_after}
 use Rattle.serve_loop.proofs.Turning.{of_socket, read_counts}
 use Rattle.serve_loop.proofs.service.Service.attend_port.Goals as goal
 

@@ -1,7 +1,10 @@
-use Rattle.std.proofs.Common.{◌<◌, ◌≤◌, ◌∙◌, ap, subst, arith}
+use Rattle.std.proofs.Common.{◌<◌, ◌≤◌, ◌∙◌, ap, sym, subst, arith}
 use Rattle.world_face.proofs.Telling.{makes_as, makes_from}
 use Rattle.host_policy.specs.Addresses.{Config}
+use Rattle.world_face.specs.Tells.{Makes}
 use Rattle.serve_loop.specs.Served.{ServiceState}
+use Rattle.serve_loop.specs.Turns.{Closes}
+use Rattle.serve_loop.specs.declared.service.End.TheVariants.{TurnsSpent}
 use Rattle.serve_loop.proofs.Serving.{finishes, spent, told}
 use Rattle.slirp_core.proofs.Counted.{grown}
 use Rattle.serve_loop.proofs.Counted.{end_after, grown_then}
@@ -49,3 +52,19 @@ returns-in-Ended-clause-served g c = told c.args.self.now.slirp.config c.in-Ende
 
 pub returns-in-Ended-clause-faults : goal.returns-in-Ended-clause-faults
 returns-in-Ended-clause-faults g c = end_after c.in-Ended.end (g.W.World.tells c.args.world.now).faults (g.W.World.tells c.loop-count.world).faults (g.W.World.tells c.turn.new.world).faults c.loop-count.invariant.counts c.in-Ended.ensures.faults
+
+pub returns-clause-makes : goal.returns-clause-makes
+returns-clause-makes g c =
+    let config = c.args.self.now.slirp.config in
+    let slirp = c.self-2.inside.slirp in
+    let end = TurnsSpent c.self-2.inside.turns in
+    let turns = c.self.invariant.0 ∙ ap (λ (s : ServiceState). s.slirp.config.turns) c.self.view_is ∙ ap (λ (k : Config). k.turns) c.start-begun.ensures.config in
+    let all = subst (λ n. n ≤ c.loop-count._count) turns c.loop-count-test.false in
+    let most = c.self-2.invariant.0 ∙ ap (λ (s : ServiceState). s.slirp.config.turns) c.self-2.view_is ∙ ap (λ (k : Config). k.turns) c.loop-count.invariant.config in
+    let ran = makes_as _ _ _ _ c.loop-count.invariant.makes (λ made holds. spent config c.loop-count._count c.self-2.inside.turns c.loop-count.self made all most holds) in
+    finishes config end slirp.associations slirp.flows.flows.parts _ _ _
+    (subst (λ (s : ServiceState). Makes (g.W.World.tells c.args.world.now) (g.W.World.tells c.loop-count.world) (Closes config end s.slirp.associations s.slirp.flows.flows.parts)) (sym c.self-2.view_is) ran)
+    c.close_all.ensures.makes
+
+pub returns-clause-served : goal.returns-clause-served
+returns-clause-served g c = told c.args.self.now.slirp.config (TurnsSpent c.self-2.inside.turns) _ _ (returns-clause-makes g c)

@@ -1,8 +1,26 @@
 use Rattle.std.proofs.Common.{◌+◌, false, subst, sym}
 use Rattle.world_face.specs.Tells.{Brings}
 use Rattle.world_face.proofs.Telling.{brings_from, brings_then}
+use Rattle.slirp_core.specs.Holds.{after}
 use Rattle.slirp_core.proofs.Counted.{grown}
 use Rattle.serve_loop.specs.Served.{ServiceState}
+use Rattle.serve_loop.specs.Turns.{EndedAs, HoldsNow}
 use Rattle.serve_loop.proofs.Counted.{end_before}
-use Rattle.serve_loop.proofs.Serving.{ran_to}
+use Rattle.serve_loop.proofs.Serving.{ran, ran_to}
 use Rattle.serve_loop.proofs.service.Service.turn.Goals as goal
+
+pub returns-in-Again-clause-makes : goal.returns-in-Again-clause-makes
+returns-in-Again-clause-makes g c config count few = c.in-Again.ensures.makes config count few
+
+pub returns-in-Ended-clause-makes : goal.returns-in-Ended-clause-makes
+returns-in-Ended-clause-makes g c config count few =
+    let slirp = c.self.inside.slirp in
+    let end = c.in-Ended.end in
+    brings_then
+    (subst (λ (s : ServiceState). Brings (g.W.World.tells c.args.world.now) (g.W.World.tells c.take_turn.new.world) (HoldsNow config (after count) false c.args.self.now.slirp c.args.self.now.link) (EndedAs config end s.slirp.associations s.slirp.flows.flows.parts)) (sym c.self.view_is)
+    (c.in-Ended.ensures.makes config count few))
+    (brings_from c.close_all.ensures.makes (λ made all past ended. ran_to config end slirp.associations slirp.flows.flows.parts made past (ran config end slirp.associations slirp.flows.flows.parts past ended) all))
+
+pub returns-in-Ended-clause-faults : goal.returns-in-Ended-clause-faults
+returns-in-Ended-clause-faults g c =
+    end_before c.in-Ended.end (g.W.World.tells c.args.world.now).faults (g.W.World.tells c.take_turn.new.world).faults (g.W.World.tells c.close_all.new.world).faults c.in-Ended.ensures.faults (grown _ _ _ c.close_all.ensures.makes.counted)

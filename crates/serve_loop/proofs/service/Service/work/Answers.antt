@@ -5,10 +5,10 @@ use Rattle.poll_list.specs.declared.Who.TheVariants.{Link as TheLink}
 use Rattle.world_face.specs.Tells.{Brings}
 use Rattle.world_face.proofs.Telling.{brings_none, brings_then, brings_as}
 use Rattle.slirp_core.specs.Holds.{standing, after}
-use Rattle.serve_loop.specs.Turns.{AfterTurn, HoldsNow}
+use Rattle.serve_loop.specs.Turns.{AfterTurn, HoldsNow, is_passed_over}
 use Rattle.serve_loop.specs.declared.service.Turn.TheVariants.{Ended}
 use Rattle.serve_loop.proofs.Counted.{end_after, grown_then}
-use Rattle.serve_loop.proofs.Turning.{any_left, both_of, counts_on, enough, ended_left, still_reads, weaker}
+use Rattle.serve_loop.proofs.Turning.{any_left, both_of, counts_on, enough, ended_left, passed_at, still_reads, weaker}
 use Rattle.serve_loop.proofs.service.Service.work.Goals as goal
 
 pub attend-requires-clause-number : goal.attend-requires-clause-number
@@ -24,6 +24,7 @@ loop-place-init g c = record {
   number = any_left c.args.self.now.slirp.number c.may_read-to_read.result;
   turns = refl;
   reports = (refl, refl);
+  passed = λ all. (refl, refl);
 }
 
 pub returns-in-Ended-clause-makes : goal.returns-in-Ended-clause-makes
@@ -64,9 +65,31 @@ loop-place-preserved g c =
           (counts_on new.self.slirp.number old.self.slirp.number c.args.self.now.slirp.number old.to_read _ _ c.in-Again.ensures.number old.invariant.number);
       turns = c.in-Again.ensures.turns ∙ old.invariant.turns;
       reports = (c.in-Again.ensures.reports.0 ∙ old.invariant.reports.0, c.in-Again.ensures.reports.1 ∙ old.invariant.reports.1);
+      passed = λ all.
+          let before = old.invariant.passed all in
+          let over = passed_at wants c.args.self.now.ready place c.item-item.result rest all next in
+          let now = c.in-Again.ensures.passed (λ is. subst (λ (w : List Want). reads TheLink w ≡ true) (sym old.invariant.reports.0) (old.invariant.reads is))
+          (subst (λ (w : List Want). is_passed_over w c.item-item.result ≡ true) (sym old.invariant.reports.0) over) in
+          (now.1 ∙ before.0, now.2 ∙ before.1);
     }
 
 pub returns-clause-makes : goal.returns-clause-makes
 returns-clause-makes g c config count =
     let old = c.loop-place in
     brings_as (old.invariant.makes config count) (λ past holds. weaker config count c.args.self.now.wants (drop old.place c.args.self.now.ready) false old.self.slirp old.self.link past holds)
+
+pub returns-in-Ended-clause-passed : goal.returns-in-Ended-clause-passed
+returns-in-Ended-clause-passed g c all =
+    let old = c.loop-place in
+    let wants = c.args.self.now.wants in
+    let place = old.place in
+    let rest = drop (place + 1) c.args.self.now.ready in
+    let next : drop place c.args.self.now.ready ≡ c.item-item.result ∷ rest = subst (λ (l : List Want). drop place l ≡ c.item-item.result ∷ drop (place + 1) l) old.invariant.reports.1 c.item-item.ensures in
+    let before = old.invariant.passed all in
+    let over = passed_at wants c.args.self.now.ready place c.item-item.result rest all next in
+    let now = c.in-Ended.ensures.passed (λ is. subst (λ (w : List Want). reads TheLink w ≡ true) (sym old.invariant.reports.0) (old.invariant.reads is))
+    (subst (λ (w : List Want). is_passed_over w c.item-item.result ≡ true) (sym old.invariant.reports.0) over) in
+    (now.0, now.1 ∙ before.0, now.2 ∙ before.1)
+
+pub returns-clause-passed : goal.returns-clause-passed
+returns-clause-passed g c all = let same = c.loop-place.invariant.passed all in (refl, same.0, same.1)

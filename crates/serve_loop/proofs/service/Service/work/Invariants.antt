@@ -7,7 +7,7 @@ use Rattle.stream_netdev.specs.Keeps.{ReadsOn}
 use Rattle.stream_netdev.specs.State.{under_way}
 use Rattle.slirp_core.specs.Counts.{AreGrown}
 use Rattle.slirp_core.specs.Holds.{standing}
-use Rattle.serve_loop.specs.Turns.{HoldsNow}
+use Rattle.serve_loop.specs.Turns.{HoldsNow, all_passed_over}
 use Rattle.serve_loop.proofs.service.Service.work.Given as goal
 
 abbrev pub invariant-loop-place : goal.invariant-loop-place
@@ -21,4 +21,5 @@ invariant-loop-place g l = record {
   number : l.self.slirp.number + (if l.to_read then 1 else 0) ≤ l.fn.self.slirp.number + 1;
   turns : l.self.slirp.flows.turn ≡ l.fn.self.slirp.flows.turn;
   reports : (l.self.wants ≡ l.fn.self.wants) × (l.self.ready ≡ l.fn.self.ready);
+  passed : all_passed_over l.fn.self.wants l.fn.self.ready ≡ true → (l.self ≡ l.fn.self) × (l.world ≡ l.fn.world);
 }

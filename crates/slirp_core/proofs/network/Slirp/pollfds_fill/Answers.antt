@@ -1,9 +1,9 @@
-use Rattle.std.proofs.Common.{◌∙◌, ap, subst}
+use Rattle.std.proofs.Common.{Bool, ◌∙◌, ap, subst}
 use Rattle.std.specs.List.Sorted.{IsPermutation}
 use Rattle.tcp_flows.specs.Reading.{AreWantsOf}
 use Rattle.udp_assoc.specs.Associations.{numbers}
 use Rattle.slirp_core.specs.State.{SlirpState}
-use Rattle.slirp_core.specs.Timeouts.{sooner}
+use Rattle.slirp_core.specs.Timeouts.{IsFlowTime, sooner}
 use Rattle.slirp_core.proofs.Filling.{wants_of}
 use Rattle.slirp_core.proofs.network.Slirp.pollfds_fill.Goals as goal
 
@@ -12,7 +12,7 @@ returns-clause-timeout c held is = record {
   parts = c.time_of_parts.result;
   of_parts = c.time_of_parts.ensures held is;
   flows = c.time_of_flows.result;
-  of_flows = c.time_of_flows.ensures;
+  of_flows = subst (λ (b : Bool). IsFlowTime b c.args.self.now.moment c.args.self.now.flows.flows.parts c.time_of_flows.result) c.blocked-2.ensures c.time_of_flows.ensures;
   is = c.sooner.ensures ∙ ap (λ o. sooner o c.time_of_flows.result) (c.sooner-datagrams.ensures ∙ ap (λ o. sooner o c.time_of_parts.result) c.time_of_sockets.ensures);
 }
 

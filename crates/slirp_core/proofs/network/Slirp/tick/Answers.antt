@@ -1,4 +1,4 @@
-use Rattle.std.proofs.Common.{◌≡◌, ◌+◌, ◌∙◌, None, refl, sym, ap, subst}
+use Rattle.std.proofs.Common.{◌≡◌, ℕ, ◌+◌, ◌∙◌, List, slice_get, Some, None, refl, sym, ap, subst}
 use Rattle.world_face.specs.Tells.{Makes}
 use Rattle.world_face.proofs.Telling.{brings_none, brings_then, makes_then}
 use Rattle.std.specs.Prelude.{false, true}
@@ -58,3 +58,9 @@ returns-clause-ahead g c config at aged link past holds n unowed =
     (subst (λ (s : SlirpState). IsInTime s.moment s.flows.flows.parts n) (sym c.drop_parts.ensures.same)
     (c.tell_flows.ensures.ahead config c.args.self.now.moment aged past (subst (λ (f : FlowsState Splice). CoreHolds config c.args.self.now.moment aged None f past) (sym same) holds.flows.holds) n
     (subst (λ (f : FlowsState Splice). OwesNoAck f.parts n) (sym same) unowed)))
+
+pub returns-clause-unserved : goal.returns-clause-unserved
+returns-clause-unserved g c k served =
+    let same : c.close_unused.new.self.flows ≡ c.tell_flows.new.self.flows = ap (λ (s : SlirpState). s.flows) c.close_unused.ensures.same ∙ ap (λ (s : SlirpState). s.flows) c.drop_parts.ensures.same in
+    c.begin_turn.ensures.unserved k
+    (sym (ap (λ (f : Kept). slice_get f.served k) same ∙ ap (λ (l : List ℕ). slice_get l k) c.tell_flows.ensures.served) ∙ served ∙ ap (λ (f : Kept). Some f.turn) same ∙ ap Some c.tell_flows.ensures.turn)
