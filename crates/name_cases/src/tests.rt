@@ -48,9 +48,14 @@ const EVERYWHERE: Endpoint = Endpoint {
 
 /// Questions by their identifiers (RFC 1035, 4.1.1), and answers.
 const FIRST: &[u8] = b"\x12\x34\x01\x00\x00\x01\x00\x00\x00\x00\x00\x00\x01a\x00\x00\x01\x00\x01";
+
 const SECOND: &[u8] = b"\x34\x12\x01\x00\x00\x01\x00\x00\x00\x00\x00\x00\x01a\x00\x00\x01\x00\x01";
-const TO_FIRST: &[u8] = b"\x12\x34\x81\x80\x00\x01\x00\x00\x00\x00\x00\x00\x01a\x00\x00\x01\x00\x01";
-const TO_SECOND: &[u8] = b"\x34\x12\x81\x80\x00\x01\x00\x00\x00\x00\x00\x00\x01a\x00\x00\x01\x00\x01";
+
+const TO_FIRST: &[u8] =
+    b"\x12\x34\x81\x80\x00\x01\x00\x00\x00\x00\x00\x00\x01a\x00\x00\x01\x00\x01";
+
+const TO_SECOND: &[u8] =
+    b"\x34\x12\x81\x80\x00\x01\x00\x00\x00\x00\x00\x00\x01a\x00\x00\x01\x00\x01";
 
 /// What a guest at a port is told where its question was answered.
 const TO_4000: Reply = Reply::Datagram {
@@ -106,16 +111,19 @@ impl Host {
     fn receive(&mut self, into: &mut [u8]) -> Got
         ensures { MayGet (length into.old) result }
     {
-        match self.comes {
-            Some((peer, octets)) => {
-                if octets.len() > into.len() {
-                    return Got::NotYet;
-                }
-                into[..octets.len()].copy_from_slice(octets);
-                Got::From(peer, octets.len())
-            }
-            None => Got::NotYet,
+        let Some((peer, octets)) = self.comes else {
+            return Got::NotYet;
+        };
+        let (addr, port) = (peer.addr.0, peer.port);
+        if octets.len() > into.len() {
+            return Got::NotYet;
         }
+        into[..octets.len()].copy_from_slice(octets);
+        let peer = Endpoint {
+            addr: Ip4(addr),
+            port,
+        };
+        Got::From(peer, octets.len())
     }
 }
 
@@ -272,10 +280,7 @@ impl Network {
         if !is_question(body) || body.len() > 65_507 || self.number > 1_000_000 {
             return Reply::Nothing;
         }
-        let guest = Endpoint {
-            addr: GUEST,
-            port,
-        };
+        let guest = Endpoint { addr: GUEST, port };
         self.relay.query(
             &mut self.host,
             now,
@@ -339,12 +344,7 @@ const CASES: [Case; 7] = [
                 &[Call::Receive(0), Call::Close(0)],
                 TO_4000,
             ),
-            (
-                3,
-                Act::Comes(0, RESOLVER, TO_FIRST),
-                &[],
-                Reply::Nothing,
-            ),
+            (3, Act::Comes(0, RESOLVER, TO_FIRST), &[], Reply::Nothing),
         ],
     },
     // The same question twice goes out twice on one socket; another identifier of the port and the same identifier of another port have sockets of their own.
@@ -536,10 +536,7 @@ const CASES: [Case; 7] = [
         steps: &[(
             0,
             Act::Asks(4000, FIRST),
-            &[
-                Call::Open(0, EVERYWHERE),
-                Call::Send(0, LOCAL_RESOLVER, 19),
-            ],
+            &[Call::Open(0, EVERYWHERE), Call::Send(0, LOCAL_RESOLVER, 19)],
             Reply::Nothing,
         )],
     },
@@ -565,10 +562,12 @@ fn a_513th_question_takes_the_place_of_the_longest_unused(rt: HostRuntime) {
         assert_eq!(rt; reply, Reply::Nothing);
     }
     let _ = network.act(512, &Act::Asks(4000, FIRST));
-    assert_eq!(rt; network.host.calls.as_slice(), [Call::Send(0, RESOLVER, 19)].as_slice());
+    assert_eq!(rt;
+        network.host.calls.as_slice(),
+        [Call::Send(0, RESOLVER, 19)].as_slice()
+    );
     let _ = network.act(513, &Act::Asks(5000, FIRST));
-    assert_eq!(
-        rt;
+    assert_eq!(rt;
         network.host.calls.as_slice(),
         [
             Call::Close(1),
@@ -579,10 +578,16 @@ fn a_513th_question_takes_the_place_of_the_longest_unused(rt: HostRuntime) {
     );
     assert!(rt; network.relay.has(0) && !network.relay.has(1) && network.relay.has(512));
     assert_eq!(rt; network.relay.rising().len(), 512);
-    assert_eq!(rt; network.relay.oldest().map(|question| question.number), Some(2));
+    assert_eq!(rt;
+        network.relay.oldest().map(|question| question.number),
+        Some(2)
+    );
     assert_eq!(rt; network.relay.next_due(), Some(10_002));
     let _ = network.act(10_003, &Act::Ticks);
-    assert_eq!(rt; network.host.calls.as_slice(), [Call::Close(2), Call::Close(3)].as_slice());
+    assert_eq!(rt;
+        network.host.calls.as_slice(),
+        [Call::Close(2), Call::Close(3)].as_slice()
+    );
     network.host.calls.clear();
     assert!(rt; network.close_first());
     assert_eq!(rt; network.host.calls.as_slice(), [Call::Close(0)].as_slice());
