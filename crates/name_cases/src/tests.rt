@@ -114,17 +114,25 @@ impl Host {
         let Some((peer, octets)) = self.comes else {
             return Got::NotYet;
         };
-        let (addr, port) = (peer.addr.0, peer.port);
         if octets.len() > into.len() {
             return Got::NotYet;
         }
+        let got = came(peer.addr.0, peer.port, octets.len(), into.len());
         into[..octets.len()].copy_from_slice(octets);
-        let peer = Endpoint {
-            addr: Ip4(addr),
-            port,
-        };
-        Got::From(peer, octets.len())
+        got
     }
+}
+
+// The answer that a datagram of so many octets came from there, where there is room.
+fn came(addr: u32, port: u16, count: usize, room: usize) -> Got
+    requires { count ≤ room }
+    ensures { MayGet room result }
+{
+    let peer = Endpoint {
+        addr: Ip4(addr),
+        port,
+    };
+    Got::From(peer, count)
 }
 
 impl World for Host {
