@@ -1,5 +1,5 @@
 -- Which cause comes first, and the calls that are made by it.
-use Rattle.std.proofs.Common.{◌≡◌, ◌≤◌, ◌<◌, ℕ, not, nat_le, Bool, true, false, List, [], ◌∷◌, length, Option, Some, None, if◌then◌else◌, refl, sym, ◌∙◌, ap, subst, rules, arith}
+use Rattle.std.proofs.Common.{◌≡◌, ◌≤◌, ◌<◌, ℕ, not, nat_le, Bool, true, false, List, length, Option, Some, None, if◌then◌else◌, refl, sym, ◌∙◌, ap, subst, rules}
 use Rattle.world_face.specs.Tells.{Answers, Makes, Telling}
 use Rattle.world_face.specs.declared.Made.{Made}
 use Rattle.world_face.proofs.Telling.{makes_none, makes_one}

@@ -1,5 +1,5 @@
 -- What becomes of the list where a port is removed, and whose socket is closed.
-use Rattle.std.proofs.Common.{◌≡◌, ℕ, ◌+◌, length, arith, not, Bool, true, false, cond, List, [], ◌∷◌, map, filter, Option, Some, None, option_map, is_some, refl, sym, ◌∙◌, ap, subst, true≢false}
+use Rattle.std.proofs.Common.{◌≡◌, ◌+◌, length, arith, not, Bool, true, false, cond, List, [], ◌∷◌, map, filter, Some, None, option_map, is_some, refl, sym, ◌∙◌, ap, true≢false}
 use Rattle.std.proofs.lemmas.Map.{lookup-none}
 use Rattle.std.proofs.lemmas.Map.Entries.{none_past_head}
 use Rattle.std.proofs.lemmas.Map.Keys.{IsDistinct-tail}

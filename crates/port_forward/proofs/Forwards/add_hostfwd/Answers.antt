@@ -1,12 +1,11 @@
-use Rattle.std.proofs.Common.{◌≡◌, ℕ, List, [], ◌∷◌, ◌++◌, length, map, Option, Some, None, is_some, refl, sym, ◌∙◌, ap, subst, arith}
-use Rattle.std.specs.Map.{lookup}
-use Rattle.std.proofs.lemmas.List.{length-map, map-append}
+use Rattle.std.proofs.Common.{List, [], ◌∷◌, ◌++◌, map, Some, None, refl, sym, ◌∙◌, ap, subst, arith}
+use Rattle.std.proofs.lemmas.List.{map-append}
 use Rattle.world_face.specs.Tells.{Answers}
 use Rattle.world_face.specs.declared.Made.{Made}
 use Rattle.world_face.specs.declared.Made.TheVariants.{Done, Failed}
-use Rattle.port_forward.specs.Adding.{AddsBy, opening_of}
-use Rattle.port_forward.specs.Entries.{opened_of, port_of, same_port}
-use Rattle.port_forward.specs.Opened.{Opened, is_taken}
+use Rattle.port_forward.specs.Adding.{opening_of}
+use Rattle.port_forward.specs.Entries.{opened_of}
+use Rattle.port_forward.specs.Opened.{Opened}
 use Rattle.port_forward.specs.declared.FwdFault.TheVariants.{Taken, BadGuest, Full, Refused}
 use Rattle.port_forward.specs.declared.ports.Lead.{Lead}
 use Rattle.port_forward.specs.declared.ports.Port.{Port}

@@ -1,4 +1,4 @@
-use Rattle.std.proofs.Common.{ℕ, List, Some, slice_get, option_map, sym, ◌∙◌, ap}
+use Rattle.std.proofs.Common.{List, Some, slice_get, option_map, sym, ◌∙◌, ap}
 use Rattle.std.proofs.lemmas.Option.{slice_get-map}
 use Rattle.host_policy.specs.declared.Forward.{Forward}
 use Rattle.port_forward.specs.Entries.{opened_of}

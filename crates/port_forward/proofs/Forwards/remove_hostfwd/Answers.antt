@@ -1,4 +1,4 @@
-use Rattle.std.proofs.Common.{◌≡◌, ◌+◌, length, ℕ, [], ◌∷◌, Option, Some, None, is_some, unwrap_or, option_map, refl, sym, ◌∙◌, ap, true≢false, arith}
+use Rattle.std.proofs.Common.{length, ℕ, [], ◌∷◌, Option, is_some, unwrap_or, option_map, refl, sym, ◌∙◌, ap, true≢false, arith}
 use Rattle.std.proofs.lemmas.List.{length-map}
 use Rattle.world_face.specs.Journal.{Close}
 use Rattle.world_face.proofs.Telling.{makes_one}

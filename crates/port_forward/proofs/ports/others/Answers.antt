@@ -1,4 +1,4 @@
-use Rattle.std.proofs.Common.{◌≡◌, ◌+◌, length, List, [], ◌++◌, not, filter, sym, ◌∙◌, subst}
+use Rattle.std.proofs.Common.{◌≡◌, ◌+◌, length, List, ◌++◌, not, filter, sym, ◌∙◌, subst}
 use Rattle.std.proofs.lemmas.List.{append-nil}
 use Rattle.std.proofs.lemmas.Map.Iter.{rest_all}
 use Rattle.std.proofs.lemmas.Map.Made.{IsDistinct-keys_filter}

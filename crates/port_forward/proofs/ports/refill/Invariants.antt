@@ -1,4 +1,4 @@
-use Rattle.std.proofs.Common.{◌≡◌, ◌+◌, ◌≤◌, take, length}
+use Rattle.std.proofs.Common.{◌≡◌, ◌+◌, ◌≤◌, take}
 use Rattle.indexmap.specs.IndexMap.{index_map_len, spare}
 use Rattle.port_forward.proofs.ports.refill.Given as goal
 
