@@ -1,0 +1,172 @@
+//! The forwards: ports of the host whose traffic goes to ports of guests, in the order in which they were added, each with the socket that was opened for it.
+//!
+//! A port of the host is forwarded once for each protocol, and 32 forwards are open at most. All memory is taken when the list is opened, and no other call
+//! takes any: a forward that is removed leaves its room to the next.
+#![tactic(auto)]
+
+mod ports;
+
+ghost use Rattle.std.specs.Prelude.{◌≡◌, ◌≢◌, ℕ, ◌+◌, [], ◌∷◌, Some, None, IfOk, IsOk, IsErr, length, slice_get};
+ghost use Rattle.std.specs.Result.{result_err};
+ghost use Rattle.world_face.specs.Journal.{Close};
+ghost use Rattle.world_face.specs.Tells.{Answers, Makes, Rose};
+ghost use Rattle.port_forward.specs.declared.FwdFault.TheVariants.{Refused};
+ghost use Rattle.port_forward.specs.Adding.{Adds, fault_of, opening_of};
+ghost use Rattle.port_forward.specs.Opened.{socket_at, socket_for, without};
+
+use crate::ports::{Lead, Port, forward_of, is_for, port_of, put, remove};
+pub use host_policy::Forward;
+use host_policy::{Policy, Proto};
+use indexmap::IndexMap;
+use net_octets::{Endpoint, NoMemory};
+use std::alloc::Global;
+use std::marker::Model;
+use world_face::{Made, World};
+
+/// How many forwards are open at most.
+pub const MOST_FORWARDS: usize = 32;
+
+/// Why a forward isn't added, in the order in which the causes are asked.
+#[derive(Clone, Copy, Debug, PartialEq, Eq)]
+pub enum FwdFault {
+    /// That port of the host is forwarded already, with this protocol.
+    Taken,
+    /// The address that it is to lead to isn't a guest's.
+    BadGuest,
+    /// As many are open as may be.
+    Full,
+    /// The host doesn't open the socket.
+    Refused,
+}
+
+/// No forward has this port of the host, with this protocol.
+#[derive(Clone, Copy, Debug, PartialEq, Eq)]
+pub struct NotThere;
+
+/// The open forwards. A contract sees a list of pairs: a forward, and the number of its socket.
+#[derive(Drop)]
+pub struct Forwards {
+    ports: IndexMap<Port, Lead>,
+}
+
+impl Model for Forwards {
+    ghost use Rattle.std.specs.Prelude.{◌≤◌, ◌+◌, List, map};
+    ghost use Rattle.indexmap.specs.IndexMap.{index_map_len, spare};
+    ghost use Rattle.port_forward.specs.Entries.{opened_of};
+    ghost use Rattle.port_forward.specs.Opened.{Opened, most_forwards};
+
+    ghost Value = { List Opened };
+
+    ghost view = { λ s. map opened_of s.ports.entries };
+
+    ghost invariant = { λ s. (index_map_len s.ports ≤ most_forwards) × (most_forwards ≤ index_map_len s.ports + spare s.ports) };
+}
+
+impl Forwards {
+    /// No forward is open. All memory that is ever needed is taken here.
+    ///
+    /// # Errors
+    /// `NoMemory` where no memory is left.
+    pub fn open(alloc: Global) -> Result<Forwards, NoMemory>
+        ensures empty { IfOk result (λ list. list ≡ []) }
+    {
+        let Ok(ports) = IndexMap::with_capacity(alloc, MOST_FORWARDS) else {
+            return Err(NoMemory);
+        };
+        Ok(Forwards { ports })
+    }
+
+    /// Adds a forward at the end: a socket with this number is opened at its port of the host, a listener for TCP, and for UDP one that takes datagrams.
+    /// Neither port of the forward is 0.
+    ///
+    /// # Errors
+    /// In this order: `Taken` where a forward has that port of the host with this protocol; `BadGuest` where the address that it leads to isn't a guest's;
+    /// `Full` where 32 are open; `Refused` where the host doesn't open the socket. The list is then as it was.
+    pub fn add_hostfwd<W: World>(
+        &mut self,
+        world: &mut W,
+        policy: &Policy,
+        forward: Forward,
+        number: u64,
+    ) -> Result<(), FwdFault>
+        requires host_port { forward.host.port ≢ 0 }
+        requires guest_port { forward.guest.port ≢ 0 }
+        ensures adds { Makes (W.tells world.old) (W.tells world.new) (Adds (fault_of policy.now forward self.old) forward number self.old self.new (result_err result)) }
+        ensures counted { result_err result ≡ Some Refused → Rose (W.tells world.old).faults.socket (W.tells world.new).faults.socket }
+    {
+        let port = port_of(forward.proto, forward.host);
+        if self.ports.contains_key(&port) {
+            return Err(FwdFault::Taken);
+        }
+        if !policy.is_guest(forward.guest.addr) {
+            return Err(FwdFault::BadGuest);
+        }
+        if self.ports.len() >= MOST_FORWARDS {
+            return Err(FwdFault::Full);
+        }
+        match open_port(world, forward.proto, number, forward.host) {
+            Made::Done => {
+                let lead = Lead {
+                    guest: forward.guest,
+                    number,
+                };
+                put(&mut self.ports, port, lead);
+                Ok(())
+            }
+            Made::Failed => Err(FwdFault::Refused),
+        }
+    }
+
+    /// The forward at a place of the list, counted from 0, and the number of its socket. None exactly where there are no more.
+    pub fn at(&self, place: usize) -> Option<(Forward, u64)>
+        ensures { result ≡ slice_get self.now place }
+    {
+        let (port, lead) = self.ports.get_index(place)?;
+        Some((forward_of(port, lead), lead.number))
+    }
+
+    /// The socket of the first forward of datagrams to this port of a guest. None exactly where there is none.
+    pub fn socket_for(&self, guest: Endpoint) -> Option<u64>
+        ensures { result ≡ socket_for guest self.now }
+    {
+        let (_, lead) = self
+            .ports
+            .iter()
+            .find(|(port, lead)| is_for(port, lead, guest))?;
+        Some(lead.number)
+    }
+
+    /// Removes the forward of a port of the host, and closes its socket. Connections that came by it go on.
+    ///
+    /// # Errors
+    /// `NotThere` exactly where no forward has that port with this protocol.
+    pub fn remove_hostfwd<W: World>(
+        &mut self,
+        world: &mut W,
+        proto: Proto,
+        host: Endpoint,
+    ) -> Result<(), NotThere>
+        ensures list { self.new ≡ without proto host self.old }
+        ensures one { IsOk result → length self.new + 1 ≡ length self.old }
+        ensures there { (number : ℕ) → socket_at proto host self.old ≡ Some number → IsOk result × Makes (W.tells world.old) (W.tells world.new) (λ made. made ≡ Close number ∷ []) }
+        ensures not_there { socket_at proto host self.old ≡ None → IsErr result × (W.tells world.new ≡ W.tells world.old) }
+    {
+        let port = port_of(proto, host);
+        let Some(lead) = self.ports.get(&port) else {
+            return Err(NotThere);
+        };
+        world.close(lead.number);
+        remove(&mut self.ports, &port);
+        Ok(())
+    }
+}
+
+// Opens a socket at a port of the host: a listener, or one for datagrams.
+fn open_port<W: World>(world: &mut W, proto: Proto, number: u64, host: Endpoint) -> Made
+    ensures { Answers (W.tells world.old) (W.tells world.new) (opening_of proto number host result) }
+{
+    match proto {
+        Proto::Tcp => world.listen(number, host),
+        Proto::Udp => world.udp_open(number, host),
+    }
+}
