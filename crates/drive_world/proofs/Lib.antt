@@ -1,2 +1,3 @@
 mod Picking
 mod Putting
+mod Sizes

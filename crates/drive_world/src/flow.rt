@@ -1,9 +1,8 @@
 // One connection of the guest: it sends one piece at a time, and acknowledges what it takes (RFC 9293).
+use crate::frames::{MOST_BODY, SERVER};
 use crate::pattern::Pattern;
 use seq_space::{Seq, ahead};
 use tcp_segment::{ACK, FIN, PSH, SYN, TcpView};
-
-use crate::frames::SERVER;
 
 /// The port of the first flow.
 pub const FIRST_PORT: u16 = 4000;
@@ -11,9 +10,7 @@ pub const FIRST_PORT: u16 = 4000;
 /// The number of its SYN, from which the numbers soon come round.
 const FIRST: u32 = u32::MAX - 999;
 
-/// The most octets of a segment that it sends, and of one that it takes.
-const MOST_SENT: u32 = 1000;
-
+/// The most octets of a segment that it takes.
 const MOST_TAKEN: u16 = 1460;
 
 /// The octets that it takes at once at any time.
@@ -113,7 +110,9 @@ impl Flow {
             self.under_way = 1;
             return Some(self.segment(FIN | ACK, &[]));
         }
-        let count = left.min(MOST_SENT).min(u32::from(self.window).max(1));
+        let count = left
+            .min(MOST_BODY as u32)
+            .min(u32::from(self.window).max(1));
         self.under_way = count;
         Some(self.segment(PSH | ACK, pattern.part(place, count as usize)?))
     }

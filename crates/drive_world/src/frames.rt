@@ -29,8 +29,10 @@ const LENGTH: usize = 4;
 /// The most octets of a frame with its length.
 const MOST: usize = 1518;
 
-/// The most octets of a segment that a guest sends: 1,000 behind a header with options.
-const MOST_SEGMENT: usize = 1028;
+/// The most octets that a segment of the guest carries, and that it has with its header and options.
+pub const MOST_BODY: usize = 1000;
+
+const MOST_SEGMENT: usize = MOST_BODY + 28;
 
 /// A frame with its length before it, as the link carries it, and the flow of the guest that sent it.
 #[derive(Clone, Copy)]
@@ -67,8 +69,12 @@ impl Frame {
         }
     }
 
-    /// The frame that carries a segment of the guest's flow.
+    /// The frame that carries a segment of the guest's flow, which has at most 1,000 octets.
+    #[tactic(auto, using(crate::proofs::Sizes::is_small))]
     pub fn carrying(flow: usize, segment: &TcpView<'_>) -> Option<Frame> {
+        if segment.body.len() > MOST_BODY {
+            return None;
+        }
         let mut body = [0; MOST_SEGMENT];
         let Ok(size) = tcp_segment::encode(segment, GUEST, SERVER.addr, &mut body) else {
             return None;
@@ -159,7 +165,11 @@ impl Frames {
         let room = self.list.len();
         let free = self.count < room;
         let place = self.first.wrapping_add(self.count);
-        let place = if place < room { place } else { place.wrapping_sub(room) };
+        let place = if place < room {
+            place
+        } else {
+            place.wrapping_sub(room)
+        };
         match self.list.get_mut(place) {
             Some(into) if free => {
                 *into = *frame;
@@ -198,7 +208,11 @@ impl Frames {
         self.count = self.count.saturating_sub(1);
         let room = self.list.len();
         let place = self.first.wrapping_add(self.count);
-        let place = if place < room { place } else { place.wrapping_sub(room) };
+        let place = if place < room {
+            place
+        } else {
+            place.wrapping_sub(room)
+        };
         self.list.get(place).copied()
     }
 }

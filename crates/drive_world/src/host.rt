@@ -84,9 +84,7 @@ impl Host {
 
     /// Whether a read of this connection would bring octets or its end.
     pub fn is_readable(&self, number: u64) -> bool {
-        self.sockets
-            .iter()
-            .any(|socket| socket.number == Some(number) && socket.is_readable())
+        self.sockets.iter().any(|socket| socket.number == Some(number) && socket.is_readable())
     }
 
     /// Whether the connection of a flow was opened and closed.

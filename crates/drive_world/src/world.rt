@@ -229,7 +229,11 @@ impl Outside {
         } else {
             self.read = self.read.saturating_add(count);
         }
-        if count == 0 { Io::NotYet } else { Io::Done(count) }
+        if count == 0 {
+            Io::NotYet
+        } else {
+            Io::Done(count)
+        }
     }
 }
 
