@@ -112,3 +112,7 @@ goes_on_from wants items rest old new same none goes =
 pub adds_one : (want : Want) (old new : List Want) → Adds want old new → length new ≤ length old + 1
 adds_one want old new (inl same) = rw same (omega arith)
 adds_one want old new (inr (part, is, same)) = rw same (grind (arith, length-append))
+
+-- the parts that were put into an empty list
+pub picked_all : (wants items old new : List Want) → items ≡ wants → old ≡ [] → ((all rest : List Want) → GoesOn all (items ++ rest) old → GoesOn all rest new) → IsPickedFrom wants new
+picked_all wants items old new same none on = goes_on_end wants items old new (λ more p. rw none (rw (sym same) p)) on

@@ -1,5 +1,5 @@
 -- What becomes of frames, drawn from a number.
-use Rattle.std.specs.Prelude.{ℕ, ◌+◌, ◌*◌, ◌/◌, ◌%◌, ◌^◌, nat_lt, cond}
+use Rattle.std.specs.Prelude.{ℕ, ◌+◌, ◌*◌, ◌/◌, ◌%◌, ◌^◌, ◌==◌, ◌&&◌, nat_lt, if◌then◌else◌}
 use Rattle.drive_world.specs.declared.draws.Fate.{Fate}
 use Rattle.drive_world.specs.declared.draws.Fate.TheVariants.{Lost, Twice, Late, Once}
 
@@ -13,7 +13,8 @@ drawn seed = seed / 2 ^ 33 % 8
 
 -- Of eight frames one is lost, but no fourth one in a row; one comes twice, and one late.
 abbrev pub fate_of : (draw lost : ℕ) → Fate
-fate_of 0 lost = cond (nat_lt lost 3) Lost Once
-fate_of 1 lost = Twice
-fate_of 2 lost = Late
-fate_of draw lost = Once
+fate_of draw lost =
+    if (draw == 0 && nat_lt lost 3) then Lost
+    else if (draw == 1) then Twice
+    else if (draw == 2) then Late
+    else Once

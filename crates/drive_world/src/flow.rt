@@ -89,7 +89,7 @@ impl Flow {
         matches!(self.due, Some(due) if due <= now)
     }
 
-    /// The piece that begins at the first number that isn't acknowledged. It is sent again after a while.
+    /// The piece that begins at the first number that isn't acknowledged. It is sent again after a while, shorter where the window shrank meanwhile.
     pub fn piece<'a>(&mut self, now: u64, pattern: &'a Pattern) -> Option<TcpView<'a>> {
         if self.reset || self.is_all_acknowledged() {
             self.due = None;
@@ -97,7 +97,7 @@ impl Flow {
         }
         self.due = Some(now.saturating_add(PATIENCE));
         if self.acknowledged == 0 {
-            self.under_way = 1;
+            self.under_way = self.under_way.max(1);
             return Some(TcpView {
                 mss: Some(MOST_TAKEN),
                 ack: Seq(0),
@@ -107,13 +107,13 @@ impl Flow {
         let place = self.acknowledged - 1;
         let left = self.octets.saturating_sub(place);
         if left == 0 {
-            self.under_way = 1;
+            self.under_way = self.under_way.max(1);
             return Some(self.segment(FIN | ACK, &[]));
         }
         let count = left
             .min(MOST_BODY as u32)
             .min(u32::from(self.window).max(1));
-        self.under_way = count;
+        self.under_way = self.under_way.max(count);
         Some(self.segment(PSH | ACK, pattern.part(place, count as usize)?))
     }
 

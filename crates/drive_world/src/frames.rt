@@ -1,4 +1,7 @@
 // Frames between the guest and the network, and the segments in them.
+ghost use Rattle.std.specs.Prelude.{◌≤◌, length};
+
+use crate::reporting::fill;
 use ether_frame::EtherView;
 use ipv4_head::IpView;
 use net_octets::{Endpoint, Ip4, Mac, NoMemory};
@@ -66,6 +69,16 @@ impl Frame {
         match self.octets.get(..self.count) {
             Some(octets) => octets,
             None => &[],
+        }
+    }
+
+    /// Reads of what the link carries, from a place on, and answers how many octets.
+    pub fn read_from(&self, place: usize, into: &mut [u8]) -> usize
+        ensures { result ≤ length into.old }
+    {
+        match self.carried().get(place..) {
+            Some(left) => fill(left, into),
+            None => 0,
         }
     }
 

@@ -4,7 +4,7 @@ ghost use Rattle.world_face.specs.Journal.{MayRead};
 
 use crate::guest::{FLOWS, share};
 use crate::pattern::{PERIOD, Pattern};
-use crate::reporting::fill;
+use crate::reporting::{fill, moved};
 use net_octets::NoMemory;
 use std::alloc::Global;
 use world_face::Io;
@@ -145,15 +145,14 @@ impl Socket {
         requires { 0 < length into.old }
         ensures { MayRead (length into.old) result }
     {
-        let left = match self.got.get(self.given..self.written) {
-            Some(left) => left,
-            None => &[],
-        };
-        if left.is_empty() {
+        if self.given >= self.written {
             return if self.is_ended { Io::End } else { Io::NotYet };
         }
+        let Some(left) = self.got.get(self.given..self.written) else {
+            return Io::NotYet;
+        };
         let count = fill(left, into);
         self.given = self.given.saturating_add(count);
-        Io::Done(count)
+        moved(count)
     }
 }

@@ -4,6 +4,7 @@ ghost use Rattle.poll_list.specs.Listing.{AreWants};
 ghost use Rattle.world_face.specs.Faults.{io_failed, waited_failed};
 ghost use Rattle.world_face.specs.Journal.{MayRead, MayWait};
 ghost use Rattle.world_face.specs.Limits.{most_ready, most_wants};
+ghost use Rattle.world_face.specs.declared.Waited.TheVariants.{Ready};
 ghost use Rattle.drive_world.specs.Picks.{IsPickedFrom};
 ghost use Rattle.drive_world.specs.Runs.{CountsDown};
 
@@ -11,7 +12,7 @@ use crate::frames::Frame;
 use crate::guest::{Guest, sooner};
 use crate::host::Host;
 use crate::pattern::Pattern;
-use crate::reporting::{fill, report};
+use crate::reporting::{moved, report};
 use crate::road::Road;
 use crate::run::Run;
 use net_octets::NoMemory;
@@ -96,6 +97,10 @@ impl DriveWorld {
 }
 
 impl Outside {
+    fn moment(&self) -> u64 {
+        self.clock
+    }
+
     // Whether each flow is closed on both sides; a reset closes both.
     fn is_over(&self) -> bool {
         let mut flow = 0;
@@ -167,9 +172,11 @@ impl Outside {
     // What of the wants is ready.
     fn report(&self, wants: &Wants, ready: &mut ReadyList)
         requires none { ready.old.items ≡ [] }
-        requires room { length wants.now.items ≤ ready.old.capacity }
+        requires some { AreWants wants.now.items }
+        requires few { length wants.now.items ≤ most_wants }
+        requires room { most_ready ≤ ready.old.capacity }
         ensures picked { IsPickedFrom wants.now.items ready.new.items }
-        ensures few { length ready.new.items ≤ length wants.now.items }
+        ensures may { MayWait wants.now.items Ready ready.new.items }
         ensures capacity { ready.new.capacity ≡ ready.old.capacity }
     {
         report(wants, self.road.waiting.count() > 0, &self.host, ready);
@@ -217,23 +224,15 @@ impl Outside {
         let Some(frame) = self.road.waiting.front() else {
             return Io::NotYet;
         };
-        self.speaker = frame.flow;
-        let left = match frame.carried().get(self.read..) {
-            Some(left) => left,
-            None => &[],
-        };
-        let count = fill(left, into);
-        if count == left.len() {
+        let (flow, size) = (frame.flow, frame.count);
+        let count = frame.read_from(self.read, into);
+        self.speaker = flow;
+        self.read = self.read.saturating_add(count);
+        if self.read >= size {
             self.read = 0;
             self.road.waiting.drop_front();
-        } else {
-            self.read = self.read.saturating_add(count);
         }
-        if count == 0 {
-            Io::NotYet
-        } else {
-            Io::Done(count)
-        }
+        moved(count)
     }
 }
 
@@ -254,7 +253,7 @@ impl World for DriveWorld {
         ensures answers { Answers tells_nothing tells_nothing (Now result) }
         ensures same { self.new ≡ self.old }
     {
-        self.outside.clock
+        self.outside.moment()
     }
 
     fn wait(&mut self, wants: &Wants, timeout: Option<u64>, ready: &mut ReadyList) -> Waited
