@@ -1,5 +1,6 @@
 // The host: it connects at once, takes all, gives back what it got, and ends after the guest.
-ghost use Rattle.std.specs.Prelude.{◌<◌, length};
+ghost use Rattle.std.specs.Prelude.{◌≡◌, ◌<◌, false, length};
+ghost use Rattle.world_face.specs.Faults.{io_failed};
 ghost use Rattle.world_face.specs.Journal.{MayRead};
 
 use crate::guest::{FLOWS, share};
@@ -53,7 +54,8 @@ impl Host {
     /// Gives back octets that it got and didn't give back yet.
     pub fn read(&mut self, number: u64, into: &mut [u8]) -> Io
         requires { 0 < length into.old }
-        ensures { MayRead (length into.old) result }
+        ensures may { MayRead (length into.old) result }
+        ensures never { io_failed result ≡ false }
     {
         match self.find(number) {
             Some(socket) => socket.give(into),
@@ -143,7 +145,8 @@ impl Socket {
 
     fn give(&mut self, into: &mut [u8]) -> Io
         requires { 0 < length into.old }
-        ensures { MayRead (length into.old) result }
+        ensures may { MayRead (length into.old) result }
+        ensures never { io_failed result ≡ false }
     {
         if self.given >= self.written {
             return if self.is_ended { Io::End } else { Io::NotYet };
