@@ -58,20 +58,6 @@ goes_on_part all rest old new want goes (inr (part, is, same)) more p =
     let joined : (old ++ part ∷ []) ++ more ≡ old ++ (part ∷ more) = append_assoc old (part ∷ []) more in
     rw same (rw joined more')
 
--- wants that are passed over
-picked_past : (n : ℕ) (wants parts : List Want) → IsPickedFrom (drop n wants) parts → IsPickedFrom wants parts
-picked_past zero wants parts p = p
-picked_past (suc n) [] parts p = p
-picked_past (suc n) (want ∷ wants) parts p = picked_skip want wants parts (picked_past n wants parts p)
-
--- on from the wants after the one at a place
-pub goes_on_after : (all wants old new : List Want) (i : ℕ) (d : Want) → i < length wants → GoesOn all wants old → Adds (get_or wants i d) old new → GoesOn all (drop (i + 1) wants) new
-goes_on_after all wants old new i d below goes adds =
-    let next : i + 1 ≡ suc i = omega arith in
-    let parts : drop i wants ≡ get_or wants i d ∷ drop (i + 1) wants = rw next (drop-cons wants i d below) in
-    let goes' : GoesOn all (get_or wants i d ∷ drop (i + 1) wants) old = λ more p. goes more (picked_past i wants more (rw parts p)) in
-    goes_on_part all (drop (i + 1) wants) old new (get_or wants i d) goes' adds
-
 -- on from the want at a place, where others stand behind all of them
 pub goes_on_step : (all wants rest old new : List Want) (i : ℕ) (d : Want) → i < length wants → GoesOn all (drop i wants ++ rest) old → Adds (get_or wants i d) old new → GoesOn all (drop (i + 1) wants ++ rest) new
 goes_on_step all wants rest old new i d below goes adds =
@@ -86,10 +72,6 @@ goes_on_passed all wants rest ready i end goes =
     let past : length wants ≤ i = omega (arith, end) in
     subst (λ (l : List Want). GoesOn all (l ++ rest) ready) (drop_all i wants past) goes
 
--- on from the wants in front to those behind
-pub goes_on_split : (all wants ready : List Want) (i : ℕ) → GoesOn all wants ready → GoesOn all (take i wants ++ drop i wants) ready
-goes_on_split all wants ready i goes = subst (λ (l : List Want). GoesOn all l ready) (sym (take-append-drop i wants)) goes
-
 -- at the end all is picked
 pub goes_on_last : (wants rest ready : List Want) → GoesOn wants rest ready → IsPickedFrom wants ready
 goes_on_last wants rest ready goes =
@@ -102,11 +84,6 @@ pub goes_on_end : (wants left old new : List Want) → GoesOn wants left old →
 goes_on_end wants left old new goes on =
     let goes' : GoesOn wants (left ++ []) old = subst (λ (l : List Want). GoesOn wants l old) (sym (append-nil left)) goes in
     goes_on_last wants [] new (on wants [] goes')
-
--- what goes on from nothing
-pub goes_on_from : (wants items rest old new : List Want) → items ≡ wants → old ≡ [] → ((all : List Want) → GoesOn all items old → GoesOn all rest new) → GoesOn wants rest new
-goes_on_from wants items rest old new same none goes =
-    goes wants (λ more p. rw none (rw (sym same) p))
 
 -- one item more at most
 pub adds_one : (want : Want) (old new : List Want) → Adds want old new → length new ≤ length old + 1
