@@ -1,6 +1,6 @@
 -- Facts on lists that are picked from a list of wants.
-use Rattle.std.proofs.Common.{◌≡◌, true, false, ◌||◌, ◌&&◌, not, List, [], ◌∷◌, ◌++◌, inl, inr, append_assoc, append-nil, suc, zero, length, length-append, take, drop, get_or, drop-cons, ℕ, ◌+◌, ◌<◌, ◌≤◌, Option, refl, arith, sym, subst}
-use Rattle.std.proofs.lemmas.List.{take-append-drop, drop_all}
+use Rattle.std.proofs.Common.{◌≡◌, true, false, ◌||◌, ◌&&◌, not, List, [], ◌∷◌, ◌++◌, inl, inr, append_assoc, append-nil, suc, length, length-append, drop, get_or, drop-cons, ℕ, ◌+◌, ◌<◌, ◌≤◌, Option, refl, arith, sym, subst}
+use Rattle.std.proofs.lemmas.List.{drop_all}
 use Rattle.std.proofs.lemmas.Bool.{and_parts, and_from, or_parts, or_from, not-true, not_from_false}
 use Rattle.std.specs.List.{list_any}
 use Rattle.poll_list.specs.declared.Want.{Want}

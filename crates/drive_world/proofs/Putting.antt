@@ -1,5 +1,5 @@
 -- Pieces put one after another.
-use Rattle.std.proofs.Common.{◌≡◌, ℕ, ◌+◌, ◌≤◌, List, ◌++◌, Option, Some, None, Result, Ok, Err, IsOk, IsErr, refl, ◌∙◌, ap, arith, append_assoc}
+use Rattle.std.proofs.Common.{◌≡◌, ℕ, List, ◌++◌, Option, Some, None, Result, Ok, Err, IsOk, IsErr, refl, ◌∙◌, ap, arith, append_assoc}
 use Rattle.world_face.specs.Puts.{Puts, added}
 use Rattle.world_face.specs.declared.sink.Failed.{Failed}
 

@@ -1,5 +1,5 @@
 -- How long a segment is that is written.
-use Rattle.std.proofs.Common.{◌≡◌, ℕ, ◌+◌, ◌≤◌, ◌<◌, ◌^◌, length, Option, Some, None, refl, arith}
+use Rattle.std.proofs.Common.{◌≡◌, ℕ, ◌≤◌, ◌<◌, ◌^◌, length, Option, Some, None, refl, arith}
 use Rattle.tcp_segment.specs.Tcp.{Tcp, mss_octets, scale_octets, tcp_length}
 
 most_mss : (mss : Option ℕ) → length (mss_octets mss) ≤ 4
