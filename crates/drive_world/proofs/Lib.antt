@@ -1,0 +1,3 @@
+mod Picking
+mod Putting
+mod Sizes

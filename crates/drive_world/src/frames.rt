@@ -1,0 +1,231 @@
+// Frames between the guest and the network, and the segments in them.
+ghost use Rattle.std.specs.Prelude.{◌≤◌, length};
+
+use crate::reporting::fill;
+use ether_frame::EtherView;
+use ipv4_head::IpView;
+use net_octets::{Endpoint, Ip4, Mac, NoMemory};
+use seq_space::Seq;
+use std::alloc::Global;
+use tcp_segment::TcpView;
+
+pub const GUEST: Ip4 = Ip4(0x0a00020f);
+
+pub const SERVER: Endpoint = Endpoint {
+    addr: Ip4(0xc0000207),
+    port: 80,
+};
+
+const GUEST_MAC: Mac = Mac([0x52, 0x54, 0x00, 0x12, 0x34, 0x56]);
+
+const NETWORK_MAC: Mac = Mac([0x52, 0x55, 10, 0, 2, 2]);
+
+const KIND_IPV4: u16 = 0x0800;
+
+const PROTOCOL_TCP: u8 = 6;
+
+const TIME_TO_LIVE: u8 = 64;
+
+/// The octets of the length before a frame.
+const LENGTH: usize = 4;
+
+/// The most octets of a frame with its length.
+const MOST: usize = 1518;
+
+/// The most octets that a segment of the guest carries, and that it has with its header and options.
+pub const MOST_BODY: usize = 1000;
+
+const MOST_SEGMENT: usize = MOST_BODY + 28;
+
+/// A frame with its length before it, as the link carries it, and the flow of the guest that sent it.
+#[derive(Clone, Copy)]
+pub struct Frame {
+    pub flow: usize,
+    pub count: usize,
+    pub octets: [u8; MOST],
+}
+
+impl Frame {
+    pub fn empty() -> Frame {
+        Frame {
+            flow: 0,
+            count: 0,
+            octets: [0; MOST],
+        }
+    }
+
+    /// The octets that the link carries, where there are at most 1,518.
+    pub fn of(octets: &[u8]) -> Frame {
+        let mut frame = Frame::empty();
+        if octets.len() <= MOST {
+            frame.octets[..octets.len()].copy_from_slice(octets);
+            frame.count = octets.len();
+        }
+        frame
+    }
+
+    /// What the link carries of it.
+    pub fn carried(&self) -> &[u8] {
+        match self.octets.get(..self.count) {
+            Some(octets) => octets,
+            None => &[],
+        }
+    }
+
+    /// Reads of what the link carries, from a place on, and answers how many octets.
+    pub fn read_from(&self, place: usize, into: &mut [u8]) -> usize
+        ensures { result ≤ length into.old }
+    {
+        match self.carried().get(place..) {
+            Some(left) => fill(left, into),
+            None => 0,
+        }
+    }
+
+    /// The frame that carries a segment of the guest's flow, which has at most 1,000 octets.
+    #[tactic(auto, using(crate::proofs::Sizes::is_small))]
+    pub fn carrying(flow: usize, segment: &TcpView<'_>) -> Option<Frame> {
+        if segment.body.len() > MOST_BODY {
+            return None;
+        }
+        let mut body = [0; MOST_SEGMENT];
+        let Ok(size) = tcp_segment::encode(segment, GUEST, SERVER.addr, &mut body) else {
+            return None;
+        };
+        let datagram = IpView {
+            ident: 0,
+            more: false,
+            offset: 0,
+            ttl: TIME_TO_LIVE,
+            proto: PROTOCOL_TCP,
+            from: GUEST,
+            to: SERVER.addr,
+            head: &[],
+            body: body.get(..size)?,
+        };
+        let mut packet = [0; MOST_SEGMENT + 20];
+        let Ok(size) = ipv4_head::encode(&datagram, &mut packet) else {
+            return None;
+        };
+        let ether = EtherView {
+            to: NETWORK_MAC,
+            from: GUEST_MAC,
+            kind: KIND_IPV4,
+            body: packet.get(..size)?,
+        };
+        let mut frame = Frame::empty();
+        frame.flow = flow;
+        let Ok(size) = ether_frame::encode(&ether, &mut frame.octets[LENGTH..]) else {
+            return None;
+        };
+        frame.count = LENGTH + size;
+        let length = (size as u32).to_be_bytes();
+        frame.octets[..LENGTH].copy_from_slice(&length);
+        Some(frame)
+    }
+}
+
+/// The segment to the guest in what the link carries, where there is one of the server.
+pub fn segment_in(carried: &[u8]) -> Option<TcpView<'_>> {
+    let Ok(ether) = ether_frame::decode(carried.get(LENGTH..)?) else {
+        return None;
+    };
+    if ether.kind != KIND_IPV4 {
+        return None;
+    }
+    let Ok(datagram) = ipv4_head::decode(ether.body) else {
+        return None;
+    };
+    let whole = !datagram.more && datagram.offset == 0;
+    if datagram.proto != PROTOCOL_TCP || datagram.to != GUEST || !whole {
+        return None;
+    }
+    if datagram.from != SERVER.addr || datagram.body.len() > 65535 {
+        return None;
+    }
+    match tcp_segment::decode(datagram.body, datagram.from, datagram.to) {
+        Ok(segment) if segment.from_port == SERVER.port => Some(segment),
+        _ => None,
+    }
+}
+
+/// Frames in a row, with room for a fixed number, all of it taken at opening.
+#[derive(Drop)]
+pub struct Frames {
+    list: Vec<Frame>,
+    first: usize,
+    count: usize,
+}
+
+impl Frames {
+    pub fn open(alloc: Global, room: usize) -> Result<Frames, NoMemory> {
+        let Ok(list) = vec![in alloc; Frame::empty(); room] else {
+            return Err(NoMemory);
+        };
+        Ok(Frames {
+            list,
+            first: 0,
+            count: 0,
+        })
+    }
+
+    pub fn count(&self) -> usize {
+        self.count
+    }
+
+    /// Puts a frame at the end, where there is room.
+    pub fn push(&mut self, frame: &Frame) -> bool {
+        let room = self.list.len();
+        let free = self.count < room;
+        let place = self.first.wrapping_add(self.count);
+        let place = if place < room {
+            place
+        } else {
+            place.wrapping_sub(room)
+        };
+        match self.list.get_mut(place) {
+            Some(into) if free => {
+                *into = *frame;
+                self.count = self.count.saturating_add(1);
+                true
+            }
+            _ => false,
+        }
+    }
+
+    /// The first frame.
+    pub fn front(&self) -> Option<&Frame> {
+        if self.count == 0 {
+            return None;
+        }
+        self.list.get(self.first)
+    }
+
+    /// Takes the first frame away.
+    pub fn drop_front(&mut self) {
+        if self.count == 0 {
+            return;
+        }
+        self.count = self.count.saturating_sub(1);
+        self.first = self.first.saturating_add(1);
+        if self.first >= self.list.len() {
+            self.first = 0;
+        }
+    }
+
+    /// Takes the last frame away.
+    pub fn pop(&mut self) -> Option<Frame> {
+        if self.count == 0 {
+            return None;
+        }
+        self.count = self.count.saturating_sub(1);
+        let room = self.list.len();
+        let place = self.first.wrapping_add(self.count);
+        let place = if place < room {
+            place
+        } else {
+            place.wrapping_sub(room)
+        };
+        self.list.get(place).copied()
+    }
+}
