@@ -23,7 +23,7 @@ use Rattle.slirp_laws.specs.Laws.{Lawful}
 use Rattle.slirp_laws.specs.Said.{AnswersLast, AsksForGuest, Carries, GoesAgain, IsOfFlow}
 use Rattle.tftp_server.specs.Transfers.{Said}
 use Rattle.tcp_segment.specs.Tcp.{tcp_octets}
-use Rattle.slirp_laws.specs.Sending.{ip_in, ip_of, is_beside, is_latest, is_own, is_well_sent, is_written, may_ask, request_for, sends_again, sends_segment, tcp_for}
+use Rattle.slirp_laws.specs.Sending.{ip_in, ip_of, is_beside, is_latest, is_own, is_well_sent, is_written, may_ask, request_for, sends_again, sends_segment, speaks_yet, tcp_for}
 use Rattle.slirp_laws.proofs.Bools.{equal, equal_octets, first_of, second_of}
 use Rattle.slirp_laws.proofs.Framing.{our_six, part_begins}
 use Rattle.slirp_laws.proofs.Owing.{Begins, Next, Beside, first_answers, out_by}
@@ -32,7 +32,7 @@ use Rattle.slirp_laws.proofs.Reading.{no_arp, reads_part}
 -- ---- why
 
 of_owner : (config : Config) (past : List Entry) (frame : List ℕ) (on : OnTuple) (o : Option Flow) → left config past ≡ [] → segment_in frame ≡ Some on → owner on.tuple (book config past).flows ≡ o
-    → (is_own on.segment o && is_well_sent config past frame on) ≡ true → IsOfFlow config past frame
+    → (is_own on.segment (book config past).rests o && is_well_sent config past frame on) ≡ true → IsOfFlow config past frame
 of_owner config past frame on None nothing carried owned is = cc
 of_owner config past frame on (Some f) nothing carried owned is = record {
   nothing = nothing;
@@ -40,10 +40,14 @@ of_owner config past frame on (Some f) nothing carried owned is = record {
   carried = carried;
   flow = f;
   owner = owned;
-  own = is_not (is_strange on.segment f) (first_of (not (is_strange on.segment f)) (is_well_sent config past frame on) is);
-  sent = second_of (not (is_strange on.segment f)) (is_well_sent config past frame on) is;
+  own = is_not (is_strange on.segment f) (first_of (not (is_strange on.segment f)) (speaks_yet on.segment (book config past).rests f) own);
+  speaks = second_of (not (is_strange on.segment f)) (speaks_yet on.segment (book config past).rests f) own;
+  sent = second_of (is_own on.segment (book config past).rests (Some f)) (is_well_sent config past frame on) is;
 }
   where
+    own : is_own on.segment (book config past).rests (Some f) ≡ true
+    own = first_of (is_own on.segment (book config past).rests (Some f)) (is_well_sent config past frame on) is
+
     is_not : (b : Bool) → not b ≡ true → b ≡ false
     is_not true is = cc
     is_not false is = refl

@@ -27,8 +27,10 @@ pub mod Ranges
 pub mod ReadBack
 pub mod Reading
 pub mod Replies
+pub mod RestRows
 pub mod Rows
 pub mod Sentences
+pub mod Sized
 pub mod Sorts
 pub mod Steps
 pub mod Strays

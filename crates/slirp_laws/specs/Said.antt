@@ -35,7 +35,7 @@ use Rattle.slirp_laws.specs.Datagrams.{Fate, ForLeases, ForFiles, fate}
 use Rattle.run_laws.specs.Sockets.{is_among}
 use Rattle.slirp_laws.specs.Answers.{Answer, IpAnswer, Serving, begins_again, ledger, may_go_again, name_reply, serving, told_of_files, datagrams_out, frames_for, frames_of, identification, is_first, left, no_network, owed_for_packet, reply_for, reset_for, strays, told_about}
 use Rattle.slirp_laws.specs.Ports.{associations_open, last_datagram, last_use, mac_for, mac_of, opened_for, used_at}
-use Rattle.slirp_laws.specs.Sending.{is_well_sent, may_ask}
+use Rattle.slirp_laws.specs.Sending.{is_well_sent, may_ask, speaks_yet}
 
 -- A socket for datagrams is opened at port 0, which the host chooses: at every address of the host, or at that from which datagrams are to go out.
 abbrev pub IsFromHost : Config → Endpoint → Type 0
@@ -158,7 +158,7 @@ pub record AnswersLast (config : Config) (past : List Entry) (frame : List ℕ) 
   pub rest : List (List ℕ)
   pub is : drop out (frames_for config (identification_with out past) answer) ≡ frame ∷ rest
 
--- A frame is a flow's own: nothing is left of the answer to what came last; the frame carries a segment between the two ends of the flow, which was opened last on these, and answers no stray segment; it is exactly the frame of that segment, in a whole datagram with the next identification, and goes to a hardware address from which the flow's guest was learnt.
+-- A frame is a flow's own: nothing is left of the answer to what came last; the frame carries a segment between the two ends of the flow, which was opened last on these, and answers no stray segment, nor speaks where the flow was closed and its rest is over, but for its reset; it is exactly the frame of that segment, in a whole datagram with the next identification, and goes to a hardware address from which the flow's guest was learnt.
 pub record IsOfFlow (config : Config) (past : List Entry) (frame : List ℕ) : Type 0 where
   pub nothing : left config past ≡ []
   pub on : OnTuple
@@ -166,6 +166,7 @@ pub record IsOfFlow (config : Config) (past : List Entry) (frame : List ℕ) : T
   pub flow : Flow
   pub owner : owner on.tuple (book config past).flows ≡ Some flow
   pub own : is_strange on.segment flow ≡ false
+  pub speaks : speaks_yet on.segment (book config past).rests flow ≡ true
   pub sent : is_well_sent config past frame on ≡ true
 
 -- A frame asks for the hardware address of a guest for which a flow was accepted, and nothing is left of the answer to what came last.

@@ -1,5 +1,5 @@
 -- What a pump of one flow makes is lawful, and the record has it as the flow's events.
-use Rattle.std.proofs.Common.{◌||◌, is_some, ◌≡◌, ℕ, ◌+◌, ◌%◌, ◌^◌, ◌<◌, ◌≤◌, ◌&&◌, not, nat_lt, Bool, true, false, List, [], ◌∷◌, ◌++◌, drop, length, Option, Some, None, if◌then◌else◌, ◌⊎◌, inl, inr, refl, sym, ◌∙◌, ap, subst, arith}
+use Rattle.std.proofs.Common.{◌||◌, is_some, ◌≡◌, ℕ, ◌+◌, ◌%◌, ◌^◌, ◌<◌, ◌≤◌, ◌&&◌, not, nat_lt, Bool, true, false, List, [], ◌∷◌, ◌++◌, drop, length, Option, Some, None, if◌then◌else◌, ◌==◌, IsTrue, ◌⊎◌, inl, inr, refl, sym, ◌∙◌, ap, subst, arith}
 use Rattle.std.specs.List.{list_any}
 use Rattle.std.proofs.lemmas.Bool.Decides.{nat_tests}
 use Rattle.std.proofs.lemmas.List.{drop_all}
@@ -22,7 +22,9 @@ use Rattle.flow_laws.proofs.Grows.{closed_stays}
 use Rattle.flow_laws.specs.Lawful.{HasCause, IsLawful, Send, Close as CloseAct, May as MayOfOne}
 use Rattle.flow_book.specs.Book.{book, scene, turned}
 use Rattle.flow_book.specs.Doings.{doing, doing_by, goes}
-use Rattle.flow_book.specs.Flows.{Flow, closing, came_on, comes_directly, comes_last, guest_is_known, shuts, with_event}
+use Rattle.flow_book.specs.Book.{rest as restful}
+use Rattle.core_flows.proofs.Only.{number_of_found}
+use Rattle.flow_book.specs.Flows.{Flow, Rest, rests_among, closing, came_on, comes_directly, comes_last, guest_is_known, shuts, with_event}
 use Rattle.flow_book.specs.Laws.{flow_settings}
 use Rattle.flow_book.specs.Said.{Differ}
 use Rattle.flow_book.specs.Segments.{OnTuple, asked_in, segment_came, segment_in}
@@ -34,7 +36,7 @@ use Rattle.flow_splice.proofs.Restless.{open_none}
 use Rattle.flow_book.specs.Segments.{asked_in}
 use Rattle.slirp_laws.specs.Answers.{again_frames, is_first, serving, datagrams_in, datagrams_out, identification, left, taken, with_datagrams}
 use Rattle.slirp_laws.specs.Laws.{Lawful, May, is_closing}
-use Rattle.slirp_laws.specs.Sending.{ip_in, is_latest, is_written}
+use Rattle.slirp_laws.specs.Sending.{ip_in, is_latest, is_written, speaks_yet}
 use Rattle.slirp_laws.proofs.Bools.{first_of, second_of}
 use Rattle.slirp_laws.proofs.KeepingFlows.{keeps_flows}
 use Rattle.flow_splice.specs.Entries.{AreEvents, OffersSegment, datagrams, ident_after, went}
@@ -69,6 +71,17 @@ all_was n size is = grind (arith, nat_tests, is)
 
 some_was : (n : ℕ) → 0 < n → nat_lt 0 n ≡ true
 some_was n some = grind (arith, nat_tests, some)
+
+same_number : (n : ℕ) → (n == n) ≡ true
+same_number n = grind (arith, nat_tests)
+
+any_last : {X : Type 0} (test : X → Bool) (xs : List X) (x : X) → test x ≡ true → list_any test (xs ++ x ∷ []) ≡ true
+any_last test [] x is = ap (λ b. b || false) is
+any_last test (y ∷ xs) x is = or_true (test y) (list_any test (xs ++ x ∷ [])) (any_last test xs x is)
+  where
+    or_true : (a b : Bool) → b ≡ true → (a || b) ≡ true
+    or_true true b is = refl
+    or_true false b is = is
 
 assoc : (a b c : ℕ) → a + b + c ≡ a + (b + c)
 assoc a b c = omega arith
@@ -130,6 +143,8 @@ module _ (config : Config) (face : Face) (to : Mac) (f : Flow) (past : List Entr
     pub counted : identification (made ++ past) ≡ ident_after ident beats
     pub learnt : list_any (is_pair (address face.guest) to.0) (taught config (made ++ past)) ≡ true
     pub latest : is_latest to.0 (learnt_for face.guest.addr (known_guests config (made ++ past))) ≡ true
+    -- one that was closed and rests by its story is among those that rest
+    pub rested : (since : ℕ) → is_closed f.story ≡ true → rests_since f.story ≡ Some since → rests_among (book config past).rests (Some f) ≡ true
     pub knows : guest_is_known (scene config (made ++ past)) (with_beats f beats) ≡ known
     pub last : is_closed (beats ++ f.story) ≡ false → comes_last (scene config (made ++ past)) (with_beats f beats) ≡ ended
     -- a flow that was open rests where its story says so; one that wasn't goes on as it did
@@ -169,12 +184,34 @@ module _ (config : Config) (face : Face) (to : Mac) (f : Flow) (past : List Entr
       is : drop 4 octets ≡ frame
       is = ap (drop 4) offers.frame ∙ four_off (segment_frame face offers.to (ident_after ident rest) seg) ∙ ap (λ m. segment_frame face m (ident_after ident rest) seg) same
 
-      carries : CarriesOf config face to seg frame before
+      -- where it was closed and sends no reset it is among those that rest
+      rest_of : (o : Option ℕ) → rests_since (rest ++ f.story) ≡ o → IsTrue (is_some o) → (since : ℕ) × (rests_since (rest ++ f.story) ≡ Some since)
+      rest_of (Some since) is some = (since, is)
+      rest_of None is some = cc
+
+      among : (shut : Bool) → is_closed f.story ≡ shut → (since : ℕ) → rests_since (rest ++ f.story) ≡ Some since → rests_among (book config before).rests (Some (with_beats f rest)) ≡ true
+      among true shut since is = ap (λ (l : List Rest). rests_among l (Some f)) (sent.rests_on shut) ∙ sent.rested since shut (sym (sent.rests_still shut) ∙ is)
+      among false was_open since is =
+          ap (λ (l : List Rest). rests_among l (Some f)) (sent.rests was_open ∙ ap (λ o. with_rest o face.number (book config past).rests) is)
+          ∙ any_last (λ (r : Rest). r.number == f.number) (book config past).rests (restful face.number since)
+          (ap (λ n. n == f.number) (sym (number_of_found face.number (book config before).flows (with_beats f rest) sent.has.found)) ∙ same_number f.number)
+
+      speaks_by : (rst shut : Bool) → seg.rst ≡ rst → is_closed (rest ++ f.story) ≡ shut → speaks_yet seg (book config before).rests (with_beats f rest) ≡ true
+      speaks_by true shut rst_is shut_is = ap (λ b. b || (not (is_closed (rest ++ f.story)) || rests_among (book config before).rests (Some (with_beats f rest)))) rst_is
+      speaks_by false false rst_is shut_is = λ i. rst_is i || (not (shut_is i) || rests_among (book config before).rests (Some (with_beats f rest)))
+      speaks_by false true rst_is shut_is =
+          let says = (offers.may.sends_nothing_after_close shut_is).3 in
+          let since = rest_of (rests_since (rest ++ f.story)) refl (subst (λ b. IsTrue (b || is_some (rests_since (rest ++ f.story)))) rst_is says) in
+          (λ i. rst_is i || (not (shut_is i) || rests_among (book config before).rests (Some (with_beats f rest))))
+          ∙ among (is_closed f.story) refl since.0 since.1
+
+      carries : CarriesOf config face (with_beats f rest) to seg frame before
       carries = record {
         carried = segment_back face to (ident_after ident rest) seg sized;
         written = ap (λ n. is_written config n frame (on_ends face to seg) (ip_in frame)) sent.counted ∙ written_back face to (ident_after ident rest) seg config sized vhost;
         learnt = sent.learnt;
         latest = sent.latest;
+        speaks = speaks_by seg.rst (is_closed (rest ++ f.story)) refl refl;
       }
 
       may : MayOfOne (flow_settings config) (with_beats f rest).story (moment before) (Send seg)
@@ -212,6 +249,7 @@ module _ (config : Config) (face : Face) (to : Mac) (f : Flow) (past : List Entr
         counted = ident_taken n;
         learnt = sent.learnt;
         latest = sent.latest;
+        rested = sent.rested;
         knows = sent.knows;
         last = sent.last;
         rests = λ was_open. rests_written config octets (Done n) before ∙ sent.rests was_open;
@@ -234,6 +272,7 @@ module _ (config : Config) (face : Face) (to : Mac) (f : Flow) (past : List Entr
         counted = ident_none;
         learnt = sent.learnt;
         latest = sent.latest;
+        rested = sent.rested;
         knows = sent.knows;
         last = sent.last;
         rests = λ was_open. rests_written config octets NotYet before ∙ sent.rests was_open;
@@ -316,6 +355,7 @@ module _ (config : Config) (face : Face) (to : Mac) (f : Flow) (past : List Entr
         counted = sent.counted;
         learnt = sent.learnt;
         latest = sent.latest;
+        rested = sent.rested;
         knows = sent.knows;
         last = λ open_still. cc;
         rests = λ was_open. closed_rests was_open;

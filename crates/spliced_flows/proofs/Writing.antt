@@ -30,7 +30,7 @@ use Rattle.core_flows.proofs.Only.{found_by, number_of_found, only_happens}
 use Rattle.core_flows.proofs.Seats.{owner_id}
 use Rattle.slirp_laws.specs.Answers.{identification, is_first, is_out, left}
 use Rattle.slirp_laws.specs.Laws.{May, may_begin}
-use Rattle.slirp_laws.specs.Sending.{ip_in, is_beside, is_explained, is_latest, is_own, is_well_sent, is_written, may_ask, sends_again, sends_segment}
+use Rattle.slirp_laws.specs.Sending.{ip_in, is_beside, is_explained, is_latest, is_own, is_well_sent, is_written, may_ask, sends_again, sends_segment, speaks_yet}
 use Rattle.slirp_laws.proofs.Bools.{and_both}
 use Rattle.slirp_laws.proofs.Deeds.{writes}
 use Rattle.flow_splice.specs.Splice.{Face}
@@ -42,12 +42,13 @@ use Rattle.spliced_flows.proofs.Calling.{due_is}
 abbrev pub on_ends : Face → Mac → Segment → OnTuple
 on_ends face to seg = record { mac = to.0; tuple = ends_of face; segment = seg }
 
--- A frame carries a segment between the two ends to the hardware address that was learnt last for its guest, and is exactly that of the segment.
-pub record CarriesOf (config : Config) (face : Face) (to : Mac) (seg : Segment) (frame : List ℕ) (past : List Entry) : Type 0 where
+-- A frame carries a segment between the two ends of a flow, which may still speak, to the hardware address that was learnt last for its guest, and is exactly that of the segment.
+pub record CarriesOf (config : Config) (face : Face) (f : Flow) (to : Mac) (seg : Segment) (frame : List ℕ) (past : List Entry) : Type 0 where
   pub carried : segment_in frame ≡ Some (on_ends face to seg)
   pub written : is_written config (identification past) frame (on_ends face to seg) (ip_in frame) ≡ true
   pub learnt : list_any (is_pair (address face.guest) to.0) (taught config past) ≡ true
   pub latest : is_latest to.0 (learnt_for face.guest.addr (known config past)) ≡ true
+  pub speaks : speaks_yet seg (book config past).rests f ≡ true
 
 -- the flow after its segment was offered
 abbrev pub offered_flow : Io → ℕ → Segment → Flow → Flow
@@ -88,12 +89,12 @@ module _ (config : Config) (face : Face) (f : Flow) (past : List Entry) (has : H
       by false owed = refl
 
   module _ (to : Mac) (seg : Segment) (frame octets : List ℕ) (differ : Differ (book config past).flows) (none : tail past ≡ []) (is : drop 4 octets ≡ frame)
-      (carries : CarriesOf config face to seg frame past) (may : MayOfOne (flow_settings config) f.story (moment past) (Send seg)) where
+      (carries : CarriesOf config face f to seg frame past) (may : MayOfOne (flow_settings config) f.story (moment past) (Send seg)) where
     sends_it : (o : Option OnTuple) → o ≡ Some (on_ends face to seg) → sends_segment config past frame o ≡ true
     sends_it o on =
         ap (sends_segment config past frame) on
-        ∙ and_both (is_own seg (owner (ends_of face) (book config past).flows)) (is_well_sent config past frame (on_ends face to seg))
-        (ap (is_own seg) (owner_is differ) ∙ ap not (not_strange seg may))
+        ∙ and_both (is_own seg (book config past).rests (owner (ends_of face) (book config past).flows)) (is_well_sent config past frame (on_ends face to seg))
+        (ap (is_own seg (book config past).rests) (owner_is differ) ∙ and_both (not (is_strange seg f)) (speaks_yet seg (book config past).rests f) (ap not (not_strange seg may)) carries.speaks)
         (and_both (list_any (is_pair (address face.guest) to.0) (taught config past) && is_latest to.0 (learnt_for face.guest.addr (known config past))) (is_written config (identification past) frame (on_ends face to seg) (ip_in frame))
         (and_both (list_any (is_pair (address face.guest) to.0) (taught config past)) (is_latest to.0 (learnt_for face.guest.addr (known config past))) carries.learnt carries.latest) carries.written)
 
