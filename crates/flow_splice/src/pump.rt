@@ -201,8 +201,8 @@ impl Spliced {
         }
     }
 
-    // The guest's hardware address is known from now on, where one is told.
-    fn learn(&mut self, mac: Option<Mac>)
+    /// The guest's hardware address is known from now on, where one is told: a flow that waits for it calls its guest with the next `pump`.
+    pub fn learn(&mut self, mac: Option<Mac>)
         ensures { self.new ≡ learnt self.old mac }
     {
         if mac.is_some() {
@@ -210,7 +210,8 @@ impl Spliced {
         }
     }
 
-    fn mac(&self) -> Option<Mac>
+    /// The guest's hardware address, where it is known.
+    pub fn mac(&self) -> Option<Mac>
         ensures { result ≡ self.now.mac }
     {
         self.mac
