@@ -117,6 +117,14 @@ impl Forwards {
         }
     }
 
+    /// How many forwards are open, 32 at most.
+    pub fn len(&self) -> usize
+        ensures count { result ≡ length self.now }
+        ensures few { length self.now ≤ 32 }
+    {
+        self.ports.len()
+    }
+
     /// The forward at a place of the list, counted from 0, and the number of its socket. None exactly where there are no more.
     pub fn at(&self, place: usize) -> Option<(Forward, u64)>
         ensures { result ≡ slice_get self.now place }

@@ -18,3 +18,10 @@ has_few_turns config sound = few config.turns (sound.each Turns)
   where
     few : (turns : ℕ) → IsTrue (nat_le 1 turns && nat_le turns 17592186044416) → turns ≤ 2 ^ 44
     few turns is = grind (arith, nat_tests, is)
+
+-- and one at least
+pub has_some_turns : (config : Config) → IsSound config → 1 ≤ config.turns
+has_some_turns config sound = some config.turns (sound.each Turns)
+  where
+    some : (turns : ℕ) → IsTrue (nat_le 1 turns && nat_le turns 17592186044416) → 1 ≤ turns
+    some turns is = grind (arith, nat_tests, is)

@@ -1,5 +1,5 @@
 -- A run from its first call to its last.
-use Rattle.std.proofs.Common.{◌≡◌, ℕ, ◌^◌, ◌≤◌, min, max, false, List, [], ◌∷◌, ◌++◌, Option, refl, sym, ◌∙◌, ap, subst}
+use Rattle.std.proofs.Common.{◌≡◌, ℕ, ◌^◌, ◌≤◌, min, max, false, List, [], ◌∷◌, ◌++◌, Option, Some, refl, sym, ◌∙◌, ap, subst}
 use Rattle.world_face.specs.Journal.{Entry, Allowed, Now}
 use Rattle.world_face.specs.Tells.{Telling, Makes}
 use Rattle.world_face.proofs.Telling.{makes_as, makes_then}
@@ -12,25 +12,29 @@ use Rattle.slirp_laws.specs.Laws.{Finished, Lawful}
 use Rattle.slirp_laws.specs.Served.{Served}
 use Rattle.slirp_laws.proofs.Sentences.{served}
 use Rattle.stream_netdev.specs.Keeps.{ReadsOn}
-use Rattle.stream_netdev.specs.State.{under_way}
+use Rattle.stream_netdev.specs.State.{LinkState, under_way}
 use Rattle.stream_netdev.proofs.Reading.{reads_first}
 use Rattle.tcp_flows.specs.Kept.{IsFor, Kept}
-use Rattle.slirp_core.specs.Holds.{after, flowing, Begins, ClosesAll, Stands, Turns}
+use Rattle.port_forward.specs.Opened.{Opened}
+use Rattle.slirp_core.specs.Forwards.{forward_sockets}
+use Rattle.slirp_core.specs.Holds.{AfterListening, after, flowing, Begins, ClosesAll, ClosingWith, Opens, Stands, Turns}
 use Rattle.slirp_core.specs.Numbers.{flows_for}
-use Rattle.slirp_core.proofs.Starting.{IsUnbegun, ran as ran_by, spent as spent_by, started as started_by}
+use Rattle.slirp_core.specs.State.{SlirpState}
+use Rattle.slirp_core.proofs.Starting.{IsUnbegun, begun, ran as ran_by, spent as spent_by}
 use Rattle.serve_loop.specs.Ends.{end_of}
 use Rattle.serve_loop.specs.Turns.{Closes, EndedAs, HoldsNow, RanTo}
 use Rattle.serve_loop.specs.Served.{IsNew, ServiceState}
 use Rattle.serve_loop.specs.declared.service.End.{End}
-use Rattle.serve_loop.specs.declared.service.End.TheVariants.{TurnsSpent}
+use Rattle.serve_loop.specs.declared.service.End.TheVariants.{ListenRefused, TurnsSpent}
 
 -- before the first turn
 flows_fit : (config : Config) → IsFor config (flows_for config)
 flows_fit config = record { ring = refl; mtu = refl; mru = refl; congestion = refl; vhost = refl }
 
-unbegun : (service : ServiceState) → IsNew service → IsUnbegun service.slirp.config service.slirp service.slirp.flows service.link
+unbegun : (service : ServiceState) → IsNew service → IsUnbegun service.slirp.config service.slirp service.link
 unbegun service new = record {
   forwards = new.forwards;
+  connections = new.connections;
   settings = refl;
   flows = record { flows = ap (λ (k : Kept). k.flows) new.flows; settings = subst (IsFor service.slirp.config) (sym new.flows) (flows_fit service.slirp.config); unit = new.unit };
   known = new.known;
@@ -48,35 +52,47 @@ unbegun service new = record {
   free = new.free;
 }
 
-pub started : (service : ServiceState) (told : ℕ) → Allowed (Now told) → IsNew service → HoldsNow service.slirp.config (after 0) false (record service.slirp { moment = max (min told (2 ^ 62)) service.slirp.moment }) service.link (Now told ∷ [])
-started service told allowed new = started_by service.slirp.config service.slirp service.slirp.flows service.link told allowed (unbegun service new)
+-- nothing was done yet
+pub opens : (service : ServiceState) → IsNew service → Opens service.slirp.config 0 service.slirp service.link []
+opens service new = begun service.slirp.config service.slirp service.link (unbegun service new)
+
+-- the host refused a forward
+pub refused : (config : Config) (place : ℕ) (slirp : SlirpState) (link : LinkState) (made : List Entry) → AfterListening (Some place) config slirp link made
+    → Closes config (ListenRefused place) slirp.forwards slirp.associations slirp.flows.flows.parts made
+refused config place slirp link made closing = record {
+  closing = subst (λ p. ClosingWith config p (forward_sockets slirp.forwards) slirp.associations slirp.flows.flows.parts made) closing.is closing;
+  is = ap (end_of config) closing.is;
+}
 
 pub reads_new : (service : ServiceState) → IsNew service → ReadsOn (under_way service.link)
 reads_new service new = subst ReadsOn (sym new.input) reads_first
 
 -- a run that an entry ended
-pub ran : (config : Config) (end : End) (associations : List Association) (parts : List (Option Splice)) (made : List Entry) → EndedAs config end associations parts made → Closes config end associations parts made
-ran config end associations parts made ended = record { closing = ran_by config ended.why associations parts made ended.ended; is = ended.is ∙ sym (ap (end_of config) ended.ended.over) }
+pub ran : (config : Config) (end : End) (forwards : List Opened) (associations : List Association) (parts : List (Option Splice)) (made : List Entry) → EndedAs config end forwards associations parts made
+    → Closes config end forwards associations parts made
+ran config end forwards associations parts made ended = record { closing = ran_by config ended.why forwards associations parts made ended.ended; is = ended.is ∙ sym (ap (end_of config) ended.ended.over) }
 
 -- after as many waits as there may be
-pub spent : (config : Config) (count turns : ℕ) (service : ServiceState) (made : List Entry) → config.turns ≤ count → turns ≡ config.turns → HoldsNow config (after count) false service.slirp service.link made
-    → Closes config (TurnsSpent turns) service.slirp.associations service.slirp.flows.flows.parts made
-spent config count turns service made all is holds = record {
-  closing = spent_by config count service.slirp (flowing false service.slirp.flows) service.link made all holds;
+pub spent : (config : Config) (count turns : ℕ) (service : ServiceState) (made : List Entry) → 1 ≤ config.turns → config.turns ≤ count → turns ≡ config.turns → HoldsNow config (after count) false service.slirp service.link made
+    → Closes config (TurnsSpent turns) service.slirp.forwards service.slirp.associations service.slirp.flows.flows.parts made
+spent config count turns service made some all is holds = record {
+  closing = spent_by config count service.slirp (flowing false service.slirp.flows) service.link made some all holds;
   is = ap TurnsSpent is ∙ so holds.stands;
 }
   where
     so : Stands config Settled service.slirp service.slirp.flows service.link made → TurnsSpent config.turns ≡ end_of config (phase config made)
     so (Turns turn) = sym (ap (end_of config) turn.working)
-    so (Begins first free unrested shut) = sym (ap (end_of config) first.started)
+    so (Begins first free unrested) = sym (ap (end_of config) first.started)
 
 -- all its sockets were closed then
-pub ran_to : (config : Config) (end : End) (associations : List Association) (parts : List (Option Splice)) (more past : List Entry) → Closes config end associations parts past → ClosesAll associations parts more → RanTo config end (more ++ past)
-ran_to config end associations parts more past closes all =
+pub ran_to : (config : Config) (end : End) (forwards : List Opened) (associations : List Association) (parts : List (Option Splice)) (more past : List Entry) → Closes config end forwards associations parts past
+    → ClosesAll forwards associations parts more → RanTo config end (more ++ past)
+ran_to config end forwards associations parts more past closes all =
     let over = all config (phase config past) past closes.closing in (over.0, over.1, closes.is ∙ ap (end_of config) over.2)
 
-pub finishes : (config : Config) (end : End) (associations : List Association) (parts : List (Option Splice)) (a b c : Telling) → Makes a b (Closes config end associations parts) → Makes b c (ClosesAll associations parts) → Makes a c (RanTo config end)
-finishes config end associations parts a b c ran closed = makes_then a b c _ _ (RanTo config end) ran closed (λ made more closes all. ran_to config end associations parts more made closes all)
+pub finishes : (config : Config) (end : End) (forwards : List Opened) (associations : List Association) (parts : List (Option Splice)) (a b c : Telling) → Makes a b (Closes config end forwards associations parts)
+    → Makes b c (ClosesAll forwards associations parts) → Makes a c (RanTo config end)
+finishes config end forwards associations parts a b c ran closed = makes_then a b c _ _ (RanTo config end) ran closed (λ made more closes all. ran_to config end forwards associations parts more made closes all)
 
 pub told : (config : Config) (end : End) (old new : Telling) → Makes old new (RanTo config end) → Served config old new
 told config end old new makes = served config old new (makes_as old new (RanTo config end) (λ made. Lawful config made × Finished config made) makes (λ made run. (run.0, run.1)))

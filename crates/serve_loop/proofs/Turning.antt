@@ -4,10 +4,11 @@ use Rattle.std.proofs.lemmas.Bool.Decides.{nat_tests}
 use Rattle.poll_list.specs.Listing.{same_who, reads, writes}
 use Rattle.poll_list.specs.declared.Want.{Want}
 use Rattle.poll_list.specs.declared.Who.{Who}
-use Rattle.poll_list.specs.declared.Who.TheVariants.{Link as TheLink, Udp}
+use Rattle.poll_list.specs.declared.Who.TheVariants.{Link as TheLink, Listener, Udp}
 use Rattle.world_face.specs.Journal.{Entry}
 use Rattle.world_face.specs.Frames.{Ending, LinkFailed}
 use Rattle.host_policy.specs.Addresses.{Config}
+use Rattle.port_forward.specs.Opened.{Opened}
 use Rattle.udp_assoc.specs.declared.assocs.Association.{Association}
 use Rattle.flow_splice.specs.Splice.{Splice}
 use Rattle.slirp_laws.specs.Agenda.{agenda, is_to_read, wanted_of}
@@ -49,15 +50,16 @@ settled slirp link is =
     (none_at link.tail both.0, none slirp.pending (not_true (nat_lt 0 (length slirp.pending)) both.1))
 
 -- the run has ended
-pub ended_as : (config : Config) (why : Ending) (associations : List Association) (parts : List (Option Splice)) (past : List Entry) → Ended config why associations parts past → EndedAs config (end_by why) associations parts past
-ended_as config why associations parts past ended = record { why = why; ended = ended; is = refl }
+pub ended_as : (config : Config) (why : Ending) (forwards : List Opened) (associations : List Association) (parts : List (Option Splice)) (past : List Entry) → Ended config why forwards associations parts past
+    → EndedAs config (end_by why) forwards associations parts past
+ended_as config why forwards associations parts past ended = record { why = why; ended = ended; is = refl }
 
 -- a pump is a part of a turn
 pub pumped : (answer : Pumped) (config : Config) (at : Standing) (aged : Bool) (slirp : SlirpState) (link : LinkState) (past : List Entry) → AfterPump answer config at slirp (flowing aged slirp.flows) link past
     → AfterTurn (turn_of answer) config at aged slirp link past
 pumped Clear config at aged slirp link past holds = holds
 pumped Blocked config at aged slirp link past holds = holds
-pumped PumpFailed config at aged slirp link past ended = ended_as config LinkFailed slirp.associations slirp.flows.flows.parts past ended
+pumped PumpFailed config at aged slirp link past ended = ended_as config LinkFailed slirp.forwards slirp.associations slirp.flows.flows.parts past ended
 
 -- the same octets are under way
 pub same_under_way : (old new : LinkState) → new.octets ≡ old.octets → new.whole ≡ old.whole → under_way new ≡ under_way old
@@ -101,6 +103,11 @@ pub of_socket : (number : ℕ) (wants : List Want) (item : Want) → item.of ≡
 of_socket number wants item of read wanted =
     ap (λ (who : Who). same_who (Udp number) who && (item.read && reads who wants)) of
     ∙ ap (λ (b : Bool). b && (item.read && reads (Udp number) wants)) (same number) ∙ ap (λ (b : Bool). b && reads (Udp number) wants) read ∙ wanted
+
+pub of_listener : (number : ℕ) (wants : List Want) (item : Want) → item.of ≡ Listener number → item.read ≡ true → reads (Listener number) wants ≡ true → is_to_read (Listener number) (wanted_of wants item) ≡ true
+of_listener number wants item of read wanted =
+    ap (λ (who : Who). same_who (Listener number) who && (item.read && reads who wants)) of
+    ∙ ap (λ (b : Bool). b && (item.read && reads (Listener number) wants)) (same number) ∙ ap (λ (b : Bool). b && reads (Listener number) wants) read ∙ wanted
 
 -- what stands at a place is among all
 pub reads_there : (who : Who) (wants : List Want) (n : ℕ) (want other : Want) → n < length wants → want ≡ get_or wants n other → is_to_read who want ≡ true → reads who wants ≡ true

@@ -21,6 +21,14 @@ pub reads_before : (who : Who) (xs ys : List Want) → reads who xs ≡ true →
 reads_before who [] ys is = cc
 reads_before who (x ∷ xs) ys is = or_on (same_who who x.of && x.read) (reads who xs) (reads who (xs ++ ys)) (reads_before who xs ys) is
 
+pub reads_behind : (who : Who) (xs ys : List Want) → reads who ys ≡ true → reads who (xs ++ ys) ≡ true
+reads_behind who [] ys is = is
+reads_behind who (x ∷ xs) ys is = or_later (same_who who x.of && x.read) (reads who (xs ++ ys)) (reads_behind who xs ys is)
+  where
+    or_later : (a b : Bool) → b ≡ true → (a || b) ≡ true
+    or_later true b is = refl
+    or_later false b is = is
+
 -- what stands at a place
 there_is : (wants : List Want) (k : ℕ) (want other : Want) → k < length wants → want ≡ get_or wants k other → slice_get wants k ≡ Some want
 there_is [] k want other few there = absurd (omega (arith, few))

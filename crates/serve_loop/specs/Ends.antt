@@ -39,6 +39,7 @@ end_of config Working = TurnsSpent config.turns
 abbrev pub IsCountedEnd : End → Counts → Counts → Type 0
 IsCountedEnd LinkFault old new = Rose old.link new.link
 IsCountedEnd WaitFault old new = Rose old.wait new.wait
+IsCountedEnd (ListenRefused forward) old new = Rose old.socket new.socket
 IsCountedEnd _ old new = Unit {0}
 
 abbrev pub IsCounted : Turn → Counts → Counts → Type 0

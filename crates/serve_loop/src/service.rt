@@ -1,8 +1,8 @@
 // The loop of turns.
 //
-// A run begins with the moment (`start`), then goes by turns until one ends it (`serve`). A turn tells the flows of TCP the time, closes what has been
+// A run begins with the ports of the host that are given to guests and with the moment (`start`), then goes by turns until one ends it (`serve`). A turn tells the flows of TCP the time, closes what has been
 // idle too long, sends what is owed, and waits for what it wants; then it asks for the moment and serves what was reported, in the order of the list: a
-// frame is read and taken in, a peer's datagram is received, or a flow's socket is served, writing before reading, and after each what is owed for it is
+// frame is read and taken in, a peer of a forward is taken, a peer's datagram is received, or a flow's socket is served, writing before reading, and after each what is owed for it is
 // sent. A frame or a datagram is read only while nothing is left to be sent. At the end every socket is closed, by rising number.
 ghost use Rattle.std.specs.Prelude.{◌≡◌, ◌&&◌, ◌||◌, ◌++◌, List, true, false, IfSome, if◌then◌else◌};
 ghost use Rattle.slirp_laws.specs.Agenda.{is_to_read};
@@ -10,12 +10,13 @@ ghost use Rattle.slirp_core.specs.Holds.{Standing};
 ghost use Rattle.serve_loop.specs.Turns.{still, is_read_now};
 ghost use Rattle.poll_list.specs.Listing.{reads, writes};
 ghost use Rattle.serve_loop.specs.Ends.{turn_of};
-ghost use Rattle.poll_list.specs.declared.Who.TheVariants.{Link as TheLink, Udp, Tcp};
+ghost use Rattle.poll_list.specs.declared.Who.TheVariants.{Link as TheLink, Listener, Udp, Tcp};
 ghost use Rattle.slirp_laws.specs.Agenda.{wanted_of};
 ghost use Rattle.slirp_core.specs.Pumps.{TcpOnce};
 ghost use Rattle.poll_list.specs.declared.Want.{Want as AnItem};
 
-use host_policy::SlirpConfig;
+use arrayvec::ArrayVec;
+use host_policy::{Forward, SlirpConfig};
 use net_octets::NoMemory;
 use poll_list::{ReadyList, Want, Who};
 use slirp_core::{LONGEST_ASSEMBLED, Pumped, Slirp, Task, TurnWants};
@@ -74,6 +75,8 @@ pub struct Service {
     payload: Vec<u8>,
     joined: Vec<u8>,
     turns: u64,
+    // the ports of the host that are to be opened
+    forwards: ArrayVec<Forward, 32>,
 }
 
 impl Model for Service {
@@ -86,7 +89,7 @@ impl Model for Service {
     ghost view = { λ s. record { slirp = s.slirp; link = s.link; wants = s.wants.items; ready = s.ready.items } };
 
     // no flow's socket is waited for twice
-    ghost invariant = { λ s. (s.turns ≡ s.slirp.config.turns) × (s.wants.capacity ≡ 5155) × (s.ready.capacity ≡ 5155) × (length s.payload.items ≡ 65507) × (length s.joined.items ≡ 65575) × TcpOnce s.wants.items };
+    ghost invariant = { λ s. (s.turns ≡ s.slirp.config.turns) × (s.wants.capacity ≡ 5155) × (s.ready.capacity ≡ 5155) × (length s.payload.items ≡ 65507) × (length s.joined.items ≡ 65575) × TcpOnce s.wants.items × (s.forwards.items ≡ s.slirp.config.forwards) };
 }
 
 impl Service {
@@ -102,7 +105,7 @@ impl Service {
     ghost use Rattle.stream_netdev.specs.State.{under_way};
     ghost use Rattle.serve_loop.specs.Ends.{end_of, IsCounted};
     ghost use Rattle.slirp_core.specs.Counts.{AreGrown};
-    ghost use Rattle.slirp_core.specs.Holds.{after, standing};
+    ghost use Rattle.slirp_core.specs.Holds.{AfterListening, after, standing};
     ghost use Rattle.serve_loop.specs.Turns.{AfterSleep, AfterTurn, AfterWholeTurn, GoesOnAfter, HoldsNow, all_passed_over, is_passed_over};
     ghost use Rattle.slirp_core.specs.Pumps.{is_settled};
     ghost use Rattle.serve_loop.specs.Served.{IsBuilt, IsNew};
@@ -112,7 +115,7 @@ impl Service {
     ghost use Rattle.udp_assoc.specs.declared.assocs.Association.{Association as AnAssociation};
 
     /// A network with these settings that has served nothing. It takes all the memory that it will ever need.
-    #[tactic(auto, using(crate::proofs::Opening::has_room_for_a_unit, crate::proofs::Opening::has_few_turns))]
+    #[tactic(auto, using(crate::proofs::Opening::has_room_for_a_unit, crate::proofs::Opening::has_few_turns, crate::proofs::Opening::has_some_turns))]
     pub fn open(alloc: Global, c: &SlirpConfig) -> Result<Service, NoMemory>
         requires sound { IsSound (settings c.now) }
         requires built { IsBuilt (settings c.now) }
@@ -129,6 +132,8 @@ impl Service {
             return Err(NoMemory);
         };
         let slirp = Slirp::new(alloc, c)?;
+        let mut forwards = ArrayVec::new();
+        let _ = forwards.try_extend_from_slice(c.forwards.as_slice());
         Ok(Service {
             slirp,
             link,
@@ -137,21 +142,25 @@ impl Service {
             payload,
             joined,
             turns: c.turns,
+            forwards,
         })
     }
 
-    /// Runs until the link ends, a wait is told to stop, or the turns are spent; then all sockets are closed.
+    /// Opens the ports of the host that are given to guests, and runs until the link ends, a wait is told to stop, or the turns are spent; then all sockets are
+    /// closed. Where the host refuses a port the run ends before its first turn.
     pub fn serve<W: World>(&mut self, world: &mut W) -> End
         requires { IsNew self.old }
         // The calls that it makes are lawful, nothing more is to be done, and the end is the one that they tell.
         ensures makes { let config = self.old.slirp.config in
             Makes (W.tells world.old) (W.tells world.new) (λ made. Lawful config made × Finished config made × (result ≡ end_of config (phase config made))) }
-        // Where it ended by a fault the count of the link's, or of the waits', rose.
+        // Where it ended by a fault the count of the link's, of the waits' or of the sockets' rose.
         ensures faults { IsCounted (Turn.Ended result) (W.tells world.old).faults (W.tells world.new).faults }
         // What a World that was live tells of them.
         ensures served { Served self.old.slirp.config (W.tells world.old) (W.tells world.new) }
     {
-        let _begun = self.start(world);
+        if let Turn::Ended(end) = self.start(world) {
+            return end;
+        }
         let turns = self.turns;
         for _count in 0..turns {
             match self.turn(world) {
@@ -163,25 +172,42 @@ impl Service {
         End::TurnsSpent(self.turns)
     }
 
-    /// Begins a run of a network that has served nothing: the moment is asked for.
+    /// Begins a run of a network that has served nothing: the ports of the host that are given to guests are opened, in the order of the settings, and the
+    /// moment is asked for. Where the host refuses a port the run ends, and those that were opened are closed.
     pub fn start<W: World>(&mut self, world: &mut W) -> Turn
         requires { IsNew self.old }
-        ensures makes { Makes (W.tells world.old) (W.tells world.new) (HoldsNow self.old.slirp.config (after 0) false self.new.slirp self.new.link) }
-        ensures on { ReadsOn (under_way self.new.link) }
+        ensures makes { Makes (W.tells world.old) (W.tells world.new) (AfterWholeTurn result self.old.slirp.config (after 0) self.new.slirp self.new.link) }
+        ensures faults { IsCounted result (W.tells world.old).faults (W.tells world.new).faults }
+        ensures on { GoesOnAfter result self.new.link }
         ensures config { self.new.slirp.config ≡ self.old.slirp.config }
-        ensures number { self.new.slirp.number ≡ 0 }
+        ensures number { self.new.slirp.number ≤ 32 }
         ensures turns { self.new.slirp.flows.turn ≡ 0 }
-        ensures again { result ≡ Turn.Again }
     {
+        if let Some(place) = self.listen(world) {
+            self.slirp.close_all(world);
+            return Turn::Ended(End::ListenRefused(place));
+        }
         let told = world.now();
         self.slirp.tell_moment(told);
         Turn::Again
     }
 
-    /// One turn: the flows are told the time, sockets that were idle for long are closed and what is owed is sent, then it waits, then what the wait reported is served, with what is then owed. Where it ends the run all sockets are closed, by rising number. A turn opens at most one socket, and needs a number for it under 2^64. There are at most 2^45 turns.
+    // Opens the ports of the host, and answers the place of the first that is refused.
+    fn listen<W: World>(&mut self, world: &mut W) -> Option<usize>
+        requires { IsNew self.old }
+        ensures makes { Makes (W.tells world.old) (W.tells world.new) (AfterListening result self.old.slirp.config self.new.slirp self.new.link) }
+        ensures counted { IfSome result (λ k. Rose (W.tells world.old).faults.socket (W.tells world.new).faults.socket) }
+        ensures number { self.new.slirp.number ≤ 32 }
+        ensures slirp { self.new.slirp ≡ record self.old.slirp { number = self.new.slirp.number; forwards = self.new.slirp.forwards } }
+        ensures link { self.new.link ≡ self.old.link }
+    {
+        self.slirp.listen_all(world, self.forwards.as_slice())
+    }
+
+    /// One turn: the flows are told the time, sockets that were idle for long are closed and what is owed is sent, then it waits, then what the wait reported is served, with what is then owed. Where it ends the run all sockets are closed, by rising number. A turn opens a socket at most for each item that a wait reports, and needs numbers for them under 2^64. There are at most 2^45 turns.
     pub fn turn<W: World>(&mut self, world: &mut W) -> Turn
         requires on { ReadsOn (under_way self.old.link) }
-        requires number { self.old.slirp.number + 1 < 2 ^ 64 }
+        requires number { self.old.slirp.number + 5155 < 2 ^ 64 }
         requires turns { self.old.slirp.flows.turn < 2 ^ 45 }
         ensures makes { (config : Config) (count : ℕ) → count < config.turns → Brings (W.tells world.old) (W.tells world.new)
             (HoldsNow config (after count) false self.old.slirp self.old.link) (AfterWholeTurn result config (after (count + 1)) self.new.slirp self.new.link) }
@@ -189,7 +215,7 @@ impl Service {
         ensures faults { IsCounted result (W.tells world.old).faults (W.tells world.new).faults }
         ensures on { GoesOnAfter result self.new.link }
         ensures config { self.new.slirp.config ≡ self.old.slirp.config }
-        ensures number { self.new.slirp.number ≤ self.old.slirp.number + 1 }
+        ensures number { self.new.slirp.number ≤ self.old.slirp.number + 5155 }
         ensures turns { self.new.slirp.flows.turn ≤ self.old.slirp.flows.turn + 1 }
     {
         match self.take_turn(world) {
@@ -204,14 +230,14 @@ impl Service {
     // The same, with the sockets left open where it ended the run.
     fn take_turn<W: World>(&mut self, world: &mut W) -> Turn
         requires on { ReadsOn (under_way self.old.link) }
-        requires number { self.old.slirp.number + 1 < 2 ^ 64 }
+        requires number { self.old.slirp.number + 5155 < 2 ^ 64 }
         requires turns { self.old.slirp.flows.turn < 2 ^ 45 }
         ensures makes { (config : Config) (count : ℕ) → count < config.turns → Brings (W.tells world.old) (W.tells world.new)
             (HoldsNow config (after count) false self.old.slirp self.old.link) (AfterTurn result config (after (count + 1)) false self.new.slirp self.new.link) }
         ensures faults { IsCounted result (W.tells world.old).faults (W.tells world.new).faults }
         ensures on { GoesOnAfter result self.new.link }
         ensures config { self.new.slirp.config ≡ self.old.slirp.config }
-        ensures number { self.new.slirp.number ≤ self.old.slirp.number + 1 }
+        ensures number { self.new.slirp.number ≤ self.old.slirp.number + 5155 }
         ensures turns { self.new.slirp.flows.turn ≤ self.old.slirp.flows.turn + 1 }
     {
         self.slirp.tick(world);
@@ -224,13 +250,13 @@ impl Service {
     // A wait and what follows it.
     fn wake<W: World>(&mut self, world: &mut W) -> Turn
         requires on { ReadsOn (under_way self.old.link) }
-        requires number { self.old.slirp.number + 1 < 2 ^ 64 }
+        requires number { self.old.slirp.number + 5155 < 2 ^ 64 }
         ensures makes { (config : Config) (count : ℕ) → count < config.turns → Brings (W.tells world.old) (W.tells world.new)
             (HoldsNow config (after count) true self.old.slirp self.old.link) (AfterTurn result config (after (count + 1)) false self.new.slirp self.new.link) }
         ensures faults { IsCounted result (W.tells world.old).faults (W.tells world.new).faults }
         ensures on { GoesOnAfter result self.new.link }
         ensures config { self.new.slirp.config ≡ self.old.slirp.config }
-        ensures number { self.new.slirp.number ≤ self.old.slirp.number + 1 }
+        ensures number { self.new.slirp.number ≤ self.old.slirp.number + 5155 }
         ensures turns { self.new.slirp.flows.turn ≡ self.old.slirp.flows.turn }
     {
         match self.sleep(world) {
@@ -267,13 +293,13 @@ impl Service {
     // What follows a wait that was woken: each item that it reported is served, in their order.
     fn work<W: World>(&mut self, world: &mut W) -> Turn
         requires on { ReadsOn (under_way self.old.link) }
-        requires number { self.old.slirp.number + 1 < 2 ^ 64 }
+        requires number { self.old.slirp.number + 5155 < 2 ^ 64 }
         ensures makes { (config : Config) (count : ℕ) → Brings (W.tells world.old) (W.tells world.new)
             (HoldsNow config (standing count self.old.wants self.old.ready) false self.old.slirp self.old.link) (AfterTurn result config (after count) false self.new.slirp self.new.link) }
         ensures faults { IsCounted result (W.tells world.old).faults (W.tells world.new).faults }
         ensures on { GoesOnAfter result self.new.link }
         ensures config { self.new.slirp.config ≡ self.old.slirp.config }
-        ensures number { self.new.slirp.number ≤ self.old.slirp.number + 1 }
+        ensures number { self.new.slirp.number ≤ self.old.slirp.number + 5155 }
         ensures turns { self.new.slirp.flows.turn ≡ self.old.slirp.flows.turn }
         ensures passed { all_passed_over self.old.wants self.old.ready ≡ true → (result ≡ Turn.Again) × (self.new ≡ self.old) × (world.new ≡ world.old) }
     {
@@ -306,13 +332,13 @@ impl Service {
     // Serves an item of what a wait reported in the directions that were waited for, and sends what is then owed. Of what wasn't waited for no call comes, and no pump after it.
     fn attend<W: World>(&mut self, world: &mut W, item: &Want, to_read: bool) -> Turn
         requires on { ReadsOn (under_way self.old.link) }
-        requires number { to_read ≡ true → self.old.slirp.number + 1 < 2 ^ 64 }
+        requires number { self.old.slirp.number + 1 < 2 ^ 64 }
         ensures makes { (config : Config) (count : ℕ) (items : List AnItem) → (to_read ≡ true → reads TheLink self.old.wants ≡ true) → Brings (W.tells world.old) (W.tells world.new)
             (HoldsNow config (standing count self.old.wants (item.now ∷ items)) false self.old.slirp self.old.link) (AfterTurn result config (standing count self.old.wants items) false self.new.slirp self.new.link) }
         ensures faults { IsCounted result (W.tells world.old).faults (W.tells world.new).faults }
         ensures on { GoesOnAfter result self.new.link }
         ensures config { self.new.slirp.config ≡ self.old.slirp.config }
-        ensures number { self.new.slirp.number ≤ self.old.slirp.number + (if is_read_now to_read item.now then 1 else 0) }
+        ensures number { self.new.slirp.number ≤ self.old.slirp.number + 1 }
         ensures turns { self.new.slirp.flows.turn ≡ self.old.slirp.flows.turn }
         ensures reports { (self.new.wants ≡ self.old.wants) × (self.new.ready ≡ self.old.ready) }
         ensures passed { (to_read ≡ true → reads TheLink self.old.wants ≡ true) → is_passed_over self.old.wants item.now ≡ true → (result ≡ Turn.Again) × (self.new ≡ self.old) × (world.new ≡ world.old) }
@@ -321,7 +347,7 @@ impl Service {
             Who::Link => self.attend_link(world, item, to_read),
             Who::Udp(number) => self.attend_port(world, number, item),
             Who::Tcp(number) => self.attend_flow(world, number, item),
-            Who::Listener(_) => Turn::Again,
+            Who::Listener(number) => self.attend_listener(world, number, item),
         }
     }
 
@@ -329,13 +355,13 @@ impl Service {
     fn attend_link<W: World>(&mut self, world: &mut W, item: &Want, to_read: bool) -> Turn
         requires of { item.now.of ≡ TheLink }
         requires on { ReadsOn (under_way self.old.link) }
-        requires number { to_read ≡ true → self.old.slirp.number + 1 < 2 ^ 64 }
+        requires number { self.old.slirp.number + 1 < 2 ^ 64 }
         ensures makes { (config : Config) (count : ℕ) (items : List AnItem) → (to_read ≡ true → reads TheLink self.old.wants ≡ true) → Brings (W.tells world.old) (W.tells world.new)
             (HoldsNow config (standing count self.old.wants (item.now ∷ items)) false self.old.slirp self.old.link) (AfterTurn result config (standing count self.old.wants items) false self.new.slirp self.new.link) }
         ensures faults { IsCounted result (W.tells world.old).faults (W.tells world.new).faults }
         ensures on { GoesOnAfter result self.new.link }
         ensures config { self.new.slirp.config ≡ self.old.slirp.config }
-        ensures number { self.new.slirp.number ≤ self.old.slirp.number + (if is_read_now to_read item.now then 1 else 0) }
+        ensures number { self.new.slirp.number ≤ self.old.slirp.number + 1 }
         ensures turns { self.new.slirp.flows.turn ≡ self.old.slirp.flows.turn }
         ensures reports { (self.new.wants ≡ self.old.wants) × (self.new.ready ≡ self.old.ready) }
         ensures passed { (to_read ≡ true → reads TheLink self.old.wants ≡ true) → is_passed_over self.old.wants item.now ≡ true → (result ≡ Turn.Again) × (self.new ≡ self.old) × (world.new ≡ world.old) }
@@ -350,6 +376,28 @@ impl Service {
             return self.pump(world);
         }
         Turn::Again
+    }
+
+    // A port of the host: a peer is taken, where there is room yet for a flow more.
+    fn attend_listener<W: World>(&mut self, world: &mut W, number: u64, item: &Want) -> Turn
+        requires of { item.now.of ≡ Listener number }
+        requires on { ReadsOn (under_way self.old.link) }
+        requires number { self.old.slirp.number + 1 < 2 ^ 64 }
+        ensures makes { (config : Config) (count : ℕ) (items : List AnItem) → Brings (W.tells world.old) (W.tells world.new)
+            (HoldsNow config (standing count self.old.wants (item.now ∷ items)) false self.old.slirp self.old.link) (AfterTurn result config (standing count self.old.wants items) false self.new.slirp self.new.link) }
+        ensures faults { IsCounted result (W.tells world.old).faults (W.tells world.new).faults }
+        ensures on { GoesOnAfter result self.new.link }
+        ensures config { self.new.slirp.config ≡ self.old.slirp.config }
+        ensures number { self.new.slirp.number ≤ self.old.slirp.number + 1 }
+        ensures turns { self.new.slirp.flows.turn ≡ self.old.slirp.flows.turn }
+        ensures reports { (self.new.wants ≡ self.old.wants) × (self.new.ready ≡ self.old.ready) }
+        ensures passed { is_passed_over self.old.wants item.now ≡ true → (result ≡ Turn.Again) × (self.new ≡ self.old) × (world.new ≡ world.old) }
+    {
+        if !self.waits_for_peers(number, item) {
+            return Turn::Again;
+        }
+        self.slirp.accept(world, number);
+        self.pump(world)
     }
 
     // A guest's port: a datagram is received.
@@ -405,6 +453,20 @@ impl Service {
         match wants.binary_search_by_key(&Some(number), |want| socket_of(want.of)) {
             Ok(place) => counted_at(wants, place, number, item),
             Err(_) => None,
+        }
+    }
+
+    // Whether a report on this listener is for reading, and peers were waited for. Listeners stand by rising numbers, the link before them.
+    fn waits_for_peers(&self, number: u64, item: &Want) -> bool
+        ensures { result ≡ true → (item.now.read ≡ true) × (reads (Listener number) self.now.wants ≡ true) }
+    {
+        if !item.read {
+            return false;
+        }
+        let wants = self.wants.of_listeners();
+        match wants.binary_search_by_key(&Some(number), |want| socket_of(want.of)) {
+            Ok(place) => listens_at(wants, place, number),
+            Err(_) => false,
         }
     }
 
@@ -542,6 +604,23 @@ fn socket_of(who: Who) -> Option<u64> {
         Who::Link => None,
         Who::Listener(number) | Who::Udp(number) | Who::Tcp(number) => Some(number),
     }
+}
+
+// Whether the listener with this number stands at the place.
+fn listens_at(wants: &[Want], place: usize, number: u64) -> bool
+    ensures { result ≡ true → reads (Listener number) wants.now ≡ true }
+{
+    let Some(want) = wants.get(place) else {
+        return false;
+    };
+    is_listened(want, number)
+}
+
+// Whether it is the listener with this number.
+fn is_listened(want: &Want, number: u64) -> bool
+    ensures { result ≡ is_to_read (Listener number) want.now }
+{
+    want.of == Who::Listener(number) && want.read
 }
 
 // Whether the socket with this number stands at the place, for reading.

@@ -46,6 +46,7 @@ with_agenda config at after slirp f link past same holds last = record {
   guests = holds.guests;
   relayed = holds.relayed;
   services = holds.services;
+  forwards = holds.forwards;
   flows = holds.flows;
   sockets = holds.sockets;
   clock = record { moment = holds.clock.moment; counted = holds.clock.counted ∙ sym same };

@@ -9,14 +9,15 @@ use Rattle.world_face.proofs.Telling.{allowed_then}
 use Rattle.host_policy.specs.Addresses.{Config}
 use Rattle.ipv4_head.specs.Sets.{young}
 use Rattle.run_laws.specs.Moments.{moment, waits}
-use Rattle.run_laws.specs.Shape.{is_ended, is_over}
+use Rattle.run_laws.specs.Shape.{By, Over, is_ended, is_over}
 use Rattle.run_laws.specs.Sockets.{is_among, kind_of, next_number, open_sockets}
 use Rattle.slirp_laws.specs.Agenda.{agenda, all_wanted, wanted_of}
 use Rattle.slirp_laws.specs.Errands.{errand_left}
 use Rattle.slirp_laws.specs.Datagrams.{Settled}
 use Rattle.slirp_laws.specs.Laws.{Lawful}
 use Rattle.stream_netdev.specs.State.{LinkState}
-use Rattle.slirp_core.specs.Holds.{Stands, Begins, Standing, InTurn, IsLast, OfGuests, after, standing, AfterPump, Ended, Flowing, Holds, Turns, flowing, is_ours}
+use Rattle.slirp_core.specs.Forwards.{forward_sockets}
+use Rattle.slirp_core.specs.Holds.{AreOpenWith, Stands, Begins, Standing, InTurn, IsLast, OfGuests, after, standing, AfterPump, Ended, Flowing, Holds, Turns, flowing, is_ours}
 use Rattle.slirp_core.specs.State.{SlirpState}
 use Rattle.slirp_core.specs.Waiting.{OfFragments}
 use Rattle.slirp_core.proofs.Parts.{asks_nothing, errand_for, in_turn}
@@ -30,6 +31,7 @@ use Rattle.core_flows.specs.Seats.{Seats}
 use Rattle.flow_book.specs.Book.{book, is_young}
 use Rattle.flow_book.specs.Flows.{Rest}
 use Rattle.tcp_flows.specs.Runs.{Between, Broken, ClosesRising, IsIdle, IsIdlePump, Leaves, LeavesOthers, Pumps, Reports, Sendable, Ticks}
+use Rattle.slirp_core.proofs.Given.{all_given}
 use Rattle.slirp_core.proofs.Open.{open_by}
 
 -- each call was one that a link may get
@@ -85,7 +87,8 @@ after_flows config at later slirp f link past made aged new same allowed turn ho
       answers = record { sent = leaves.counted ∙ holds.answers.sent; pending = leaves.left ∙ holds.answers.pending };
       guests = guests_left config slirp past made moments others holds.guests;
       relayed = record { list = others.list ∙ holds.relayed.list; asks = asks_nothing config slirp.associations (errand_left config (made ++ past)) then_is.work.errand };
-      services = record { leases = others.leases ∙ holds.services.leases; unresolved = holds.services.unresolved; unbound = holds.services.unbound };
+      services = record { leases = others.leases ∙ holds.services.leases; connections = holds.services.connections; unresolved = holds.services.unresolved; unbound = holds.services.unbound };
+      forwards = holds.forwards;
       flows = record { holds = then_is.holds; settings = then_is.settings; unit = holds.flows.unit };
       sockets = record { number = leaves.next ∙ holds.sockets.number; kinds = sockets_left config past made others holds.sockets.kinds };
       clock = record { moment = then_is.at; counted = others.waits ∙ holds.clock.counted ∙ sym same };
@@ -137,6 +140,7 @@ unticked config at slirp kept link past unrested holds = record {
   guests = holds.guests;
   relayed = holds.relayed;
   services = holds.services;
+  forwards = holds.forwards;
   flows = record {
     holds = record {
       seats = subst (λ (r : List Rest). Seats number_of (Following config slirp.moment) kept.flows.table kept.flows.parts (next_number past) (book config past).flows r) (unrested ∙ sym (ap (filter (is_young (moment past))) unrested)) holds.flows.holds.seats;
@@ -164,7 +168,8 @@ flows_put config at slirp k f link past holds = record {
   answers = record { sent = holds.answers.sent; pending = holds.answers.pending };
   guests = record { settings = holds.guests.settings; known = holds.guests.known; fragments = record { held = holds.guests.fragments.held; is_held = holds.guests.fragments.is_held; wait = holds.guests.fragments.wait } };
   relayed = record { list = holds.relayed.list; asks = holds.relayed.asks };
-  services = record { leases = holds.services.leases; unresolved = holds.services.unresolved; unbound = holds.services.unbound };
+  services = record { leases = holds.services.leases; connections = holds.services.connections; unresolved = holds.services.unresolved; unbound = holds.services.unbound };
+  forwards = holds.forwards;
   flows = holds.flows;
   sockets = holds.sockets;
   clock = record { moment = holds.clock.moment; counted = holds.clock.counted };
@@ -175,7 +180,7 @@ flows_put config at slirp k f link past holds = record {
   where
     stands : Stands config Settled slirp f.kept link past → Stands config Settled (record slirp { flows = k }) f.kept link past
     stands (Turns turn) = Turns turn
-    stands (Begins u free unrested shut) = Begins (record { started = u.started; unreported = u.unreported; unasked = u.unasked; alone = u.alone; nothing = u.nothing; empty = u.empty }) free unrested shut
+    stands (Begins u free unrested) = Begins (record { started = u.started; unwaited = u.unwaited; unreported = u.unreported; unasked = u.unasked; alone = u.alone; nothing = u.nothing; empty = u.empty }) free unrested
 
 -- a turn begins
 pub turn_begins : (config : Config) (at : Standing) (slirp : SlirpState) (aged : Bool) (kept : Kept) (link : LinkState) (past : List Entry) → Holds config at slirp (flowing aged kept) link past
@@ -188,6 +193,7 @@ turn_begins config at slirp aged kept link past holds = record {
   guests = holds.guests;
   relayed = holds.relayed;
   services = holds.services;
+  forwards = holds.forwards;
   flows = record { holds = holds.flows.holds; settings = record { ring = holds.flows.settings.ring; mtu = holds.flows.settings.mtu; mru = holds.flows.settings.mru; congestion = holds.flows.settings.congestion; vhost = holds.flows.settings.vhost }; unit = holds.flows.unit };
   sockets = holds.sockets;
   clock = holds.clock;
@@ -198,7 +204,7 @@ turn_begins config at slirp aged kept link past holds = record {
   where
     stands : Stands config Settled slirp kept link past → Stands config Settled slirp (record kept { turn = kept.turn + 1 }) link past
     stands (Turns turn) = Turns turn
-    stands (Begins unbegun free unrested shut) = Begins unbegun free unrested shut
+    stands (Begins unbegun free unrested) = Begins unbegun free unrested
 
 -- the flows of a turn, or of none
 pub told_the_time : (config : Config) (count : ℕ) (slirp : SlirpState) (kept new : Kept) (link : LinkState) (past made : List Entry) (Closes : List Entry → Type 0) → count < config.turns → Ticks slirp.moment false Closes kept new made → IsIdle kept new made → AreAllowed made
@@ -207,7 +213,7 @@ told_the_time config count slirp kept new link past made Closes few ticks idle a
   where
     by : Stands config Settled slirp kept link past → Holds config (after count) slirp (flowing true new) link (made ++ past)
     by (Turns turn) = ticked config count slirp kept new link past made Closes few ticks allowed turn holds
-    by (Begins unbegun free unrested shut) =
+    by (Begins unbegun free unrested) =
         let none = idle free in
         subst (λ (m : List Entry). Holds config (after count) slirp (flowing true new) link (m ++ past)) (sym none.1)
         (subst (λ (k : Kept). Holds config (after count) slirp (flowing true k) link past) (sym none.0) (unticked config (after count) slirp kept link past unrested holds))
@@ -219,7 +225,7 @@ told_rising config count slirp kept new link past made few ticks idle holds = by
   where
     by : Stands config Settled slirp kept link past → ClosesRising made
     by (Turns turn) = (ticks config past (not_ended config count slirp kept link past few turn holds) (between config (after count) slirp (flowing false kept) link past turn holds)).1
-    by (Begins unbegun free unrested shut) = subst ClosesRising (sym (idle free).1) tt
+    by (Begins unbegun free unrested) = subst ClosesRising (sym (idle free).1) tt
 
 -- ---- what flows owe goes out
 
@@ -248,7 +254,8 @@ module _ (config : Config) (at : Standing) (slirp : SlirpState) (f : Flowing) (l
         answers = record { sent = then_is.counted; pending = then_is.nothing ∙ sym none };
         guests = record { settings = guests.settings; known = guests.known; fragments = record { held = fragments.held; is_held = fragments.is_held; wait = fragments.wait } };
         relayed = record { list = others.list ∙ holds.relayed.list; asks = asks_nothing config slirp.associations (errand_left config (made ++ past)) then_is.between.work.errand };
-        services = record { leases = others.leases ∙ holds.services.leases; unresolved = holds.services.unresolved; unbound = holds.services.unbound };
+        services = record { leases = others.leases ∙ holds.services.leases; connections = holds.services.connections; unresolved = holds.services.unresolved; unbound = holds.services.unbound };
+        forwards = holds.forwards;
         flows = record { holds = then_is.between.holds; settings = then_is.between.settings; unit = holds.flows.unit };
         sockets = record { number = same ∙ holds.sockets.number; kinds = sockets_left config past made others holds.sockets.kinds };
         clock = record { moment = then_is.between.at; counted = others.waits ∙ holds.clock.counted };
@@ -258,14 +265,16 @@ module _ (config : Config) (at : Standing) (slirp : SlirpState) (f : Flowing) (l
       }
 
   -- the link failed
-  broke : Broken config slirp.moment f.aged new (made ++ past) → LeavesOthers config past made → Ended config LinkFailed slirp.associations new.flows.parts (made ++ past)
+  broke : Broken config slirp.moment f.aged new (made ++ past) → LeavesOthers config past made → Ended config LinkFailed slirp.forwards slirp.associations new.flows.parts (made ++ past)
   broke then_is others = record {
     lawful = then_is.lawful;
     over = then_is.over;
     errand = others.errand ∙ errand_for config Settled slirp past holds.relayed;
     served = none_due_for_services config (made ++ past) holds.services.unresolved;
     idle = then_is.asks;
-    sockets = open_by config slirp.associations (flowing f.aged new) slirp.moment (made ++ past) holds.services.unresolved then_is.lawful (others.list ∙ holds.relayed.list) then_is.holds (sockets_left config past made others holds.sockets.kinds);
+    sockets = subst (λ l. AreOpenWith (forward_sockets l) slirp.associations new.flows.parts (made ++ past)) (sym holds.forwards)
+        (open_by config slirp.associations (flowing f.aged new) slirp.moment (made ++ past) holds.services.unresolved then_is.lawful (others.list ∙ holds.relayed.list) then_is.holds (sockets_left config past made others holds.sockets.kinds)
+        (all_given config holds.services.unresolved holds.services.connections (made ++ past) then_is.lawful (Over (By LinkFailed)) then_is.over refl) then_is.open_yet);
   }
 
   -- the flows were pumped
@@ -282,7 +291,7 @@ pumped_so config at slirp aged kept new link next past made last result none all
   where
     by : Stands config Settled slirp kept link past → AfterPump (pumped_flows result) config at (record slirp { sent = last }) (flowing aged new) next (made ++ past)
     by (Turns turn) = pumped config at slirp (flowing aged kept) link next past made new last none allowed turn holds result pumps
-    by (Begins unbegun free unrested shut) =
+    by (Begins unbegun free unrested) =
         let still = idle free in
         subst (λ (m : List Entry). AfterPump (pumped_flows result) config at (record slirp { sent = last }) (flowing aged new) next (m ++ past)) (sym still.1)
         (subst (λ (r : PumpedFlows). AfterPump (pumped_flows r) config at (record slirp { sent = last }) (flowing aged new) next past) (sym still.2)

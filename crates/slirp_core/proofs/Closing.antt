@@ -10,12 +10,12 @@ use Rattle.host_policy.specs.Addresses.{Config}
 use Rattle.udp_assoc.specs.Associations.{IsLeast, numbers, without}
 use Rattle.udp_assoc.specs.declared.assocs.Association.{Association}
 use Rattle.flow_splice.specs.Splice.{Splice}
-use Rattle.run_laws.specs.Shape.{Phase, Over, By, Started, Working, is_over, is_working, phase}
+use Rattle.run_laws.specs.Shape.{Phase, Over, Working, is_over, is_working, phase}
 use Rattle.run_laws.specs.Sockets.{first, is_among, next_number, open_sockets, with_made}
 use Rattle.slirp_laws.specs.Asking.{step, step_of}
 use Rattle.slirp_laws.specs.Datagrams.{Settled, due_for}
 use Rattle.slirp_laws.specs.Laws.{Lawful, May, MayDue, due, unless_due}
-use Rattle.slirp_laws.proofs.Bools.{among_without, equal, same}
+use Rattle.slirp_laws.proofs.Bools.{among_without, equal, or_second, same}
 use Rattle.slirp_laws.proofs.Deeds.{any_one, quest_none, this_one}
 use Rattle.slirp_laws.proofs.OpenSockets.{peer_next}
 use Rattle.core_flows.proofs.Tables.{get_set_at, get_set_other}
@@ -26,7 +26,9 @@ use Rattle.spliced_flows.specs.Core.{number_of}
 use Rattle.spliced_flows.proofs.Ending.{may_close_least}
 use Rattle.spliced_flows.proofs.Options.{none_some, some_same, true_false}
 use Rattle.tcp_flows.specs.Reading.{HasSocket, IsNextOpen, IsOpenAt, NoneIsAbove}
-use Rattle.slirp_core.specs.Holds.{AreOpen, Closing, ClosesAll, ClosesNext, Ran, Rests, OverBy, AllWaited, NoneWaited}
+use Rattle.port_forward.specs.Opened.{Opened}
+use Rattle.slirp_core.specs.Forwards.{forward_sockets}
+use Rattle.slirp_core.specs.Holds.{AreOpen, AreOpenWith, Closing, ClosingBy, ClosingWith, ClosesAll, ClosesForwards, ClosesNext, ClosesOn, IsOf, Ran, Rests, OverFor, AllWaited}
 use Rattle.slirp_core.proofs.Parts.{due_in_phase, due_is}
 
 -- ---- open sockets stand by rising number
@@ -92,33 +94,30 @@ pub record IsFlows (n k : ℕ) (list : List Association) (parts : List (Option S
   pub next : IsNextOpen None n k parts
   pub below : (m : ℕ) → is_among m (numbers list) ≡ true → n ≤ m
 
-module _ (config : Config) (over : Phase) (list : List Association) (parts : List (Option Splice)) (past : List Entry) (closing : Closing config over list parts past) (n : ℕ) (among : is_among n (open_sockets past) ≡ true)
+module _ (Open : List Entry → Type 0) (config : Config) (over : Phase) (past : List Entry) (closing : ClosingBy Open config over past) (n : ℕ) (among : is_among n (open_sockets past) ≡ true)
     (least : (m : ℕ) → is_among m (open_sockets past) ≡ true → n ≤ m) where
   first_is : first (open_sockets past) ≡ Some n
   first_is = first_least (next_number past) n (open_sockets past) (open_rise config past closing.lawful) among least
 
   place : Rests config past → (is_working (phase config past) || is_over (phase config past)) ≡ true
-  place (OverBy why is) = ap (λ p. is_working p || is_over p) is
+  place (OverFor cause is) = ap (λ p. is_working p || is_over p) is
   place (AllWaited working) = ap (λ p. is_working p || is_over p) working
-  place (NoneWaited started shut) = absurd (true_false (sym among ∙ ap (is_among n) shut))
 
   is_due : Rests config past → MayDue config past (CallClose n)
-  is_due (OverBy why ended) =
-      this_one config past (CallClose n) (due_in_phase config past (Over (By why)) ended closing.served closing.idle
+  is_due (OverFor cause ended) =
+      this_one config past (CallClose n) (due_in_phase config past (Over cause) ended closing.served closing.idle
       ∙ ap (λ (o : Option Call). unless_due o (due_for config (step config past) (next_number past))) (ap (option_map CallClose) first_is))
   is_due (AllWaited working) = any_one config past (CallClose n) (due_is config past Settled working closing.served closing.idle (ap (step_of config past) closing.errand))
-  is_due (NoneWaited started shut) = absurd (true_false (sym among ∙ ap (is_among n) shut))
 
   may_close : May config past (CallClose n)
   may_close = may_close_least config past closing.lawful closing.ended n first_is (is_due closing.rests) (place closing.rests) closing.idle
 
   rests_on : Rests config past → Rests config (Close n ∷ past)
-  rests_on (OverBy why is) = OverBy why is
+  rests_on (OverFor cause is) = OverFor cause is
   rests_on (AllWaited working) = AllWaited working
-  rests_on (NoneWaited started shut) = NoneWaited started (ap (filter (λ s. not (s == n))) shut)
 
-  closed : (new : List Association) (new_parts : List (Option Splice)) → AreOpen new new_parts (Close n ∷ past) → Closing config over new new_parts (Close n ∷ past)
-  closed new new_parts left = record {
+  closed : (Left : List Entry → Type 0) → Left (Close n ∷ past) → ClosingBy Left config over (Close n ∷ past)
+  closed Left left = record {
     lawful = (may_close, closing.lawful);
     ended = closing.ended;
     is = closing.is;
@@ -179,7 +178,7 @@ module _ (config : Config) (over : Phase) (list : List Association) (parts : Lis
     each_left m apart (inr has) = inr has
 
     pub carrier_closed : Closing config over (without n list) parts (Close n ∷ past)
-    carrier_closed = closed config over list parts past closing n (now_open.carry n listed) (λ m among. least_of m (now_open.each m among)) (without n list) parts (record {
+    carrier_closed = closed (AreOpen list parts) config over past closing n (now_open.carry n listed) (λ m among. least_of m (now_open.each m among)) (AreOpen (without n list) parts) (record {
       each = λ m among. let was = was_among m n past among in each_left m was.0 (now_open.each m was.1);
       carry = λ m among. let was = both_of (not (m == n)) (is_among m (numbers list)) (sym (left_among m n list) ∙ among) in still_among m n past (now_open.carry m was.1) (apart_from m n was.0);
       flow = λ k p at. still_among (number_of p) n past (now_open.flow k p at) (λ same_one. true_false (sym listed ∙ ap (λ x. is_among x (numbers list)) (sym same_one) ∙ now_open.apart k p at));
@@ -232,7 +231,7 @@ module _ (config : Config) (over : Phase) (list : List Association) (parts : Lis
     each_but m apart (inr (j, p, at, number, u)) = inr (j, p, stays_at j p at (λ is_n. apart_from m n apart (sym number ∙ is_n)), number, u)
 
     pub flow_closed : Closing config over list new_parts (Close n ∷ past)
-    flow_closed = closed config over list parts past closing n here (λ m among. least_with m (now_open.each m among)) list new_parts (record {
+    flow_closed = closed (AreOpen list parts) config over past closing n here (λ m among. least_with m (now_open.each m among)) (AreOpen list new_parts) (record {
       each = λ m among. let was = was_among m n past among in each_but m was.0 (now_open.each m was.1);
       carry = λ m among. still_among m n past (now_open.carry m among) (λ same_one. true_false (sym among ∙ ap (λ x. is_among x (numbers list)) same_one ∙ unlisted));
       flow = λ j p at. let was = was_at j p at in still_among (number_of p) n past (now_open.flow j p was.0) was.1;
@@ -258,23 +257,87 @@ module _ (config : Config) (over : Phase) (list : List Association) (parts : Lis
         empty (x ∷ sockets) is = absurd (no_one x (now_open.each x (ap (is_among x) is ∙ ap (λ b. b || is_among x sockets) (same x))))
 
     none_due : Rests config past → due config past ≡ None
-    none_due (OverBy why is) =
-        due_in_phase config past (Over (By why)) is closing.served closing.idle
+    none_due (OverFor cause is) =
+        due_in_phase config past (Over cause) is closing.served closing.idle
         ∙ ap (λ (s : List ℕ). unless_due (option_map CallClose (first s)) (due_for config (step config past) (next_number past))) shut ∙ ap (λ s. due_for config s (next_number past)) (ap (step_of config past) closing.errand)
     none_due (AllWaited working) = due_in_phase config past Working working closing.served closing.idle ∙ ap (λ s. due_for config s (next_number past)) (ap (step_of config past) closing.errand)
-    none_due (NoneWaited started was_shut) = due_in_phase config past Started started closing.served closing.idle ∙ ap (λ s. due_for config s (next_number past)) (ap (step_of config past) closing.errand)
 
     pub all_closed : Ran config over past
     all_closed = (closing.lawful, record { ended = closing.ended; none_due = none_due closing.rests; closed = shut }, closing.is)
 
+-- ---- the sockets of forwards are closed before
+
+module _ (config : Config) (over : Phase) (n : ℕ) (forwards : List ℕ) (list : List Association) (parts : List (Option Splice)) (past : List Entry) (closing : ClosingWith config over (n ∷ forwards) list parts past) where
+  abbrev are_open_now : AreOpenWith (n ∷ forwards) list parts past
+  are_open_now = closing.sockets
+
+  least_here : (m : ℕ) → (is_among m (n ∷ forwards) ≡ true) ⊎ IsOf list parts m → n ≤ m
+  least_here m (inl among) = by (m == n) refl among
+    where
+      by : (b : Bool) → (m == n) ≡ b → (b || is_among m forwards) ≡ true → n ≤ m
+      by true is among = let it = equal m n is in omega (arith, it)
+      by false is among = let above = above_all n m forwards are_open_now.rising.1.1 among in omega (arith, above)
+  least_here m (inr of) = let less = are_open_now.first n m (ap (λ b. b || is_among n forwards) (same n)) of in omega (arith, less)
+
+  other_than : (m : ℕ) → IsOf list parts m → m ≡ n → ⊥
+  other_than m of is = let less = are_open_now.first n m (ap (λ b. b || is_among n forwards) (same n)) of in omega (arith, less, is)
+
+  each_behind : (m : ℕ) → not (m == n) ≡ true → (is_among m (n ∷ forwards) ≡ true) ⊎ IsOf list parts m → (is_among m forwards ≡ true) ⊎ IsOf list parts m
+  each_behind m apart (inl among) = inl (by (m == n) apart among)
+    where
+      by : (b : Bool) → not b ≡ true → (b || is_among m forwards) ≡ true → is_among m forwards ≡ true
+      by true apart among = cc
+      by false apart among = among
+  each_behind m apart (inr of) = inr of
+
+  pub forward_closed : ClosingWith config over forwards list parts (Close n ∷ past)
+  forward_closed = closed (AreOpenWith (n ∷ forwards) list parts) config over past closing n (are_open_now.forward n (ap (λ b. b || is_among n forwards) (same n))) (λ m among. least_here m (are_open_now.each m among)) (AreOpenWith forwards list parts) (record {
+    each = λ m among. let was = was_among m n past among in each_behind m was.0 (are_open_now.each m was.1);
+    forward = λ m among. still_among m n past (are_open_now.forward m (or_second (m == n) (is_among m forwards) among)) (λ is. let above = above_all n m forwards are_open_now.rising.1.1 among in omega (arith, above, is));
+    carry = λ m among. still_among m n past (are_open_now.carry m among) (other_than m (inl among));
+    flow = λ k p at. still_among (number_of p) n past (are_open_now.flow k p at) (other_than (number_of p) (inr (k, p, at, refl, tt)));
+    apart = are_open_now.apart;
+    rising = (are_open_now.rising.0, are_open_now.rising.1.2);
+    first = λ m j among of. are_open_now.first m j (or_second (m == n) (is_among m forwards) among) of;
+  })
+
+-- once none is left the others are
+pub no_forwards : (config : Config) (over : Phase) (list : List Association) (parts : List (Option Splice)) (past : List Entry) → ClosingWith config over [] list parts past → Closing config over list parts past
+no_forwards config over list parts past closing = record {
+  lawful = closing.lawful;
+  ended = closing.ended;
+  is = closing.is;
+  rests = closing.rests;
+  errand = closing.errand;
+  served = closing.served;
+  idle = closing.idle;
+  sockets = record {
+    each = λ n among. others n (closing.sockets.each n among);
+    carry = closing.sockets.carry;
+    flow = closing.sockets.flow;
+    apart = closing.sockets.apart;
+  };
+}
+  where
+    others : (n : ℕ) → (false ≡ true) ⊎ IsOf list parts n → IsOf list parts n
+    others n (inl never) = cc
+    others n (inr of) = of
+
+-- the first of them is closed next
+pub closes_forward : (first : List ℕ) (n : ℕ) (rest : List ℕ) (list : List Association) (parts : List (Option Splice)) (made : List Entry) → ClosesForwards first (n ∷ rest) list parts made → ClosesForwards first rest list parts (Close n ∷ made)
+closes_forward first n rest list parts made closes config over past closing = forward_closed config over n rest list parts (made ++ past) (closes config over past closing)
+
 -- ---- one after another
 
-pub closes_on : (first old new : List Association) (first_parts old_parts new_parts : List (Option Splice)) (made more : List Entry) → ClosesNext true first old first_parts old_parts made → ClosesNext true old new old_parts new_parts more
-    → ClosesNext true first new first_parts new_parts (more ++ made)
-closes_on first old new first_parts old_parts new_parts made more closes later config over past closing =
+pub closes_first : (forwards : List Opened) (list : List Association) (parts : List (Option Splice)) (made : List Entry) → ClosesForwards (forward_sockets forwards) [] list parts made → ClosesOn forwards list list parts parts made
+closes_first forwards list parts made closes config over past closing = no_forwards config over list parts (made ++ past) (closes config over past closing)
+
+pub closes_on : (forwards : List Opened) (first old new : List Association) (first_parts old_parts new_parts : List (Option Splice)) (made more : List Entry) → ClosesOn forwards first old first_parts old_parts made
+    → ClosesNext true old new old_parts new_parts more → ClosesOn forwards first new first_parts new_parts (more ++ made)
+closes_on forwards first old new first_parts old_parts new_parts made more closes later config over past closing =
     subst (Closing config over new new_parts) (sym (append_assoc more made past)) (later config over (made ++ past) (closes config over past closing))
 
-pub closes_last : (first old new : List Association) (first_parts old_parts new_parts : List (Option Splice)) (made more : List Entry) → ClosesNext true first old first_parts old_parts made → ClosesNext false old new old_parts new_parts more
-    → ClosesAll first first_parts (more ++ made)
-closes_last first old new first_parts old_parts new_parts made more closes later config over past closing =
+pub closes_last : (forwards : List Opened) (first old new : List Association) (first_parts old_parts new_parts : List (Option Splice)) (made more : List Entry) → ClosesOn forwards first old first_parts old_parts made
+    → ClosesNext false old new old_parts new_parts more → ClosesAll forwards first first_parts (more ++ made)
+closes_last forwards first old new first_parts old_parts new_parts made more closes later config over past closing =
     subst (Ran config over) (sym (append_assoc more made past)) (later config over (made ++ past) (closes config over past closing))

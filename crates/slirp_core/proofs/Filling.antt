@@ -15,28 +15,31 @@ use Rattle.spliced_flows.specs.Core.{number_of}
 use Rattle.tcp_flows.specs.Reading.{AreAbove, AreRising, AreWantsOf, want_of}
 use Rattle.udp_assoc.specs.Associations.{numbers}
 use Rattle.spliced_flows.proofs.Options.{true_false}
-use Rattle.slirp_core.specs.Pumps.{TcpOnce, WantsOf, is_settled, link_want, udp_want, socket_wants}
+use Rattle.slirp_core.specs.Pumps.{TcpOnce, WantsOf, is_settled, link_want, listener_want, listeners_of, udp_want, socket_wants}
 use Rattle.slirp_core.specs.State.{SlirpState}
 
 -- the link, then the sockets where they are wanted, and what flows wait for
-pub wants_of : (slirp : SlirpState) (link : LinkState) (wants flows : List Want) (read write : Bool) (sockets : List ℕ) → read ≡ is_settled slirp link → write ≡ link.blocked → IsPermutation (numbers slirp.associations) sockets → IsNonDecreasing sockets
-    → AreWantsOf slirp.flows.flows.parts flows → wants ≡ (link_want read write ++ socket_wants read sockets) ++ flows → WantsOf slirp link wants
-wants_of slirp link wants flows read write sockets settled blocked all rising of_flows is = record {
+pub wants_of : (slirp : SlirpState) (link : LinkState) (wants flows : List Want) (read write : Bool) (listeners sockets : List ℕ) → read ≡ is_settled slirp link → write ≡ link.blocked → listeners ≡ listeners_of slirp
+    → IsPermutation (numbers slirp.associations) sockets → IsNonDecreasing sockets
+    → AreWantsOf slirp.flows.flows.parts flows → wants ≡ ((link_want read write ++ map listener_want listeners) ++ socket_wants read sockets) ++ flows → WantsOf slirp link wants
+wants_of slirp link wants flows read write listeners sockets settled blocked listen all rising of_flows is = record {
   sockets = sockets;
   all = all;
   rising = rising;
   flows = flows;
   of_flows = of_flows;
   is =
-      is ∙ ap (λ (b : Bool). (link_want b write ++ socket_wants b sockets) ++ flows) settled
-      ∙ ap (λ (b : Bool). (link_want (is_settled slirp link) b ++ socket_wants (is_settled slirp link) sockets) ++ flows) blocked;
+      is ∙ ap (λ (b : Bool). ((link_want b write ++ map listener_want listeners) ++ socket_wants b sockets) ++ flows) settled
+      ∙ ap (λ (b : Bool). ((link_want (is_settled slirp link) b ++ map listener_want listeners) ++ socket_wants (is_settled slirp link) sockets) ++ flows) blocked
+      ∙ ap (λ l. ((link_want (is_settled slirp link) link.blocked ++ map listener_want l) ++ socket_wants (is_settled slirp link) sockets) ++ flows) listen;
 }
 
 -- all is wanted for reading
-pub all_read : (read write : Bool) (sockets : List ℕ) → (read && not write) ≡ true → link_want true false ++ socket_wants true sockets ≡ link_want read write ++ socket_wants read sockets
-all_read true false sockets is = refl
-all_read true true sockets is = cc
-all_read false write sockets is = cc
+pub all_read : (read write : Bool) (listeners sockets : List ℕ) → (read && not write) ≡ true
+    → (link_want true false ++ map listener_want listeners) ++ socket_wants true sockets ≡ (link_want read write ++ map listener_want listeners) ++ socket_wants read sockets
+all_read true false listeners sockets is = refl
+all_read true true listeners sockets is = cc
+all_read false write listeners sockets is = cc
 
 -- what is wanted has a direction
 pub link_wants : (read write : Bool) → IsTrue (are_wants (link_want read write))
@@ -51,18 +54,29 @@ few_wants true false = omega arith
 few_wants false true = omega arith
 few_wants false false = omega arith
 
-pub one_more : (wants : List Want) (number : ℕ) → number < 2 ^ 64 → AreWants wants → AreWants (wants ++ (udp_want number ∷ []))
-one_more [] number fits are = ap (λ b. b && true) (small number fits)
+more_of : (wants : List Want) (w : Want) → (w.read || w.write) ≡ true → is_who w.of ≡ true → AreWants wants → AreWants (wants ++ (w ∷ []))
+more_of [] w some who are = both (w.read || w.write) (is_who w.of) some who
   where
-    small : (n : ℕ) → n < 2 ^ 64 → nat_lt n (2 ^ 64) ≡ true
-    small n fits = grind (arith, nat_tests, fits)
-one_more (want ∷ wants) number fits are = more (want.read || want.write) (is_who want.of) (are_wants wants) (are_wants (wants ++ (udp_want number ∷ []))) are (λ rest. one_more wants number fits rest)
+    both : (a b : Bool) → a ≡ true → b ≡ true → (a && b && true) ≡ true
+    both true true one two = refl
+    both true false one two = cc
+    both false b one two = cc
+more_of (want ∷ wants) w some who are = more (want.read || want.write) (is_who want.of) (are_wants wants) (are_wants (wants ++ (w ∷ []))) are (λ rest. more_of wants w some who rest)
   where
     more : (a b c d : Bool) → (a && b && c) ≡ true → (c ≡ true → d ≡ true) → (a && b && d) ≡ true
     more true true true d is goes = goes refl
     more true true false d is goes = cc
     more true false c d is goes = cc
     more false b c d is goes = cc
+
+small_number : (n : ℕ) → n < 2 ^ 64 → nat_lt n (2 ^ 64) ≡ true
+small_number n fits = grind (arith, nat_tests, fits)
+
+pub one_more : (wants : List Want) (number : ℕ) → number < 2 ^ 64 → AreWants wants → AreWants (wants ++ (udp_want number ∷ []))
+one_more wants number fits are = more_of wants (udp_want number) refl (small_number number fits) are
+
+pub one_listener_more : (wants : List Want) (number : ℕ) → number < 2 ^ 64 → AreWants wants → AreWants (wants ++ (listener_want number ∷ []))
+one_listener_more wants number fits are = more_of wants (listener_want number) refl (small_number number fits) are
 
 -- ---- what flows wait for has directions, too
 
@@ -134,10 +148,14 @@ link_once true write wants once = (λ m of. cc, once)
 link_once false true wants once = (λ m of. cc, once)
 link_once false false wants once = once
 
-pub all_once : (read write : Bool) (sockets : List ℕ) (flows : List Want) → AreRising flows → TcpOnce ((link_want read write ++ socket_wants read sockets) ++ flows)
-all_once read write sockets flows rising =
-    subst TcpOnce (sym (append_assoc (link_want read write) (socket_wants read sockets) flows))
-    (link_once read write (socket_wants read sockets ++ flows) (wanted_once read sockets flows (rising_once flows rising)))
+listeners_once : (listeners : List ℕ) (wants : List Want) → TcpOnce wants → TcpOnce (map listener_want listeners ++ wants)
+listeners_once [] wants once = once
+listeners_once (n ∷ listeners) wants once = (λ m of. cc, listeners_once listeners wants once)
+
+pub all_once : (read write : Bool) (listeners sockets : List ℕ) (flows : List Want) → AreRising flows → TcpOnce (((link_want read write ++ map listener_want listeners) ++ socket_wants read sockets) ++ flows)
+all_once read write listeners sockets flows rising =
+    subst TcpOnce (sym (append_assoc (link_want read write ++ map listener_want listeners) (socket_wants read sockets) flows ∙ append_assoc (link_want read write) (map listener_want listeners) (socket_wants read sockets ++ flows)))
+    (link_once read write (map listener_want listeners ++ (socket_wants read sockets ++ flows)) (listeners_once listeners (socket_wants read sockets ++ flows) (wanted_once read sockets flows (rising_once flows rising))))
 
 -- ---- what stands once is what is waited for
 

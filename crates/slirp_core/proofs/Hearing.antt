@@ -140,7 +140,8 @@ module _ (config : Config) (at : Standing) (slirp : SlirpState) (kept : Kept) (l
         answers = record { sent = leaves.counted ∙ comes.sent; pending = leaves.left ∙ owed };
         guests = record { settings = guests.settings; known = guests.known; fragments = record { held = fragments.held; is_held = fragments.is_held; wait = fragments.wait } };
         relayed = record { list = others.list ∙ comes.relayed.list; asks = asks_nothing config slirp.associations (errand_left config (made ++ past)) then_is.work.errand };
-        services = record { leases = others.leases ∙ comes.services.leases; unresolved = comes.services.unresolved; unbound = comes.services.unbound };
+        services = record { leases = others.leases ∙ comes.services.leases; connections = comes.services.connections; unresolved = comes.services.unresolved; unbound = comes.services.unbound };
+        forwards = comes.forwards;
         flows = record { holds = then_is.holds; settings = then_is.settings; unit = comes.unit };
         sockets = record { number = leaves.next ∙ comes.sockets.number; kinds = sockets_left config past made others comes.sockets.kinds };
         clock = record { moment = then_is.at; counted = others.waits ∙ comes.clock.counted };
@@ -216,7 +217,8 @@ module _ (config : Config) (at : Standing) (slirp : SlirpState) (kept : Kept) (l
               answers = record { sent = comes.sent; pending = owed };
               guests = guests_stay config slirp (record slirp { number = slirp.number + 1; pending = pending }) e past refl refl comes.guests;
               relayed = record { list = comes.relayed.list; asks = comes.relayed.asks };
-              services = record { leases = comes.services.leases; unresolved = comes.services.unresolved; unbound = comes.services.unbound };
+              services = record { leases = comes.services.leases; connections = comes.services.connections; unresolved = comes.services.unresolved; unbound = comes.services.unbound };
+              forwards = comes.forwards;
               flows = record { holds = then_is.holds; settings = then_is.settings; unit = comes.unit };
               sockets = record { number = ap (λ n. n + 1) comes.sockets.number; kinds = kinds_joined slirp.number to answer past comes.sockets.kinds };
               clock = record { moment = comes.clock.moment; counted = comes.clock.counted };

@@ -6,6 +6,7 @@ pub mod Closing
 pub mod Counted
 pub mod Datagramming
 pub mod Filling
+pub mod Given
 pub mod Guests
 pub mod NextFrames
 pub mod Parts

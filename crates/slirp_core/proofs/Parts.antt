@@ -133,7 +133,7 @@ carried_by config at s slirp f link past holds n = carried config slirp.associat
 -- a turn has begun, where that is against what is so before
 pub in_turn : {config : Config} {step : Step} {slirp : SlirpState} {kept : Kept} {link : LinkState} {past : List Entry} → Stands config step slirp kept link past → (Unbegun config step slirp link past → ⊥) → InTurn config past
 in_turn (Turns turn) not_before = turn
-in_turn (Begins unbegun free unrested shut) not_before = absurd (not_before unbegun)
+in_turn (Begins unbegun free unrested) not_before = absurd (not_before unbegun)
 
 -- ---- parts that an entry leaves
 
@@ -207,9 +207,9 @@ pub record Changes (config : Config) (after : Standing) (step : Step) (new : Sli
 
 -- and the rest stays
 pub after_socket : (config : Config) (at after : Standing) (step new_step : Step) (slirp new : SlirpState) (f : Flowing) (link : LinkState) (e : Entry) (past : List Entry) → IsOnSocket e
-    → of_guests new ≡ of_guests slirp → new.moment ≡ slirp.moment → new.leases ≡ slirp.leases → after.count ≡ at.count → InTurn config past
+    → of_guests new ≡ of_guests slirp → new.moment ≡ slirp.moment → new.leases ≡ slirp.leases → new.forwards ≡ slirp.forwards → after.count ≡ at.count → InTurn config past
     → HoldsAt config at step slirp f link past → Changes config after new_step new e past → HoldsAt config after new_step new f link (e ∷ past)
-after_socket config at after step new_step slirp new f link e past on same_guests same_moment same_leases same_count turn holds changes = record {
+after_socket config at after step new_step slirp new f link e past on same_guests same_moment same_leases same_forwards same_count turn holds changes = record {
   lawful = (changes.may, holds.lawful);
   allowed = (changes.allowed, holds.allowed);
   keeps = link_stays link e past on holds.keeps;
@@ -217,6 +217,7 @@ after_socket config at after step new_step slirp new f link e past on same_guest
   guests = guests_stay config slirp new e past (brings_none config e past on) same_guests holds.guests;
   relayed = changes.relayed;
   services = services_stay config slirp new e past (brings_none config e past on) same_leases holds.services;
+  forwards = same_forwards ∙ holds.forwards;
   flows = subst (λ m. OfFlows config f m (e ∷ past)) (sym same_moment) (flows_on config f slirp.moment e past on changes.own holds.lawful holds.flows);
   sockets = changes.sockets;
   clock = clock_stays at after slirp new e past on same_moment same_count holds.clock;

@@ -19,7 +19,8 @@ use Rattle.stream_netdev.specs.Keeps.{Keeps, Writes, Settles}
 use Rattle.stream_netdev.specs.Offers.{offered}
 use Rattle.stream_netdev.specs.State.{LinkState}
 use Rattle.stream_netdev.specs.declared.Offered.{Offered}
-use Rattle.slirp_core.specs.Holds.{Standing, InTurn, AfterPump, AreOpen, Flowing, Holds, OfFlows, Turns, LeavesBehind, LeavesRest}
+use Rattle.slirp_core.specs.Forwards.{forward_sockets}
+use Rattle.slirp_core.specs.Holds.{Standing, InTurn, AfterPump, AreOpenWith, Flowing, Holds, OfFlows, Turns, LeavesBehind, LeavesRest}
 use Rattle.slirp_core.specs.Outgoing.{sent_after}
 use Rattle.slirp_core.specs.Pumps.{pumped_of, keep}
 use Rattle.slirp_core.specs.State.{SlirpState}
@@ -63,7 +64,8 @@ after_write config at slirp new_slirp f old new past octets answer blocked holds
         list = holds.relayed.list ∙ sym (ap (λ (s : SlirpState). s.associations) same);
         asks = asks_nothing config new_slirp.associations (errand_left config past) (errand_for config Settled slirp past holds.relayed);
       };
-      services = record { leases = holds.services.leases ∙ sym (ap (λ (s : SlirpState). s.leases) same); unresolved = holds.services.unresolved; unbound = holds.services.unbound };
+      services = record { leases = holds.services.leases ∙ sym (ap (λ (s : SlirpState). s.leases) same); connections = holds.services.connections; unresolved = holds.services.unresolved; unbound = holds.services.unbound };
+      forwards = ap (λ (s : SlirpState). s.forwards) same ∙ holds.forwards;
       flows = subst (λ m. OfFlows config f m (LinkWrite octets a ∷ past)) (sym (ap (λ (s : SlirpState). s.moment) same)) (flows a);
       sockets = record { number = holds.sockets.number ∙ sym (ap (λ (s : SlirpState). s.number) same); kinds = holds.sockets.kinds };
       clock = record { moment = holds.clock.moment ∙ sym (ap (λ (s : SlirpState). s.moment) same); counted = holds.clock.counted };
@@ -72,7 +74,7 @@ after_write config at slirp new_slirp f old new past octets answer blocked holds
       open_yet = holds.open_yet;
     }
 
-    now_open : AreOpen slirp.associations f.kept.flows.parts past
+    now_open : AreOpenWith (forward_sockets slirp.forwards) slirp.associations f.kept.flows.parts past
     now_open = are_open config at Settled slirp f old past holds
 
     by_answer : (a : Io) (b : Bool) → Keeps new (LinkWrite octets a ∷ past) → Allowed (LinkWrite octets a) → Left config past octets a new_slirp → AfterPump (pumped_of (offered a) b) config at new_slirp f new (LinkWrite octets a ∷ past)
@@ -88,7 +90,7 @@ after_write config at slirp new_slirp f old new past octets answer blocked holds
       errand = errand_for config Settled slirp past holds.relayed;
       served = none_due_for_services config (LinkWrite octets Failed ∷ past) holds.services.unresolved;
       idle = (flows Failed).holds.asked;
-      sockets = subst (λ (s : SlirpState). AreOpen s.associations f.kept.flows.parts (LinkWrite octets Failed ∷ past)) (sym same) (record { each = now_open.each; carry = now_open.carry; flow = now_open.flow; apart = now_open.apart });
+      sockets = subst (λ (s : SlirpState). AreOpenWith (forward_sockets s.forwards) s.associations f.kept.flows.parts (LinkWrite octets Failed ∷ past)) (sym same) (record { each = now_open.each; forward = now_open.forward; carry = now_open.carry; flow = now_open.flow; apart = now_open.apart; rising = now_open.rising; first = now_open.first });
     }
 
 -- a write of the rest of a frame

@@ -39,7 +39,8 @@ use Rattle.stream_netdev.specs.Keeps.{Keeps, ReadsFrame, hands, ending_of}
 use Rattle.stream_netdev.specs.State.{LinkState}
 use Rattle.stream_netdev.specs.declared.Arrived.{Arrived}
 use Rattle.slirp_core.specs.Fragments.{IsHeld}
-use Rattle.slirp_core.specs.Holds.{asked_by, InTurn, IsLast, standing, Comes, Ended, Holds, HoldsAt, OfFlows, OfSockets, Turns, flowing}
+use Rattle.slirp_core.specs.Forwards.{forward_sockets}
+use Rattle.slirp_core.specs.Holds.{AreOpenWith, asked_by, InTurn, IsLast, standing, Comes, Ended, Holds, HoldsAt, OfFlows, OfSockets, Turns, flowing}
 use Rattle.slirp_core.specs.Packets.{with_frame}
 use Rattle.slirp_core.specs.Services.{OfServices}
 use Rattle.slirp_core.specs.State.{SlirpState, serving_of}
@@ -55,6 +56,7 @@ use Rattle.slirp_core.proofs.Waitings.{fragments_stay, fragments_take}
 use Rattle.tcp_flows.specs.Kept.{Kept}
 use Rattle.slirp_core.proofs.Flows.{flows_stay}
 use Rattle.slirp_core.proofs.Services.{none_due_for_services, serving_is}
+use Rattle.slirp_core.proofs.Given.{all_given}
 use Rattle.slirp_core.proofs.Open.{open_by}
 
 -- reads of a frame, before the last
@@ -111,6 +113,7 @@ module _ (config : Config) (count : ℕ) (wants : List Want) (item : Want) (item
           fragments = fragments_stay config slirp slirp e (made ++ past) frame refl before.fragments;
           serves = record {
             leases = ap (λ o. leases_by config (moment (made ++ past)) (option_map (arrival_of config (moment (made ++ past)) (waiting config (made ++ past))) o) (leases config (made ++ past))) frame ∙ before.serves.leases;
+            connections = before.serves.connections;
             unresolved = before.serves.unresolved;
             unbound = before.serves.unbound;
           };
@@ -329,7 +332,8 @@ module _ (config : Config) (count : ℕ) (wants : List Want) (item : Want) (item
         guests = guests_learn config slirp then_is (hands answer new) (made ++ past) holds.guests.settings
             (all.known_is ∙ ap (λ o. with_frame config o slirp.known) r.1.frame) refl refl (all.fragments then_is (subst (λ o. KeepsParts config slirp then_is o) (sym r.1.frame) (kept_as (hands answer new) new_slirp keeps)));
         relayed = record { list = all.list; asks = ap (asked_by config slirp.associations) (all.asks ∙ ap (errand_by_packet config) arrived_is) };
-        services = record { leases = all.lent ∙ ap (λ p. leases_by_packet config slirp.moment p slirp.leases) arrived_is; unresolved = holds.services.unresolved; unbound = holds.services.unbound };
+        services = record { leases = all.lent ∙ ap (λ p. leases_by_packet config slirp.moment p slirp.leases) arrived_is; connections = holds.services.connections; unresolved = holds.services.unresolved; unbound = holds.services.unbound };
+        forwards = holds.forwards;
         flows = record { holds = was.holds; settings = was.settings; unit = was.unit };
         sockets = all.sockets;
         clock = record { moment = all.clock; counted = all.counted };
@@ -381,7 +385,8 @@ module _ (config : Config) (count : ℕ) (wants : List Want) (item : Want) (item
         guests = guests_learn config slirp then_is (hands answer new) (made ++ past) holds.guests.settings
             (all.known_is ∙ ap (λ o. with_frame config o slirp.known) r.1.frame) refl refl (all.fragments then_is (subst (λ o. KeepsParts config slirp then_is o) (sym r.1.frame) (kept_as (hands answer new) new_slirp keeps)));
         relayed = record { list = all.list; asks = ap (asked_by config slirp.associations) unasked };
-        services = record { leases = all.lent ∙ ap (λ p. leases_by_packet config slirp.moment p slirp.leases) (arrived_is ∙ seg); unresolved = holds.services.unresolved; unbound = holds.services.unbound };
+        services = record { leases = all.lent ∙ ap (λ p. leases_by_packet config slirp.moment p slirp.leases) (arrived_is ∙ seg); connections = holds.services.connections; unresolved = holds.services.unresolved; unbound = holds.services.unbound };
+        forwards = holds.forwards;
         learnt = all.taught_it mac ip tcp (arrived_is ∙ seg);
         unit = holds.flows.unit;
         sockets = all.sockets;
@@ -396,7 +401,7 @@ module _ (config : Config) (count : ℕ) (wants : List Want) (item : Want) (item
       kept_as (Some frame) other keeps = keeps
 
   -- the run has ended
-  pub read_ends_it : (why : Ending) → ending_of answer ≡ Some why → hands answer new ≡ None → Ended config why slirp.associations kept.flows.parts (made ++ past)
+  pub read_ends_it : (why : Ending) → ending_of answer ≡ Some why → hands answer new ≡ None → Ended config why slirp.forwards slirp.associations kept.flows.parts (made ++ past)
   read_ends_it why is none =
       let r = read past holds.keeps in
       let nothing : packet_of config slirp.moment wait (arrived (made ++ past)) ≡ Unheard = ap (packet_of config slirp.moment wait) (r.1.frame ∙ none) in
@@ -407,5 +412,7 @@ module _ (config : Config) (count : ℕ) (wants : List Want) (item : Want) (item
         errand = all.asks ∙ ap (errand_by_packet config) nothing;
         served = none_due_for_services config (made ++ past) holds.services.unresolved;
         idle = flows.holds.asked;
-        sockets = open_by config slirp.associations (flowing false kept) slirp.moment (made ++ past) holds.services.unresolved all.lawful all.list flows.holds all.sockets.kinds;
+        sockets = subst (λ l. AreOpenWith (forward_sockets l) slirp.associations kept.flows.parts (made ++ past)) (sym holds.forwards)
+            (open_by config slirp.associations (flowing false kept) slirp.moment (made ++ past) holds.services.unresolved all.lawful all.list flows.holds all.sockets.kinds
+            (all_given config holds.services.unresolved holds.services.connections (made ++ past) all.lawful (Over (By why)) (all.phase_is ∙ ap over_by (r.1.last ∙ is)) refl) all.open_yet);
       }

@@ -173,7 +173,7 @@ module _ (config : Config) (at : Standing) (slirp : SlirpState) (f : Flowing) (l
     pub after_open : Allowed (UdpOpen slirp.number anywhere MadeDone) → HoldsAt config at (NeedsSending slirp.number errand)
         (record slirp { number = slirp.number + 1; associations = slirp.associations ++ (association slirp.number errand slirp.moment ∷ []) }) f link (UdpOpen slirp.number anywhere MadeDone ∷ past)
     after_open allowed = after_socket config at at (NeedsSocket errand) (NeedsSending slirp.number errand) slirp
-        (record slirp { number = slirp.number + 1; associations = slirp.associations ++ (association slirp.number errand slirp.moment ∷ []) }) f link (UdpOpen slirp.number anywhere MadeDone) past tt refl refl refl refl turn holds (record {
+        (record slirp { number = slirp.number + 1; associations = slirp.associations ++ (association slirp.number errand slirp.moment ∷ []) }) f link (UdpOpen slirp.number anywhere MadeDone) past tt refl refl refl refl refl turn holds (record {
           may = may_open;
           allowed = allowed;
           own = tt;
@@ -194,7 +194,7 @@ module _ (config : Config) (at : Standing) (slirp : SlirpState) (f : Flowing) (l
     pub after_refusal : Allowed (UdpOpen slirp.number anywhere MadeFailed) → Holds config at
         (record slirp { number = slirp.number + 1; pending = frames_of slirp.config slirp.sent (told_about slirp.config no_network errand.datagram) }) f link (UdpOpen slirp.number anywhere MadeFailed ∷ past)
     after_refusal allowed = after_socket config at at (NeedsSocket errand) Settled slirp
-        (record slirp { number = slirp.number + 1; pending = frames_of slirp.config slirp.sent (told_about slirp.config no_network errand.datagram) }) f link (UdpOpen slirp.number anywhere MadeFailed) past tt refl refl refl refl turn holds (record {
+        (record slirp { number = slirp.number + 1; pending = frames_of slirp.config slirp.sent (told_about slirp.config no_network errand.datagram) }) f link (UdpOpen slirp.number anywhere MadeFailed) past tt refl refl refl refl refl turn holds (record {
           may = may_open;
           allowed = allowed;
           own = tt;
@@ -227,7 +227,7 @@ module _ (config : Config) (at : Standing) (slirp : SlirpState) (f : Flowing) (l
         let e = UdpSend socket errand.to errand.datagram.body answer in
         let moved = record slirp { associations = moved_last (sent_from (record { 0 = errand.datagram.mac }) slirp.moment) socket slirp.associations; pending = new.pending } in
         subst (λ s. Holds config at s f link (e ∷ past)) (sym is)
-        (after_socket config at at (NeedsSending socket errand) Settled slirp moved f link e past tt refl refl refl refl send_turn holds (record {
+        (after_socket config at at (NeedsSending socket errand) Settled slirp moved f link e past tt refl refl refl refl refl send_turn holds (record {
           may = may_send;
           allowed = allowed;
           own = tt;
@@ -269,7 +269,7 @@ module _ (config : Config) (at : Standing) (slirp : SlirpState) (f : Flowing) (l
 
     parted_from : MayDue config past (CallClose socket) → parts config past socket ≡ true → asked_by config (without socket slirp.associations) (errand_left config past) ≡ new_step
         → HoldsAt config at new_step (record slirp { associations = without socket slirp.associations }) f link (Close socket ∷ past)
-    parted_from may_due why comes = after_socket config at at step new_step slirp (record slirp { associations = without socket slirp.associations }) f link (Close socket) past tt refl refl refl refl turn holds (record {
+    parted_from may_due why comes = after_socket config at at step new_step slirp (record slirp { associations = without socket slirp.associations }) f link (Close socket) past tt refl refl refl refl refl turn holds (record {
       may = closes config past socket may_due (or_first (is_working (phase config past)) (is_over (phase config past)) (ap is_working turn.working))
           (and_both (is_among socket (open_sockets past)) _ here
           (ap (λ (b : Bool). if b then is_least socket (open_sockets past) else parts config past socket || (is_ended config past && is_least socket (open_sockets past))) holds.open_yet
@@ -352,7 +352,7 @@ module _ (config : Config) (count : ℕ) (wants : List Want) (item : Want) (item
   after_hearing peer count octets allowed =
       let e = UdpRecv socket size (From peer count) octets in
       after_socket config before behind_it Settled Settled slirp
-      (record slirp { associations = moved_last (heard_at slirp.moment) socket slirp.associations; pending = frames_of slirp.config slirp.sent (reply_at slirp.config peer octets a.guest a.mac.0) }) f link e past tt refl refl refl refl hear_turn holds (record {
+      (record slirp { associations = moved_last (heard_at slirp.moment) socket slirp.associations; pending = frames_of slirp.config slirp.sent (reply_at slirp.config peer octets a.guest a.mac.0) }) f link e past tt refl refl refl refl refl hear_turn holds (record {
         may = may_hear;
         allowed = allowed;
         own = tt;
@@ -375,7 +375,7 @@ module _ (config : Config) (count : ℕ) (wants : List Want) (item : Want) (item
   heard_nothing : (answer : Got) (octets : List ℕ) → Allowed (UdpRecv socket size answer octets) → left config (UdpRecv socket size answer octets ∷ past) ≡ slirp.pending
       → associations config (UdpRecv socket size answer octets ∷ past) ≡ associations config past → Holds config behind_it slirp f link (UdpRecv socket size answer octets ∷ past)
   heard_nothing answer octets allowed owes same_list =
-      after_socket config before behind_it Settled Settled slirp slirp f link (UdpRecv socket size answer octets) past tt refl refl refl refl hear_turn holds (record {
+      after_socket config before behind_it Settled Settled slirp slirp f link (UdpRecv socket size answer octets) past tt refl refl refl refl refl hear_turn holds (record {
         may = may_hear;
         allowed = allowed;
         own = tt;

@@ -208,10 +208,11 @@ none_due_for_services config past none =
 pub services_stay : (config : Config) (slirp new : SlirpState) (e : Entry) (past : List Entry) → (happens config past e).came ≡ None → new.leases ≡ slirp.leases → OfServices config slirp past → OfServices config new (e ∷ past)
 services_stay config slirp new e past nothing same of = record {
   leases = ap (λ o. leases_by config (moment past) o (leases config past)) nothing ∙ of.leases ∙ sym same;
+  connections = of.connections;
   unresolved = of.unresolved;
   unbound = of.unbound;
 }
 
 -- no entry
 pub services_as : (config : Config) (slirp new : SlirpState) (past : List Entry) → new.leases ≡ slirp.leases → OfServices config slirp past → OfServices config new past
-services_as config slirp new past same of = record { leases = of.leases ∙ sym same; unresolved = of.unresolved; unbound = of.unbound }
+services_as config slirp new past same of = record { leases = of.leases ∙ sym same; connections = of.connections; unresolved = of.unresolved; unbound = of.unbound }

@@ -1,26 +1,40 @@
 -- How a run begins, and fragments that are dropped.
-use Rattle.std.proofs.Common.{◌≡◌, ℕ, ◌^◌, ◌≤◌, min, max, nat_le, ◌||◌, Bool, true, false, zero, suc, List, [], ◌∷◌, replicate, slice_get, Option, Some, None, refl, sym, ◌∙◌, ap, subst, arith}
+use Rattle.std.proofs.Common.{◌≡◌, ℕ, ◌+◌, ◌^◌, ◌<◌, ◌≤◌, ◌==◌, min, max, nat_le, ◌||◌, ◌⊎◌, Bool, true, false, zero, suc, List, [], ◌∷◌, ◌++◌, length, replicate, slice_get, Option, Some, None, inl, inr, refl, sym, ◌∙◌, ap, subst, arith, if◌then◌else◌}
 use Rattle.std.proofs.lemmas.Bool.Decides.{nat_tests}
 use Rattle.std.proofs.lemmas.List.{length-replicate}
-use Rattle.world_face.specs.Journal.{Entry, Allowed, Now}
+use Rattle.net_octets.specs.declared.Endpoint.{Endpoint}
+use Rattle.world_face.specs.Journal.{Entry, Allowed, CallListen, CallNow, Listen, Now}
 use Rattle.world_face.specs.Frames.{Ending}
+use Rattle.world_face.specs.declared.Made.{Made}
+use Rattle.world_face.specs.declared.Made.TheVariants.{Done, Failed}
 use Rattle.host_policy.specs.Addresses.{Config}
+use Rattle.host_policy.specs.declared.Forward.{Forward}
+use Rattle.host_policy.specs.declared.Proto.TheVariants.{Tcp}
+use Rattle.port_forward.specs.Opened.{Opened}
+use Rattle.udp_assoc.specs.Associations.{numbers}
 use Rattle.udp_assoc.specs.declared.assocs.Association.{Association}
 use Rattle.ipv4_head.specs.Sets.{PartSet, young}
 use Rattle.ipv4_reasm.specs.Areas.{Gathered}
-use Rattle.run_laws.specs.Shape.{Opening, Started, due_in, is_over, phase}
+use Rattle.run_laws.specs.Shape.{By, Opening, Over, Refused, Started, clocked, due_in, is_over, opened, opening_of as opening_call, phase}
 use Rattle.run_laws.specs.Moments.{waits}
-use Rattle.slirp_laws.specs.Datagrams.{Settled}
-use Rattle.slirp_laws.specs.Laws.{unless_due}
-use Rattle.slirp_laws.proofs.Deeds.{asks}
+use Rattle.run_laws.specs.Sockets.{Listener, is_among, kind_of, next_number, open_sockets, with_made}
+use Rattle.flow_book.specs.Book.{book}
+use Rattle.flow_book.specs.Lots.{due_for_flows}
+use Rattle.slirp_laws.specs.Asking.{step}
+use Rattle.slirp_laws.specs.Datagrams.{Settled, due_for}
+use Rattle.slirp_laws.specs.Laws.{May, due, due_for_services, unless_due}
+use Rattle.slirp_laws.proofs.Bools.{among_last, same}
+use Rattle.slirp_laws.proofs.Deeds.{asks, listens}
 use Rattle.stream_netdev.specs.State.{LinkState, under_way}
+use Rattle.slirp_core.specs.Forwards.{AreForConnections, forward_sockets, with_numbers}
 use Rattle.slirp_core.specs.Fragments.{IsHeld}
-use Rattle.slirp_core.specs.Holds.{OfGuests, Standing, after, Begins, Closing, Ended, Flowing, Holds, OfFlows, Rests, OverBy, AllWaited, NoneWaited, Stands, Turns, flowing}
+use Rattle.slirp_core.specs.Holds.{Standing, after, Begins, ClosingWith, Ended, Flowing, Holds, IsOf, OfFlows, Opens, Rests, OverFor, AllWaited, Stands, Turns, flowing, is_ours}
+use Rattle.slirp_core.specs.Sockets.{IsRising}
 use Rattle.slirp_core.specs.State.{SlirpState}
-use Rattle.slirp_core.proofs.Guests.{guests_begin, guests_forget}
+use Rattle.slirp_core.proofs.Guests.{guests_forget, guests_stay}
 use Rattle.dhcp_server.specs.declared.leases.Lease.TheVariants.{Free as LeaseFree}
 use Rattle.slirp_core.proofs.Parts.{errand_for}
-use Rattle.slirp_core.proofs.Services.{none_due_for_services}
+use Rattle.slirp_core.proofs.Services.{none_due_for_services, services_stay}
 use Rattle.slirp_core.proofs.Waitings.{fragments_dropped}
 use Rattle.flow_table.specs.Slots.{all_free}
 use Rattle.flow_table.specs.declared.Slot.TheVariants.{Free}
@@ -28,9 +42,11 @@ use Rattle.core_flows.specs.FlowsHold.{FlowsState}
 use Rattle.core_flows.proofs.Beginning.{seats_begin}
 use Rattle.flow_splice.specs.Splice.{Splice}
 use Rattle.spliced_flows.specs.Core.{CoreHolds, Following, number_of}
+use Rattle.spliced_flows.proofs.Options.{true_false}
 use Rattle.tcp_flows.specs.Kept.{IsFor, Kept}
 use Rattle.tcp_flows.specs.Reading.{NoneInSlots}
-use Rattle.slirp_core.proofs.Flows.{flows_told}
+use Rattle.slirp_core.proofs.Flows.{flows_stay, flows_told}
+use Rattle.slirp_core.proofs.Given.{given_rise}
 use Rattle.slirp_core.proofs.Open.{are_open}
 
 -- ---- fragments are dropped
@@ -38,8 +54,8 @@ use Rattle.slirp_core.proofs.Open.{are_open}
 -- where the turn is stays
 stands_so : (config : Config) (slirp : SlirpState) (parts : List Gathered) (kept : Kept) (link : LinkState) (past : List Entry) → Stands config Settled slirp kept link past → Stands config Settled (record slirp { parts = parts }) kept link past
 stands_so config slirp parts kept link past (Turns turn) = Turns turn
-stands_so config slirp parts kept link past (Begins u free unrested shut) =
-    Begins (record { started = u.started; unreported = u.unreported; unasked = u.unasked; alone = u.alone; nothing = u.nothing; empty = u.empty }) free unrested shut
+stands_so config slirp parts kept link past (Begins u free unrested) =
+    Begins (record { started = u.started; unwaited = u.unwaited; unreported = u.unreported; unasked = u.unasked; alone = u.alone; nothing = u.nothing; empty = u.empty }) free unrested
 
 pub forgets : (config : Config) (at : Standing) (slirp new : SlirpState) (f : Flowing) (link : LinkState) (past : List Entry) → new ≡ record slirp { parts = new.parts }
     → ((held : List PartSet) → IsHeld slirp.parts held → IsHeld new.parts (young slirp.moment held)) → Holds config at slirp f link past → Holds config at new f link past
@@ -51,7 +67,8 @@ forgets config at slirp new f link past same drops holds =
       answers = record { sent = holds.answers.sent; pending = holds.answers.pending };
       guests = guests_forget config slirp (record slirp { parts = new.parts }) past refl refl (fragments_dropped config slirp (record slirp { parts = new.parts }) past (sym holds.clock.moment) holds.guests.fragments (drops holds.guests.fragments.held holds.guests.fragments.is_held)) holds.guests;
       relayed = record { list = holds.relayed.list; asks = holds.relayed.asks };
-      services = record { leases = holds.services.leases; unresolved = holds.services.unresolved; unbound = holds.services.unbound };
+      services = record { leases = holds.services.leases; connections = holds.services.connections; unresolved = holds.services.unresolved; unbound = holds.services.unbound };
+      forwards = holds.forwards;
       flows = holds.flows;
       sockets = holds.sockets;
       clock = record { moment = holds.clock.moment; counted = holds.clock.counted };
@@ -69,10 +86,11 @@ pub record IsUnused (config : Config) (kept : Kept) : Type 0 where
   pub unit : 28 ≤ config.mtu
 
 -- a core that has served nothing, and its link
-pub record IsUnbegun (config : Config) (slirp : SlirpState) (kept : Kept) (link : LinkState) : Type 0 where
-  pub forwards : config.forwards ≡ []
+pub record IsUnbegun (config : Config) (slirp : SlirpState) (link : LinkState) : Type 0 where
+  pub forwards : slirp.forwards ≡ []
+  pub connections : AreForConnections config
   pub settings : slirp.config ≡ config
-  pub flows : IsUnused config kept
+  pub flows : IsUnused config slirp.flows
   pub known : slirp.known ≡ []
   pub sent : slirp.sent ≡ 0
   pub pending : slirp.pending ≡ []
@@ -111,37 +129,234 @@ unused_holds config kept now unused = record {
   unit = unused.unit;
 }
 
--- the clock was asked
-pub started : (config : Config) (slirp : SlirpState) (kept : Kept) (link : LinkState) (told : ℕ) → Allowed (Now told) → IsUnbegun config slirp kept link
-    → Holds config (after 0) (record slirp { moment = max (min told (2 ^ 62)) slirp.moment }) (flowing false kept) link (Now told ∷ [])
-started config slirp kept link told fine new = record {
-  lawful = (asks config [] (ap (λ f. unless_due (due_in (Opening 0 f) []) None) new.forwards) refl refl, tt);
-  allowed = (fine, tt);
-  keeps = record { framed = (tt, tt); partly = sym new.input; rest = sym new.output; blocked = sym new.free };
+-- nothing was done yet
+pub begun : (config : Config) (slirp : SlirpState) (link : LinkState) → IsUnbegun config slirp link → Opens config 0 slirp link []
+begun config slirp link new = record {
+  lawful = tt;
+  allowed = tt;
+  keeps = record { framed = tt; partly = sym new.input; rest = sym new.output; blocked = sym new.free };
   answers = record { sent = sym new.sent; pending = sym new.pending };
-  guests = subst (λ c. OfGuests c (record slirp { moment = max (min told (2 ^ 62)) slirp.moment }) (Now told ∷ [])) new.settings (guests_begin (record slirp { moment = max (min told (2 ^ 62)) slirp.moment }) (Now told) refl new.known new.parts);
+  guests = record {
+    settings = new.settings;
+    known = sym new.known;
+    fragments = record { held = []; is_held = subst (λ (areas : List Gathered). IsHeld areas []) (sym new.parts) (record { stand = tt; carry = tt }); wait = refl };
+  };
   relayed = record { list = sym new.associations; asks = refl };
-  services = record { leases = sym new.leases; unresolved = new.unresolved; unbound = new.unbound };
-  flows = flows_told config kept 0 (max (min told (2 ^ 62)) slirp.moment) told [] (omega arith) (unused_holds config kept 0 new.flows);
+  services = record { leases = sym new.leases; connections = new.connections; unresolved = new.unresolved; unbound = new.unbound };
+  open = [];
+  left = config.forwards;
+  all = refl;
+  many = refl;
+  forwards = new.forwards;
+  opening = refl;
+  are_open = sym (ap forward_sockets new.forwards);
+  flows = unused_holds config slirp.flows slirp.moment new.flows;
   sockets = record { number = sym new.number; kinds = λ n among. cc };
-  clock = record { moment = ap (max (min told (2 ^ 62))) (sym new.moment); counted = refl };
-  stands = Begins (record { started = phase_is; unreported = refl; unasked = refl; alone = new.associations; nothing = new.pending; empty = new.output }) (all_is_free config kept new.flows) refl refl;
-  agenda = ([], refl);
+  clock = record { moment = sym new.moment; counted = refl };
+  number = new.number;
+  unreported = refl;
+  none = all_is_free config slirp.flows new.flows;
+  unrested = refl;
+  alone = new.associations;
+  nothing = new.pending;
+  empty = new.output;
   open_yet = refl;
 }
+
+-- ---- a port of the host is opened
+
+kinds_listened : (number : ℕ) (at : Endpoint) (answer : Made) (past : List Entry) → ((n : ℕ) → is_among n (open_sockets past) ≡ true → is_ours (kind_of n past) ≡ true)
+    → (n : ℕ) → is_among n (with_made answer number (open_sockets past)) ≡ true → is_ours (kind_of n (Listen number at answer ∷ past)) ≡ true
+kinds_listened number at answer past kinds n among = by (number == n) refl
   where
-    phase_is : phase config (Now told ∷ []) ≡ Started
-    phase_is = refl
+    turned : (number == n) ≡ false → (n == number) ≡ false
+    turned is = grind (arith, nat_tests, is)
+
+    only : (a b : Bool) → b ≡ false → (a || b) ≡ true → a ≡ true
+    only true b is or = refl
+    only false b is or = cc
+
+    before : (a : Made) → (n == number) ≡ false → is_among n (with_made a number (open_sockets past)) ≡ true → is_among n (open_sockets past) ≡ true
+    before Done other is = only (is_among n (open_sockets past)) (n == number) other (sym (among_last n number (open_sockets past)) ∙ is)
+    before Failed other is = is
+
+    by : (b : Bool) → (number == n) ≡ b → is_ours (if b then Some Listener else kind_of n past) ≡ true
+    by true is = refl
+    by false is = kinds n (before answer (turned is) among)
+
+numbers_more : (n : ℕ) (fs : List Forward) (f : Forward) → with_numbers n (fs ++ f ∷ []) ≡ with_numbers n fs ++ (f, n + length fs) ∷ []
+numbers_more n [] f = ap (λ m. (f, m) ∷ []) (omega arith)
+numbers_more n (x ∷ fs) f = ap (λ l. (x, n) ∷ l) (numbers_more (n + 1) fs f ∙ ap (λ m. with_numbers (n + 1) fs ++ (f, m) ∷ []) (omega arith))
+
+sockets_more : (list : List Opened) (f : Forward) (n : ℕ) → forward_sockets (list ++ (f, n) ∷ []) ≡ forward_sockets list ++ n ∷ []
+sockets_more [] f n = refl
+sockets_more (x ∷ list) f n = ap (λ l. x.1 ∷ l) (sockets_more list f n)
+
+one_of : (xs : List Forward) (x : Forward) (ys : List Forward) → xs ++ x ∷ ys ≡ (xs ++ x ∷ []) ++ ys
+one_of [] x ys = refl
+one_of (y ∷ xs) x ys = ap (λ l. y ∷ l) (one_of xs x ys)
+
+length_more : (xs : List Forward) (x : Forward) → length (xs ++ x ∷ []) ≡ length xs + 1
+length_more [] x = refl
+length_more (y ∷ xs) x = let more = length_more xs x in omega (arith, more)
+
+-- the next of the settings is the first that is left
+pub next_left : (open left all : List Forward) (f : Forward) → all ≡ open ++ left → slice_get all (length open) ≡ Some f → (rest : List Forward) × (left ≡ f ∷ rest)
+next_left open left all f is at = behind open left f (sym (ap (λ l. slice_get l (length open)) is) ∙ at)
+  where
+    behind : (open left : List Forward) (f : Forward) → slice_get (open ++ left) (length open) ≡ Some f → (rest : List Forward) × (left ≡ f ∷ rest)
+    behind [] [] f at = absurd cc
+    behind [] (x ∷ left) f at = (left, ap (λ y. y ∷ left) (the_same x at))
+      where
+        the_same : (x : Forward) → Some x ≡ Some f → x ≡ f
+        the_same x is = cc
+    behind (y ∷ open) left f at = behind open left f at
+
+module _ (config : Config) (slirp : SlirpState) (link : LinkState) (past : List Entry) (opens : Opens config slirp.number slirp link past) (f : Forward) (rest : List Forward) (next : opens.left ≡ f ∷ rest) where
+  over_tcp : f.proto ≡ Tcp
+  over_tcp = opens.services.connections (length opens.open) f (ap (λ l. slice_get l (length opens.open)) (opens.all ∙ ap (λ l. opens.open ++ l) next) ∙ at_end opens.open)
+    where
+      at_end : (xs : List Forward) → slice_get (xs ++ f ∷ rest) (length xs) ≡ Some f
+      at_end [] = refl
+      at_end (x ∷ xs) = at_end xs
+
+  listen_due : due config past ≡ Some (CallListen slirp.number f.host)
+  listen_due =
+      ap (λ p. unless_due (due_in p past) (unless_due (due_for config (step config past) (next_number past)) (unless_due (due_for_services config past) (due_for_flows config (book config past) (next_number past)))))
+      (opens.opening ∙ ap (Opening slirp.number) next)
+      ∙ ap (λ proto. Some (opening_call proto (next_number past) f)) over_tcp ∙ ap (λ n. Some (CallListen n f.host)) opens.sockets.number
+
+  may_listen : May config past (CallListen slirp.number f.host)
+  may_listen = listens config past slirp.number f.host listen_due (ap (λ n. slirp.number == n) opens.sockets.number ∙ same slirp.number) opens.flows.holds.asked opens.open_yet
+
+  -- it is open
+  module _ (fine : Allowed (Listen slirp.number f.host Done)) where
+    abbrev pub with_one : SlirpState
+    with_one = record slirp { number = slirp.number + 1; forwards = slirp.forwards ++ (f, slirp.number) ∷ [] }
+
+    pub more_open : Opens config (slirp.number + 1) with_one link (Listen slirp.number f.host Done ∷ past)
+    more_open = record {
+      lawful = (may_listen, opens.lawful);
+      allowed = (fine, opens.allowed);
+      keeps = record { framed = (tt, opens.keeps.framed); partly = opens.keeps.partly; rest = opens.keeps.rest; blocked = opens.keeps.blocked };
+      answers = record { sent = opens.answers.sent; pending = opens.answers.pending };
+      guests = guests_stay config slirp with_one (Listen slirp.number f.host Done) past refl refl opens.guests;
+      relayed = record { list = opens.relayed.list; asks = opens.relayed.asks };
+      services = services_stay config slirp with_one (Listen slirp.number f.host Done) past refl refl opens.services;
+      open = opens.open ++ f ∷ [];
+      left = rest;
+      all = opens.all ∙ ap (λ l. opens.open ++ l) next ∙ one_of opens.open f rest;
+      many = ap (λ n. n + 1) opens.many ∙ sym (length_more opens.open f);
+      forwards = ap (λ l. l ++ (f, slirp.number) ∷ []) opens.forwards ∙ ap (λ n. with_numbers 0 opens.open ++ (f, n) ∷ []) opens.many ∙ sym (numbers_more 0 opens.open f);
+      opening = ap (λ p. opened Done p) (opens.opening ∙ ap (Opening slirp.number) next);
+      are_open = ap (λ l. l ++ slirp.number ∷ []) opens.are_open ∙ sym (sockets_more slirp.forwards f slirp.number);
+      flows = flows_stay config (flowing false slirp.flows) slirp.moment (Listen slirp.number f.host Done) past refl (omega arith) refl opens.flows;
+      sockets = record { number = ap (λ n. n + 1) opens.sockets.number; kinds = kinds_listened slirp.number f.host Done past opens.sockets.kinds };
+      clock = record { moment = opens.clock.moment; counted = opens.clock.counted };
+      number = refl;
+      unreported = opens.unreported;
+      none = opens.none;
+      unrested = opens.unrested;
+      alone = opens.alone;
+      nothing = opens.nothing;
+      empty = opens.empty;
+      open_yet = opens.open_yet;
+    }
+
+  -- the host refused it
+  pub refused : Allowed (Listen slirp.number f.host Failed)
+      → ClosingWith config (Over (Refused slirp.number)) (forward_sockets slirp.forwards) slirp.associations slirp.flows.flows.parts (Listen slirp.number f.host Failed ∷ past)
+  refused fine = record {
+    lawful = (may_listen, opens.lawful);
+    ended = ap (λ p. is_over p || nat_le config.turns (waits past)) phase_is;
+    is = sym phase_is;
+    rests = OverFor (Refused slirp.number) phase_is;
+    errand = errand_for config Settled slirp past opens.relayed;
+    served = none_due_for_services config (Listen slirp.number f.host Failed ∷ past) opens.services.unresolved;
+    idle = (flows_stay config (flowing false slirp.flows) slirp.moment (Listen slirp.number f.host Failed) past refl (omega arith) refl opens.flows).holds.asked;
+    sockets = record {
+      each = λ n among. inl (sym (ap (is_among n) opens.are_open) ∙ among);
+      forward = λ n among. ap (is_among n) opens.are_open ∙ among;
+      carry = λ n among. absurd (unlisted n among);
+      flow = λ k p at. absurd (opens.none k p at.here);
+      apart = λ k p at. absurd (opens.none k p at.here);
+      rising = (length opens.open, subst (λ l. IsRising (length opens.open) (forward_sockets l)) (sym opens.forwards) (given_rise opens.open 0 (length opens.open) (omega arith)));
+      first = λ n m among of. absurd (not_of m of);
+    };
+  }
+    where
+      phase_is : phase config (Listen slirp.number f.host Failed ∷ past) ≡ Over (Refused slirp.number)
+      phase_is = ap (λ p. opened Failed p) (opens.opening ∙ ap (Opening slirp.number) next)
+
+      unlisted : (n : ℕ) → is_among n (numbers slirp.associations) ≡ true → ⊥
+      unlisted n among = true_false (sym among ∙ ap (λ l. is_among n (numbers l)) opens.alone)
+
+      not_of : (m : ℕ) → IsOf slirp.associations slirp.flows.flows.parts m → ⊥
+      not_of m (inl among) = unlisted m among
+      not_of m (inr (k, p, at, number, u)) = opens.none k p at.here
+
+-- ---- all are open, and the clock was asked
+
+pub started : (config : Config) (slirp : SlirpState) (link : LinkState) (told : ℕ) (past : List Entry) → Allowed (Now told) → Opens config (length config.forwards) slirp link past
+    → Holds config (after 0) (record slirp { moment = max (min told (2 ^ 62)) slirp.moment }) (flowing false slirp.flows) link (Now told ∷ past)
+started config slirp link told past fine opens = record {
+  lawful = (asks config past asks_due opens.flows.holds.asked opens.open_yet, opens.lawful);
+  allowed = (fine, opens.allowed);
+  keeps = record { framed = (tt, opens.keeps.framed); partly = opens.keeps.partly; rest = opens.keeps.rest; blocked = opens.keeps.blocked };
+  answers = record { sent = opens.answers.sent; pending = opens.answers.pending };
+  guests = guests_stay config slirp told_it (Now told) past refl refl opens.guests;
+  relayed = record { list = opens.relayed.list; asks = opens.relayed.asks };
+  services = services_stay config slirp told_it (Now told) past refl refl opens.services;
+  forwards = opens.forwards ∙ ap (with_numbers 0) (sym all_open);
+  flows = flows_told config slirp.flows slirp.moment (max (min told (2 ^ 62)) slirp.moment) told past (omega arith) opens.flows;
+  sockets = record { number = opens.sockets.number; kinds = opens.sockets.kinds };
+  clock = record { moment = ap (max (min told (2 ^ 62))) opens.clock.moment; counted = opens.clock.counted };
+  stands = Begins (record { started = phase_is; unwaited = opens.clock.counted; unreported = opens.unreported; unasked = refl; alone = opens.alone; nothing = opens.nothing; empty = opens.empty }) opens.none opens.unrested;
+  agenda = ([], opens.unreported);
+  open_yet = opens.open_yet;
+}
+  where
+    abbrev told_it : SlirpState
+    told_it = record slirp { moment = max (min told (2 ^ 62)) slirp.moment }
+
+    none_left : (open left all : List Forward) → all ≡ open ++ left → length all ≡ length open → left ≡ []
+    none_left [] [] all is many = refl
+    none_left [] (x ∷ left) all is many = absurd (let more : length all ≡ length (x ∷ left) = ap (λ l. length l) is in omega (arith, many, more))
+    none_left (y ∷ open) left [] is many = absurd cc
+    none_left (y ∷ open) left (z ∷ all) is many = none_left open left all (tails is) (omega (arith, many))
+      where
+        tails : z ∷ all ≡ y ∷ (open ++ left) → all ≡ open ++ left
+        tails is = cc
+
+    nothing_left : opens.left ≡ []
+    nothing_left = none_left opens.open opens.left config.forwards opens.all opens.many
+
+    all_open : config.forwards ≡ opens.open
+    all_open = opens.all ∙ ap (λ l. opens.open ++ l) nothing_left ∙ behind_none opens.open
+      where
+        behind_none : (xs : List Forward) → xs ++ [] ≡ xs
+        behind_none [] = refl
+        behind_none (x ∷ xs) = ap (λ l. x ∷ l) (behind_none xs)
+
+    opening : phase config past ≡ Opening (length config.forwards) []
+    opening = opens.opening ∙ ap (Opening (length config.forwards)) nothing_left
+
+    phase_is : phase config (Now told ∷ past) ≡ Started
+    phase_is = ap clocked opening
+
+    asks_due : due config past ≡ Some CallNow
+    asks_due = ap (λ p. unless_due (due_in p past) (unless_due (due_for config (step config past) (next_number past)) (unless_due (due_for_services config past) (due_for_flows config (book config past) (next_number past))))) opening
 
 -- ---- the end of the turns
 
 -- a run that an entry ended
-pub ran : (config : Config) (why : Ending) (list : List Association) (parts : List (Option Splice)) (made : List Entry) → Ended config why list parts made → Closing config (phase config made) list parts made
-ran config why list parts made ended = record {
+pub ran : (config : Config) (why : Ending) (forwards : List Opened) (list : List Association) (parts : List (Option Splice)) (made : List Entry) → Ended config why forwards list parts made
+    → ClosingWith config (phase config made) (forward_sockets forwards) list parts made
+ran config why forwards list parts made ended = record {
   lawful = ended.lawful;
   ended = ap (λ p. is_over p || nat_le config.turns (waits made)) ended.over;
   is = refl;
-  rests = OverBy why ended.over;
+  rests = OverFor (By why) ended.over;
   errand = ended.errand;
   served = ended.served;
   idle = ended.idle;
@@ -153,8 +368,9 @@ either true = refl
 either false = refl
 
 -- after as many waits as there may be
-pub spent : (config : Config) (count : ℕ) (slirp : SlirpState) (f : Flowing) (link : LinkState) (made : List Entry) → config.turns ≤ count → Holds config (after count) slirp f link made → Closing config (phase config made) slirp.associations f.kept.flows.parts made
-spent config count slirp f link made all holds = record {
+pub spent : (config : Config) (count : ℕ) (slirp : SlirpState) (f : Flowing) (link : LinkState) (made : List Entry) → 1 ≤ config.turns → config.turns ≤ count → Holds config (after count) slirp f link made
+    → ClosingWith config (phase config made) (forward_sockets slirp.forwards) slirp.associations f.kept.flows.parts made
+spent config count slirp f link made some all holds = record {
   lawful = holds.lawful;
   ended = ap (λ b. is_over (phase config made) || b) none_left ∙ either (is_over (phase config made));
   is = refl;
@@ -170,4 +386,4 @@ spent config count slirp f link made all holds = record {
 
     rests : Stands config Settled slirp f.kept link made → Rests config made
     rests (Turns turn) = AllWaited turn.working
-    rests (Begins unbegun free unrested shut) = NoneWaited unbegun.started shut
+    rests (Begins unbegun free unrested) = let none : waits made ≡ 0 = unbegun.unwaited in let counted : waits made ≡ count = holds.clock.counted in absurd (omega (arith, none, counted, some, all))

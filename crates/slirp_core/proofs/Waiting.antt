@@ -16,7 +16,8 @@ use Rattle.slirp_laws.specs.Datagrams.{Step, Settled, due_for}
 use Rattle.slirp_laws.specs.Laws.{Lawful, due}
 use Rattle.slirp_laws.proofs.Deeds.{asks, waits_now}
 use Rattle.stream_netdev.specs.State.{LinkState, under_way}
-use Rattle.slirp_core.specs.Holds.{after, standing, AreOpen, Begins, Ended, Holds, OfFlows, Stands, Turns, flowing}
+use Rattle.slirp_core.specs.Forwards.{forward_sockets}
+use Rattle.slirp_core.specs.Holds.{after, standing, AreOpenWith, Begins, Ended, Holds, OfFlows, Stands, Turns, flowing}
 use Rattle.slirp_core.specs.State.{SlirpState}
 use Rattle.slirp_core.proofs.Guests.{guests_stay}
 use Rattle.slirp_core.proofs.Parts.{errand_for, asked_for, due_in_phase, due_is}
@@ -33,13 +34,13 @@ module _ (config : Config) (count : ℕ) (slirp : SlirpState) (kept : Kept) (old
   -- a wait may begin a turn, the first or a later one
   none_due : Stands config Settled slirp kept old past → due config past ≡ None
   none_due (Turns turn) = due_is config past Settled turn.working (none_due_for_services config past holds.services.unresolved) holds.flows.holds.asked (asked_for config (after count) Settled slirp (flowing true kept) old past holds)
-  none_due (Begins unbegun free unrested shut) =
+  none_due (Begins unbegun free unrested) =
       due_in_phase config past Started unbegun.started (none_due_for_services config past holds.services.unresolved) holds.flows.holds.asked
       ∙ ap (λ (t : Step). due_for config t (next_number past)) (asked_for config (after count) Settled slirp (flowing true kept) old past holds)
 
   turns_on : Stands config Settled slirp kept old past → may_turn (phase config past) ≡ true
   turns_on (Turns turn) = ap may_turn turn.working
-  turns_on (Begins unbegun free unrested shut) = ap may_turn unbegun.started
+  turns_on (Begins unbegun free unrested) = ap may_turn unbegun.started
 
   waits_on : nat_lt (waits past) config.turns ≡ true
   waits_on = let counted : waits past ≡ count = holds.clock.counted in grind (arith, nat_tests, few, counted)
@@ -52,22 +53,22 @@ module _ (config : Config) (count : ℕ) (slirp : SlirpState) (kept : Kept) (old
 
   ends : (why : Ending) → Stands config Settled slirp kept old past → unless_over (phase config past) why ≡ Over (By why)
   ends why (Turns turn) = ap (λ p. unless_over p why) turn.working
-  ends why (Begins unbegun free unrested shut) = ap (λ p. unless_over p why) unbegun.started
+  ends why (Begins unbegun free unrested) = ap (λ p. unless_over p why) unbegun.started
 
   flows_then : (answer : Waited) (ready : List Want) → OfFlows config (flowing false kept) slirp.moment (Wait wants timeout answer ready ∷ past)
   flows_then answer ready = flows_paused config kept slirp.moment wants timeout answer ready past holds.flows
 
-  now_open : AreOpen slirp.associations kept.flows.parts past
+  now_open : AreOpenWith (forward_sockets slirp.forwards) slirp.associations kept.flows.parts past
   now_open = are_open config (after count) Settled slirp (flowing true kept) old past holds
 
-  pub wait_ends_it : (answer : Waited) (ready : List Want) (why : Ending) → wait_ending answer ≡ Some why → Ended config why slirp.associations kept.flows.parts (Wait wants timeout answer ready ∷ past)
+  pub wait_ends_it : (answer : Waited) (ready : List Want) (why : Ending) → wait_ending answer ≡ Some why → Ended config why slirp.forwards slirp.associations kept.flows.parts (Wait wants timeout answer ready ∷ past)
   wait_ends_it answer ready why is = record {
     lawful = waited answer ready;
     over = ap (λ o. phase_after (Wait wants timeout answer ready) o (phase config past)) is ∙ ends why holds.stands;
     errand = errand_for config Settled slirp past holds.relayed;
     served = none_due_for_services config (Wait wants timeout answer ready ∷ past) holds.services.unresolved;
     idle = (flows_then answer ready).holds.asked;
-    sockets = record { each = now_open.each; carry = now_open.carry; flow = now_open.flow; apart = now_open.apart };
+    sockets = record { each = now_open.each; forward = now_open.forward; carry = now_open.carry; flow = now_open.flow; apart = now_open.apart; rising = now_open.rising; first = now_open.first };
   }
 
   pub wait_wakes : (ready : List Want) (told : ℕ) (new : LinkState) → Allowed (Wait wants timeout Ready ready) → Allowed (Now told) → under_way new ≡ under_way old → new.tail ≡ old.tail
@@ -85,7 +86,8 @@ module _ (config : Config) (count : ℕ) (slirp : SlirpState) (kept : Kept) (old
     answers = record { sent = holds.answers.sent; pending = holds.answers.pending };
     guests = guests_stay config slirp (record slirp { moment = max (min told (2 ^ 62)) slirp.moment }) (Now told) (Wait wants timeout Ready ready ∷ past) refl refl (guests_stay config slirp slirp (Wait wants timeout Ready ready) past refl refl holds.guests);
     relayed = record { list = holds.relayed.list; asks = holds.relayed.asks };
-    services = record { leases = holds.services.leases; unresolved = holds.services.unresolved; unbound = holds.services.unbound };
+    services = record { leases = holds.services.leases; connections = holds.services.connections; unresolved = holds.services.unresolved; unbound = holds.services.unbound };
+    forwards = holds.forwards;
     flows = flows_told config kept slirp.moment (max (min told (2 ^ 62)) slirp.moment) told (Wait wants timeout Ready ready ∷ past) (not_before told slirp.moment) (flows_then Ready ready);
     sockets = record { number = holds.sockets.number; kinds = holds.sockets.kinds };
     clock = record { moment = ap (max (min told (2 ^ 62))) holds.clock.moment; counted = ap (λ n. n + 1) holds.clock.counted };

@@ -1,10 +1,11 @@
 -- What the core keeps of the calls made on the World.
-use Rattle.std.specs.Prelude.{◌≡◌, ℕ, ◌<◌, ◌≤◌, ◌||◌, ◌⊎◌, Bool, true, false, List, [], ◌∷◌, ◌++◌, drop, Contains, Option, None}
+use Rattle.std.specs.Prelude.{◌≡◌, ℕ, ◌<◌, ◌≤◌, ◌||◌, ◌⊎◌, Bool, true, false, List, [], ◌∷◌, ◌++◌, drop, Contains, Option, None, Some, length}
 use Rattle.net_octets.specs.declared.Endpoint.{Endpoint}
 use Rattle.poll_list.specs.declared.Want.{Want}
 use Rattle.world_face.specs.Journal.{Entry, AreAllowed}
 use Rattle.world_face.specs.Frames.{Ending, LinkFailed}
 use Rattle.host_policy.specs.Addresses.{Config}
+use Rattle.host_policy.specs.declared.Forward.{Forward}
 use Rattle.udp_assoc.specs.Associations.{numbers}
 use Rattle.udp_assoc.specs.declared.assocs.Association.{Association as AnAssociation}
 use Rattle.flow_book.specs.Book.{book}
@@ -13,8 +14,9 @@ use Rattle.flow_book.specs.Taught.{taught}
 use Rattle.flow_splice.specs.Splice.{Splice}
 use Rattle.run_laws.specs.Guests.{known}
 use Rattle.run_laws.specs.Moments.{moment, waits}
-use Rattle.run_laws.specs.Shape.{Phase, By, Started, Working, Over, phase, is_ended}
-use Rattle.run_laws.specs.Sockets.{Kind, is_among, is_association, is_flow, kind_of, next_number, open_sockets}
+use Rattle.port_forward.specs.Opened.{Opened}
+use Rattle.run_laws.specs.Shape.{Cause, Refused, Phase, Opening, Started, Working, By, Over, phase, is_ended}
+use Rattle.run_laws.specs.Sockets.{Kind, is_among, is_association, is_flow, is_listener, kind_of, next_number, open_sockets}
 use Rattle.slirp_laws.specs.Agenda.{agenda, all_wanted}
 use Rattle.slirp_laws.specs.Answers.{frames_of, identification, left, owed_for_segment}
 use Rattle.slirp_laws.specs.Errands.{errand_left}
@@ -23,8 +25,10 @@ use Rattle.slirp_laws.specs.Relayed.{associations, step_for}
 use Rattle.slirp_laws.specs.Laws.{Finished, Lawful, due_for_services, is_closing}
 use Rattle.stream_netdev.specs.Keeps.{Keeps}
 use Rattle.stream_netdev.specs.State.{LinkState}
+use Rattle.slirp_core.specs.Forwards.{forward_sockets, given, with_numbers}
 use Rattle.slirp_core.specs.Segments.{Coming}
 use Rattle.slirp_core.specs.Services.{OfServices}
+use Rattle.slirp_core.specs.Sockets.{IsRising}
 use Rattle.slirp_core.specs.State.{SlirpState}
 use Rattle.slirp_core.specs.Waiting.{OfFragments}
 use Rattle.slirp_core.specs.declared.sending.Pumped.{Pumped}
@@ -56,9 +60,10 @@ pub record InTurn (config : Config) (past : List Entry) : Type 0 where
   pub working : phase config past ≡ Working
   pub waited : 0 < waits past
 
--- before the first wait nothing was reported, no socket is open and nothing is to be sent
+-- before the first wait nothing was reported, no socket is open but those of forwards, and nothing is to be sent
 pub record Unbegun (config : Config) (step : Step) (slirp : SlirpState) (link : LinkState) (past : List Entry) : Type 0 where
   pub started : phase config past ≡ Started
+  pub unwaited : waits past ≡ 0
   pub unreported : agenda past ≡ []
   pub unasked : step ≡ Settled
   pub alone : slirp.associations ≡ []
@@ -107,9 +112,9 @@ pub record OfFlows (config : Config) (f : Flowing) (now : ℕ) (past : List Entr
   pub settings : IsFor config f.kept
   pub unit : 28 ≤ config.mtu
 
--- the next number; and each open socket carries datagrams, or is a flow's
+-- the next number; and each open socket carries datagrams, is a flow's, or one to which peers come
 abbrev pub is_ours : Option Kind → Bool
-is_ours kind = is_association kind || is_flow kind
+is_ours kind = is_association kind || is_flow kind || is_listener kind
 
 pub record OfSockets (next : ℕ) (past : List Entry) : Type 0 where
   pub number : next_number past ≡ next
@@ -118,7 +123,35 @@ pub record OfSockets (next : ℕ) (past : List Entry) : Type 0 where
 -- a wait began this turn; or none came yet, and then there is no flow
 pub data Stands (config : Config) (step : Step) (slirp : SlirpState) (kept : Kept) (link : LinkState) (past : List Entry) : Type 0 where
   Turns : InTurn config past → Stands config step slirp kept link past
-  Begins : Unbegun config step slirp link past → NoneInSlots kept.flows.parts → (book config past).rests ≡ [] → open_sockets past ≡ [] → Stands config step slirp kept link past
+  Begins : Unbegun config step slirp link past → NoneInSlots kept.flows.parts → (book config past).rests ≡ [] → Stands config step slirp kept link past
+
+-- Before the clock is asked: so many forwards are open, the first of the settings, and nothing else was done.
+pub record Opens (config : Config) (count : ℕ) (slirp : SlirpState) (link : LinkState) (past : List Entry) : Type 0 where
+  pub lawful : Lawful config past
+  pub allowed : AreAllowed past
+  pub keeps : Keeps link past
+  pub answers : OfAnswers config slirp past
+  pub guests : OfGuests config slirp past
+  pub relayed : OfRelay config Settled slirp past
+  pub services : OfServices config slirp past
+  pub open : List Forward
+  pub left : List Forward
+  pub all : config.forwards ≡ open ++ left
+  pub many : count ≡ length open
+  pub forwards : slirp.forwards ≡ with_numbers 0 open
+  pub opening : phase config past ≡ Opening count left
+  pub are_open : open_sockets past ≡ forward_sockets slirp.forwards
+  pub flows : OfFlows config (flowing false slirp.flows) slirp.moment past
+  pub sockets : OfSockets slirp.number past
+  pub clock : OfClock (after 0) slirp past
+  pub number : slirp.number ≡ count
+  pub unreported : agenda past ≡ []
+  pub none : NoneInSlots slirp.flows.flows.parts
+  pub unrested : (book config past).rests ≡ []
+  pub alone : slirp.associations ≡ []
+  pub nothing : slirp.pending ≡ []
+  pub empty : link.tail ≡ []
+  pub open_yet : is_closing config past ≡ false
 
 -- Between entries that end a run: what the core has is what the calls made so far left, and the datagram that came last still asks for this.
 pub record HoldsAt (config : Config) (at : Standing) (step : Step) (slirp : SlirpState) (f : Flowing) (link : LinkState) (past : List Entry) : Type 0 where
@@ -129,6 +162,7 @@ pub record HoldsAt (config : Config) (at : Standing) (step : Step) (slirp : Slir
   pub guests : OfGuests config slirp past
   pub relayed : OfRelay config step slirp past
   pub services : OfServices config slirp past
+  pub forwards : slirp.forwards ≡ given config
   pub flows : OfFlows config f slirp.moment past
   pub sockets : OfSockets slirp.number past
   pub clock : OfClock at slirp past
@@ -156,6 +190,7 @@ pub record Comes (config : Config) (at : Standing) (slirp : SlirpState) (kept : 
   pub guests : OfGuests config slirp past
   pub relayed : OfRelay config Settled slirp past
   pub services : OfServices config slirp past
+  pub forwards : slirp.forwards ≡ given config
   pub learnt : Contains (taught config past) (c.on.tuple.guest.addr, record { 0 = c.on.mac })
   pub unit : 28 ≤ config.mtu
   pub sockets : OfSockets slirp.number past
@@ -165,27 +200,41 @@ pub record Comes (config : Config) (at : Standing) (slirp : SlirpState) (kept : 
 
 -- ---- the end
 
+-- a socket is that of one of these associations or flows
+abbrev pub IsOf : List AnAssociation → List (Option Splice) → ℕ → Type 0
+IsOf list parts n = (is_among n (numbers list) ≡ true) ⊎ HasSocket n parts (λ p. Unit {0})
+
+-- the open sockets are those of these associations and flows, and before them in number those of these forwards
+pub record AreOpenWith (forwards : List ℕ) (list : List AnAssociation) (parts : List (Option Splice)) (past : List Entry) : Type 0 where
+  pub each : (n : ℕ) → is_among n (open_sockets past) ≡ true → (is_among n forwards ≡ true) ⊎ IsOf list parts n
+  pub forward : (n : ℕ) → is_among n forwards ≡ true → is_among n (open_sockets past) ≡ true
+  pub carry : (n : ℕ) → is_among n (numbers list) ≡ true → is_among n (open_sockets past) ≡ true
+  pub flow : (k : ℕ) (p : Splice) → IsOpenAt parts k p → is_among (number_of p) (open_sockets past) ≡ true
+  pub apart : (k : ℕ) (p : Splice) → IsOpenAt parts k p → is_among (number_of p) (numbers list) ≡ false
+  pub rising : (bound : ℕ) × IsRising bound forwards
+  pub first : (n m : ℕ) → is_among n forwards ≡ true → IsOf list parts m → n < m
+
 -- the open sockets are those of these associations and flows
 pub record AreOpen (list : List AnAssociation) (parts : List (Option Splice)) (past : List Entry) : Type 0 where
-  pub each : (n : ℕ) → is_among n (open_sockets past) ≡ true → (is_among n (numbers list) ≡ true) ⊎ HasSocket n parts (λ p. Unit {0})
+  pub each : (n : ℕ) → is_among n (open_sockets past) ≡ true → IsOf list parts n
   pub carry : (n : ℕ) → is_among n (numbers list) ≡ true → is_among n (open_sockets past) ≡ true
   pub flow : (k : ℕ) (p : Splice) → IsOpenAt parts k p → is_among (number_of p) (open_sockets past) ≡ true
   pub apart : (k : ℕ) (p : Splice) → IsOpenAt parts k p → is_among (number_of p) (numbers list) ≡ false
 
 -- after an entry that ended the run in this way
-pub record Ended (config : Config) (why : Ending) (list : List AnAssociation) (parts : List (Option Splice)) (past : List Entry) : Type 0 where
+pub record Ended (config : Config) (why : Ending) (forwards : List Opened) (list : List AnAssociation) (parts : List (Option Splice)) (past : List Entry) : Type 0 where
   pub lawful : Lawful config past
   pub over : phase config past ≡ Over (By why)
   pub errand : errand_left config past ≡ None
   pub served : due_for_services config past ≡ None
   pub idle : due_for_flows config (book config past) (next_number past) ≡ None
-  pub sockets : AreOpen list parts past
+  pub sockets : AreOpenWith (forward_sockets forwards) list parts past
 
 -- after a pump
 abbrev pub AfterPump : Pumped → Config → Standing → SlirpState → Flowing → LinkState → List Entry → Type 0
 AfterPump Clear config at slirp f link past = Holds config at slirp f link past
 AfterPump Blocked config at slirp f link past = Holds config at slirp f link past
-AfterPump Failed config at slirp f link past = Ended config LinkFailed slirp.associations f.kept.flows.parts past
+AfterPump Failed config at slirp f link past = Ended config LinkFailed slirp.forwards slirp.associations f.kept.flows.parts past
 
 -- what is left after a pump
 abbrev pub Leaves : Pumped → SlirpState → LinkState → Type 0
@@ -211,14 +260,13 @@ LeavesRest Clear link = (link.blocked ≡ false) × (link.tail ≡ [])
 LeavesRest Blocked link = link.blocked ≡ true
 LeavesRest Failed link = Unit {0}
 
--- an entry ended the run; or it has made its last wait; or it may make none
+-- an entry ended the run, or the host refused a forward; or it has made its last wait
 pub data Rests (config : Config) (past : List Entry) : Type 0 where
-  OverBy : (why : Ending) → phase config past ≡ Over (By why) → Rests config past
+  OverFor : (cause : Cause) → phase config past ≡ Over cause → Rests config past
   AllWaited : phase config past ≡ Working → Rests config past
-  NoneWaited : phase config past ≡ Started → open_sockets past ≡ [] → Rests config past
 
--- a run that has ended in this phase; only its sockets are to be closed
-pub record Closing (config : Config) (over : Phase) (list : List AnAssociation) (parts : List (Option Splice)) (past : List Entry) : Type 0 where
+-- a run that has ended in this phase; only its sockets are to be closed, which are these
+pub record ClosingBy (Open : List Entry → Type 0) (config : Config) (over : Phase) (past : List Entry) : Type 0 where
   pub lawful : Lawful config past
   pub ended : is_ended config past ≡ true
   pub is : over ≡ phase config past
@@ -226,7 +274,14 @@ pub record Closing (config : Config) (over : Phase) (list : List AnAssociation) 
   pub errand : errand_left config past ≡ None
   pub served : due_for_services config past ≡ None
   pub idle : due_for_flows config (book config past) (next_number past) ≡ None
-  pub sockets : AreOpen list parts past
+  pub sockets : Open past
+
+-- those of associations and flows; or those of forwards, too
+abbrev pub Closing : Config → Phase → List AnAssociation → List (Option Splice) → List Entry → Type 0
+Closing config over list parts past = ClosingBy (AreOpen list parts) config over past
+
+abbrev pub ClosingWith : Config → Phase → List ℕ → List AnAssociation → List (Option Splice) → List Entry → Type 0
+ClosingWith config over forwards list parts past = ClosingBy (AreOpenWith forwards list parts) config over past
 
 -- a run that is over: it is lawful and finished, and this is the phase in which it ended
 abbrev pub Ran : Config → Phase → List Entry → Type 0
@@ -242,6 +297,22 @@ abbrev pub ClosesNext : Bool → (list new : List AnAssociation) → (parts new_
 ClosesNext more list new parts new_parts made =
     (config : Config) (over : Phase) (past : List Entry) → Closing config over list parts past → AfterClosing more config over new new_parts (made ++ past)
 
+-- those of forwards were closed, but for these
+abbrev pub ClosesForwards : (old new : List ℕ) → List AnAssociation → List (Option Splice) → List Entry → Type 0
+ClosesForwards old new list parts made =
+    (config : Config) (over : Phase) (past : List Entry) → ClosingWith config over old list parts past → ClosingWith config over new list parts (made ++ past)
+
+-- those of forwards were closed, and others but for these
+abbrev pub ClosesOn : List Opened → (list new : List AnAssociation) → (parts new_parts : List (Option Splice)) → List Entry → Type 0
+ClosesOn forwards list new parts new_parts made =
+    (config : Config) (over : Phase) (past : List Entry) → ClosingWith config over (forward_sockets forwards) list parts past → Closing config over new new_parts (made ++ past)
+
 -- all of these sockets were closed: whatever run had them, and had ended, is finished
-abbrev pub ClosesAll : List AnAssociation → List (Option Splice) → List Entry → Type 0
-ClosesAll list parts made = (config : Config) (over : Phase) (past : List Entry) → Closing config over list parts past → Ran config over (made ++ past)
+abbrev pub ClosesAll : List Opened → List AnAssociation → List (Option Splice) → List Entry → Type 0
+ClosesAll forwards list parts made =
+    (config : Config) (over : Phase) (past : List Entry) → ClosingWith config over (forward_sockets forwards) list parts past → Ran config over (made ++ past)
+
+-- after the ports of the host were opened; or one was refused, and the others are to be closed
+abbrev pub AfterListening : Option ℕ → Config → SlirpState → LinkState → List Entry → Type 0
+AfterListening None config slirp link past = Opens config (length config.forwards) slirp link past
+AfterListening (Some place) config slirp link past = ClosingWith config (Over (Refused place)) (forward_sockets slirp.forwards) slirp.associations slirp.flows.flows.parts past

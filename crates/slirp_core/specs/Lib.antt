@@ -1,5 +1,6 @@
 pub mod Counts
 pub mod Datagrams
+pub mod Forwards
 pub mod Fragments
 pub mod Hearing
 pub mod Holds

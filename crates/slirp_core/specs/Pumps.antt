@@ -3,7 +3,7 @@ use Rattle.std.specs.Prelude.{◌≡◌, ℕ, ◌-◌, ◌&&◌, ◌||◌, not, 
 use Rattle.std.specs.List.Sorted.{IsNonDecreasing}
 use Rattle.poll_list.specs.Listing.{names}
 use Rattle.poll_list.specs.declared.Want.{Want}
-use Rattle.poll_list.specs.declared.Who.TheVariants.{Link, Udp, Tcp}
+use Rattle.poll_list.specs.declared.Who.TheVariants.{Link, Listener, Udp, Tcp}
 use Rattle.stream_netdev.specs.State.{LinkState}
 use Rattle.udp_assoc.specs.Associations.{idle_life, numbers}
 use Rattle.udp_assoc.specs.declared.assocs.Association.{Association}
@@ -11,7 +11,9 @@ use Rattle.stream_netdev.specs.declared.Offered.{Offered}
 use Rattle.stream_netdev.specs.declared.Offered.TheVariants.{Taken, Blocked as OfferBlocked, Failed as OfferFailed}
 use Rattle.flow_splice.specs.declared.Pumped.{Pumped as PumpedFlows}
 use Rattle.flow_splice.specs.declared.Pumped.TheVariants.{Clear as FlowsClear, Blocked as FlowsBlocked, Failed as FlowsFailed}
+use Rattle.core_flows.specs.Seats.{in_use_slots}
 use Rattle.tcp_flows.specs.Reading.{AreWantsOf}
+use Rattle.slirp_core.specs.Forwards.{forward_sockets}
 use Rattle.slirp_core.specs.State.{SlirpState}
 use Rattle.slirp_core.specs.declared.sending.Pumped.{Pumped}
 use Rattle.slirp_core.specs.declared.sending.Pumped.TheVariants.{Clear, Blocked, Failed}
@@ -45,18 +47,26 @@ link_want read write = if read || write then record { of = Link; read = read; wr
 abbrev pub udp_want : ℕ → Want
 udp_want number = record { of = Udp number; read = true; write = false }
 
--- and then the open sockets for reading, where nothing is left to be sent
+-- then the ports of the host that are given to guests, where there is room for a flow more
+abbrev pub listener_want : ℕ → Want
+listener_want number = record { of = Listener number; read = true; write = false }
+
+-- and then the open sockets of datagrams for reading, where nothing is left to be sent
 abbrev pub socket_wants : Bool → List ℕ → List Want
 socket_wants read numbers = if read then map udp_want numbers else []
 
--- each socket of datagrams once, by rising number, and behind them what flows wait for
+-- the listeners that are waited for, as there is room for a flow more or not
+abbrev pub listeners_of : SlirpState → List ℕ
+listeners_of slirp = if nat_lt (in_use_slots slirp.flows.flows.table.slots) (length slirp.flows.flows.table.slots) then forward_sockets slirp.forwards else []
+
+-- the link and the listeners; each socket of datagrams once, by rising number; and behind them what flows wait for
 pub record WantsOf (slirp : SlirpState) (link : LinkState) (wants : List Want) : Type 0 where
   pub sockets : List ℕ
   pub all : IsPermutation (numbers slirp.associations) sockets
   pub rising : IsNonDecreasing sockets
   pub flows : List Want
   pub of_flows : AreWantsOf slirp.flows.flows.parts flows
-  pub is : wants ≡ (link_want (is_settled slirp link) link.blocked ++ socket_wants (is_settled slirp link) sockets) ++ flows
+  pub is : wants ≡ ((link_want (is_settled slirp link) link.blocked ++ map listener_want (listeners_of slirp)) ++ socket_wants (is_settled slirp link) sockets) ++ flows
 
 -- no flow's socket stands twice
 abbrev pub TcpOnce : List Want → Type 0

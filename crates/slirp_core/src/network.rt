@@ -14,6 +14,7 @@ use host_policy::{Policy, SlirpConfig};
 use ipv4_head::IpView;
 use ipv4_reasm::Reasm;
 use net_octets::{Ip4, Mac, NoMemory};
+use port_forward::Forwards;
 use std::alloc::Global;
 use std::marker::Model;
 use tcp_flows::{Sizes, TcpFlows};
@@ -26,7 +27,7 @@ const LAST_MOMENT: u64 = 1 << 62;
 /// The room for a reply to a client of DHCP, in octets.
 const MESSAGE_ROOM: usize = 1024;
 
-/// The virtual network: who its guests are, which sockets are open for them, how many datagrams went out, the frames that are owed to a guest and aren't out yet, the fragments that wait to be joined, the flows of TCP, and who has which address.
+/// The virtual network: who its guests are, which sockets are open for them, how many datagrams went out, the frames that are owed to a guest and aren't out yet, the fragments that wait to be joined, the flows of TCP, who has which address, and the ports of the host that are given to guests.
 #[derive(Drop)]
 pub struct Slirp {
     pub(crate) policy: Policy,
@@ -39,6 +40,7 @@ pub struct Slirp {
     pub(crate) reasm: Reasm,
     pub(crate) flows: TcpFlows,
     pub(crate) leases: Leases,
+    pub(crate) forwards: Forwards,
     /// Room for the reply to a client of DHCP.
     pub(crate) message: Vec<u8>,
 }
@@ -51,7 +53,7 @@ impl Model for Slirp {
 
     ghost Value = { SlirpState };
 
-    ghost view = { λ s. record { config = s.policy; known = s.guests; sent = s.sent; pending = s.outgoing; moment = s.moment; number = s.number; associations = s.associations.list; parts = s.reasm; flows = s.flows; leases = s.leases.leases } };
+    ghost view = { λ s. record { config = s.policy; known = s.guests; sent = s.sent; pending = s.outgoing; moment = s.moment; number = s.number; associations = s.associations.list; parts = s.reasm; flows = s.flows; leases = s.leases.leases; forwards = s.forwards } };
 
     // each socket has a number under that of the next one, those of flows too, of which there are at most 4,096; sockets are opened at 0.0.0.0, every address of the host; and the server of leases has the settings, and room for a reply
     ghost invariant = { λ s. All (λ n. n < s.number) (numbers s.associations.list) × (s.moment ≤ 2 ^ 62) × (s.associations.bind ≡ 0) × AreDrawn s.number s.flows × (s.leases.config ≡ s.policy) × (length s.message.items ≡ 1024) };
@@ -103,6 +105,7 @@ impl Slirp {
         ensures parts { IfOk result (λ slirp. slirp.parts ≡ []) }
         ensures flows { IfOk result (λ slirp. slirp.flows ≡ flows_for (settings c.now)) }
         ensures leases { IfOk result (λ slirp. slirp.leases ≡ replicate 16 Free) }
+        ensures forwards { IfOk result (λ slirp. slirp.forwards ≡ []) }
     {
         let Ok(message) = vec![in alloc; 0; MESSAGE_ROOM] else {
             return Err(NoMemory);
@@ -110,6 +113,7 @@ impl Slirp {
         let outgoing = Outgoing::open(alloc)?;
         let reasm = Reasm::open(alloc)?;
         let flows = TcpFlows::open(alloc, &sizes_of(c))?;
+        let forwards = Forwards::open(alloc)?;
         Ok(Slirp {
             policy: Policy::new(c),
             guests: ArpTable::new(),
@@ -122,6 +126,7 @@ impl Slirp {
             reasm,
             flows,
             leases: Leases::new(c),
+            forwards,
             message,
         })
     }
@@ -297,14 +302,15 @@ impl Slirp {
         self.associations.tick(world, self.moment);
     }
 
-    /// Closes all sockets, by rising number.
+    /// Closes all sockets, by rising number: those of forwards first, which were opened before all others.
     pub fn close_all<W: World>(&mut self, world: &mut W)
-        ensures makes { Makes (W.tells world.old) (W.tells world.new) (ClosesAll self.old.associations self.old.flows.flows.parts) }
+        ensures makes { Makes (W.tells world.old) (W.tells world.new) (ClosesAll self.old.forwards self.old.associations self.old.flows.flows.parts) }
         ensures config { self.new.config ≡ self.old.config }
         ensures number { self.new.number ≡ self.old.number }
         ensures turn { self.new.flows.turn ≡ self.old.flows.turn }
         ensures none { self.new.associations ≡ [] }
     {
+        self.close_forwards(world);
         while self.close_next(world) {}
     }
 

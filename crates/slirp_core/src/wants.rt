@@ -5,7 +5,7 @@ ghost use Rattle.spliced_flows.specs.Core.{number_of};
 ghost use Rattle.poll_list.specs.declared.Want.{Want as AWant};
 ghost use Rattle.tcp_flows.specs.Reading.{AreWantsOf};
 ghost use Rattle.poll_list.specs.Listing.{AreWants};
-ghost use Rattle.slirp_core.specs.Pumps.{TcpOnce, link_want, socket_wants, udp_want};
+ghost use Rattle.slirp_core.specs.Pumps.{TcpOnce, link_want, listener_want, socket_wants, udp_want};
 
 use crate::network::Slirp;
 use crate::timeouts::sooner;
@@ -19,14 +19,17 @@ use tcp_flows::TcpFlows;
 
 /// What a turn waits for: a list with room for a fixed number of wants, all of it taken at opening.
 ///
-/// Most turns without flows wait for what the turn before waited for: the link, and the same sockets, for reading. So the numbers of the sockets of such a
-/// list are kept, and it stands where the sockets are the same.
+/// Most turns without flows wait for what the turn before waited for: the link, and the same listeners and sockets, for reading. So the numbers of the sockets
+/// of such a list are kept, and it stands where the sockets are the same.
 #[derive(Drop)]
 pub struct TurnWants {
     list: Wants,
+    listeners: ArrayVec<u64, 32>,
     sockets: ArrayVec<u64, 512>,
-    // whether the list has the link and these sockets, all for reading
+    // whether the list has the link, these listeners and these sockets, all for reading
     reads: bool,
+    // how many stand before the sockets of datagrams
+    front: usize,
     // how many stand before those of flows
     before: usize,
 }
@@ -34,13 +37,14 @@ pub struct TurnWants {
 impl Model for TurnWants {
     ghost use Rattle.std.specs.Prelude.{◌≡◌, ◌≤◌, true, false, ◌++◌, length, map};
     ghost use Rattle.poll_list.specs.Listing.{AreWants, Listing};
-    ghost use Rattle.slirp_core.specs.Pumps.{link_want, udp_want};
+    ghost use Rattle.slirp_core.specs.Pumps.{link_want, listener_want, udp_want};
 
     ghost Value = { Listing };
 
     ghost view = { λ w. w.list };
 
-    ghost invariant = { λ w. AreWants w.list.items × (w.before ≤ length w.list.items) × (w.reads ≡ true → w.list.items ≡ link_want true false ++ map udp_want w.sockets.items) };
+    ghost invariant = { λ w. AreWants w.list.items × (w.front ≤ w.before) × (w.before ≤ length w.list.items)
+        × (w.reads ≡ true → w.list.items ≡ (link_want true false ++ map listener_want w.listeners.items) ++ map udp_want w.sockets.items) };
 }
 
 impl TurnWants {
@@ -54,8 +58,10 @@ impl TurnWants {
         };
         Ok(TurnWants {
             list,
+            listeners: ArrayVec::new(),
             sockets: ArrayVec::new(),
             reads: false,
+            front: 0,
             before: 0,
         })
     }
@@ -74,11 +80,18 @@ impl TurnWants {
         self.list.items()
     }
 
-    /// Of these the link and the sockets of datagrams, the sockets by rising number.
-    pub fn of_datagrams(&self) -> &[Want]
-        ensures { (flows : List AWant) × (self.now.items ≡ result.now ++ flows) }
+    /// Of these the link and the listeners, the listeners by rising number.
+    pub fn of_listeners(&self) -> &[Want]
+        ensures { (behind : List AWant) × (self.now.items ≡ result.now ++ behind) }
     {
-        &self.list.items()[..self.before]
+        &self.list.items()[..self.front]
+    }
+
+    /// Of these the sockets of datagrams, by rising number.
+    pub fn of_datagrams(&self) -> &[Want]
+        ensures { (front flows : List AWant) × (self.now.items ≡ (front ++ result.now) ++ flows) }
+    {
+        &self.list.items()[self.front..self.before]
     }
 
     /// Of these what flows wait for, by rising number of the socket.
@@ -88,19 +101,30 @@ impl TurnWants {
         &self.list.items()[self.before..]
     }
 
-    // From now on the link is waited for in these directions, these sockets where it is read, and what flows wait for, whose numbers are under `below`.
-    fn fill(&mut self, read: bool, write: bool, sockets: &[u64], flows: &TcpFlows, below: u64)
-        requires room { 4609 ≤ self.old.capacity }
+    // From now on the link is waited for in these directions, these listeners, these sockets where it is read, and what flows wait for, whose numbers are under
+    // `below`.
+    fn fill(
+        &mut self,
+        read: bool,
+        write: bool,
+        listeners: &[u64],
+        sockets: &[u64],
+        flows: &TcpFlows,
+        below: u64,
+    )
+        requires room { 4641 ≤ self.old.capacity }
         requires flows { length flows.now.flows.parts ≤ 4096 }
         requires numbers { (k : ℕ) (p : Splice) → slice_get flows.now.flows.parts k ≡ Some (Some p) → number_of p < below }
+        requires few { length listeners.now ≤ 32 }
         requires most { length sockets.now ≤ 512 }
-        ensures items { (added : List AWant) × (self.new.items ≡ (link_want read write ++ socket_wants read sockets.now) ++ added) × AreWantsOf flows.now.flows.parts added }
+        ensures items { (added : List AWant) × (self.new.items ≡ ((link_want read write ++ map listener_want listeners.now) ++ socket_wants read sockets.now) ++ added)
+            × AreWantsOf flows.now.flows.parts added }
         ensures once { TcpOnce self.new.items }
         ensures wants { AreWants self.new.items }
-        ensures few { length self.new.items ≤ 4609 }
+        ensures few { length self.new.items ≤ 4641 }
         ensures capacity { self.new.capacity ≡ self.old.capacity }
     {
-        self.fill_before(read, write, sockets);
+        self.fill_before(read, write, listeners, sockets);
         self.add_flows(flows, below);
     }
 
@@ -114,79 +138,119 @@ impl TurnWants {
         ensures capacity { self.new.capacity ≡ self.old.capacity }
     {
         self.before = self.list.items().len();
+        self.front = self.front.min(self.before);
         put_flows(flows, below, &mut self.list);
         // where a flow waits the list isn't the link and the sockets alone any more
         self.reads = self.reads && self.list.items().len() == self.before;
     }
 
-    // From now on the link is waited for in these directions, and these sockets where it is read.
-    fn fill_before(&mut self, read: bool, write: bool, sockets: &[u64])
-        requires room { 513 ≤ self.old.capacity }
+    // From now on the link is waited for in these directions, these listeners, and these sockets where it is read.
+    fn fill_before(&mut self, read: bool, write: bool, listeners: &[u64], sockets: &[u64])
+        requires room { 545 ≤ self.old.capacity }
+        requires few { length listeners.now ≤ 32 }
         requires most { length sockets.now ≤ 512 }
-        ensures items { self.new.items ≡ link_want read write ++ socket_wants read sockets.now }
+        ensures items { self.new.items ≡ (link_want read write ++ map listener_want listeners.now) ++ socket_wants read sockets.now }
         ensures wants { AreWants self.new.items }
-        ensures few { length self.new.items ≤ 513 }
+        ensures few { length self.new.items ≤ 545 }
         ensures capacity { self.new.capacity ≡ self.old.capacity }
     {
         if read && !write {
-            self.read_all(sockets);
+            self.read_all(listeners, sockets);
         } else {
-            self.reads = false;
-            self.before = 0;
-            self.list.clear();
-            add_link(read, write, &mut self.list);
+            self.begin(read, write, listeners);
             add_wanted(read, sockets, &mut self.list);
         }
     }
 
-    // From now on the link and these sockets are waited for, for reading.
-    fn read_all(&mut self, sockets: &[u64])
-        requires room { 513 ≤ self.old.capacity }
+    // From now on the link, these listeners and these sockets are waited for, for reading.
+    fn read_all(&mut self, listeners: &[u64], sockets: &[u64])
+        requires room { 545 ≤ self.old.capacity }
+        requires few { length listeners.now ≤ 32 }
         requires most { length sockets.now ≤ 512 }
-        ensures items { self.new.items ≡ link_want true false ++ map udp_want sockets.now }
+        ensures items { self.new.items ≡ (link_want true false ++ map listener_want listeners.now) ++ map udp_want sockets.now }
         ensures wants { AreWants self.new.items }
-        ensures few { length self.new.items ≤ 513 }
+        ensures few { length self.new.items ≤ 545 }
         ensures capacity { self.new.capacity ≡ self.old.capacity }
     {
-        if self.reads && are_same(self.sockets.as_slice(), sockets) {
+        if self.reads
+            && are_same(self.listeners.as_slice(), listeners)
+            && are_same(self.sockets.as_slice(), sockets)
+        {
             return;
         }
-        self.reads = false;
-        self.before = 0;
+        self.begin(true, false, listeners);
+        add_sockets(sockets, &mut self.list);
+        self.listeners.clear();
+        let _ = self.listeners.try_extend_from_slice(listeners);
         self.sockets.clear();
         let _ = self.sockets.try_extend_from_slice(sockets);
-        self.list.clear();
-        add_link(true, false, &mut self.list);
-        add_sockets(sockets, &mut self.list);
         self.reads = true;
+    }
+
+    // The list begins with the link, in these directions, and these listeners.
+    fn begin(&mut self, read: bool, write: bool, listeners: &[u64])
+        requires room { 33 ≤ self.old.capacity }
+        requires few { length listeners.now ≤ 32 }
+        ensures items { self.new.items ≡ link_want read write ++ map listener_want listeners.now }
+        ensures wants { AreWants self.new.items }
+        ensures few { length self.new.items ≤ 33 }
+        ensures capacity { self.new.capacity ≡ self.old.capacity }
+    {
+        self.reads = false;
+        self.front = 0;
+        self.before = 0;
+        self.list.clear();
+        add_link(read, write, &mut self.list);
+        add_listeners(listeners, &mut self.list);
+        self.before = self.list.items().len();
+        self.front = self.before;
     }
 }
 
 impl Slirp {
     ghost use Rattle.ipv4_head.specs.Sets.{PartSet};
     ghost use Rattle.slirp_core.specs.Fragments.{IsHeld};
-    ghost use Rattle.slirp_core.specs.Pumps.{WantsOf};
+    ghost use Rattle.slirp_core.specs.Pumps.{WantsOf, listeners_of};
     ghost use Rattle.slirp_core.specs.Timeouts.{IsTimeout};
 
-    /// What the network waits for, and how long at most: the link for reading, and each open socket of datagrams by rising number, where nothing is left to be sent; the link for writing where it is blocked; what flows wait for, by rising number; until the idle life of the longest unused socket is over, the first fragments are dropped, or a flow is to be told the time.
+    /// What the network waits for, and how long at most: the link for reading, and each open socket of datagrams by rising number, where nothing is left to be sent; the link for writing where it is blocked; each port of the host that is given to a guest exactly where there is room for a flow more; what flows wait for, by rising number; until the idle life of the longest unused socket is over, the first fragments are dropped, or a flow is to be told the time.
     pub fn pollfds_fill(&self, link: &Link, wants: &mut TurnWants) -> Option<u64>
-        requires { 4609 ≤ wants.old.capacity }
+        requires { 4641 ≤ wants.old.capacity }
         ensures timeout { (held : List PartSet) → IsHeld self.now.parts held → IsTimeout self.now link.now.blocked held result }
         ensures items { WantsOf self.now link.now wants.new.items }
         ensures once { TcpOnce wants.new.items }
         ensures wants { AreWants wants.new.items }
-        ensures few { length wants.new.items ≤ 4609 }
+        ensures few { length wants.new.items ≤ 4641 }
         ensures capacity { wants.new.capacity ≡ wants.old.capacity }
     {
+        let listeners = self.listeners();
         wants.fill(
             self.is_settled(link),
             link.blocked(),
+            listeners.as_slice(),
             self.associations.rising(),
             &self.flows,
             self.number,
         );
         let datagrams = sooner(self.time_of_sockets(), self.time_of_parts());
         sooner(datagrams, self.time_of_flows(link.blocked()))
+    }
+
+    // The ports of the host for which peers are waited for: all where there is room for a flow more, else none.
+    fn listeners(&self) -> ArrayVec<u64, 32>
+        ensures items { result.items ≡ listeners_of self.now }
+        ensures few { length result.items ≤ 32 }
+    {
+        let mut numbers = ArrayVec::new();
+        if !self.flows.has_room() {
+            return numbers;
+        }
+        for place in 0..self.forwards.len() {
+            if let Some((_, number)) = self.forwards.at(place) {
+                let _ = numbers.try_push(number);
+            }
+        }
+        numbers
     }
 }
 
@@ -245,6 +309,24 @@ fn add_wanted(wanted: bool, numbers: &[u64], wants: &mut Wants)
 {
     if wanted {
         add_sockets(numbers, wants);
+    }
+}
+
+// Puts the listeners of these numbers at the end, for reading.
+fn add_listeners(numbers: &[u64], wants: &mut Wants)
+    requires wants { AreWants wants.old.items }
+    requires room { length wants.old.items + length numbers.now ≤ wants.old.capacity }
+    ensures items { wants.new.items ≡ wants.old.items ++ map listener_want numbers.now }
+    ensures wants { AreWants wants.new.items }
+    ensures room { length wants.new.items ≡ length wants.old.items + length numbers.now }
+    ensures capacity { wants.new.capacity ≡ wants.old.capacity }
+{
+    for &number in numbers {
+        wants.add(Want {
+            of: Who::Listener(number),
+            read: true,
+            write: false,
+        });
     }
 }
 

@@ -1,7 +1,3 @@
-use Rattle.std.proofs.Common.{false}
-use Rattle.world_face.proofs.Telling.{brings_none}
-use Rattle.slirp_core.specs.Holds.{flowing}
-use Rattle.slirp_core.proofs.Associating.{passes_over}
 use Rattle.serve_loop.proofs.service.Service.attend.Goals as goal
 
 pub returns-in-Link-clause-makes : goal.returns-in-Link-clause-makes
@@ -14,5 +10,4 @@ pub returns-in-Tcp-clause-makes : goal.returns-in-Tcp-clause-makes
 returns-in-Tcp-clause-makes g c config count items wanted = c.attend_flow.ensures.makes config count items
 
 pub returns-in-Listener-clause-makes : goal.returns-in-Listener-clause-makes
-returns-in-Listener-clause-makes g c config count items wanted =
-    brings_none (λ past holds. passes_over config count c.args.self.now.wants c.args.item.now items c.args.self.now.slirp (flowing false c.args.self.now.slirp.flows) c.args.self.now.link past holds)
+returns-in-Listener-clause-makes g c config count items wanted = c.attend_listener.ensures.makes config count items

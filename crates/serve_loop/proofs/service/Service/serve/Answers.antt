@@ -61,9 +61,9 @@ returns-clause-makes g c =
     let turns = c.self.invariant.0 ∙ ap (λ (s : ServiceState). s.slirp.config.turns) c.self.view_is ∙ ap (λ (k : Config). k.turns) c.start-begun.ensures.config in
     let all = subst (λ n. n ≤ c.loop-count._count) turns c.loop-count-test.false in
     let most = c.self-2.invariant.0 ∙ ap (λ (s : ServiceState). s.slirp.config.turns) c.self-2.view_is ∙ ap (λ (k : Config). k.turns) c.loop-count.invariant.config in
-    let ran = makes_as _ _ _ _ c.loop-count.invariant.makes (λ made holds. spent config c.loop-count._count c.self-2.inside.turns c.loop-count.self made all most holds) in
-    finishes config end slirp.associations slirp.flows.flows.parts _ _ _
-    (subst (λ (s : ServiceState). Makes (g.W.World.tells c.args.world.now) (g.W.World.tells c.loop-count.world) (Closes config end s.slirp.associations s.slirp.flows.flows.parts)) (sym c.self-2.view_is) ran)
+    let ran = makes_as _ _ _ _ c.loop-count.invariant.makes (λ made holds. spent config c.loop-count._count c.self-2.inside.turns c.loop-count.self made c.requires.some_turns all most holds) in
+    finishes config end slirp.forwards slirp.associations slirp.flows.flows.parts _ _ _
+    (subst (λ (s : ServiceState). Makes (g.W.World.tells c.args.world.now) (g.W.World.tells c.loop-count.world) (Closes config end s.slirp.forwards s.slirp.associations s.slirp.flows.flows.parts)) (sym c.self-2.view_is) ran)
     c.close_all.ensures.makes
 
 pub returns-clause-served : goal.returns-clause-served

@@ -12,16 +12,16 @@ use Rattle.serve_loop.proofs.Turning.{any_left, both_of, counts_on, enough, ende
 use Rattle.serve_loop.proofs.service.Service.work.Goals as goal
 
 pub attend-requires-clause-number : goal.attend-requires-clause-number
-attend-requires-clause-number g c is = enough c.loop-place.self.slirp.number c.args.self.now.slirp.number c.loop-place.to_read is c.loop-place.invariant.number c.requires.number
+attend-requires-clause-number g c = omega (arith, c.loop-place.invariant.number, c.requires.number, c.loop-place-test.true)
 
 pub loop-place-init : goal.loop-place-init
 loop-place-init g c = record {
   makes = λ config count. brings_none (λ past holds. holds);
   reads = λ is. (both_of (reads TheLink c.args.self.now.wants) (reads TheLink c.args.self.now.ready) (sym c.may_read-to_read.ensures ∙ is)).0;
-  counts = (omega arith, omega arith);
+  counts = (omega arith, omega arith, omega arith);
   on = c.requires.on;
   config = refl;
-  number = any_left c.args.self.now.slirp.number c.may_read-to_read.result;
+  number = omega arith;
   turns = refl;
   reports = (refl, refl);
   passed = λ all. (refl, refl);
@@ -61,8 +61,7 @@ loop-place-preserved g c =
       counts = grown_then (g.W.World.tells c.args.world.now).faults (g.W.World.tells old.world).faults (g.W.World.tells new.world).faults old.invariant.counts c.in-Again.ensures.faults;
       on = c.in-Again.ensures.on;
       config = c.in-Again.ensures.config ∙ old.invariant.config;
-      number = subst (λ (b : Bool). new.self.slirp.number + (if b then 1 else 0) ≤ c.args.self.now.slirp.number + 1) (sym c.still-to_read.ensures)
-          (counts_on new.self.slirp.number old.self.slirp.number c.args.self.now.slirp.number old.to_read _ _ c.in-Again.ensures.number old.invariant.number);
+      number = omega (arith, c.in-Again.ensures.number, old.invariant.number);
       turns = c.in-Again.ensures.turns ∙ old.invariant.turns;
       reports = (c.in-Again.ensures.reports.0 ∙ old.invariant.reports.0, c.in-Again.ensures.reports.1 ∙ old.invariant.reports.1);
       passed = λ all.

@@ -18,7 +18,7 @@ invariant-loop-place g l = record {
   counts : AreGrown (g.W.World.tells l.fn.world).faults (g.W.World.tells l.world).faults;
   on : ReadsOn (under_way l.self.link);
   config : l.self.slirp.config ≡ l.fn.self.slirp.config;
-  number : l.self.slirp.number + (if l.to_read then 1 else 0) ≤ l.fn.self.slirp.number + 1;
+  number : l.self.slirp.number ≤ l.fn.self.slirp.number + l.place;
   turns : l.self.slirp.flows.turn ≡ l.fn.self.slirp.flows.turn;
   reports : (l.self.wants ≡ l.fn.self.wants) × (l.self.ready ≡ l.fn.self.ready);
   passed : all_passed_over l.fn.self.wants l.fn.self.ready ≡ true → (l.self ≡ l.fn.self) × (l.world ≡ l.fn.world);

@@ -18,7 +18,7 @@ returns-clause-receives g c a held =
 pub returns-clause-makes : goal.returns-clause-makes
 returns-clause-makes g c config count wants item items aged link reported out =
     let i = c.self.inside in
-    let slirp : SlirpState = record { config = i.policy; known = i.guests; sent = i.sent; pending = i.outgoing; moment = i.moment; number = i.number; associations = i.associations.list; parts = i.reasm; flows = i.flows; leases = i.leases.leases } in
+    let slirp : SlirpState = record { config = i.policy; known = i.guests; sent = i.sent; pending = i.outgoing; moment = i.moment; number = i.number; associations = i.associations.list; parts = i.reasm; flows = i.flows; leases = i.leases.leases; forwards = i.forwards } in
     let none = ap (λ (s : SlirpState). s.pending) c.self.view_is ∙ c.requires.none in
     subst (λ (s : SlirpState). Brings (g.W.World.tells c.args.world.now) (g.W.World.tells c.host-reply.new.world) (Holds config (standing count wants (item ∷ items)) s (flowing aged s.flows) link) (Holds config (standing count wants items) c.answer_peer.new.self (flowing aged c.answer_peer.new.self.flows) link)) c.self.view_is
     (brings_allowed c.host-reply.ensures.hears (λ made hears allowed past holds.

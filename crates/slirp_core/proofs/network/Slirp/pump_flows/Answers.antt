@@ -13,7 +13,7 @@ use Rattle.slirp_core.proofs.network.Slirp.pump_flows.Goals as goal
 pub returns-clause-makes : goal.returns-clause-makes
 returns-clause-makes g c config at aged =
     let i = c.self.inside in
-    let slirp : SlirpState = record { config = i.policy; known = i.guests; sent = i.sent; pending = i.outgoing; moment = i.moment; number = i.number; associations = i.associations.list; parts = i.reasm; flows = i.flows; leases = i.leases.leases } in
+    let slirp : SlirpState = record { config = i.policy; known = i.guests; sent = i.sent; pending = i.outgoing; moment = i.moment; number = i.number; associations = i.associations.list; parts = i.reasm; flows = i.flows; leases = i.leases.leases; forwards = i.forwards } in
     let new = c.pump-pumped.new.self in
     let none = ap (λ (s : SlirpState). s.pending) c.self.view_is ∙ c.requires.out in
     let result = c.pump-pumped.result in

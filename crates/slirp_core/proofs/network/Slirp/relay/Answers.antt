@@ -13,7 +13,7 @@ use Rattle.slirp_core.proofs.network.Slirp.relay.Goals as goal
 pub returns-clause-makes : goal.returns-clause-makes
 returns-clause-makes g c config at aged link =
     let i = c.self.inside in
-    let slirp : SlirpState = record { config = i.policy; known = i.guests; sent = i.sent; pending = i.outgoing; moment = i.moment; number = i.number; associations = i.associations.list; parts = i.reasm; flows = i.flows; leases = i.leases.leases } in
+    let slirp : SlirpState = record { config = i.policy; known = i.guests; sent = i.sent; pending = i.outgoing; moment = i.moment; number = i.number; associations = i.associations.list; parts = i.reasm; flows = i.flows; leases = i.leases.leases; forwards = i.forwards } in
     let errand = errand_of c.args.errand.now in
     subst (λ (s : SlirpState). Brings (g.W.World.tells c.args.world.now) (g.W.World.tells c.guest-reply.new.world) (HoldsAt config at (asked_by config s.associations (Some errand)) s (flowing aged s.flows) link) (Holds config at c.tell.new.self (flowing aged c.tell.new.self.flows) link)) c.self.view_is
     (brings_allowed c.guest-reply.ensures.relays (λ made relays allowed past holds.

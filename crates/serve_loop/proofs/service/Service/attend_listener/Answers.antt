@@ -1,0 +1,22 @@
+use Rattle.std.proofs.Common.{false}
+use Rattle.poll_list.specs.declared.Who.TheVariants.{Listener}
+use Rattle.world_face.proofs.Telling.{brings_none, brings_then}
+use Rattle.slirp_core.specs.Holds.{flowing, standing}
+use Rattle.slirp_core.proofs.Associating.{passes_over}
+use Rattle.serve_loop.proofs.Turning.{of_listener, read_counts}
+use Rattle.serve_loop.proofs.service.Service.attend_listener.Goals as goal
+
+pub returns-then-not-waits_for_peers-clause-makes : goal.returns-then-not-waits_for_peers-clause-makes
+returns-then-not-waits_for_peers-clause-makes g c config count items =
+    brings_none (λ past holds. passes_over config count c.args.self.now.wants c.args.item.now items c.args.self.now.slirp (flowing false c.args.self.now.slirp.flows) c.args.self.now.link past holds)
+
+pub returns-clause-makes : goal.returns-clause-makes
+returns-clause-makes g c config count items =
+    let waited = c.waits_for_peers.ensures c.if-not-waits_for_peers.false in
+    brings_then (c.accept.ensures.makes config count c.args.self.now.wants c.args.item.now items (of_listener c.args.number c.args.self.now.wants c.args.item.now c.requires.of waited.0 waited.1))
+    (c.pump.ensures.makes config (standing count c.args.self.now.wants items) false)
+
+pub returns-clause-passed : goal.returns-clause-passed
+returns-clause-passed g c passed =
+    let waited = c.waits_for_peers.ensures c.if-not-waits_for_peers.false in
+    absurd (read_counts c.args.self.now.wants c.args.item.now (Listener c.args.number) c.requires.of waited.0 waited.1 passed)

@@ -1,0 +1,236 @@
+-- A peer comes to a port of the host that is given to a guest: its flow begins, or it is refused and its socket closed, or none has come.
+use Rattle.std.proofs.Common.{◌≡◌, ℕ, ◌<◌, ◌+◌, ◌==◌, ◌&&◌, ◌||◌, not, nat_lt, Bool, true, false, List, [], ◌∷◌, ◌++◌, find, filter, length, slice_get, Option, Some, None, inl, inr, refl, sym, ◌∙◌, ap, subst, arith, if◌then◌else◌}
+use Rattle.std.proofs.lemmas.Bool.Decides.{nat_tests}
+use Rattle.std.specs.Prelude.{Contains}
+use Rattle.net_octets.specs.declared.Endpoint.{Endpoint}
+use Rattle.net_octets.specs.declared.Mac.{Mac}
+use Rattle.poll_list.specs.declared.Want.{Want}
+use Rattle.poll_list.specs.declared.Who.TheVariants.{Listener as AListener}
+use Rattle.world_face.specs.Journal.{Accept, Allowed, CallAccept, CallClose, Close, Entry}
+use Rattle.world_face.specs.declared.Accepted.{Accepted}
+use Rattle.world_face.specs.declared.Accepted.TheVariants.{From, NotYet as NotYetAccepted, Failed as AcceptFailed}
+use Rattle.host_policy.specs.Addresses.{Config}
+use Rattle.arp_table.specs.Table.{mac_of as learnt_for}
+use Rattle.flow_table.specs.declared.Tuple.{Tuple}
+use Rattle.flow_book.specs.Book.{book, doom, is_refused, port_of, quiet, tuple_for, visits_for}
+use Rattle.flow_book.specs.Flows.{Book, Flow, flow_of, used}
+use Rattle.flow_book.specs.Lots.{due_for_flows}
+use Rattle.flow_book.specs.Taught.{taught}
+use Rattle.run_laws.specs.Moments.{moment}
+use Rattle.run_laws.specs.Shape.{is_working}
+use Rattle.run_laws.specs.Sockets.{Flow as OfFlow, Listener, is_among, is_listener, kind_of, next_number, number_for_peer, open_sockets, with_peer}
+use Rattle.core_flows.specs.Seats.{in_use_slots}
+use Rattle.slirp_laws.specs.Agenda.{agenda, all_wanted, is_to_read, wanted_of}
+use Rattle.slirp_laws.specs.Errands.{errand_left}
+use Rattle.slirp_laws.specs.Laws.{Lawful, May, due, takes_peers}
+use Rattle.slirp_laws.proofs.Bools.{among_last, and_both, same}
+use Rattle.slirp_laws.proofs.Deeds.{accepts}
+use Rattle.stream_netdev.specs.State.{LinkState}
+use Rattle.spliced_flows.specs.Core.{CoreHolds, Following, mac_of, number_of}
+use Rattle.spliced_flows.proofs.Known.{known_was_taught}
+use Rattle.spliced_flows.proofs.Options.{true_false}
+use Rattle.spliced_flows.proofs.Others.{holds_quiet}
+use Rattle.tcp_flows.specs.Kept.{Kept}
+use Rattle.tcp_flows.specs.Runs.{Between, Visits, Welcomes}
+use Rattle.slirp_core.specs.Holds.{Begins, Holds, InTurn, OfSockets, Stands, Turns, flowing, is_ours, standing}
+use Rattle.slirp_core.specs.State.{SlirpState}
+use Rattle.slirp_core.proofs.Called.{between}
+use Rattle.slirp_core.proofs.Guests.{guests_stay}
+use Rattle.slirp_core.proofs.Open.{given_in}
+use Rattle.slirp_core.proofs.Parts.{asks_nothing, behind_of, asked_for, due_is, keeps_by, reads_of}
+use Rattle.slirp_core.proofs.Services.{none_due_for_services, services_stay}
+
+-- the kinds of sockets, where a peer came or none
+kinds_visited : (listener number : ℕ) (answer : Accepted) (past : List Entry) → ((n : ℕ) → is_among n (open_sockets past) ≡ true → is_ours (kind_of n past) ≡ true)
+    → (n : ℕ) → is_among n (with_peer answer number (open_sockets past)) ≡ true → is_ours (kind_of n (Accept listener number answer ∷ past)) ≡ true
+kinds_visited listener number answer past kinds n among = by (number == n) refl
+  where
+    turned : (number == n) ≡ false → (n == number) ≡ false
+    turned is = grind (arith, nat_tests, is)
+
+    only : (a b : Bool) → b ≡ false → (a || b) ≡ true → a ≡ true
+    only true b is or = refl
+    only false b is or = cc
+
+    before : (a : Accepted) → (n == number) ≡ false → is_among n (with_peer a number (open_sockets past)) ≡ true → is_among n (open_sockets past) ≡ true
+    before (From peer) other is = only (is_among n (open_sockets past)) (n == number) other (sym (among_last n number (open_sockets past)) ∙ is)
+    before NotYetAccepted other is = is
+    before AcceptFailed other is = is
+
+    by : (b : Bool) → (number == n) ≡ b → is_ours (if b then Some OfFlow else kind_of n past) ≡ true
+    by true is = refl
+    by false is = kinds n (before answer (turned is) among)
+
+module _ (config : Config) (count : ℕ) (wants : List Want) (item : Want) (items : List Want) (listener : ℕ) (reads_it : is_to_read (AListener listener) (wanted_of wants item) ≡ true) (slirp : SlirpState) (link : LinkState) (past : List Entry)
+    (holds : Holds config (standing count wants (item ∷ items)) slirp (flowing false slirp.flows) link past) (is_open : listener < length config.forwards) (room : in_use_slots slirp.flows.flows.table.slots < length slirp.flows.flows.table.slots) where
+  -- something was reported, so the first wait has been
+  turn : InTurn config past
+  turn = by holds.stands
+    where
+      no_last : (before : List Want) (x : Want) (rest : List Want) → [] ≡ before ++ x ∷ rest → ⊥
+      no_last [] x rest is = cc
+      no_last (y ∷ before) x rest is = cc
+
+      by : Stands config _ slirp slirp.flows link past → InTurn config past
+      by (Turns t) = t
+      by (Begins unbegun free unrested) = absurd (no_last holds.agenda.0 (wanted_of wants item) (all_wanted wants items) (sym unbegun.unreported ∙ holds.agenda.1))
+
+  has : _
+  has = given_in config (standing count wants (item ∷ items)) _ slirp (flowing false slirp.flows) link past holds
+
+  takes : takes_peers config past listener ≡ true
+  takes =
+      and_both (is_among listener (open_sockets past) && is_listener (kind_of listener past)) (nat_lt (used (book config past).flows) config.flows)
+      (and_both (is_among listener (open_sockets past)) (is_listener (kind_of listener past)) (has.stay holds.open_yet listener is_open) (ap is_listener (has.listening listener is_open)))
+      (let counted = holds.flows.holds.seats.counted in let slots = holds.flows.holds.slots in grind (arith, nat_tests, counted, slots, room))
+
+  may_accept : May config past (CallAccept listener slirp.number)
+  may_accept = accepts config past listener slirp.number
+      (due_is config past _ turn.working (none_due_for_services config past holds.services.unresolved) holds.flows.holds.asked (asked_for config (standing count wants (item ∷ items)) _ slirp (flowing false slirp.flows) link past holds))
+      (ap is_working turn.working) takes (ap (λ n. slirp.number == n) holds.sockets.number ∙ same slirp.number)
+      (reads_of (AListener listener) (wanted_of wants item) (all_wanted wants items) (agenda past) reads_it holds.agenda) holds.open_yet
+
+  -- what an accept leaves, by its answer
+  module _ (answer : Accepted) (number : ℕ) (kept : Kept) (fine : Allowed (Accept listener slirp.number answer)) (then_is : Between config slirp.moment false None kept (Accept listener slirp.number answer ∷ past))
+      (next : next_number (Accept listener slirp.number answer ∷ past) ≡ number)
+      (kinds : (n : ℕ) → is_among n (open_sockets (Accept listener slirp.number answer ∷ past)) ≡ true → is_ours (kind_of n (Accept listener slirp.number answer ∷ past)) ≡ true) where
+    abbrev e : Entry
+    e = Accept listener slirp.number answer
+
+    came : Holds config (standing count wants items) (record slirp { number = number }) (flowing false kept) link (e ∷ past)
+    came = record {
+      lawful = then_is.lawful;
+      allowed = (fine, holds.allowed);
+      keeps = keeps_by link e past tt refl refl refl holds.keeps;
+      answers = record { sent = holds.answers.sent; pending = holds.answers.pending };
+      guests = guests_stay config slirp (record slirp { number = number }) e past refl refl holds.guests;
+      relayed = record { list = holds.relayed.list; asks = asks_nothing config slirp.associations (errand_left config (e ∷ past)) then_is.work.errand };
+      services = services_stay config slirp (record slirp { number = number }) e past refl refl holds.services;
+      forwards = holds.forwards;
+      flows = record { holds = then_is.holds; settings = then_is.settings; asked = then_is.asked; unit = holds.flows.unit };
+      sockets = record { number = next; kinds = kinds };
+      clock = record { moment = holds.clock.moment; counted = holds.clock.counted };
+      stands = Turns (record { working = then_is.work.working; waited = turn.waited });
+      agenda = behind_of (AListener listener) (wanted_of wants item) (all_wanted wants items) (agenda past) reads_it holds.agenda;
+      open_yet = then_is.work.open_yet;
+    }
+
+  -- ---- none has come
+
+  module _ (answer : Accepted) (fine : Allowed (Accept listener slirp.number answer)) (nobody : doing config past (Accept listener slirp.number answer) ≡ Nothing) (next : number_for_peer answer (next_number past) ≡ next_number past)
+      (same_sockets : with_peer answer slirp.number (open_sockets past) ≡ open_sockets past) where
+    abbrev none_at : Entry
+    none_at = Accept listener slirp.number answer
+
+    quiet_flows : OfFlows config (flowing false slirp.flows) slirp.moment (none_at ∷ past)
+    quiet_flows = flows_stay config (flowing false slirp.flows) slirp.moment none_at past nobody (omega (arith, next)) refl holds.flows
+
+    pub none_came : Holds config (standing count wants items) slirp (flowing false slirp.flows) link (none_at ∷ past)
+    none_came = came answer slirp.number slirp.flows fine (record {
+      holds = quiet_flows.holds;
+      asked = quiet_flows.asked;
+      settings = quiet_flows.settings;
+      lawful = (may_accept, holds.lawful);
+      work = record { working = turn.working; errand = errand_for config _ slirp past holds.relayed; services = none_due_for_services config (none_at ∷ past) holds.services.unresolved; open_yet = holds.open_yet };
+      at = holds.clock.moment;
+    }) (next ∙ holds.sockets.number) (λ n among. kinds_visited listener slirp.number answer past holds.sockets.kinds n among)
+
+  -- ---- a peer has
+
+  module _ (guest peer : Endpoint) (port : port_of config listener ≡ Some guest) (fine : Allowed (Accept listener slirp.number (From peer))) where
+    abbrev visit : Entry
+    visit = Accept listener slirp.number (From peer)
+
+    -- its flow begins
+    pub welcomed : (kept : Kept) (mac : Option Mac) → is_refused config guest peer (book config past) ≡ false → mac ≡ learnt_for guest.addr slirp.known → Welcomes slirp.moment slirp.number slirp.flows kept (tuple_for config guest peer) mac
+        → Holds config (standing count wants items) (record slirp { number = slirp.number + 1 }) (flowing false kept) link (visit ∷ past)
+    welcomed kept mac welcome found welcomes = came (From peer) (slirp.number + 1) kept fine
+        (welcomes config listener peer past (record {
+          between = between config (standing count wants (item ∷ items)) slirp (flowing false slirp.flows) link past turn holds;
+          next = sym holds.sockets.number;
+          guest = guest;
+          port = port;
+          tuple = refl;
+          welcome = welcome;
+          learnt = λ m is. known_was_taught config past guest.addr m (ap (learnt_for guest.addr) holds.guests.known ∙ sym found ∙ is);
+          lawful = (may_accept, holds.lawful);
+          work = record { working = turn.working; errand = errand_for config _ slirp past holds.relayed; services = none_due_for_services config (visit ∷ past) holds.services.unresolved; open_yet = holds.open_yet };
+        }))
+        (ap (λ n. n + 1) holds.sockets.number) (λ n among. kinds_visited listener slirp.number (From peer) past holds.sockets.kinds n among)
+
+    -- or its socket is closed at once
+    module _ (refused : is_refused config guest peer (book config past) ≡ true) (closed_fine : Allowed (Close slirp.number)) where
+      abbrev shut_again : List Entry
+      shut_again = Close slirp.number ∷ visit ∷ past
+
+      doomed_is : book config (visit ∷ past) ≡ doom slirp.number (book config past)
+      doomed_is =
+          ap (λ o. visits_for config (moment past) slirp.number peer o (book config past)) port
+          ∙ ap (λ (b : Bool). if b then doom slirp.number (book config past) else opens config (moment past) slirp.number (tuple_for config guest peer) (Accepts (first_number (moment past) (length (book config past).flows))) (book config past)) refused
+
+      no_flow_yet : flow_of slirp.number (book config past).flows ≡ None
+      no_flow_yet = subst (λ n. flow_of n (book config past).flows ≡ None) holds.sockets.number (holds.flows.holds.seats.fresh (next_number past) (omega arith))
+
+      no_flow_then : flow_of slirp.number (book config (visit ∷ past)).flows ≡ None
+      no_flow_then = ap (λ (b : Book). flow_of slirp.number b.flows) doomed_is ∙ no_flow_yet
+
+      close_is_due : due_for_flows config (book config (visit ∷ past)) (next_number (visit ∷ past)) ≡ Some (CallClose slirp.number)
+      close_is_due = ap (λ b. due_for_flows config b (next_number (visit ∷ past))) doomed_is
+
+      work_then : InWork config (visit ∷ past)
+      work_then = record { working = turn.working; errand = errand_for config _ slirp past holds.relayed; services = none_due_for_services config (visit ∷ past) holds.services.unresolved; open_yet = holds.open_yet }
+
+      its_kind : kind_for config slirp.number (visit ∷ past) ≡ Some OfFlow
+      its_kind = ap (λ b. if b then Some OfFlow else kind_for config slirp.number past) (same slirp.number)
+
+      may_part_it : parts config (visit ∷ past) slirp.number ≡ true
+      may_part_it =
+          ap (may_part config (visit ∷ past) slirp.number) its_kind
+          ∙ ap (λ o. may_leave (scene config (visit ∷ past)) (book config (visit ∷ past)) slirp.number o) no_flow_then
+          ∙ ap (λ (b : Book). is_it slirp.number b.doomed) doomed_is ∙ same slirp.number
+
+      may_shut : May config (visit ∷ past) (CallClose slirp.number)
+      may_shut = closes config (visit ∷ past) slirp.number
+          (this_one config (visit ∷ past) (CallClose slirp.number) (due_for_a_flow config (visit ∷ past) work_then ∙ close_is_due))
+          (ap (λ p. is_working p || is_over p) turn.working)
+          (and_both (is_among slirp.number (open_sockets past ++ (slirp.number ∷ []))) _
+          (among_last slirp.number slirp.number (open_sockets past) ∙ or_second (is_among slirp.number (open_sockets past)) (slirp.number == slirp.number) (same slirp.number))
+          (ap (λ (b : Bool). if b then is_least slirp.number (open_sockets (visit ∷ past)) else parts config (visit ∷ past) slirp.number || (is_ended config (visit ∷ past) && is_least slirp.number (open_sockets (visit ∷ past)))) holds.open_yet
+          ∙ ap (λ b. b || (is_ended config (visit ∷ past) && is_least slirp.number (open_sockets (visit ∷ past)))) may_part_it))
+          (record {
+            due = subst (λ o. MatchOption o (Unit {0}) (λ d. CallClose slirp.number ≡ d)) (sym close_is_due) refl;
+            touches = subst (MayShut (flow_settings config) (scene config (visit ∷ past)) (book config (visit ∷ past)).came) (sym no_flow_then) tt;
+          })
+
+      book_then : book config shut_again ≡ quiet (book config past)
+      book_then = close_same config (visit ∷ past) slirp.number no_flow_then ∙ ap quiet doomed_is
+
+      flows_then : OfFlows config (flowing false slirp.flows) slirp.moment shut_again
+      flows_then = flows_since config (flowing false slirp.flows) slirp.moment (Close slirp.number ∷ visit ∷ []) past book_then (omega arith) refl holds.flows (asked_by_none config slirp.flows.flows.parts past holds.flows.asked)
+
+      asked_by_none : AreAsked config slirp.flows.flows.parts past → AreAsked config slirp.flows.flows.parts shut_again
+      asked_by_none asked = asked
+
+      kinds_then : (n : ℕ) → is_among n (open_sockets shut_again) ≡ true → is_ours (kind_of n shut_again) ≡ true
+      kinds_then n among =
+          kinds_visited listener slirp.number (From peer) past holds.sockets.kinds n
+          (second_of (not (n == slirp.number)) (is_among n (open_sockets (visit ∷ past))) (sym (among_without n slirp.number (open_sockets (visit ∷ past))) ∙ among))
+
+      pub turned_away : Holds config (standing count wants items) (record slirp { number = slirp.number + 1 }) (flowing false slirp.flows) link shut_again
+      turned_away = record {
+        lawful = (may_shut, may_accept, holds.lawful);
+        allowed = (closed_fine, fine, holds.allowed);
+        keeps = keeps_by link (Close slirp.number) (visit ∷ past) tt refl refl refl (keeps_by link visit past tt refl refl refl holds.keeps);
+        answers = record { sent = holds.answers.sent; pending = holds.answers.pending };
+        guests = guests_stay config (record slirp { number = slirp.number + 1 }) (record slirp { number = slirp.number + 1 }) (Close slirp.number) (visit ∷ past) refl refl (guests_stay config slirp (record slirp { number = slirp.number + 1 }) visit past refl refl holds.guests);
+        relayed = record { list = holds.relayed.list; asks = holds.relayed.asks };
+        services = services_stay config (record slirp { number = slirp.number + 1 }) (record slirp { number = slirp.number + 1 }) (Close slirp.number) (visit ∷ past) refl refl
+            (services_stay config slirp (record slirp { number = slirp.number + 1 }) visit past refl refl holds.services);
+        forwards = holds.forwards;
+        flows = flows_then;
+        sockets = record { number = ap (λ n. n + 1) holds.sockets.number; kinds = kinds_then };
+        clock = record { moment = holds.clock.moment; counted = holds.clock.counted };
+        stands = Turns (record { working = turn.working; waited = turn.waited });
+        agenda = behind_of (AListener listener) (wanted_of wants item) (all_wanted wants items) (agenda past) reads_it holds.agenda;
+        open_yet = still_open config (Close slirp.number) (visit ∷ past) (ap not may_part_it) holds.open_yet;
+      }

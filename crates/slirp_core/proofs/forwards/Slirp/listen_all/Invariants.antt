@@ -1,0 +1,12 @@
+use Rattle.std.proofs.Common.{◌≡◌, ◌≤◌}
+use Rattle.host_policy.specs.Addresses.{Config}
+use Rattle.world_face.specs.Tells.{Brings}
+use Rattle.stream_netdev.specs.State.{LinkState}
+use Rattle.slirp_core.specs.Holds.{Opens}
+use Rattle.slirp_core.proofs.forwards.Slirp.listen_all.Given as goal
+
+abbrev pub invariant-loop : goal.invariant-loop
+invariant-loop g l = record {
+  makes : (config : Config) (link : LinkState) → l.fn.self.config ≡ config → Brings (g.W.World.tells l.fn.world) (g.W.World.tells l.world) (Opens config 0 l.fn.self link) (Opens config l.place l.self link);
+  others : l.self ≡ record l.fn.self { number = l.place; forwards = l.self.forwards };
+}

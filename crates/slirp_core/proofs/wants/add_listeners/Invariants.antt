@@ -1,0 +1,12 @@
+use Rattle.std.proofs.Common.{◌≡◌, ◌+◌, ◌++◌, map, take, length}
+use Rattle.poll_list.specs.Listing.{AreWants}
+use Rattle.slirp_core.specs.Pumps.{listener_want}
+use Rattle.slirp_core.proofs.wants.add_listeners.Given as goal
+
+abbrev pub invariant-loop-number : goal.invariant-loop-number
+invariant-loop-number l = record {
+  items : l.wants.items ≡ l.fn.wants.items ++ map listener_want (take l.number-index l.numbers);
+  are : AreWants l.wants.items;
+  room : length l.wants.items ≡ length l.fn.wants.items + l.number-index;
+  capacity : l.wants.capacity ≡ l.fn.wants.capacity;
+}
