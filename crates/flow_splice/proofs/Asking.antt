@@ -16,7 +16,7 @@ use Rattle.flow_laws.specs.Flow.{opened_at}
 use Rattle.flow_steps.specs.Resends.{Seeks, least_wait}
 use Rattle.flow_steps.proofs.InTime.{asks_again, asks_first}
 use Rattle.connection_steps.proofs.Asking.{asks_address}
-use Rattle.flow_splice.specs.Asks.{Asks}
+use Rattle.flow_splice.specs.Asks.{AsksOnce}
 use Rattle.flow_splice.specs.Entries.{AreEvents, ident_after}
 use Rattle.flow_splice.specs.Follows.{Follows, FollowsAt, IsOpen}
 use Rattle.flow_splice.specs.Frames.{request_frame}
@@ -55,17 +55,17 @@ pub learn_then : (f new : Splice) (mac : Option Mac) (link next : LinkState) (fi
 learn_then f new mac link next first last now made sends = ((λ s past before ended known on h. sends.0 s past before ended known on (learn_follows s f mac past before h)), sends.1)
 
 -- what a pump asks for is by the address that the flow has then
-pub known_asks : (f new : Splice) (mac : Option Mac) (now : ℕ) (made : List Entry) {to : Mac} → or_known mac f.mac ≡ Some to → new.asked ≡ f.asked → Asks (or_known mac f.mac) f new now made
-known_asks f new mac now made known same = subst (λ (o : Option Mac). Asks o f new now made) (sym known) same
+pub known_asks : (f new : Splice) (mac : Option Mac) (now : ℕ) (made : List Entry) {to : Mac} → or_known mac f.mac ≡ Some to → new.asked ≡ f.asked → AsksOnce (or_known mac f.mac) f new now made
+known_asks f new mac now made known same = subst (λ (o : Option Mac). AsksOnce o f new now made) (sym known) same
 
-pub unknown_asks : (f new : Splice) (mac : Option Mac) (now : ℕ) (made : List Entry) → or_known mac f.mac ≡ None → Asks None (learnt f mac) new now made → Asks (or_known mac f.mac) f new now made
+pub unknown_asks : (f new : Splice) (mac : Option Mac) (now : ℕ) (made : List Entry) → or_known mac f.mac ≡ None → AsksOnce None (learnt f mac) new now made → AsksOnce (or_known mac f.mac) f new now made
 unknown_asks f new (Some to) now made unknown asks = absurd cc
-unknown_asks f new None now made unknown asks = subst (λ (o : Option Mac). Asks o f new now made) (sym unknown) asks
+unknown_asks f new None now made unknown asks = subst (λ (o : Option Mac). AsksOnce o f new now made) (sym unknown) asks
 
-pub learn_asks : (f new : Splice) (mac : Option Mac) (now : ℕ) → new ≡ learnt f mac → Asks (or_known mac f.mac) f new now []
+pub learn_asks : (f new : Splice) (mac : Option Mac) (now : ℕ) → new ≡ learnt f mac → AsksOnce (or_known mac f.mac) f new now []
 learn_asks f new mac now is = by (or_known mac f.mac) refl
   where
-    by : (o : Option Mac) → or_known mac f.mac ≡ o → Asks o f new now []
+    by : (o : Option Mac) → or_known mac f.mac ≡ o → AsksOnce o f new now []
     by (Some to) known = ap (λ (x : Splice). x.asked) is
     by None unknown = inl (refl, is ∙ ap (λ (o : Option Mac). record f { mac = o }) (unknown ∙ sym (or_none mac f.mac unknown)))
 

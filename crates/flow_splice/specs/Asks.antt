@@ -18,6 +18,6 @@ pub record Requests (old new : Splice) (now : ℕ) (made : List Entry) : Type 0 
   pub fits : old.face.guest.addr.0 < 2 ^ 32
 
 -- A guest whose hardware address is known isn't asked for. Another one is at most once, or nothing is called and nothing changes.
-abbrev pub Asks : Option Mac → (old new : Splice) → (now : ℕ) → List Entry → Type 0
-Asks (Some mac) old new now made = new.asked ≡ old.asked
-Asks None old new now made = ((made ≡ []) × (new ≡ old)) ⊎ Requests old new now made
+abbrev pub AsksOnce : Option Mac → (old new : Splice) → (now : ℕ) → List Entry → Type 0
+AsksOnce (Some mac) old new now made = new.asked ≡ old.asked
+AsksOnce None old new now made = ((made ≡ []) × (new ≡ old)) ⊎ Requests old new now made

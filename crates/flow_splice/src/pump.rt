@@ -156,7 +156,7 @@ impl Spliced {
 // The pump.
 impl Spliced {
     ghost use Rattle.flow_splice.specs.Ahead.{IsAhead, IsEarly};
-    ghost use Rattle.flow_splice.specs.Asks.{Asks};
+    ghost use Rattle.flow_splice.specs.Asks.{AsksOnce};
     ghost use Rattle.flow_splice.specs.Follows.{Follows};
     ghost use Rattle.flow_splice.specs.Hosts.{IsAsOld};
     ghost use Rattle.flow_splice.specs.Left.{left};
@@ -181,7 +181,7 @@ impl Spliced {
         requires now { now ≤ 2 ^ 62 }
         requires tail { link.old.blocked ≡ false → link.old.tail ≡ [] }
         ensures makes { Makes (W.tells world.old) (W.tells world.new) (λ made. SendsOn self.old self.new link.old link.new ident.old ident.new now made × IsPumpWork result made
-            × Asks (or_known mac self.old.mac) self.old self.new now made) }
+            × AsksOnce (or_known mac self.old.mac) self.old self.new now made) }
         ensures blocked { result ≡ Blocked → link.new.blocked ≡ true }
         ensures free { result ≡ Clear → (link.new.blocked ≡ false) × (link.new.tail ≡ []) }
         ensures failed { result ≡ Failed → Rose (W.tells world.old).faults.link (W.tells world.new).faults.link }
@@ -237,7 +237,7 @@ impl Spliced {
         requires free { link.old.blocked ≡ false }
         requires unknown { self.old.mac ≡ None }
         ensures makes { Makes (W.tells world.old) (W.tells world.new) (λ made.
-            ((first : ℕ) → first < 2 ^ 16 → SendsOn self.old self.new link.old link.new first first now made) × IsPumpWork result made × Asks None self.old self.new now made) }
+            ((first : ℕ) → first < 2 ^ 16 → SendsOn self.old self.new link.old link.new first first now made) × IsPumpWork result made × AsksOnce None self.old self.new now made) }
         ensures blocked { result ≡ Blocked → link.new.blocked ≡ true }
         ensures free { result ≡ Clear → (link.new.blocked ≡ false) × (link.new.tail ≡ []) }
         ensures failed { result ≡ Failed → Rose (W.tells world.old).faults.link (W.tells world.new).faults.link }

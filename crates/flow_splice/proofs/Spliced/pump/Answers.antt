@@ -1,7 +1,7 @@
 use Rattle.std.proofs.Common.{◌≡◌, ℕ, [], None, refl, arith, subst, sym, ap, ◌∙◌}
 use Rattle.world_face.proofs.Telling.{makes_as, makes_none}
 use Rattle.stream_netdev.specs.State.{LinkState}
-use Rattle.flow_splice.specs.Asks.{Asks}
+use Rattle.flow_splice.specs.Asks.{AsksOnce}
 use Rattle.flow_splice.specs.Sends.{SendsOn}
 use Rattle.flow_splice.specs.Splice.{Splice, is_open}
 use Rattle.tcp_guest.specs.Connection.{Connection}
@@ -49,7 +49,7 @@ returns-in-None-clause-makes g c =
     (λ made sends. (
       learn_then f new c.args.mac link next first first c.args.now made (subst (λ (x : Splice). SendsOn x new link next first first c.args.now made) c.learn.ensures (sends.0 first (omega arith))),
       sends.1,
-      unknown_asks f new c.args.mac c.args.now made (ap (λ (x : Splice). x.mac) (sym c.learn.ensures) ∙ sym c.mac.ensures ∙ c.in-None.is) (subst (λ (x : Splice). Asks None x new c.args.now made) c.learn.ensures sends.2),
+      unknown_asks f new c.args.mac c.args.now made (ap (λ (x : Splice). x.mac) (sym c.learn.ensures) ∙ sym c.mac.ensures ∙ c.in-None.is) (subst (λ (x : Splice). AsksOnce None x new c.args.now made) c.learn.ensures sends.2),
     ))
 
 pub returns-in-Some-clause-ahead : goal.returns-in-Some-clause-ahead
