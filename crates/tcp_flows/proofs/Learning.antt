@@ -1,8 +1,9 @@
 -- Flows are told the hardware addresses of their guests.
-use Rattle.std.proofs.Common.{refl, ◌≡◌, ℕ, ◌+◌, ◌<◌, ◌≤◌, ◌&&◌, not, Bool, true, false, List, [], length, map, set, Some, None, Option, is_some, option_map, if◌then◌else◌, slice_get, ◌⊎◌, inl, inr, ap, sym, ◌∙◌, subst, arith}
+use Rattle.std.proofs.Common.{refl, ◌≡◌, ℕ, zero, suc, ◌+◌, ◌<◌, ◌≤◌, ◌&&◌, not, Bool, true, false, List, [], ◌∷◌, length, map, set, Some, None, Option, is_some, option_map, if◌then◌else◌, get_or, slice_get, ◌⊎◌, inl, inr, ap, sym, ◌∙◌, subst, arith}
 use Rattle.std.proofs.lemmas.Bool.{cases_lt}
-use Rattle.std.proofs.lemmas.List.{map-set}
+use Rattle.std.proofs.lemmas.List.{length-map, map-set}
 use Rattle.std.proofs.lemmas.Option.{slice_get_within}
+use Rattle.net_octets.specs.declared.Endpoint.{Endpoint}
 use Rattle.net_octets.specs.declared.Ip4.{Ip4}
 use Rattle.net_octets.specs.declared.Mac.{Mac}
 use Rattle.arp_table.specs.Table.{mac_of as learnt_for}
@@ -31,12 +32,14 @@ use Rattle.spliced_flows.proofs.Options.{none_some, some_same, true_false}
 use Rattle.spliced_flows.proofs.Told.{core_told}
 use Rattle.tcp_flows.specs.Kept.{IsFor, Kept, flows_of, part_at, part_of, slot_of, with_flows}
 use Rattle.tcp_flows.specs.Reading.{AreTaught, AreTold, IsOpenAt, NoneInSlots, Stays, taught}
-use Rattle.tcp_flows.specs.Rows.{Moves, MovesAt, count, is_seeking, seeks_at, table_at}
+use Rattle.tcp_flows.specs.Rows.{Moves, MovesAt, count, is_seeking, seeks_at, table_at, waits_of}
 use Rattle.tcp_flows.specs.Runs.{Between, Learns}
 use Rattle.tcp_flows.specs.Settled.{IsInTime, OwesNoAck}
+use Rattle.tcp_flows.specs.declared.rows.Waits.{Waits}
 use Rattle.tcp_flows.proofs.Asking.{asked_then}
+use Rattle.tcp_flows.proofs.Changing.{waits_seen}
 use Rattle.tcp_flows.proofs.Following.{count_some}
-use Rattle.tcp_flows.proofs.Keeping.{raw_here, raw_placed, seen_here}
+use Rattle.tcp_flows.proofs.Keeping.{raw_here, raw_placed, read_here, seen_here}
 use Rattle.tcp_flows.proofs.Lists.{get_map, set_same}
 use Rattle.tcp_flows.proofs.Looking.{is_seen}
 use Rattle.tcp_flows.proofs.Opening.{count_none}
@@ -110,6 +113,24 @@ pub table_stays : (x : Place) (k : ℕ) (t : Tuple) (table : Flows) → table_at
 table_stays Empty k t table = refl
 table_stays InUse k t table = refl
 table_stays (Resting since) k t table = refl
+
+pub has_at : {X : Type 0} (xs : List X) (k : ℕ) → k < length xs → (x : X) × (slice_get xs k ≡ Some x)
+has_at [] k fits = absurd (omega (arith, fits))
+has_at (x ∷ xs) zero fits = (x, refl)
+has_at (x ∷ xs) (suc k) fits = has_at xs k (omega (arith, fits))
+
+-- a place of those that contracts see is one of the flows
+pub slot_part : (parts : List Splice) (seen : List (Option Splice)) → map part_of parts ≡ seen → (k : ℕ) → k < length seen → (p : Splice) × (slice_get parts k ≡ Some p)
+slot_part parts seen are k fits = has_at parts k (subst (λ n. k < n) (sym (sym (length-map parts part_of) ∙ ap (λ (l : List (Option Splice)). length l) are)) fits)
+
+-- what is seen of one that doesn't seek stays as it is
+pub unsought : (guests : List (Ip4 × Mac)) (p : Splice) → is_seeking p ≡ false → option_map (taught guests) (part_of p) ≡ part_of p
+unsought guests p none = by p.place refl
+  where
+    by : (x : Place) → p.place ≡ x → option_map (taught guests) (part_at x p) ≡ part_at x p
+    by Empty at = refl
+    by InUse at = ap Some (taught_same guests p (sought_is p none (λ is. cc (sym at ∙ is))))
+    by (Resting since) at = ap Some (taught_same guests p (sought_is p none (λ is. cc (sym at ∙ is))))
 
 -- ---- how many seek
 
@@ -234,6 +255,39 @@ module _ (guests : List (Ip4 × Mac)) (table : Flows) (parts : List Splice) (ope
           (core_told config now aged None (flows_of table parts opened) past holds k p f m (part_here config now aged None table parts opened past holds slots_are kept k p at some)
           (was config now aged None table parts opened past holds slots_are kept k p at some) used
           (ap (λ (t : Tuple). learnt_for t.guest.addr (known config past)) (ends config now aged None table parts opened past holds slots_are kept k p at some) ∙ ap (learnt_for p.face.guest.addr) known_is ∙ is))
+
+-- what a slot's flow is, that seeks and was told, as the calls tell it
+pub record IsToldAt (guests : List (Ip4 × Mac)) (parts : List Splice) (k : ℕ) (q : Splice) (place : Place) (was_open : Bool) : Type 0 where
+  pub part : Splice
+  pub at : slice_get parts k ≡ Some part
+  pub seeks : is_seeking part ≡ true
+  pub some : part.place ≡ Empty → ⊥
+  pub q_is : q ≡ learnt part (learnt_for part.face.guest.addr guests)
+  pub place_is : place ≡ part.place
+  pub open_is : was_open ≡ is_open part
+  pub moves : Moves false part q
+
+pub told_at : (guests : List (Ip4 × Mac)) (parts : List Splice) (seen : List (Option Splice)) → map part_of parts ≡ seen → (waits : List Waits) → waits ≡ map waits_of parts → (k : ℕ) → k < length seen
+    → (w : Waits) → w ≡ get_or waits k w → w.mac ≡ true → (d q : Splice) → d ≡ get_or parts k d → (place : Place) → place ≡ d.place → (was_open : Bool) → was_open ≡ is_open d
+    → (guest : Endpoint) → guest ≡ d.face.guest → (mac : Option Mac) → mac ≡ learnt_for guest.addr guests → q ≡ learnt d mac → IsToldAt guests parts k q place was_open
+told_at guests parts seen are waits waits_are k fits w read seeks d q here place place_is was_open open_is guest guest_is mac mac_is q_is =
+    let found = slot_part parts seen are k fits in
+    let p : Splice = found.0 in
+    let is : d ≡ p = read_here parts k p d found.1 here in
+    let wait : w ≡ waits_of p = waits_seen k p w (ap (λ (l : List Waits). slice_get l k) waits_are ∙ get_map waits_of parts k p found.1) read in
+    let seeking : is_seeking p ≡ true = sym (ap (λ (x : Waits). x.mac) wait) ∙ seeks in
+    let then_is : q ≡ learnt p (learnt_for p.face.guest.addr guests) =
+    q_is ∙ ap (learnt d) (mac_is ∙ ap (λ (e : Endpoint). learnt_for e.addr guests) guest_is) ∙ ap (λ (x : Splice). learnt x (learnt_for x.face.guest.addr guests)) is in
+    record {
+      part = p;
+      at = found.1;
+      seeks = seeking;
+      some = (seeking_is p seeking).0;
+      q_is = then_is;
+      place_is = place_is ∙ ap (λ (x : Splice). x.place) is;
+      open_is = open_is ∙ ap is_open is;
+      moves = subst (Moves false p) (sym then_is) (taught_moves p (learnt_for p.face.guest.addr guests));
+    }
 
 -- one after another
 pub learns_then : (guests : List (Ip4 × Mac)) (old mid new : Kept) → Learns guests old mid → Learns guests mid new → Learns guests old new

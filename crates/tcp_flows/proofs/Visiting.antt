@@ -30,6 +30,10 @@ module _ (slots : List Slot) (t : Tuple) where
       by (Some (SlotInUse u)) is same = absurd (unused k (is ∙ ap (λ x. Some (SlotInUse x)) (some_same u t same)))
       by (Some (SlotResting u since)) is same = (since, is ∙ ap (λ x. Some (SlotResting x since)) (some_same u t same))
 
+  -- and where no slot has them none in use does
+  pub none_used_is : ((k : ℕ) → HasTuple slots k t → ⊥) → NoneUses slots t
+  none_used_is none k at = none k (ap (option_and_then tuple_of) at)
+
   -- the slot is that of a flow at this place
   module _ (k : ℕ) (x : Place) (slot : slice_get slots k ≡ Some (slot_at x t)) where
     pub use_found : is_in_use x ≡ true → slice_get slots k ≡ Some (SlotInUse t)

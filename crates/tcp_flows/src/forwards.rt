@@ -69,12 +69,14 @@ impl TcpFlows {
         ensures stays { Stays self.old self.new }
         ensures same { self.new ≡ with_flows self.new.flows self.new.owing self.old }
     {
-        if !self.rows.waits[slot].mac {
+        let seeks = self.rows.waits[slot].mac;
+        if !seeks {
             return;
         }
         let part = &mut self.parts[slot];
         let before = Before::of(part);
-        part.learn(guests.find(part.guest().addr));
+        let mac = guests.find(part.guest().addr);
+        part.learn(mac);
         self.rows.follow(slot, &before, false, part);
     }
 
