@@ -17,7 +17,7 @@ use Rattle.core_flows.proofs.Opening.{none_some, some_same}
 use Rattle.core_flows.proofs.Seats.{same_or_not, differ, found_id, owner_id}
 use Rattle.core_flows.proofs.Tables.{get_set_at, get_set_other}
 
-used_woken : (slots : List Slot) (k : ℕ) (t : Tuple) (m : ℕ) → slice_get slots k ≡ Some (Resting t m) → in_use_slots (set slots k Free) ≡ in_use_slots slots
+pub used_woken : (slots : List Slot) (k : ℕ) (t : Tuple) (m : ℕ) → slice_get slots k ≡ Some (Resting t m) → in_use_slots (set slots k Free) ≡ in_use_slots slots
 used_woken [] k t m at = absurd cc
 used_woken (s ∷ slots) zero t m at = let rests_is : s ≡ Resting t m = some_same s (Resting t m) at in ap (λ r. count_used r (in_use_slots slots)) (sym rests_is)
 used_woken (s ∷ slots) (suc k) t m at = ap (count_used s) (used_woken slots k t m at)
