@@ -25,12 +25,14 @@ use Rattle.slirp_core.proofs.Services.{none_due_for_services}
 use Rattle.flow_splice.specs.declared.Pumped.{Pumped as PumpedFlows}
 use Rattle.slirp_core.specs.Pumps.{pumped_flows}
 use Rattle.flow_splice.specs.declared.Pumped.TheVariants.{Clear, Blocked, Failed}
+use Rattle.run_laws.specs.Guests.{known}
 use Rattle.tcp_flows.specs.Kept.{Kept}
+use Rattle.tcp_flows.specs.Reading.{AreTold, NoneInSlots}
 use Rattle.spliced_flows.specs.Core.{Following, number_of}
 use Rattle.core_flows.specs.Seats.{Seats}
 use Rattle.flow_book.specs.Book.{book, is_young}
 use Rattle.flow_book.specs.Flows.{Rest}
-use Rattle.tcp_flows.specs.Runs.{Between, Broken, ClosesRising, IsIdle, IsIdlePump, Leaves, LeavesOthers, Pumps, Reports, Sendable, Ticks}
+use Rattle.tcp_flows.specs.Runs.{Between, Broken, ClosesRising, IsIdle, IsIdlePump, Leaves, Learns, LeavesOthers, Pumps, Reports, Sendable, Ticks}
 use Rattle.slirp_core.proofs.Given.{all_given}
 use Rattle.slirp_core.proofs.Open.{open_by}
 
@@ -43,6 +45,7 @@ framed config (e ∷ past) lawful = (lawful.0.framed, framed config past lawful.
 pub between : (config : Config) (at : Standing) (slirp : SlirpState) (f : Flowing) (link : LinkState) (past : List Entry) → InTurn config past → Holds config at slirp f link past → Between config slirp.moment f.aged None f.kept past
 between config at slirp f link past turn holds = record {
   holds = holds.flows.holds;
+  asked = holds.flows.asked;
   settings = holds.flows.settings;
   lawful = holds.lawful;
   work = record { working = turn.working; errand = errand_for config Settled slirp past holds.relayed; services = none_due_for_services config past holds.services.unresolved; open_yet = holds.open_yet };
@@ -89,7 +92,7 @@ after_flows config at later slirp f link past made aged new same allowed turn ho
       relayed = record { list = others.list ∙ holds.relayed.list; asks = asks_nothing config slirp.associations (errand_left config (made ++ past)) then_is.work.errand };
       services = record { leases = others.leases ∙ holds.services.leases; connections = holds.services.connections; unresolved = holds.services.unresolved; unbound = holds.services.unbound };
       forwards = holds.forwards;
-      flows = record { holds = then_is.holds; settings = then_is.settings; unit = holds.flows.unit };
+      flows = record { holds = then_is.holds; asked = then_is.asked; settings = then_is.settings; unit = holds.flows.unit };
       sockets = record { number = leaves.next ∙ holds.sockets.number; kinds = sockets_left config past made others holds.sockets.kinds };
       clock = record { moment = then_is.at; counted = others.waits ∙ holds.clock.counted ∙ sym same };
       stands = Turns (record { working = then_is.work.working; waited = subst (λ n. 0 < n) (sym others.waits) turn.waited });
@@ -122,11 +125,41 @@ not_ended config count slirp kept link past few turn holds = ap (λ p. is_over p
     not_all : nat_le config.turns (waits past) ≡ false
     not_all = let counted : waits past ≡ count = holds.clock.counted in grind (arith, nat_tests, few, counted)
 
+-- the guests that are known are those of the record
+told_now : (config : Config) (slirp : SlirpState) (kept : Kept) (past : List Entry) → AreTold slirp.known kept.flows.parts → known config past ≡ slirp.known → AreTold (known config past) kept.flows.parts
+told_now config slirp kept past told is = subst (λ l. AreTold l kept.flows.parts) (sym is) told
+
+-- flows were told their guests' hardware addresses
+pub addresses_told : (config : Config) (at : Standing) (slirp : SlirpState) (aged : Bool) (kept new : Kept) (link : LinkState) (past : List Entry) → Learns slirp.known kept new → (NoneInSlots kept.flows.parts → new ≡ kept)
+    → Holds config at slirp (flowing aged kept) link past → Holds config at slirp (flowing aged new) link past
+addresses_told config at slirp aged kept new link past learns idle holds = by holds.stands
+  where
+    by : Stands config Settled slirp kept link past → Holds config at slirp (flowing aged new) link past
+    by (Turns turn) =
+        let then_is = learns config slirp.moment aged past holds.guests.known (between config at slirp (flowing aged kept) link past turn holds) in
+        record {
+          lawful = holds.lawful;
+          allowed = holds.allowed;
+          keeps = holds.keeps;
+          answers = holds.answers;
+          guests = holds.guests;
+          relayed = holds.relayed;
+          services = holds.services;
+          forwards = holds.forwards;
+          flows = record { holds = then_is.holds; asked = then_is.asked; settings = then_is.settings; unit = holds.flows.unit };
+          sockets = holds.sockets;
+          clock = holds.clock;
+          stands = Turns turn;
+          agenda = holds.agenda;
+          open_yet = holds.open_yet;
+        }
+    by (Begins unbegun free unrested) = subst (λ (k : Kept). Holds config at slirp (flowing aged k) link past) (sym (idle free)) holds
+
 -- flows were told the time, in a turn after which another wait may come
-pub ticked : (config : Config) (count : ℕ) (slirp : SlirpState) (kept new : Kept) (link : LinkState) (past made : List Entry) (Closes : List Entry → Type 0) → count < config.turns → Ticks slirp.moment false Closes kept new made → AreAllowed made → InTurn config past
+pub ticked : (config : Config) (count : ℕ) (slirp : SlirpState) (kept new : Kept) (link : LinkState) (past made : List Entry) (Closes : List Entry → Type 0) → count < config.turns → AreTold slirp.known kept.flows.parts → Ticks slirp.moment false Closes kept new made → AreAllowed made → InTurn config past
     → Holds config (after count) slirp (flowing false kept) link past → Holds config (after count) slirp (flowing true new) link (made ++ past)
-ticked config count slirp kept new link past made Closes few ticks allowed turn holds =
-    let then_is = (ticks config past (not_ended config count slirp kept link past few turn holds) (between config (after count) slirp (flowing false kept) link past turn holds)).0 in
+ticked config count slirp kept new link past made Closes few told ticks allowed turn holds =
+    let then_is = (ticks config past (not_ended config count slirp kept link past few turn holds) (between config (after count) slirp (flowing false kept) link past turn holds) (told_now config slirp kept past told holds.guests.known)).0 in
     after_flows config (after count) (after count) slirp (flowing false kept) link past made true new refl allowed turn holds then_is.between then_is.leaves (subst (IsLast []) (sym then_is.agenda) holds.agenda)
 
 -- and before the first wait, where there is no flow
@@ -149,6 +182,7 @@ unticked config at slirp kept link past unrested holds = record {
       asked = holds.flows.holds.asked;
       learnt = holds.flows.holds.learnt;
     };
+    asked = holds.flows.asked;
     settings = holds.flows.settings;
     unit = holds.flows.unit;
   };
@@ -194,7 +228,7 @@ turn_begins config at slirp aged kept link past holds = record {
   relayed = holds.relayed;
   services = holds.services;
   forwards = holds.forwards;
-  flows = record { holds = holds.flows.holds; settings = record { ring = holds.flows.settings.ring; mtu = holds.flows.settings.mtu; mru = holds.flows.settings.mru; congestion = holds.flows.settings.congestion; vhost = holds.flows.settings.vhost }; unit = holds.flows.unit };
+  flows = record { holds = holds.flows.holds; asked = holds.flows.asked; settings = record { ring = holds.flows.settings.ring; mtu = holds.flows.settings.mtu; mru = holds.flows.settings.mru; congestion = holds.flows.settings.congestion; vhost = holds.flows.settings.vhost }; unit = holds.flows.unit };
   sockets = holds.sockets;
   clock = holds.clock;
   stands = stands holds.stands;
@@ -207,24 +241,24 @@ turn_begins config at slirp aged kept link past holds = record {
     stands (Begins unbegun free unrested) = Begins unbegun free unrested
 
 -- the flows of a turn, or of none
-pub told_the_time : (config : Config) (count : ℕ) (slirp : SlirpState) (kept new : Kept) (link : LinkState) (past made : List Entry) (Closes : List Entry → Type 0) → count < config.turns → Ticks slirp.moment false Closes kept new made → IsIdle kept new made → AreAllowed made
+pub told_the_time : (config : Config) (count : ℕ) (slirp : SlirpState) (kept new : Kept) (link : LinkState) (past made : List Entry) (Closes : List Entry → Type 0) → count < config.turns → AreTold slirp.known kept.flows.parts → Ticks slirp.moment false Closes kept new made → IsIdle kept new made → AreAllowed made
     → Holds config (after count) slirp (flowing false kept) link past → Holds config (after count) slirp (flowing true new) link (made ++ past)
-told_the_time config count slirp kept new link past made Closes few ticks idle allowed holds = by holds.stands
+told_the_time config count slirp kept new link past made Closes few told ticks idle allowed holds = by holds.stands
   where
     by : Stands config Settled slirp kept link past → Holds config (after count) slirp (flowing true new) link (made ++ past)
-    by (Turns turn) = ticked config count slirp kept new link past made Closes few ticks allowed turn holds
+    by (Turns turn) = ticked config count slirp kept new link past made Closes few told ticks allowed turn holds
     by (Begins unbegun free unrested) =
         let none = idle free in
         subst (λ (m : List Entry). Holds config (after count) slirp (flowing true new) link (m ++ past)) (sym none.1)
         (subst (λ (k : Kept). Holds config (after count) slirp (flowing true k) link past) (sym none.0) (unticked config (after count) slirp kept link past unrested holds))
 
 -- its sockets are closed by rising number
-pub told_rising : (config : Config) (count : ℕ) (slirp : SlirpState) (kept new : Kept) (link : LinkState) (past made : List Entry) → count < config.turns → Ticks slirp.moment false ClosesRising kept new made → IsIdle kept new made
+pub told_rising : (config : Config) (count : ℕ) (slirp : SlirpState) (kept new : Kept) (link : LinkState) (past made : List Entry) → count < config.turns → AreTold slirp.known kept.flows.parts → Ticks slirp.moment false ClosesRising kept new made → IsIdle kept new made
     → Holds config (after count) slirp (flowing false kept) link past → ClosesRising made
-told_rising config count slirp kept new link past made few ticks idle holds = by holds.stands
+told_rising config count slirp kept new link past made few told ticks idle holds = by holds.stands
   where
     by : Stands config Settled slirp kept link past → ClosesRising made
-    by (Turns turn) = (ticks config past (not_ended config count slirp kept link past few turn holds) (between config (after count) slirp (flowing false kept) link past turn holds)).1
+    by (Turns turn) = (ticks config past (not_ended config count slirp kept link past few turn holds) (between config (after count) slirp (flowing false kept) link past turn holds) (told_now config slirp kept past told holds.guests.known)).1
     by (Begins unbegun free unrested) = subst ClosesRising (sym (idle free).1) tt
 
 -- ---- what flows owe goes out
@@ -256,7 +290,7 @@ module _ (config : Config) (at : Standing) (slirp : SlirpState) (f : Flowing) (l
         relayed = record { list = others.list ∙ holds.relayed.list; asks = asks_nothing config slirp.associations (errand_left config (made ++ past)) then_is.between.work.errand };
         services = record { leases = others.leases ∙ holds.services.leases; connections = holds.services.connections; unresolved = holds.services.unresolved; unbound = holds.services.unbound };
         forwards = holds.forwards;
-        flows = record { holds = then_is.between.holds; settings = then_is.between.settings; unit = holds.flows.unit };
+        flows = record { holds = then_is.between.holds; asked = then_is.between.asked; settings = then_is.between.settings; unit = holds.flows.unit };
         sockets = record { number = same ∙ holds.sockets.number; kinds = sockets_left config past made others holds.sockets.kinds };
         clock = record { moment = then_is.between.at; counted = others.waits ∙ holds.clock.counted };
         stands = Turns (record { working = then_is.between.work.working; waited = subst (λ n. 0 < n) (sym others.waits) turn.waited });

@@ -39,6 +39,7 @@ use Rattle.spliced_flows.specs.Stands.{lot_without}
 use Rattle.spliced_flows.proofs.Joined.{may_connect}
 use Rattle.spliced_flows.proofs.Others.{holds_quiet}
 use Rattle.tcp_flows.specs.Kept.{Kept}
+use Rattle.tcp_flows.proofs.Asking.{asked_then}
 use Rattle.tcp_flows.specs.Runs.{Begins as BeginsFlow, Between, HasLot, Hears, IsHeard, Leaves}
 use Rattle.tcp_flows.specs.declared.guest.Heard.{Heard}
 use Rattle.tcp_flows.specs.declared.guest.Heard.TheVariants.{Taken, Strange, Alone}
@@ -142,7 +143,7 @@ module _ (config : Config) (at : Standing) (slirp : SlirpState) (kept : Kept) (l
         relayed = record { list = others.list ∙ comes.relayed.list; asks = asks_nothing config slirp.associations (errand_left config (made ++ past)) then_is.work.errand };
         services = record { leases = others.leases ∙ comes.services.leases; connections = comes.services.connections; unresolved = comes.services.unresolved; unbound = comes.services.unbound };
         forwards = comes.forwards;
-        flows = record { holds = then_is.holds; settings = then_is.settings; unit = comes.unit };
+        flows = record { holds = then_is.holds; asked = then_is.asked; settings = then_is.settings; unit = comes.unit };
         sockets = record { number = leaves.next ∙ comes.sockets.number; kinds = sockets_left config past made others comes.sockets.kinds };
         clock = record { moment = then_is.at; counted = others.waits ∙ comes.clock.counted };
         stands = Turns (record { working = then_is.work.working; waited = subst (λ n. 0 < n) (sym others.waits) comes.turn.waited });
@@ -219,7 +220,7 @@ module _ (config : Config) (at : Standing) (slirp : SlirpState) (kept : Kept) (l
               relayed = record { list = comes.relayed.list; asks = comes.relayed.asks };
               services = record { leases = comes.services.leases; connections = comes.services.connections; unresolved = comes.services.unresolved; unbound = comes.services.unbound };
               forwards = comes.forwards;
-              flows = record { holds = then_is.holds; settings = then_is.settings; unit = comes.unit };
+              flows = record { holds = then_is.holds; asked = then_is.asked; settings = then_is.settings; unit = comes.unit };
               sockets = record { number = ap (λ n. n + 1) comes.sockets.number; kinds = kinds_joined slirp.number to answer past comes.sockets.kinds };
               clock = record { moment = comes.clock.moment; counted = comes.clock.counted };
               stands = Turns (record { working = then_is.work.working; waited = comes.turn.waited });
@@ -249,6 +250,7 @@ module _ (config : Config) (at : Standing) (slirp : SlirpState) (kept : Kept) (l
             connects MadeFailed new reset_frames fine (may, due_is.lawful)
             (record {
               holds = holds_quiet number_of mac_of (Following config slirp.moment) (Following config slirp.moment) config new.flows past e false (Some (CallConnect (next_number past) to)) refl (omega arith) refl (λ p story follows. follows) due_is.holds;
+              asked = asked_then config past (e ∷ past) new.flows.parts new.flows.parts refl (λ guest. refl) (λ k q here. (q, k, here, refl, omega arith)) due_is.asked;
               settings = due_is.settings;
               lawful = (may, due_is.lawful);
               work = record { working = due_is.work.working; errand = due_is.work.errand; services = none_due_for_services config (e ∷ past) comes.services.unresolved; open_yet = due_is.work.open_yet };

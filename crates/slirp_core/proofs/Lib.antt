@@ -30,3 +30,4 @@ pub mod Least
 pub mod Sizes
 pub mod Learning
 pub mod Settling
+pub mod Visiting

@@ -188,10 +188,10 @@ ClosesOwn (Close socket) past = carries past socket ≡ true
 ClosesOwn _ past = Unit {0}
 
 flows_on : (config : Config) (f : Flowing) (now : ℕ) (e : Entry) (past : List Entry) → IsOnSocket e → ClosesOwn e past → Lawful config past → OfFlows config f now past → OfFlows config f now (e ∷ past)
-flows_on config f now (Close socket) past on own lawful flows = flows_same config f now (Close socket) past (close_same config past socket (no_flow config past socket lawful own)) (omega arith) refl flows
-flows_on config f now (UdpOpen socket at answer) past on own lawful flows = flows_stay config f now (UdpOpen socket at answer) past refl (omega arith) refl flows
-flows_on config f now (UdpSend socket to octets answer) past on own lawful flows = flows_stay config f now (UdpSend socket to octets answer) past refl (omega arith) refl flows
-flows_on config f now (UdpRecv socket asked answer octets) past on own lawful flows = flows_stay config f now (UdpRecv socket asked answer octets) past refl (omega arith) refl flows
+flows_on config f now (Close socket) past on own lawful flows = flows_same config f now (Close socket) past (close_same config past socket (no_flow config past socket lawful own)) refl (omega arith) refl flows
+flows_on config f now (UdpOpen socket at answer) past on own lawful flows = flows_stay config f now (UdpOpen socket at answer) past refl refl (omega arith) refl flows
+flows_on config f now (UdpSend socket to octets answer) past on own lawful flows = flows_stay config f now (UdpSend socket to octets answer) past refl refl (omega arith) refl flows
+flows_on config f now (UdpRecv socket asked answer octets) past on own lawful flows = flows_stay config f now (UdpRecv socket asked answer octets) past refl refl (omega arith) refl flows
 flows_on config f now _ past on own lawful flows = absurd on
 
 -- what a call on a socket changes: the call was allowed, and what it made of answers, associations, sockets, agenda and closing

@@ -6,6 +6,7 @@ use Rattle.world_face.specs.declared.Io.{Io}
 use Rattle.world_face.specs.declared.Io.TheVariants.{Done, End, NotYet, Failed}
 use Rattle.world_face.specs.Frames.{LinkFailed, goes_out, tail, spelling, opens}
 use Rattle.host_policy.specs.Addresses.{Config}
+use Rattle.slirp_laws.specs.Sending.{requests, requests_by}
 use Rattle.slirp_laws.specs.Answers.{identification, datagrams_in, datagrams_out, with_datagrams, again_frames, left, serving, taken, is_first, is_out}
 use Rattle.flow_book.specs.Book.{book}
 use Rattle.flow_book.specs.Doings.{doing_by}
@@ -105,7 +106,8 @@ after_flush config at slirp f old new made past result pumped some (answer, is, 
     (after_write config at slirp slirp f old new past old.tail answer new.blocked holds (in_turn holds.stands (λ u. some_tail old.tail some u.empty)) k (subst AreAllowed is allowed).0
     (begins (tail past) old.tail some holds.keeps.rest)
     (goes_on (tail past) old.tail some holds.keeps.rest)
-    (λ a. flows_stay config f slirp.moment (LinkWrite old.tail a) past (ap (λ o. doing_by None o (LinkWrite old.tail a)) (none_opens a old.tail (tail past) some holds.keeps.rest)) (omega arith) refl holds.flows)
+    (λ a. flows_stay config f slirp.moment (LinkWrite old.tail a) past (ap (λ o. doing_by None o (LinkWrite old.tail a)) (none_opens a old.tail (tail past) some holds.keeps.rest))
+        (ap (λ o. requests_by (left config past) o (requests config past)) (none_opens a old.tail (tail past) some holds.keeps.rest)) (omega arith) refl holds.flows)
     (remains answer (none_opens answer old.tail (tail past) some holds.keeps.rest)) refl))
   where
     some_tail : (octets : List ℕ) → 0 < length octets → octets ≡ [] → ⊥

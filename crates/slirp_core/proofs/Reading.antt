@@ -118,7 +118,7 @@ module _ (config : Config) (count : ℕ) (wants : List Want) (item : Want) (item
             unbound = before.serves.unbound;
           };
           waits = ap (λ o. young (moment (made ++ past)) (waits_with config (moment (made ++ past)) o (sets config (made ++ past)))) frame ∙ before.waits;
-          flows = flows_stay config (flowing false kept) slirp.moment e (made ++ past) (ap (λ o. doing_by (option_map (arrival_of config (moment (made ++ past)) (waiting config (made ++ past))) o) None e) frame) (omega arith) refl before.flows;
+          flows = flows_stay config (flowing false kept) slirp.moment e (made ++ past) (ap (λ o. doing_by (option_map (arrival_of config (moment (made ++ past)) (waiting config (made ++ past))) o) None e) frame) refl (omega arith) refl before.flows;
           sockets = record { number = before.sockets.number; kinds = before.sockets.kinds };
         },
         (may_read asked (made ++ past) framed.0 before, so_far),
@@ -215,7 +215,7 @@ newest config count wants item items slirp kept wait reads_it (LinkRead asked an
       asks = sets_out (arrives (LinkRead asked answer octets) (made ++ past)) quiet_before.unasked ∙ (λ i. errand_by_packet config (packet_of config (quiet_before.clock i) (quiet_before.waits i) (arrives (LinkRead asked answer octets) (made ++ past))));
       clock = quiet_before.clock;
       fragments = λ new keeps. puts new (arrives (LinkRead asked answer octets) (made ++ past)) refl keeps quiet_before.clock quiet_before.fragments;
-      quiet_flows = λ none. flows_stay config (flowing false kept) slirp.moment (LinkRead asked answer octets) (made ++ past) (nothing (arrives (LinkRead asked answer octets) (made ++ past)) ((λ i. segment_by (packet_of config (quiet_before.clock i) (quiet_before.waits i) (arrives (LinkRead asked answer octets) (made ++ past)))) ∙ none)) (omega arith) refl quiet_before.flows;
+      quiet_flows = λ none. flows_stay config (flowing false kept) slirp.moment (LinkRead asked answer octets) (made ++ past) (nothing (arrives (LinkRead asked answer octets) (made ++ past)) ((λ i. segment_by (packet_of config (quiet_before.clock i) (quiet_before.waits i) (arrives (LinkRead asked answer octets) (made ++ past)))) ∙ none)) refl (omega arith) refl quiet_before.flows;
       comes = λ on came. something (arrives (LinkRead asked answer octets) (made ++ past)) on ((λ i. segment_by (packet_of config (quiet_before.clock i) (quiet_before.waits i) (arrives (LinkRead asked answer octets) (made ++ past)))) ∙ came);
       sockets = record { number = quiet_before.sockets.number; kinds = quiet_before.sockets.kinds };
       joins_same = λ n. refl;
@@ -334,7 +334,7 @@ module _ (config : Config) (count : ℕ) (wants : List Want) (item : Want) (item
         relayed = record { list = all.list; asks = ap (asked_by config slirp.associations) (all.asks ∙ ap (errand_by_packet config) arrived_is) };
         services = record { leases = all.lent ∙ ap (λ p. leases_by_packet config slirp.moment p slirp.leases) arrived_is; connections = holds.services.connections; unresolved = holds.services.unresolved; unbound = holds.services.unbound };
         forwards = holds.forwards;
-        flows = record { holds = was.holds; settings = was.settings; unit = was.unit };
+        flows = record { holds = was.holds; asked = was.asked; settings = was.settings; unit = was.unit };
         sockets = all.sockets;
         clock = record { moment = all.clock; counted = all.counted };
         stands = Turns (record { working = all.phase_is ∙ ap over_by (r.1.last ∙ goes_on); waited = all.waited });
@@ -365,6 +365,7 @@ module _ (config : Config) (count : ℕ) (wants : List Want) (item : Want) (item
         is = all.is;
         brings = record {
           holds = q.flows.holds;
+          asked = q.flows.asked;
           settings = q.flows.settings;
           lawful_before = all.lawful_before;
           lawful = lawful_then;

@@ -125,6 +125,7 @@ nothing_holds config now = record {
 unused_holds : (config : Config) (kept : Kept) (now : ℕ) → IsUnused config kept → OfFlows config (flowing false kept) now []
 unused_holds config kept now unused = record {
   holds = subst (λ s. CoreHolds config now false None s []) (sym unused.flows) (nothing_holds config now);
+  asked = record { asks = λ n. 0; few = λ n. omega arith; own = λ k p at. omega arith; counted = λ guest. omega arith };
   settings = unused.settings;
   unit = unused.unit;
 }
@@ -250,7 +251,7 @@ module _ (config : Config) (slirp : SlirpState) (link : LinkState) (past : List 
       forwards = ap (λ l. l ++ (f, slirp.number) ∷ []) opens.forwards ∙ ap (λ n. with_numbers 0 opens.open ++ (f, n) ∷ []) opens.many ∙ sym (numbers_more 0 opens.open f);
       opening = ap (λ p. opened Done p) (opens.opening ∙ ap (Opening slirp.number) next);
       are_open = ap (λ l. l ++ slirp.number ∷ []) opens.are_open ∙ sym (sockets_more slirp.forwards f slirp.number);
-      flows = flows_stay config (flowing false slirp.flows) slirp.moment (Listen slirp.number f.host Done) past refl (omega arith) refl opens.flows;
+      flows = flows_stay config (flowing false slirp.flows) slirp.moment (Listen slirp.number f.host Done) past refl refl (omega arith) refl opens.flows;
       sockets = record { number = ap (λ n. n + 1) opens.sockets.number; kinds = kinds_listened slirp.number f.host Done past opens.sockets.kinds };
       clock = record { moment = opens.clock.moment; counted = opens.clock.counted };
       number = refl;
@@ -273,7 +274,7 @@ module _ (config : Config) (slirp : SlirpState) (link : LinkState) (past : List 
     rests = OverFor (Refused slirp.number) phase_is;
     errand = errand_for config Settled slirp past opens.relayed;
     served = none_due_for_services config (Listen slirp.number f.host Failed ∷ past) opens.services.unresolved;
-    idle = (flows_stay config (flowing false slirp.flows) slirp.moment (Listen slirp.number f.host Failed) past refl (omega arith) refl opens.flows).holds.asked;
+    idle = (flows_stay config (flowing false slirp.flows) slirp.moment (Listen slirp.number f.host Failed) past refl refl (omega arith) refl opens.flows).holds.asked;
     sockets = record {
       each = λ n among. inl (sym (ap (is_among n) opens.are_open) ∙ among);
       forward = λ n among. ap (is_among n) opens.are_open ∙ among;

@@ -1,7 +1,6 @@
 -- A peer comes to a port of the host that is given to a guest: its flow begins, or it is refused and its socket closed, or none has come.
-use Rattle.std.proofs.Common.{◌≡◌, ℕ, ◌<◌, ◌+◌, ◌==◌, ◌&&◌, ◌||◌, not, nat_lt, Bool, true, false, List, [], ◌∷◌, ◌++◌, find, filter, length, slice_get, Option, Some, None, inl, inr, refl, sym, ◌∙◌, ap, subst, arith, if◌then◌else◌}
+use Rattle.std.proofs.Common.{◌≡◌, ℕ, ◌<◌, ◌+◌, ◌==◌, ◌&&◌, ◌||◌, not, nat_lt, Bool, true, false, List, [], ◌∷◌, ◌++◌, length, MatchOption, Option, Some, None, refl, sym, ◌∙◌, ap, subst, arith, if◌then◌else◌}
 use Rattle.std.proofs.lemmas.Bool.Decides.{nat_tests}
-use Rattle.std.specs.Prelude.{Contains}
 use Rattle.net_octets.specs.declared.Endpoint.{Endpoint}
 use Rattle.net_octets.specs.declared.Mac.{Mac}
 use Rattle.poll_list.specs.declared.Want.{Want}
@@ -11,33 +10,36 @@ use Rattle.world_face.specs.declared.Accepted.{Accepted}
 use Rattle.world_face.specs.declared.Accepted.TheVariants.{From, NotYet as NotYetAccepted, Failed as AcceptFailed}
 use Rattle.host_policy.specs.Addresses.{Config}
 use Rattle.arp_table.specs.Table.{mac_of as learnt_for}
-use Rattle.flow_table.specs.declared.Tuple.{Tuple}
-use Rattle.flow_book.specs.Book.{book, doom, is_refused, port_of, quiet, tuple_for, visits_for}
-use Rattle.flow_book.specs.Flows.{Book, Flow, flow_of, used}
+use Rattle.flow_laws.specs.Event.{Accepts}
+use Rattle.flow_laws.specs.Flow.{first_number}
+use Rattle.flow_book.specs.Book.{book, doom, is_refused, opens, port_of, quiet, scene, tuple_for, visits_for}
+use Rattle.flow_book.specs.Doings.{Nothing, doing}
+use Rattle.flow_book.specs.Flows.{Book, flow_of, is_it, used}
+use Rattle.flow_book.specs.Laws.{MayShut, flow_settings}
 use Rattle.flow_book.specs.Lots.{due_for_flows}
-use Rattle.flow_book.specs.Taught.{taught}
 use Rattle.run_laws.specs.Moments.{moment}
-use Rattle.run_laws.specs.Shape.{is_working}
-use Rattle.run_laws.specs.Sockets.{Flow as OfFlow, Listener, is_among, is_listener, kind_of, next_number, number_for_peer, open_sockets, with_peer}
+use Rattle.run_laws.specs.Shape.{is_ended, is_over, is_working}
+use Rattle.run_laws.specs.Sockets.{Flow as OfFlow, is_among, is_listener, kind_of, next_number, number_for_peer, open_sockets, with_peer}
 use Rattle.core_flows.specs.Seats.{in_use_slots}
 use Rattle.slirp_laws.specs.Agenda.{agenda, all_wanted, is_to_read, wanted_of}
 use Rattle.slirp_laws.specs.Errands.{errand_left}
-use Rattle.slirp_laws.specs.Laws.{Lawful, May, due, takes_peers}
-use Rattle.slirp_laws.proofs.Bools.{among_last, and_both, same}
-use Rattle.slirp_laws.proofs.Deeds.{accepts}
+use Rattle.slirp_laws.specs.Laws.{Lawful, May, is_least, may_leave, may_part, parts, takes_peers}
+use Rattle.slirp_laws.specs.Names.{kind_for}
+use Rattle.slirp_laws.proofs.Bools.{among_last, among_without, and_both, or_second, same, second_of}
+use Rattle.slirp_laws.proofs.Deeds.{accepts, closes, this_one}
 use Rattle.stream_netdev.specs.State.{LinkState}
-use Rattle.spliced_flows.specs.Core.{CoreHolds, Following, mac_of, number_of}
+use Rattle.spliced_flows.specs.Stands.{InWork}
+use Rattle.spliced_flows.proofs.Calling.{due_is as due_for_a_flow}
 use Rattle.spliced_flows.proofs.Known.{known_was_taught}
-use Rattle.spliced_flows.proofs.Options.{true_false}
-use Rattle.spliced_flows.proofs.Others.{holds_quiet}
 use Rattle.tcp_flows.specs.Kept.{Kept}
-use Rattle.tcp_flows.specs.Runs.{Between, Visits, Welcomes}
-use Rattle.slirp_core.specs.Holds.{Begins, Holds, InTurn, OfSockets, Stands, Turns, flowing, is_ours, standing}
+use Rattle.tcp_flows.specs.Runs.{Between, Welcomes}
+use Rattle.slirp_core.specs.Holds.{Begins, Holds, InTurn, OfFlows, Stands, Turns, flowing, is_ours, standing}
 use Rattle.slirp_core.specs.State.{SlirpState}
 use Rattle.slirp_core.proofs.Called.{between}
+use Rattle.slirp_core.proofs.Flows.{close_same, flows_since, flows_stay}
 use Rattle.slirp_core.proofs.Guests.{guests_stay}
 use Rattle.slirp_core.proofs.Open.{given_in}
-use Rattle.slirp_core.proofs.Parts.{asks_nothing, behind_of, asked_for, due_is, keeps_by, reads_of}
+use Rattle.slirp_core.proofs.Parts.{asks_nothing, asked_for, behind_of, due_is, errand_for, keeps_by, reads_of, still_open}
 use Rattle.slirp_core.proofs.Services.{none_due_for_services, services_stay}
 
 -- the kinds of sockets, where a peer came or none
@@ -123,7 +125,7 @@ module _ (config : Config) (count : ℕ) (wants : List Want) (item : Want) (item
     none_at = Accept listener slirp.number answer
 
     quiet_flows : OfFlows config (flowing false slirp.flows) slirp.moment (none_at ∷ past)
-    quiet_flows = flows_stay config (flowing false slirp.flows) slirp.moment none_at past nobody (omega (arith, next)) refl holds.flows
+    quiet_flows = flows_stay config (flowing false slirp.flows) slirp.moment none_at past nobody refl (omega (arith, next)) refl holds.flows
 
     pub none_came : Holds config (standing count wants items) slirp (flowing false slirp.flows) link (none_at ∷ past)
     none_came = came answer slirp.number slirp.flows fine (record {
@@ -206,10 +208,7 @@ module _ (config : Config) (count : ℕ) (wants : List Want) (item : Want) (item
       book_then = close_same config (visit ∷ past) slirp.number no_flow_then ∙ ap quiet doomed_is
 
       flows_then : OfFlows config (flowing false slirp.flows) slirp.moment shut_again
-      flows_then = flows_since config (flowing false slirp.flows) slirp.moment (Close slirp.number ∷ visit ∷ []) past book_then (omega arith) refl holds.flows (asked_by_none config slirp.flows.flows.parts past holds.flows.asked)
-
-      asked_by_none : AreAsked config slirp.flows.flows.parts past → AreAsked config slirp.flows.flows.parts shut_again
-      asked_by_none asked = asked
+      flows_then = flows_since config (flowing false slirp.flows) slirp.moment (Close slirp.number ∷ visit ∷ []) past book_then refl (omega arith) refl holds.flows
 
       kinds_then : (n : ℕ) → is_among n (open_sockets shut_again) ≡ true → is_ours (kind_of n shut_again) ≡ true
       kinds_then n among =

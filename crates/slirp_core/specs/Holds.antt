@@ -33,6 +33,7 @@ use Rattle.slirp_core.specs.State.{SlirpState}
 use Rattle.slirp_core.specs.Waiting.{OfFragments}
 use Rattle.slirp_core.specs.declared.sending.Pumped.{Pumped}
 use Rattle.slirp_core.specs.declared.sending.Pumped.TheVariants.{Clear, Blocked, Failed}
+use Rattle.spliced_flows.specs.Asked.{AreAsked}
 use Rattle.spliced_flows.specs.Core.{CoreHolds, number_of}
 use Rattle.tcp_flows.specs.Kept.{IsFor, Kept}
 use Rattle.tcp_flows.specs.Reading.{AllClear, HasSocket, IsOpenAt, NoneInSlots}
@@ -106,9 +107,10 @@ pub record Flowing : Type 0 where
 abbrev pub flowing : Bool → Kept → Flowing
 flowing aged kept = record { kept = kept; aged = aged }
 
--- the slots stand for the flows of the record, none of which asks for a call; and a frame has room for a header and a unit of 8 octets
+-- the slots stand for the flows of the record, none of which asks for a call; no guest was asked for more often than the flows that were accepted for it may ask; and a frame has room for a header and a unit of 8 octets
 pub record OfFlows (config : Config) (f : Flowing) (now : ℕ) (past : List Entry) : Type 0 where
   pub holds : CoreHolds config now f.aged None f.kept.flows past
+  pub asked : AreAsked config f.kept.flows.parts past
   pub settings : IsFor config f.kept
   pub unit : 28 ≤ config.mtu
 

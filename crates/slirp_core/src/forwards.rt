@@ -2,8 +2,10 @@
 ghost use Rattle.std.specs.Prelude.{[], ◌≡◌, ◌≢◌, ◌<◌, ◌≤◌, ◌+◌, ◌^◌, ℕ, length, map, OnSome, IfSome, Some, None};
 
 use crate::network::Slirp;
+use flow_table::Tuple;
 use host_policy::Forward;
-use world_face::World;
+use net_octets::Endpoint;
+use world_face::{Accepted, World};
 
 impl Slirp {
     ghost use Rattle.host_policy.specs.Addresses.{Config};
@@ -11,7 +13,23 @@ impl Slirp {
     ghost use Rattle.slirp_core.specs.Forwards.{AreForConnections, forward_sockets};
     ghost use Rattle.slirp_core.specs.Holds.{AfterListening, ClosesForwards, Opens};
     ghost use Rattle.stream_netdev.specs.State.{LinkState};
-    ghost use Rattle.world_face.specs.Tells.{Brings, Makes, Rose};
+    ghost use Rattle.world_face.specs.Tells.{Answers, Brings, Makes, Rose};
+    ghost use Rattle.world_face.specs.Journal.{Close, Entry};
+    ghost use Rattle.poll_list.specs.declared.Want.{Want as AnItem};
+    ghost use Rattle.poll_list.specs.declared.Who.TheVariants.{Listener};
+    ghost use Rattle.slirp_laws.specs.Agenda.{is_to_read, wanted_of};
+    ghost use Rattle.slirp_core.specs.Counts.{AreGrown};
+    ghost use Rattle.slirp_core.specs.Forwards.{Listens};
+    ghost use Rattle.slirp_core.specs.Holds.{Holds, flowing, standing};
+    ghost use Rattle.port_forward.specs.Adding.{fault_of};
+    ghost use Rattle.arp_table.specs.Table.{mac_of as learnt_for};
+    ghost use Rattle.core_flows.specs.Seats.{in_use_slots};
+    ghost use Rattle.flow_book.specs.Book.{book, is_refused, tuple_for};
+    ghost use Rattle.host_policy.specs.Targets.{is_hidden};
+    ghost use Rattle.spliced_flows.specs.Core.{CoreHolds};
+    ghost use Rattle.tcp_flows.specs.Reading.{NoneUses};
+    ghost use Rattle.tcp_flows.specs.Runs.{Welcomes};
+    ghost use Rattle.std.specs.Prelude.{Bool, List, ◌∷◌, true, false, not, is_some};
 
     /// Opens the ports of the host that the settings give to guests, in their order, each with the next number. Answers the place of the first one that the
     /// host refuses, counted from 0: those behind it aren't opened. Neither is anything else done before.
@@ -51,6 +69,67 @@ impl Slirp {
         self.forwards
             .add_hostfwd(world, &self.policy, forward, number)
             .is_ok()
+    }
+
+    /// A peer is taken that came to a port of the host, where there is one and room for a flow more: its flow begins, with the next number, and calls the guest.
+    /// One that would pass for a guest, or whose two ends are in use, is refused: its socket is closed at once.
+    pub fn accept<W: World>(&mut self, world: &mut W, listener: u64)
+        requires number { self.old.number + 1 < 2 ^ 64 }
+        ensures makes { (config : Config) (count : ℕ) (wants : List AnItem) (item : AnItem) (items : List AnItem) (link : LinkState) → is_to_read (Listener listener) (wanted_of wants item) ≡ true
+            → Brings (W.tells world.old) (W.tells world.new)
+            (Holds config (standing count wants (item ∷ items)) self.old (flowing false self.old.flows) link) (Holds config (standing count wants items) self.new (flowing false self.new.flows) link) }
+        ensures counts { AreGrown (W.tells world.old).faults (W.tells world.new).faults }
+        ensures number { self.new.number ≤ self.old.number + 1 }
+        ensures turn { self.new.flows.turn ≡ self.old.flows.turn }
+        ensures others { self.new ≡ record self.old { number = self.new.number; flows = self.new.flows } }
+    {
+        if !self.flows.has_room() {
+            return;
+        }
+        let Some((forward, _)) = self.forwards.at(listener as usize) else {
+            return;
+        };
+        match world.accept(listener, self.number) {
+            Accepted::From(peer) => self.welcome(world, forward.guest, peer),
+            Accepted::NotYet | Accepted::Failed => {}
+        }
+    }
+
+    // A peer's connection to this guest was accepted with the next number: its flow begins, or its socket is closed.
+    fn welcome<W: World>(&mut self, world: &mut W, guest: Endpoint, peer: Endpoint)
+        requires number { self.old.number + 1 < 2 ^ 64 }
+        requires room { in_use_slots self.old.flows.flows.table.slots < length self.old.flows.flows.table.slots }
+        ensures welcomes { (config : Config) (now : ℕ) (aged : Bool) (past : List Entry) → CoreHolds config now aged None self.old.flows.flows past → self.old.config ≡ config
+            → is_refused config guest peer (book config past) ≡ false
+            → Welcomes self.old.moment self.old.number self.old.flows self.new.flows (tuple_for config guest peer) (learnt_for guest.addr self.old.known) × (W.tells world.new ≡ W.tells world.old) }
+        ensures refuses { (config : Config) (now : ℕ) (aged : Bool) (past : List Entry) → CoreHolds config now aged None self.old.flows.flows past → self.old.config ≡ config
+            → is_refused config guest peer (book config past) ≡ true
+            → (self.new.flows ≡ self.old.flows) × Answers (W.tells world.old) (W.tells world.new) (Close self.old.number) }
+        ensures turn { self.new.flows.turn ≡ self.old.flows.turn }
+        ensures others { self.new ≡ record self.old { number = self.old.number + 1; flows = self.new.flows } }
+    {
+        let number = self.number;
+        self.number += 1;
+        let Some(ends) = self.ends_for(guest, peer) else {
+            world.close(number);
+            return;
+        };
+        let mac = self.guests.find(guest.addr);
+        self.flows.accept(self.moment, &ends, number, mac);
+    }
+
+    // The two ends between which a peer's flow to this guest is to stand, where it wouldn't pass for a guest, and they aren't in use.
+    fn ends_for(&self, guest: Endpoint, peer: Endpoint) -> Option<Tuple>
+        ensures some { IfSome result (λ ends. (ends ≡ tuple_for self.now.config guest peer) × (is_hidden self.now.config peer ≡ false) × NoneUses self.now.flows.flows.table.slots ends) }
+        ensures recorded { (config : Config) (now : ℕ) (aged : Bool) (past : List Entry) → CoreHolds config now aged None self.now.flows.flows past → self.now.config ≡ config
+            → is_some result ≡ not (is_refused config guest peer (book config past)) }
+    {
+        let other = self.policy.shown(peer)?;
+        let ends = Tuple { guest, other };
+        if self.flows.is_used(&ends) {
+            return None;
+        }
+        Some(ends)
     }
 
     // Closes the sockets of all forwards, by rising number.

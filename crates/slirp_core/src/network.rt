@@ -78,7 +78,7 @@ impl Slirp {
     ghost use Rattle.world_face.specs.Tells.{Brings, Makes};
     ghost use Rattle.slirp_core.specs.Hearing.{ClosesByKind, WhereItTicks};
     ghost use Rattle.tcp_flows.specs.Runs.{ClosesRising};
-    ghost use Rattle.tcp_flows.specs.Reading.{IsFirst, IsOpenAt, NoneIsAbove};
+    ghost use Rattle.tcp_flows.specs.Reading.{AreTold, IsFirst, IsOpenAt, NoneIsAbove};
     ghost use Rattle.tcp_flows.specs.Settled.{IsInTime, OwesNoAck};
     ghost use Rattle.world_face.specs.Journal.{Entry};
     ghost use Rattle.flow_splice.specs.Splice.{Splice};
@@ -244,7 +244,7 @@ impl Slirp {
         }
     }
 
-    /// Begins a turn after which another wait may come: the flows are told the time, the fragments that have waited for 60,000 milliseconds are dropped, and the
+    /// Begins a turn after which another wait may come: the flows are told their guests' hardware addresses and the time, the fragments that have waited for 60,000 milliseconds are dropped, and the
     /// sockets of datagrams whose idle life is over are closed. Of each kind sockets are closed by rising number. There are at most 2^45 turns.
     /// A flow that owed no acknowledgement is in time then: its timer isn't due.
     pub fn tick<W: World>(&mut self, world: &mut W)
@@ -263,13 +263,29 @@ impl Slirp {
         ensures same { self.new ≡ record self.old { associations = self.new.associations; parts = self.new.parts; flows = self.new.flows } }
     {
         self.flows.begin_turn();
+        self.tell_addresses();
         self.tell_flows(world);
         self.drop_parts();
         self.close_unused(world);
     }
 
+    // Tells the flows that don't know it their guest's hardware address, where that is known.
+    pub(crate) fn tell_addresses(&mut self)
+        ensures holds { (config : Config) (at : Standing) (aged : Bool) (link : LinkState) (past : List Entry) → Holds config at self.old (flowing aged self.old.flows) link past
+            → Holds config at self.new (flowing aged self.new.flows) link past }
+        ensures told { AreTold self.new.known self.new.flows.flows.parts }
+        ensures ahead { (now n : ℕ) → IsInTime now self.old.flows.flows.parts n → IsInTime now self.new.flows.flows.parts n }
+        ensures calm { (n : ℕ) → OwesNoAck self.old.flows.flows.parts n → OwesNoAck self.new.flows.flows.parts n }
+        ensures turn { self.new.flows.turn ≡ self.old.flows.turn }
+        ensures served { self.new.flows.served ≡ self.old.flows.served }
+        ensures same { self.new ≡ record self.old { flows = self.new.flows } }
+    {
+        self.flows.learn(&self.guests);
+    }
+
     // Tells the flows the time.
     fn tell_flows<W: World>(&mut self, world: &mut W)
+        requires told { AreTold self.old.known self.old.flows.flows.parts }
         ensures makes { (config : Config) (count : ℕ) (link : LinkState) → count < config.turns → Brings (W.tells world.old) (W.tells world.new)
             (Holds config (after count) self.old (flowing false self.old.flows) link) (Holds config (after count) self.new (flowing true self.new.flows) link) }
         ensures rising { Makes (W.tells world.old) (W.tells world.new) (λ made. WhereItTicks self.old (ClosesRising made)) }

@@ -34,6 +34,7 @@ impl Slirp {
     ghost use Rattle.std.specs.Prelude.{ℕ, Bool, List, None, true};
     ghost use Rattle.world_face.specs.Journal.{Entry};
     ghost use Rattle.spliced_flows.specs.Core.{CoreHolds};
+    ghost use Rattle.tcp_flows.specs.Reading.{AreTold};
     ghost use Rattle.tcp_flows.specs.Settled.{AreSettled, IsInTime};
 
     /// Whether nothing is left to be sent.
@@ -50,8 +51,9 @@ impl Slirp {
         self.outgoing.is_some()
     }
 
-    /// Sends what is owed, until the link is blocked: the rest of the frame before, then the pending ones, then what the flows owe, by rising number.
-    /// Where all of it is out, each flow of the record that its guest opened is settled: it may be waited. What is under way goes again within a minute for each
+    /// Sends what is owed, until the link is blocked: the rest of the frame before, then the pending ones, then what the flows owe, by rising number. Before, link or
+    /// not, the flows are told the hardware addresses of their guests.
+    /// Where all of it is out, each flow of the record is settled: it may be waited. What is under way goes again within a minute for each
     /// flow whose timer wasn't due before.
     pub fn pump<W: World>(&mut self, world: &mut W, link: &mut Link) -> Pumped
         ensures makes { (config : Config) (at : Standing) (aged : Bool) → Brings (W.tells world.old) (W.tells world.new)
@@ -66,6 +68,7 @@ impl Slirp {
         ensures turn { self.new.flows.turn ≡ self.old.flows.turn }
         ensures others { self.new ≡ record self.old { pending = self.new.pending; sent = self.new.sent; flows = self.new.flows } }
     {
+        self.tell_addresses();
         match self.pump_answers(world, link) {
             Pumped::Clear => self.pump_flows(world, link),
             Pumped::Blocked => Pumped::Blocked,
@@ -78,6 +81,8 @@ impl Slirp {
         requires free { link.old.blocked ≡ false }
         requires none { link.old.tail ≡ [] }
         requires out { self.old.pending ≡ [] }
+        requires told { AreTold self.old.known self.old.flows.flows.parts }
+        ensures told { AreTold self.new.known self.new.flows.flows.parts }
         ensures makes { (config : Config) (at : Standing) (aged : Bool) → Brings (W.tells world.old) (W.tells world.new)
             (Holds config at self.old (flowing aged self.old.flows) link.old) (AfterPump result config at self.new (flowing aged self.new.flows) link.new) }
         ensures failed { result ≡ Pumped.Failed → Rose (W.tells world.old).faults.link (W.tells world.new).faults.link }

@@ -1,8 +1,10 @@
-use Rattle.std.proofs.Common.{[], ◌≡◌, ◌∙◌, ℕ, None, false, true, ap, sym, subst}
+use Rattle.std.proofs.Common.{[], ◌≡◌, ◌∙◌, ℕ, None, true, ap, sym, subst}
 use Rattle.world_face.proofs.Counting.{rose_after}
-use Rattle.world_face.proofs.Telling.{brings_then}
+use Rattle.world_face.proofs.Telling.{brings_none, brings_then}
+use Rattle.std.specs.Prelude.{false}
 use Rattle.spliced_flows.specs.Core.{CoreHolds}
 use Rattle.tcp_flows.specs.Kept.{Kept}
+use Rattle.tcp_flows.specs.Reading.{AreTold}
 use Rattle.tcp_flows.specs.Settled.{IsInTime}
 use Rattle.slirp_core.specs.Holds.{Leaves, standing}
 use Rattle.slirp_core.specs.State.{SlirpState}
@@ -12,7 +14,17 @@ use Rattle.slirp_core.proofs.Settling.{pumped_settled}
 use Rattle.slirp_core.proofs.network.Slirp.pump.Goals as goal
 
 pub returns-in-Clear-clause-makes : goal.returns-in-Clear-clause-makes
-returns-in-Clear-clause-makes g c config at aged = brings_then (c.in-Clear.ensures.makes config at aged) (c.pump_flows.ensures.makes config at aged)
+returns-in-Clear-clause-makes g c config at aged =
+    brings_then (brings_none (λ past holds. c.tell_addresses.ensures.holds config at aged c.args.link.now past holds)) (brings_then (c.in-Clear.ensures.makes config at aged) (c.pump_flows.ensures.makes config at aged))
+
+pub returns-in-Blocked-clause-makes : goal.returns-in-Blocked-clause-makes
+returns-in-Blocked-clause-makes g c config at aged = brings_then (brings_none (λ past holds. c.tell_addresses.ensures.holds config at aged c.args.link.now past holds)) (c.in-Blocked.ensures.makes config at aged)
+
+pub returns-in-Failed-clause-makes : goal.returns-in-Failed-clause-makes
+returns-in-Failed-clause-makes g c config at aged = brings_then (brings_none (λ past holds. c.tell_addresses.ensures.holds config at aged c.args.link.now past holds)) (c.in-Failed.ensures.makes config at aged)
+
+pub pump_flows-requires-clause-told : goal.pump_flows-requires-clause-told
+pump_flows-requires-clause-told g c = subst (λ (s : SlirpState). AreTold s.known s.flows.flows.parts) (sym c.in-Clear.ensures.others) c.tell_addresses.ensures.told
 
 pub returns-in-Clear-clause-failed : goal.returns-in-Clear-clause-failed
 returns-in-Clear-clause-failed g c is =
@@ -22,13 +34,18 @@ returns-in-Clear-clause-failed g c is =
 pub returns-in-Clear-clause-settled : goal.returns-in-Clear-clause-settled
 returns-in-Clear-clause-settled g c config at clear =
     let old : SlirpState = c.args.self.now in
+    let told : SlirpState = c.tell_addresses.new.self in
     let mid : SlirpState = c.pump_answers.new.self in
     let new : SlirpState = c.pump_flows.new.self in
-    let flows_same : mid.flows ≡ old.flows = ap (λ (s : SlirpState). s.flows) c.in-Clear.ensures.others in
-    let moment_same : mid.moment ≡ old.moment = ap (λ (s : SlirpState). s.moment) c.in-Clear.ensures.others in
+    let told_moment : told.moment ≡ old.moment = ap (λ (s : SlirpState). s.moment) c.tell_addresses.ensures.same in
+    let flows_same : mid.flows ≡ told.flows = ap (λ (s : SlirpState). s.flows) c.in-Clear.ensures.others in
+    let moment_same : mid.moment ≡ old.moment = ap (λ (s : SlirpState). s.moment) c.in-Clear.ensures.others ∙ told_moment in
     pumped_settled config at old.moment old new c.args.link.now c.pump_flows.new.link c.pump_flows.result clear (ap (λ (s : SlirpState). s.moment) c.pump_flows.ensures.others ∙ moment_same)
     (returns-in-Clear-clause-makes g c config at true)
+    c.pump_flows.ensures.told
     (subst (λ (r : Pumped). Leaves r new c.pump_flows.new.link) clear c.pump_flows.ensures.leaves).3
-    (λ past holds n early. subst (λ (m : ℕ). IsInTime m new.flows.flows.parts n) moment_same
-    (c.pump_flows.ensures.ahead config old.moment true past (subst (λ (k : Kept). CoreHolds config old.moment true None k.flows past) (sym flows_same) holds) n
-    (subst (λ (s : SlirpState). IsInTime s.moment s.flows.flows.parts n) (sym c.in-Clear.ensures.others) early)))
+    (λ past holds n early.
+    let after = c.tell_addresses.ensures.holds config at true c.args.link.now past holds in
+    subst (λ (m : ℕ). IsInTime m new.flows.flows.parts n) moment_same
+    (c.pump_flows.ensures.ahead config told.moment true past (subst (λ (k : Kept). CoreHolds config told.moment true None k.flows past) (sym flows_same) after.flows.holds) n
+    (subst (λ (k : Kept). IsInTime mid.moment k.flows.parts n) (sym flows_same) (subst (λ (m : ℕ). IsInTime m told.flows.flows.parts n) (sym moment_same) (c.tell_addresses.ensures.ahead old.moment n early)))))

@@ -1,6 +1,7 @@
 use Rattle.std.proofs.Common.{None, sym, ◌∙◌, ap, subst}
 use Rattle.world_face.specs.Tells.{Brings}
 use Rattle.spliced_flows.specs.Core.{CoreHolds}
+use Rattle.tcp_flows.specs.Reading.{AreTold}
 use Rattle.tcp_flows.specs.Settled.{IsInTime}
 use Rattle.slirp_core.specs.Holds.{AfterPump, Holds, flowing}
 use Rattle.slirp_core.specs.Pumps.{pumped_flows}
@@ -29,6 +30,9 @@ returns-clause-ahead g c config before aged past holds n early =
     subst (λ (s : SlirpState). IsInTime s.moment c.pump-pumped.new.self.flows.parts n) view
     (c.pump-pumped.ensures.ahead config before aged past (subst (λ (s : SlirpState). CoreHolds config before aged None s.flows.flows past) (sym view) holds) n
     (subst (λ (s : SlirpState). IsInTime s.moment s.flows.flows.parts n) (sym view) early))
+
+pub returns-clause-told : goal.returns-clause-told
+returns-clause-told g c = c.pump-pumped.ensures.told (subst (λ (s : SlirpState). AreTold s.known s.flows.flows.parts) (sym c.self.view_is) c.requires.told)
 
 pub invariant_of-self : goal.invariant_of-self
 invariant_of-self g c =
