@@ -16,11 +16,13 @@ another_network = (
   refl,
   (
     record { pieces = Plain (codes "F") ∷ Joined (codes "--net") (codes "10.1.0.0/16") ∷ Apart (codes "--host") (codes "10.1.0.9") ∷ []; behind = None },
+    [],
     refl,
-    ((refl, ((refl, omega arith), ((refl, omega arith, refl), tt))), refl),
+    ((refl, ((refl, omega arith), ((refl, omega arith, refl), tt))), refl, omega arith),
     refl,
     omega arith,
     omega arith,
+    tt,
     record {
       net = (16, refl, omega arith, omega arith, refl);
       host = (refl, omega arith);

@@ -8,7 +8,7 @@ use Rattle.slirp_config.specs.Options.{Word, value_in}
 use Rattle.slirp_config.specs.Texts.{IsNetwork, IsNumber}
 use Rattle.slirp_config.proofs.Finding.{match_default}
 use Rattle.slirp_config.proofs.Settled.{made}
-use Rattle.slirp_config.proofs.line.Line.settings.Goals as goal
+use Rattle.slirp_config.proofs.line.Line.without_forwards.Goals as goal
 
 pub returns-in_err-network-clause-refused : goal.returns-in_err-network-clause-refused
 returns-in_err-network-clause-refused c = let p = err_from_is_err_and c.from_residual.result c.from_residual.ensures.1 in rw (p.1) (λ config are. c.in_err-network.ensures.refused config.network config.mask usual.network usual.mask are.net)
@@ -49,7 +49,7 @@ returns-clause-set c =
     let flows = c.in_ok-number.field-0 in
     let ring = c.in_ok-number-2.field-0 in
     let turns = c.in_ok-config-6.field-0 in
-    let set = λ (u : Config) (f r : ℕ). made u network mask c.in_ok-config.field-0.0 c.in_ok-config-2.field-0.0 c.in_ok-config-3.field-0.0 c.has.result c.has-2.result c.text-config.result.items c.text-config-2.result.items c.text-config-3.result.items c.text-config-4.result.items mtu mru f r turns c.has-3.result c.has-4.result c.version_of.result in (
+    let set = λ (u : Config) (f r : ℕ). made u network mask c.in_ok-config.field-0.0 c.in_ok-config-2.field-0.0 c.in_ok-config-3.field-0.0 c.has.result c.has-2.result c.text-config.result.items c.text-config-2.result.items c.text-config-3.result.items c.text-config-4.result.items mtu mru f r turns c.has-3.result c.has-4.result c.version_of.result u.forwards in (
       set usual flows ring,
       record {
         net = match_default (given (codes "--net")) ((network ≡ base.vnetwork.0) × (mask ≡ base.vnetmask.0)) ((network ≡ usual.network) × (mask ≡ usual.mask)) (λ text. IsNetwork text network mask) (λ d. (d.0 ∙ ap (λ (u : Config). u.network) is, d.1 ∙ ap (λ (u : Config). u.mask) is)) c.in_ok-network.ensures.read;
@@ -74,3 +74,6 @@ returns-clause-set c =
       },
       ap (λ (u : Config). set u c.narrow.result c.narrow-2.result) is ∙ ap (λ (n : ℕ). set usual n c.narrow-2.result) c.narrow.ensures ∙ ap (λ (n : ℕ). set usual (narrowed flows) n) c.narrow-2.ensures,
     )
+
+pub returns-clause-none : goal.returns-clause-none
+returns-clause-none c = ap (λ (u : Config). u.forwards) c.usual-config.ensures.usual
