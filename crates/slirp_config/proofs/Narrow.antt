@@ -107,7 +107,7 @@ behind = Outbound ∷ DisableDns ∷ DisableDhcp ∷ Guestfwds ∷ Control ∷ [
 
 agree : (config : Config) (forwards : List Forward) → Agree (in_range (record (narrowed_numbers config) { forwards = forwards })) (in_range config) before
 agree config forwards =
-    (refl, refl, refl, refl, refl, refl, refl, refl, refl, refl, refl, refl, refl, refl, same_between 1 4096 config.flows (omega arith), same_ring config.flows config.ring, refl, refl, tt)
+    (refl, (refl, (refl, (refl, (refl, (refl, (refl, (refl, (refl, (refl, (refl, (refl, (refl, (refl, (same_between 1 4096 config.flows (omega arith), (same_ring config.flows config.ring, (refl, (refl, tt))))))))))))))))))
 
 crowd : (config : Config) (forwards : List Forward) → leb (length forwards) 32 ≡ false → are_forwards config forwards ≡ false
 crowd config forwards many = rw many refl

@@ -113,10 +113,10 @@ one_link : (o : Option Word) (p q : Place) → IsLinkAt o p → IsLinkAt o q →
 one_link None p q h g = absurd h
 one_link (Some text) p q h g = one_place text p q h g
 
--- words behind a command mean one thing
-tail_of : (f e : Word) (r q : List Word) → ◌≡◌ {A = List Word} (f ∷ r) (e ∷ q) → (f ≡ e) × (r ≡ q)
+pub tail_of : (f e : Word) (r q : List Word) → ◌≡◌ {A = List Word} (f ∷ r) (e ∷ q) → (f ≡ e) × (r ≡ q)
 tail_of f e r q is = (cc, cc)
 
+-- words behind a command mean one thing
 pub one_replay : (words : List Word) (f e : Word) (c d : Config) → MeansReplay words f c → MeansReplay words e d → (f ≡ e) × (c ≡ d)
 one_replay words f e c d h g =
     let a = replay_meant words f c h in

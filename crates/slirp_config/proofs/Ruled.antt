@@ -1,12 +1,15 @@
 -- RULEs: what the parts of their texts are, and that each means one forward.
-use Rattle.std.proofs.Common.{◌≡◌, ◌≢◌, ◌⊎◌, inl, inr, ℕ, suc, ◌+◌, ◌<◌, Bool, true, ◌&&◌, List, [], ◌∷◌, ◌++◌, length, codes, decimal, refl, sym, ◌∙◌, ap, subst, arith, append_assoc}
+use Rattle.std.proofs.Common.{◌≡◌, ◌≢◌, ◌⊎◌, inl, inr, ℕ, suc, ◌+◌, ◌<◌, ◌≤◌, Bool, true, false, ◌&&◌, leb, List, [], ◌∷◌, ◌++◌, length, map, take, drop, get_or, codes, decimal, refl, sym, ◌∙◌, ap, subst, arith, append_assoc, append-nil, drop-cons, add-one}
+use denote.Ref.{Bor}
 use Rattle.std.specs.List.{list_all}
+use Rattle.std.proofs.lemmas.Bool.Decides.{nat_tests}
 use Rattle.std.proofs.lemmas.Fmt.{decimal_injective}
+use Rattle.std.proofs.lemmas.List.{take_all, drop_all}
 use Rattle.net_octets.specs.declared.Endpoint.{Endpoint}
-use Rattle.host_policy.specs.Ranges.{same_proto}
 use Rattle.host_policy.specs.declared.Forward.{Forward}
 use Rattle.host_policy.specs.declared.Proto.{Proto}
 use Rattle.host_policy.specs.declared.Proto.TheVariants.{Tcp, Udp}
+use Rattle.slirp_config.specs.Narrowing.{portless, held_forwards}
 use Rattle.slirp_config.specs.Options.{Word}
 use Rattle.slirp_config.specs.Rules.{IsAddressOr, IsPortAt, IsType, IsForward, IsRule, AreRules}
 use Rattle.slirp_config.specs.Texts.{is_other}
@@ -68,9 +71,16 @@ same_type kind Udp Udp h g = refl
 same_type kind Tcp Udp h g = absurd (two_types kind h g)
 same_type kind Udp Tcp h g = absurd (two_types kind g h)
 
+pub not_udp : (proto : Proto) → (proto ≡ Udp → ⊥) → proto ≡ Tcp
+not_udp Tcp other = refl
+not_udp Udp other = absurd (other refl)
+
 -- the two sides
 form : (kind outside inside : List ℕ) → (((kind ++ 58 ∷ []) ++ outside) ++ 45 ∷ []) ++ inside ≡ kind ++ 58 ∷ (outside ++ 45 ∷ inside)
 form kind outside inside = simp append_assoc
+
+pub spelt_forward : (text kind rest outside inside : List ℕ) → text ≡ kind ++ 58 ∷ rest → rest ≡ outside ++ 45 ∷ inside → text ≡ (((kind ++ 58 ∷ []) ++ outside) ++ 45 ∷ []) ++ inside
+spelt_forward text kind rest outside inside one two = one ∙ ap (λ (t : List ℕ). kind ++ 58 ∷ t) two ∙ sym (form kind outside inside)
 
 abbrev made_forward : Proto → Endpoint → Endpoint → Forward
 made_forward proto host guest = record { proto = proto; host = host; guest = guest }
@@ -138,20 +148,62 @@ as_many [] dhcp_start (x ∷ xs) h = absurd h
 as_many (rule ∷ rules) dhcp_start [] h = absurd h
 as_many (rule ∷ rules) dhcp_start (x ∷ xs) h = ap suc (as_many rules dhcp_start xs h.1)
 
--- a rule more was read
-pub one_more : (rules left : List Word) (rule : Word) (dhcp_start : ℕ) (got : List Forward) (f : Forward)
-    → ((rest : List Forward) → AreRules (rule ∷ left) dhcp_start rest → AreRules rules dhcp_start (got ++ rest)) → IsRule rule dhcp_start f
-    → (rest : List Forward) → AreRules left dhcp_start rest → AreRules rules dhcp_start ((got ++ f ∷ []) ++ rest)
-one_more rules left rule dhcp_start got f goes is rest are = subst (λ (t : List Forward). AreRules rules dhcp_start t) (sym (append_assoc got (f ∷ []) rest)) (goes (f ∷ rest) (is, are))
+-- what rules mean, whatever it is
+pub record Forwards (rules : List Word) (dhcp_start : ℕ) : Type 0 where
+  pub all : List Forward
+  pub are : AreRules rules dhcp_start all
 
--- what is left of rules that all mean something
-pub record Leaves (left : List Word) (dhcp_start : ℕ) : Type 0 where
-  pub forwards : List Forward
-  pub are : AreRules left dhcp_start forwards
+-- What was read of rules, of which these are left: with what they mean it is what all mean, and the first 32 are held.
+pub record HasRead (rules left : List Word) (dhcp_start : ℕ) (held : List Forward) : Type 0 where
+  pub got : List Forward
+  pub kept : held ≡ take 32 got
+  pub goes : (rest : List Forward) → AreRules left dhcp_start rest → AreRules rules dhcp_start (got ++ rest)
+  pub leaves : (all : List Forward) → AreRules rules dhcp_start all → Forwards left dhcp_start
 
-pub one_less : (left : List Word) (rule : Word) (dhcp_start : ℕ) → Leaves (rule ∷ left) dhcp_start → ((f : Forward) × IsRule rule dhcp_start f) × Leaves left dhcp_start
-one_less left rule dhcp_start l = by_cases l.forwards l.are
-  where
-    by_cases : (fs : List Forward) → AreRules (rule ∷ left) dhcp_start fs → ((f : Forward) × IsRule rule dhcp_start f) × Leaves left dhcp_start
-    by_cases [] are = absurd are
-    by_cases (x ∷ xs) are = ((x, are.0), record { forwards = xs; are = are.1 })
+module _ (rules left : List Word) (rule : Word) (dhcp_start : ℕ) where
+  some_left : Forwards (rule ∷ left) dhcp_start → ((f : Forward) × IsRule rule dhcp_start f) × Forwards left dhcp_start
+  some_left l = by_cases l.all l.are
+    where
+      by_cases : (fs : List Forward) → AreRules (rule ∷ left) dhcp_start fs → ((f : Forward) × IsRule rule dhcp_start f) × Forwards left dhcp_start
+      by_cases [] are = absurd are
+      by_cases (x ∷ xs) are = ((x, are.0), record { all = xs; are = are.1 })
+
+  -- one more was read
+  pub read_on : (held new : List Forward) (f : Forward) → HasRead rules (rule ∷ left) dhcp_start held → IsRule rule dhcp_start f
+      → ((all : List Forward) → held ≡ take 32 all → new ≡ take 32 (all ++ f ∷ [])) → HasRead rules left dhcp_start new
+  read_on held new f h is put = record {
+    got = h.got ++ f ∷ [];
+    kept = put h.got h.kept;
+    goes = λ rest are. subst (λ (t : List Forward). AreRules rules dhcp_start t) (sym (append_assoc h.got (f ∷ []) rest)) (h.goes (f ∷ rest) (is, are));
+    leaves = λ all are. (some_left (h.leaves all are)).1;
+  }
+
+  -- one can't be read
+  pub read_none : (held : List Forward) → HasRead rules (rule ∷ left) dhcp_start held → ((f : Forward) → ¬ IsRule rule dhcp_start f) → (all : List Forward) → ¬ AreRules rules dhcp_start all
+  read_none held h none all are = let one = (some_left (h.leaves all are)).0 in none one.0 one.1
+
+pub read_all : (rules : List Word) (dhcp_start : ℕ) (held : List Forward) → HasRead rules [] dhcp_start held → (all : List Forward) × AreRules rules dhcp_start all × (held ≡ take 32 all)
+read_all rules dhcp_start held h = (h.got, subst (λ (t : List Forward). AreRules rules dhcp_start t) (append-nil h.got) (h.goes [] tt), h.kept)
+
+-- the words of rules, one by one
+abbrev pub rule_words : List (Bor Word) → List Word
+rule_words rules = map (λ rule. rule.now) rules
+
+pub next_rule : (rules : List (Bor Word)) (i : ℕ) (d : Bor Word) → i < length rules → rule_words (drop i rules) ≡ (get_or rules i d).now ∷ rule_words (drop (i + 1) rules)
+next_rule rules i d within = ap rule_words (drop-cons rules i d within ∙ ap (λ (n : ℕ). get_or rules i d ∷ drop n rules) (sym (add-one i)))
+
+pub no_rule : (rules : List (Bor Word)) (i : ℕ) → length rules ≤ i → rule_words (drop i rules) ≡ []
+no_rule rules i past = ap rule_words (drop_all i rules past)
+
+-- what is held of what was read
+pub held_all : (rules : List Word) (dhcp_start : ℕ) (all held : List Forward) → AreRules rules dhcp_start all → length rules ≤ 32 → held ≡ take 32 all → held ≡ held_forwards all
+held_all rules dhcp_start all held are few is =
+    let short : length all ≤ 32 = omega (arith, as_many rules dhcp_start all are, few) in
+    let test : leb (length all) 32 ≡ true = grind (arith, nat_tests, short) in
+    rw test (is ∙ take_all 32 all short)
+
+pub held_none : (rules : List Word) (dhcp_start : ℕ) (all : List Forward) → AreRules rules dhcp_start all → 32 < length rules → portless ∷ [] ≡ held_forwards all
+held_none rules dhcp_start all are many =
+    let long : 32 < length all = omega (arith, as_many rules dhcp_start all are, many) in
+    let test : leb (length all) 32 ≡ false = grind (arith, nat_tests, long) in
+    rw test refl
