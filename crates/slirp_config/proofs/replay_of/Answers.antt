@@ -1,4 +1,5 @@
-use Rattle.std.proofs.Common.{◌≡◌, ◌<◌, ◌≤◌, length, [], ◌∷◌, List, map, string_bytes, sym, ◌∙◌, ap, subst}
+use Rattle.std.proofs.Common.{◌<◌, ◌≤◌, length, ◌∷◌, List, map, string_bytes, sym, ◌∙◌, ap, subst, arith}
+use Rattle.std.proofs.lemmas.List.{length-map}
 use Rattle.std.proofs.lemmas.Result.{err_from_is_err_and}
 use Rattle.slirp_config.specs.declared.options.Verb.TheVariants.{Replay}
 use Rattle.slirp_config.specs.Meaning.{AreSettings, Replays}
@@ -17,8 +18,8 @@ pub returns-in_default-clause-refused : goal.returns-in_default-clause-refused
 returns-in_default-clause-refused c = λ file config m.
     let r = replay_meant _ file config m in
     let same = one_walk Replay (map string_bytes c.args.words.now) (walk_of c.in_ok-line.line) r.walk c.in_ok-line.ensures.read r.read in
-    let clash : ◌≡◌ {A = List Word} [] (file ∷ r.rules) = ap rule_words (sym c.in_default.ensures.cases) ∙ c.alone.ensures ∙ ap (λ (w : Walk). w.alone) same ∙ r.alone in
-    cc clash
+    let some = ap length (c.alone.ensures ∙ ap (λ (w : Walk). w.alone) same ∙ r.alone) in
+    absurd (omega (arith, c.in_default.ensures.cases, some, length-map c.alone.result.now (λ word. word.now)))
 
 pub returns-in_err-file-clause-refused : goal.returns-in_err-file-clause-refused
 returns-in_err-file-clause-refused c = let p = err_from_is_err_and c.from_residual-in_err-file.result c.from_residual-in_err-file.ensures.1 in rw (p.1) (λ file config m.
