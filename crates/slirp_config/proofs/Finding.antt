@@ -1,6 +1,5 @@
 -- The first of a list that passes a test, through a map; facts by cases that are weakened.
-use Rattle.std.proofs.Common.{◌≡◌, Bool, true, false, cond, List, [], ◌∷◌, map, Option, Some, None, MatchOption, Result, Ok, Err, OnErr, find, bytes_eq, is_some, option_copied, refl, sym, ◌∙◌, ap, subst}
-use denote.Ref.{Bor}
+use Rattle.std.proofs.Common.{◌≡◌, Bool, true, false, cond, List, [], ◌∷◌, map, Option, Some, None, MatchOption, Result, Ok, Err, OnErr, find, bytes_eq, refl, sym, ◌∙◌, ap, subst}
 use Rattle.std.specs.Option.{option_map}
 use Rattle.slirp_config.specs.declared.line.Given.{Given as GivenHere}
 use Rattle.slirp_config.specs.Options.{Word, value_in}

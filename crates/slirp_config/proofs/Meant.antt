@@ -1,5 +1,5 @@
 -- What words mean, by the walk over them.
-use Rattle.std.proofs.Common.{◌≡◌, ◌<◌, ◌≤◌, List, [], ◌∷◌, length, codes, Option, Some, None, MatchOption, is_some, refl, sym, ◌∙◌, ap, subst}
+use Rattle.std.proofs.Common.{◌≡◌, ◌<◌, ◌≤◌, List, ◌∷◌, length, codes, Option, Some, None, MatchOption, is_some, sym, ◌∙◌, ap, subst}
 use Rattle.host_policy.specs.Addresses.{Config}
 use Rattle.world_face.specs.Journal.{Place}
 use Rattle.slirp_config.specs.declared.options.Verb.{Verb}

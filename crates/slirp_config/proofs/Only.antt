@@ -133,8 +133,7 @@ one_serve words c d p q h g =
     let b = serve_meant words d q g in
     let walk : a.walk ≡ b.walk = one_walk Serve words a.walk b.walk a.read b.read in
     let set = subst (λ (w : Walk). AreSettings (value_in w.options) c) walk a.settings in
-    let given = subst (λ (w : Walk). AreRules w.alone c.dhcp_start c.forwards) walk a.forwards in
-    (
+    let given = subst (λ (w : Walk). AreRules w.alone c.dhcp_start c.forwards) walk a.forwards in (
       one_settings (value_in b.walk.options) b.walk.alone c d set b.settings given b.forwards,
       one_link (value_in b.walk.options (codes "--link")) p q (subst (λ (w : Walk). IsLinkAt (value_in w.options (codes "--link")) p) walk a.link) b.link,
     )

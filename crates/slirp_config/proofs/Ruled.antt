@@ -1,5 +1,5 @@
 -- RULEs: what the parts of their texts are, and that each means one forward.
-use Rattle.std.proofs.Common.{◌≡◌, ◌≢◌, ◌⊎◌, inl, inr, ℕ, suc, ◌+◌, ◌<◌, ◌≤◌, Bool, true, false, ◌&&◌, leb, List, [], ◌∷◌, ◌++◌, length, map, take, drop, get_or, codes, decimal, refl, sym, ◌∙◌, ap, subst, arith, append_assoc, append-nil, drop-cons, add-one}
+use Rattle.std.proofs.Common.{◌≡◌, ◌≢◌, inl, inr, ℕ, suc, ◌+◌, ◌<◌, ◌≤◌, Bool, true, false, leb, List, [], ◌∷◌, ◌++◌, length, map, take, drop, get_or, codes, decimal, refl, sym, ◌∙◌, ap, subst, arith, append_assoc, append-nil, drop-cons, add-one}
 use denote.Ref.{Bor}
 use Rattle.std.specs.List.{list_all}
 use Rattle.std.proofs.lemmas.Bool.Decides.{nat_tests}
@@ -14,7 +14,7 @@ use Rattle.slirp_config.specs.Options.{Word}
 use Rattle.slirp_config.specs.Rules.{IsAddressOr, IsPortAt, IsType, IsForward, IsRule, AreRules}
 use Rattle.slirp_config.specs.Texts.{is_other}
 use Rattle.slirp_config.proofs.Addresses.{address_form, address_fits, same_address, made_of}
-use Rattle.slirp_config.proofs.Parting.{is_digit, fit_append, fit_weaker, pair, parts_once, decimal_digits, digit_is_no_dash, digit_is_no_colon}
+use Rattle.slirp_config.proofs.Parting.{is_digit, fit_append, fit_weaker, parts_once, decimal_digits, digit_is_no_dash, digit_is_no_colon}
 
 -- an address that may be left out has digits and dots alone
 address_or_fits : (p : ℕ → Bool) → ((c : ℕ) → is_digit c ≡ true → p c ≡ true) → p 46 ≡ true → (usual : ℕ) (text : List ℕ) (a : ℕ) → IsAddressOr usual text a → list_all p text ≡ true

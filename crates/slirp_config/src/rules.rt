@@ -21,7 +21,11 @@ const NO_PORT: Endpoint = Endpoint {
 };
 
 /// Puts what the rules give. Of more than 32 forwards none is put: in their place stands one of port 0, for which their field is refused.
-pub(crate) fn put_forwards(rules: &[&str], dhcp_start: Ip4, forwards: &mut ArrayVec<Forward, ROOM>) -> Result<(), NoReading>
+pub(crate) fn put_forwards(
+    rules: &[&str],
+    dhcp_start: Ip4,
+    forwards: &mut ArrayVec<Forward, ROOM>,
+) -> Result<(), NoReading>
     requires { forwards.old.items ≡ [] }
     ensures put { OnOk result ((all : List AForward) × AreRules (map (λ rule. rule.now) rules.now) dhcp_start.0 all × (forwards.new.items ≡ held_forwards all)) }
     ensures refused { OnErr result ((all : List AForward) → ¬ AreRules (map (λ rule. rule.now) rules.now) dhcp_start.0 all) }
@@ -39,7 +43,11 @@ pub(crate) fn put_forwards(rules: &[&str], dhcp_start: Ip4, forwards: &mut Array
 }
 
 // Reads the rules, and puts the first 32 of their forwards.
-fn read_rules(rules: &[&str], dhcp_start: Ip4, forwards: &mut ArrayVec<Forward, ROOM>) -> Result<(), NoReading>
+fn read_rules(
+    rules: &[&str],
+    dhcp_start: Ip4,
+    forwards: &mut ArrayVec<Forward, ROOM>,
+) -> Result<(), NoReading>
     requires { forwards.old.items ≡ [] }
     ensures read { OnOk result ((all : List AForward) × AreRules (map (λ rule. rule.now) rules.now) dhcp_start.0 all × (forwards.new.items ≡ take 32 all)) }
     ensures refused { OnErr result ((all : List AForward) → ¬ AreRules (map (λ rule. rule.now) rules.now) dhcp_start.0 all) }

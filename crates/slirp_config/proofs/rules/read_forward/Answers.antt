@@ -1,7 +1,5 @@
-use Rattle.std.proofs.Common.{◌≡◌, ℕ, ◌∷◌, ◌++◌, List, refl, sym, ◌∙◌, ap, subst}
+use Rattle.std.proofs.Common.{ℕ, List, sym, subst}
 use Rattle.std.proofs.lemmas.Result.{err_from_is_err_and}
-use Rattle.host_policy.specs.declared.Forward.{Forward as AForward}
-use Rattle.host_policy.specs.declared.Proto.TheVariants.{Udp}
 use Rattle.slirp_config.specs.Rules.{IsType, IsPortAt}
 use Rattle.slirp_config.proofs.Parting.{no_part}
 use Rattle.slirp_config.proofs.Ruled.{forward_parts, side_parts, spelt_forward, not_udp}

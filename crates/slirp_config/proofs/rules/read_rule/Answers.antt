@@ -1,5 +1,4 @@
-use Rattle.std.proofs.Common.{◌≡◌, ◌≢◌, ◌∷◌, ◌++◌, ℕ, List, codes, rules, sym, ◌∙◌, ap, subst}
-use Rattle.host_policy.specs.declared.Forward.{Forward as AForward}
+use Rattle.std.proofs.Common.{◌≡◌, ◌≢◌, ◌++◌, ℕ, List, codes, rules, sym, ◌∙◌, ap, subst}
 use Rattle.slirp_config.specs.Rules.{IsForward}
 use Rattle.slirp_config.proofs.Finding.{on_err}
 use Rattle.slirp_config.proofs.Ruled.{behind_refused, bare_refused}
