@@ -27,7 +27,7 @@ config_of (Serves config at) = config
 abbrev pub version_of : (no_dhcp : Bool) → ℕ
 version_of no_dhcp = if no_dhcp then 2 else 1
 
--- the settings that options give, by the value that each name has; what no option gives is usual. Forwards are given by no option
+-- the settings that options give, by the value that each name has; what no option gives is usual. No option gives forwards
 pub record AreSettings (given : Word → Option Word) (config : Config) : Type 0 where
   pub net : MatchOption (given (codes "--net")) ((config.network ≡ usual.network) × (config.mask ≡ usual.mask)) (λ text. IsNetwork text config.network config.mask)
   pub host : MatchOption (given (codes "--host")) (config.vhost ≡ (config.network + 2) % 2 ^ 32) (λ text. IsAddress text config.vhost)

@@ -33,7 +33,7 @@ pub record IsForward (text : List ℕ) (dhcp_start : ℕ) (forward : Forward) : 
   pub type : IsType kind forward.proto
   pub host : IsPortAt 0 outside forward.host
   pub guest : IsPortAt dhcp_start inside forward.guest
-  -- Forwards of datagrams aren't built yet: until then `udp` has no reading. This line goes with the branch in `read_forward`.
+  -- Until forwards of datagrams are built `udp` has no reading. This line and the branch in `read_forward` go together.
   pub built : forward.proto ≡ Tcp
 
 -- `hostfwd=` may stand in front

@@ -85,7 +85,7 @@ fn read_forward(text: &[u8], dhcp_start: Ip4) -> Result<Forward, NoReading>
 {
     let (kind, behind) = split_at(text, b':')?;
     let proto = read_type(kind)?;
-    // Forwards of datagrams aren't built yet.
+    // Until forwards of datagrams are built.
     if let Proto::Udp = proto {
         return Err(NoReading);
     }
