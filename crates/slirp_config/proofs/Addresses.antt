@@ -94,7 +94,7 @@ same_address n m hn hm is =
     let ed : n % 2 ^ 8 ≡ m % 2 ^ 8 = decimal_injective (n % 2 ^ 8) (m % 2 ^ 8) (omega arith) (omega arith) c.1 in
     rebuilt n m ea eb ec ed
 
-abbrev made_of : ℕ → ℕ → Endpoint
+abbrev pub made_of : ℕ → ℕ → Endpoint
 made_of n port = record { addr = record { 0 = n }; port = port }
 
 pub same_endpoint : (e f : Endpoint) → IsEndpoint e → IsEndpoint f → endpoint_text e ≡ endpoint_text f → e ≡ f

@@ -11,7 +11,7 @@ use Rattle.slirp_config.proofs.Few.{refuted}
 use Rattle.slirp_config.proofs.Parting.{both, split_place}
 use Rattle.slirp_config.proofs.Steps.{at, waiting, behind_end, given}
 
-chosen : (t : Bool) (x : Option Walk) (w : Walk) → cond t x None ≡ Some w → (t ≡ true) × (x ≡ Some w)
+pub chosen : (t : Bool) (x : Option Walk) (w : Walk) → cond t x None ≡ Some w → (t ≡ true) × (x ≡ Some w)
 chosen true x w h = (refl, h)
 chosen false x w h = absurd (cc h)
 
@@ -25,7 +25,7 @@ sign_parts word there =
     let tail : take (length word - (n + 1)) (drop (n + 1) word) ≡ drop (n + 1) word = take_all (length word - (n + 1)) (drop (n + 1) word) (omega (arith, length-drop (n + 1) word)) in
     split_place word 61 n place ∙ ap (λ (t : Word). take n word ++ 61 ∷ t) tail
 
-module _ (verb : Verb) (o : List Given) (a : Option Word) where
+module _ (verb : Verb) (o : List Given) (a : List Word) where
   pub put_back : (name value : Word) (w : Walk) → put_option (at verb o a) name value ≡ Some w → (is_some (value_in o name) ≡ false) × (w ≡ at verb (o ++ given name value ∷ []) a)
   put_back name value w is =
       let c = chosen (not (is_some (value_in o name)) && ltb (length o) 18) (Some (at verb (o ++ given name value ∷ []) a)) w is in
@@ -46,7 +46,7 @@ module _ (verb : Verb) (o : List Given) (a : Option Word) where
 
   pub data Stepped (word : Word) (w : Walk) : Type 0 where
     Ends : (is : word ≡ codes "--") (after : w ≡ behind_end verb o a) → Stepped word w
-    Alone : (plain : is_dashed word ≡ false) (first : a ≡ None) (after : w ≡ at verb o (Some word)) → Stepped word w
+    Alone : (plain : is_dashed word ≡ false) (room : length a < 34) (after : w ≡ at verb o (a ++ word ∷ [])) → Stepped word w
     Joins : (name value : Word) (is : word ≡ name ++ 61 ∷ value) (takes : takes_value verb name ≡ Some true) (some : 0 < length value) (free : is_some (value_in o name) ≡ false) (after : w ≡ at verb (o ++ given name value ∷ []) a) → Stepped word w
     Waits : (takes : takes_value verb word ≡ Some true) (after : w ≡ waiting verb o a word) → Stepped word w
     Flags : (takes : takes_value verb word ≡ Some false) (free : is_some (value_in o word) ≡ false) (after : w ≡ at verb (o ++ given word [] ∷ []) a) → Stepped word w
@@ -71,15 +71,15 @@ module _ (verb : Verb) (o : List Given) (a : Option Word) where
   dashed_back word w true e h = joined_back word (before_first is_sign word) (after_first is_sign word) w (sign_parts word e) (takes_value verb (before_first is_sign word)) refl h
   dashed_back word w false e h = name_back word w (takes_value verb word) refl h
 
-  alone_back : (word : Word) (w : Walk) (b : Option Word) → a ≡ b → is_dashed word ≡ false
-      → (if is_some b then None else Some (at verb o (Some word))) ≡ Some w → Stepped word w
-  alone_back word w None e plain h = Alone plain e (sym (same_walk (at verb o (Some word)) w h))
-  alone_back word w (Some v) e plain h = absurd (cc h)
+  alone_back : (word : Word) (w : Walk) → is_dashed word ≡ false → put_alone (at verb o a) word ≡ Some w → Stepped word w
+  alone_back word w plain h =
+      let c = chosen (ltb (length a) 34) (Some (at verb o (a ++ word ∷ []))) w h in
+      Alone plain (grind (arith, nat_tests, c.0)) (sym (same_walk (at verb o (a ++ word ∷ [])) w c.1))
 
   word_back : (word : Word) (w : Walk) (t : Bool) → is_dashed word ≡ t
       → (if t then put_dashed (at verb o a) word else put_alone (at verb o a) word) ≡ Some w → Stepped word w
   word_back word w true e h = dashed_back word w (ltb (position_or_len is_sign word) (length word)) refl h
-  word_back word w false e h = alone_back word w a refl e h
+  word_back word w false e h = alone_back word w e h
 
   begin_back : (word : Word) (w : Walk) (t : Bool) → bytes_eq word (codes "--") ≡ t
       → (if t then Some (behind_end verb o a) else (if is_dashed word then put_dashed (at verb o a) word else put_alone (at verb o a) word)) ≡ Some w → Stepped word w

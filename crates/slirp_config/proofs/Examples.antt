@@ -1,10 +1,14 @@
 -- What some command lines mean.
-use Rattle.std.proofs.Common.{refl, [], ◌∷◌, codes, None, arith}
+use Rattle.std.proofs.Common.{refl, [], ◌∷◌, codes, None, inr, arith}
+use Rattle.host_policy.specs.Addresses.{endpoint}
 use Rattle.host_policy.specs.Settings.{usual}
+use Rattle.host_policy.specs.Targets.{loopback}
+use Rattle.host_policy.specs.declared.Proto.TheVariants.{Tcp}
 use Rattle.std.specs.Fmt.{digits}
 use Rattle.slirp_config.specs.Options.{Apart, Joined, Plain}
 use Rattle.slirp_config.specs.Texts.{address_text}
-use Rattle.slirp_config.specs.Meaning.{Means, Replays}
+use Rattle.slirp_config.specs.Meaning.{Means, Replays, Serves}
+use Rattle.world_face.specs.Journal.{AtPath}
 
 -- another network: what isn't given lies behind its first address
 another_network : Means
@@ -16,16 +20,72 @@ another_network = (
   refl,
   (
     record { pieces = Plain (codes "F") ∷ Joined (codes "--net") (codes "10.1.0.0/16") ∷ Apart (codes "--host") (codes "10.1.0.9") ∷ []; behind = None },
+    [],
     refl,
-    ((refl, ((refl, omega arith), ((refl, omega arith, refl), tt))), refl),
+    ((refl, ((refl, omega arith), ((refl, omega arith, refl), tt))), refl, omega arith),
     refl,
     omega arith,
     omega arith,
+    tt,
     record {
       net = (16, refl, omega arith, omega arith, refl);
       host = (refl, omega arith);
       dns = refl;
       dhcp_start = refl;
+      restricted = refl;
+      no_loopback = refl;
+      hostname = refl;
+      domainname = refl;
+      tftp_server_name = refl;
+      bootfile = refl;
+      mtu = refl;
+      mru = refl;
+      flows = refl;
+      ring = refl;
+      turns = refl;
+      congestion = refl;
+      no_dhcp = refl;
+      version = refl;
+      rest = refl;
+    },
+  ),
+)
+
+-- a RULE without an address of a guest leads to the first that is lent, also where `--dhcpstart` stands behind it
+first_guest : Means
+    (codes "serve" ∷ codes "--link=unix:s" ∷ codes "hostfwd=tcp:127.0.0.1:2222-:22" ∷ codes "--dhcpstart=10.0.2.100" ∷ [])
+    (Serves (record usual { dhcp_start = 0x0a000264; forwards = record { proto = Tcp; host = endpoint loopback 2222; guest = endpoint 0x0a000264 22 } ∷ [] }) (AtPath (codes "s")))
+unfolding address_text digits
+first_guest = (
+  codes "--link=unix:s" ∷ codes "hostfwd=tcp:127.0.0.1:2222-:22" ∷ codes "--dhcpstart=10.0.2.100" ∷ [],
+  refl,
+  (
+    record { pieces = Joined (codes "--link") (codes "unix:s") ∷ Plain (codes "hostfwd=tcp:127.0.0.1:2222-:22") ∷ Joined (codes "--dhcpstart") (codes "10.0.2.100") ∷ []; behind = None },
+    refl,
+    (((refl, omega arith), (refl, ((refl, omega arith), tt))), refl, omega arith),
+    (refl, (omega arith, omega arith)),
+    (
+      inr (
+        codes "tcp:127.0.0.1:2222-:22",
+        refl,
+        record {
+          kind = codes "tcp";
+          outside = codes "127.0.0.1:2222";
+          inside = codes ":22";
+          spelt = refl;
+          type = inr refl;
+          host = record { before = codes "127.0.0.1"; behind = codes "2222"; spelt = refl; address = (refl, omega arith); port = (refl, omega arith) };
+          guest = record { before = []; behind = codes "22"; spelt = refl; address = refl; port = (refl, omega arith) };
+          built = refl;
+        },
+      ),
+      tt,
+    ),
+    record {
+      net = (refl, refl);
+      host = refl;
+      dns = refl;
+      dhcp_start = (refl, omega arith);
       restricted = refl;
       no_loopback = refl;
       hostname = refl;

@@ -1,6 +1,5 @@
 -- The first of a list that passes a test, through a map; facts by cases that are weakened.
-use Rattle.std.proofs.Common.{◌≡◌, Bool, true, false, cond, List, [], ◌∷◌, map, Option, Some, None, MatchOption, Result, Ok, Err, OnErr, find, bytes_eq, is_some, option_copied, refl, sym, ◌∙◌, ap, subst}
-use denote.Ref.{Bor}
+use Rattle.std.proofs.Common.{◌≡◌, Bool, true, false, cond, List, [], ◌∷◌, map, Option, Some, None, MatchOption, Result, Ok, Err, OnErr, find, bytes_eq, refl, sym, ◌∙◌, ap, subst}
 use Rattle.std.specs.Option.{option_map}
 use Rattle.slirp_config.specs.declared.line.Given.{Given as GivenHere}
 use Rattle.slirp_config.specs.Options.{Word, value_in}
@@ -31,13 +30,3 @@ module _ {T E : Type 0} where
   pub on_err : (r : Result T E) (P Q : Type 0) → (P → Q) → OnErr r P → OnErr r Q
   on_err (Ok t) P Q f h = tt
   on_err (Err e) P Q f h = f h
-
--- a reference that isn't there
-module _ {X : Type 0} where
-  pub none_copied : (o : Option (Bor X)) → option_copied o ≡ None → is_some o ≡ true → ⊥
-  none_copied None none some = cc some
-  none_copied (Some x) none some = cc none
-
-  pub some_copied : (o : Option (Bor X)) → is_some o ≡ false → option_copied o ≡ None
-  some_copied None none = refl
-  some_copied (Some x) none = absurd (cc none)

@@ -10,7 +10,10 @@ pub mod Steps
 pub mod Back
 pub mod Walks
 pub mod Meant
+pub mod Ruled
+pub mod Putting
 pub mod Only
 pub mod Narrow
 pub mod Answered
 pub mod Commanded
+pub mod Built

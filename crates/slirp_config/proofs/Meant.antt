@@ -1,57 +1,52 @@
 -- What words mean, by the walk over them.
-use Rattle.std.proofs.Common.{◌≡◌, ◌<◌, ◌≤◌, List, [], ◌∷◌, length, codes, Option, Some, None, MatchOption, is_some, refl, sym, ◌∙◌, ap, subst}
+use Rattle.std.proofs.Common.{◌≡◌, ◌<◌, ◌≤◌, List, ◌∷◌, length, codes, Option, Some, None, MatchOption, is_some, sym, ◌∙◌, ap, subst}
 use Rattle.host_policy.specs.Addresses.{Config}
 use Rattle.world_face.specs.Journal.{Place}
 use Rattle.slirp_config.specs.declared.options.Verb.{Verb}
 use Rattle.slirp_config.specs.declared.options.Verb.TheVariants.{Replay, Serve}
 use Rattle.slirp_config.specs.Meaning.{AreSettings, MeansReplay, MeansServe}
 use Rattle.slirp_config.specs.Options.{Word, Given, words_alone, options_of, value_in}
+use Rattle.slirp_config.specs.Rules.{AreRules}
 use Rattle.slirp_config.specs.Texts.{IsLink}
 use Rattle.slirp_config.specs.Walking.{Walk, walked}
 use Rattle.slirp_config.proofs.Back.{same_walk}
-use Rattle.slirp_config.proofs.Walks.{keep_alone, arrived, line_walked, walk_read}
-
-kept_one : (words : List Word) (word : Word) → keep_alone None words ≡ Some (Some word) → words ≡ word ∷ []
-kept_one [] word k = absurd (cc k)
-kept_one (v ∷ []) word k = let same : v ≡ word = cc in ap (λ (w : Word). w ∷ []) same
-kept_one (v ∷ (u ∷ words)) word k = absurd (cc k)
-
-kept_none : (words : List Word) → keep_alone None words ≡ Some None → words ≡ []
-kept_none [] k = refl
-kept_none (v ∷ []) k = absurd (cc k)
-kept_none (v ∷ (u ∷ words)) k = absurd (cc k)
+use Rattle.slirp_config.proofs.Walks.{arrived, line_walked, walk_read}
 
 pub record ReplayRead (words : List Word) (file : Word) (config : Config) : Type 0 where
   pub walk : Walk
   pub read : walked Replay words ≡ Some walk
-  pub alone : walk.alone ≡ Some file
+  pub rules : List Word
+  pub alone : walk.alone ≡ file ∷ rules
   pub some : 0 < length file
   pub fits : length file ≤ 1280
+  pub forwards : AreRules rules config.dhcp_start config.forwards
   pub settings : AreSettings (value_in walk.options) config
 
 pub replay_means : (words : List Word) (file : Word) (config : Config) → ReplayRead words file config → MeansReplay words file config
 replay_means words file config r =
     let l = walk_read Replay words r.walk r.read in (
       l.line,
+      r.rules,
       l.spelt,
       l.proper,
-      kept_one (words_alone l.line) file (l.alone ∙ ap (λ (a : Option Word). Some a) r.alone),
+      sym l.alone ∙ r.alone,
       r.some,
       r.fits,
+      r.forwards,
       subst (λ (o : List Given). AreSettings (value_in o) config) l.options r.settings,
     )
 
 pub replay_meant : (words : List Word) (file : Word) (config : Config) → MeansReplay words file config → ReplayRead words file config
-replay_meant words file config m =
-    let kept : keep_alone None (words_alone m.0) ≡ Some (Some file) = ap (keep_alone None) m.3 in
-    record {
-      walk = arrived Replay (options_of m.0.pieces) (Some file) (is_some m.0.behind);
-      read = ap (walked Replay) m.1 ∙ line_walked Replay m.0 (Some file) m.2 kept;
-      alone = refl;
-      some = m.4;
-      fits = m.5;
-      settings = m.6;
-    }
+replay_meant words file config m = record {
+  walk = arrived Replay (options_of m.0.pieces) (words_alone m.0) (is_some m.0.behind);
+  read = ap (walked Replay) m.2 ∙ line_walked Replay m.0 m.3;
+  rules = m.1;
+  alone = m.4;
+  some = m.5;
+  fits = m.6;
+  forwards = m.7;
+  settings = m.8;
+}
 
 -- the link is told, and is at this place
 abbrev pub IsLinkAt : Option Word → Place → Type 0
@@ -60,8 +55,8 @@ IsLinkAt given at = MatchOption given ⊥ (λ text. IsLink text at)
 pub record ServeRead (words : List Word) (config : Config) (at : Place) : Type 0 where
   pub walk : Walk
   pub read : walked Serve words ≡ Some walk
-  pub alone : walk.alone ≡ None
   pub link : IsLinkAt (value_in walk.options (codes "--link")) at
+  pub forwards : AreRules walk.alone config.dhcp_start config.forwards
   pub settings : AreSettings (value_in walk.options) config
 
 pub serve_means : (words : List Word) (config : Config) (at : Place) → ServeRead words config at → MeansServe words config at
@@ -70,21 +65,19 @@ serve_means words config at r =
       l.line,
       l.spelt,
       l.proper,
-      kept_none (words_alone l.line) (l.alone ∙ ap (λ (a : Option Word). Some a) r.alone),
       subst (λ (o : List Given). IsLinkAt (value_in o (codes "--link")) at) l.options r.link,
+      subst (λ (a : List Word). AreRules a config.dhcp_start config.forwards) l.alone r.forwards,
       subst (λ (o : List Given). AreSettings (value_in o) config) l.options r.settings,
     )
 
 pub serve_meant : (words : List Word) (config : Config) (at : Place) → MeansServe words config at → ServeRead words config at
-serve_meant words config at m =
-    let kept : keep_alone None (words_alone m.0) ≡ Some None = ap (keep_alone None) m.3 in
-    record {
-      walk = arrived Serve (options_of m.0.pieces) None (is_some m.0.behind);
-      read = ap (walked Serve) m.1 ∙ line_walked Serve m.0 None m.2 kept;
-      alone = refl;
-      link = m.4;
-      settings = m.5;
-    }
+serve_meant words config at m = record {
+  walk = arrived Serve (options_of m.0.pieces) (words_alone m.0) (is_some m.0.behind);
+  read = ap (walked Serve) m.1 ∙ line_walked Serve m.0 m.2;
+  link = m.3;
+  forwards = m.4;
+  settings = m.5;
+}
 
 -- words have one walk
 pub one_walk : (verb : Verb) (words : List Word) (v w : Walk) → walked verb words ≡ Some v → walked verb words ≡ Some w → v ≡ w

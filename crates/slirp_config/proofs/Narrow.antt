@@ -1,13 +1,14 @@
--- Numbers that 32 bits don't hold are out of range, and stay so when they are narrowed.
-use Rattle.std.proofs.Common.{◌≡◌, ℕ, ◌*◌, ◌<◌, ◌≤◌, Bool, true, false, cond, not, ◌&&◌, leb, List, [], ◌∷◌, Option, Some, find, inl, inr, refl, sym, ◌∙◌, ap, arith}
+-- Numbers that 32 bits don't hold, and more than 32 forwards, are out of range, and stay so when they are narrowed.
+use Rattle.std.proofs.Common.{◌≡◌, ℕ, ◌*◌, ◌<◌, ◌≤◌, Bool, true, false, cond, not, ◌&&◌, leb, List, [], ◌∷◌, ◌++◌, length, Option, Some, find, ◌⊎◌, inl, inr, refl, sym, ◌∙◌, ap, subst, arith}
 use Rattle.std.proofs.lemmas.Bool.{cases_lt}
 use Rattle.std.proofs.lemmas.Bool.Decides.{nat_tests}
 use Rattle.std.proofs.lemmas.Nat.{mul-le}
 use Rattle.host_policy.specs.Addresses.{Config}
-use Rattle.host_policy.specs.Ranges.{is_between, in_range, fields, first_broken, IsSound}
+use Rattle.host_policy.specs.Ranges.{is_between, are_forwards, in_range, fields, first_broken, IsSound}
+use Rattle.host_policy.specs.declared.Forward.{Forward}
 use Rattle.host_policy.specs.declared.config.Field.{Field}
 use Rattle.host_policy.specs.declared.config.Field.TheVariants.{Version, InEnabled, Vnetmask, Vnetwork, Vhost, Vnameserver, VdhcpStart, Vhostname, Vdomainname, TftpServerName, Bootfile, TftpPath, IfMtu, IfMru, Flows, Ring, Resolver, Turns, Forwards, Outbound, DisableDns, DisableDhcp, Guestfwds, Control, Octets}
-use Rattle.slirp_config.specs.Narrowing.{narrowed, narrowed_settings}
+use Rattle.slirp_config.specs.Narrowing.{narrowed, portless, held_forwards, narrowed_settings}
 
 over : (x y : Bool) → y ≡ false → x && y ≡ false
 over true y h = h
@@ -49,7 +50,26 @@ same_ring f r = elim (cases_lt 4294967295 r) [
       ])
 ]
 
-same_range : (config : Config) (field : Field) → in_range (narrowed_settings config) field ≡ in_range config field
+-- where two tests agree up to a field that both refuse, they find the same
+abbrev Agree : (p q : Field → Bool) → List Field → Type 0
+Agree p q [] = Unit {0}
+Agree p q (x ∷ xs) = (p x ≡ q x) × Agree p q xs
+
+same_until : (p q : Field → Bool) (front : List Field) (field : Field) (back : List Field) → Agree p q front → p field ≡ false → q field ≡ false → find (λ x. not (p x)) (front ++ field ∷ back) ≡ find (λ x. not (q x)) (front ++ field ∷ back)
+same_until p q [] field back agree hp hq = rw (hp, hq) refl
+same_until p q (x ∷ xs) field back agree hp hq =
+    ap (λ (b : Bool). cond (not b) (Some x) (find (λ x. not (p x)) (xs ++ field ∷ back))) agree.0
+    ∙ ap (λ (o : Option Field). cond (not (q x)) (Some x) o) (same_until p q xs field back agree.1 hp hq)
+
+same_find : (p q : Field → Bool) → ((field : Field) → p field ≡ q field) → (list : List Field) → find (λ field. not (p field)) list ≡ find (λ field. not (q field)) list
+same_find p q each [] = refl
+same_find p q each (x ∷ xs) = ap (λ (b : Bool). cond (not b) (Some x) (find (λ field. not (p field)) xs)) (each x) ∙ ap (λ (o : Option Field). cond (not (q x)) (Some x) o) (same_find p q each xs)
+
+-- the numbers alone
+abbrev narrowed_numbers : Config → Config
+narrowed_numbers config = record config { flows = narrowed config.flows; ring = narrowed config.ring }
+
+same_range : (config : Config) (field : Field) → in_range (narrowed_numbers config) field ≡ in_range config field
 same_range config Version = refl
 same_range config InEnabled = refl
 same_range config Vnetmask = refl
@@ -76,13 +96,34 @@ same_range config Guestfwds = refl
 same_range config Control = refl
 same_range config Octets = refl
 
-same_find : (p q : Field → Bool) → ((field : Field) → p field ≡ q field) → (list : List Field) → find (λ field. not (p field)) list ≡ find (λ field. not (q field)) list
-same_find p q each [] = refl
-same_find p q each (x ∷ xs) = ap (λ (b : Bool). cond (not b) (Some x) (find (λ field. not (p field)) xs)) (each x) ∙ ap (λ (o : Option Field). cond (not (q x)) (Some x) o) (same_find p q each xs)
+-- the fields that are checked before the forwards
+abbrev before : List Field
+before =
+    Version ∷ InEnabled ∷ Vnetmask ∷ Vnetwork ∷ Vhost ∷ Vnameserver ∷ VdhcpStart ∷ Vhostname ∷ Vdomainname ∷ TftpServerName ∷ Bootfile ∷ TftpPath
+    ∷ IfMtu ∷ IfMru ∷ Flows ∷ Ring ∷ Resolver ∷ Turns ∷ []
+
+abbrev behind : List Field
+behind = Outbound ∷ DisableDns ∷ DisableDhcp ∷ Guestfwds ∷ Control ∷ []
+
+agree : (config : Config) (forwards : List Forward) → Agree (in_range (record (narrowed_numbers config) { forwards = forwards })) (in_range config) before
+agree config forwards =
+    (refl, (refl, (refl, (refl, (refl, (refl, (refl, (refl, (refl, (refl, (refl, (refl, (refl, (refl, (same_between 1 4096 config.flows (omega arith), (same_ring config.flows config.ring, (refl, (refl, tt))))))))))))))))))
+
+crowd : (config : Config) (forwards : List Forward) → leb (length forwards) 32 ≡ false → are_forwards config forwards ≡ false
+crowd config forwards many = rw many refl
+
+kept : (forwards : List Forward) (t : Bool) → leb (length forwards) 32 ≡ t → (held_forwards forwards ≡ forwards) ⊎ ((held_forwards forwards ≡ portless ∷ []) × (leb (length forwards) 32 ≡ false))
+kept forwards true is = inl (rw is refl)
+kept forwards false is = inr (rw is refl, is)
 
 -- the same field is the first that breaks its range
 pub same_broken : (config : Config) → first_broken (narrowed_settings config) ≡ first_broken config
-same_broken config = same_find (in_range (narrowed_settings config)) (in_range config) (same_range config) fields
+same_broken config = elim (kept config.forwards (leb (length config.forwards) 32) refl) [
+  | inl few ↦ ap (λ (f : List Forward). first_broken (record (narrowed_numbers config) { forwards = f })) few ∙ same_find (in_range (narrowed_numbers config)) (in_range config) (same_range config) fields
+  | inr many ↦
+      ap (λ (f : List Forward). first_broken (record (narrowed_numbers config) { forwards = f })) many.0
+      ∙ same_until (in_range (record (narrowed_numbers config) { forwards = portless ∷ [] })) (in_range config) before Forwards behind (agree config (portless ∷ [])) refl (crowd config config.forwards many.1)
+]
 
 held : (least most n : ℕ) → most < 4294967295 → is_between least (narrowed n) most ≡ true → narrowed n ≡ n
 held least most n small h = elim (cases_lt 4294967295 n) [
@@ -94,9 +135,18 @@ front : (x y : Bool) → x && y ≡ true → x ≡ true
 front true y h = refl
 front false y h = absurd (cc h)
 
+all_held : (config : Config) (forwards : List Forward) → are_forwards config (held_forwards forwards) ≡ true → held_forwards forwards ≡ forwards
+all_held config forwards are = elim (kept forwards (leb (length forwards) 32) refl) [
+  | inl few ↦ few
+  | inr many ↦ let no : are_forwards config (portless ∷ []) ≡ true = subst (λ (f : List Forward). are_forwards config f ≡ true) many.0 are in absurd (cc no)
+]
+
 -- in their ranges nothing was narrowed
 pub same_settings : (config : Config) → IsSound (narrowed_settings config) → narrowed_settings config ≡ config
 same_settings config sound =
     let flows : narrowed config.flows ≡ config.flows = held 1 4096 config.flows (omega arith) (sound.each Flows) in
     let ring : narrowed config.ring ≡ config.ring = held 65535 1048576 config.ring (omega arith) (front (is_between 65535 (narrowed config.ring) 1048576) (leb (narrowed config.flows * narrowed config.ring) 268435456) (sound.each Ring)) in
-    ap (λ (n : ℕ). record config { flows = n; ring = narrowed config.ring }) flows ∙ ap (λ (n : ℕ). record config { ring = n }) ring
+    let forwards : held_forwards config.forwards ≡ config.forwards = all_held (narrowed_settings config) config.forwards (sound.each Forwards) in
+    ap (λ (n : ℕ). record config { flows = n; ring = narrowed config.ring; forwards = held_forwards config.forwards }) flows
+    ∙ ap (λ (n : ℕ). record config { ring = n; forwards = held_forwards config.forwards }) ring
+    ∙ ap (λ (f : List Forward). record config { forwards = f }) forwards

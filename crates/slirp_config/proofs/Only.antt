@@ -4,15 +4,18 @@ use Rattle.std.proofs.lemmas.Fmt.{decimal_injective}
 use Rattle.host_policy.specs.Addresses.{Config}
 use Rattle.host_policy.specs.Settings.{usual}
 use Rattle.host_policy.specs.Ranges.{mask_of}
+use Rattle.host_policy.specs.declared.Forward.{Forward}
 use Rattle.world_face.specs.Journal.{Place, AtPath, AtEndpoint}
 use Rattle.slirp_config.specs.declared.options.Verb.TheVariants.{Replay, Serve}
 use Rattle.slirp_config.specs.Meaning.{AreSettings, MeansReplay, MeansServe, version_of}
 use Rattle.slirp_config.specs.Options.{Word, value_in}
+use Rattle.slirp_config.specs.Rules.{AreRules}
 use Rattle.slirp_config.specs.Texts.{IsNumber, IsAddress, IsNetwork, IsLink, endpoint_text, is_other}
 use Rattle.slirp_config.specs.Walking.{Walk}
 use Rattle.slirp_config.proofs.Addresses.{address, address_form, address_fits, network_form, same_address, same_endpoint}
 use Rattle.slirp_config.proofs.Meant.{IsLinkAt, one_walk, replay_meant, serve_meant}
 use Rattle.slirp_config.proofs.Parting.{parts_once, digit_is_no_slash}
+use Rattle.slirp_config.proofs.Ruled.{same_forwards}
 use Rattle.slirp_config.proofs.Settled.{made}
 
 -- one value, or one default
@@ -39,14 +42,20 @@ one_network : (o : Option Word) (u v n m k l : ℕ) → MatchOption o ((n ≡ u)
 one_network None u v n m k l h g = (h.0 ∙ sym g.0, h.1 ∙ sym g.1)
 one_network (Some text) u v n m k l h g = same_network text n m k l h g
 
-pub one_settings : (given : Word → Option Word) (c d : Config) → AreSettings given c → AreSettings given d → c ≡ d
-one_settings given c d h g =
+pub one_start : (given : Word → Option Word) (c d : Config) → AreSettings given c → AreSettings given d → c.dhcp_start ≡ d.dhcp_start
+one_start given c d h g =
+    let net = one_network (given (codes "--net")) usual.network usual.mask c.network c.mask d.network d.mask h.net g.net in
+    one_of (given (codes "--dhcpstart")) ((c.network + 15) % 2 ^ 32) ((d.network + 15) % 2 ^ 32) IsAddress (ap (λ (n : ℕ). (n + 15) % 2 ^ 32) net.0) same_at c.dhcp_start d.dhcp_start h.dhcp_start g.dhcp_start
+
+pub one_settings : (given : Word → Option Word) (rules : List Word) (c d : Config) → AreSettings given c → AreSettings given d
+    → AreRules rules c.dhcp_start c.forwards → AreRules rules d.dhcp_start d.forwards → c ≡ d
+one_settings given rules c d h g hf gf =
     let net = one_network (given (codes "--net")) usual.network usual.mask c.network c.mask d.network d.mask h.net g.net in
     let network : c.network ≡ d.network = net.0 in
     let mask : c.mask ≡ d.mask = net.1 in
     let vhost : c.vhost ≡ d.vhost = one_of (given (codes "--host")) ((c.network + 2) % 2 ^ 32) ((d.network + 2) % 2 ^ 32) IsAddress (ap (λ (n : ℕ). (n + 2) % 2 ^ 32) net.0) same_at c.vhost d.vhost h.host g.host in
     let vnameserver : c.vnameserver ≡ d.vnameserver = one_of (given (codes "--dns")) ((c.network + 3) % 2 ^ 32) ((d.network + 3) % 2 ^ 32) IsAddress (ap (λ (n : ℕ). (n + 3) % 2 ^ 32) net.0) same_at c.vnameserver d.vnameserver h.dns g.dns in
-    let dhcp_start : c.dhcp_start ≡ d.dhcp_start = one_of (given (codes "--dhcpstart")) ((c.network + 15) % 2 ^ 32) ((d.network + 15) % 2 ^ 32) IsAddress (ap (λ (n : ℕ). (n + 15) % 2 ^ 32) net.0) same_at c.dhcp_start d.dhcp_start h.dhcp_start g.dhcp_start in
+    let dhcp_start : c.dhcp_start ≡ d.dhcp_start = one_start given c d h g in
     let restricted : c.restricted ≡ d.restricted = h.restricted ∙ sym g.restricted in
     let no_loopback : c.no_loopback ≡ d.no_loopback = h.no_loopback ∙ sym g.no_loopback in
     let hostname : c.hostname ≡ d.hostname = h.hostname ∙ sym g.hostname in
@@ -61,26 +70,28 @@ one_settings given c d h g =
     let congestion : c.congestion ≡ d.congestion = h.congestion ∙ sym g.congestion in
     let no_dhcp : c.no_dhcp ≡ d.no_dhcp = h.no_dhcp ∙ sym g.no_dhcp in
     let version : c.version ≡ d.version = h.version ∙ ap version_of no_dhcp ∙ sym g.version in
+    let forwards : c.forwards ≡ d.forwards = same_forwards rules d.dhcp_start c.forwards d.forwards (subst (λ (n : ℕ). AreRules rules n c.forwards) dhcp_start hf) gf in
     h.rest
-    ∙ ap (λ (x : ℕ). made usual x c.mask c.vhost c.vnameserver c.dhcp_start c.restricted c.no_loopback c.hostname c.domainname c.tftp_server_name c.bootfile c.mtu c.mru c.flows c.ring c.turns c.congestion c.no_dhcp c.version) network
-    ∙ ap (λ (x : ℕ). made usual d.network x c.vhost c.vnameserver c.dhcp_start c.restricted c.no_loopback c.hostname c.domainname c.tftp_server_name c.bootfile c.mtu c.mru c.flows c.ring c.turns c.congestion c.no_dhcp c.version) mask
-    ∙ ap (λ (x : ℕ). made usual d.network d.mask x c.vnameserver c.dhcp_start c.restricted c.no_loopback c.hostname c.domainname c.tftp_server_name c.bootfile c.mtu c.mru c.flows c.ring c.turns c.congestion c.no_dhcp c.version) vhost
-    ∙ ap (λ (x : ℕ). made usual d.network d.mask d.vhost x c.dhcp_start c.restricted c.no_loopback c.hostname c.domainname c.tftp_server_name c.bootfile c.mtu c.mru c.flows c.ring c.turns c.congestion c.no_dhcp c.version) vnameserver
-    ∙ ap (λ (x : ℕ). made usual d.network d.mask d.vhost d.vnameserver x c.restricted c.no_loopback c.hostname c.domainname c.tftp_server_name c.bootfile c.mtu c.mru c.flows c.ring c.turns c.congestion c.no_dhcp c.version) dhcp_start
-    ∙ ap (λ (x : Bool). made usual d.network d.mask d.vhost d.vnameserver d.dhcp_start x c.no_loopback c.hostname c.domainname c.tftp_server_name c.bootfile c.mtu c.mru c.flows c.ring c.turns c.congestion c.no_dhcp c.version) restricted
-    ∙ ap (λ (x : Bool). made usual d.network d.mask d.vhost d.vnameserver d.dhcp_start d.restricted x c.hostname c.domainname c.tftp_server_name c.bootfile c.mtu c.mru c.flows c.ring c.turns c.congestion c.no_dhcp c.version) no_loopback
-    ∙ ap (λ (x : List ℕ). made usual d.network d.mask d.vhost d.vnameserver d.dhcp_start d.restricted d.no_loopback x c.domainname c.tftp_server_name c.bootfile c.mtu c.mru c.flows c.ring c.turns c.congestion c.no_dhcp c.version) hostname
-    ∙ ap (λ (x : List ℕ). made usual d.network d.mask d.vhost d.vnameserver d.dhcp_start d.restricted d.no_loopback d.hostname x c.tftp_server_name c.bootfile c.mtu c.mru c.flows c.ring c.turns c.congestion c.no_dhcp c.version) domainname
-    ∙ ap (λ (x : List ℕ). made usual d.network d.mask d.vhost d.vnameserver d.dhcp_start d.restricted d.no_loopback d.hostname d.domainname x c.bootfile c.mtu c.mru c.flows c.ring c.turns c.congestion c.no_dhcp c.version) tftp_server_name
-    ∙ ap (λ (x : List ℕ). made usual d.network d.mask d.vhost d.vnameserver d.dhcp_start d.restricted d.no_loopback d.hostname d.domainname d.tftp_server_name x c.mtu c.mru c.flows c.ring c.turns c.congestion c.no_dhcp c.version) bootfile
-    ∙ ap (λ (x : ℕ). made usual d.network d.mask d.vhost d.vnameserver d.dhcp_start d.restricted d.no_loopback d.hostname d.domainname d.tftp_server_name d.bootfile x c.mru c.flows c.ring c.turns c.congestion c.no_dhcp c.version) mtu
-    ∙ ap (λ (x : ℕ). made usual d.network d.mask d.vhost d.vnameserver d.dhcp_start d.restricted d.no_loopback d.hostname d.domainname d.tftp_server_name d.bootfile d.mtu x c.flows c.ring c.turns c.congestion c.no_dhcp c.version) mru
-    ∙ ap (λ (x : ℕ). made usual d.network d.mask d.vhost d.vnameserver d.dhcp_start d.restricted d.no_loopback d.hostname d.domainname d.tftp_server_name d.bootfile d.mtu d.mru x c.ring c.turns c.congestion c.no_dhcp c.version) flows
-    ∙ ap (λ (x : ℕ). made usual d.network d.mask d.vhost d.vnameserver d.dhcp_start d.restricted d.no_loopback d.hostname d.domainname d.tftp_server_name d.bootfile d.mtu d.mru d.flows x c.turns c.congestion c.no_dhcp c.version) ring
-    ∙ ap (λ (x : ℕ). made usual d.network d.mask d.vhost d.vnameserver d.dhcp_start d.restricted d.no_loopback d.hostname d.domainname d.tftp_server_name d.bootfile d.mtu d.mru d.flows d.ring x c.congestion c.no_dhcp c.version) turns
-    ∙ ap (λ (x : Bool). made usual d.network d.mask d.vhost d.vnameserver d.dhcp_start d.restricted d.no_loopback d.hostname d.domainname d.tftp_server_name d.bootfile d.mtu d.mru d.flows d.ring d.turns x c.no_dhcp c.version) congestion
-    ∙ ap (λ (x : Bool). made usual d.network d.mask d.vhost d.vnameserver d.dhcp_start d.restricted d.no_loopback d.hostname d.domainname d.tftp_server_name d.bootfile d.mtu d.mru d.flows d.ring d.turns d.congestion x c.version) no_dhcp
-    ∙ ap (λ (x : ℕ). made usual d.network d.mask d.vhost d.vnameserver d.dhcp_start d.restricted d.no_loopback d.hostname d.domainname d.tftp_server_name d.bootfile d.mtu d.mru d.flows d.ring d.turns d.congestion d.no_dhcp x) version
+    ∙ ap (λ (x : ℕ). made usual x c.mask c.vhost c.vnameserver c.dhcp_start c.restricted c.no_loopback c.hostname c.domainname c.tftp_server_name c.bootfile c.mtu c.mru c.flows c.ring c.turns c.congestion c.no_dhcp c.version c.forwards) network
+    ∙ ap (λ (x : ℕ). made usual d.network x c.vhost c.vnameserver c.dhcp_start c.restricted c.no_loopback c.hostname c.domainname c.tftp_server_name c.bootfile c.mtu c.mru c.flows c.ring c.turns c.congestion c.no_dhcp c.version c.forwards) mask
+    ∙ ap (λ (x : ℕ). made usual d.network d.mask x c.vnameserver c.dhcp_start c.restricted c.no_loopback c.hostname c.domainname c.tftp_server_name c.bootfile c.mtu c.mru c.flows c.ring c.turns c.congestion c.no_dhcp c.version c.forwards) vhost
+    ∙ ap (λ (x : ℕ). made usual d.network d.mask d.vhost x c.dhcp_start c.restricted c.no_loopback c.hostname c.domainname c.tftp_server_name c.bootfile c.mtu c.mru c.flows c.ring c.turns c.congestion c.no_dhcp c.version c.forwards) vnameserver
+    ∙ ap (λ (x : ℕ). made usual d.network d.mask d.vhost d.vnameserver x c.restricted c.no_loopback c.hostname c.domainname c.tftp_server_name c.bootfile c.mtu c.mru c.flows c.ring c.turns c.congestion c.no_dhcp c.version c.forwards) dhcp_start
+    ∙ ap (λ (x : Bool). made usual d.network d.mask d.vhost d.vnameserver d.dhcp_start x c.no_loopback c.hostname c.domainname c.tftp_server_name c.bootfile c.mtu c.mru c.flows c.ring c.turns c.congestion c.no_dhcp c.version c.forwards) restricted
+    ∙ ap (λ (x : Bool). made usual d.network d.mask d.vhost d.vnameserver d.dhcp_start d.restricted x c.hostname c.domainname c.tftp_server_name c.bootfile c.mtu c.mru c.flows c.ring c.turns c.congestion c.no_dhcp c.version c.forwards) no_loopback
+    ∙ ap (λ (x : List ℕ). made usual d.network d.mask d.vhost d.vnameserver d.dhcp_start d.restricted d.no_loopback x c.domainname c.tftp_server_name c.bootfile c.mtu c.mru c.flows c.ring c.turns c.congestion c.no_dhcp c.version c.forwards) hostname
+    ∙ ap (λ (x : List ℕ). made usual d.network d.mask d.vhost d.vnameserver d.dhcp_start d.restricted d.no_loopback d.hostname x c.tftp_server_name c.bootfile c.mtu c.mru c.flows c.ring c.turns c.congestion c.no_dhcp c.version c.forwards) domainname
+    ∙ ap (λ (x : List ℕ). made usual d.network d.mask d.vhost d.vnameserver d.dhcp_start d.restricted d.no_loopback d.hostname d.domainname x c.bootfile c.mtu c.mru c.flows c.ring c.turns c.congestion c.no_dhcp c.version c.forwards) tftp_server_name
+    ∙ ap (λ (x : List ℕ). made usual d.network d.mask d.vhost d.vnameserver d.dhcp_start d.restricted d.no_loopback d.hostname d.domainname d.tftp_server_name x c.mtu c.mru c.flows c.ring c.turns c.congestion c.no_dhcp c.version c.forwards) bootfile
+    ∙ ap (λ (x : ℕ). made usual d.network d.mask d.vhost d.vnameserver d.dhcp_start d.restricted d.no_loopback d.hostname d.domainname d.tftp_server_name d.bootfile x c.mru c.flows c.ring c.turns c.congestion c.no_dhcp c.version c.forwards) mtu
+    ∙ ap (λ (x : ℕ). made usual d.network d.mask d.vhost d.vnameserver d.dhcp_start d.restricted d.no_loopback d.hostname d.domainname d.tftp_server_name d.bootfile d.mtu x c.flows c.ring c.turns c.congestion c.no_dhcp c.version c.forwards) mru
+    ∙ ap (λ (x : ℕ). made usual d.network d.mask d.vhost d.vnameserver d.dhcp_start d.restricted d.no_loopback d.hostname d.domainname d.tftp_server_name d.bootfile d.mtu d.mru x c.ring c.turns c.congestion c.no_dhcp c.version c.forwards) flows
+    ∙ ap (λ (x : ℕ). made usual d.network d.mask d.vhost d.vnameserver d.dhcp_start d.restricted d.no_loopback d.hostname d.domainname d.tftp_server_name d.bootfile d.mtu d.mru d.flows x c.turns c.congestion c.no_dhcp c.version c.forwards) ring
+    ∙ ap (λ (x : ℕ). made usual d.network d.mask d.vhost d.vnameserver d.dhcp_start d.restricted d.no_loopback d.hostname d.domainname d.tftp_server_name d.bootfile d.mtu d.mru d.flows d.ring x c.congestion c.no_dhcp c.version c.forwards) turns
+    ∙ ap (λ (x : Bool). made usual d.network d.mask d.vhost d.vnameserver d.dhcp_start d.restricted d.no_loopback d.hostname d.domainname d.tftp_server_name d.bootfile d.mtu d.mru d.flows d.ring d.turns x c.no_dhcp c.version c.forwards) congestion
+    ∙ ap (λ (x : Bool). made usual d.network d.mask d.vhost d.vnameserver d.dhcp_start d.restricted d.no_loopback d.hostname d.domainname d.tftp_server_name d.bootfile d.mtu d.mru d.flows d.ring d.turns d.congestion x c.version c.forwards) no_dhcp
+    ∙ ap (λ (x : ℕ). made usual d.network d.mask d.vhost d.vnameserver d.dhcp_start d.restricted d.no_loopback d.hostname d.domainname d.tftp_server_name d.bootfile d.mtu d.mru d.flows d.ring d.turns d.congestion d.no_dhcp x c.forwards) version
+    ∙ ap (λ (x : List Forward). made usual d.network d.mask d.vhost d.vnameserver d.dhcp_start d.restricted d.no_loopback d.hostname d.domainname d.tftp_server_name d.bootfile d.mtu d.mru d.flows d.ring d.turns d.congestion d.no_dhcp d.version x) forwards
     ∙ sym g.rest
 
 -- the link is at one place
@@ -102,21 +113,27 @@ one_link : (o : Option Word) (p q : Place) → IsLinkAt o p → IsLinkAt o q →
 one_link None p q h g = absurd h
 one_link (Some text) p q h g = one_place text p q h g
 
+pub tail_of : (f e : Word) (r q : List Word) → ◌≡◌ {A = List Word} (f ∷ r) (e ∷ q) → (f ≡ e) × (r ≡ q)
+tail_of f e r q is = (cc, cc)
+
 -- words behind a command mean one thing
 pub one_replay : (words : List Word) (f e : Word) (c d : Config) → MeansReplay words f c → MeansReplay words e d → (f ≡ e) × (c ≡ d)
 one_replay words f e c d h g =
     let a = replay_meant words f c h in
     let b = replay_meant words e d g in
     let walk : a.walk ≡ b.walk = one_walk Replay words a.walk b.walk a.read b.read in
-    let files : ◌≡◌ {A = Option Word} (Some f) (Some e) = sym a.alone ∙ ap (λ (w : Walk). w.alone) walk ∙ b.alone in
-    let same : f ≡ e = cc in
-    (same, one_settings (value_in b.walk.options) c d (subst (λ (w : Walk). AreSettings (value_in w.options) c) walk a.settings) b.settings)
+    let alone = tail_of f e a.rules b.rules (sym a.alone ∙ ap (λ (w : Walk). w.alone) walk ∙ b.alone) in
+    let set = subst (λ (w : Walk). AreSettings (value_in w.options) c) walk a.settings in
+    let given = subst (λ (r : List Word). AreRules r c.dhcp_start c.forwards) alone.1 a.forwards in
+    (alone.0, one_settings (value_in b.walk.options) b.rules c d set b.settings given b.forwards)
 
 pub one_serve : (words : List Word) (c d : Config) (p q : Place) → MeansServe words c p → MeansServe words d q → (c ≡ d) × (p ≡ q)
 one_serve words c d p q h g =
     let a = serve_meant words c p h in
     let b = serve_meant words d q g in
-    let walk : a.walk ≡ b.walk = one_walk Serve words a.walk b.walk a.read b.read in (
-      one_settings (value_in b.walk.options) c d (subst (λ (w : Walk). AreSettings (value_in w.options) c) walk a.settings) b.settings,
+    let walk : a.walk ≡ b.walk = one_walk Serve words a.walk b.walk a.read b.read in
+    let set = subst (λ (w : Walk). AreSettings (value_in w.options) c) walk a.settings in
+    let given = subst (λ (w : Walk). AreRules w.alone c.dhcp_start c.forwards) walk a.forwards in (
+      one_settings (value_in b.walk.options) b.walk.alone c d set b.settings given b.forwards,
       one_link (value_in b.walk.options (codes "--link")) p q (subst (λ (w : Walk). IsLinkAt (value_in w.options (codes "--link")) p) walk a.link) b.link,
     )

@@ -65,6 +65,9 @@ digit_is_no_dot c h = grind (arith, nat_tests)
 pub digit_is_no_colon : (c : ℕ) → is_digit c ≡ true → is_other 58 c ≡ true
 digit_is_no_colon c h = grind (arith, nat_tests)
 
+pub digit_is_no_dash : (c : ℕ) → is_digit c ≡ true → is_other 45 c ≡ true
+digit_is_no_dash c h = grind (arith, nat_tests)
+
 pub digit_is_no_slash : (c : ℕ) → is_digit c ≡ true → is_other 47 c ≡ true
 digit_is_no_slash c h = grind (arith, nat_tests)
 

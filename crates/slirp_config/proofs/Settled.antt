@@ -1,9 +1,12 @@
 -- Settings that options give, field by field.
-use Rattle.std.proofs.Common.{ℕ, Bool, List}
+use Rattle.std.proofs.Common.{ℕ, Bool, List, Option, ap}
 use Rattle.host_policy.specs.Addresses.{Config}
+use Rattle.host_policy.specs.declared.Forward.{Forward}
+use Rattle.slirp_config.specs.Meaning.{AreSettings}
+use Rattle.slirp_config.specs.Options.{Word}
 
-abbrev pub made : Config → (network mask vhost vnameserver dhcp_start : ℕ) (restricted no_loopback : Bool) (hostname domainname tftp_server_name bootfile : List ℕ) (mtu mru flows ring turns : ℕ) (congestion no_dhcp : Bool) (version : ℕ) → Config
-made base network mask vhost vnameserver dhcp_start restricted no_loopback hostname domainname tftp_server_name bootfile mtu mru flows ring turns congestion no_dhcp version = record base {
+abbrev pub made : Config → (network mask vhost vnameserver dhcp_start : ℕ) (restricted no_loopback : Bool) (hostname domainname tftp_server_name bootfile : List ℕ) (mtu mru flows ring turns : ℕ) (congestion no_dhcp : Bool) (version : ℕ) (forwards : List Forward) → Config
+made base network mask vhost vnameserver dhcp_start restricted no_loopback hostname domainname tftp_server_name bootfile mtu mru flows ring turns congestion no_dhcp version forwards = record base {
   network = network;
   mask = mask;
   vhost = vhost;
@@ -23,4 +26,29 @@ made base network mask vhost vnameserver dhcp_start restricted no_loopback hostn
   congestion = congestion;
   no_dhcp = no_dhcp;
   version = version;
+  forwards = forwards;
+}
+
+-- forwards are given by no option
+pub with_forwards : (given : Word → Option Word) (config : Config) (forwards : List Forward) → AreSettings given config → AreSettings given (record config { forwards = forwards })
+with_forwards given config forwards are = record {
+  net = are.net;
+  host = are.host;
+  dns = are.dns;
+  dhcp_start = are.dhcp_start;
+  restricted = are.restricted;
+  no_loopback = are.no_loopback;
+  hostname = are.hostname;
+  domainname = are.domainname;
+  tftp_server_name = are.tftp_server_name;
+  bootfile = are.bootfile;
+  mtu = are.mtu;
+  mru = are.mru;
+  flows = are.flows;
+  ring = are.ring;
+  turns = are.turns;
+  congestion = are.congestion;
+  no_dhcp = are.no_dhcp;
+  version = are.version;
+  rest = ap (λ (c : Config). record c { forwards = forwards }) are.rest;
 }

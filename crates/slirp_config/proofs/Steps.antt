@@ -1,5 +1,5 @@
 -- What one word adds: by the form of the word, and back.
-use Rattle.std.proofs.Common.{◌≡◌, suc, ◌+◌, ◌<◌, Bool, true, false, not, ◌&&◌, ltb, List, [], ◌∷◌, ◌++◌, length, bytes_eq, codes, Option, Some, None, is_some, refl, sym, ◌∙◌, ap, arith, length-append}
+use Rattle.std.proofs.Common.{◌≡◌, suc, ◌+◌, ◌<◌, Bool, true, false, not, ◌&&◌, ltb, List, [], ◌∷◌, ◌++◌, length, bytes_eq, codes, Some, None, is_some, refl, sym, ◌∙◌, ap, arith, length-append}
 use Rattle.std.specs.List.{list_all, position_or_len, before_first, after_first}
 use Rattle.std.proofs.lemmas.Bool.Decides.{nat_tests}
 use Rattle.std.proofs.Math.Seq.{take-append_seam, drop-append-add}
@@ -12,13 +12,13 @@ use Rattle.slirp_config.proofs.Few.{refuted}
 use Rattle.slirp_config.proofs.Parting.{both, no_part}
 
 -- the walk between two pieces
-abbrev pub at : Verb → List Given → Option Word → Walk
+abbrev pub at : Verb → List Given → List Word → Walk
 at verb options alone = record { verb = verb; options = options; alone = alone; waits = None; ended = false }
 
-abbrev pub waiting : Verb → List Given → Option Word → Word → Walk
+abbrev pub waiting : Verb → List Given → List Word → Word → Walk
 waiting verb options alone name = record { verb = verb; options = options; alone = alone; waits = Some name; ended = false }
 
-abbrev pub behind_end : Verb → List Given → Option Word → Walk
+abbrev pub behind_end : Verb → List Given → List Word → Walk
 behind_end verb options alone = record { verb = verb; options = options; alone = alone; waits = None; ended = true }
 
 abbrev pub given : Word → Word → Given
@@ -45,7 +45,7 @@ name_parts name is =
     let b = both (is_dashed name) (not (bytes_eq name (codes "--"))) a.0 in
     record { dashed = b.0; other = refuted (bytes_eq name (codes "--")) b.1; plain = a.1 }
 
-module _ (verb : Verb) (o : List Given) (a : Option Word) where
+module _ (verb : Verb) (o : List Given) (a : List Word) where
   begins_name : (name : Word) → NameIs name → step (at verb o a) name ≡ put_name (at verb o a) name
   begins_name name n =
       let none : ltb (position_or_len is_sign name) (length name) ≡ false = rw (no_sign name n.plain) (grind (arith, nat_tests)) in
@@ -59,6 +59,10 @@ module _ (verb : Verb) (o : List Given) (a : Option Word) where
 
   pub apart_step : (name value : Word) → 0 < length value → is_dashed value ≡ false → step (waiting verb o a name) value ≡ put_option (at verb o a) name value
   apart_step name value some plain = let is : ltb 0 (length value) ≡ true = grind (arith, nat_tests, some) in rw (is, plain) refl
+
+  -- one more word stands by itself where there is room
+  pub put_room : (w : Walk) (word : Word) → length w.alone < 34 → put_alone w word ≡ Some (record w { alone = w.alone ++ word ∷ [] })
+  put_room w word room = let is : ltb (length w.alone) 34 ≡ true = grind (arith, nat_tests, room) in rw is refl
 
   pub plain_step : (word : Word) → is_dashed word ≡ false → step (at verb o a) word ≡ put_alone (at verb o a) word
   plain_step word plain =

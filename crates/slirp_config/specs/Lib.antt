@@ -1,4 +1,5 @@
 pub mod Texts
+pub mod Rules
 pub mod Options
 pub mod Meaning
 pub mod Walking

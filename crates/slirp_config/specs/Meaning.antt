@@ -11,6 +11,7 @@ use Rattle.slirp_config.specs.declared.WordFault.{WordFault}
 use Rattle.slirp_config.specs.declared.WordFault.TheVariants.{BadConfig}
 use Rattle.slirp_config.specs.declared.options.Verb.TheVariants.{Replay, Serve}
 use Rattle.slirp_config.specs.Options.{Word, Line, IsLine, line_words, words_alone, value_of}
+use Rattle.slirp_config.specs.Rules.{AreRules}
 use Rattle.slirp_config.specs.Texts.{IsNumber, IsAddress, IsNetwork, IsLink, held_text}
 
 -- A schedule in a file is replayed, or the link at a place is served, with these settings.
@@ -26,7 +27,7 @@ config_of (Serves config at) = config
 abbrev pub version_of : (no_dhcp : Bool) → ℕ
 version_of no_dhcp = if no_dhcp then 2 else 1
 
--- the settings that options give, by the value that each name has; what no option gives is usual
+-- the settings that options give, by the value that each name has; what no option gives is usual. No option gives forwards
 pub record AreSettings (given : Word → Option Word) (config : Config) : Type 0 where
   pub net : MatchOption (given (codes "--net")) ((config.network ≡ usual.network) × (config.mask ≡ usual.mask)) (λ text. IsNetwork text config.network config.mask)
   pub host : MatchOption (given (codes "--host")) (config.vhost ≡ (config.network + 2) % 2 ^ 32) (λ text. IsAddress text config.vhost)
@@ -66,17 +67,21 @@ pub record AreSettings (given : Word → Option Word) (config : Config) : Type 0
     congestion = config.congestion;
     no_dhcp = config.no_dhcp;
     version = config.version;
+    forwards = config.forwards;
   }
 
--- the words behind `replay`: one of them stands by itself and names the file
+-- the words behind `replay`: the first that stands by itself names the file, and all others that do are RULEs
 abbrev pub MeansReplay : List Word → (file : Word) (config : Config) → Type 0
 MeansReplay words file config =
-    (line : Line) × (words ≡ line_words line) × IsLine Replay line × (words_alone line ≡ file ∷ []) × (0 < length file) × (length file ≤ 1280) × AreSettings (value_of line) config
+    (line : Line) × (rules : List Word) × (words ≡ line_words line) × IsLine Replay line
+    × (words_alone line ≡ file ∷ rules) × (0 < length file) × (length file ≤ 1280)
+    × AreRules rules config.dhcp_start config.forwards × AreSettings (value_of line) config
 
--- the words behind `serve`: none stands by itself, and the link is told
+-- the words behind `serve`: those that stand by themselves are RULEs, and the link is told
 abbrev pub MeansServe : List Word → (config : Config) (at : Place) → Type 0
 MeansServe words config at =
-    (line : Line) × (words ≡ line_words line) × IsLine Serve line × (words_alone line ≡ []) × MatchOption (value_of line (codes "--link")) ⊥ (λ text. IsLink text at) × AreSettings (value_of line) config
+    (line : Line) × (words ≡ line_words line) × IsLine Serve line × MatchOption (value_of line (codes "--link")) ⊥ (λ text. IsLink text at)
+    × AreRules (words_alone line) config.dhcp_start config.forwards × AreSettings (value_of line) config
 
 -- The first word is the command. Words of another command mean nothing.
 abbrev pub Means : List Word → Meaning → Type 0

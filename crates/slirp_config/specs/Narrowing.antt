@@ -1,14 +1,25 @@
--- Settings as their types hold them: two of the numbers have 32 bits, and a word may say more.
-use Rattle.std.specs.Prelude.{ℕ, min}
+-- Settings as their types hold them: two of the numbers have 32 bits, the list of forwards has room for 32, and words may say more.
+use Rattle.std.specs.Prelude.{ℕ, min, nat_le, List, [], ◌∷◌, length, if◌then◌else◌}
 use Rattle.host_policy.specs.Addresses.{Config}
+use Rattle.host_policy.specs.Targets.{anywhere}
+use Rattle.host_policy.specs.declared.Forward.{Forward}
+use Rattle.host_policy.specs.declared.Proto.TheVariants.{Tcp}
 use Rattle.slirp_config.specs.Meaning.{Meaning, Replays, Serves}
 
 -- a number that 32 bits don't hold is the greatest that they hold
 abbrev pub narrowed : ℕ → ℕ
 narrowed n = min n 4294967295
 
+-- a forward of port 0
+abbrev pub portless : Forward
+portless = record { proto = Tcp; host = anywhere; guest = anywhere }
+
+-- of more than 32 forwards none is held: in their place stands one of port 0, for which their field is refused
+abbrev pub held_forwards : List Forward → List Forward
+held_forwards forwards = if nat_le (length forwards) 32 then forwards else portless ∷ []
+
 abbrev pub narrowed_settings : Config → Config
-narrowed_settings config = record config { flows = narrowed config.flows; ring = narrowed config.ring }
+narrowed_settings config = record config { flows = narrowed config.flows; ring = narrowed config.ring; forwards = held_forwards config.forwards }
 
 abbrev pub narrowed_meaning : Meaning → Meaning
 narrowed_meaning (Replays file config) = Replays file (narrowed_settings config)

@@ -1,5 +1,5 @@
 -- The options, and what a command line is made of.
-use Rattle.std.specs.Prelude.{◌≡◌, ℕ, ◌==◌, ◌&&◌, ◌<◌, not, Bool, true, false, List, [], ◌∷◌, ◌++◌, length, bytes_eq, codes, Option, Some, None, find}
+use Rattle.std.specs.Prelude.{◌≡◌, ℕ, ◌==◌, ◌&&◌, ◌<◌, ◌≤◌, not, Bool, true, false, List, [], ◌∷◌, ◌++◌, length, bytes_eq, codes, Option, Some, None, find}
 use Rattle.std.specs.Option.{option_map}
 use Rattle.host_policy.specs.Ranges.{none_twice}
 use Rattle.slirp_config.specs.declared.options.Verb.{Verb}
@@ -135,9 +135,9 @@ words_alone line = plain_words line.pieces ++ alone_behind line.behind
 abbrev pub same_name : Given → Given → Bool
 same_name a b = bytes_eq a.name b.name
 
--- each option stands at most once
+-- each option stands at most once, and at most 34 words stand by themselves: a file, and one RULE more than the settings have room for
 abbrev pub IsLine : Verb → Line → Type 0
-IsLine verb line = ArePieces verb line.pieces × (none_twice same_name (options_of line.pieces) ≡ true)
+IsLine verb line = ArePieces verb line.pieces × (none_twice same_name (options_of line.pieces) ≡ true) × (length (words_alone line) ≤ 34)
 
 -- the value with which the option of this name is given; None where it isn't
 abbrev pub value_in : List Given → Word → Option Word

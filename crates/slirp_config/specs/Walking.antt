@@ -10,22 +10,22 @@ use Rattle.slirp_config.specs.Options.{Word, Given, Row, is_dashed, takes_value,
 abbrev pub row_of : RowHere → Row
 row_of row = record { name = row.name.now; has_value = row.has_value; serve_alone = row.serve_alone }
 
--- the options that were given; the word that stands by itself; the option that waits for its value; and whether `--` came
+-- the options that were given; the words that stand by themselves; the option that waits for its value; and whether `--` came
 pub record Walk : Type 0 where
   pub verb : Verb
   pub options : List Given
-  pub alone : Option Word
+  pub alone : List Word
   pub waits : Option Word
   pub ended : Bool
 
 abbrev pub fresh : Verb → Walk
-fresh verb = record { verb = verb; options = []; alone = None; waits = None; ended = false }
+fresh verb = record { verb = verb; options = []; alone = []; waits = None; ended = false }
 
 abbrev pub given_of : GivenHere → Given
 given_of given = record { name = given.name.now; value = given.value.now }
 
 abbrev pub walk_of : LineHere → Walk
-walk_of line = record { verb = line.verb; options = map given_of line.options.items; alone = option_copied line.alone; waits = option_copied line.waits; ended = line.ended }
+walk_of line = record { verb = line.verb; options = map given_of line.options.items; alone = map (λ word. word.now) line.alone.items; waits = option_copied line.waits; ended = line.ended }
 
 -- an option stands once, and there are eighteen
 abbrev pub put_option : Walk → Word → Word → Option Walk
@@ -34,9 +34,9 @@ put_option walk name value =
     then Some (record walk { options = walk.options ++ record { name = name; value = value } ∷ [] })
     else None
 
--- one word at most stands by itself
+-- at most 34 words stand by themselves
 abbrev pub put_alone : Walk → Word → Option Walk
-put_alone walk word = if is_some walk.alone then None else Some (record walk { alone = Some word })
+put_alone walk word = if nat_lt (length walk.alone) 34 then Some (record walk { alone = walk.alone ++ word ∷ [] }) else None
 
 -- a value that stands apart
 abbrev pub put_apart : Walk → Word → Word → Option Walk

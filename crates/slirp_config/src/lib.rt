@@ -1,8 +1,9 @@
 //! The words of the command line, and the settings that they give. Nothing is allocated.
 //!
-//! `replay FILE [OPTIONS]` and `serve --link AT [OPTIONS]` have a reading; FILE has 1 to 1,280 octets. An option is written `--name value` or
-//! `--name=value`, a flag `--name`, each once and anywhere behind the command. Behind the word `--` no word is an option. No name is shortened and no
-//! value is empty; numbers are decimal digits without a needless zero in front.
+//! `replay FILE [OPTIONS] [RULE]...` and `serve --link AT [OPTIONS] [RULE]...` have a reading; FILE has 1 to 1,280 octets. An option is written
+//! `--name value` or `--name=value`, a flag `--name`, each once and anywhere behind the command. Behind the word `--` no word is an option. No name is
+//! shortened and no value is empty; numbers are decimal digits without a needless zero in front. At most 34 words stand by themselves: the first of
+//! `replay` is FILE, and each other is a RULE.
 //!
 //! | Option | Value | Without it |
 //! |---|---|---|
@@ -14,15 +15,20 @@
 //! | `--mtu`, `--mru` | a number up to 65,535 | 1500 |
 //! | `--flows`, `--ring`, `--turns` | a number up to 2^64 - 1 | 256, 65,535, 2^44 |
 //!
-//! A setting out of its range is named, the first in the order of `host_policy`: a text of over 127 octets too. With `--no-dhcp` the settings are of version 2.
+//! RULE is `[hostfwd=][tcp]:[hostaddr]:hostport-[guestaddr]:guestport`, with addresses and numbers up to 65,535: this port of the host leads to that one of a
+//! guest. Without an address it is every one of the host's, 0.0.0.0, and the first that is lent to guests, whether `--dhcpstart` stands before the RULE or
+//! behind it. `udp` in the place of `tcp` has no reading until forwards of datagrams are built.
+//!
+//! A setting out of its range is named, the first in the order of `host_policy`: a text of over 127 octets too, and more than 32 RULEs. With `--no-dhcp` the settings are of version 2.
 #![tactic(auto)]
 
 mod line;
 mod options;
+mod rules;
 mod settings;
 mod values;
 
-ghost use Rattle.std.specs.Prelude.{◌≡◌, ℕ, List, Err, IfErr, IfOk, OnErr, None, Some, codes, map, ◌∷◌, ◌<◌, ◌≤◌, length, option_copied};
+ghost use Rattle.std.specs.Prelude.{◌≡◌, ℕ, List, Err, IfErr, IfOk, OnErr, None, Some, map, ◌∷◌, ◌<◌, ◌≤◌, length};
 ghost use Rattle.std.specs.String.{string_bytes};
 ghost use Rattle.host_policy.specs.Addresses.{Config};
 ghost use Rattle.host_policy.specs.Ranges.{IsSound, first_broken};
@@ -139,19 +145,19 @@ fn replay_of(words: &[String]) -> Result<Command, NoReading>
     ensures refused { OnErr result ((file : List ℕ) (config : Config) → ¬ MeansReplay (map string_bytes words.now) file config) }
 {
     let line = Line::read(Verb::Replay, words)?;
-    let file = file_of(line.alone())?;
-    let config = line.settings()?;
+    let Some((file, rules)) = line.alone().split_first() else {
+        return Err(NoReading);
+    };
+    let file = file_of(file)?;
+    let config = line.settings(rules)?;
     Ok(Command::Replay(file, config))
 }
 
 // A file's name of 1 to 1,280 octets.
-fn file_of(word: Option<&str>) -> Result<ArrayString<1280>, NoReading>
-    ensures file { IfOk result (λ file. (option_copied word.entry ≡ Some file.bytes) × (0 < length file.bytes) × (length file.bytes ≤ 1280)) }
-    ensures refused { OnErr result ((file : List ℕ) → option_copied word.entry ≡ Some file → ¬ ((0 < length file) × (length file ≤ 1280))) }
+fn file_of(word: &str) -> Result<ArrayString<1280>, NoReading>
+    ensures file { IfOk result (λ file. (word.now ≡ file.bytes) × (0 < length file.bytes) × (length file.bytes ≤ 1280)) }
+    ensures refused { OnErr result (¬ ((0 < length word.now) × (length word.now ≤ 1280))) }
 {
-    let Some(word) = word else {
-        return Err(NoReading);
-    };
     if word.is_empty() {
         return Err(NoReading);
     }
@@ -168,13 +174,10 @@ fn serve_of(words: &[String]) -> Result<Command, NoReading>
     ensures refused { OnErr result ((config : Config) (at : Place) → ¬ MeansServe (map string_bytes words.now) config at) }
 {
     let line = Line::read(Verb::Serve, words)?;
-    if line.alone().is_some() {
-        return Err(NoReading);
-    }
     let Some(link) = line.value("--link") else {
         return Err(NoReading);
     };
     let at = read_link(link)?;
-    let config = line.settings()?;
+    let config = line.settings(line.alone())?;
     Ok(Command::Serve(config, at))
 }

@@ -7,6 +7,9 @@ ghost use Rattle.slirp_config.specs.Walking.{walk_of, put_option, put_alone, put
 use crate::options::{COUNT, Verb, takes_value};
 use arrayvec::ArrayVec;
 
+/// How many words may stand by themselves: a file, and one RULE more than the settings have room for.
+const ALONE: usize = 34;
+
 /// The words have no reading.
 #[derive(Clone, Copy, Debug, PartialEq, Eq)]
 pub(crate) struct NoReading;
@@ -23,8 +26,8 @@ pub(crate) struct Given<'a> {
 pub(crate) struct Line<'a> {
     verb: Verb,
     options: ArrayVec<Given<'a>, COUNT>,
-    /// The word that stands by itself.
-    alone: Option<&'a str>,
+    /// The words that stand by themselves.
+    alone: ArrayVec<&'a str, ALONE>,
     /// The name of the option that waits for its value.
     waits: Option<&'a str>,
     /// Whether `--` came.
@@ -40,7 +43,7 @@ impl<'a> Line<'a> {
         let mut line = Line {
             verb,
             options: ArrayVec::new(),
-            alone: None,
+            alone: ArrayVec::new(),
             waits: None,
             ended: false,
         };
@@ -71,11 +74,10 @@ impl<'a> Line<'a> {
         ensures taken { OnOk result (put_alone (walk_of self.old) word.now ≡ Some (walk_of self.new)) }
         ensures refused { OnErr result (put_alone (walk_of self.old) word.now ≡ None) }
     {
-        if self.alone.is_some() {
-            return Err(NoReading);
+        match self.alone.try_push(word) {
+            Ok(()) => Ok(()),
+            Err(_) => Err(NoReading),
         }
-        self.alone = Some(word);
-        Ok(())
     }
 
     fn put_apart(&mut self, name: &'a str, value: &'a str) -> Result<(), NoReading>
@@ -163,11 +165,11 @@ impl<'a> Line<'a> {
         }
     }
 
-    /// The word that stands by itself.
-    pub(crate) fn alone(&self) -> Option<&'a str>
-        ensures { option_copied result ≡ (walk_of self.now).alone }
+    /// The words that stand by themselves, in their order.
+    pub(crate) fn alone(&self) -> &[&'a str]
+        ensures { map (λ word. word.now) result.now ≡ (walk_of self.now).alone }
     {
-        self.alone
+        self.alone.as_slice()
     }
 
     /// Whether the option of this name was given.

@@ -1,24 +1,37 @@
 //! The settings that options give.
-ghost use Rattle.std.specs.Prelude.{◌≡◌, ℕ, ◌+◌, ◌%◌, ◌^◌, [], IfOk, MatchOption, OnErr, codes, is_some, min, option_copied};
+ghost use Rattle.std.specs.Prelude.{◌≡◌, ℕ, ◌+◌, ◌%◌, ◌^◌, [], IfOk, MatchOption, OnErr, codes, is_some, map, min, option_copied};
 ghost use Rattle.std.specs.Option.{option_map_or};
 ghost use Rattle.host_policy.specs.Addresses.{Config};
 ghost use Rattle.host_policy.specs.Settings.{settings};
 ghost use Rattle.slirp_config.specs.Meaning.{AreSettings, version_of};
 ghost use Rattle.slirp_config.specs.Options.{value_in};
+ghost use Rattle.slirp_config.specs.Rules.{AreRules};
 ghost use Rattle.slirp_config.specs.Texts.{IsAddress, IsNetwork, IsNumber, held_text};
 ghost use Rattle.slirp_config.specs.Narrowing.{narrowed, narrowed_settings};
 ghost use Rattle.slirp_config.specs.Walking.{walk_of};
 
 use crate::line::{Line, NoReading};
+use crate::rules::put_forwards;
 use crate::values::{held_text, read_address, read_network, read_number, read_short};
 use arrayvec::ArrayVec;
 use host_policy::SlirpConfig;
 use net_octets::Ip4;
 
 impl<'a> Line<'a> {
-    /// The settings that the options give; what none gives is usual.
-    pub(crate) fn settings(&self) -> Result<SlirpConfig, NoReading>
+    /// The settings that the options and these RULEs give; what none gives is usual.
+    pub(crate) fn settings(&self, rules: &[&str]) -> Result<SlirpConfig, NoReading>
+        ensures set { IfOk result (λ c. (config : Config) × AreSettings (value_in (walk_of self.now).options) config × AreRules (map (λ rule. rule.now) rules.now) config.dhcp_start config.forwards × (settings c ≡ narrowed_settings config)) }
+        ensures refused { OnErr result ((config : Config) → AreSettings (value_in (walk_of self.now).options) config → ¬ AreRules (map (λ rule. rule.now) rules.now) config.dhcp_start config.forwards) }
+    {
+        let mut config = self.without_forwards()?;
+        put_forwards(rules, config.vdhcp_start, &mut config.forwards)?;
+        Ok(config)
+    }
+
+    // The settings that the options give, without a forward.
+    fn without_forwards(&self) -> Result<SlirpConfig, NoReading>
         ensures set { IfOk result (λ c. (config : Config) × AreSettings (value_in (walk_of self.now).options) config × (settings c ≡ narrowed_settings config)) }
+        ensures none { IfOk result (λ c. c.forwards.items ≡ []) }
         ensures refused { OnErr result ((config : Config) → ¬ AreSettings (value_in (walk_of self.now).options) config) }
     {
         let mut config = SlirpConfig::usual();

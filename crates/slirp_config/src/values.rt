@@ -18,8 +18,8 @@ fn place_of(text: &[u8], octet: u8) -> Option<usize>
     text.iter().position(|x| *x == octet)
 }
 
-// What stands before the first such octet, and what after it.
-fn split_at(text: &[u8], octet: u8) -> Result<(&[u8], &[u8]), NoReading>
+/// What stands before the first such octet, and what after it.
+pub(crate) fn split_at(text: &[u8], octet: u8) -> Result<(&[u8], &[u8]), NoReading>
     ensures parts { IfOk result (λ parts. text.now ≡ parts.0.now ++ octet ∷ parts.1.now) }
     ensures first { IfOk result (λ parts. list_all (is_other octet) parts.0.now ≡ true) }
     ensures refused { OnErr result (list_all (is_other octet) text.now ≡ true) }

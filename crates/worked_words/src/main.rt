@@ -1,8 +1,8 @@
 //! What words of the command line mean. Each word names a file in the folder where this runs, each line of which has the words of a command line; for each what they
-//! mean is printed, with all settings that an option can name. A line that begins with `#` is a remark, an empty one nothing.
+//! mean is printed, with all settings that an option or a RULE can name. A line that begins with `#` is a remark, an empty one nothing.
 #![tactic(auto)]
 
-use host_policy::SlirpConfig;
+use host_policy::{Forward, Proto, SlirpConfig};
 use net_octets::Ip4;
 use slirp_config::{Command, WordFault, read_words};
 use std::alloc::{AllocError, Global};
@@ -96,7 +96,23 @@ fn settings_of(alloc: Global, config: &SlirpConfig) -> Result<String, AllocError
         config.tftp_server_name.as_slice(),
     )?;
     push_told(&mut text, ", bootfile ", config.bootfile.as_slice())?;
+    for forward in config.forwards.as_slice() {
+        push_forward(alloc, &mut text, forward)?;
+    }
     Ok(text)
+}
+
+// A port of the host that is given to a guest.
+fn push_forward(alloc: Global, text: &mut String, forward: &Forward) -> Result<(), AllocError> {
+    let proto = match forward.proto {
+        Proto::Tcp => "tcp",
+        Proto::Udp => "udp",
+    };
+    let host = dotted(alloc, forward.host.addr)?;
+    let guest = dotted(alloc, forward.guest.addr)?;
+    let (outside, inside) = (forward.host.port, forward.guest.port);
+    let given = format!(in alloc; ", {proto} {host}:{outside} to {guest}:{inside}")?;
+    text.push_str(given.as_str())
 }
 
 // What a guest is told, where there is something.

@@ -1,24 +1,19 @@
-use Rattle.std.proofs.Common.{◌≡◌, map, codes, Option, None, string_bytes, sym, ◌∙◌, ap, subst}
+use Rattle.std.proofs.Common.{map, codes, List, Option, string_bytes, sym, ◌∙◌, ap, subst}
 use Rattle.std.proofs.lemmas.Result.{err_from_is_err_and}
 use Rattle.host_policy.specs.Addresses.{Config}
 use Rattle.world_face.specs.Journal.{place_of}
 use Rattle.slirp_config.specs.declared.options.Verb.TheVariants.{Serve}
 use Rattle.slirp_config.specs.Meaning.{AreSettings, Serves}
 use Rattle.slirp_config.specs.Options.{Word, value_in}
+use Rattle.slirp_config.specs.Rules.{AreRules}
 use Rattle.slirp_config.specs.Texts.{IsLink}
 use Rattle.slirp_config.specs.Walking.{Walk, walk_of}
-use Rattle.slirp_config.proofs.Finding.{match_some, none_copied, some_copied}
+use Rattle.slirp_config.proofs.Finding.{match_some}
 use Rattle.slirp_config.proofs.Meant.{IsLinkAt, never, one_walk, serve_means, serve_meant}
 use Rattle.slirp_config.proofs.serve_of.Goals as goal
 
 pub returns-in_err-line-clause-refused : goal.returns-in_err-line-clause-refused
 returns-in_err-line-clause-refused c = let p = err_from_is_err_and c.from_residual.result c.from_residual.ensures.1 in rw (p.1) (λ config at m. let r = serve_meant _ config at m in never _ r.walk c.in_err-line.ensures.refused r.read)
-
-pub returns-then-is_some-clause-refused : goal.returns-then-is_some-clause-refused
-returns-then-is_some-clause-refused c = λ config at m.
-    let r = serve_meant _ config at m in
-    let same = one_walk Serve (map string_bytes c.args.words.now) (walk_of c.in_ok-line.line) r.walk c.in_ok-line.ensures.read r.read in
-    none_copied c.alone.result (c.alone.ensures ∙ ap (λ (w : Walk). w.alone) same ∙ r.alone) (sym c.is_some.ensures ∙ c.if-is_some.true)
 
 pub returns-in_default-clause-refused : goal.returns-in_default-clause-refused
 returns-in_default-clause-refused c = λ config at m.
@@ -38,16 +33,23 @@ pub returns-in_err-config-clause-refused : goal.returns-in_err-config-clause-ref
 returns-in_err-config-clause-refused c = let p = err_from_is_err_and c.from_residual-in_err-config.result c.from_residual-in_err-config.ensures.1 in rw (p.1) (λ config at m.
     let r = serve_meant _ config at m in
     let same = one_walk Serve (map string_bytes c.args.words.now) r.walk (walk_of c.in_ok-line.line) r.read c.in_ok-line.ensures.read in
-    c.in_err-config.ensures.refused config (subst (λ (w : Walk). AreSettings (value_in w.options) config) same r.settings))
+    c.in_err-config.ensures.refused config
+    (subst (λ (w : Walk). AreSettings (value_in w.options) config) same r.settings)
+    (subst (λ (t : List Word). AreRules t config.dhcp_start config.forwards) (ap (λ (w : Walk). w.alone) same ∙ sym c.alone.ensures) r.forwards))
 
 pub returns-clause-meant : goal.returns-clause-meant
 returns-clause-meant c =
     let at = place_of c.in_ok-at.at in
     let set = c.in_ok-config.ensures.set in
-    let none : (walk_of c.in_ok-line.line).alone ≡ None = sym c.alone.ensures ∙ some_copied c.alone.result (sym c.is_some.ensures ∙ c.if-is_some.false) in
     let link : IsLinkAt (value_in (walk_of c.in_ok-line.line).options (codes "--link")) at = subst (λ (o : Option Word). IsLinkAt o at) c.in-Some.ensures c.in_ok-at.ensures.link in (
       set.0,
       at,
-      serve_means (map string_bytes c.args.words.now) set.0 at (record { walk = walk_of c.in_ok-line.line; read = c.in_ok-line.ensures.read; alone = none; link = link; settings = set.1 }),
-      ap (λ (config : Config). Serves config at) set.2,
+      serve_means (map string_bytes c.args.words.now) set.0 at (record {
+        walk = walk_of c.in_ok-line.line;
+        read = c.in_ok-line.ensures.read;
+        link = link;
+        forwards = subst (λ (t : List Word). AreRules t set.0.dhcp_start set.0.forwards) c.alone.ensures set.2;
+        settings = set.1;
+      }),
+      ap (λ (config : Config). Serves config at) set.3,
     )
