@@ -7,6 +7,7 @@ pub mod Counted
 pub mod Datagramming
 pub mod Filling
 pub mod Given
+pub mod Listening
 pub mod Guests
 pub mod NextFrames
 pub mod Parts

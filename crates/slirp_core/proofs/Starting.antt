@@ -144,7 +144,7 @@ begun config slirp link new = record {
   };
   relayed = record { list = sym new.associations; asks = refl };
   services = record { leases = sym new.leases; connections = new.connections; unresolved = new.unresolved; unbound = new.unbound };
-  open = [];
+  done = [];
   left = config.forwards;
   all = refl;
   many = refl;
@@ -202,20 +202,20 @@ length_more [] x = refl
 length_more (y ∷ xs) x = let more = length_more xs x in omega (arith, more)
 
 -- the next of the settings is the first that is left
-pub next_left : (open left all : List Forward) (f : Forward) → all ≡ open ++ left → slice_get all (length open) ≡ Some f → (rest : List Forward) × (left ≡ f ∷ rest)
-next_left open left all f is at = behind open left f (sym (ap (λ l. slice_get l (length open)) is) ∙ at)
+pub next_left : (done left all : List Forward) (f : Forward) → all ≡ done ++ left → slice_get all (length done) ≡ Some f → (rest : List Forward) × (left ≡ f ∷ rest)
+next_left done left all f is at = behind done left f (sym (ap (λ l. slice_get l (length done)) is) ∙ at)
   where
-    behind : (open left : List Forward) (f : Forward) → slice_get (open ++ left) (length open) ≡ Some f → (rest : List Forward) × (left ≡ f ∷ rest)
+    behind : (done left : List Forward) (f : Forward) → slice_get (done ++ left) (length done) ≡ Some f → (rest : List Forward) × (left ≡ f ∷ rest)
     behind [] [] f at = absurd cc
     behind [] (x ∷ left) f at = (left, ap (λ y. y ∷ left) (the_same x at))
       where
         the_same : (x : Forward) → Some x ≡ Some f → x ≡ f
         the_same x is = cc
-    behind (y ∷ open) left f at = behind open left f at
+    behind (y ∷ done) left f at = behind done left f at
 
 module _ (config : Config) (slirp : SlirpState) (link : LinkState) (past : List Entry) (opens : Opens config slirp.number slirp link past) (f : Forward) (rest : List Forward) (next : opens.left ≡ f ∷ rest) where
   over_tcp : f.proto ≡ Tcp
-  over_tcp = opens.services.connections (length opens.open) f (ap (λ l. slice_get l (length opens.open)) (opens.all ∙ ap (λ l. opens.open ++ l) next) ∙ at_end opens.open)
+  over_tcp = opens.services.connections (length opens.done) f (ap (λ l. slice_get l (length opens.done)) (opens.all ∙ ap (λ l. opens.done ++ l) next) ∙ at_end opens.done)
     where
       at_end : (xs : List Forward) → slice_get (xs ++ f ∷ rest) (length xs) ≡ Some f
       at_end [] = refl
@@ -244,11 +244,11 @@ module _ (config : Config) (slirp : SlirpState) (link : LinkState) (past : List 
       guests = guests_stay config slirp with_one (Listen slirp.number f.host Done) past refl refl opens.guests;
       relayed = record { list = opens.relayed.list; asks = opens.relayed.asks };
       services = services_stay config slirp with_one (Listen slirp.number f.host Done) past refl refl opens.services;
-      open = opens.open ++ f ∷ [];
+      done = opens.done ++ f ∷ [];
       left = rest;
-      all = opens.all ∙ ap (λ l. opens.open ++ l) next ∙ one_of opens.open f rest;
-      many = ap (λ n. n + 1) opens.many ∙ sym (length_more opens.open f);
-      forwards = ap (λ l. l ++ (f, slirp.number) ∷ []) opens.forwards ∙ ap (λ n. with_numbers 0 opens.open ++ (f, n) ∷ []) opens.many ∙ sym (numbers_more 0 opens.open f);
+      all = opens.all ∙ ap (λ l. opens.done ++ l) next ∙ one_of opens.done f rest;
+      many = ap (λ n. n + 1) opens.many ∙ sym (length_more opens.done f);
+      forwards = ap (λ l. l ++ (f, slirp.number) ∷ []) opens.forwards ∙ ap (λ n. with_numbers 0 opens.done ++ (f, n) ∷ []) opens.many ∙ sym (numbers_more 0 opens.done f);
       opening = ap (λ p. opened Done p) (opens.opening ∙ ap (Opening slirp.number) next);
       are_open = ap (λ l. l ++ slirp.number ∷ []) opens.are_open ∙ sym (sockets_more slirp.forwards f slirp.number);
       flows = flows_stay config (flowing false slirp.flows) slirp.moment (Listen slirp.number f.host Done) past refl refl (omega arith) refl opens.flows;
@@ -281,7 +281,7 @@ module _ (config : Config) (slirp : SlirpState) (link : LinkState) (past : List 
       carry = λ n among. absurd (unlisted n among);
       flow = λ k p at. absurd (opens.none k p at.here);
       apart = λ k p at. absurd (opens.none k p at.here);
-      rising = (length opens.open, subst (λ l. IsRising (length opens.open) (forward_sockets l)) (sym opens.forwards) (given_rise opens.open 0 (length opens.open) (omega arith)));
+      rising = (length opens.done, subst (λ l. IsRising (length opens.done) (forward_sockets l)) (sym opens.forwards) (given_rise opens.done 0 (length opens.done) (omega arith)));
       first = λ n m among of. absurd (not_of m of);
     };
   }
@@ -320,20 +320,20 @@ started config slirp link told past fine opens = record {
     abbrev told_it : SlirpState
     told_it = record slirp { moment = max (min told (2 ^ 62)) slirp.moment }
 
-    none_left : (open left all : List Forward) → all ≡ open ++ left → length all ≡ length open → left ≡ []
+    none_left : (done left all : List Forward) → all ≡ done ++ left → length all ≡ length done → left ≡ []
     none_left [] [] all is many = refl
     none_left [] (x ∷ left) all is many = absurd (let more : length all ≡ length (x ∷ left) = ap (λ l. length l) is in omega (arith, many, more))
-    none_left (y ∷ open) left [] is many = absurd cc
-    none_left (y ∷ open) left (z ∷ all) is many = none_left open left all (tails is) (omega (arith, many))
+    none_left (y ∷ done) left [] is many = absurd cc
+    none_left (y ∷ done) left (z ∷ all) is many = none_left done left all (tails is) (omega (arith, many))
       where
-        tails : z ∷ all ≡ y ∷ (open ++ left) → all ≡ open ++ left
+        tails : z ∷ all ≡ y ∷ (done ++ left) → all ≡ done ++ left
         tails is = cc
 
     nothing_left : opens.left ≡ []
-    nothing_left = none_left opens.open opens.left config.forwards opens.all opens.many
+    nothing_left = none_left opens.done opens.left config.forwards opens.all opens.many
 
-    all_open : config.forwards ≡ opens.open
-    all_open = opens.all ∙ ap (λ l. opens.open ++ l) nothing_left ∙ behind_none opens.open
+    all_open : config.forwards ≡ opens.done
+    all_open = opens.all ∙ ap (λ l. opens.done ++ l) nothing_left ∙ behind_none opens.done
       where
         behind_none : (xs : List Forward) → xs ++ [] ≡ xs
         behind_none [] = refl

@@ -1,18 +1,20 @@
 -- A peer comes to a port of the host that is given to a guest: its flow begins, or it is refused and its socket closed, or none has come.
-use Rattle.std.proofs.Common.{◌≡◌, ℕ, ◌<◌, ◌+◌, ◌==◌, ◌&&◌, ◌||◌, not, nat_lt, Bool, true, false, List, [], ◌∷◌, ◌++◌, length, MatchOption, Option, Some, None, refl, sym, ◌∙◌, ap, subst, arith, if◌then◌else◌}
+use Rattle.std.proofs.Common.{◌≡◌, ℕ, zero, suc, ◌<◌, ◌+◌, ◌==◌, ◌&&◌, ◌||◌, not, nat_lt, Bool, true, false, List, [], ◌∷◌, ◌++◌, length, slice_get, MatchOption, Option, Some, None, refl, sym, ◌∙◌, ap, subst, arith, if◌then◌else◌}
 use Rattle.std.proofs.lemmas.Bool.Decides.{nat_tests}
 use Rattle.net_octets.specs.declared.Endpoint.{Endpoint}
 use Rattle.net_octets.specs.declared.Mac.{Mac}
 use Rattle.poll_list.specs.declared.Want.{Want}
 use Rattle.poll_list.specs.declared.Who.TheVariants.{Listener as AListener}
-use Rattle.world_face.specs.Journal.{Accept, Allowed, CallAccept, CallClose, Close, Entry}
+use Rattle.std.specs.Option.{option_and_then}
+use Rattle.world_face.specs.Journal.{Accept, Allowed, AreAllowed, CallAccept, CallClose, Close, Entry}
 use Rattle.world_face.specs.declared.Accepted.{Accepted}
 use Rattle.world_face.specs.declared.Accepted.TheVariants.{From, NotYet as NotYetAccepted, Failed as AcceptFailed}
 use Rattle.host_policy.specs.Addresses.{Config}
+use Rattle.host_policy.specs.declared.Forward.{Forward}
 use Rattle.arp_table.specs.Table.{mac_of as learnt_for}
 use Rattle.flow_laws.specs.Event.{Accepts}
 use Rattle.flow_laws.specs.Flow.{first_number}
-use Rattle.flow_book.specs.Book.{book, doom, is_refused, opens, port_of, quiet, scene, tuple_for, visits_for}
+use Rattle.flow_book.specs.Book.{book, doom, is_refused, opens, port_by, port_of, quiet, scene, tuple_for, visits_for}
 use Rattle.flow_book.specs.Doings.{Nothing, doing}
 use Rattle.flow_book.specs.Flows.{Book, flow_of, is_it, used}
 use Rattle.flow_book.specs.Laws.{MayShut, flow_settings}
@@ -33,9 +35,11 @@ use Rattle.spliced_flows.proofs.Calling.{due_is as due_for_a_flow}
 use Rattle.spliced_flows.proofs.Known.{known_was_taught}
 use Rattle.tcp_flows.specs.Kept.{Kept}
 use Rattle.tcp_flows.specs.Runs.{Between, Welcomes}
+use Rattle.slirp_core.specs.Forwards.{with_numbers}
+use Rattle.slirp_core.specs.Visits.{Treats}
 use Rattle.slirp_core.specs.Holds.{Begins, Holds, InTurn, OfFlows, Stands, Turns, flowing, is_ours, standing}
 use Rattle.slirp_core.specs.State.{SlirpState}
-use Rattle.slirp_core.proofs.Called.{between}
+use Rattle.slirp_core.proofs.Called.{between, flows_put}
 use Rattle.slirp_core.proofs.Flows.{close_same, flows_since, flows_stay}
 use Rattle.slirp_core.proofs.Guests.{guests_stay}
 use Rattle.slirp_core.proofs.Open.{given_in}
@@ -233,3 +237,57 @@ module _ (config : Config) (count : ℕ) (wants : List Want) (item : Want) (item
         agenda = behind_of (AListener listener) (wanted_of wants item) (all_wanted wants items) (agenda past) reads_it holds.agenda;
         open_yet = still_open config (Close slirp.number) (visit ∷ past) (ap not may_part_it) holds.open_yet;
       }
+
+-- ---- by what the core found
+
+-- the forward at a place of the list is that of the settings, and its number is the place
+at_given : (fs : List Forward) (n k : ℕ) (f : Forward) (number : ℕ) → slice_get (with_numbers n fs) k ≡ Some (f, number) → (slice_get fs k ≡ Some f) × (k < length fs)
+at_given [] n k f number at = cc
+at_given (x ∷ fs) n zero f number at = (cc, omega arith)
+at_given (x ∷ fs) n (suc k) f number at = let more = at_given fs (n + 1) k f number at in (more.0, (let less = more.1 in omega (arith, less)))
+
+module _ (config : Config) (count : ℕ) (wants : List Want) (item : Want) (items : List Want) (listener : ℕ) (reads_it : is_to_read (AListener listener) (wanted_of wants item) ≡ true) (slirp : SlirpState) (link : LinkState) (past : List Entry)
+    (holds : Holds config (standing count wants (item ∷ items)) slirp (flowing false slirp.flows) link past) (room : in_use_slots slirp.flows.flows.table.slots < length slirp.flows.flows.table.slots)
+    (forward : Forward) (number : ℕ) (at : slice_get slirp.forwards listener ≡ Some (forward, number)) where
+  place : (slice_get config.forwards listener ≡ Some forward) × (listener < length config.forwards)
+  place = at_given config.forwards 0 listener forward number (sym (ap (λ l. slice_get l listener) holds.forwards) ∙ at)
+
+  leads : port_of config listener ≡ Some forward.guest
+  leads = ap (option_and_then (λ (f : Forward). port_by f.proto f.guest)) place.0 ∙ ap (λ p. port_by p forward.guest) (holds.services.connections listener forward place.0)
+
+  pub nobody_came : Allowed (Accept listener slirp.number NotYetAccepted) → Holds config (standing count wants items) slirp (flowing false slirp.flows) link (Accept listener slirp.number NotYetAccepted ∷ past)
+  nobody_came fine = none_came config count wants item items listener reads_it slirp link past holds place.1 room NotYetAccepted fine refl refl refl
+
+  pub none_accepted : Allowed (Accept listener slirp.number AcceptFailed) → Holds config (standing count wants items) slirp (flowing false slirp.flows) link (Accept listener slirp.number AcceptFailed ∷ past)
+  none_accepted fine = none_came config count wants item items listener reads_it slirp link past holds place.1 room AcceptFailed fine refl refl refl
+
+  -- a peer came, and was treated so
+  pub treated : (peer : Endpoint) (new : SlirpState) (made : List Entry) → AreAllowed (made ++ Accept listener slirp.number (From peer) ∷ []) → new ≡ record slirp { number = slirp.number + 1; flows = new.flows }
+      → Treats (is_refused config forward.guest peer (book config past)) forward.guest peer slirp new made
+      → Holds config (standing count wants items) new (flowing false new.flows) link ((made ++ Accept listener slirp.number (From peer) ∷ []) ++ past)
+  treated peer new made allowed same treats = by (is_refused config forward.guest peer (book config past)) refl treats
+    where
+      allowed_last : (made : List Entry) (e : Entry) → AreAllowed (made ++ e ∷ []) → Allowed e
+      allowed_last [] e all = all.0
+      allowed_last (x ∷ made) e all = allowed_last made e all.1
+
+      came_so : Allowed (Accept listener slirp.number (From peer))
+      came_so = allowed_last made (Accept listener slirp.number (From peer)) allowed
+
+      by : (b : Bool) → is_refused config forward.guest peer (book config past) ≡ b → Treats b forward.guest peer slirp new made
+          → Holds config (standing count wants items) new (flowing false new.flows) link ((made ++ Accept listener slirp.number (From peer) ∷ []) ++ past)
+      by false welcome (none, welcomes) =
+          let begun = welcomed config count wants item items listener reads_it slirp link past holds place.1 room forward.guest peer leads came_so new.flows (learnt_for forward.guest.addr slirp.known) welcome refl
+          (subst (λ (c : Config). Welcomes slirp.moment slirp.number slirp.flows new.flows (tuple_for c forward.guest peer) (learnt_for forward.guest.addr slirp.known)) holds.guests.settings welcomes) in
+          subst (λ es. Holds config (standing count wants items) new (flowing false new.flows) link ((es ++ Accept listener slirp.number (From peer) ∷ []) ++ past)) (sym none)
+          (subst (λ (s : SlirpState). Holds config (standing count wants items) s (flowing false new.flows) link (Accept listener slirp.number (From peer) ∷ past)) (sym same)
+          (flows_put config (standing count wants items) (record slirp { number = slirp.number + 1 }) new.flows (flowing false new.flows) link (Accept listener slirp.number (From peer) ∷ past) begun))
+      by true refused (one, same_flows) =
+          let shut = turned_away config count wants item items listener reads_it slirp link past holds place.1 room forward.guest peer leads came_so refused (first_allowed made one allowed) in
+          subst (λ es. Holds config (standing count wants items) new (flowing false new.flows) link ((es ++ Accept listener slirp.number (From peer) ∷ []) ++ past)) (sym one)
+          (subst (λ (k : Kept). Holds config (standing count wants items) new (flowing false k) link (Close slirp.number ∷ Accept listener slirp.number (From peer) ∷ past)) (sym same_flows)
+          (subst (λ (s : SlirpState). Holds config (standing count wants items) s (flowing false slirp.flows) link (Close slirp.number ∷ Accept listener slirp.number (From peer) ∷ past))
+          (sym (same ∙ ap (λ (k : Kept). record slirp { number = slirp.number + 1; flows = k }) same_flows)) shut))
+        where
+          first_allowed : (made : List Entry) → made ≡ Close slirp.number ∷ [] → AreAllowed (made ++ Accept listener slirp.number (From peer) ∷ []) → Allowed (Close slirp.number)
+          first_allowed made is all = (subst (λ es. AreAllowed (es ++ Accept listener slirp.number (From peer) ∷ [])) is all).0

@@ -136,11 +136,11 @@ pub record Opens (config : Config) (count : ℕ) (slirp : SlirpState) (link : Li
   pub guests : OfGuests config slirp past
   pub relayed : OfRelay config Settled slirp past
   pub services : OfServices config slirp past
-  pub open : List Forward
+  pub done : List Forward
   pub left : List Forward
-  pub all : config.forwards ≡ open ++ left
-  pub many : count ≡ length open
-  pub forwards : slirp.forwards ≡ with_numbers 0 open
+  pub all : config.forwards ≡ done ++ left
+  pub many : count ≡ length done
+  pub forwards : slirp.forwards ≡ with_numbers 0 done
   pub opening : phase config past ≡ Opening count left
   pub are_open : open_sockets past ≡ forward_sockets slirp.forwards
   pub flows : OfFlows config (flowing false slirp.flows) slirp.moment past

@@ -15,4 +15,5 @@ pub mod Services
 pub mod Sockets
 pub mod State
 pub mod Timeouts
+pub mod Visits
 pub mod Waiting

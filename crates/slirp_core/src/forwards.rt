@@ -13,8 +13,8 @@ impl Slirp {
     ghost use Rattle.slirp_core.specs.Forwards.{AreForConnections, forward_sockets};
     ghost use Rattle.slirp_core.specs.Holds.{AfterListening, ClosesForwards, Opens};
     ghost use Rattle.stream_netdev.specs.State.{LinkState};
-    ghost use Rattle.world_face.specs.Tells.{Answers, Brings, Makes, Rose};
-    ghost use Rattle.world_face.specs.Journal.{Close, Entry};
+    ghost use Rattle.world_face.specs.Tells.{Brings, Makes, Rose};
+    ghost use Rattle.world_face.specs.Journal.{Entry};
     ghost use Rattle.poll_list.specs.declared.Want.{Want as AnItem};
     ghost use Rattle.poll_list.specs.declared.Who.TheVariants.{Listener};
     ghost use Rattle.slirp_laws.specs.Agenda.{is_to_read, wanted_of};
@@ -22,13 +22,12 @@ impl Slirp {
     ghost use Rattle.slirp_core.specs.Forwards.{Listens};
     ghost use Rattle.slirp_core.specs.Holds.{Holds, flowing, standing};
     ghost use Rattle.port_forward.specs.Adding.{fault_of};
-    ghost use Rattle.arp_table.specs.Table.{mac_of as learnt_for};
     ghost use Rattle.core_flows.specs.Seats.{in_use_slots};
     ghost use Rattle.flow_book.specs.Book.{book, is_refused, tuple_for};
     ghost use Rattle.host_policy.specs.Targets.{is_hidden};
     ghost use Rattle.spliced_flows.specs.Core.{CoreHolds};
     ghost use Rattle.tcp_flows.specs.Reading.{NoneUses};
-    ghost use Rattle.tcp_flows.specs.Runs.{Welcomes};
+    ghost use Rattle.slirp_core.specs.Visits.{Treats};
     ghost use Rattle.std.specs.Prelude.{Bool, List, ◌∷◌, true, false, not, is_some};
 
     /// Opens the ports of the host that the settings give to guests, in their order, each with the next number. Answers the place of the first one that the
@@ -99,12 +98,8 @@ impl Slirp {
     fn welcome<W: World>(&mut self, world: &mut W, guest: Endpoint, peer: Endpoint)
         requires number { self.old.number + 1 < 2 ^ 64 }
         requires room { in_use_slots self.old.flows.flows.table.slots < length self.old.flows.flows.table.slots }
-        ensures welcomes { (config : Config) (now : ℕ) (aged : Bool) (past : List Entry) → CoreHolds config now aged None self.old.flows.flows past → self.old.config ≡ config
-            → is_refused config guest peer (book config past) ≡ false
-            → Welcomes self.old.moment self.old.number self.old.flows self.new.flows (tuple_for config guest peer) (learnt_for guest.addr self.old.known) × (W.tells world.new ≡ W.tells world.old) }
-        ensures refuses { (config : Config) (now : ℕ) (aged : Bool) (past : List Entry) → CoreHolds config now aged None self.old.flows.flows past → self.old.config ≡ config
-            → is_refused config guest peer (book config past) ≡ true
-            → (self.new.flows ≡ self.old.flows) × Answers (W.tells world.old) (W.tells world.new) (Close self.old.number) }
+        ensures treats { Makes (W.tells world.old) (W.tells world.new) (λ made. (config : Config) (now : ℕ) (aged : Bool) (past : List Entry)
+            → CoreHolds config now aged None self.old.flows.flows past → self.old.config ≡ config → Treats (is_refused config guest peer (book config past)) guest peer self.old self.new made) }
         ensures turn { self.new.flows.turn ≡ self.old.flows.turn }
         ensures others { self.new ≡ record self.old { number = self.old.number + 1; flows = self.new.flows } }
     {

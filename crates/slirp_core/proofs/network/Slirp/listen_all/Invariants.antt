@@ -3,7 +3,7 @@ use Rattle.host_policy.specs.Addresses.{Config}
 use Rattle.world_face.specs.Tells.{Brings}
 use Rattle.stream_netdev.specs.State.{LinkState}
 use Rattle.slirp_core.specs.Holds.{Opens}
-use Rattle.slirp_core.proofs.forwards.Slirp.listen_all.Given as goal
+use Rattle.slirp_core.proofs.network.Slirp.listen_all.Given as goal
 
 abbrev pub invariant-loop : goal.invariant-loop
 invariant-loop g l = record {

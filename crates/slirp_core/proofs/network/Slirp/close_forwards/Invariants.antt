@@ -2,7 +2,7 @@ use Rattle.std.proofs.Common.{◌≡◌, length}
 use Rattle.world_face.specs.Tells.{Makes}
 use Rattle.slirp_core.specs.Forwards.{forward_sockets}
 use Rattle.slirp_core.specs.Holds.{ClosesForwards}
-use Rattle.slirp_core.proofs.forwards.Slirp.close_forwards.Given as goal
+use Rattle.slirp_core.proofs.network.Slirp.close_forwards.Given as goal
 
 abbrev pub invariant-loop : goal.invariant-loop
 invariant-loop g l = record {

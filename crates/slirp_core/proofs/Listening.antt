@@ -1,0 +1,150 @@
+-- The ports of the host that the settings give to guests are opened one after another, in their order.
+use Rattle.std.proofs.Common.{◌≡◌, ◌≢◌, ℕ, zero, suc, ◌+◌, ◌<◌, ◌≤◌, ◌==◌, ◌&&◌, ◌||◌, not, nat_le, Bool, true, false, IsTrue, List, [], ◌∷◌, ◌++◌, length, slice_get, Option, Some, None, refl, sym, ◌∙◌, ap, subst, arith}
+use Rattle.std.proofs.lemmas.Bool.Decides.{nat_tests}
+use Rattle.std.specs.List.{list_all, list_any}
+use Rattle.world_face.specs.Journal.{AreAllowed, Entry, Listen}
+use Rattle.world_face.specs.declared.Made.{Made}
+use Rattle.world_face.specs.declared.Made.TheVariants.{Done, Failed}
+use Rattle.host_policy.specs.Addresses.{Config, address, is_guest}
+use Rattle.host_policy.specs.Ranges.{IsSound, is_forward, none_twice, same_host_port, same_proto}
+use Rattle.host_policy.specs.Targets.{same_endpoint}
+use Rattle.host_policy.specs.declared.Forward.{Forward}
+use Rattle.host_policy.specs.declared.Proto.{Proto}
+use Rattle.host_policy.specs.declared.Proto.TheVariants.{Tcp, Udp}
+use Rattle.host_policy.specs.declared.config.Field.TheVariants.{Forwards}
+use Rattle.port_forward.specs.Adding.{fault_of, opening_of}
+use Rattle.port_forward.specs.Opened.{Opened, is_at, is_taken}
+use Rattle.port_forward.proofs.Adding.{no_cause}
+use Rattle.run_laws.specs.Shape.{Over, Refused}
+use Rattle.stream_netdev.specs.State.{LinkState}
+use Rattle.slirp_core.specs.Forwards.{Listens, forward_sockets, with_numbers}
+use Rattle.slirp_core.specs.Holds.{ClosingWith, Opens}
+use Rattle.slirp_core.specs.State.{SlirpState}
+use Rattle.slirp_laws.proofs.Bools.{first_of, second_of, turned}
+use Rattle.slirp_core.proofs.Starting.{more_open, next_left, refused}
+
+-- ---- what the ranges of the settings say of each forward
+
+both : (a b c : Bool) → IsTrue (a && b && c) → (a ≡ true) × (b ≡ true) × (c ≡ true)
+both true true true is = (refl, refl, refl)
+both true true false is = cc
+both true false c is = cc
+both false b c is = cc
+
+holds_at : (p : Forward → Bool) (list : List Forward) (k : ℕ) (f : Forward) → list_all p list ≡ true → slice_get list k ≡ Some f → p f ≡ true
+holds_at p [] k f all at = cc
+holds_at p (x ∷ list) zero f all at = ap p (the_same x at) ∙ first_of (p x) (list_all p list) all
+  where
+    the_same : (x : Forward) → Some x ≡ Some f → f ≡ x
+    the_same x is = cc
+holds_at p (x ∷ list) (suc k) f all at = holds_at p list k f (second_of (p x) (list_all p list) all) at
+
+proto_turned : (a b : Proto) → same_proto a b ≡ same_proto b a
+proto_turned Tcp Tcp = refl
+proto_turned Tcp Udp = refl
+proto_turned Udp Tcp = refl
+proto_turned Udp Udp = refl
+
+eq_turned : (a b : ℕ) → (a == b) ≡ (b == a)
+eq_turned a b = sym (turned a b (a == b) refl)
+
+port_turned : (f g : Forward) → same_host_port f g ≡ is_at g.proto g.host (f, 0)
+port_turned f g = λ i. proto_turned f.proto g.proto i && (eq_turned (address f.host) (address g.host) i && eq_turned f.host.port g.host.port i)
+
+-- no one before it has its port of the host
+none_before : (done left : List Forward) (f : Forward) (n : ℕ) → none_twice same_host_port (done ++ f ∷ left) ≡ true → is_taken f.proto f.host (with_numbers n done) ≡ false
+none_before [] left f n once = refl
+none_before (g ∷ done) left f n once = neither (is_at f.proto f.host (g, n)) (is_taken f.proto f.host (with_numbers (n + 1) done))
+    (sym (port_turned g f) ∙ other g done left f (not_true (list_any (same_host_port g) (done ++ f ∷ left)) (first_of (not (list_any (same_host_port g) (done ++ f ∷ left))) (none_twice same_host_port (done ++ f ∷ left)) once)))
+    (none_before done left f (n + 1) (second_of (not (list_any (same_host_port g) (done ++ f ∷ left))) (none_twice same_host_port (done ++ f ∷ left)) once))
+  where
+    neither : (a b : Bool) → a ≡ false → b ≡ false → (a || b) ≡ false
+    neither true b one two = cc
+    neither false b one two = two
+
+    not_true : (b : Bool) → not b ≡ true → b ≡ false
+    not_true true is = cc
+    not_true false is = refl
+
+    or_first : (a b : Bool) → (a || b) ≡ false → a ≡ false
+    or_first true b is = cc
+    or_first false b is = refl
+
+    or_next : (a b : Bool) → (a || b) ≡ false → b ≡ false
+    or_next true b is = cc
+    or_next false b is = is
+
+    other : (g : Forward) (done left : List Forward) (f : Forward) → list_any (same_host_port g) (done ++ f ∷ left) ≡ false → same_host_port g f ≡ false
+    other g [] left f none = or_first (same_host_port g f) (list_any (same_host_port g) left) none
+    other g (x ∷ done) left f none = other g done left f (or_next (same_host_port g x) (list_any (same_host_port g) (done ++ f ∷ left)) none)
+
+not_zero : (n : ℕ) → not (n == 0) ≡ true → n ≢ 0
+not_zero n is zero_is = grind (arith, nat_tests, is, zero_is)
+
+-- What a forward of sound settings has: its ports aren't 0, and where those before it are open nothing speaks against opening it.
+pub record MayOpen (config : Config) (forward : Forward) (opened : List Opened) : Type 0 where
+  pub few : length opened < 32
+  pub host_port : forward.host.port ≢ 0
+  pub guest_port : forward.guest.port ≢ 0
+  pub unasked : fault_of config forward opened ≡ None
+
+length_numbers : (n : ℕ) (fs : List Forward) → length (with_numbers n fs) ≡ length fs
+length_numbers n [] = refl
+length_numbers n (f ∷ fs) = ap suc (length_numbers (n + 1) fs)
+
+length_both : (xs ys : List Forward) → length (xs ++ ys) ≡ length xs + length ys
+length_both [] ys = refl
+length_both (x ∷ xs) ys = ap suc (length_both xs ys)
+
+pub may_open : (config : Config) (place : ℕ) (f : Forward) (slirp : SlirpState) (link : LinkState) (past : List Entry) → IsSound config → slice_get config.forwards place ≡ Some f → Opens config place slirp link past → MayOpen config f slirp.forwards
+may_open config place f slirp link past sound at opens =
+    let ranges = both (nat_le (length config.forwards) 32) (list_all (is_forward config) config.forwards) (none_twice same_host_port config.forwards) (sound.each Forwards) in
+    let each = holds_at (is_forward config) config.forwards place f ranges.1 at in
+    let ports = first_of (not (f.host.port == 0) && not (f.guest.port == 0)) (is_guest config (address f.guest)) (regroup (not (f.host.port == 0)) (not (f.guest.port == 0)) (is_guest config (address f.guest)) each) in
+    let guest = second_of (not (f.host.port == 0) && not (f.guest.port == 0)) (is_guest config (address f.guest)) (regroup (not (f.host.port == 0)) (not (f.guest.port == 0)) (is_guest config (address f.guest)) each) in
+    let next = next_left opens.done opens.left config.forwards f opens.all (ap (slice_get config.forwards) (sym opens.many) ∙ at) in
+    let all : config.forwards ≡ opens.done ++ f ∷ next.0 = opens.all ∙ ap (λ l. opens.done ++ l) next.1 in
+    let long : length config.forwards ≡ length opens.done + length (f ∷ next.0) = ap length all ∙ length_both opens.done (f ∷ next.0) in
+    let many : length slirp.forwards ≡ length opens.done = ap length opens.forwards ∙ length_numbers 0 opens.done in
+    let most = ranges.0 in
+    let few : length slirp.forwards < 32 = grind (arith, nat_tests, most, long, many) in
+    record {
+      few = few;
+      host_port = not_zero f.host.port (first_of (not (f.host.port == 0)) (not (f.guest.port == 0)) ports);
+      guest_port = not_zero f.guest.port (second_of (not (f.host.port == 0)) (not (f.guest.port == 0)) ports);
+      unasked = no_cause config f slirp.forwards
+          (ap (is_taken f.proto f.host) opens.forwards ∙ none_before opens.done next.0 f 0 (sym (ap (none_twice same_host_port) all) ∙ ranges.2)) guest few;
+    }
+  where
+    regroup : (a b c : Bool) → (a && b && c) ≡ true → ((a && b) && c) ≡ true
+    regroup true b c is = is
+    regroup false b c is = cc
+
+-- ---- a port is opened, or the host refuses it
+
+over_tcp : (config : Config) (place : ℕ) (f : Forward) (slirp : SlirpState) (link : LinkState) (past : List Entry) → slice_get config.forwards place ≡ Some f → Opens config place slirp link past → f.proto ≡ Tcp
+over_tcp config place f slirp link past at opens = opens.services.connections place f at
+
+pub listened : (config : Config) (place : ℕ) (f : Forward) (slirp new : SlirpState) (link : LinkState) (made past : List Entry) → slice_get config.forwards place ≡ Some f → Listens true f slirp.number slirp.forwards new.forwards made
+    → new ≡ record slirp { number = slirp.number + 1; forwards = new.forwards } → AreAllowed made → Opens config place slirp link past → Opens config (place + 1) new link (made ++ past)
+listened config place f slirp new link made past at listens same allowed opens =
+    let here : Opens config slirp.number slirp link past = subst (λ n. Opens config n slirp link past) (sym opens.number) opens in
+    let next = next_left here.done here.left config.forwards f here.all (ap (slice_get config.forwards) (sym here.many ∙ opens.number) ∙ at) in
+    let made_is : made ≡ Listen slirp.number f.host Done ∷ [] = listens.1 ∙ ap (λ p. opening_of p slirp.number f.host Done ∷ []) (over_tcp config place f slirp link past at opens) in
+    let then_is = more_open config slirp link past here f next.0 next.1 (subst AreAllowed made_is allowed).0 in
+    subst (λ es. Opens config (place + 1) new link (es ++ past)) (sym made_is)
+    (subst (λ n. Opens config (n + 1) new link (Listen slirp.number f.host Done ∷ past)) opens.number
+    (subst (λ s. Opens config (slirp.number + 1) s link (Listen slirp.number f.host Done ∷ past)) (sym (same ∙ ap (λ l. record slirp { number = slirp.number + 1; forwards = l }) listens.0)) then_is))
+
+pub listen_refused : (config : Config) (place : ℕ) (f : Forward) (slirp new : SlirpState) (link : LinkState) (made past : List Entry) → slice_get config.forwards place ≡ Some f → Listens false f slirp.number slirp.forwards new.forwards made
+    → new ≡ record slirp { number = slirp.number + 1; forwards = new.forwards } → AreAllowed made → Opens config place slirp link past
+    → ClosingWith config (Over (Refused place)) (forward_sockets new.forwards) new.associations new.flows.flows.parts (made ++ past)
+listen_refused config place f slirp new link made past at listens same allowed opens =
+    let here : Opens config slirp.number slirp link past = subst (λ n. Opens config n slirp link past) (sym opens.number) opens in
+    let next = next_left here.done here.left config.forwards f here.all (ap (slice_get config.forwards) (sym here.many ∙ opens.number) ∙ at) in
+    let made_is : made ≡ Listen slirp.number f.host Failed ∷ [] = listens.1 ∙ ap (λ p. opening_of p slirp.number f.host Failed ∷ []) (over_tcp config place f slirp link past at opens) in
+    let then_is = refused config slirp link past here f next.0 next.1 (subst AreAllowed made_is allowed).0 in
+    subst (λ es. ClosingWith config (Over (Refused place)) (forward_sockets new.forwards) new.associations new.flows.flows.parts (es ++ past)) (sym made_is)
+    (subst (λ n. ClosingWith config (Over (Refused n)) (forward_sockets new.forwards) new.associations new.flows.flows.parts (Listen slirp.number f.host Failed ∷ past)) opens.number
+    (subst (λ (s : SlirpState). ClosingWith config (Over (Refused slirp.number)) (forward_sockets s.forwards) s.associations s.flows.flows.parts (Listen slirp.number f.host Failed ∷ past))
+    (sym (same ∙ ap (λ l. record slirp { number = slirp.number + 1; forwards = l }) listens.0)) then_is))
