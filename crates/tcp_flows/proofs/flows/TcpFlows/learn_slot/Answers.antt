@@ -6,13 +6,13 @@ use Rattle.flow_splice.specs.Splice.{Splice}
 use Rattle.spliced_flows.specs.Core.{ends_of}
 use Rattle.spliced_flows.proofs.Options.{some_same}
 use Rattle.tcp_flows.specs.Kept.{Kept, part_of}
-use Rattle.tcp_flows.specs.Reading.{taught}
+use Rattle.tcp_flows.specs.Reading.{learnt_from}
 use Rattle.tcp_flows.specs.Rows.{table_at}
 use Rattle.tcp_flows.specs.declared.rows.Waits.{Waits}
 use Rattle.tcp_flows.proofs.Changing.{in_waits, waits_here, waits_seen}
 use Rattle.tcp_flows.proofs.Following.{has_tuple}
 use Rattle.tcp_flows.proofs.Keeping.{flows_as, ours_then, served_same, settings_as, slot_raw, table_is}
-use Rattle.tcp_flows.proofs.Learning.{learns_of, none_is, seeking_is, slot_part, table_stays, taught_is, told_at, unsought}
+use Rattle.tcp_flows.proofs.Learning.{learns_of, none_is, seeking_is, slot_part, table_stays, learnt_is, told_at, unsought}
 use Rattle.tcp_flows.proofs.Lists.{get_map, set_same}
 use Rattle.tcp_flows.proofs.Seated.{part_is}
 use Rattle.tcp_flows.proofs.Staying.{stays_same, stays_set}
@@ -36,7 +36,7 @@ returns-then-not-seeks-clause-parts c x here =
     let seen = waits_seen c.args.slot at.0 c.index-seeks.result.now (waits_here parts _ _ _ _ _ _ _ _ c.self.invariant.0 c.args.slot at.0 at.1) c.index-seeks.ensures in
     let none = sym (ap (λ (w : Waits). w.mac) seen) ∙ c.if-not-seeks.true in
     let x_is = some_same x (part_of at.0) (sym here ∙ sym (ap (λ (l : List (Option Splice)). slice_get l c.args.slot) view) ∙ get_map part_of parts c.args.slot at.0 at.1) in
-    sym (set_same c.args.self.now.flows.parts c.args.slot (option_map (taught c.args.guests.now) x) (here ∙ ap Some (x_is ∙ sym (unsought c.args.guests.now at.0 none) ∙ ap (option_map (taught c.args.guests.now)) (sym x_is))))
+    sym (set_same c.args.self.now.flows.parts c.args.slot (option_map (learnt_from c.args.guests.now) x) (here ∙ ap Some (x_is ∙ sym (unsought c.args.guests.now at.0 none) ∙ ap (option_map (learnt_from c.args.guests.now)) (sym x_is))))
 
 pub returns-then-not-seeks-clause-stays : goal.returns-then-not-seeks-clause-stays
 returns-then-not-seeks-clause-stays c = stays_same c.args.self.now
@@ -109,10 +109,10 @@ returns-clause-parts c x here =
     let p : Splice = is.part in
     let q : Splice = c.learn.new.self in
     let x_is = some_same x (Some p) (sym here ∙ sym (ap (λ (l : List (Option Splice)). slice_get l c.args.slot) view) ∙ get_map part_of parts c.args.slot p is.at ∙ ap Some (part_is p is.some)) in
-    let told = is.q_is ∙ sym (taught_is c.args.guests.now p (seeking_is p is.seeks).1) in
+    let told = is.q_is ∙ sym (learnt_is c.args.guests.now p (seeking_is p is.seeks).1) in
     map-set part_of parts c.args.slot q
-    ∙ ap (set (map part_of parts) c.args.slot) (part_is q (λ empty. is.some (sym (ap (λ (y : Splice). y.place) is.q_is) ∙ empty)) ∙ ap Some told ∙ ap (option_map (taught c.args.guests.now)) (sym x_is))
-    ∙ ap (λ l. set l c.args.slot (option_map (taught c.args.guests.now) x)) view
+    ∙ ap (set (map part_of parts) c.args.slot) (part_is q (λ empty. is.some (sym (ap (λ (y : Splice). y.place) is.q_is) ∙ empty)) ∙ ap Some told ∙ ap (option_map (learnt_from c.args.guests.now)) (sym x_is))
+    ∙ ap (λ l. set l c.args.slot (option_map (learnt_from c.args.guests.now) x)) view
 
 pub returns-clause-stays : goal.returns-clause-stays
 returns-clause-stays c =
