@@ -1,5 +1,5 @@
 -- The guest's hardware address: it is told, or asked for.
-use Rattle.std.proofs.Common.{refl, ◌≡◌, ℕ, zero, suc, ◌+◌, ◌<◌, ◌≤◌, ◌^◌, ◌%◌, [], ◌∷◌, List, Bool, true, false, ◌&&◌, ◌||◌, Option, None, Some, nat_eq, nat_le, nat_lt, if◌then◌else◌, arith, ap, subst, sym, ◌∙◌, inr}
+use Rattle.std.proofs.Common.{refl, ◌≡◌, ℕ, zero, suc, ◌+◌, ◌<◌, ◌≤◌, ◌^◌, ◌%◌, [], ◌∷◌, List, Bool, true, false, ◌&&◌, ◌||◌, Option, None, Some, nat_eq, nat_le, nat_lt, if◌then◌else◌, arith, ap, subst, sym, ◌∙◌, inl, inr}
 use Rattle.std.proofs.lemmas.Bool.Decides.{nat_tests}
 use Rattle.net_octets.specs.declared.Mac.{Mac}
 use Rattle.world_face.specs.Frames.{spelling}
@@ -16,6 +16,7 @@ use Rattle.flow_laws.specs.Flow.{opened_at}
 use Rattle.flow_steps.specs.Resends.{Seeks, least_wait}
 use Rattle.flow_steps.proofs.InTime.{asks_again, asks_first}
 use Rattle.connection_steps.proofs.Asking.{asks_address}
+use Rattle.flow_splice.specs.Asks.{AsksOnce}
 use Rattle.flow_splice.specs.Entries.{AreEvents, ident_after}
 use Rattle.flow_splice.specs.Follows.{Follows, FollowsAt, IsOpen}
 use Rattle.flow_splice.specs.Frames.{request_frame}
@@ -52,6 +53,21 @@ learn_follows s f mac past now h = by f.place f.shut h
 
 pub learn_then : (f new : Splice) (mac : Option Mac) (link next : LinkState) (first last now : ℕ) (made : List Entry) → SendsOn (learnt f mac) new link next first last now made → SendsOn f new link next first last now made
 learn_then f new mac link next first last now made sends = ((λ s past before ended known on h. sends.0 s past before ended known on (learn_follows s f mac past before h)), sends.1)
+
+-- what a pump asks for is by the address that the flow has then
+pub known_asks : (f new : Splice) (mac : Option Mac) (now : ℕ) (made : List Entry) {to : Mac} → or_known mac f.mac ≡ Some to → new.asked ≡ f.asked → AsksOnce (or_known mac f.mac) f new now made
+known_asks f new mac now made known same = subst (λ (o : Option Mac). AsksOnce o f new now made) (sym known) same
+
+pub unknown_asks : (f new : Splice) (mac : Option Mac) (now : ℕ) (made : List Entry) → or_known mac f.mac ≡ None → AsksOnce None (learnt f mac) new now made → AsksOnce (or_known mac f.mac) f new now made
+unknown_asks f new (Some to) now made unknown asks = absurd cc
+unknown_asks f new None now made unknown asks = subst (λ (o : Option Mac). AsksOnce o f new now made) (sym unknown) asks
+
+pub learn_asks : (f new : Splice) (mac : Option Mac) (now : ℕ) → new ≡ learnt f mac → AsksOnce (or_known mac f.mac) f new now []
+learn_asks f new mac now is = by (or_known mac f.mac) refl
+  where
+    by : (o : Option Mac) → or_known mac f.mac ≡ o → AsksOnce o f new now []
+    by (Some to) known = ap (λ (x : Splice). x.asked) is
+    by None unknown = inl (refl, is ∙ ap (λ (o : Option Mac). record f { mac = o }) (unknown ∙ sym (or_none mac f.mac unknown)))
 
 -- ---- it is asked for
 

@@ -9,5 +9,6 @@ pub mod Follows
 pub mod Serves
 pub mod Left
 pub mod Sends
+pub mod Asks
 pub mod Ahead
 pub mod Shapes

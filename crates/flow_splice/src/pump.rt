@@ -156,12 +156,13 @@ impl Spliced {
 // The pump.
 impl Spliced {
     ghost use Rattle.flow_splice.specs.Ahead.{IsAhead, IsEarly};
+    ghost use Rattle.flow_splice.specs.Asks.{AsksOnce};
     ghost use Rattle.flow_splice.specs.Follows.{Follows};
     ghost use Rattle.flow_splice.specs.Hosts.{IsAsOld};
     ghost use Rattle.flow_splice.specs.Left.{left};
     ghost use Rattle.flow_splice.specs.Shapes.{IsPumpWork};
     ghost use Rattle.flow_splice.specs.Splice.{is_open as is_open_by};
-    ghost use Rattle.flow_splice.specs.Sends.{IsClear, IsPumped, SendsOn, asked, asks_now, learnt, takes_part};
+    ghost use Rattle.flow_splice.specs.Sends.{IsClear, IsPumped, SendsOn, asked, asks_now, learnt, or_known, takes_part};
     ghost use Rattle.flow_splice.specs.declared.Place.TheVariants.{Empty};
     ghost use Rattle.flow_splice.specs.declared.Pumped.TheVariants.{Clear, Blocked, Failed};
 
@@ -179,7 +180,8 @@ impl Spliced {
     ) -> Pumped
         requires now { now ≤ 2 ^ 62 }
         requires tail { link.old.blocked ≡ false → link.old.tail ≡ [] }
-        ensures makes { Makes (W.tells world.old) (W.tells world.new) (λ made. SendsOn self.old self.new link.old link.new ident.old ident.new now made × IsPumpWork result made) }
+        ensures makes { Makes (W.tells world.old) (W.tells world.new) (λ made. SendsOn self.old self.new link.old link.new ident.old ident.new now made × IsPumpWork result made
+            × AsksOnce (or_known mac self.old.mac) self.old self.new now made) }
         ensures blocked { result ≡ Blocked → link.new.blocked ≡ true }
         ensures free { result ≡ Clear → (link.new.blocked ≡ false) × (link.new.tail ≡ []) }
         ensures failed { result ≡ Failed → Rose (W.tells world.old).faults.link (W.tells world.new).faults.link }
@@ -235,7 +237,7 @@ impl Spliced {
         requires free { link.old.blocked ≡ false }
         requires unknown { self.old.mac ≡ None }
         ensures makes { Makes (W.tells world.old) (W.tells world.new) (λ made.
-            ((first : ℕ) → first < 2 ^ 16 → SendsOn self.old self.new link.old link.new first first now made) × IsPumpWork result made) }
+            ((first : ℕ) → first < 2 ^ 16 → SendsOn self.old self.new link.old link.new first first now made) × IsPumpWork result made × AsksOnce None self.old self.new now made) }
         ensures blocked { result ≡ Blocked → link.new.blocked ≡ true }
         ensures free { result ≡ Clear → (link.new.blocked ≡ false) × (link.new.tail ≡ []) }
         ensures failed { result ≡ Failed → Rose (W.tells world.old).faults.link (W.tells world.new).faults.link }
@@ -269,6 +271,7 @@ impl Spliced {
         ensures settles { Settles result link.new }
         ensures same { under_way link.new ≡ under_way link.old }
         ensures change { self.new ≡ self.old }
+        ensures fits { self.old.face.guest.addr.0 < 2 ^ 32 }
     {
         let (vhost, guest) = (self.vhost, self.guest.addr);
         offer_arp(world, link, vhost, guest, &mut self.buffer)

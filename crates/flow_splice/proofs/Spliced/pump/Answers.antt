@@ -1,12 +1,13 @@
-use Rattle.std.proofs.Common.{◌≡◌, ℕ, [], refl, arith, subst, sym, ap, ◌∙◌}
+use Rattle.std.proofs.Common.{◌≡◌, ℕ, [], None, refl, arith, subst, sym, ap, ◌∙◌}
 use Rattle.world_face.proofs.Telling.{makes_as, makes_none}
 use Rattle.stream_netdev.specs.State.{LinkState}
+use Rattle.flow_splice.specs.Asks.{AsksOnce}
 use Rattle.flow_splice.specs.Sends.{SendsOn}
 use Rattle.flow_splice.specs.Splice.{Splice, is_open}
 use Rattle.tcp_guest.specs.Connection.{Connection}
 use Rattle.flow_splice.specs.Ahead.{IsAhead, IsEarly}
 use Rattle.flow_splice.proofs.Ahead.{follows_waits}
-use Rattle.flow_splice.proofs.Asking.{learn_then}
+use Rattle.flow_splice.proofs.Asking.{known_asks, learn_asks, learn_then, unknown_asks}
 use Rattle.flow_splice.proofs.Marking.{sends_none}
 use Rattle.flow_splice.proofs.Spliced.pump.Goals as goal
 
@@ -19,6 +20,7 @@ returns-then-blocked-clause-makes g c =
       learn_then f mid c.args.mac link link c.args.ident.now c.args.ident.now c.args.now []
           (subst (λ (x : Splice). SendsOn x mid link link c.args.ident.now c.args.ident.now c.args.now []) c.learn.ensures (sends_none mid link c.args.ident.now c.args.now (omega arith))),
       refl,
+      learn_asks f mid c.args.mac c.args.now c.learn.ensures,
     )
 
 pub returns-in-Some-clause-makes : goal.returns-in-Some-clause-makes
@@ -30,7 +32,11 @@ returns-in-Some-clause-makes g c =
     let first : ℕ = c.args.ident.now in
     let last : ℕ = c.send_all.new.ident in
     makes_as _ _ _ _ c.send_all.ensures.makes
-    (λ made sends. (learn_then f new c.args.mac link next first last c.args.now made (subst (λ (x : Splice). SendsOn x new link next first last c.args.now made) c.learn.ensures sends.0), sends.1))
+    (λ made sends. (
+      learn_then f new c.args.mac link next first last c.args.now made (subst (λ (x : Splice). SendsOn x new link next first last c.args.now made) c.learn.ensures sends.0),
+      sends.1,
+      known_asks f new c.args.mac c.args.now made (ap (λ (x : Splice). x.mac) (sym c.learn.ensures) ∙ sym c.mac.ensures ∙ c.in-Some.is) (c.send_all.ensures.as_old.asked ∙ ap (λ (x : Splice). x.asked) c.learn.ensures),
+    ))
 
 pub returns-in-None-clause-makes : goal.returns-in-None-clause-makes
 returns-in-None-clause-makes g c =
@@ -40,7 +46,11 @@ returns-in-None-clause-makes g c =
     let next : LinkState = c.seek.new.link in
     let first : ℕ = c.args.ident.now in
     makes_as _ _ _ _ c.seek.ensures.makes
-    (λ made sends. (learn_then f new c.args.mac link next first first c.args.now made (subst (λ (x : Splice). SendsOn x new link next first first c.args.now made) c.learn.ensures (sends.0 first (omega arith))), sends.1))
+    (λ made sends. (
+      learn_then f new c.args.mac link next first first c.args.now made (subst (λ (x : Splice). SendsOn x new link next first first c.args.now made) c.learn.ensures (sends.0 first (omega arith))),
+      sends.1,
+      unknown_asks f new c.args.mac c.args.now made (ap (λ (x : Splice). x.mac) (sym c.learn.ensures) ∙ sym c.mac.ensures ∙ c.in-None.is) (subst (λ (x : Splice). AsksOnce None x new c.args.now made) c.learn.ensures sends.2),
+    ))
 
 pub returns-in-Some-clause-ahead : goal.returns-in-Some-clause-ahead
 returns-in-Some-clause-ahead g c s past before h ahead =

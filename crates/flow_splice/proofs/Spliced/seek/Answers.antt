@@ -1,11 +1,13 @@
-use Rattle.std.proofs.Common.{◌≡◌, ◌<◌, ◌^◌, ℕ, [], ◌∷◌, ◌++◌, List, refl, subst, sym, ap, ◌∙◌}
+use Rattle.std.proofs.Common.{◌≡◌, ◌<◌, ◌^◌, ℕ, true, [], ◌∷◌, ◌++◌, List, inl, inr, refl, subst, sym, ap, ◌∙◌}
 use Rattle.world_face.specs.Frames.{spelling}
 use Rattle.world_face.specs.Journal.{AreAllowed, Entry, LinkWrite}
 use Rattle.world_face.proofs.Telling.{makes_as, makes_none}
 use Rattle.stream_netdev.specs.Keeps.{Keeps, Writes}
+use Rattle.stream_netdev.specs.Offers.{offered}
 use Rattle.stream_netdev.specs.State.{LinkState}
+use Rattle.stream_netdev.specs.declared.Offered.{Offered}
 use Rattle.flow_splice.specs.Frames.{request_frame}
-use Rattle.flow_splice.specs.Sends.{Sends, SendsOn, asked}
+use Rattle.flow_splice.specs.Sends.{Sends, SendsOn, asked, asks_now}
 use Rattle.flow_splice.specs.Shapes.{IsPumpWork}
 use Rattle.flow_splice.specs.Splice.{Splice}
 use Rattle.flow_splice.specs.declared.Pumped.{Pumped}
@@ -15,7 +17,7 @@ use Rattle.flow_splice.proofs.Shaping.{request_works}
 use Rattle.flow_splice.proofs.Spliced.seek.Goals as goal
 
 pub returns-then-not-asks_now-clause-makes : goal.returns-then-not-asks_now-clause-makes
-returns-then-not-asks_now-clause-makes g c = makes_none _ _ ((λ first small. sends_none c.args.self.now c.args.link.now first c.args.now small), refl)
+returns-then-not-asks_now-clause-makes g c = makes_none _ _ ((λ first small. sends_none c.args.self.now c.args.link.now first c.args.now small), refl, inl (refl, refl))
 
 pub returns-clause-makes : goal.returns-clause-makes
 returns-clause-makes g c =
@@ -37,4 +39,9 @@ returns-clause-makes g c =
       wrote.0.1,
     ) in
     let works = request_works offer.result writes.0 c.blocked.result (spelling (request_frame f.face)) writes.2 in
-    (flow, subst (λ (es : List Entry). IsPumpWork c.outcome.result es) (sym writes.1) (subst (λ (p : Pumped). IsPumpWork p (LinkWrite (spelling (request_frame f.face)) writes.0 ∷ [])) (sym c.outcome.ensures) works)))
+    let due : asks_now f now ≡ true = sym c.asks_now.ensures ∙ c.if-not-asks_now.false in
+    let change : new ≡ asked (offered writes.0) f now = is ∙ ap (λ (r : Offered). asked r f now) writes.2 in (
+      flow,
+      subst (λ (es : List Entry). IsPumpWork c.outcome.result es) (sym writes.1) (subst (λ (p : Pumped). IsPumpWork p (LinkWrite (spelling (request_frame f.face)) writes.0 ∷ [])) (sym c.outcome.ensures) works),
+      inr (record { due = due; answer = writes.0; one = writes.1; change = change; fits = offer.ensures.fits }),
+    ))
