@@ -12,7 +12,7 @@ use Rattle.tcp_flows.specs.declared.rows.Waits.{Waits}
 use Rattle.tcp_flows.proofs.Changing.{in_waits, waits_here, waits_seen}
 use Rattle.tcp_flows.proofs.Following.{has_tuple}
 use Rattle.tcp_flows.proofs.Keeping.{flows_as, ours_then, served_same, settings_as, slot_raw, table_is}
-use Rattle.tcp_flows.proofs.Learning.{learns_of, none_is, seeking_is, slot_part, table_stays, learnt_is, told_at, unsought}
+use Rattle.tcp_flows.proofs.Learning.{learns_of, seeking_is, slot_part, table_stays, learnt_is, told_at, unsought}
 use Rattle.tcp_flows.proofs.Lists.{get_map, set_same}
 use Rattle.tcp_flows.proofs.Seated.{part_is}
 use Rattle.tcp_flows.proofs.Staying.{stays_same, stays_set}
@@ -77,7 +77,7 @@ invariant_of-self c =
       c.follow.ensures.rows parts is.part is.at is.place_is is.open_is is.moves c.self.invariant.0,
       c.follow.ensures.room ∙ c.self.invariant.1 ∙ sym (length-set parts c.args.slot q),
       ours_then c.self.inside.sizes.ring c.self.inside.sizes.mru c.self.inside.sizes.vhost.0 parts c.self.invariant.2 c.args.slot is.part is.at q is.some
-          (ap (λ (x : Splice). x.up.size) is.q_is) (ap (λ (x : Splice). x.down.size) is.q_is) (ap (λ (x : Splice). x.mru) is.q_is) (λ none. none_is is.part.mac (seeking_is is.part is.seeks).1) (ap (λ (x : Splice). x.face) is.q_is),
+          (ap (λ (x : Splice). x.up.size) is.q_is) (ap (λ (x : Splice). x.down.size) is.q_is) (ap (λ (x : Splice). x.mru) is.q_is) (ap (λ (x : Splice). x.face) is.q_is),
       served_same c.self.inside.turn c.self.inside.served.items parts c.self.invariant.3 c.args.slot is.part is.at q is.some (ap (λ (x : Splice). x.up.written) is.q_is) (ap (λ (x : Splice). octets_read x.down) is.q_is),
       c.self.invariant.4,
       c.self.invariant.5,
