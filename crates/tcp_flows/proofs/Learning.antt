@@ -274,7 +274,7 @@ told_at guests parts seen are waits waits_are k fits w read seeks d q here place
     let found = slot_part parts seen are k fits in
     let p : Splice = found.0 in
     let is : d ≡ p = read_here parts k p d found.1 here in
-    let wait : w ≡ waits_of p = waits_seen k p w (ap (λ (l : List Waits). slice_get l k) waits_are ∙ get_map waits_of parts k p found.1) read in
+    let wait : w ≡ waits_of p = waits_seen waits k p w (ap (λ (l : List Waits). slice_get l k) waits_are ∙ get_map waits_of parts k p found.1) read in
     let seeking : is_seeking p ≡ true = sym (ap (λ (x : Waits). x.mac) wait) ∙ seeks in
     let then_is : q ≡ learnt p (learnt_for p.face.guest.addr guests) =
     q_is ∙ ap (learnt d) (mac_is ∙ ap (λ (e : Endpoint). learnt_for e.addr guests) guest_is) ∙ ap (λ (x : Splice). learnt x (learnt_for x.face.guest.addr guests)) is in

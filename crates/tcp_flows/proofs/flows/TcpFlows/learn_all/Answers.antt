@@ -16,14 +16,14 @@ loop-slot-init c = record {
 pub learn_slot-requires : goal.learn_slot-requires
 learn_slot-requires c =
     let long = c.loop-slot.invariant.stays.slots in
-    let slots = c.len.ensures ∙ c.self.inside.parts.ok.0 ∙ sym (length-map c.self.inside.parts.items part_of) ∙ ap (λ (s : Kept). length s.flows.parts) c.self.view_is in
+    let slots = c.len-slot-end.ensures ∙ c.self.inside.parts.ok.0 ∙ sym (length-map c.self.inside.parts.items part_of) ∙ ap (λ (s : Kept). length s.flows.parts) c.self.view_is in
     record { slot = omega (arith, long, slots, c.loop-slot-test.true) }
 
 pub loop-slot-preserved : goal.loop-slot-preserved
 loop-slot-preserved c =
     let kept = c.loop-slot.invariant in
     let long = kept.stays.slots in
-    let slots = c.len.ensures ∙ c.self.inside.parts.ok.0 ∙ sym (length-map c.self.inside.parts.items part_of) ∙ ap (λ (s : Kept). length s.flows.parts) c.self.view_is in
+    let slots = c.len-slot-end.ensures ∙ c.self.inside.parts.ok.0 ∙ sym (length-map c.self.inside.parts.items part_of) ∙ ap (λ (s : Kept). length s.flows.parts) c.self.view_is in
     let at = has_at c.loop-slot.self.flows.parts c.loop-slot.slot (omega (arith, long, slots, c.loop-slot-test.true)) in
     record {
       learns = learns_then c.args.guests.now c.args.self.now c.loop-slot.self c.learn_slot.new.self kept.learns c.learn_slot.ensures.learns;
@@ -36,7 +36,7 @@ pub returns-clause-learnt : goal.returns-clause-learnt
 returns-clause-learnt c =
     let kept = c.loop-slot.invariant in
     let long = kept.stays.slots in
-    let slots = c.len.ensures ∙ c.self.inside.parts.ok.0 ∙ sym (length-map c.self.inside.parts.items part_of) ∙ ap (λ (s : Kept). length s.flows.parts) c.self.view_is in
+    let slots = c.len-slot-end.ensures ∙ c.self.inside.parts.ok.0 ∙ sym (length-map c.self.inside.parts.items part_of) ∙ ap (λ (s : Kept). length s.flows.parts) c.self.view_is in
     learnt_whole c.args.guests.now c.loop-slot.slot c.args.self.now.flows.parts c.loop-slot.self.flows.parts (omega (arith, slots, c.loop-slot-test.false)) (omega (arith, long, slots, c.loop-slot-test.false)) kept.below
 
 pub returns-clause-learns : goal.returns-clause-learns
