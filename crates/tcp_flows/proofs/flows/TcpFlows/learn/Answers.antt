@@ -2,29 +2,16 @@ use Rattle.std.proofs.Common.{refl, ◌≡◌, ap, sym, ◌∙◌, subst, arith}
 use Rattle.tcp_flows.specs.Kept.{Kept}
 use Rattle.tcp_flows.specs.Reading.{HaveLearnt, NoneInSlots}
 use Rattle.tcp_flows.proofs.Learning.{idle_seeks, none_seeks, learnt_all, learnt_calm, learnt_in_time, learnt_told}
-use Rattle.tcp_flows.proofs.Staying.{stays_same}
 use Rattle.tcp_flows.proofs.flows.TcpFlows.learn.Goals as goal
 
-pub returns-then-self-clause-learns : goal.returns-then-self-clause-learns
-returns-then-self-clause-learns c config now aged past is between = between
-
-pub returns-then-self-clause-learnt : goal.returns-then-self-clause-learnt
-returns-then-self-clause-learnt c =
+pub returns-then-self-eq0-clause-learnt : goal.returns-then-self-eq0-clause-learnt
+returns-then-self-eq0-clause-learnt c =
     let are = c.self.invariant.0.seeking_are in
     subst (λ (s : Kept). HaveLearnt c.args.guests.now s.flows.parts s.flows.parts) c.self.view_is
     (learnt_all c.args.guests.now _ (none_seeks c.self.inside.parts.items (sym are ∙ c.if-self-eq0.true)))
 
-pub returns-then-self-clause-told : goal.returns-then-self-clause-told
-returns-then-self-clause-told c = learnt_told c.args.guests.now c.args.self.now.flows.parts c.args.self.now.flows.parts (returns-then-self-clause-learnt c)
-
-pub returns-then-self-clause-ahead : goal.returns-then-self-clause-ahead
-returns-then-self-clause-ahead c now n early = early
-
-pub returns-then-self-clause-calm : goal.returns-then-self-clause-calm
-returns-then-self-clause-calm c n calm = calm
-
-pub returns-then-self-clause-stays : goal.returns-then-self-clause-stays
-returns-then-self-clause-stays c = stays_same c.args.self.now
+pub returns-then-self-eq0-clause-told : goal.returns-then-self-eq0-clause-told
+returns-then-self-eq0-clause-told c = learnt_told c.args.guests.now c.args.self.now.flows.parts c.args.self.now.flows.parts (returns-then-self-eq0-clause-learnt c)
 
 pub returns-clause-told : goal.returns-clause-told
 returns-clause-told c = learnt_told c.args.guests.now c.args.self.now.flows.parts c.learn_all.new.self.flows.parts c.learn_all.ensures.learnt
