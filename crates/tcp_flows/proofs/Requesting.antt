@@ -54,8 +54,8 @@ frames_both [] first none is = is
 frames_both (e ∷ later) first none is = by (is_frame e) none (λ rest. frames_both later first rest is)
   where
     by : (b : Bool) → (b || has_frame later) ≡ false → (has_frame later ≡ false → has_frame (later ++ first) ≡ false) → (b || has_frame (later ++ first)) ≡ false
-    by true none go = absurd cc
-    by false none go = go none
+    by true none go_on = absurd cc
+    by false none go_on = go_on none
 
 abbrev None_of : List Entry → Type 0
 None_of made = has_frame made ≡ false
