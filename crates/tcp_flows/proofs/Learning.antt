@@ -1,13 +1,11 @@
 -- Flows are told the hardware addresses of their guests.
-use Rattle.std.proofs.Common.{refl, ◌≡◌, ℕ, zero, suc, ◌+◌, ◌<◌, ◌≤◌, ◌&&◌, not, Bool, true, false, List, [], ◌∷◌, length, map, set, Some, None, Option, is_some, option_map, if◌then◌else◌, get_or, slice_get, ◌⊎◌, inl, inr, ap, sym, ◌∙◌, subst, arith}
-use Rattle.std.proofs.lemmas.Bool.{cases_lt}
+use Rattle.std.proofs.Common.{refl, ◌≡◌, ℕ, zero, suc, ◌+◌, ◌<◌, ◌≤◌, not, Bool, true, false, List, [], ◌∷◌, length, map, set, Some, None, Option, is_some, option_map, if◌then◌else◌, get_or, slice_get, inl, inr, ap, sym, ◌∙◌, subst, arith}
 use Rattle.std.proofs.lemmas.List.{length-map, map-set}
 use Rattle.std.proofs.lemmas.Option.{slice_get_within}
 use Rattle.net_octets.specs.declared.Endpoint.{Endpoint}
 use Rattle.net_octets.specs.declared.Ip4.{Ip4}
 use Rattle.net_octets.specs.declared.Mac.{Mac}
 use Rattle.arp_table.specs.Table.{mac_of as learnt_for}
-use Rattle.world_face.specs.Journal.{Entry}
 use Rattle.host_policy.specs.Addresses.{Config}
 use Rattle.run_laws.specs.Guests.{known}
 use Rattle.flow_table.specs.Slots.{AreKept, Flows}
@@ -30,10 +28,10 @@ use Rattle.spliced_flows.specs.Core.{CoreHolds, ends_of, number_of}
 use Rattle.spliced_flows.specs.Stands.{slot_at}
 use Rattle.spliced_flows.proofs.Options.{none_some, some_same, true_false}
 use Rattle.spliced_flows.proofs.Told.{core_told}
-use Rattle.tcp_flows.specs.Kept.{IsFor, Kept, flows_of, part_at, part_of, slot_of, with_flows}
-use Rattle.tcp_flows.specs.Reading.{HaveLearnt, AreTold, IsOpenAt, NoneInSlots, Stays, learnt_from}
+use Rattle.tcp_flows.specs.Kept.{IsFor, Kept, flows_of, part_at, part_of, slot_of}
+use Rattle.tcp_flows.specs.Reading.{HaveLearnt, AreTold, IsOpenAt, NoneInSlots, learnt_from}
 use Rattle.tcp_flows.specs.Rows.{Moves, MovesAt, count, is_seeking, seeks_at, table_at, waits_of}
-use Rattle.tcp_flows.specs.Runs.{Between, Learns}
+use Rattle.tcp_flows.specs.Runs.{Learns}
 use Rattle.tcp_flows.specs.Settled.{IsInTime, OwesNoAck}
 use Rattle.tcp_flows.specs.declared.rows.Waits.{Waits}
 use Rattle.tcp_flows.proofs.Asking.{asked_then}

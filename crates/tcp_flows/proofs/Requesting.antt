@@ -10,7 +10,7 @@ use Rattle.host_policy.specs.Addresses.{Config}
 use Rattle.flow_laws.specs.Event.{Arrives, Story}
 use Rattle.flow_laws.specs.Settings.{Settings}
 use Rattle.flow_book.specs.Book.{book, scene, turned}
-use Rattle.flow_book.specs.Doings.{Comes, Doing, doing, doing_by, goes, seeks}
+use Rattle.flow_book.specs.Doings.{Comes, Doing, doing, doing_by, goes}
 use Rattle.flow_book.specs.Flows.{is_on, with_event}
 use Rattle.flow_book.specs.Segments.{OnTuple, asked_in, segment_in}
 use Rattle.slirp_laws.specs.Answers.{is_first, left}

@@ -1,7 +1,7 @@
-use Rattle.std.proofs.Common.{refl, ◌≡◌, Bool, length, map, Some, slice_get, arith, ap, sym, ◌∙◌, subst}
+use Rattle.std.proofs.Common.{◌≡◌, length, Some, slice_get, arith, ap, sym, ◌∙◌, subst}
 use Rattle.std.proofs.lemmas.List.{length-map}
 use Rattle.std.proofs.lemmas.Option.{slice_get_within}
-use Rattle.flow_table.specs.Slots.{HasTuple, NoneHas}
+use Rattle.flow_table.specs.Slots.{NoneHas}
 use Rattle.flow_table.specs.declared.Slot.TheVariants.{InUse as SlotInUse}
 use Rattle.flow_table.specs.declared.Tuple.{Tuple}
 use Rattle.flow_splice.specs.Splice.{Splice, is_in_use}

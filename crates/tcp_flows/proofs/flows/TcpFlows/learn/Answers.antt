@@ -1,4 +1,4 @@
-use Rattle.std.proofs.Common.{refl, ◌≡◌, ap, sym, ◌∙◌, subst, arith}
+use Rattle.std.proofs.Common.{sym, ◌∙◌, subst}
 use Rattle.tcp_flows.specs.Kept.{Kept}
 use Rattle.tcp_flows.specs.Reading.{HaveLearnt, NoneInSlots}
 use Rattle.tcp_flows.proofs.Learning.{idle_seeks, none_seeks, learnt_all, learnt_calm, learnt_in_time, learnt_told}

@@ -1,4 +1,4 @@
-use Rattle.std.proofs.Common.{refl, ◌≡◌, length, arith, ap, sym, ◌∙◌}
+use Rattle.std.proofs.Common.{refl, length, arith, ap, sym, ◌∙◌}
 use Rattle.std.proofs.lemmas.List.{length-map}
 use Rattle.tcp_flows.specs.Kept.{Kept, part_of, with_flows}
 use Rattle.tcp_flows.proofs.Learning.{has_at, learns_then, learnt_next, learnt_none_yet, learnt_whole}

@@ -1,4 +1,4 @@
-use Rattle.std.proofs.Common.{refl, ◌≡◌, false, List, Option, map, set, option_map, Some, slice_get, arith, ap, sym, ◌∙◌, subst}
+use Rattle.std.proofs.Common.{refl, false, List, Option, map, set, option_map, Some, slice_get, arith, ap, sym, ◌∙◌}
 use Rattle.std.proofs.lemmas.List.{length-set, map-set}
 use Rattle.std.proofs.lemmas.Option.{slice_get_within}
 use Rattle.tcp_transmit.specs.Transmission.{octets_read}
