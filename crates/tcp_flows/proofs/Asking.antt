@@ -1,7 +1,7 @@
 -- How often guests were asked for, where the calls on flows' sockets go on, and where a flow begins.
-use Rattle.std.proofs.Common.{refl, ◌≡◌, ℕ, ◌+◌, ◌≤◌, ◌==◌, ◌&&◌, ◌||◌, Bool, true, false, cond, List, [], ◌∷◌, ◌++◌, map, set, slice_get, Option, Some, None, if◌then◌else◌, inl, inr, ap, sym, ◌∙◌, subst, arith}
+use Rattle.std.proofs.Common.{refl, ◌≡◌, ℕ, ◌≤◌, ◌==◌, ◌&&◌, ◌||◌, Bool, true, false, cond, List, [], ◌∷◌, ◌++◌, map, set, slice_get, Option, Some, None, if◌then◌else◌, inl, inr, ap, sym, ◌∙◌, subst, arith}
 use Rattle.world_face.specs.Journal.{Entry, Now, Wait, LinkOpen, LinkRead, LinkWrite, Connect, Connected, Listen, Accept, TcpRead, TcpWrite, TcpEnd, Close, UdpOpen, UdpSend, UdpRecv, FileLen, FileRead}
-use Rattle.world_face.specs.Frames.{goes_out, opens, tail}
+use Rattle.world_face.specs.Frames.{opens, tail}
 use Rattle.world_face.specs.declared.Accepted.{Accepted}
 use Rattle.world_face.specs.declared.Accepted.TheVariants.{From, NotYet as NotYetAccepted, Failed as AcceptFailed}
 use Rattle.world_face.specs.declared.Io.{Io}
@@ -24,7 +24,7 @@ use Rattle.core_flows.proofs.Seats.{differ, same_or_not}
 use Rattle.core_flows.proofs.Tables.{get_set_other, get_set_same}
 use Rattle.slirp_laws.specs.Answers.{left}
 use Rattle.slirp_laws.specs.Sending.{accepted_for, requests, requests_by, times}
-use Rattle.slirp_laws.proofs.Bools.{turned}
+use Rattle.slirp_laws.proofs.Bools.{turned as swapped}
 use Rattle.flow_splice.specs.Splice.{Splice}
 use Rattle.spliced_flows.specs.Asked.{AreAsked, accepted_numbers, sum_of}
 use Rattle.spliced_flows.specs.Core.{number_of}
@@ -236,5 +236,5 @@ fresh_number guest n (f ∷ flows) none = by (f.number == n) refl none (λ rest.
     by false other none rest = ap (is_among n) (split guest f flows) ∙ by_test (is_for guest f)
       where
         by_test : (b : Bool) → is_among n (with_number b f.number (accepted_numbers guest flows)) ≡ false
-        by_test true = ap (λ c. c || is_among n (accepted_numbers guest flows)) (turned f.number n false other) ∙ rest none
+        by_test true = ap (λ c. c || is_among n (accepted_numbers guest flows)) (swapped f.number n false other) ∙ rest none
         by_test false = rest none

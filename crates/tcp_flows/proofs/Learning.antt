@@ -1,13 +1,11 @@
 -- Flows are told the hardware addresses of their guests.
-use Rattle.std.proofs.Common.{refl, ◌≡◌, ℕ, zero, suc, ◌+◌, ◌<◌, ◌≤◌, ◌&&◌, not, Bool, true, false, List, [], ◌∷◌, length, map, set, Some, None, Option, is_some, option_map, if◌then◌else◌, get_or, slice_get, ◌⊎◌, inl, inr, ap, sym, ◌∙◌, subst, arith}
-use Rattle.std.proofs.lemmas.Bool.{cases_lt}
+use Rattle.std.proofs.Common.{refl, ◌≡◌, ℕ, zero, suc, ◌+◌, ◌<◌, ◌≤◌, not, Bool, true, false, List, [], ◌∷◌, length, map, set, Some, None, Option, is_some, option_map, if◌then◌else◌, get_or, slice_get, inl, inr, ap, sym, ◌∙◌, subst, arith}
 use Rattle.std.proofs.lemmas.List.{length-map, map-set}
 use Rattle.std.proofs.lemmas.Option.{slice_get_within}
 use Rattle.net_octets.specs.declared.Endpoint.{Endpoint}
 use Rattle.net_octets.specs.declared.Ip4.{Ip4}
 use Rattle.net_octets.specs.declared.Mac.{Mac}
 use Rattle.arp_table.specs.Table.{mac_of as learnt_for}
-use Rattle.world_face.specs.Journal.{Entry}
 use Rattle.host_policy.specs.Addresses.{Config}
 use Rattle.run_laws.specs.Guests.{known}
 use Rattle.flow_table.specs.Slots.{AreKept, Flows}
@@ -30,10 +28,10 @@ use Rattle.spliced_flows.specs.Core.{CoreHolds, ends_of, number_of}
 use Rattle.spliced_flows.specs.Stands.{slot_at}
 use Rattle.spliced_flows.proofs.Options.{none_some, some_same, true_false}
 use Rattle.spliced_flows.proofs.Told.{core_told}
-use Rattle.tcp_flows.specs.Kept.{IsFor, Kept, flows_of, part_at, part_of, slot_of, with_flows}
-use Rattle.tcp_flows.specs.Reading.{AreTaught, AreTold, IsOpenAt, NoneInSlots, Stays, taught}
+use Rattle.tcp_flows.specs.Kept.{IsFor, Kept, flows_of, part_at, part_of, slot_of}
+use Rattle.tcp_flows.specs.Reading.{HaveLearnt, AreTold, IsOpenAt, NoneInSlots, learnt_from}
 use Rattle.tcp_flows.specs.Rows.{Moves, MovesAt, count, is_seeking, seeks_at, table_at, waits_of}
-use Rattle.tcp_flows.specs.Runs.{Between, Learns}
+use Rattle.tcp_flows.specs.Runs.{Learns}
 use Rattle.tcp_flows.specs.Settled.{IsInTime, OwesNoAck}
 use Rattle.tcp_flows.specs.declared.rows.Waits.{Waits}
 use Rattle.tcp_flows.proofs.Asking.{asked_then}
@@ -50,19 +48,19 @@ use Rattle.tcp_flows.proofs.Staying.{each_then}
 -- ---- one flow
 
 -- what telling leaves of it
-pub taught_keeps : {X : Type 0} (f : Splice → X) → ((p : Splice) (m : Option Mac) → f (learnt p m) ≡ f p) → (guests : List (Ip4 × Mac)) (p : Splice) → f (taught guests p) ≡ f p
-taught_keeps f same guests p = by (is_some p.mac)
+pub learnt_keeps : {X : Type 0} (f : Splice → X) → ((p : Splice) (m : Option Mac) → f (learnt p m) ≡ f p) → (guests : List (Ip4 × Mac)) (p : Splice) → f (learnt_from guests p) ≡ f p
+learnt_keeps f same guests p = by (is_some p.mac)
   where
     by : (b : Bool) → f (if b then p else learnt p (learnt_for p.face.guest.addr guests)) ≡ f p
     by true = refl
     by false = same p (learnt_for p.face.guest.addr guests)
 
 -- one that knows it already stays as it is
-pub taught_same : (guests : List (Ip4 × Mac)) (p : Splice) → is_some p.mac ≡ true → taught guests p ≡ p
-taught_same guests p is = ap (λ b. if b then p else learnt p (learnt_for p.face.guest.addr guests)) is
+pub learnt_same : (guests : List (Ip4 × Mac)) (p : Splice) → is_some p.mac ≡ true → learnt_from guests p ≡ p
+learnt_same guests p is = ap (λ b. if b then p else learnt p (learnt_for p.face.guest.addr guests)) is
 
-pub taught_is : (guests : List (Ip4 × Mac)) (p : Splice) → is_some p.mac ≡ false → taught guests p ≡ learnt p (learnt_for p.face.guest.addr guests)
-taught_is guests p is = ap (λ b. if b then p else learnt p (learnt_for p.face.guest.addr guests)) is
+pub learnt_is : (guests : List (Ip4 × Mac)) (p : Splice) → is_some p.mac ≡ false → learnt_from guests p ≡ learnt p (learnt_for p.face.guest.addr guests)
+learnt_is guests p is = ap (λ b. if b then p else learnt p (learnt_for p.face.guest.addr guests)) is
 
 -- one that seeks has a place, and doesn't know it
 pub seeking_is : (p : Splice) → is_seeking p ≡ true → (p.place ≡ Empty → ⊥) × (is_some p.mac ≡ false)
@@ -101,8 +99,8 @@ some_is : (m : Option Mac) → m ≡ None → is_some m ≡ false
 some_is m is = ap is_some is
 
 -- it goes on as it will
-pub taught_moves : (p : Splice) (m : Option Mac) → Moves false p (learnt p m)
-taught_moves p m = record { face = refl; shut = λ was. was; place = stays p.place }
+pub learnt_moves : (p : Splice) (m : Option Mac) → Moves false p (learnt p m)
+learnt_moves p m = record { face = refl; shut = λ was. was; place = stays p.place }
   where
     stays : (x : Place) → MovesAt false x x
     stays Empty = refl
@@ -124,13 +122,13 @@ pub slot_part : (parts : List Splice) (seen : List (Option Splice)) → map part
 slot_part parts seen are k fits = has_at parts k (subst (λ n. k < n) (sym (sym (length-map parts part_of) ∙ ap (λ (l : List (Option Splice)). length l) are)) fits)
 
 -- what is seen of one that doesn't seek stays as it is
-pub unsought : (guests : List (Ip4 × Mac)) (p : Splice) → is_seeking p ≡ false → option_map (taught guests) (part_of p) ≡ part_of p
+pub unsought : (guests : List (Ip4 × Mac)) (p : Splice) → is_seeking p ≡ false → option_map (learnt_from guests) (part_of p) ≡ part_of p
 unsought guests p none = by p.place refl
   where
-    by : (x : Place) → p.place ≡ x → option_map (taught guests) (part_at x p) ≡ part_at x p
+    by : (x : Place) → p.place ≡ x → option_map (learnt_from guests) (part_at x p) ≡ part_at x p
     by Empty at = refl
-    by InUse at = ap Some (taught_same guests p (sought_is p none (λ is. cc (sym at ∙ is))))
-    by (Resting since) at = ap Some (taught_same guests p (sought_is p none (λ is. cc (sym at ∙ is))))
+    by InUse at = ap Some (learnt_same guests p (sought_is p none (λ is. cc (sym at ∙ is))))
+    by (Resting since) at = ap Some (learnt_same guests p (sought_is p none (λ is. cc (sym at ∙ is))))
 
 -- ---- how many seek
 
@@ -153,47 +151,47 @@ idle_seeks parts none = count_none is_seeking parts (λ k p here. by k p here p.
 -- ---- all flows
 
 -- where each knows it nothing is to be told
-pub taught_all : (guests : List (Ip4 × Mac)) (parts : List (Option Splice)) → ((k : ℕ) (p : Splice) → slice_get parts k ≡ Some (Some p) → is_some p.mac ≡ true) → AreTaught guests parts parts
-taught_all guests parts each = record {
-  all = λ k p here. here ∙ ap (λ (x : Splice). Some (Some x)) (sym (taught_same guests p (each k p here)));
-  only = λ k q here. (q, here, sym (taught_same guests q (each k q here)));
+pub learnt_all : (guests : List (Ip4 × Mac)) (parts : List (Option Splice)) → ((k : ℕ) (p : Splice) → slice_get parts k ≡ Some (Some p) → is_some p.mac ≡ true) → HaveLearnt guests parts parts
+learnt_all guests parts each = record {
+  all = λ k p here. here ∙ ap (λ (x : Splice). Some (Some x)) (sym (learnt_same guests p (each k p here)));
+  only = λ k q here. (q, here, sym (learnt_same guests q (each k q here)));
 }
 
-module _ (guests : List (Ip4 × Mac)) (old new : List (Option Splice)) (are : AreTaught guests old new) where
+module _ (guests : List (Ip4 × Mac)) (old new : List (Option Splice)) (are : HaveLearnt guests old new) where
   -- each knows then what is known
-  pub taught_told : AreTold guests new
-  taught_told k q here none =
+  pub learnt_told : AreTold guests new
+  learnt_told k q here none =
       let had = are.only k q here in
       let p : Splice = had.0 in
-      let addr = ap (λ (x : Splice). x.face.guest.addr) had.2 ∙ taught_keeps (λ (x : Splice). x.face.guest.addr) (λ x m. refl) guests p in
+      let addr = ap (λ (x : Splice). x.face.guest.addr) had.2 ∙ learnt_keeps (λ (x : Splice). x.face.guest.addr) (λ x m. refl) guests p in
       ap (λ a. learnt_for a guests) addr ∙ by p (is_some p.mac) refl (sym (ap (λ (x : Splice). x.mac) had.2) ∙ none)
     where
       known_none : (m had : Option Mac) → or_known m had ≡ None → m ≡ None
       known_none None had is = refl
       known_none (Some x) had is = absurd (none_some (sym is))
 
-      by : (p : Splice) (b : Bool) → is_some p.mac ≡ b → (taught guests p).mac ≡ None → learnt_for p.face.guest.addr guests ≡ None
-      by p true is none = absurd (true_false (sym is ∙ ap is_some (sym (ap (λ (x : Splice). x.mac) (taught_same guests p is)) ∙ none)))
-      by p false is none = known_none (learnt_for p.face.guest.addr guests) p.mac (sym (ap (λ (x : Splice). x.mac) (taught_is guests p is)) ∙ none)
+      by : (p : Splice) (b : Bool) → is_some p.mac ≡ b → (learnt_from guests p).mac ≡ None → learnt_for p.face.guest.addr guests ≡ None
+      by p true is none = absurd (true_false (sym is ∙ ap is_some (sym (ap (λ (x : Splice). x.mac) (learnt_same guests p is)) ∙ none)))
+      by p false is none = known_none (learnt_for p.face.guest.addr guests) p.mac (sym (ap (λ (x : Splice). x.mac) (learnt_is guests p is)) ∙ none)
 
-  taught_open : (k : ℕ) (q : Splice) (at : IsOpenAt new k q) → IsOpenAt old k (are.only k q at.here).0
-  taught_open k q at =
+  learnt_open : (k : ℕ) (q : Splice) (at : IsOpenAt new k q) → IsOpenAt old k (are.only k q at.here).0
+  learnt_open k q at =
       let had = are.only k q at.here in
-      record { here = had.1; open_yet = sym (taught_keeps is_open (λ x m. refl) guests had.0) ∙ ap is_open (sym had.2) ∙ at.open_yet }
+      record { here = had.1; open_yet = sym (learnt_keeps is_open (λ x m. refl) guests had.0) ∙ ap is_open (sym had.2) ∙ at.open_yet }
 
-  taught_number : (k : ℕ) (q : Splice) (at : IsOpenAt new k q) → number_of (are.only k q at.here).0 ≡ number_of q
-  taught_number k q at = let had = are.only k q at.here in sym (taught_keeps number_of (λ x m. refl) guests had.0) ∙ ap number_of (sym had.2)
+  learnt_number : (k : ℕ) (q : Splice) (at : IsOpenAt new k q) → number_of (are.only k q at.here).0 ≡ number_of q
+  learnt_number k q at = let had = are.only k q at.here in sym (learnt_keeps number_of (λ x m. refl) guests had.0) ∙ ap number_of (sym had.2)
 
   -- one that was in time is so then, and one that owed no acknowledgement owes none
-  pub taught_in_time : (now n : ℕ) → IsInTime now old n → IsInTime now new n
-  taught_in_time now n early k q at named =
+  pub learnt_in_time : (now n : ℕ) → IsInTime now old n → IsInTime now new n
+  learnt_in_time now n early k q at named =
       let had = are.only k q at.here in
-      subst (λ c. IsAhead c now) (sym (ap (λ (x : Splice). x.conn) had.2 ∙ taught_keeps (λ (x : Splice). x.conn) (λ x m. refl) guests had.0)) (early k had.0 (taught_open k q at) (taught_number k q at ∙ named))
+      subst (λ c. IsAhead c now) (sym (ap (λ (x : Splice). x.conn) had.2 ∙ learnt_keeps (λ (x : Splice). x.conn) (λ x m. refl) guests had.0)) (early k had.0 (learnt_open k q at) (learnt_number k q at ∙ named))
 
-  pub taught_calm : (n : ℕ) → OwesNoAck old n → OwesNoAck new n
-  taught_calm n calm k q at named =
+  pub learnt_calm : (n : ℕ) → OwesNoAck old n → OwesNoAck new n
+  learnt_calm n calm k q at named =
       let had = are.only k q at.here in
-      ap (λ (x : Splice). x.conn.ack_owed) had.2 ∙ taught_keeps (λ (x : Splice). x.conn.ack_owed) (λ x m. refl) guests had.0 ∙ calm k had.0 (taught_open k q at) (taught_number k q at ∙ named)
+      ap (λ (x : Splice). x.conn.ack_owed) had.2 ∙ learnt_keeps (λ (x : Splice). x.conn.ack_owed) (λ x m. refl) guests had.0 ∙ calm k had.0 (learnt_open k q at) (learnt_number k q at ∙ named)
 
 -- ---- the flow of a slot has changed, and knows its guest's address as before
 
@@ -274,7 +272,7 @@ told_at guests parts seen are waits waits_are k fits w read seeks d q here place
     let found = slot_part parts seen are k fits in
     let p : Splice = found.0 in
     let is : d ≡ p = read_here parts k p d found.1 here in
-    let wait : w ≡ waits_of p = waits_seen k p w (ap (λ (l : List Waits). slice_get l k) waits_are ∙ get_map waits_of parts k p found.1) read in
+    let wait : w ≡ waits_of p = waits_seen waits k p w (ap (λ (l : List Waits). slice_get l k) waits_are ∙ get_map waits_of parts k p found.1) read in
     let seeking : is_seeking p ≡ true = sym (ap (λ (x : Waits). x.mac) wait) ∙ seeks in
     let then_is : q ≡ learnt p (learnt_for p.face.guest.addr guests) =
     q_is ∙ ap (learnt d) (mac_is ∙ ap (λ (e : Endpoint). learnt_for e.addr guests) guest_is) ∙ ap (λ (x : Splice). learnt x (learnt_for x.face.guest.addr guests)) is in
@@ -286,7 +284,7 @@ told_at guests parts seen are waits waits_are k fits w read seeks d q here place
       q_is = then_is;
       place_is = place_is ∙ ap (λ (x : Splice). x.place) is;
       open_is = open_is ∙ ap is_open is;
-      moves = subst (Moves false p) (sym then_is) (taught_moves p (learnt_for p.face.guest.addr guests));
+      moves = subst (Moves false p) (sym then_is) (learnt_moves p (learnt_for p.face.guest.addr guests));
     }
 
 -- one after another
@@ -296,35 +294,35 @@ learns_then guests old mid new one two config now aged past known_is between = t
 -- ---- one slot after another
 
 -- those below this one were told, the others stand as they stood
-pub record AreTaughtBelow (guests : List (Ip4 × Mac)) (bound : ℕ) (old new : List (Option Splice)) : Type 0 where
-  pub below : (k : ℕ) → k < bound → slice_get new k ≡ option_map (option_map (taught guests)) (slice_get old k)
+pub record HaveLearntBelow (guests : List (Ip4 × Mac)) (bound : ℕ) (old new : List (Option Splice)) : Type 0 where
+  pub below : (k : ℕ) → k < bound → slice_get new k ≡ option_map (option_map (learnt_from guests)) (slice_get old k)
   pub rest : (k : ℕ) → bound ≤ k → slice_get new k ≡ slice_get old k
 
-pub taught_none_yet : (guests : List (Ip4 × Mac)) (parts : List (Option Splice)) → AreTaughtBelow guests 0 parts parts
-taught_none_yet guests parts = record { below = λ k less. absurd (omega (arith, less)); rest = λ k most. refl }
+pub learnt_none_yet : (guests : List (Ip4 × Mac)) (parts : List (Option Splice)) → HaveLearntBelow guests 0 parts parts
+learnt_none_yet guests parts = record { below = λ k less. absurd (omega (arith, less)); rest = λ k most. refl }
 
-pub taught_next : (guests : List (Ip4 × Mac)) (bound : ℕ) (old mid new : List (Option Splice)) (x : Option Splice) → slice_get mid bound ≡ Some x → new ≡ set mid bound (option_map (taught guests) x)
-    → AreTaughtBelow guests bound old mid → AreTaughtBelow guests (bound + 1) old new
-taught_next guests bound old mid new x at is are = subst (AreTaughtBelow guests (bound + 1) old) (sym is) (record {
+pub learnt_next : (guests : List (Ip4 × Mac)) (bound : ℕ) (old mid new : List (Option Splice)) (x : Option Splice) → slice_get mid bound ≡ Some x → new ≡ set mid bound (option_map (learnt_from guests) x)
+    → HaveLearntBelow guests bound old mid → HaveLearntBelow guests (bound + 1) old new
+learnt_next guests bound old mid new x at is are = subst (HaveLearntBelow guests (bound + 1) old) (sym is) (record {
   below = λ k less. elim (same_or_not k bound) [
     | inl here ↦
-        ap (slice_get (set mid bound (option_map (taught guests) x))) here ∙ get_set_at mid bound x (option_map (taught guests) x) at
-        ∙ ap (option_map (option_map (taught guests))) (sym at ∙ are.rest bound (omega arith) ∙ ap (slice_get old) (sym here))
-    | inr other ↦ get_set_other mid bound k (option_map (taught guests) x) (differ k bound other) ∙ are.below k (lower k (differ k bound other) less)
+        ap (slice_get (set mid bound (option_map (learnt_from guests) x))) here ∙ get_set_at mid bound x (option_map (learnt_from guests) x) at
+        ∙ ap (option_map (option_map (learnt_from guests))) (sym at ∙ are.rest bound (omega arith) ∙ ap (slice_get old) (sym here))
+    | inr other ↦ get_set_other mid bound k (option_map (learnt_from guests) x) (differ k bound other) ∙ are.below k (lower k (differ k bound other) less)
   ];
-  rest = λ k most. get_set_other mid bound k (option_map (taught guests) x) (λ same. omega (arith, most, same)) ∙ are.rest k (omega (arith, most));
+  rest = λ k most. get_set_other mid bound k (option_map (learnt_from guests) x) (λ same. omega (arith, most, same)) ∙ are.rest k (omega (arith, most));
 })
   where
     lower : (k : ℕ) → (k ≡ bound → ⊥) → k < bound + 1 → k < bound
     lower k not less = grind (arith, not, less)
 
-pub taught_whole : (guests : List (Ip4 × Mac)) (bound : ℕ) (old new : List (Option Splice)) → length old ≤ bound → length new ≤ bound → AreTaughtBelow guests bound old new → AreTaught guests old new
-taught_whole guests bound old new few many are = record {
-  all = λ k p here. let within = slice_get_within old k (Some p) here in are.below k (omega (arith, within, few)) ∙ ap (option_map (option_map (taught guests))) here;
+pub learnt_whole : (guests : List (Ip4 × Mac)) (bound : ℕ) (old new : List (Option Splice)) → length old ≤ bound → length new ≤ bound → HaveLearntBelow guests bound old new → HaveLearnt guests old new
+learnt_whole guests bound old new few many are = record {
+  all = λ k p here. let within = slice_get_within old k (Some p) here in are.below k (omega (arith, within, few)) ∙ ap (option_map (option_map (learnt_from guests))) here;
   only = λ k q here. let within = slice_get_within new k (Some q) here in by k q (slice_get old k) refl (sym (are.below k (omega (arith, within, many))) ∙ here);
 }
   where
-    by : (k : ℕ) (q : Splice) (o : Option (Option Splice)) → slice_get old k ≡ o → option_map (option_map (taught guests)) o ≡ Some (Some q) → (p : Splice) × (slice_get old k ≡ Some (Some p)) × (q ≡ taught guests p)
+    by : (k : ℕ) (q : Splice) (o : Option (Option Splice)) → slice_get old k ≡ o → option_map (option_map (learnt_from guests)) o ≡ Some (Some q) → (p : Splice) × (slice_get old k ≡ Some (Some p)) × (q ≡ learnt_from guests p)
     by k q None at is = absurd (none_some is)
     by k q (Some None) at is = absurd (none_some (some_same None (Some q) is))
-    by k q (Some (Some p)) at is = (p, at, sym (some_same (taught guests p) q (some_same (Some (taught guests p)) (Some q) is)))
+    by k q (Some (Some p)) at is = (p, at, sym (some_same (learnt_from guests p) q (some_same (Some (learnt_from guests p)) (Some q) is)))

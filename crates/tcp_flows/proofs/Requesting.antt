@@ -10,7 +10,7 @@ use Rattle.host_policy.specs.Addresses.{Config}
 use Rattle.flow_laws.specs.Event.{Arrives, Story}
 use Rattle.flow_laws.specs.Settings.{Settings}
 use Rattle.flow_book.specs.Book.{book, scene, turned}
-use Rattle.flow_book.specs.Doings.{Comes, Doing, doing, doing_by, goes, seeks}
+use Rattle.flow_book.specs.Doings.{Comes, Doing, doing, doing_by, goes}
 use Rattle.flow_book.specs.Flows.{is_on, with_event}
 use Rattle.flow_book.specs.Segments.{OnTuple, asked_in, segment_in}
 use Rattle.slirp_laws.specs.Answers.{is_first, left}
@@ -51,11 +51,11 @@ both false b is = absurd cc
 
 frames_both : (later first : List Entry) → has_frame later ≡ false → has_frame first ≡ false → has_frame (later ++ first) ≡ false
 frames_both [] first none is = is
-frames_both (e ∷ later) first none is = by (is_frame e) none
+frames_both (e ∷ later) first none is = by (is_frame e) none (λ rest. frames_both later first rest is)
   where
-    by : (b : Bool) → (b || has_frame later) ≡ false → (b || has_frame (later ++ first)) ≡ false
-    by true none = absurd cc
-    by false none = frames_both later first none is
+    by : (b : Bool) → (b || has_frame later) ≡ false → (has_frame later ≡ false → has_frame (later ++ first) ≡ false) → (b || has_frame (later ++ first)) ≡ false
+    by true none go_on = absurd cc
+    by false none go_on = go_on none
 
 abbrev None_of : List Entry → Type 0
 None_of made = has_frame made ≡ false

@@ -1,5 +1,5 @@
 -- Whether a slot in use has two ends, and what becomes of one that rests on them.
-use Rattle.std.proofs.Common.{refl, ◌≡◌, ℕ, Bool, true, false, List, length, Some, None, Option, option_and_then, slice_get, ap, sym, ◌∙◌, subst}
+use Rattle.std.proofs.Common.{refl, ◌≡◌, ℕ, Bool, true, false, List, length, Some, None, Option, option_and_then, slice_get, ap, sym, ◌∙◌}
 use Rattle.world_face.specs.Journal.{Call, Entry}
 use Rattle.host_policy.specs.Addresses.{Config}
 use Rattle.run_laws.specs.Sockets.{next_number}

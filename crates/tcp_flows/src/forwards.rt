@@ -26,7 +26,7 @@ impl TcpFlows {
     ghost use Rattle.spliced_flows.specs.Core.{CoreHolds, number_of};
     ghost use Rattle.std.specs.Prelude.{Bool, Option};
     ghost use Rattle.tcp_flows.specs.Kept.{with_flows};
-    ghost use Rattle.tcp_flows.specs.Reading.{AreTaught, AreTold, NoneInSlots, NoneUses, Stays, taught};
+    ghost use Rattle.tcp_flows.specs.Reading.{HaveLearnt, AreTold, NoneInSlots, NoneUses, Stays, learnt_from};
     ghost use Rattle.tcp_flows.specs.Runs.{Learns, MakesWay, Welcomes};
     ghost use Rattle.tcp_flows.specs.Settled.{IsInTime, OwesNoAck};
     ghost use Rattle.world_face.specs.Journal.{Call, Entry};
@@ -34,7 +34,7 @@ impl TcpFlows {
     /// Flows that don't know their guest's hardware address are told it where it is known, and may owe a frame from then on. No flow is looked at where each knows it.
     pub fn learn(&mut self, guests: &ArpTable)
         ensures learns { Learns guests.now self.old self.new }
-        ensures taught { AreTaught guests.now self.old.flows.parts self.new.flows.parts }
+        ensures learnt { HaveLearnt guests.now self.old.flows.parts self.new.flows.parts }
         ensures told { AreTold guests.now self.new.flows.parts }
         ensures idle { NoneInSlots self.old.flows.parts → self.new ≡ self.old }
         // A flow that was in time is so then, and one that owed no acknowledgement owes none.
@@ -52,7 +52,7 @@ impl TcpFlows {
     // Each slot's flow is told its guest's hardware address, where it doesn't know it.
     fn learn_all(&mut self, guests: &ArpTable)
         ensures learns { Learns guests.now self.old self.new }
-        ensures taught { AreTaught guests.now self.old.flows.parts self.new.flows.parts }
+        ensures learnt { HaveLearnt guests.now self.old.flows.parts self.new.flows.parts }
         ensures stays { Stays self.old self.new }
         ensures same { self.new ≡ with_flows self.new.flows self.new.owing self.old }
     {
@@ -65,7 +65,7 @@ impl TcpFlows {
     fn learn_slot(&mut self, slot: usize, guests: &ArpTable)
         requires slot { slot < length self.old.flows.parts }
         ensures learns { Learns guests.now self.old self.new }
-        ensures parts { (x : Option Splice) → slice_get self.old.flows.parts slot ≡ Some x → self.new.flows.parts ≡ slice_set self.old.flows.parts slot (option_map (taught guests.now) x) }
+        ensures parts { (x : Option Splice) → slice_get self.old.flows.parts slot ≡ Some x → self.new.flows.parts ≡ slice_set self.old.flows.parts slot (option_map (learnt_from guests.now) x) }
         ensures stays { Stays self.old self.new }
         ensures same { self.new ≡ with_flows self.new.flows self.new.owing self.old }
     {

@@ -1,13 +1,10 @@
-use Rattle.std.proofs.Common.{refl, ◌≡◌, ◌+◌, ◌-◌, ◌<◌, ◌^◌, ℕ, [], ◌⊎◌, inl, inr, Some, slice_get, length, ap, sym, ◌∙◌, subst}
+use Rattle.std.proofs.Common.{◌≡◌, ◌+◌, ◌-◌, ◌<◌, [], inl, inr, length, ap, sym, ◌∙◌, subst}
 use Rattle.core_flows.specs.Seats.{in_use_slots}
 use Rattle.sock_buffers.specs.Downward.{downward}
 use Rattle.sock_buffers.specs.Upward.{empty}
-use Rattle.tcp_guest.specs.Connection.{Connection, HasBuffers, to_guest}
+use Rattle.tcp_guest.specs.Connection.{HasBuffers, to_guest}
 use Rattle.flow_laws.specs.Flow.{first_number}
-use Rattle.flow_table.specs.Slots.{NoneHas}
 use Rattle.host_policy.specs.Addresses.{Config}
-use Rattle.flow_splice.specs.Splice.{Splice}
-use Rattle.spliced_flows.specs.Core.{number_of}
 use Rattle.tcp_flows.specs.Kept.{IsFor, Kept}
 use Rattle.tcp_flows.specs.Runs.{Welcomes}
 use Rattle.tcp_flows.proofs.Joining.{welcomes_again, welcomes_of}

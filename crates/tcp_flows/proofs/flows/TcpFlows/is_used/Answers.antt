@@ -1,7 +1,8 @@
-use Rattle.std.proofs.Common.{refl, ◌≡◌, Bool, length, map, Some, slice_get, arith, ap, sym, ◌∙◌, subst}
+use Rattle.std.proofs.Common.{◌≡◌, length, Some, slice_get, arith, ap, sym, ◌∙◌, subst}
 use Rattle.std.proofs.lemmas.List.{length-map}
 use Rattle.std.proofs.lemmas.Option.{slice_get_within}
-use Rattle.flow_table.specs.Slots.{HasTuple, NoneHas}
+use Rattle.flow_table.specs.Slots.{NoneHas}
+use Rattle.flow_table.specs.declared.Slot.TheVariants.{InUse as SlotInUse}
 use Rattle.flow_table.specs.declared.Tuple.{Tuple}
 use Rattle.flow_splice.specs.Splice.{Splice, is_in_use}
 use Rattle.spliced_flows.specs.Stands.{slot_at}
@@ -36,7 +37,7 @@ returns-clause-used c is =
     let read = read_here parts c.in-Some.slot back.0 c.index.result.now back.1 c.index.ensures in
     let slot = slot_raw table parts c.self.invariant.0.slots_are c.in-Some.slot back.0 back.1 ∙ ap (λ (t : Tuple). Some (slot_at back.0.place t)) back.3 in
     let used = sym (ap (λ (x : Splice). is_in_use x.place) read) ∙ sym (ap is_in_use c.place.ensures) ∙ sym c.is_in_use.ensures ∙ is in
-    (c.in-Some.slot, subst (λ (s : Kept). slice_get s.flows.table.slots c.in-Some.slot ≡ _) c.self.view_is (use_found table.slots c.args.ends.now c.in-Some.slot back.0.place slot used))
+    (c.in-Some.slot, subst (λ (s : Kept). slice_get s.flows.table.slots c.in-Some.slot ≡ Some (SlotInUse c.args.ends.now)) c.self.view_is (use_found table.slots c.args.ends.now c.in-Some.slot back.0.place slot used))
 
 pub returns-clause-unused : goal.returns-clause-unused
 returns-clause-unused c is =

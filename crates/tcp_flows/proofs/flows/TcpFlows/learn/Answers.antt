@@ -1,41 +1,28 @@
-use Rattle.std.proofs.Common.{refl, ◌≡◌, ap, sym, ◌∙◌, subst, arith}
+use Rattle.std.proofs.Common.{sym, ◌∙◌, subst}
 use Rattle.tcp_flows.specs.Kept.{Kept}
-use Rattle.tcp_flows.specs.Reading.{AreTaught, NoneInSlots}
-use Rattle.tcp_flows.proofs.Learning.{idle_seeks, none_seeks, taught_all, taught_calm, taught_in_time, taught_told}
-use Rattle.tcp_flows.proofs.Staying.{stays_same}
+use Rattle.tcp_flows.specs.Reading.{HaveLearnt, NoneInSlots}
+use Rattle.tcp_flows.proofs.Learning.{idle_seeks, none_seeks, learnt_all, learnt_calm, learnt_in_time, learnt_told}
 use Rattle.tcp_flows.proofs.flows.TcpFlows.learn.Goals as goal
 
-pub returns-then-seeking-clause-learns : goal.returns-then-seeking-clause-learns
-returns-then-seeking-clause-learns c config now aged past is between = between
-
-pub returns-then-seeking-clause-taught : goal.returns-then-seeking-clause-taught
-returns-then-seeking-clause-taught c =
+pub returns-then-self-eq0-clause-learnt : goal.returns-then-self-eq0-clause-learnt
+returns-then-self-eq0-clause-learnt c =
     let are = c.self.invariant.0.seeking_are in
-    subst (λ (s : Kept). AreTaught c.args.guests.now s.flows.parts s.flows.parts) c.self.view_is
-    (taught_all c.args.guests.now _ (none_seeks c.self.inside.parts.items (sym are ∙ c.if-seeking-eq0.true)))
+    subst (λ (s : Kept). HaveLearnt c.args.guests.now s.flows.parts s.flows.parts) c.self.view_is
+    (learnt_all c.args.guests.now _ (none_seeks c.self.inside.parts.items (sym are ∙ c.if-self-eq0.true)))
 
-pub returns-then-seeking-clause-told : goal.returns-then-seeking-clause-told
-returns-then-seeking-clause-told c = taught_told c.args.guests.now c.args.self.now.flows.parts c.args.self.now.flows.parts (returns-then-seeking-clause-taught c)
-
-pub returns-then-seeking-clause-ahead : goal.returns-then-seeking-clause-ahead
-returns-then-seeking-clause-ahead c now n early = early
-
-pub returns-then-seeking-clause-calm : goal.returns-then-seeking-clause-calm
-returns-then-seeking-clause-calm c n calm = calm
-
-pub returns-then-seeking-clause-stays : goal.returns-then-seeking-clause-stays
-returns-then-seeking-clause-stays c = stays_same c.args.self.now
+pub returns-then-self-eq0-clause-told : goal.returns-then-self-eq0-clause-told
+returns-then-self-eq0-clause-told c = learnt_told c.args.guests.now c.args.self.now.flows.parts c.args.self.now.flows.parts (returns-then-self-eq0-clause-learnt c)
 
 pub returns-clause-told : goal.returns-clause-told
-returns-clause-told c = taught_told c.args.guests.now c.args.self.now.flows.parts c.learn_all.new.self.flows.parts c.learn_all.ensures.taught
+returns-clause-told c = learnt_told c.args.guests.now c.args.self.now.flows.parts c.learn_all.new.self.flows.parts c.learn_all.ensures.learnt
 
 pub returns-clause-idle : goal.returns-clause-idle
 returns-clause-idle c none =
     let are = c.self.invariant.0.seeking_are in
-    absurd (c.if-seeking-eq0.false (are ∙ idle_seeks c.self.inside.parts.items (subst (λ (s : Kept). NoneInSlots s.flows.parts) (sym c.self.view_is) none)))
+    absurd (c.if-self-eq0.false (are ∙ idle_seeks c.self.inside.parts.items (subst (λ (s : Kept). NoneInSlots s.flows.parts) (sym c.self.view_is) none)))
 
 pub returns-clause-ahead : goal.returns-clause-ahead
-returns-clause-ahead c = taught_in_time c.args.guests.now c.args.self.now.flows.parts c.learn_all.new.self.flows.parts c.learn_all.ensures.taught
+returns-clause-ahead c = learnt_in_time c.args.guests.now c.args.self.now.flows.parts c.learn_all.new.self.flows.parts c.learn_all.ensures.learnt
 
 pub returns-clause-calm : goal.returns-clause-calm
-returns-clause-calm c = taught_calm c.args.guests.now c.args.self.now.flows.parts c.learn_all.new.self.flows.parts c.learn_all.ensures.taught
+returns-clause-calm c = learnt_calm c.args.guests.now c.args.self.now.flows.parts c.learn_all.new.self.flows.parts c.learn_all.ensures.learnt

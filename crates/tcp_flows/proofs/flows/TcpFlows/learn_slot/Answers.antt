@@ -1,4 +1,4 @@
-use Rattle.std.proofs.Common.{refl, ◌≡◌, List, Option, map, set, option_map, Some, slice_get, arith, ap, sym, ◌∙◌, subst}
+use Rattle.std.proofs.Common.{refl, false, List, Option, map, set, option_map, Some, slice_get, arith, ap, sym, ◌∙◌}
 use Rattle.std.proofs.lemmas.List.{length-set, map-set}
 use Rattle.std.proofs.lemmas.Option.{slice_get_within}
 use Rattle.tcp_transmit.specs.Transmission.{octets_read}
@@ -6,20 +6,20 @@ use Rattle.flow_splice.specs.Splice.{Splice}
 use Rattle.spliced_flows.specs.Core.{ends_of}
 use Rattle.spliced_flows.proofs.Options.{some_same}
 use Rattle.tcp_flows.specs.Kept.{Kept, part_of}
-use Rattle.tcp_flows.specs.Reading.{taught}
+use Rattle.tcp_flows.specs.Reading.{learnt_from}
 use Rattle.tcp_flows.specs.Rows.{table_at}
 use Rattle.tcp_flows.specs.declared.rows.Waits.{Waits}
 use Rattle.tcp_flows.proofs.Changing.{in_waits, waits_here, waits_seen}
 use Rattle.tcp_flows.proofs.Following.{has_tuple}
 use Rattle.tcp_flows.proofs.Keeping.{flows_as, ours_then, served_same, settings_as, slot_raw, table_is}
-use Rattle.tcp_flows.proofs.Learning.{learns_of, none_is, seeking_is, slot_part, table_stays, taught_is, told_at, unsought}
+use Rattle.tcp_flows.proofs.Learning.{learns_of, seeking_is, slot_part, table_stays, learnt_is, told_at, unsought}
 use Rattle.tcp_flows.proofs.Lists.{get_map, set_same}
 use Rattle.tcp_flows.proofs.Seated.{part_is}
 use Rattle.tcp_flows.proofs.Staying.{stays_same, stays_set}
 use Rattle.tcp_flows.proofs.flows.TcpFlows.learn_slot.Goals as goal
 
-pub index-seeks-requires : goal.index-seeks-requires
-index-seeks-requires c =
+pub index-requires : goal.index-requires
+index-requires c =
     let parts = c.self.inside.parts.items in
     let at = slot_part parts _ (ap (λ (s : Kept). s.flows.parts) c.self.view_is) c.args.slot c.requires.slot in
     let within = in_waits parts _ _ _ _ _ _ _ _ c.self.invariant.0 c.args.slot at.0 at.1 in
@@ -33,10 +33,10 @@ returns-then-not-seeks-clause-parts c x here =
     let parts = c.self.inside.parts.items in
     let view = ap (λ (s : Kept). s.flows.parts) c.self.view_is in
     let at = slot_part parts _ view c.args.slot c.requires.slot in
-    let seen = waits_seen c.args.slot at.0 c.index-seeks.result.now (waits_here parts _ _ _ _ _ _ _ _ c.self.invariant.0 c.args.slot at.0 at.1) c.index-seeks.ensures in
+    let seen = waits_seen _ c.args.slot at.0 c.index.result.now (waits_here parts _ _ _ _ _ _ _ _ c.self.invariant.0 c.args.slot at.0 at.1) c.index.ensures in
     let none = sym (ap (λ (w : Waits). w.mac) seen) ∙ c.if-not-seeks.true in
     let x_is = some_same x (part_of at.0) (sym here ∙ sym (ap (λ (l : List (Option Splice)). slice_get l c.args.slot) view) ∙ get_map part_of parts c.args.slot at.0 at.1) in
-    sym (set_same c.args.self.now.flows.parts c.args.slot (option_map (taught c.args.guests.now) x) (here ∙ ap Some (x_is ∙ sym (unsought c.args.guests.now at.0 none) ∙ ap (option_map (taught c.args.guests.now)) (sym x_is))))
+    sym (set_same c.args.self.now.flows.parts c.args.slot (option_map (learnt_from c.args.guests.now) x) (here ∙ ap Some (x_is ∙ sym (unsought c.args.guests.now at.0 none) ∙ ap (option_map (learnt_from c.args.guests.now)) (sym x_is))))
 
 pub returns-then-not-seeks-clause-stays : goal.returns-then-not-seeks-clause-stays
 returns-then-not-seeks-clause-stays c = stays_same c.args.self.now
@@ -53,7 +53,7 @@ follow-requires-clause-some c =
     let parts = c.self.inside.parts.items in
     let view = ap (λ (s : Kept). s.flows.parts) c.self.view_is in
     let is =
-    told_at c.args.guests.now parts _ view c.self.inside.rows.waits.items c.self.invariant.0.waits_are c.args.slot c.requires.slot c.index-seeks.result.now c.index-seeks.ensures c.if-not-seeks.false c.index_mut-part.result.now c.learn.new.self
+    told_at c.args.guests.now parts _ view c.self.inside.rows.waits.items c.self.invariant.0.waits_are c.args.slot c.requires.slot c.index.result.now c.index.ensures c.if-not-seeks.false c.index_mut-part.result.now c.learn.new.self
     c.index_mut-part.ensures.value c.of-before.result.place c.of-before.ensures.place c.of-before.result.is_open c.of-before.ensures.open c.guest.result c.guest.ensures c.find-mac.result c.find-mac.ensures c.learn.ensures in
     λ empty. is.some (sym is.place_is ∙ empty)
 
@@ -62,7 +62,7 @@ follow-requires-clause-rows c =
     let parts = c.self.inside.parts.items in
     let view = ap (λ (s : Kept). s.flows.parts) c.self.view_is in
     let is =
-    told_at c.args.guests.now parts _ view c.self.inside.rows.waits.items c.self.invariant.0.waits_are c.args.slot c.requires.slot c.index-seeks.result.now c.index-seeks.ensures c.if-not-seeks.false c.index_mut-part.result.now c.learn.new.self
+    told_at c.args.guests.now parts _ view c.self.inside.rows.waits.items c.self.invariant.0.waits_are c.args.slot c.requires.slot c.index.result.now c.index.ensures c.if-not-seeks.false c.index_mut-part.result.now c.learn.new.self
     c.index_mut-part.ensures.value c.of-before.result.place c.of-before.ensures.place c.of-before.result.is_open c.of-before.ensures.open c.guest.result c.guest.ensures c.find-mac.result c.find-mac.ensures c.learn.ensures in
     (parts, is.part, is.at, is.place_is, is.open_is, is.moves, c.self.invariant.0)
 
@@ -71,13 +71,13 @@ invariant_of-self c =
     let parts = c.self.inside.parts.items in
     let view = ap (λ (s : Kept). s.flows.parts) c.self.view_is in
     let is =
-    told_at c.args.guests.now parts _ view c.self.inside.rows.waits.items c.self.invariant.0.waits_are c.args.slot c.requires.slot c.index-seeks.result.now c.index-seeks.ensures c.if-not-seeks.false c.index_mut-part.result.now c.learn.new.self
+    told_at c.args.guests.now parts _ view c.self.inside.rows.waits.items c.self.invariant.0.waits_are c.args.slot c.requires.slot c.index.result.now c.index.ensures c.if-not-seeks.false c.index_mut-part.result.now c.learn.new.self
     c.index_mut-part.ensures.value c.of-before.result.place c.of-before.ensures.place c.of-before.result.is_open c.of-before.ensures.open c.guest.result c.guest.ensures c.find-mac.result c.find-mac.ensures c.learn.ensures in
     let q : Splice = c.learn.new.self in (
       c.follow.ensures.rows parts is.part is.at is.place_is is.open_is is.moves c.self.invariant.0,
       c.follow.ensures.room ∙ c.self.invariant.1 ∙ sym (length-set parts c.args.slot q),
       ours_then c.self.inside.sizes.ring c.self.inside.sizes.mru c.self.inside.sizes.vhost.0 parts c.self.invariant.2 c.args.slot is.part is.at q is.some
-          (ap (λ (x : Splice). x.up.size) is.q_is) (ap (λ (x : Splice). x.down.size) is.q_is) (ap (λ (x : Splice). x.mru) is.q_is) (λ none. none_is is.part.mac (seeking_is is.part is.seeks).1) (ap (λ (x : Splice). x.face) is.q_is),
+          (ap (λ (x : Splice). x.up.size) is.q_is) (ap (λ (x : Splice). x.down.size) is.q_is) (ap (λ (x : Splice). x.mru) is.q_is) (ap (λ (x : Splice). x.face) is.q_is),
       served_same c.self.inside.turn c.self.inside.served.items parts c.self.invariant.3 c.args.slot is.part is.at q is.some (ap (λ (x : Splice). x.up.written) is.q_is) (ap (λ (x : Splice). octets_read x.down) is.q_is),
       c.self.invariant.4,
       c.self.invariant.5,
@@ -88,7 +88,7 @@ returns-clause-learns c =
     let parts = c.self.inside.parts.items in
     let view = ap (λ (s : Kept). s.flows.parts) c.self.view_is in
     let is =
-    told_at c.args.guests.now parts _ view c.self.inside.rows.waits.items c.self.invariant.0.waits_are c.args.slot c.requires.slot c.index-seeks.result.now c.index-seeks.ensures c.if-not-seeks.false c.index_mut-part.result.now c.learn.new.self
+    told_at c.args.guests.now parts _ view c.self.inside.rows.waits.items c.self.invariant.0.waits_are c.args.slot c.requires.slot c.index.result.now c.index.ensures c.if-not-seeks.false c.index_mut-part.result.now c.learn.new.self
     c.index_mut-part.ensures.value c.of-before.result.place c.of-before.ensures.place c.of-before.result.is_open c.of-before.ensures.open c.guest.result c.guest.ensures c.find-mac.result c.find-mac.ensures c.learn.ensures in
     let q : Splice = c.learn.new.self in
     let table = c.self.inside.rows.table in
@@ -104,21 +104,21 @@ returns-clause-parts c x here =
     let parts = c.self.inside.parts.items in
     let view = ap (λ (s : Kept). s.flows.parts) c.self.view_is in
     let is =
-    told_at c.args.guests.now parts _ view c.self.inside.rows.waits.items c.self.invariant.0.waits_are c.args.slot c.requires.slot c.index-seeks.result.now c.index-seeks.ensures c.if-not-seeks.false c.index_mut-part.result.now c.learn.new.self
+    told_at c.args.guests.now parts _ view c.self.inside.rows.waits.items c.self.invariant.0.waits_are c.args.slot c.requires.slot c.index.result.now c.index.ensures c.if-not-seeks.false c.index_mut-part.result.now c.learn.new.self
     c.index_mut-part.ensures.value c.of-before.result.place c.of-before.ensures.place c.of-before.result.is_open c.of-before.ensures.open c.guest.result c.guest.ensures c.find-mac.result c.find-mac.ensures c.learn.ensures in
     let p : Splice = is.part in
     let q : Splice = c.learn.new.self in
     let x_is = some_same x (Some p) (sym here ∙ sym (ap (λ (l : List (Option Splice)). slice_get l c.args.slot) view) ∙ get_map part_of parts c.args.slot p is.at ∙ ap Some (part_is p is.some)) in
-    let told = is.q_is ∙ sym (taught_is c.args.guests.now p (seeking_is p is.seeks).1) in
+    let told = is.q_is ∙ sym (learnt_is c.args.guests.now p (seeking_is p is.seeks).1) in
     map-set part_of parts c.args.slot q
-    ∙ ap (set (map part_of parts) c.args.slot) (part_is q (λ empty. is.some (sym (ap (λ (y : Splice). y.place) is.q_is) ∙ empty)) ∙ ap Some told ∙ ap (option_map (taught c.args.guests.now)) (sym x_is))
-    ∙ ap (λ l. set l c.args.slot (option_map (taught c.args.guests.now) x)) view
+    ∙ ap (set (map part_of parts) c.args.slot) (part_is q (λ empty. is.some (sym (ap (λ (y : Splice). y.place) is.q_is) ∙ empty)) ∙ ap Some told ∙ ap (option_map (learnt_from c.args.guests.now)) (sym x_is))
+    ∙ ap (λ l. set l c.args.slot (option_map (learnt_from c.args.guests.now) x)) view
 
 pub returns-clause-stays : goal.returns-clause-stays
 returns-clause-stays c =
     let parts = c.self.inside.parts.items in
     let view = ap (λ (s : Kept). s.flows.parts) c.self.view_is in
     let is =
-    told_at c.args.guests.now parts _ view c.self.inside.rows.waits.items c.self.invariant.0.waits_are c.args.slot c.requires.slot c.index-seeks.result.now c.index-seeks.ensures c.if-not-seeks.false c.index_mut-part.result.now c.learn.new.self
+    told_at c.args.guests.now parts _ view c.self.inside.rows.waits.items c.self.invariant.0.waits_are c.args.slot c.requires.slot c.index.result.now c.index.ensures c.if-not-seeks.false c.index_mut-part.result.now c.learn.new.self
     c.index_mut-part.ensures.value c.of-before.result.place c.of-before.ensures.place c.of-before.result.is_open c.of-before.ensures.open c.guest.result c.guest.ensures c.find-mac.result c.find-mac.ensures c.learn.ensures in
     stays_set c.args.self.now _ parts c.args.slot is.part c.learn.new.self view is.at is.some (ap (λ (x : Splice). x.face) is.q_is) refl (ap (λ (s : Kept). s.flows.opened) c.self.view_is)

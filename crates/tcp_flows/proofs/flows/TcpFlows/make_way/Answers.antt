@@ -1,8 +1,8 @@
-use Rattle.std.proofs.Common.{refl, ◌≡◌, ℕ, inl, inr, ap, length, set, None, sym, ◌∙◌, subst}
+use Rattle.std.proofs.Common.{refl, ℕ, inl, inr, ap, length, sym, ◌∙◌, subst}
 use Rattle.std.proofs.lemmas.List.{length-set}
 use Rattle.core_flows.specs.Seats.{in_use_slots}
 use Rattle.core_flows.proofs.Waking.{used_woken}
-use Rattle.flow_table.specs.Slots.{AreKept, Flows, HasTuple, NoneHas, RestsSince, with_slot}
+use Rattle.flow_table.specs.Slots.{AreKept, Flows, HasTuple, NoneHas}
 use Rattle.flow_table.specs.declared.Slot.TheVariants.{Free}
 use Rattle.spliced_flows.proofs.Accepted.{none_left}
 use Rattle.tcp_flows.specs.Kept.{Kept}
