@@ -1,5 +1,5 @@
 -- What is waited for.
-use Rattle.std.proofs.Common.{◌≡◌, ℕ, zero, suc, ◌^◌, ◌<◌, ◌≤◌, ◌==◌, ◌&&◌, ◌||◌, not, nat_lt, Bool, true, false, IsTrue, List, [], ◌∷◌, ◌++◌, map, length, slice_get, Option, Some, refl, sym, ◌∙◌, ap, subst, append_assoc, arith}
+use Rattle.std.proofs.Common.{◌-◌, drop, take, take-append-drop, ◌≡◌, ℕ, zero, suc, ◌^◌, ◌<◌, ◌≤◌, ◌==◌, ◌&&◌, ◌||◌, not, nat_lt, Bool, true, false, IsTrue, List, [], ◌∷◌, ◌++◌, map, length, slice_get, Option, Some, refl, sym, ◌∙◌, ap, subst, append_assoc, arith}
 use Rattle.std.proofs.lemmas.Bool.Decides.{nat_tests}
 use Rattle.std.specs.Prelude.{Contains}
 use Rattle.std.proofs.lemmas.List.Elements.{Contains-append_left, Contains-append_right, Contains-push}
@@ -239,3 +239,18 @@ reads_once n w wants before part k once is at of = once_behind (λ (x : Want). x
 
 pub writes_once : (n : ℕ) (w : Want) (wants before part : List Want) (k : ℕ) → TcpOnce wants → wants ≡ before ++ part → slice_get part k ≡ Some w → w.of ≡ Tcp n → writes (Tcp n) wants ≡ w.write
 writes_once n w wants before part k once is at of = once_behind (λ (x : Want). x.write) n w wants before part k once is at of
+
+-- ---- parts of a list
+
+-- those before a place, from there to a later one, and the rest
+pub three_parts : {A : Type 0} (xs : List A) (f b : ℕ) → f ≤ b → xs ≡ (take f xs ++ take (b - f) (drop f xs)) ++ drop b xs
+three_parts xs zero b up = sym (take-append-drop b xs)
+three_parts [] (suc f) b up = nothing (b - suc f) b
+  where
+    nothing : {A : Type 0} (n b : ℕ) → [] ≡ ([] ++ take {A = A} n []) ++ drop b []
+    nothing zero zero = refl
+    nothing zero (suc b) = refl
+    nothing (suc n) zero = refl
+    nothing (suc n) (suc b) = refl
+three_parts (x ∷ xs) (suc f) zero up = absurd (omega (arith, up))
+three_parts (x ∷ xs) (suc f) (suc b) up = ap (λ l. x ∷ l) (three_parts xs f b (omega (arith, up)))

@@ -2,7 +2,7 @@
 use Rattle.std.proofs.Common.{◌≡◌, ℕ, zero, suc, ◌+◌, ◌<◌, ◌≤◌, ◌==◌, ◌&&◌, ◌||◌, ◌⊎◌, not, nat_lt, Bool, true, false, List, [], ◌∷◌, ◌++◌, cond, drop, filter, length, map, slice_get, is_some, Option, Some, None, MatchOption, option_map, if◌then◌else◌, inl, inr, refl, sym, ◌∙◌, ap, subst, arith}
 use Rattle.std.proofs.lemmas.Bool.Decides.{nat_tests}
 use Rattle.net_octets.specs.declared.Endpoint.{Endpoint}
-use Rattle.world_face.specs.Journal.{Entry, Call, Connect, Listen, Accept, Close, UdpOpen, Now, CallClose, CallNow, CallListen, call_of}
+use Rattle.world_face.specs.Journal.{Entry, Call, Connect, Listen, Accept, Close, UdpOpen, Now, Wait, CallClose, CallNow, CallListen, call_of}
 use Rattle.world_face.specs.Frames.{Ending, ending, partial}
 use Rattle.world_face.specs.declared.Accepted.{Accepted}
 use Rattle.world_face.specs.declared.Accepted.TheVariants.{From, NotYet as NotYetAccepted, Failed as AcceptFailed}
@@ -12,13 +12,15 @@ use Rattle.host_policy.specs.declared.Forward.{Forward}
 use Rattle.host_policy.specs.declared.Proto.{Proto}
 use Rattle.host_policy.specs.declared.Proto.TheVariants.{Tcp, Udp}
 use Rattle.host_policy.specs.Addresses.{Config}
+use Rattle.flow_book.specs.Book.{book}
+use Rattle.flow_book.specs.Lots.{due_for_flows}
 use Rattle.run_laws.specs.Moments.{waits}
 use Rattle.run_laws.specs.Shape.{Phase, Opening, Started, Woken, Working, Over, By, Refused, due_in, may_turn, opening_of, phase, phase_after, phase_by}
 use Rattle.run_laws.specs.Sockets.{Kind, Association as OfAssociation, Forward as OfForward, Listener, Flow as OfFlow, DnsSocket, datagram_kind, is_among, is_listener, kind_of, next_number, open_sockets, with_made}
-use Rattle.slirp_laws.specs.Laws.{Lawful, May, due, is_closing, may_part, parts, unless_due}
+use Rattle.slirp_laws.specs.Laws.{Lawful, May, due, due_for_services, is_closing, may_part, parts, unless_due}
 use Rattle.slirp_laws.proofs.Bools.{among_last, among_without, and_both, equal, first_of, or_second, same, second_of, turned}
 use Rattle.slirp_laws.proofs.OpenSockets.{open_below, peer_next}
-use Rattle.slirp_laws.proofs.Phases.{IsForOther, for_others, others_due}
+use Rattle.slirp_laws.proofs.Phases.{IsForOther, for_others}
 use Rattle.slirp_laws.specs.Asking.{step}
 use Rattle.slirp_laws.specs.Datagrams.{Step, Settled, NeedsRoom, NeedsSocket, NeedsSending, due_for}
 use Rattle.run_laws.specs.Sockets.{first}
@@ -30,6 +32,9 @@ use Rattle.spliced_flows.proofs.Options.{true_false}
 use Rattle.slirp_core.proofs.Services.{kinds_are}
 
 -- ---- a port of the host is opened where it is due alone
+
+abbrev others_due : Config → List Entry → Option Call
+others_due config past = unless_due (due_for_services config past) (due_for_flows config (book config past) (next_number past))
 
 no_listen : (o : Option Call) (socket : ℕ) (at : Endpoint) → IsForOther o → o ≡ Some (CallListen socket at) → ⊥
 no_listen o socket at is call = subst IsForOther call is
@@ -88,9 +93,9 @@ module _ (config : Config) (none : config.resolver ≡ None) where
   apart socket next count n is drawn less = grind (arith, nat_tests, is, drawn, less)
 
   or_of : (a b : Bool) → (a || b) ≡ true → b ≡ false → a ≡ true
-  or_of true b is no = refl
-  or_of false true is no = cc
-  or_of false false is no = cc
+  or_of true b is off = refl
+  or_of false true is off = cc
+  or_of false false is off = cc
 
   or_more : (a b : Bool) → a ≡ true → (a || b) ≡ true
   or_more true b is = refl
@@ -175,7 +180,10 @@ module _ (config : Config) (none : config.resolver ≡ None) where
     first_dropped zero [] f rest is = cc
     first_dropped zero (x ∷ fs) f rest is = (cc, cc, omega arith)
     first_dropped (suc k) [] f rest is = cc
-    first_dropped (suc k) (x ∷ fs) f rest is = let more = first_dropped k fs f rest is in (more.0, more.1, (let less = more.2 in omega (arith, less)))
+    first_dropped (suc k) (x ∷ fs) f rest is =
+        let more = first_dropped k fs f rest is in
+        let next : suc (k + 1) ≡ suc k + 1 = omega arith in
+        (more.0, subst (λ n. drop n (x ∷ fs) ≡ rest) next more.1, (let less = more.2 in omega (arith, less)))
 
     all_dropped : (k : ℕ) (fs : List Forward) → drop k fs ≡ [] → k ≤ length fs → k ≡ length fs
     all_dropped zero [] is fits = refl
@@ -325,7 +333,7 @@ module _ (config : Config) (none : config.resolver ≡ None) where
         by_entry _ may has = has
 
     pub staged : (past : List Entry) → Lawful config past → Stage (phase config past) past
-    staged [] lawful = (refl, refl, omega arith, record { drawn = omega arith; listening = λ n less. omega (arith, less); others = λ n among. cc; stay = λ open_yet n less. omega (arith, less) })
+    staged [] lawful = (refl, refl, omega arith, record { drawn = omega arith; listening = λ n less. absurd (omega (arith, less)); others = λ n among. cc; stay = λ open_yet n less. absurd (omega (arith, less)) })
     staged (e ∷ past) lawful = by (phase config past) refl (staged past lawful.1)
       where
         by : (p : Phase) → phase config past ≡ p → Stage p past → Stage (phase_after e (ending e (partial past)) p) (e ∷ past)
@@ -360,20 +368,19 @@ module _ (config : Config) (none : config.resolver ≡ None) where
 -- a number is among those of the settings where it is the number of a place
 pub among_given : (fs : List Forward) (n k : ℕ) → is_among n (forward_sockets (with_numbers k fs)) ≡ true → (k ≤ n) × (n < k + length fs)
 among_given [] n k is = cc
-among_given (f ∷ fs) n k is = by (n == k) refl is
+among_given (f ∷ fs) n k is = by (n == k) refl is (λ more. among_given fs n (k + 1) more)
   where
-    by : (b : Bool) → (n == k) ≡ b → (b || is_among n (forward_sockets (with_numbers (k + 1) fs))) ≡ true → (k ≤ n) × (n < k + (1 + length fs))
-    by true here is = let it = equal n k here in (omega (arith, it), omega (arith, it))
-    by false other is = let more = among_given fs n (k + 1) is in let low = more.0 in let high = more.1 in (omega (arith, low), omega (arith, high))
+    by : (b : Bool) → (n == k) ≡ b → (b || is_among n (forward_sockets (with_numbers (k + 1) fs))) ≡ true → (is_among n (forward_sockets (with_numbers (k + 1) fs)) ≡ true → (k + 1 ≤ n) × (n < (k + 1) + length fs)) → (k ≤ n) × (n < k + (1 + length fs))
+    by true here is more = let it = equal n k here in (omega (arith, it), omega (arith, it))
+    by false other is more = let then_is = more is in let low = then_is.0 in let high = then_is.1 in (omega (arith, low), omega (arith, high))
 
 pub given_among : (fs : List Forward) (n k : ℕ) → k ≤ n → n < k + length fs → is_among n (forward_sockets (with_numbers k fs)) ≡ true
-given_among [] n k low high = omega (arith, low, high)
-given_among (f ∷ fs) n k low high = by (same_or_not n k)
+given_among [] n k low high = absurd (omega (arith, low, high))
+given_among (f ∷ fs) n k low high = by (same_or_not n k) (λ above below. given_among fs n (k + 1) above below)
   where
-    by : (n ≡ k) ⊎ ((n == k) ≡ false) → ((n == k) || is_among n (forward_sockets (with_numbers (k + 1) fs))) ≡ true
-    by (inl is) = ap (λ b. b || is_among n (forward_sockets (with_numbers (k + 1) fs))) (ap (λ x. x == k) is ∙ same k)
-    by (inr other) = or_second (n == k) (is_among n (forward_sockets (with_numbers (k + 1) fs)))
-        (given_among fs n (k + 1) (grind (arith, nat_tests, low, other)) (omega (arith, high)))
+    by : (n ≡ k) ⊎ ((n == k) ≡ false) → (k + 1 ≤ n → n < (k + 1) + length fs → is_among n (forward_sockets (with_numbers (k + 1) fs)) ≡ true) → ((n == k) || is_among n (forward_sockets (with_numbers (k + 1) fs))) ≡ true
+    by (inl is) more = ap (λ b. b || is_among n (forward_sockets (with_numbers (k + 1) fs))) (ap (λ x. x == k) is ∙ same k)
+    by (inr other) more = or_second (n == k) (is_among n (forward_sockets (with_numbers (k + 1) fs))) (more (grind (arith, nat_tests, low, other)) (omega (arith, high)))
 
 above_given : (fs : List Forward) (n k : ℕ) → n < k → AllAbove n (forward_sockets (with_numbers k fs))
 above_given [] n k less = tt

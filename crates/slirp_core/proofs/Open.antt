@@ -86,5 +86,5 @@ given_in config at step slirp f link past holds = by holds.stands
 pub are_open : (config : Config) (at : Standing) (step : Step) (slirp : SlirpState) (f : Flowing) (link : LinkState) (past : List Entry) → HoldsAt config at step slirp f link past
     → AreOpenWith (forward_sockets slirp.forwards) slirp.associations f.kept.flows.parts past
 are_open config at step slirp f link past holds =
-    subst (λ l. AreOpenWith (forward_sockets l) slirp.associations f.kept.flows.parts past) (sym holds.services.forwards)
+    subst (λ l. AreOpenWith (forward_sockets l) slirp.associations f.kept.flows.parts past) (sym holds.forwards)
     (open_by config slirp.associations f slirp.moment past holds.services.unresolved holds.lawful holds.relayed.list holds.flows.holds holds.sockets.kinds (given_in config at step slirp f link past holds) holds.open_yet)

@@ -6,7 +6,7 @@ use Rattle.host_policy.specs.Addresses.{Config}
 use Rattle.flow_laws.specs.Dutiful.{AreAhead, resend_deadline}
 use Rattle.spliced_flows.specs.Core.{CoreHolds}
 use Rattle.stream_netdev.specs.State.{LinkState}
-use Rattle.tcp_flows.specs.Reading.{AllClear, AreTold}
+use Rattle.tcp_flows.specs.Reading.{AllClear, AreTold, HaveSlots}
 use Rattle.tcp_flows.specs.Settled.{AreSettled, IsInTime}
 use Rattle.tcp_flows.proofs.Settling.{are_settled}
 use Rattle.slirp_core.specs.Holds.{AfterPump, Holds, Standing, flowing}
@@ -17,10 +17,10 @@ use Rattle.slirp_core.specs.declared.sending.Pumped.TheVariants.{Clear}
 -- all flows of the record are settled where those of the slots are clear
 pub pumped_settled : {a b : Telling} (config : Config) (at : Standing) (now : ℕ) (old new : SlirpState) (link next : LinkState) (result : Pumped) → result ≡ Clear → new.moment ≡ now
     → Brings a b (Holds config at old (flowing true old.flows) link) (AfterPump result config at new (flowing true new.flows) next)
-    → AreTold new.known new.flows.flows.parts → AllClear new.flows.flows.parts
+    → HaveSlots new.flows.flows → AreTold new.known new.flows.flows.parts → AllClear new.flows.flows.parts
     → ((past : List Entry) → Holds config at old (flowing true old.flows) link past → (n : ℕ) → IsInTime now old.flows.flows.parts n → IsInTime now new.flows.flows.parts n)
     → Brings a b (Holds config at old (flowing true old.flows) link) (λ past. Holds config at new (flowing true new.flows) next past × AreSettled config now old.flows.flows.parts past)
-pumped_settled config at now old new link next result ended same pumps told clear keeps = record {
+pumped_settled config at now old new link next result ended same pumps slots told clear keeps = record {
   made = pumps.made;
   same = pumps.same;
   allowed = pumps.allowed;
@@ -34,7 +34,7 @@ pumped_settled config at now old new link next result ended same pumps told clea
     settles : (past : List Entry) → Holds config at old (flowing true old.flows) link past → Holds config at new (flowing true new.flows) next (pumps.made ++ past) → AreSettled config now old.flows.flows.parts (pumps.made ++ past)
     settles past holds after n f found =
         let settled = subst (λ (m : ℕ). AreSettled config m new.flows.flows.parts (pumps.made ++ past)) same
-        (are_settled config new.moment new.flows.flows (pumps.made ++ past) after.clock.moment after.flows.holds (subst (λ l. AreTold l new.flows.flows.parts) (sym after.guests.known) told) clear) n f found in
+        (are_settled config new.moment new.flows.flows (pumps.made ++ past) after.clock.moment after.flows.holds slots (subst (λ l. AreTold l new.flows.flows.parts) (sym after.guests.known) told) clear) n f found in
         let early_too : IsInTime now old.flows.flows.parts n → AreAhead now (resend_deadline f.story) = λ early. settled.resends (keeps past holds n early) in
         -- all else of it is as before
         search

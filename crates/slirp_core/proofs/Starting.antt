@@ -305,9 +305,9 @@ started config slirp link told past fine opens = record {
   allowed = (fine, opens.allowed);
   keeps = record { framed = (tt, opens.keeps.framed); partly = opens.keeps.partly; rest = opens.keeps.rest; blocked = opens.keeps.blocked };
   answers = record { sent = opens.answers.sent; pending = opens.answers.pending };
-  guests = guests_stay config slirp told_it (Now told) past refl refl opens.guests;
+  guests = guests_stay config slirp (record slirp { moment = max (min told (2 ^ 62)) slirp.moment }) (Now told) past refl refl opens.guests;
   relayed = record { list = opens.relayed.list; asks = opens.relayed.asks };
-  services = services_stay config slirp told_it (Now told) past refl refl opens.services;
+  services = services_stay config slirp (record slirp { moment = max (min told (2 ^ 62)) slirp.moment }) (Now told) past refl refl opens.services;
   forwards = opens.forwards ∙ ap (with_numbers 0) (sym all_open);
   flows = flows_told config slirp.flows slirp.moment (max (min told (2 ^ 62)) slirp.moment) told past (omega arith) opens.flows;
   sockets = record { number = opens.sockets.number; kinds = opens.sockets.kinds };
@@ -317,9 +317,6 @@ started config slirp link told past fine opens = record {
   open_yet = opens.open_yet;
 }
   where
-    abbrev told_it : SlirpState
-    told_it = record slirp { moment = max (min told (2 ^ 62)) slirp.moment }
-
     none_left : (done left all : List Forward) → all ≡ done ++ left → length all ≡ length done → left ≡ []
     none_left [] [] all is many = refl
     none_left [] (x ∷ left) all is many = absurd (let more : length all ≡ length (x ∷ left) = ap (λ l. length l) is in omega (arith, many, more))

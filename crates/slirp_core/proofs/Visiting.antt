@@ -1,5 +1,5 @@
 -- A peer comes to a port of the host that is given to a guest: its flow begins, or it is refused and its socket closed, or none has come.
-use Rattle.std.proofs.Common.{◌≡◌, ℕ, zero, suc, ◌<◌, ◌+◌, ◌==◌, ◌&&◌, ◌||◌, not, nat_lt, Bool, true, false, List, [], ◌∷◌, ◌++◌, length, slice_get, MatchOption, Option, Some, None, refl, sym, ◌∙◌, ap, subst, arith, if◌then◌else◌}
+use Rattle.std.proofs.Common.{◌≡◌, ℕ, zero, suc, ◌<◌, ◌+◌, ◌==◌, ◌&&◌, ◌||◌, not, nat_lt, Bool, true, false, List, [], ◌∷◌, ◌++◌, length, slice_get, MatchOption, Option, Some, None, option_map, refl, sym, ◌∙◌, ap, subst, arith, if◌then◌else◌}
 use Rattle.std.proofs.lemmas.Bool.Decides.{nat_tests}
 use Rattle.net_octets.specs.declared.Endpoint.{Endpoint}
 use Rattle.net_octets.specs.declared.Mac.{Mac}
@@ -21,13 +21,13 @@ use Rattle.flow_book.specs.Laws.{MayShut, flow_settings}
 use Rattle.flow_book.specs.Lots.{due_for_flows}
 use Rattle.run_laws.specs.Moments.{moment}
 use Rattle.run_laws.specs.Shape.{is_ended, is_over, is_working}
-use Rattle.run_laws.specs.Sockets.{Flow as OfFlow, is_among, is_listener, kind_of, next_number, number_for_peer, open_sockets, with_peer}
+use Rattle.run_laws.specs.Sockets.{Flow as OfFlow, is_among, is_association, is_listener, kind_of, next_number, number_for_peer, open_sockets, with_peer}
 use Rattle.core_flows.specs.Seats.{in_use_slots}
 use Rattle.slirp_laws.specs.Agenda.{agenda, all_wanted, is_to_read, wanted_of}
 use Rattle.slirp_laws.specs.Errands.{errand_left}
 use Rattle.slirp_laws.specs.Laws.{Lawful, May, is_least, may_leave, may_part, parts, takes_peers}
 use Rattle.slirp_laws.specs.Names.{kind_for}
-use Rattle.slirp_laws.proofs.Bools.{among_last, among_without, and_both, or_second, same, second_of}
+use Rattle.slirp_laws.proofs.Bools.{among_last, among_without, and_both, or_second, same, second_of, turned}
 use Rattle.slirp_laws.proofs.Deeds.{accepts, closes, this_one}
 use Rattle.stream_netdev.specs.State.{LinkState}
 use Rattle.spliced_flows.specs.Stands.{InWork}
@@ -35,6 +35,13 @@ use Rattle.spliced_flows.proofs.Calling.{due_is as due_for_a_flow}
 use Rattle.spliced_flows.proofs.Known.{known_was_taught}
 use Rattle.tcp_flows.specs.Kept.{Kept}
 use Rattle.tcp_flows.specs.Runs.{Between, Welcomes}
+use Rattle.port_forward.specs.Opened.{Opened}
+use Rattle.slirp_laws.specs.Datagrams.{Settled}
+use Rattle.udp_assoc.specs.Associations.{numbers, without}
+use Rattle.udp_assoc.specs.declared.assocs.Association.{Association}
+use Rattle.spliced_flows.proofs.Options.{true_false}
+use Rattle.slirp_laws.proofs.OpenSockets.{next_is_new}
+use Rattle.slirp_core.proofs.Given.{HasGiven}
 use Rattle.slirp_core.specs.Forwards.{with_numbers}
 use Rattle.slirp_core.specs.Visits.{Treats}
 use Rattle.slirp_core.specs.Holds.{Begins, Holds, InTurn, OfFlows, Stands, Turns, flowing, is_ours, standing}
@@ -43,7 +50,7 @@ use Rattle.slirp_core.proofs.Called.{between, flows_put}
 use Rattle.slirp_core.proofs.Flows.{close_same, flows_since, flows_stay}
 use Rattle.slirp_core.proofs.Guests.{guests_stay}
 use Rattle.slirp_core.proofs.Open.{given_in}
-use Rattle.slirp_core.proofs.Parts.{asks_nothing, asked_for, behind_of, due_is, errand_for, keeps_by, reads_of, still_open}
+use Rattle.slirp_core.proofs.Parts.{asks_nothing, asked_for, behind_of, carried_by, due_is, errand_for, keeps_by, reads_of, still_open}
 use Rattle.slirp_core.proofs.Services.{none_due_for_services, services_stay}
 
 -- the kinds of sockets, where a peer came or none
@@ -67,6 +74,23 @@ kinds_visited listener number answer past kinds n among = by (number == n) refl
     by true is = refl
     by false is = kinds n (before answer (turned is) among)
 
+-- a list without a number that none has
+none_numbered : (n : ℕ) (list : List Association) → is_among n (numbers list) ≡ false → without n list ≡ list
+none_numbered n [] none = refl
+none_numbered n (a ∷ list) none = by (a.number == n) refl (none_numbered n list (or_next (n == a.number) (is_among n (numbers list)) none))
+  where
+    or_next : (x y : Bool) → (x || y) ≡ false → y ≡ false
+    or_next true y is = cc
+    or_next false y is = is
+
+    or_first : (x y : Bool) → (x || y) ≡ false → x ≡ false
+    or_first true y is = cc
+    or_first false y is = refl
+
+    by : (b : Bool) → (a.number == n) ≡ b → without n list ≡ list → (if not b then a ∷ without n list else without n list) ≡ a ∷ list
+    by true it rest = absurd (true_false (sym (turned a.number n true it) ∙ or_first (n == a.number) (is_among n (numbers list)) none))
+    by false other rest = ap (λ l. a ∷ l) rest
+
 module _ (config : Config) (count : ℕ) (wants : List Want) (item : Want) (items : List Want) (listener : ℕ) (reads_it : is_to_read (AListener listener) (wanted_of wants item) ≡ true) (slirp : SlirpState) (link : LinkState) (past : List Entry)
     (holds : Holds config (standing count wants (item ∷ items)) slirp (flowing false slirp.flows) link past) (is_open : listener < length config.forwards) (room : in_use_slots slirp.flows.flows.table.slots < length slirp.flows.flows.table.slots) where
   -- something was reported, so the first wait has been
@@ -77,12 +101,12 @@ module _ (config : Config) (count : ℕ) (wants : List Want) (item : Want) (item
       no_last [] x rest is = cc
       no_last (y ∷ before) x rest is = cc
 
-      by : Stands config _ slirp slirp.flows link past → InTurn config past
+      by : Stands config Settled slirp slirp.flows link past → InTurn config past
       by (Turns t) = t
       by (Begins unbegun free unrested) = absurd (no_last holds.agenda.0 (wanted_of wants item) (all_wanted wants items) (sym unbegun.unreported ∙ holds.agenda.1))
 
-  has : _
-  has = given_in config (standing count wants (item ∷ items)) _ slirp (flowing false slirp.flows) link past holds
+  has : HasGiven config holds.services.unresolved (length config.forwards) past
+  has = given_in config (standing count wants (item ∷ items)) Settled slirp (flowing false slirp.flows) link past holds
 
   takes : takes_peers config past listener ≡ true
   takes =
@@ -92,7 +116,7 @@ module _ (config : Config) (count : ℕ) (wants : List Want) (item : Want) (item
 
   may_accept : May config past (CallAccept listener slirp.number)
   may_accept = accepts config past listener slirp.number
-      (due_is config past _ turn.working (none_due_for_services config past holds.services.unresolved) holds.flows.holds.asked (asked_for config (standing count wants (item ∷ items)) _ slirp (flowing false slirp.flows) link past holds))
+      (due_is config past Settled turn.working (none_due_for_services config past holds.services.unresolved) holds.flows.holds.asked (asked_for config (standing count wants (item ∷ items)) Settled slirp (flowing false slirp.flows) link past holds))
       (ap is_working turn.working) takes (ap (λ n. slirp.number == n) holds.sockets.number ∙ same slirp.number)
       (reads_of (AListener listener) (wanted_of wants item) (all_wanted wants items) (agenda past) reads_it holds.agenda) holds.open_yet
 
@@ -137,7 +161,7 @@ module _ (config : Config) (count : ℕ) (wants : List Want) (item : Want) (item
       asked = quiet_flows.asked;
       settings = quiet_flows.settings;
       lawful = (may_accept, holds.lawful);
-      work = record { working = turn.working; errand = errand_for config _ slirp past holds.relayed; services = none_due_for_services config (none_at ∷ past) holds.services.unresolved; open_yet = holds.open_yet };
+      work = record { working = turn.working; errand = errand_for config Settled slirp past holds.relayed; services = none_due_for_services config (none_at ∷ past) holds.services.unresolved; open_yet = holds.open_yet };
       at = holds.clock.moment;
     }) (next ∙ holds.sockets.number) (λ n among. kinds_visited listener slirp.number answer past holds.sockets.kinds n among)
 
@@ -160,7 +184,7 @@ module _ (config : Config) (count : ℕ) (wants : List Want) (item : Want) (item
           welcome = welcome;
           learnt = λ m is. known_was_taught config past guest.addr m (ap (learnt_for guest.addr) holds.guests.known ∙ sym found ∙ is);
           lawful = (may_accept, holds.lawful);
-          work = record { working = turn.working; errand = errand_for config _ slirp past holds.relayed; services = none_due_for_services config (visit ∷ past) holds.services.unresolved; open_yet = holds.open_yet };
+          work = record { working = turn.working; errand = errand_for config Settled slirp past holds.relayed; services = none_due_for_services config (visit ∷ past) holds.services.unresolved; open_yet = holds.open_yet };
         }))
         (ap (λ n. n + 1) holds.sockets.number) (λ n among. kinds_visited listener slirp.number (From peer) past holds.sockets.kinds n among)
 
@@ -184,7 +208,7 @@ module _ (config : Config) (count : ℕ) (wants : List Want) (item : Want) (item
       close_is_due = ap (λ b. due_for_flows config b (next_number (visit ∷ past))) doomed_is
 
       work_then : InWork config (visit ∷ past)
-      work_then = record { working = turn.working; errand = errand_for config _ slirp past holds.relayed; services = none_due_for_services config (visit ∷ past) holds.services.unresolved; open_yet = holds.open_yet }
+      work_then = record { working = turn.working; errand = errand_for config Settled slirp past holds.relayed; services = none_due_for_services config (visit ∷ past) holds.services.unresolved; open_yet = holds.open_yet }
 
       its_kind : kind_for config slirp.number (visit ∷ past) ≡ Some OfFlow
       its_kind = ap (λ b. if b then Some OfFlow else kind_for config slirp.number past) (same slirp.number)
@@ -214,6 +238,12 @@ module _ (config : Config) (count : ℕ) (wants : List Want) (item : Want) (item
       flows_then : OfFlows config (flowing false slirp.flows) slirp.moment shut_again
       flows_then = flows_since config (flowing false slirp.flows) slirp.moment (Close slirp.number ∷ visit ∷ []) past book_then refl (omega arith) refl holds.flows
 
+      -- its number is no association's
+      unlisted : is_among slirp.number (numbers slirp.associations) ≡ false
+      unlisted =
+          sym (carried_by config (standing count wants (item ∷ items)) Settled slirp (flowing false slirp.flows) link past holds slirp.number)
+          ∙ ap (λ b. b && is_association (kind_of slirp.number past)) (ap (λ n. is_among n (open_sockets past)) (sym holds.sockets.number) ∙ next_is_new config past holds.lawful)
+
       kinds_then : (n : ℕ) → is_among n (open_sockets shut_again) ≡ true → is_ours (kind_of n shut_again) ≡ true
       kinds_then n among =
           kinds_visited listener slirp.number (From peer) past holds.sockets.kinds n
@@ -221,12 +251,12 @@ module _ (config : Config) (count : ℕ) (wants : List Want) (item : Want) (item
 
       pub turned_away : Holds config (standing count wants items) (record slirp { number = slirp.number + 1 }) (flowing false slirp.flows) link shut_again
       turned_away = record {
-        lawful = (may_shut, may_accept, holds.lawful);
-        allowed = (closed_fine, fine, holds.allowed);
+        lawful = (may_shut, (may_accept, holds.lawful));
+        allowed = (closed_fine, (fine, holds.allowed));
         keeps = keeps_by link (Close slirp.number) (visit ∷ past) tt refl refl refl (keeps_by link visit past tt refl refl refl holds.keeps);
         answers = record { sent = holds.answers.sent; pending = holds.answers.pending };
         guests = guests_stay config (record slirp { number = slirp.number + 1 }) (record slirp { number = slirp.number + 1 }) (Close slirp.number) (visit ∷ past) refl refl (guests_stay config slirp (record slirp { number = slirp.number + 1 }) visit past refl refl holds.guests);
-        relayed = record { list = holds.relayed.list; asks = holds.relayed.asks };
+        relayed = record { list = ap (without slirp.number) holds.relayed.list ∙ none_numbered slirp.number slirp.associations unlisted; asks = holds.relayed.asks };
         services = services_stay config (record slirp { number = slirp.number + 1 }) (record slirp { number = slirp.number + 1 }) (Close slirp.number) (visit ∷ past) refl refl
             (services_stay config slirp (record slirp { number = slirp.number + 1 }) visit past refl refl holds.services);
         forwards = holds.forwards;
@@ -243,7 +273,7 @@ module _ (config : Config) (count : ℕ) (wants : List Want) (item : Want) (item
 -- the forward at a place of the list is that of the settings, and its number is the place
 at_given : (fs : List Forward) (n k : ℕ) (f : Forward) (number : ℕ) → slice_get (with_numbers n fs) k ≡ Some (f, number) → (slice_get fs k ≡ Some f) × (k < length fs)
 at_given [] n k f number at = cc
-at_given (x ∷ fs) n zero f number at = (cc, omega arith)
+at_given (x ∷ fs) n zero f number at = (ap (option_map (λ (o : Opened). o.0)) at, omega arith)
 at_given (x ∷ fs) n (suc k) f number at = let more = at_given fs (n + 1) k f number at in (more.0, (let less = more.1 in omega (arith, less)))
 
 module _ (config : Config) (count : ℕ) (wants : List Want) (item : Want) (items : List Want) (listener : ℕ) (reads_it : is_to_read (AListener listener) (wanted_of wants item) ≡ true) (slirp : SlirpState) (link : LinkState) (past : List Entry)
@@ -291,3 +321,13 @@ module _ (config : Config) (count : ℕ) (wants : List Want) (item : Want) (item
         where
           first_allowed : (made : List Entry) → made ≡ Close slirp.number ∷ [] → AreAllowed (made ++ Accept listener slirp.number (From peer) ∷ []) → Allowed (Close slirp.number)
           first_allowed made is all = (subst (λ es. AreAllowed (es ++ Accept listener slirp.number (From peer) ∷ [])) is all).0
+
+-- by what was found of its two ends
+pub treats_refused : (b : Bool) (guest peer : Endpoint) (old new : SlirpState) (made : List Entry) → false ≡ not b → made ≡ Close old.number ∷ [] → new.flows ≡ old.flows → Treats b guest peer old new made
+treats_refused true guest peer old new made is one same = (one, same)
+treats_refused false guest peer old new made is one same = cc
+
+pub treats_welcome : (b : Bool) (guest peer : Endpoint) (old new : SlirpState) (made : List Entry) → true ≡ not b → made ≡ []
+    → Welcomes old.moment old.number old.flows new.flows (tuple_for old.config guest peer) (learnt_for guest.addr old.known) → Treats b guest peer old new made
+treats_welcome true guest peer old new made is none welcomes = cc
+treats_welcome false guest peer old new made is none welcomes = (none, welcomes)

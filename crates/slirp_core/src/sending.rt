@@ -34,7 +34,7 @@ impl Slirp {
     ghost use Rattle.std.specs.Prelude.{ℕ, Bool, List, None, true};
     ghost use Rattle.world_face.specs.Journal.{Entry};
     ghost use Rattle.spliced_flows.specs.Core.{CoreHolds};
-    ghost use Rattle.tcp_flows.specs.Reading.{AreTold};
+    ghost use Rattle.tcp_flows.specs.Reading.{AreTold, HaveSlots};
     ghost use Rattle.tcp_flows.specs.Settled.{AreSettled, IsInTime};
 
     /// Whether nothing is left to be sent.
@@ -83,6 +83,7 @@ impl Slirp {
         requires out { self.old.pending ≡ [] }
         requires told { AreTold self.old.known self.old.flows.flows.parts }
         ensures told { AreTold self.new.known self.new.flows.flows.parts }
+        ensures slots { HaveSlots self.new.flows.flows }
         ensures makes { (config : Config) (at : Standing) (aged : Bool) → Brings (W.tells world.old) (W.tells world.new)
             (Holds config at self.old (flowing aged self.old.flows) link.old) (AfterPump result config at self.new (flowing aged self.new.flows) link.new) }
         ensures failed { result ≡ Pumped.Failed → Rose (W.tells world.old).faults.link (W.tells world.new).faults.link }

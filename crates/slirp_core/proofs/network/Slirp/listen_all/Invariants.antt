@@ -5,8 +5,8 @@ use Rattle.stream_netdev.specs.State.{LinkState}
 use Rattle.slirp_core.specs.Holds.{Opens}
 use Rattle.slirp_core.proofs.network.Slirp.listen_all.Given as goal
 
-abbrev pub invariant-loop : goal.invariant-loop
-invariant-loop g l = record {
+abbrev pub invariant-loop-place : goal.invariant-loop-place
+invariant-loop-place g l = record {
   makes : (config : Config) (link : LinkState) → l.fn.self.config ≡ config → Brings (g.W.World.tells l.fn.world) (g.W.World.tells l.world) (Opens config 0 l.fn.self link) (Opens config l.place l.self link);
   others : l.self ≡ record l.fn.self { number = l.place; forwards = l.self.forwards };
 }

@@ -42,6 +42,7 @@ returns-in-Clear-clause-settled g c config at clear =
     let moment_same : mid.moment ≡ old.moment = ap (λ (s : SlirpState). s.moment) c.in-Clear.ensures.others ∙ told_moment in
     pumped_settled config at old.moment old new c.args.link.now c.pump_flows.new.link c.pump_flows.result clear (ap (λ (s : SlirpState). s.moment) c.pump_flows.ensures.others ∙ moment_same)
     (returns-in-Clear-clause-makes g c config at true)
+    c.pump_flows.ensures.slots
     c.pump_flows.ensures.told
     (subst (λ (r : Pumped). Leaves r new c.pump_flows.new.link) clear c.pump_flows.ensures.leaves).3
     (λ past holds n early.
