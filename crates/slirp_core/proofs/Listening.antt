@@ -1,5 +1,5 @@
 -- The ports of the host that the settings give to guests are opened one after another, in their order.
-use Rattle.std.proofs.Common.{◌≡◌, ◌≢◌, ℕ, zero, suc, ◌+◌, ◌<◌, ◌≤◌, ◌==◌, ◌&&◌, ◌||◌, not, nat_le, Bool, true, false, IsTrue, List, [], ◌∷◌, ◌++◌, length, slice_get, Option, Some, None, refl, sym, ◌∙◌, ap, subst, arith}
+use Rattle.std.proofs.Common.{◌≡◌, ◌≢◌, ℕ, zero, suc, ◌+◌, ◌<◌, ◌≤◌, ◌==◌, ◌&&◌, ◌||◌, not, nat_le, Bool, true, false, IsTrue, List, [], ◌∷◌, ◌++◌, length, drop, take, slice_get, Some, None, refl, sym, ◌∙◌, ap, subst, arith}
 use Rattle.std.proofs.lemmas.Bool.Decides.{nat_tests}
 use Rattle.std.specs.List.{list_all, list_any}
 use Rattle.world_face.specs.Journal.{AreAllowed, Entry, Listen}
@@ -12,7 +12,10 @@ use Rattle.host_policy.specs.declared.Forward.{Forward}
 use Rattle.host_policy.specs.declared.Proto.{Proto}
 use Rattle.host_policy.specs.declared.Proto.TheVariants.{Tcp, Udp}
 use Rattle.host_policy.specs.declared.config.Field.TheVariants.{Forwards}
-use Rattle.port_forward.specs.Adding.{fault_of, opening_of}
+use Rattle.std.specs.Prelude.{Result, Ok, Err}
+use Rattle.std.specs.Result.{is_ok, result_err}
+use Rattle.port_forward.specs.declared.FwdFault.{FwdFault}
+use Rattle.port_forward.specs.Adding.{Adds, fault_of, opening_of}
 use Rattle.port_forward.specs.Opened.{Opened, is_at, is_taken}
 use Rattle.port_forward.proofs.Adding.{no_cause}
 use Rattle.run_laws.specs.Shape.{Over, Refused}
@@ -21,7 +24,7 @@ use Rattle.slirp_core.specs.Forwards.{Listens, forward_sockets, with_numbers}
 use Rattle.slirp_core.specs.Holds.{ClosingWith, Opens}
 use Rattle.slirp_core.specs.State.{SlirpState}
 use Rattle.slirp_laws.proofs.Bools.{first_of, second_of, turned}
-use Rattle.slirp_core.proofs.Starting.{more_open, next_left, refused}
+use Rattle.slirp_core.proofs.Starting.{more_open, next_left, numbers_more, refused}
 
 -- ---- what the ranges of the settings say of each forward
 
@@ -96,29 +99,48 @@ length_both : (xs ys : List Forward) → length (xs ++ ys) ≡ length xs + lengt
 length_both [] ys = refl
 length_both (x ∷ xs) ys = ap suc (length_both xs ys)
 
-pub may_open : (config : Config) (place : ℕ) (f : Forward) (slirp : SlirpState) (link : LinkState) (past : List Entry) → IsSound config → slice_get config.forwards place ≡ Some f → Opens config place slirp link past → MayOpen config f slirp.forwards
-may_open config place f slirp link past sound at opens =
+-- a list at one of its places
+at_place : (fs : List Forward) (k : ℕ) (f : Forward) → slice_get fs k ≡ Some f → (fs ≡ take k fs ++ f ∷ drop (suc k) fs) × (length (take k fs) ≡ k) × (take (k + 1) fs ≡ take k fs ++ f ∷ [])
+at_place [] k f at = cc
+at_place (x ∷ fs) zero f at = let it = the_same x at in (ap (λ y. y ∷ fs) it, refl, ap (λ y. y ∷ []) it)
+  where
+    the_same : (x : Forward) → Some x ≡ Some f → x ≡ f
+    the_same x is = cc
+at_place (x ∷ fs) (suc k) f at =
+    let more = at_place fs k f at in
+    let next : suc (k + 1) ≡ suc k + 1 = omega arith in
+    (ap (λ l. x ∷ l) more.0, ap suc more.1, subst (λ n. take n (x ∷ fs) ≡ x ∷ (take k fs ++ f ∷ [])) next (ap (λ l. x ∷ l) more.2))
+
+pub may_open : (config : Config) (place : ℕ) (f : Forward) (opened : List Opened) → IsSound config → slice_get config.forwards place ≡ Some f → opened ≡ with_numbers 0 (take place config.forwards) → MayOpen config f opened
+may_open config place f opened sound at are =
     let ranges = both (nat_le (length config.forwards) 32) (list_all (is_forward config) config.forwards) (none_twice same_host_port config.forwards) (sound.each Forwards) in
     let each = holds_at (is_forward config) config.forwards place f ranges.1 at in
-    let ports = first_of (not (f.host.port == 0) && not (f.guest.port == 0)) (is_guest config (address f.guest)) (regroup (not (f.host.port == 0)) (not (f.guest.port == 0)) (is_guest config (address f.guest)) each) in
-    let guest = second_of (not (f.host.port == 0) && not (f.guest.port == 0)) (is_guest config (address f.guest)) (regroup (not (f.host.port == 0)) (not (f.guest.port == 0)) (is_guest config (address f.guest)) each) in
-    let next = next_left opens.done opens.left config.forwards f opens.all (ap (slice_get config.forwards) (sym opens.many) ∙ at) in
-    let all : config.forwards ≡ opens.done ++ f ∷ next.0 = opens.all ∙ ap (λ l. opens.done ++ l) next.1 in
-    let long : length config.forwards ≡ length opens.done + length (f ∷ next.0) = ap length all ∙ length_both opens.done (f ∷ next.0) in
-    let many : length slirp.forwards ≡ length opens.done = ap length opens.forwards ∙ length_numbers 0 opens.done in
+    let grouped = regroup (not (f.host.port == 0)) (not (f.guest.port == 0)) (is_guest config (address f.guest)) each in
+    let ports = first_of (not (f.host.port == 0) && not (f.guest.port == 0)) (is_guest config (address f.guest)) grouped in
+    let guest = second_of (not (f.host.port == 0) && not (f.guest.port == 0)) (is_guest config (address f.guest)) grouped in
+    let here = at_place config.forwards place f at in
+    let long : length config.forwards ≡ length (take place config.forwards) + length (f ∷ drop (suc place) config.forwards) = ap length here.0 ∙ length_both (take place config.forwards) (f ∷ drop (suc place) config.forwards) in
+    let many : length opened ≡ length (take place config.forwards) = ap length are ∙ length_numbers 0 (take place config.forwards) in
     let most = ranges.0 in
-    let few : length slirp.forwards < 32 = grind (arith, nat_tests, most, long, many) in
+    let few : length opened < 32 = grind (arith, nat_tests, most, long, many) in
     record {
       few = few;
       host_port = not_zero f.host.port (first_of (not (f.host.port == 0)) (not (f.guest.port == 0)) ports);
       guest_port = not_zero f.guest.port (second_of (not (f.host.port == 0)) (not (f.guest.port == 0)) ports);
-      unasked = no_cause config f slirp.forwards
-          (ap (is_taken f.proto f.host) opens.forwards ∙ none_before opens.done next.0 f 0 (sym (ap (none_twice same_host_port) all) ∙ ranges.2)) guest few;
+      unasked = no_cause config f opened
+          (ap (is_taken f.proto f.host) are ∙ none_before (take place config.forwards) (drop (suc place) config.forwards) f 0 (sym (ap (none_twice same_host_port) here.0) ∙ ranges.2)) guest few;
     }
   where
     regroup : (a b c : Bool) → (a && b && c) ≡ true → ((a && b) && c) ≡ true
     regroup true b c is = is
     regroup false b c is = cc
+
+-- the list goes on
+pub one_more_open : (config : Config) (place : ℕ) (f : Forward) (opened new : List Opened) (number : ℕ) → slice_get config.forwards place ≡ Some f → opened ≡ with_numbers 0 (take place config.forwards) → number ≡ place → new ≡ opened ++ (f, number) ∷ []
+    → new ≡ with_numbers 0 (take (place + 1) config.forwards)
+one_more_open config place f opened new number at are is grown =
+    let here = at_place config.forwards place f at in
+    grown ∙ ap (λ l. l ++ (f, number) ∷ []) are ∙ ap (λ n. with_numbers 0 (take place config.forwards) ++ (f, n) ∷ []) (is ∙ sym here.1) ∙ sym (numbers_more 0 (take place config.forwards) f) ∙ ap (with_numbers 0) (sym here.2)
 
 -- ---- a port is opened, or the host refuses it
 
@@ -148,3 +170,10 @@ listen_refused config place f slirp new link made past at listens same allowed o
     (subst (λ n. ClosingWith config (Over (Refused n)) (forward_sockets new.forwards) new.associations new.flows.flows.parts (Listen slirp.number f.host Failed ∷ past)) opens.number
     (subst (λ (s : SlirpState). ClosingWith config (Over (Refused slirp.number)) (forward_sockets s.forwards) s.associations s.flows.flows.parts (Listen slirp.number f.host Failed ∷ past))
     (sym (same ∙ ap (λ l. record slirp { number = slirp.number + 1; forwards = l }) listens.0)) then_is))
+
+-- what the list says of a forward that was added
+pub listens_by : {T : Type 0} (forward : Forward) (number : ℕ) (old new : List Opened) (result : Result T FwdFault) (made : List Entry) → Adds None forward number old new (result_err result) made → Listens (is_ok result) forward number old new made
+listens_by forward number old new (Ok u) made (Done, is, (none, grown)) = (grown, is)
+listens_by forward number old new (Ok u) made (Failed, is, (fault, same)) = cc
+listens_by forward number old new (Err e) made (Done, is, (none, grown)) = cc
+listens_by forward number old new (Err e) made (Failed, is, (fault, same)) = (same, is)

@@ -185,7 +185,7 @@ kinds_listened number at answer past kinds n among = by (number == n) refl
     by true is = refl
     by false is = kinds n (before answer (turned is) among)
 
-numbers_more : (n : ℕ) (fs : List Forward) (f : Forward) → with_numbers n (fs ++ f ∷ []) ≡ with_numbers n fs ++ (f, n + length fs) ∷ []
+pub numbers_more : (n : ℕ) (fs : List Forward) (f : Forward) → with_numbers n (fs ++ f ∷ []) ≡ with_numbers n fs ++ (f, n + length fs) ∷ []
 numbers_more n [] f = ap (λ m. (f, m) ∷ []) (omega arith)
 numbers_more n (x ∷ fs) f = ap (λ l. (x, n) ∷ l) (numbers_more (n + 1) fs f ∙ ap (λ m. with_numbers (n + 1) fs ++ (f, m) ∷ []) (omega arith))
 
