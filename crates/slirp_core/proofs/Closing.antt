@@ -1,5 +1,5 @@
 -- The sockets of a run that is over are closed by rising number, those of associations and of flows.
-use Rattle.std.proofs.Common.{append_assoc, ◌≡◌, ℕ, ◌<◌, ◌≤◌, ◌+◌, ◌==◌, ◌&&◌, ◌||◌, ◌⊎◌, not, All, Bool, true, false, List, [], ◌∷◌, ◌++◌, filter, set, slice_get, Option, Some, None, option_map, inl, inr, refl, sym, ◌∙◌, ap, subst, arith}
+use Rattle.std.proofs.Common.{append_assoc, ◌≡◌, ℕ, suc, length, find, if◌then◌else◌, ◌<◌, ◌≤◌, ◌+◌, ◌==◌, ◌&&◌, ◌||◌, ◌⊎◌, not, All, Bool, true, false, List, [], ◌∷◌, ◌++◌, filter, set, slice_get, Option, Some, None, option_map, inl, inr, refl, sym, ◌∙◌, ap, subst, arith}
 use Rattle.std.proofs.lemmas.List.Elements.{All-head, All-tail}
 use Rattle.world_face.specs.Journal.{Entry, Call, call_of, Connect, Listen, Accept, Close, UdpOpen, CallClose}
 use Rattle.world_face.specs.declared.Accepted.{Accepted}
@@ -15,7 +15,7 @@ use Rattle.run_laws.specs.Sockets.{first, is_among, next_number, open_sockets, w
 use Rattle.slirp_laws.specs.Asking.{step, step_of}
 use Rattle.slirp_laws.specs.Datagrams.{Settled, due_for}
 use Rattle.slirp_laws.specs.Laws.{Lawful, May, MayDue, due, unless_due}
-use Rattle.slirp_laws.proofs.Bools.{among_without, equal, or_second, same}
+use Rattle.slirp_laws.proofs.Bools.{among_without, and_both, equal, or_second, same}
 use Rattle.slirp_laws.proofs.Deeds.{any_one, quest_none, this_one}
 use Rattle.slirp_laws.proofs.OpenSockets.{peer_next}
 use Rattle.core_flows.proofs.Tables.{get_set_at, get_set_other}
@@ -26,8 +26,14 @@ use Rattle.spliced_flows.specs.Core.{number_of}
 use Rattle.spliced_flows.proofs.Ending.{may_close_least}
 use Rattle.spliced_flows.proofs.Options.{none_some, some_same, true_false}
 use Rattle.tcp_flows.specs.Reading.{HasSocket, IsNextOpen, IsOpenAt, NoneIsAbove}
-use Rattle.port_forward.specs.Opened.{Opened}
-use Rattle.slirp_core.specs.Forwards.{forward_sockets}
+use Rattle.port_forward.specs.Opened.{Opened, is_at, socket_at, socket_of, without as without_port}
+use Rattle.host_policy.specs.declared.Forward.{Forward}
+use Rattle.host_policy.specs.declared.Proto.{Proto}
+use Rattle.host_policy.specs.declared.Proto.TheVariants.{Tcp, Udp}
+use Rattle.host_policy.specs.Ranges.{same_proto}
+use Rattle.host_policy.specs.Targets.{same_endpoint}
+use Rattle.slirp_laws.proofs.Longest.{same_port}
+use Rattle.slirp_core.specs.Forwards.{ClosesForward, forward_sockets}
 use Rattle.slirp_core.specs.Holds.{AreOpen, AreOpenWith, Closing, ClosingBy, ClosingWith, ClosesAll, ClosesForwards, ClosesNext, ClosesOn, IsOf, Ran, Rests, OverFor, AllWaited}
 use Rattle.slirp_core.proofs.Parts.{due_in_phase, due_is}
 
@@ -323,9 +329,76 @@ no_forwards config over list parts past closing = record {
     others n (inl never) = cc
     others n (inr of) = of
 
+-- ---- the forwards of the list
+
+-- a forward has its own port
+own_port : (f : Forward) (n : ℕ) → is_at f.proto f.host (f, n) ≡ true
+own_port f n = and_both (same_proto f.proto f.proto) (same_endpoint f.host f.host) (own_proto f.proto) (same_port f.host)
+  where
+    own_proto : (p : Proto) → same_proto p p ≡ true
+    own_proto Tcp = refl
+    own_proto Udp = refl
+
+no_more : (p : Opened → Bool) (list : List Opened) → length (filter p list) ≤ length list
+no_more p [] = omega arith
+no_more p (x ∷ list) = by (p x) (no_more p list)
+  where
+    by : (b : Bool) → length (filter p list) ≤ length list → length (if b then x ∷ filter p list else filter p list) ≤ suc (length list)
+    by true more = omega (arith, more)
+    by false more = omega (arith, more)
+
+-- where as many are left, all are
+all_left : (p : Opened → Bool) (list : List Opened) → length (filter p list) ≡ length list → filter p list ≡ list
+all_left p [] many = refl
+all_left p (x ∷ list) many = by (p x) many (no_more p list) (all_left p list)
+  where
+    by : (b : Bool) → length (if b then x ∷ filter p list else filter p list) ≡ suc (length list) → length (filter p list) ≤ length list → (length (filter p list) ≡ length list → filter p list ≡ list)
+        → (if b then x ∷ filter p list else filter p list) ≡ x ∷ list
+    by true many most more = ap (λ l. x ∷ l) (more (omega (arith, many)))
+    by false many most more = absurd (omega (arith, many, most))
+
 -- the first of them is closed next
 pub closes_forward : (first : List ℕ) (n : ℕ) (rest : List ℕ) (list : List Association) (parts : List (Option Splice)) (made : List Entry) → ClosesForwards first (n ∷ rest) list parts made → ClosesForwards first rest list parts (Close n ∷ made)
 closes_forward first n rest list parts made closes config over past closing = forward_closed config over n rest list parts (made ++ past) (closes config over past closing)
+
+pub closes_next_forward : (first : List ℕ) (old new : List Opened) (list : List Association) (parts : List (Option Splice)) (made more : List Entry) → ClosesForwards first (forward_sockets old) list parts made → ClosesForward true old new more
+    → ClosesForwards first (forward_sockets new) list parts (more ++ made)
+closes_next_forward first old new list parts made more closes (forward, n, was, one) =
+    subst (λ es. ClosesForwards first (forward_sockets new) list parts (es ++ made)) (sym one)
+    (closes_forward first n (forward_sockets new) list parts made (subst (λ (l : List Opened). ClosesForwards first (forward_sockets l) list parts made) was closes))
+
+pub closes_no_forward : (first : List ℕ) (old new : List Opened) (list : List Association) (parts : List (Option Splice)) (made more : List Entry) → ClosesForwards first (forward_sockets old) list parts made → ClosesForward false old new more
+    → ClosesForwards first [] list parts (more ++ made)
+closes_no_forward first old new list parts made more closes (was, now, none) =
+    subst (λ es. ClosesForwards first [] list parts (es ++ made)) (sym none)
+    (subst (λ (l : List Opened). ClosesForwards first (forward_sockets l) list parts made) was closes)
+
+-- the first forward of the list is the first with its port
+pub first_forward : (list : List Opened) (f : Forward) (n : ℕ) → slice_get list 0 ≡ Some (f, n) → socket_at f.proto f.host list ≡ Some n
+first_forward [] f n at = cc
+first_forward (x ∷ list) f n at =
+    ap (λ (y : Opened). option_map socket_of (find (is_at f.proto f.host) (y ∷ list))) (the_same at)
+    ∙ ap (λ b. option_map socket_of (if b then Some (f, n) else find (is_at f.proto f.host) list)) (own_port f n)
+  where
+    the_same : Some x ≡ Some (f, n) → x ≡ (f, n)
+    the_same is = cc
+
+pub first_closed : (list new : List Opened) (f : Forward) (n : ℕ) → slice_get list 0 ≡ Some (f, n) → new ≡ without_port f.proto f.host list → length new + 1 ≡ length list → list ≡ (f, n) ∷ new
+first_closed [] new f n at is many = cc
+first_closed (x ∷ list) new f n at is many =
+    let here = the_same at in
+    let left : new ≡ filter (λ o. not (is_at f.proto f.host o)) list =
+    is ∙ ap (λ (y : Opened). filter (λ o. not (is_at f.proto f.host o)) (y ∷ list)) here
+    ∙ ap (λ b. if not b then (f, n) ∷ filter (λ o. not (is_at f.proto f.host o)) list else filter (λ o. not (is_at f.proto f.host o)) list) (own_port f n) in
+    let all = all_left (λ o. not (is_at f.proto f.host o)) list (let many_left = ap length left in omega (arith, many, many_left)) in
+    ap (λ (y : Opened). y ∷ list) here ∙ ap (λ (l : List Opened). (f, n) ∷ l) (sym (left ∙ all))
+  where
+    the_same : Some x ≡ Some (f, n) → x ≡ (f, n)
+    the_same is = cc
+
+pub none_first_forward : (list : List Opened) → slice_get list 0 ≡ None → list ≡ []
+none_first_forward [] at = refl
+none_first_forward (x ∷ list) at = cc
 
 -- ---- one after another
 

@@ -370,7 +370,7 @@ pub among_given : (fs : List Forward) (n k : ℕ) → is_among n (forward_socket
 among_given [] n k is = cc
 among_given (f ∷ fs) n k is = by (n == k) refl is (λ more. among_given fs n (k + 1) more)
   where
-    by : (b : Bool) → (n == k) ≡ b → (b || is_among n (forward_sockets (with_numbers (k + 1) fs))) ≡ true → (is_among n (forward_sockets (with_numbers (k + 1) fs)) ≡ true → (k + 1 ≤ n) × (n < (k + 1) + length fs)) → (k ≤ n) × (n < k + (1 + length fs))
+    by : (b : Bool) → (n == k) ≡ b → (b || is_among n (forward_sockets (with_numbers (k + 1) fs))) ≡ true → (is_among n (forward_sockets (with_numbers (k + 1) fs)) ≡ true → (k + 1 ≤ n) × (n < (k + 1) + length fs)) → (k ≤ n) × (n < k + suc (length fs))
     by true here is more = let it = equal n k here in (omega (arith, it), omega (arith, it))
     by false other is more = let then_is = more is in let low = then_is.0 in let high = then_is.1 in (omega (arith, low), omega (arith, high))
 

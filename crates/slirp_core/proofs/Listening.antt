@@ -1,6 +1,7 @@
 -- The ports of the host that the settings give to guests are opened one after another, in their order.
-use Rattle.std.proofs.Common.{◌≡◌, ◌≢◌, ℕ, zero, suc, ◌+◌, ◌<◌, ◌≤◌, ◌==◌, ◌&&◌, ◌||◌, not, nat_le, Bool, true, false, IsTrue, List, [], ◌∷◌, ◌++◌, length, drop, take, slice_get, Some, None, refl, sym, ◌∙◌, ap, subst, arith}
+use Rattle.std.proofs.Common.{◌≡◌, ◌≢◌, ℕ, zero, suc, ◌+◌, ◌<◌, ◌≤◌, ◌==◌, ◌&&◌, ◌||◌, not, nat_le, Bool, true, false, IsTrue, List, [], ◌∷◌, ◌++◌, length, drop, take, slice_get, slice_index_or, Some, None, refl, sym, ◌∙◌, ap, subst, arith}
 use Rattle.std.proofs.lemmas.Bool.Decides.{nat_tests}
+use Rattle.std.proofs.lemmas.Option.{slice_get-get_or}
 use Rattle.std.specs.List.{list_all, list_any}
 use Rattle.world_face.specs.Journal.{AreAllowed, Entry, Listen}
 use Rattle.world_face.specs.declared.Made.{Made}
@@ -24,7 +25,7 @@ use Rattle.slirp_core.specs.Forwards.{Listens, forward_sockets, with_numbers}
 use Rattle.slirp_core.specs.Holds.{ClosingWith, Opens}
 use Rattle.slirp_core.specs.State.{SlirpState}
 use Rattle.slirp_laws.proofs.Bools.{first_of, second_of, turned}
-use Rattle.slirp_core.proofs.Starting.{more_open, next_left, numbers_more, refused}
+use Rattle.slirp_core.proofs.Starting.{more_open, next_left, numbers_last, refused}
 
 -- ---- what the ranges of the settings say of each forward
 
@@ -85,8 +86,9 @@ not_zero : (n : ℕ) → not (n == 0) ≡ true → n ≢ 0
 not_zero n is zero_is = grind (arith, nat_tests, is, zero_is)
 
 -- What a forward of sound settings has: its ports aren't 0, and where those before it are open nothing speaks against opening it.
-pub record MayOpen (config : Config) (forward : Forward) (opened : List Opened) : Type 0 where
-  pub few : length opened < 32
+pub record MayOpen (config : Config) (place : ℕ) (forward : Forward) (opened : List Opened) : Type 0 where
+  pub at : slice_get config.forwards place ≡ Some forward
+  pub few : place < 32
   pub host_port : forward.host.port ≢ 0
   pub guest_port : forward.guest.port ≢ 0
   pub unasked : fault_of config forward opened ≡ None
@@ -96,8 +98,8 @@ length_numbers n [] = refl
 length_numbers n (f ∷ fs) = ap suc (length_numbers (n + 1) fs)
 
 length_both : (xs ys : List Forward) → length (xs ++ ys) ≡ length xs + length ys
-length_both [] ys = refl
-length_both (x ∷ xs) ys = ap suc (length_both xs ys)
+length_both [] ys = omega arith
+length_both (x ∷ xs) ys = let more = length_both xs ys in omega (arith, more)
 
 -- a list at one of its places
 at_place : (fs : List Forward) (k : ℕ) (f : Forward) → slice_get fs k ≡ Some f → (fs ≡ take k fs ++ f ∷ drop (suc k) fs) × (length (take k fs) ≡ k) × (take (k + 1) fs ≡ take k fs ++ f ∷ [])
@@ -111,7 +113,7 @@ at_place (x ∷ fs) (suc k) f at =
     let next : suc (k + 1) ≡ suc k + 1 = omega arith in
     (ap (λ l. x ∷ l) more.0, ap suc more.1, subst (λ n. take n (x ∷ fs) ≡ x ∷ (take k fs ++ f ∷ [])) next (ap (λ l. x ∷ l) more.2))
 
-pub may_open : (config : Config) (place : ℕ) (f : Forward) (opened : List Opened) → IsSound config → slice_get config.forwards place ≡ Some f → opened ≡ with_numbers 0 (take place config.forwards) → MayOpen config f opened
+pub may_open : (config : Config) (place : ℕ) (f : Forward) (opened : List Opened) → IsSound config → slice_get config.forwards place ≡ Some f → opened ≡ with_numbers 0 (take place config.forwards) → MayOpen config place f opened
 may_open config place f opened sound at are =
     let ranges = both (nat_le (length config.forwards) 32) (list_all (is_forward config) config.forwards) (none_twice same_host_port config.forwards) (sound.each Forwards) in
     let each = holds_at (is_forward config) config.forwards place f ranges.1 at in
@@ -123,8 +125,10 @@ may_open config place f opened sound at are =
     let many : length opened ≡ length (take place config.forwards) = ap length are ∙ length_numbers 0 (take place config.forwards) in
     let most = ranges.0 in
     let few : length opened < 32 = grind (arith, nat_tests, most, long, many) in
+    let here_is = here.1 in
     record {
-      few = few;
+      at = at;
+      few = omega (arith, few, many, here_is);
       host_port = not_zero f.host.port (first_of (not (f.host.port == 0)) (not (f.guest.port == 0)) ports);
       guest_port = not_zero f.guest.port (second_of (not (f.host.port == 0)) (not (f.guest.port == 0)) ports);
       unasked = no_cause config f opened
@@ -135,12 +139,24 @@ may_open config place f opened sound at are =
     regroup true b c is = is
     regroup false b c is = cc
 
+-- the next of the settings may be opened, where those before it are open
+pub may_open_next : (fs : List Forward) (slirp now : SlirpState) (place : ℕ) (d : Forward) → fs ≡ slirp.config.forwards → IsSound slirp.config → place < length fs → now.forwards ≡ with_numbers 0 (take place slirp.config.forwards)
+    → now ≡ record slirp { number = place; forwards = now.forwards } → MayOpen now.config place (slice_index_or fs place d) now.forwards
+may_open_next fs slirp now place d are sound less opened same_state =
+    subst (λ (c : Config). MayOpen c place (slice_index_or fs place d) now.forwards) (sym (ap (λ (s : SlirpState). s.config) same_state))
+    (may_open slirp.config place (slice_index_or fs place d) now.forwards sound (ap (λ (l : List Forward). slice_get l place) (sym are) ∙ slice_get-get_or fs place d less) opened)
+
+pub few_forwards : (config : Config) → IsSound config → length config.forwards ≤ 32
+few_forwards config sound =
+    let most = (both (nat_le (length config.forwards) 32) (list_all (is_forward config) config.forwards) (none_twice same_host_port config.forwards) (sound.each Forwards)).0 in
+    grind (arith, nat_tests, most)
+
 -- the list goes on
 pub one_more_open : (config : Config) (place : ℕ) (f : Forward) (opened new : List Opened) (number : ℕ) → slice_get config.forwards place ≡ Some f → opened ≡ with_numbers 0 (take place config.forwards) → number ≡ place → new ≡ opened ++ (f, number) ∷ []
     → new ≡ with_numbers 0 (take (place + 1) config.forwards)
 one_more_open config place f opened new number at are is grown =
     let here = at_place config.forwards place f at in
-    grown ∙ ap (λ l. l ++ (f, number) ∷ []) are ∙ ap (λ n. with_numbers 0 (take place config.forwards) ++ (f, n) ∷ []) (is ∙ sym here.1) ∙ sym (numbers_more 0 (take place config.forwards) f) ∙ ap (with_numbers 0) (sym here.2)
+    grown ∙ ap (λ l. l ++ (f, number) ∷ []) are ∙ ap (λ n. with_numbers 0 (take place config.forwards) ++ (f, n) ∷ []) (is ∙ sym here.1) ∙ numbers_last (take place config.forwards) f ∙ ap (with_numbers 0) (sym here.2)
 
 -- ---- a port is opened, or the host refuses it
 
@@ -177,3 +193,31 @@ listens_by forward number old new (Ok u) made (Done, is, (none, grown)) = (grown
 listens_by forward number old new (Ok u) made (Failed, is, (fault, same)) = cc
 listens_by forward number old new (Err e) made (Done, is, (none, grown)) = cc
 listens_by forward number old new (Err e) made (Failed, is, (fault, same)) = (same, is)
+
+-- ---- the list as far as it was read
+
+pub listener_taken : (list : List Opened) (k : ℕ) (f : Forward) (n : ℕ) → slice_get list k ≡ Some (f, n) → take (k + 1) (forward_sockets list) ≡ take k (forward_sockets list) ++ n ∷ []
+listener_taken [] k f n at = cc
+listener_taken (x ∷ list) zero f n at = ap (λ (y : Opened). y.1 ∷ []) (the_same at)
+  where
+    the_same : Some x ≡ Some (f, n) → x ≡ (f, n)
+    the_same is = cc
+listener_taken (x ∷ list) (suc k) f n at =
+    let next : suc (k + 1) ≡ suc k + 1 = omega arith in
+    subst (λ j. take j (forward_sockets (x ∷ list)) ≡ x.1 ∷ (take k (forward_sockets list) ++ n ∷ [])) next (ap (λ l. x.1 ∷ l) (listener_taken list k f n at))
+
+pub listeners_taken : (list : List Opened) (k : ℕ) → length list ≤ k → take k (forward_sockets list) ≡ forward_sockets list
+listeners_taken [] zero all = refl
+listeners_taken [] (suc k) all = refl
+listeners_taken (x ∷ list) zero all = absurd (omega (arith, all))
+listeners_taken (x ∷ list) (suc k) all = ap (λ l. x.1 ∷ l) (listeners_taken list k (omega (arith, all)))
+
+pub few_taken : (list : List Opened) (k : ℕ) → length (take k (forward_sockets list)) ≤ k
+few_taken list zero = omega arith
+few_taken [] (suc k) = omega arith
+few_taken (x ∷ list) (suc k) = let few = few_taken list k in omega (arith, few)
+
+pub none_further : (list : List Opened) (k : ℕ) → slice_get list k ≡ None → length list ≤ k
+none_further [] k at = omega arith
+none_further (x ∷ list) zero at = cc
+none_further (x ∷ list) (suc k) at = let less = none_further list k at in omega (arith, less)

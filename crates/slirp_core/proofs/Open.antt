@@ -45,7 +45,7 @@ module _ (config : Config) (list : List Association) (f : Flowing) (now : ℕ) (
       → (is_among n (forward_sockets (given config)) ≡ true) ⊎ IsOf list f.kept.flows.parts n
   by_kind n among true b c one two three is = inr (inl (sym (carried config list past none lawful is_list n) ∙ and_both (is_among n (open_sockets past)) (is_association (kind_of n past)) among one))
   by_kind n among false true c one two three is = inr (inr (has_flow n (and_both (is_among n (open_sockets past)) (is_flow (kind_of n past)) among two)))
-  by_kind n among false false true one two three is = inl (given_among config.forwards n 0 (omega arith) (has.others n among three))
+  by_kind n among false false true one two three is = inl (given_among config.forwards n 0 (omega arith) (let less = has.others n among three in omega (arith, less)))
   by_kind n among false false false one two three is = cc
 
   -- its number isn't one of theirs
@@ -66,7 +66,7 @@ module _ (config : Config) (list : List Association) (f : Flowing) (now : ℕ) (
   pub open_by : AreOpenWith (forward_sockets (given config)) list f.kept.flows.parts past
   open_by = record {
     each = λ n among. by_kind n among (is_association (kind_of n past)) (is_flow (kind_of n past)) (is_listener (kind_of n past)) refl refl refl (kinds n among);
-    forward = λ n among. has.stay open_yet n (among_given config.forwards n 0 among).1;
+    forward = λ n among. has.stay open_yet n (let less = (among_given config.forwards n 0 among).1 in omega (arith, less));
     carry = λ n among. first_of (is_among n (open_sockets past)) (is_association (kind_of n past)) (carried config list past none lawful is_list n ∙ among);
     flow = λ k p at_k. first_of (is_among (number_of p) (open_sockets past)) (is_flow (kind_of (number_of p) past)) (seat_open config now f.aged None f.kept.flows past holds lawful k p at_k.here at_k.open_yet);
     apart = λ k p at_k. sym (carried config list past none lawful is_list (number_of p)) ∙ joins_carries_none past (number_of p) (seat_open config now f.aged None f.kept.flows past holds lawful k p at_k.here at_k.open_yet);

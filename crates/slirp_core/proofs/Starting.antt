@@ -185,9 +185,12 @@ kinds_listened number at answer past kinds n among = by (number == n) refl
     by true is = refl
     by false is = kinds n (before answer (turned is) among)
 
-pub numbers_more : (n : ℕ) (fs : List Forward) (f : Forward) → with_numbers n (fs ++ f ∷ []) ≡ with_numbers n fs ++ (f, n + length fs) ∷ []
+numbers_more : (n : ℕ) (fs : List Forward) (f : Forward) → with_numbers n (fs ++ f ∷ []) ≡ with_numbers n fs ++ (f, n + length fs) ∷ []
 numbers_more n [] f = ap (λ m. (f, m) ∷ []) (omega arith)
 numbers_more n (x ∷ fs) f = ap (λ l. (x, n) ∷ l) (numbers_more (n + 1) fs f ∙ ap (λ m. with_numbers (n + 1) fs ++ (f, m) ∷ []) (omega arith))
+
+pub numbers_last : (fs : List Forward) (f : Forward) → with_numbers 0 fs ++ (f, length fs) ∷ [] ≡ with_numbers 0 (fs ++ f ∷ [])
+numbers_last fs f = let same_number : length fs ≡ 0 + length fs = omega arith in ap (λ m. with_numbers 0 fs ++ (f, m) ∷ []) same_number ∙ sym (numbers_more 0 fs f)
 
 sockets_more : (list : List Opened) (f : Forward) (n : ℕ) → forward_sockets (list ++ (f, n) ∷ []) ≡ forward_sockets list ++ n ∷ []
 sockets_more [] f n = refl
@@ -248,7 +251,7 @@ module _ (config : Config) (slirp : SlirpState) (link : LinkState) (past : List 
       left = rest;
       all = opens.all ∙ ap (λ l. opens.done ++ l) next ∙ one_of opens.done f rest;
       many = ap (λ n. n + 1) opens.many ∙ sym (length_more opens.done f);
-      forwards = ap (λ l. l ++ (f, slirp.number) ∷ []) opens.forwards ∙ ap (λ n. with_numbers 0 opens.done ++ (f, n) ∷ []) opens.many ∙ sym (numbers_more 0 opens.done f);
+      forwards = ap (λ l. l ++ (f, slirp.number) ∷ []) opens.forwards ∙ ap (λ n. with_numbers 0 opens.done ++ (f, n) ∷ []) opens.many ∙ numbers_last opens.done f;
       opening = ap (λ p. opened Done p) (opens.opening ∙ ap (Opening slirp.number) next);
       are_open = ap (λ l. l ++ slirp.number ∷ []) opens.are_open ∙ sym (sockets_more slirp.forwards f slirp.number);
       flows = flows_stay config (flowing false slirp.flows) slirp.moment (Listen slirp.number f.host Done) past refl refl (omega arith) refl opens.flows;

@@ -1,5 +1,5 @@
 -- A peer comes to a port of the host that is given to a guest: its flow begins, or it is refused and its socket closed, or none has come.
-use Rattle.std.proofs.Common.{◌≡◌, ℕ, zero, suc, ◌<◌, ◌+◌, ◌==◌, ◌&&◌, ◌||◌, not, nat_lt, Bool, true, false, List, [], ◌∷◌, ◌++◌, length, slice_get, MatchOption, Option, Some, None, option_map, refl, sym, ◌∙◌, ap, subst, arith, if◌then◌else◌}
+use Rattle.std.proofs.Common.{◌≡◌, ℕ, zero, suc, ◌<◌, ◌+◌, ◌==◌, ◌&&◌, ◌||◌, not, nat_lt, ◌⊎◌, inl, inr, Bool, true, false, List, [], ◌∷◌, ◌++◌, length, slice_get, MatchOption, Option, Some, None, option_map, refl, sym, ◌∙◌, ap, subst, arith, if◌then◌else◌}
 use Rattle.std.proofs.lemmas.Bool.Decides.{nat_tests}
 use Rattle.net_octets.specs.declared.Endpoint.{Endpoint}
 use Rattle.net_octets.specs.declared.Mac.{Mac}
@@ -16,7 +16,10 @@ use Rattle.flow_laws.specs.Event.{Accepts}
 use Rattle.flow_laws.specs.Flow.{first_number}
 use Rattle.flow_book.specs.Book.{book, doom, is_refused, opens, port_by, port_of, quiet, scene, tuple_for, visits_for}
 use Rattle.flow_book.specs.Doings.{Nothing, doing}
-use Rattle.flow_book.specs.Flows.{Book, flow_of, is_it, used}
+use Rattle.flow_book.specs.Flows.{Book, flow_of, is_it, is_used, used}
+use Rattle.host_policy.specs.Targets.{is_hidden, shown}
+use Rattle.world_face.specs.Tells.{Answers, Brings, Telling}
+use Rattle.world_face.proofs.Telling.{brings_one}
 use Rattle.flow_book.specs.Laws.{MayShut, flow_settings}
 use Rattle.flow_book.specs.Lots.{due_for_flows}
 use Rattle.run_laws.specs.Moments.{moment}
@@ -322,12 +325,42 @@ module _ (config : Config) (count : ℕ) (wants : List Want) (item : Want) (item
           first_allowed : (made : List Entry) → made ≡ Close slirp.number ∷ [] → AreAllowed (made ++ Accept listener slirp.number (From peer) ∷ []) → Allowed (Close slirp.number)
           first_allowed made is all = (subst (λ es. AreAllowed (es ++ Accept listener slirp.number (From peer) ∷ [])) is all).0
 
+-- nobody came, or the host failed
+pub passed_by : (a b : Telling) (config : Config) (count : ℕ) (wants : List Want) (item : Want) (items : List Want) (listener : ℕ) → is_to_read (AListener listener) (wanted_of wants item) ≡ true → (slirp : SlirpState) (link : LinkState)
+    → in_use_slots slirp.flows.flows.table.slots < length slirp.flows.flows.table.slots → (forward : Forward) (number : ℕ) → slice_get slirp.forwards listener ≡ Some (forward, number)
+    → (answer : Accepted) → (answer ≡ NotYetAccepted) ⊎ (answer ≡ AcceptFailed) → Answers a b (Accept listener slirp.number answer)
+    → Brings a b (Holds config (standing count wants (item ∷ items)) slirp (flowing false slirp.flows) link) (Holds config (standing count wants items) slirp (flowing false slirp.flows) link)
+passed_by a b config count wants item items listener reads_it slirp link room forward number at answer (inl is) answers =
+    brings_one (subst (λ (r : Accepted). Answers a b (Accept listener slirp.number r)) is answers) (λ fine past holds. nobody_came config count wants item items listener reads_it slirp link past holds room forward number at fine)
+passed_by a b config count wants item items listener reads_it slirp link room forward number at answer (inr is) answers =
+    brings_one (subst (λ (r : Accepted). Answers a b (Accept listener slirp.number r)) is answers) (λ fine past holds. none_accepted config count wants item items listener reads_it slirp link past holds room forward number at fine)
+
+-- who is refused, by what the policy and the slots say
+pub refused_by : (config : Config) (guest peer other : Endpoint) (b : Book) (found : Option Endpoint) (used : Bool) → found ≡ (if is_hidden config peer then None else Some (shown config peer)) → found ≡ Some other
+    → used ≡ is_used (record { guest = guest; other = other }) b.flows → is_refused config guest peer b ≡ used
+refused_by config guest peer other b found used is was recorded = by (is_hidden config peer) refl (sym is ∙ was)
+  where
+    by : (h : Bool) → is_hidden config peer ≡ h → (if h then None else Some (shown config peer)) ≡ Some other → is_refused config guest peer b ≡ used
+    by true hidden none = cc
+    by false hidden seen =
+        ap (λ h. h || is_used (tuple_for config guest peer) b.flows) hidden
+        ∙ ap (λ (e : Endpoint). is_used (record { guest = guest; other = e }) b.flows) (the_same seen) ∙ sym recorded
+      where
+        the_same : Some (shown config peer) ≡ Some other → shown config peer ≡ other
+        the_same some = cc
+
 -- by what was found of its two ends
+true_then : (b : Bool) → false ≡ not b → true ≡ b
+true_then true is = refl
+true_then false is = cc
+
+false_then : (b : Bool) → true ≡ not b → false ≡ b
+false_then true is = cc
+false_then false is = refl
+
 pub treats_refused : (b : Bool) (guest peer : Endpoint) (old new : SlirpState) (made : List Entry) → false ≡ not b → made ≡ Close old.number ∷ [] → new.flows ≡ old.flows → Treats b guest peer old new made
-treats_refused true guest peer old new made is one same = (one, same)
-treats_refused false guest peer old new made is one same = cc
+treats_refused b guest peer old new made is one same_flows = subst (λ (x : Bool). Treats x guest peer old new made) (true_then b is) (one, same_flows)
 
 pub treats_welcome : (b : Bool) (guest peer : Endpoint) (old new : SlirpState) (made : List Entry) → true ≡ not b → made ≡ []
     → Welcomes old.moment old.number old.flows new.flows (tuple_for old.config guest peer) (learnt_for guest.addr old.known) → Treats b guest peer old new made
-treats_welcome true guest peer old new made is none welcomes = cc
-treats_welcome false guest peer old new made is none welcomes = (none, welcomes)
+treats_welcome b guest peer old new made is none welcomes = subst (λ (x : Bool). Treats x guest peer old new made) (false_then b is) (none, welcomes)

@@ -1,6 +1,6 @@
 -- Ports of the host that are given to guests: each has the number of its place in the settings, since they are opened before all other sockets.
 use Rattle.std.specs.Prelude.{◌≡◌, ℕ, ◌+◌, Bool, true, false, List, [], ◌∷◌, ◌++◌, map, slice_get, Some}
-use Rattle.world_face.specs.Journal.{Entry}
+use Rattle.world_face.specs.Journal.{Close, Entry}
 use Rattle.world_face.specs.declared.Made.TheVariants.{Done, Failed}
 use Rattle.host_policy.specs.Addresses.{Config}
 use Rattle.host_policy.specs.declared.Forward.{Forward}
@@ -29,3 +29,8 @@ AreForConnections config = (k : ℕ) (forward : Forward) → slice_get config.fo
 abbrev pub Listens : Bool → Forward → ℕ → (old new : List Opened) → List Entry → Type 0
 Listens true forward number old new made = (new ≡ old ++ (forward, number) ∷ []) × (made ≡ opening_of forward.proto number forward.host Done ∷ [])
 Listens false forward number old new made = (new ≡ old) × (made ≡ opening_of forward.proto number forward.host Failed ∷ [])
+
+-- the socket of the first was closed, if there was one
+abbrev pub ClosesForward : Bool → (old new : List Opened) → List Entry → Type 0
+ClosesForward true old new made = (forward : Forward) × (number : ℕ) × (old ≡ (forward, number) ∷ new) × (made ≡ Close number ∷ [])
+ClosesForward false old new made = (old ≡ []) × (new ≡ []) × (made ≡ [])

@@ -10,7 +10,7 @@ use world_face::{Accepted, World};
 impl Slirp {
     ghost use Rattle.host_policy.specs.Addresses.{Config};
     ghost use Rattle.host_policy.specs.Ranges.{IsSound};
-    ghost use Rattle.slirp_core.specs.Forwards.{AreForConnections, forward_sockets};
+    ghost use Rattle.slirp_core.specs.Forwards.{AreForConnections, ClosesForward, forward_sockets};
     ghost use Rattle.slirp_core.specs.Holds.{AfterListening, ClosesForwards, Opens};
     ghost use Rattle.stream_netdev.specs.State.{LinkState};
     ghost use Rattle.world_face.specs.Tells.{Brings, Makes, Rose};
@@ -103,9 +103,10 @@ impl Slirp {
         ensures turn { self.new.flows.turn ≡ self.old.flows.turn }
         ensures others { self.new ≡ record self.old { number = self.old.number + 1; flows = self.new.flows } }
     {
+        let ends = self.ends_for(guest, peer);
         let number = self.number;
         self.number += 1;
-        let Some(ends) = self.ends_for(guest, peer) else {
+        let Some(ends) = ends else {
             world.close(number);
             return;
         };
@@ -133,10 +134,20 @@ impl Slirp {
             (ClosesForwards (forward_sockets self.old.forwards) [] self.old.associations self.old.flows.flows.parts) }
         ensures others { self.new ≡ record self.old { forwards = [] } }
     {
-        while let Some((forward, _)) = self.forwards.at(0) {
-            let _ = self
-                .forwards
-                .remove_hostfwd(world, forward.proto, forward.host);
-        }
+        while self.close_forward(world) {}
+    }
+
+    // Closes the socket of the first forward, and answers whether there was one.
+    fn close_forward<W: World>(&mut self, world: &mut W) -> bool
+        ensures makes { Makes (W.tells world.old) (W.tells world.new) (ClosesForward result self.old.forwards self.new.forwards) }
+        ensures fewer { result ≡ true → length self.new.forwards < length self.old.forwards }
+        ensures others { self.new ≡ record self.old { forwards = self.new.forwards } }
+    {
+        let Some((forward, _)) = self.forwards.at(0) else {
+            return false;
+        };
+        self.forwards
+            .remove_hostfwd(world, forward.proto, forward.host)
+            .is_ok()
     }
 }

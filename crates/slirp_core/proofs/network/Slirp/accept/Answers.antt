@@ -1,36 +1,70 @@
-use Rattle.std.proofs.Common.{rules, [], ◌≡◌, ◌≢◌, ◌<◌, ◌≤◌, ◌+◌, ◌^◌, ℕ, length, map, OnSome, IfSome, Some, None, Bool, List, ◌∷◌, true, false, not, is_some, ◌-◌, ◌*◌, ◌/◌, ◌%◌, nat_eq, nat_lt, ◌++◌, slice_index_or, slice_set, bit_and, bit_or, Fits, w8, w32, w64, Bor, MutBor}
+use Rattle.std.proofs.Common.{[], ◌∷◌, ◌++◌, ◌≡◌, ◌+◌, ◌<◌, ◌≤◌, ℕ, Bool, true, false, List, Some, None, length, nat_lt, slice_get, refl, sym, ◌∙◌, ap, subst, arith}
+use Rattle.std.proofs.lemmas.Bool.Decides.{nat_tests}
+use Rattle.world_face.specs.Journal.{Accept, AreAllowed, Entry}
+use Rattle.world_face.specs.declared.Accepted.{Accepted}
+use Rattle.world_face.specs.declared.Accepted.TheVariants.{From, NotYet as NotYetAccepted, Failed as AcceptFailed}
+use Rattle.world_face.specs.Tells.{Answers, Brings, Makes}
+use Rattle.world_face.proofs.Telling.{brings_none, brings_one, makes_one, makes_then}
 use Rattle.host_policy.specs.Addresses.{Config}
-use Rattle.host_policy.specs.Ranges.{IsSound}
-use Rattle.slirp_core.specs.Forwards.{AreForConnections, forward_sockets, Listens}
-use Rattle.slirp_core.specs.Holds.{AfterListening, ClosesForwards, Opens, Holds, flowing, standing}
-use Rattle.stream_netdev.specs.State.{LinkState}
-use Rattle.world_face.specs.Tells.{Brings, Makes, Rose}
-use Rattle.world_face.specs.Journal.{Entry}
 use Rattle.poll_list.specs.declared.Want.{Want as AnItem}
-use Rattle.poll_list.specs.declared.Who.TheVariants.{Listener}
-use Rattle.slirp_laws.specs.Agenda.{is_to_read, wanted_of}
-use Rattle.slirp_core.specs.Counts.{AreGrown}
-use Rattle.port_forward.specs.Adding.{fault_of}
+use Rattle.stream_netdev.specs.State.{LinkState}
 use Rattle.core_flows.specs.Seats.{in_use_slots}
-use Rattle.flow_book.specs.Book.{book, is_refused, tuple_for}
-use Rattle.host_policy.specs.Targets.{is_hidden}
+use Rattle.flow_book.specs.Book.{book, is_refused}
 use Rattle.spliced_flows.specs.Core.{CoreHolds}
-use Rattle.tcp_flows.specs.Reading.{NoneUses}
+use Rattle.slirp_core.specs.Holds.{Holds, flowing, standing}
+use Rattle.slirp_core.specs.State.{SlirpState}
 use Rattle.slirp_core.specs.Visits.{Treats}
+use Rattle.slirp_core.proofs.Associating.{passes_over}
+use Rattle.slirp_core.proofs.Counted.{grown}
+use Rattle.slirp_core.proofs.Telling.{brings_allowed}
+use Rattle.slirp_core.proofs.Visiting.{passed_by, treated}
 use Rattle.slirp_core.proofs.network.Slirp.accept.Goals as goal
 
--- src/forwards.rt:86:13
 pub returns-then-not-has_room-clause-makes : goal.returns-then-not-has_room-clause-makes
-returns-then-not-has_room-clause-makes g c = ?
+returns-then-not-has_room-clause-makes g c config count wants item items link reads_it = brings_none (λ past holds. passes_over config count wants item items c.args.self.now (flowing false c.args.self.now.flows) link past holds)
 
--- src/forwards.rt:89:13
 pub returns-in_default-clause-makes : goal.returns-in_default-clause-makes
-returns-in_default-clause-makes g c = ?
+returns-in_default-clause-makes g c config count wants item items link reads_it = brings_none (λ past holds. passes_over config count wants item items c.args.self.now (flowing false c.args.self.now.flows) link past holds)
 
--- src/forwards.rt:75:5
-pub returns-in-From-clause-makes : goal.returns-in-From-clause-makes
-returns-in-From-clause-makes g c = ?
-
--- src/forwards.rt:75:5
 pub returns-in-NotYet : goal.returns-in-NotYet
-returns-in-NotYet g c = ?
+returns-in-NotYet g c =
+    let i = c.self.inside in
+    let slirp : SlirpState = record { config = i.policy; known = i.guests; sent = i.sent; pending = i.outgoing; moment = i.moment; number = i.number; associations = i.associations.list; parts = i.reasm; flows = i.flows; leases = i.leases.leases; forwards = i.forwards } in
+    let room_is = c.if-not-has_room.ensures in
+    let room : in_use_slots i.flows.flows.table.slots < length i.flows.flows.table.slots = grind (arith, nat_tests, room_is) in
+    record {
+      makes = λ config count wants item items link reads_it.
+          subst (λ (s : SlirpState). Brings (g.W.World.tells c.args.world.now) (g.W.World.tells c.accept.new.self) (Holds config (standing count wants (item ∷ items)) s (flowing false s.flows) link) (Holds config (standing count wants items) s (flowing false s.flows) link)) c.self.view_is
+          (passed_by _ _ config count wants item items c.args.listener reads_it slirp link room c.in-Some.forward c.in-Some.field-0-1 (sym c.at.ensures ∙ c.in-Some.is) c.accept.result c.in-NotYet.is c.accept.ensures);
+      counts = grown _ _ _ c.accept.ensures.counted;
+      number = omega arith;
+      turn = refl;
+      others = refl;
+    }
+
+pub returns-in-From-clause-makes : goal.returns-in-From-clause-makes
+returns-in-From-clause-makes g c config count wants item items link reads_it =
+    let slirp = c.args.self.now in
+    let room_is = c.if-not-has_room.ensures in
+    let room : in_use_slots c.self.inside.flows.flows.table.slots < length c.self.inside.flows.flows.table.slots = grind (arith, nat_tests, room_is) in
+    let forward = c.in-Some.forward in
+    let peer = c.in-From.peer in
+    let new = c.welcome.new.self in
+    let came : Entry = Accept c.args.listener slirp.number (From peer) in
+    brings_allowed
+    (makes_then _ _ _ (λ made. made ≡ came ∷ []) _
+    (λ es. (made : List Entry) × (es ≡ made ++ came ∷ [])
+    × ((config : Config) (now : ℕ) (aged : Bool) (past : List Entry) → CoreHolds config now aged None slirp.flows.flows past → slirp.config ≡ config → Treats (is_refused config forward.guest peer (book config past)) forward.guest peer slirp new made))
+    (makes_one _ _ _ _ (subst (λ (s : SlirpState). Answers (g.W.World.tells c.args.world.now) (g.W.World.tells c.accept.new.self) (Accept c.args.listener s.number (From peer))) c.self.view_is c.in-From.ensures) (λ allowed. refl)) c.welcome.ensures.treats
+    (λ made more one treats. (more, ap (λ l. more ++ l) one, treats)))
+    (λ es (made, is, treats) allowed past holds.
+    subst (λ l. Holds config (standing count wants items) new (flowing false new.flows) link (l ++ past)) (sym is)
+    (treated config count wants item items c.args.listener reads_it slirp link past holds (subst (λ (s : SlirpState). in_use_slots s.flows.flows.table.slots < length s.flows.flows.table.slots) c.self.view_is room)
+    forward c.in-Some.field-0-1 (subst (λ (s : SlirpState). slice_get s.forwards c.args.listener ≡ Some (forward, c.in-Some.field-0-1)) c.self.view_is (sym c.at.ensures ∙ c.in-Some.is)) peer new made (subst AreAllowed is allowed) c.welcome.ensures.others
+    (treats config slirp.moment false past holds.flows.holds holds.guests.settings)))
+
+pub returns-in-From-clause-counts : goal.returns-in-From-clause-counts
+returns-in-From-clause-counts g c =
+    let first = grown _ _ _ c.in-From.ensures.counted in
+    let then_is = grown _ _ _ c.welcome.ensures.treats.counted in
+    (omega (arith, first.0, then_is.0), omega (arith, first.1, then_is.1), omega (arith, first.2, then_is.2))

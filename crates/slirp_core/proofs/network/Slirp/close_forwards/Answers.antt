@@ -1,44 +1,43 @@
-use Rattle.std.proofs.Common.{rules, [], ◌≡◌, ◌≢◌, ◌<◌, ◌≤◌, ◌+◌, ◌^◌, ℕ, length, map, OnSome, IfSome, Some, None, Bool, List, ◌∷◌, true, false, not, is_some, ◌-◌, ◌*◌, ◌/◌, ◌%◌, nat_eq, nat_lt, ◌++◌, slice_index_or, slice_set, bit_and, bit_or, Fits, w8, w32, w64, Bor, MutBor}
-use Rattle.host_policy.specs.Addresses.{Config}
-use Rattle.host_policy.specs.Ranges.{IsSound}
-use Rattle.slirp_core.specs.Forwards.{AreForConnections, forward_sockets, Listens}
-use Rattle.slirp_core.specs.Holds.{AfterListening, ClosesForwards, Opens, Holds, flowing, standing}
-use Rattle.stream_netdev.specs.State.{LinkState}
-use Rattle.world_face.specs.Tells.{Brings, Makes, Rose}
-use Rattle.world_face.specs.Journal.{Entry}
-use Rattle.poll_list.specs.declared.Want.{Want as AnItem}
-use Rattle.poll_list.specs.declared.Who.TheVariants.{Listener}
-use Rattle.slirp_laws.specs.Agenda.{is_to_read, wanted_of}
-use Rattle.slirp_core.specs.Counts.{AreGrown}
-use Rattle.port_forward.specs.Adding.{fault_of}
-use Rattle.core_flows.specs.Seats.{in_use_slots}
-use Rattle.flow_book.specs.Book.{book, is_refused, tuple_for}
-use Rattle.host_policy.specs.Targets.{is_hidden}
-use Rattle.spliced_flows.specs.Core.{CoreHolds}
-use Rattle.tcp_flows.specs.Reading.{NoneUses}
-use Rattle.slirp_core.specs.Visits.{Treats}
+use Rattle.std.proofs.Common.{[], ◌≡◌, Bool, List, refl, ◌∙◌, ap, subst}
+use Rattle.world_face.specs.Tells.{Makes}
+use Rattle.world_face.proofs.Telling.{makes_none, makes_then}
+use Rattle.port_forward.specs.Opened.{Opened}
+use Rattle.slirp_core.specs.Forwards.{ClosesForward, forward_sockets}
+use Rattle.slirp_core.specs.State.{SlirpState}
+use Rattle.slirp_core.proofs.Closing.{closes_next_forward, closes_no_forward}
 use Rattle.slirp_core.proofs.network.Slirp.close_forwards.Goals as goal
 
--- src/forwards.rt:136:9
-pub loop-forward-init : goal.loop-forward-init
-loop-forward-init g c = ?
+pub loop-init : goal.loop-init
+loop-init g c = record { makes = makes_none _ _ (λ config over past closing. closing); others = refl }
 
--- src/forwards.rt:136:9
-pub loop-forward-smaller : goal.loop-forward-smaller
-loop-forward-smaller g c = ?
+pub loop-smaller : goal.loop-smaller
+loop-smaller g c = c.close_forward.ensures.fewer c.loop-test.true
 
--- src/forwards.rt:136:9
-pub loop-forward-preserved : goal.loop-forward-preserved
-loop-forward-preserved g c = ?
+pub loop-preserved : goal.loop-preserved
+loop-preserved g c =
+    let first = c.args.self.now in
+    let old = c.loop.self.forwards in
+    let new = c.close_forward.new.self.forwards in
+    record {
+      makes = makes_then _ _ _ _ _ _ c.loop.invariant.makes
+          (subst (λ (b : Bool). Makes (g.W.World.tells c.loop.world) (g.W.World.tells c.close_forward.new.world) (ClosesForward b old new)) c.loop-test.true c.close_forward.ensures.makes)
+          (λ made more closes later. closes_next_forward (forward_sockets first.forwards) old new first.associations first.flows.flows.parts made more closes later);
+      others = c.close_forward.ensures.others ∙ ap (λ (s : SlirpState). record s { forwards = new }) c.loop.invariant.others;
+    }
 
--- src/forwards.rt:136:15
-pub invariant_of-self : goal.invariant_of-self
-invariant_of-self g c = ?
-
--- src/forwards.rt:131:5
 pub returns-clause-makes : goal.returns-clause-makes
-returns-clause-makes g c = ?
+returns-clause-makes g c =
+    let first = c.args.self.now in
+    let old = c.loop.self.forwards in
+    let new = c.close_forward.new.self.forwards in
+    makes_then _ _ _ _ _ _ c.loop.invariant.makes
+    (subst (λ (b : Bool). Makes (g.W.World.tells c.loop.world) (g.W.World.tells c.close_forward.new.world) (ClosesForward b old new)) c.loop-test.false c.close_forward.ensures.makes)
+    (λ made more closes later. closes_no_forward (forward_sockets first.forwards) old new first.associations first.flows.flows.parts made more closes later)
 
--- src/forwards.rt:131:5
 pub returns-clause-others : goal.returns-clause-others
-returns-clause-others g c = ?
+returns-clause-others g c =
+    let old = c.loop.self.forwards in
+    let new = c.close_forward.new.self.forwards in
+    let closed = subst (λ (b : Bool). Makes (g.W.World.tells c.loop.world) (g.W.World.tells c.close_forward.new.world) (ClosesForward b old new)) c.loop-test.false c.close_forward.ensures.makes in
+    c.close_forward.ensures.others ∙ ap (λ (s : SlirpState). record s { forwards = new }) c.loop.invariant.others
+    ∙ ap (λ (l : List Opened). record c.args.self.now { forwards = l }) closed.holds.1

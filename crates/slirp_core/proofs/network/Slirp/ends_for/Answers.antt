@@ -1,28 +1,20 @@
-use Rattle.std.proofs.Common.{rules, [], ◌≡◌, ◌≢◌, ◌<◌, ◌≤◌, ◌+◌, ◌^◌, ℕ, length, map, OnSome, IfSome, Some, None, Bool, List, ◌∷◌, true, false, not, is_some, ◌-◌, ◌*◌, ◌/◌, ◌%◌, nat_eq, nat_lt, ◌++◌, slice_index_or, slice_set, bit_and, bit_or, Fits, w8, w32, w64, Bor, MutBor}
+use Rattle.std.proofs.Common.{◌≡◌, Bool, true, false, None, Some, not, if◌then◌else◌, sym, ◌∙◌, ap, subst, List}
 use Rattle.host_policy.specs.Addresses.{Config}
-use Rattle.host_policy.specs.Ranges.{IsSound}
-use Rattle.slirp_core.specs.Forwards.{AreForConnections, forward_sockets, Listens}
-use Rattle.slirp_core.specs.Holds.{AfterListening, ClosesForwards, Opens, Holds, flowing, standing}
-use Rattle.stream_netdev.specs.State.{LinkState}
-use Rattle.world_face.specs.Tells.{Brings, Makes, Rose}
-use Rattle.world_face.specs.Journal.{Entry}
-use Rattle.poll_list.specs.declared.Want.{Want as AnItem}
-use Rattle.poll_list.specs.declared.Who.TheVariants.{Listener}
-use Rattle.slirp_laws.specs.Agenda.{is_to_read, wanted_of}
-use Rattle.slirp_core.specs.Counts.{AreGrown}
-use Rattle.port_forward.specs.Adding.{fault_of}
-use Rattle.core_flows.specs.Seats.{in_use_slots}
-use Rattle.flow_book.specs.Book.{book, is_refused, tuple_for}
-use Rattle.host_policy.specs.Targets.{is_hidden}
+use Rattle.flow_book.specs.Book.{book}
+use Rattle.host_policy.specs.Targets.{is_hidden, shown}
 use Rattle.spliced_flows.specs.Core.{CoreHolds}
-use Rattle.tcp_flows.specs.Reading.{NoneUses}
-use Rattle.slirp_core.specs.Visits.{Treats}
+use Rattle.slirp_core.specs.State.{SlirpState}
+use Rattle.slirp_core.proofs.Visiting.{refused_by}
 use Rattle.slirp_core.proofs.network.Slirp.ends_for.Goals as goal
 
--- src/forwards.rt:125:13
 pub returns-then-is_used-clause-recorded : goal.returns-then-is_used-clause-recorded
-returns-then-is_used-clause-recorded c = ?
+returns-then-is_used-clause-recorded c config now aged past holds is =
+    ap not (sym (refused_by config c.args.guest c.args.peer c.in_ok-other.other (book config past) c.shown.result c.is_used.result
+    (subst (λ (c2 : Config). c.shown.result ≡ (if is_hidden c2 c.args.peer then None else Some (shown c2 c.args.peer))) (ap (λ (s : SlirpState). s.config) c.self.view_is ∙ is) c.shown.ensures) c.in_ok-other.was
+    (c.is_used.ensures.recorded config now aged None past (subst (λ (s : SlirpState). CoreHolds config now aged None s.flows.flows past) (sym c.self.view_is) holds)) ∙ c.if-is_used.true))
 
--- src/forwards.rt:117:5
 pub returns-clause-recorded : goal.returns-clause-recorded
-returns-clause-recorded c = ?
+returns-clause-recorded c config now aged past holds is =
+    ap not (sym (refused_by config c.args.guest c.args.peer c.in_ok-other.other (book config past) c.shown.result c.is_used.result
+    (subst (λ (c2 : Config). c.shown.result ≡ (if is_hidden c2 c.args.peer then None else Some (shown c2 c.args.peer))) (ap (λ (s : SlirpState). s.config) c.self.view_is ∙ is) c.shown.ensures) c.in_ok-other.was
+    (c.is_used.ensures.recorded config now aged None past (subst (λ (s : SlirpState). CoreHolds config now aged None s.flows.flows past) (sym c.self.view_is) holds)) ∙ c.if-is_used.false))

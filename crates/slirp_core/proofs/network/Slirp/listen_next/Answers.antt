@@ -1,24 +1,22 @@
-use Rattle.std.proofs.Common.{rules, [], ◌≡◌, ◌≢◌, ◌<◌, ◌≤◌, ◌+◌, ◌^◌, ℕ, length, map, OnSome, IfSome, Some, None, Bool, List, ◌∷◌, true, false, not, is_some, ◌-◌, ◌*◌, ◌/◌, ◌%◌, nat_eq, nat_lt, ◌++◌, slice_index_or, slice_set, bit_and, bit_or, Fits, w8, w32, w64, Bor, MutBor}
-use Rattle.host_policy.specs.Addresses.{Config}
-use Rattle.host_policy.specs.Ranges.{IsSound}
-use Rattle.slirp_core.specs.Forwards.{AreForConnections, forward_sockets, Listens}
-use Rattle.slirp_core.specs.Holds.{AfterListening, ClosesForwards, Opens, Holds, flowing, standing}
-use Rattle.stream_netdev.specs.State.{LinkState}
-use Rattle.world_face.specs.Tells.{Brings, Makes, Rose}
-use Rattle.world_face.specs.Journal.{Entry}
-use Rattle.poll_list.specs.declared.Want.{Want as AnItem}
-use Rattle.poll_list.specs.declared.Who.TheVariants.{Listener}
-use Rattle.slirp_laws.specs.Agenda.{is_to_read, wanted_of}
-use Rattle.slirp_core.specs.Counts.{AreGrown}
-use Rattle.port_forward.specs.Adding.{fault_of}
-use Rattle.core_flows.specs.Seats.{in_use_slots}
-use Rattle.flow_book.specs.Book.{book, is_refused, tuple_for}
-use Rattle.host_policy.specs.Targets.{is_hidden}
-use Rattle.spliced_flows.specs.Core.{CoreHolds}
-use Rattle.tcp_flows.specs.Reading.{NoneUses}
-use Rattle.slirp_core.specs.Visits.{Treats}
+use Rattle.std.proofs.Common.{◌≡◌, Bool, Option, None, sym, ◌∙◌, ap, subst}
+use Rattle.std.specs.Result.{result_err}
+use Rattle.world_face.specs.Tells.{Makes}
+use Rattle.world_face.proofs.Telling.{makes_as}
+use Rattle.port_forward.specs.Adding.{Adds, fault_of}
+use Rattle.port_forward.specs.declared.FwdFault.{FwdFault}
+use Rattle.slirp_core.specs.Forwards.{Listens}
+use Rattle.slirp_core.specs.State.{SlirpState}
+use Rattle.slirp_core.proofs.Listening.{listens_by}
 use Rattle.slirp_core.proofs.network.Slirp.listen_next.Goals as goal
 
--- src/forwards.rt:57:5
 pub returns-clause-adds : goal.returns-clause-adds
-returns-clause-adds g c = ?
+returns-clause-adds g c =
+    let i = c.self.inside in
+    let forward = c.args.forward in
+    let new = c.add_hostfwd.new.self in
+    let unasked = ap (λ (s : SlirpState). fault_of s.config forward s.forwards) c.self.view_is ∙ c.requires.unasked in
+    subst (λ (s : SlirpState). Makes (g.W.World.tells c.args.world.now) (g.W.World.tells c.add_hostfwd.new.world) (Listens c.is_ok.result forward s.number s.forwards new)) c.self.view_is
+    (subst (λ (b : Bool). Makes (g.W.World.tells c.args.world.now) (g.W.World.tells c.add_hostfwd.new.world) (Listens b forward i.number i.forwards new)) (sym c.is_ok.ensures.value)
+    (makes_as _ _ _ _
+    (subst (λ (fault : Option FwdFault). Makes (g.W.World.tells c.args.world.now) (g.W.World.tells c.add_hostfwd.new.world) (Adds fault forward i.number i.forwards new (result_err c.add_hostfwd.result))) unasked c.add_hostfwd.ensures.adds)
+    (λ made added. listens_by forward i.number i.forwards new c.add_hostfwd.result made added)))

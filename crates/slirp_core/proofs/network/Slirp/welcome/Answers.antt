@@ -7,6 +7,7 @@ use Rattle.udp_assoc.proofs.Below.{below_up}
 use Rattle.core_flows.specs.Seats.{in_use_slots}
 use Rattle.flow_book.specs.Book.{book, is_refused, tuple_for}
 use Rattle.spliced_flows.specs.Core.{CoreHolds}
+use Rattle.tcp_flows.specs.Reading.{NoneUses}
 use Rattle.tcp_flows.specs.Runs.{Welcomes}
 use Rattle.slirp_core.specs.State.{SlirpState}
 use Rattle.slirp_core.specs.Visits.{Treats}
@@ -19,7 +20,7 @@ returns-in_default-clause-treats g c =
     let i = c.self.inside in
     makes_one _ _ _ _ c.close.ensures (λ allowed config now aged past holds is.
     treats_refused (is_refused config c.args.guest c.args.peer (book config past)) c.args.guest c.args.peer c.args.self.now _ (Close i.number ∷ [])
-    (c.in_default.ensures.recorded config now aged past (subst (λ (s : SlirpState). CoreHolds config now aged None s.flows.flows past) (sym c.self.view_is) holds) (ap (λ (s : SlirpState). s.config) c.self.view_is ∙ is))
+    (c.in_default.ensures.recorded config now aged past holds is)
     (ap (λ (s : SlirpState). Close s.number ∷ []) c.self.view_is) (ap (λ (s : SlirpState). s.flows) c.self.view_is))
 
 pub returns-clause-treats : goal.returns-clause-treats
@@ -27,16 +28,16 @@ returns-clause-treats g c =
     let i = c.self.inside in
     makes_none _ _ (λ config now aged past holds is.
     treats_welcome (is_refused config c.args.guest c.args.peer (book config past)) c.args.guest c.args.peer c.args.self.now _ []
-    (c.in-Some.ensures.recorded config now aged past (subst (λ (s : SlirpState). CoreHolds config now aged None s.flows.flows past) (sym c.self.view_is) holds) (ap (λ (s : SlirpState). s.config) c.self.view_is ∙ is)) refl
-    (subst (λ (s : SlirpState). Welcomes s.moment s.number s.flows c.accept.new.self (tuple_for s.config c.args.guest c.args.peer) (learnt_for c.args.guest.addr s.known)) c.self.view_is
-    (subst (λ m. Welcomes i.moment i.number i.flows c.accept.new.self (tuple_for i.policy c.args.guest c.args.peer) m) c.find-mac.ensures
+    (c.in-Some.ensures.recorded config now aged past holds is) refl
+    (subst (λ (s : SlirpState). Welcomes s.moment s.number s.flows c.accept.new.self (tuple_for c.args.self.now.config c.args.guest c.args.peer) (learnt_for c.args.guest.addr s.known)) c.self.view_is
+    (subst (λ m. Welcomes i.moment i.number i.flows c.accept.new.self (tuple_for c.args.self.now.config c.args.guest c.args.peer) m) c.find-mac.ensures
     (subst (λ t. Welcomes i.moment i.number i.flows c.accept.new.self t c.find-mac.result) c.in-Some.ensures.some.0 c.accept.ensures.welcomes))))
 
 pub accept-requires-clause-room : goal.accept-requires-clause-room
 accept-requires-clause-room g c = subst (λ (s : SlirpState). in_use_slots s.flows.flows.table.slots < length s.flows.flows.table.slots) (sym c.self.view_is) c.requires.room
 
 pub accept-requires-clause-unused : goal.accept-requires-clause-unused
-accept-requires-clause-unused g c = c.in-Some.ensures.some.2
+accept-requires-clause-unused g c = subst (λ (s : SlirpState). NoneUses s.flows.flows.table.slots c.in-Some.ends) (sym c.self.view_is) c.in-Some.ensures.some.2
 
 pub accept-requires-clause-above : goal.accept-requires-clause-above
 accept-requires-clause-above g c = c.self.invariant.3.below
@@ -44,18 +45,8 @@ accept-requires-clause-above g c = c.self.invariant.3.below
 pub accept-requires-clause-count : goal.accept-requires-clause-count
 accept-requires-clause-count g c = let few = c.self.invariant.3.opened in let number = ap (λ (s : SlirpState). s.number) c.self.view_is in omega (arith, few, number, c.requires.number)
 
-pub invariant_of-self-in_default : goal.invariant_of-self-in_default
-invariant_of-self-in_default g c =
+pub invariant_of-self : goal.invariant_of-self
+invariant_of-self g c =
     let i = c.self.inside in
     (below_up i.number i.associations.list c.self.invariant.0, c.self.invariant.1, c.self.invariant.2, drawn_up i.number (i.number + 1) i.flows (omega arith) c.self.invariant.3, c.self.invariant.4, c.self.invariant.5)
 
-pub invariant_of-self : goal.invariant_of-self
-invariant_of-self g c =
-    let i = c.self.inside in (
-      below_up i.number i.associations.list c.self.invariant.0,
-      c.self.invariant.1,
-      c.self.invariant.2,
-      drawn_begun i.number i.flows c.accept.new.self c.accept.ensures.slots c.accept.ensures.opened c.accept.ensures.numbers c.self.invariant.3,
-      c.self.invariant.4,
-      c.self.invariant.5,
-    )
