@@ -12,25 +12,25 @@ use Rattle.slirp_core.specs.declared.sending.Pumped.{Pumped}
 use Rattle.slirp_core.specs.declared.sending.Pumped.TheVariants.{Clear, Blocked, Failed}
 
 pub grown_then : (a b c : Counts) → AreGrown a b → AreGrown b c → AreGrown a c
-grown_then a b c first second = (omega (arith, first.0, second.0), omega (arith, first.1.0, second.1.0), omega (arith, first.1.1, second.1.1))
+grown_then a b c first second = (omega (arith, first.0, second.0), omega (arith, first.1, second.1), omega (arith, first.2, second.2))
 
 pub end_after : (end : End) (a b c : Counts) → AreGrown a b → IsCountedEnd end b c → IsCountedEnd end a c
 end_after Done a b c before counted = tt
 end_after (TooLong n) a b c before counted = tt
 end_after (Cut n) a b c before counted = tt
 end_after LinkFault a b c before counted = rose_after a.link b.link c.link before.0 counted
-end_after WaitFault a b c before counted = rose_after a.wait b.wait c.wait before.1.0 counted
+end_after WaitFault a b c before counted = rose_after a.wait b.wait c.wait before.1 counted
 end_after (TurnsSpent n) a b c before counted = tt
-end_after (ListenRefused n) a b c before counted = rose_after a.socket b.socket c.socket before.1.1 counted
+end_after (ListenRefused n) a b c before counted = rose_after a.socket b.socket c.socket before.2 counted
 
 pub end_before : (end : End) (a b c : Counts) → IsCountedEnd end a b → AreGrown b c → IsCountedEnd end a c
 end_before Done a b c counted later = tt
 end_before (TooLong n) a b c counted later = tt
 end_before (Cut n) a b c counted later = tt
 end_before LinkFault a b c counted later = rose_before a.link b.link c.link counted later.0
-end_before WaitFault a b c counted later = rose_before a.wait b.wait c.wait counted later.1.0
+end_before WaitFault a b c counted later = rose_before a.wait b.wait c.wait counted later.1
 end_before (TurnsSpent n) a b c counted later = tt
-end_before (ListenRefused n) a b c counted later = rose_before a.socket b.socket c.socket counted later.1.1
+end_before (ListenRefused n) a b c counted later = rose_before a.socket b.socket c.socket counted later.2
 
 pub counted_after : (turn : Turn) (a b c : Counts) → AreGrown a b → IsCounted turn b c → IsCounted turn a c
 counted_after Again a b c before counted = grown_then a b c before counted

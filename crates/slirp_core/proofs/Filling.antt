@@ -244,7 +244,7 @@ writes_once n w wants before part k once is at of = once_behind (λ (x : Want). 
 
 -- those before a place, from there to a later one, and the rest
 pub three_parts : {A : Type 0} (xs : List A) (f b : ℕ) → f ≤ b → xs ≡ (take f xs ++ take (b - f) (drop f xs)) ++ drop b xs
-three_parts xs zero b up = sym (take-append-drop b xs)
+three_parts xs zero b up = let whole : b ≡ b - 0 = omega arith in subst (λ n. xs ≡ take n xs ++ drop b xs) whole (sym (take-append-drop b xs))
 three_parts [] (suc f) b up = nothing (b - suc f) b
   where
     nothing : {A : Type 0} (n b : ℕ) → [] ≡ ([] ++ take {A = A} n []) ++ drop b []
@@ -253,4 +253,6 @@ three_parts [] (suc f) b up = nothing (b - suc f) b
     nothing (suc n) zero = refl
     nothing (suc n) (suc b) = refl
 three_parts (x ∷ xs) (suc f) zero up = absurd (omega (arith, up))
-three_parts (x ∷ xs) (suc f) (suc b) up = ap (λ l. x ∷ l) (three_parts xs f b (omega (arith, up)))
+three_parts (x ∷ xs) (suc f) (suc b) up =
+    let same_many : b - f ≡ suc b - suc f = omega arith in
+    subst (λ n. x ∷ xs ≡ x ∷ ((take f xs ++ take n (drop f xs)) ++ drop b xs)) same_many (ap (λ l. x ∷ l) (three_parts xs f b (omega (arith, up))))

@@ -13,7 +13,7 @@ use Rattle.host_policy.specs.declared.Forward.{Forward}
 use Rattle.host_policy.specs.declared.Proto.{Proto}
 use Rattle.host_policy.specs.declared.Proto.TheVariants.{Tcp, Udp}
 use Rattle.host_policy.specs.declared.config.Field.TheVariants.{Forwards}
-use Rattle.std.specs.Prelude.{Result, Ok, Err}
+use Rattle.std.specs.Prelude.{Result, Ok, Err, OnOk}
 use Rattle.std.specs.Result.{is_ok, result_err}
 use Rattle.port_forward.specs.declared.FwdFault.{FwdFault}
 use Rattle.port_forward.specs.Adding.{Adds, fault_of, opening_of}
@@ -221,3 +221,7 @@ pub none_further : (list : List Opened) (k : ℕ) → slice_get list k ≡ None 
 none_further [] k at = omega arith
 none_further (x ∷ list) zero at = cc
 none_further (x ∷ list) (suc k) at = let less = none_further list k at in omega (arith, less)
+
+pub at_ok : {T E P : Type 0} (result : Result T E) → is_ok result ≡ true → OnOk result P → P
+at_ok (Ok x) is p = p
+at_ok (Err e) is p = cc

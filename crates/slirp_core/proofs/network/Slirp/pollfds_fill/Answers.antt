@@ -19,7 +19,7 @@ returns-clause-timeout c held is = record {
 pub returns-clause-items : goal.returns-clause-items
 returns-clause-items c =
     let added = c.fill.ensures.items in
-    wants_of c.args.self.now c.args.link.now c.fill.new.self.items added.0 c.is_settled.result c.blocked.result c.listeners-listeners.result.items c.rising.result.now c.is_settled.ensures c.blocked.ensures c.listeners-listeners.ensures.items
+    wants_of c.args.self.now c.args.link.now c.fill.new.self.items added.0 c.is_settled.result c.blocked.result c.as_slice.result.now c.rising.result.now c.is_settled.ensures c.blocked.ensures (c.as_slice.ensures.value ∙ c.listeners-listeners.ensures.items)
     (subst (λ (s : SlirpState). IsPermutation (numbers s.associations) c.rising.result.now) c.self.view_is c.rising.ensures.all) c.rising.ensures.rising
     (subst (λ (s : SlirpState). AreWantsOf s.flows.flows.parts added.0) c.self.view_is added.2) added.1
 
