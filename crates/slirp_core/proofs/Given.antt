@@ -1,22 +1,20 @@
 -- The ports of the host that are given to guests, in a lawful run: they are opened first, in order, and stay open until the closing.
-use Rattle.std.proofs.Common.{◌≡◌, ℕ, zero, suc, ◌+◌, ◌<◌, ◌≤◌, ◌==◌, ◌&&◌, ◌||◌, ◌⊎◌, not, nat_lt, Bool, true, false, List, [], ◌∷◌, ◌++◌, cond, drop, filter, length, map, slice_get, is_some, Option, Some, None, MatchOption, option_map, if◌then◌else◌, inl, inr, refl, sym, ◌∙◌, ap, subst, arith}
+use Rattle.std.proofs.Common.{◌≡◌, ℕ, zero, suc, ◌+◌, ◌<◌, ◌≤◌, ◌==◌, ◌&&◌, ◌||◌, ◌⊎◌, not, nat_lt, Bool, true, false, List, [], ◌∷◌, ◌++◌, drop, length, slice_get, is_some, Option, Some, None, MatchOption, option_map, if◌then◌else◌, inl, inr, refl, sym, ◌∙◌, ap, subst, arith}
 use Rattle.std.proofs.lemmas.Bool.Decides.{nat_tests}
 use Rattle.net_octets.specs.declared.Endpoint.{Endpoint}
 use Rattle.world_face.specs.Journal.{Entry, Call, Connect, Listen, Accept, Close, UdpOpen, Now, Wait, CallClose, CallNow, CallListen, call_of}
 use Rattle.world_face.specs.Frames.{Ending, ending, partial}
-use Rattle.world_face.specs.declared.Accepted.{Accepted}
 use Rattle.world_face.specs.declared.Accepted.TheVariants.{From, NotYet as NotYetAccepted, Failed as AcceptFailed}
 use Rattle.world_face.specs.declared.Made.{Made}
 use Rattle.world_face.specs.declared.Made.TheVariants.{Done, Failed}
 use Rattle.host_policy.specs.declared.Forward.{Forward}
-use Rattle.host_policy.specs.declared.Proto.{Proto}
-use Rattle.host_policy.specs.declared.Proto.TheVariants.{Tcp, Udp}
+use Rattle.host_policy.specs.declared.Proto.TheVariants.{Tcp}
 use Rattle.host_policy.specs.Addresses.{Config}
 use Rattle.flow_book.specs.Book.{book}
 use Rattle.flow_book.specs.Lots.{due_for_flows}
 use Rattle.run_laws.specs.Moments.{waits}
 use Rattle.run_laws.specs.Shape.{Phase, Opening, Started, Woken, Working, Over, By, Refused, due_in, may_turn, opening_of, phase, phase_after, phase_by}
-use Rattle.run_laws.specs.Sockets.{Kind, Association as OfAssociation, Forward as OfForward, Listener, Flow as OfFlow, DnsSocket, datagram_kind, is_among, is_listener, kind_of, next_number, open_sockets, with_made}
+use Rattle.run_laws.specs.Sockets.{Kind, Listener, Flow as OfFlow, datagram_kind, is_among, is_listener, kind_of, next_number, open_sockets, with_made}
 use Rattle.slirp_laws.specs.Laws.{Lawful, May, due, due_for_services, is_closing, may_part, parts, unless_due}
 use Rattle.slirp_laws.proofs.Bools.{among_last, among_without, and_both, equal, first_of, or_second, same, second_of, turned}
 use Rattle.slirp_laws.proofs.OpenSockets.{open_below, peer_next}
@@ -24,8 +22,7 @@ use Rattle.slirp_laws.proofs.Phases.{IsForOther, for_others}
 use Rattle.slirp_laws.specs.Asking.{step}
 use Rattle.slirp_laws.specs.Datagrams.{Step, Settled, NeedsRoom, NeedsSocket, NeedsSending, due_for}
 use Rattle.run_laws.specs.Sockets.{first}
-use Rattle.port_forward.specs.Opened.{Opened}
-use Rattle.slirp_core.specs.Forwards.{AreForConnections, forward_sockets, given, with_numbers}
+use Rattle.slirp_core.specs.Forwards.{AreForConnections, forward_sockets, with_numbers}
 use Rattle.slirp_core.specs.Sockets.{AllAbove, IsRising}
 use Rattle.core_flows.proofs.Seats.{same_or_not}
 use Rattle.spliced_flows.proofs.Options.{true_false}

@@ -4,11 +4,9 @@ use Rattle.std.proofs.lemmas.Bool.Decides.{nat_tests}
 use Rattle.std.proofs.lemmas.Option.{slice_get-get_or}
 use Rattle.std.specs.List.{list_all, list_any}
 use Rattle.world_face.specs.Journal.{AreAllowed, Entry, Listen}
-use Rattle.world_face.specs.declared.Made.{Made}
 use Rattle.world_face.specs.declared.Made.TheVariants.{Done, Failed}
 use Rattle.host_policy.specs.Addresses.{Config, address, is_guest}
 use Rattle.host_policy.specs.Ranges.{IsSound, is_forward, none_twice, same_host_port, same_proto}
-use Rattle.host_policy.specs.Targets.{same_endpoint}
 use Rattle.host_policy.specs.declared.Forward.{Forward}
 use Rattle.host_policy.specs.declared.Proto.{Proto}
 use Rattle.host_policy.specs.declared.Proto.TheVariants.{Tcp, Udp}

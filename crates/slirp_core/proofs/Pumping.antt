@@ -107,7 +107,7 @@ after_flush config at slirp f old new made past result pumped some (answer, is, 
     (begins (tail past) old.tail some holds.keeps.rest)
     (goes_on (tail past) old.tail some holds.keeps.rest)
     (λ a. flows_stay config f slirp.moment (LinkWrite old.tail a) past (ap (λ o. doing_by None o (LinkWrite old.tail a)) (none_opens a old.tail (tail past) some holds.keeps.rest))
-        (ap (λ o. requests_by (left config past) o (requests config past)) (none_opens a old.tail (tail past) some holds.keeps.rest)) (omega arith) refl holds.flows)
+    (ap (λ o. requests_by (left config past) o (requests config past)) (none_opens a old.tail (tail past) some holds.keeps.rest)) (omega arith) refl holds.flows)
     (remains answer (none_opens answer old.tail (tail past) some holds.keeps.rest)) refl))
   where
     some_tail : (octets : List ℕ) → 0 < length octets → octets ≡ [] → ⊥

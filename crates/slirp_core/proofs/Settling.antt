@@ -1,10 +1,9 @@
 -- After a pump that ended clear each flow is settled.
-use Rattle.std.proofs.Common.{◌≡◌, ℕ, true, List, ◌++◌, None, sym, subst}
+use Rattle.std.proofs.Common.{◌≡◌, ℕ, true, List, ◌++◌, sym, subst}
 use Rattle.world_face.specs.Journal.{Entry}
 use Rattle.world_face.specs.Tells.{Brings, Telling}
 use Rattle.host_policy.specs.Addresses.{Config}
 use Rattle.flow_laws.specs.Dutiful.{AreAhead, resend_deadline}
-use Rattle.spliced_flows.specs.Core.{CoreHolds}
 use Rattle.stream_netdev.specs.State.{LinkState}
 use Rattle.tcp_flows.specs.Reading.{AllClear, AreTold, HaveSlots}
 use Rattle.tcp_flows.specs.Settled.{AreSettled, IsInTime}

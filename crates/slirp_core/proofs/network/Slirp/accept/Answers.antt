@@ -1,13 +1,10 @@
-use Rattle.std.proofs.Common.{[], ◌∷◌, ◌++◌, ◌≡◌, ◌+◌, ◌<◌, ◌≤◌, ℕ, Bool, true, false, List, Some, None, length, nat_lt, slice_get, refl, sym, ◌∙◌, ap, subst, arith}
+use Rattle.std.proofs.Common.{[], ◌∷◌, ◌++◌, ◌≡◌, ◌<◌, ℕ, Bool, false, List, Some, None, length, slice_get, refl, sym, ◌∙◌, ap, subst, arith}
 use Rattle.std.proofs.lemmas.Bool.Decides.{nat_tests}
 use Rattle.world_face.specs.Journal.{Accept, AreAllowed, Entry}
-use Rattle.world_face.specs.declared.Accepted.{Accepted}
-use Rattle.world_face.specs.declared.Accepted.TheVariants.{From, NotYet as NotYetAccepted, Failed as AcceptFailed}
-use Rattle.world_face.specs.Tells.{Answers, Brings, Makes}
-use Rattle.world_face.proofs.Telling.{brings_none, brings_one, makes_one, makes_then}
+use Rattle.world_face.specs.declared.Accepted.TheVariants.{From}
+use Rattle.world_face.specs.Tells.{Answers, Brings}
+use Rattle.world_face.proofs.Telling.{brings_none, makes_one, makes_then}
 use Rattle.host_policy.specs.Addresses.{Config}
-use Rattle.poll_list.specs.declared.Want.{Want as AnItem}
-use Rattle.stream_netdev.specs.State.{LinkState}
 use Rattle.core_flows.specs.Seats.{in_use_slots}
 use Rattle.flow_book.specs.Book.{book, is_refused}
 use Rattle.spliced_flows.specs.Core.{CoreHolds}

@@ -1,4 +1,4 @@
-use Rattle.std.proofs.Common.{Bool, refl, sym, ◌∙◌, ap, subst}
+use Rattle.std.proofs.Common.{Bool, sym, ◌∙◌, ap, subst}
 use Rattle.world_face.specs.Tells.{Makes}
 use Rattle.world_face.proofs.Telling.{makes_as, makes_then}
 use Rattle.slirp_core.specs.Holds.{ClosesNext, ClosesOn}

@@ -1,7 +1,6 @@
-use Rattle.std.proofs.Common.{[], ◌∷◌, ◌≡◌, ◌+◌, ◌<◌, Bool, List, length, refl, sym, ◌∙◌, ap, subst, arith}
+use Rattle.std.proofs.Common.{◌<◌, Bool, length, refl, sym, ◌∙◌, ap, subst, arith}
 use Rattle.world_face.specs.Tells.{Makes}
 use Rattle.world_face.proofs.Telling.{makes_as, makes_none}
-use Rattle.port_forward.specs.Opened.{Opened}
 use Rattle.slirp_core.specs.Forwards.{ClosesForward}
 use Rattle.slirp_core.specs.State.{SlirpState}
 use Rattle.slirp_core.proofs.Closing.{first_closed, first_forward, none_first_forward}

@@ -1,4 +1,4 @@
-use Rattle.std.proofs.Common.{[], ◌≡◌, Bool, List, refl, ◌∙◌, ap, subst}
+use Rattle.std.proofs.Common.{Bool, List, refl, ◌∙◌, ap, subst}
 use Rattle.world_face.specs.Tells.{Makes}
 use Rattle.world_face.proofs.Telling.{makes_none, makes_then}
 use Rattle.port_forward.specs.Opened.{Opened}

@@ -1,4 +1,4 @@
-use Rattle.std.proofs.Common.{◌≡◌, Bool, true, false, None, Some, not, if◌then◌else◌, sym, ◌∙◌, ap, subst, List}
+use Rattle.std.proofs.Common.{◌≡◌, None, Some, not, if◌then◌else◌, sym, ◌∙◌, ap, subst}
 use Rattle.host_policy.specs.Addresses.{Config}
 use Rattle.flow_book.specs.Book.{book}
 use Rattle.host_policy.specs.Targets.{is_hidden, shown}

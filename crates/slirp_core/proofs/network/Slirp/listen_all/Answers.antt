@@ -1,5 +1,4 @@
-use Rattle.std.proofs.Common.{[], ◌∷◌, ◌≡◌, ℕ, ◌+◌, ◌≤◌, Bool, List, length, refl, sym, ◌∙◌, ap, subst, slice_get, slice_index_or, Some, take, arith}
-use Rattle.net_octets.specs.declared.Endpoint.{Endpoint}
+use Rattle.std.proofs.Common.{◌≡◌, ◌+◌, Bool, length, ◌∙◌, ap, subst, slice_get, slice_index_or, Some, arith}
 use Rattle.world_face.specs.Tells.{Brings, Makes}
 use Rattle.world_face.proofs.Telling.{brings_none, brings_then}
 use Rattle.world_face.proofs.Counting.{rose_after}

@@ -1,9 +1,6 @@
-use Rattle.std.proofs.Common.{◌≡◌, ◌+◌, ◌++◌, ◌∷◌, ◌<◌, ◌≤◌, Bool, true, List, ℕ, length, map, take, sym, ◌∙◌, ap, subst, arith, if◌then◌else◌, []}
-use Rattle.std.proofs.lemmas.List.{length-map}
-use Rattle.port_forward.specs.Opened.{socket_of}
+use Rattle.std.proofs.Common.{◌++◌, ◌∷◌, Bool, length, sym, ◌∙◌, ap, arith, if◌then◌else◌, []}
 use Rattle.slirp_core.specs.Forwards.{forward_sockets}
 use Rattle.slirp_core.specs.Pumps.{listeners_of}
-use Rattle.slirp_core.specs.State.{SlirpState}
 use Rattle.slirp_core.proofs.Listening.{at_ok, few_taken, listener_taken, listeners_taken, none_further}
 use Rattle.slirp_core.proofs.network.Slirp.listeners.Goals.{in-Some, in_default}
 use Rattle.slirp_core.proofs.network.Slirp.listeners.Goals as goal
@@ -21,10 +18,10 @@ loop-place-preserved c =
     let long = ap length c.loop-place.invariant in
     let taken = few_taken i.forwards place in
     elim c.match-at.branch [
-      in-Some w ↦
-        let pushed = at_ok w.try_push.result (w.try_push.ensures.variant.1 (omega (arith, long, taken, less, count, few))) w.try_push.ensures.ok in
-        ap (λ l. l.items) w.numbers-is ∙ pushed ∙ ap (λ l. l ++ w.in-Some.number ∷ []) c.loop-place.invariant ∙ sym (listener_taken i.forwards place w.in-Some.field-0-0 w.in-Some.number (sym c.at.ensures ∙ w.in-Some.is))
-    | in_default w ↦ let all = none_further i.forwards place (sym c.at.ensures ∙ w.in_default.is) in absurd (omega (arith, all, less, count))
+      | in-Some w ↦
+          let pushed = at_ok w.try_push.result (w.try_push.ensures.variant.1 (omega (arith, long, taken, less, count, few))) w.try_push.ensures.ok in
+          ap (λ l. l.items) w.numbers-is ∙ pushed ∙ ap (λ l. l ++ w.in-Some.number ∷ []) c.loop-place.invariant ∙ sym (listener_taken i.forwards place w.in-Some.field-0-0 w.in-Some.number (sym c.at.ensures ∙ w.in-Some.is))
+      | in_default w ↦ let all = none_further i.forwards place (sym c.at.ensures ∙ w.in_default.is) in absurd (omega (arith, all, less, count))
     ]
 
 pub returns-clause-items : goal.returns-clause-items

@@ -1,10 +1,9 @@
-use Rattle.std.proofs.Common.{◌≡◌, ℕ, ◌+◌, ◌∙◌, List, slice_get, Some, None, refl, sym, ap, subst}
+use Rattle.std.proofs.Common.{◌≡◌, ℕ, ◌+◌, ◌∙◌, List, slice_get, Some, refl, sym, ap, subst}
 use Rattle.world_face.specs.Tells.{Makes}
 use Rattle.world_face.proofs.Telling.{brings_none, brings_then, makes_then}
 use Rattle.std.specs.Prelude.{false, true}
 use Rattle.core_flows.specs.FlowsHold.{FlowsState}
 use Rattle.flow_splice.specs.Splice.{Splice}
-use Rattle.spliced_flows.specs.Core.{CoreHolds}
 use Rattle.tcp_flows.specs.Kept.{Kept}
 use Rattle.tcp_flows.specs.Settled.{IsInTime, OwesNoAck}
 use Rattle.tcp_flows.specs.Runs.{ClosesRising}

@@ -1,17 +1,14 @@
-use Rattle.std.proofs.Common.{◌≡◌, ◌+◌, ◌<◌, not, Bool, true, false, [], ◌∷◌, length, None, refl, sym, ◌∙◌, ap, subst, arith}
+use Rattle.std.proofs.Common.{◌+◌, ◌<◌, [], ◌∷◌, length, refl, sym, ap, subst, arith}
 use Rattle.world_face.specs.Journal.{Close}
 use Rattle.world_face.proofs.Telling.{makes_none, makes_one}
-use Rattle.host_policy.specs.Addresses.{Config}
 use Rattle.arp_table.specs.Table.{mac_of as learnt_for}
 use Rattle.udp_assoc.proofs.Below.{below_up}
 use Rattle.core_flows.specs.Seats.{in_use_slots}
 use Rattle.flow_book.specs.Book.{book, is_refused, tuple_for}
-use Rattle.spliced_flows.specs.Core.{CoreHolds}
 use Rattle.tcp_flows.specs.Reading.{NoneUses}
 use Rattle.tcp_flows.specs.Runs.{Welcomes}
 use Rattle.slirp_core.specs.State.{SlirpState}
-use Rattle.slirp_core.specs.Visits.{Treats}
-use Rattle.slirp_core.proofs.Drawn.{drawn_begun, drawn_up}
+use Rattle.slirp_core.proofs.Drawn.{drawn_up}
 use Rattle.slirp_core.proofs.Visiting.{treats_refused, treats_welcome}
 use Rattle.slirp_core.proofs.network.Slirp.welcome.Goals as goal
 
@@ -49,4 +46,3 @@ pub invariant_of-self : goal.invariant_of-self
 invariant_of-self g c =
     let i = c.self.inside in
     (below_up i.number i.associations.list c.self.invariant.0, c.self.invariant.1, c.self.invariant.2, drawn_up i.number (i.number + 1) i.flows (omega arith) c.self.invariant.3, c.self.invariant.4, c.self.invariant.5)
-
