@@ -87,7 +87,7 @@ pub record OfGuests (config : Config) (slirp : SlirpState) (past : List Entry) :
   pub known : known config past ≡ slirp.known
   pub fragments : OfFragments config slirp past
 
--- What a datagram asks for by the list of associations: no port of the host is given to a guest yet, and no question waits.
+-- What a datagram asks for by the list of associations: no port of the host is given to a guest for datagrams yet, and no question waits.
 abbrev pub no_forward : Endpoint → Option ℕ
 no_forward guest = None
 
