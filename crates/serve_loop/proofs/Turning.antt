@@ -73,17 +73,6 @@ still_by_socket to_read item number is = ap (λ who. to_read && not (same_who Th
     and_true true = refl
     and_true false = refl
 
--- numbers of sockets: at most one is drawn for the frame that is read
-pub enough : (number limit : ℕ) (to_read : Bool) → to_read ≡ true → number + (if to_read then 1 else 0) ≤ limit + 1 → limit + 1 < 2 ^ 64 → number + 1 < 2 ^ 64
-enough number limit true is few fits = omega (arith, few, fits)
-enough number limit false is few fits = cc
-
-pub counts_on : (new old limit : ℕ) (to_read of_link read : Bool) → new ≤ old + (if to_read && of_link && read then 1 else 0) → old + (if to_read then 1 else 0) ≤ limit + 1 → new + (if to_read && not (of_link && read) then 1 else 0) ≤ limit + 1
-counts_on new old limit true true true less few = omega (arith, less, few)
-counts_on new old limit true true false less few = omega (arith, less, few)
-counts_on new old limit true false read less few = omega (arith, less, few)
-counts_on new old limit false of_link read less few = omega (arith, less, few)
-
 -- the frame that is to be read
 pub read_now : (to_read : Bool) (item : Want) → is_read_now to_read item ≡ true → (to_read ≡ true) × (item.read ≡ true)
 read_now to_read item is = by to_read (same_who TheLink item.of) item.read is
@@ -145,10 +134,6 @@ weaker config count wants items aged slirp link past holds =
     at_end : (xs : List Want) → xs ≡ xs ++ []
     at_end [] = refl
     at_end (x ∷ xs) = ap (λ l. x ∷ l) (at_end xs)
-
-pub any_left : (number : ℕ) (to_read : Bool) → number + (if to_read then 1 else 0) ≤ number + 1
-any_left number true = omega arith
-any_left number false = omega arith
 
 -- ---- items that are passed over
 

@@ -115,7 +115,6 @@ impl Service {
     ghost use Rattle.udp_assoc.specs.declared.assocs.Association.{Association as AnAssociation};
 
     /// A network with these settings that has served nothing. It takes all the memory that it will ever need.
-    #[tactic(auto, using(crate::proofs::Opening::has_room_for_a_unit, crate::proofs::Opening::has_few_turns, crate::proofs::Opening::has_some_turns))]
     pub fn open(alloc: Global, c: &SlirpConfig) -> Result<Service, NoMemory>
         requires sound { IsSound (settings c.now) }
         requires built { IsBuilt (settings c.now) }
@@ -304,7 +303,9 @@ impl Service {
         ensures passed { all_passed_over self.old.wants self.old.ready ≡ true → (result ≡ Turn.Again) × (self.new ≡ self.old) × (world.new ≡ world.old) }
     {
         let mut to_read = self.may_read();
-        for place in 0..self.ready.items().len() {
+        // The list has room for no more.
+        let count = self.ready.items().len().min(MOST_READY);
+        for place in 0..count {
             let item = self.item(place);
             match self.attend(world, &item, to_read) {
                 Turn::Again => to_read = still(to_read, &item),

@@ -1,8 +1,11 @@
-use Rattle.std.proofs.Common.{false}
+use Rattle.std.proofs.Common.{◌∷◌, false, subst}
 use Rattle.poll_list.specs.declared.Who.TheVariants.{Listener}
+use Rattle.world_face.specs.Tells.{Brings}
 use Rattle.world_face.proofs.Telling.{brings_none, brings_then}
 use Rattle.slirp_core.specs.Holds.{flowing, standing}
 use Rattle.slirp_core.proofs.Associating.{passes_over}
+use Rattle.serve_loop.specs.Served.{ServiceState}
+use Rattle.serve_loop.specs.Turns.{AfterTurn, HoldsNow}
 use Rattle.serve_loop.proofs.Turning.{of_listener, read_counts}
 use Rattle.serve_loop.proofs.service.Service.attend_listener.Goals as goal
 
@@ -12,9 +15,11 @@ returns-then-not-waits_for_peers-clause-makes g c config count items =
 
 pub returns-clause-makes : goal.returns-clause-makes
 returns-clause-makes g c config count items =
+    let wants = c.args.self.now.wants in
     let waited = c.waits_for_peers.ensures c.if-not-waits_for_peers.false in
-    brings_then (c.accept.ensures.makes config count c.args.self.now.wants c.args.item.now items (of_listener c.args.number c.args.self.now.wants c.args.item.now c.requires.of waited.0 waited.1))
-    (c.pump.ensures.makes config (standing count c.args.self.now.wants items) false)
+    subst (λ (s : ServiceState). Brings (g.W.World.tells c.args.world.now) (g.W.World.tells c.pump.new.world) (HoldsNow config (standing count wants (c.args.item.now ∷ items)) false s.slirp s.link) (AfterTurn c.pump.result config (standing count wants items) false c.pump.new.self.slirp c.pump.new.self.link)) c.self.view_is
+    (brings_then (c.accept.ensures.makes config count wants c.args.item.now items c.self.inside.link (of_listener c.args.number wants c.args.item.now c.requires.of waited.0 waited.1))
+    (c.pump.ensures.makes config (standing count wants items) false))
 
 pub returns-clause-passed : goal.returns-clause-passed
 returns-clause-passed g c passed =

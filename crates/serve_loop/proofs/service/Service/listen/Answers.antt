@@ -9,7 +9,7 @@ use Rattle.serve_loop.proofs.Serving.{opens}
 use Rattle.serve_loop.proofs.service.Service.listen.Goals as goal
 
 pub listen_all-requires-clause-forwards : goal.listen_all-requires-clause-forwards
-listen_all-requires-clause-forwards g c = c.as_slice.ensures ∙ c.self.invariant.6
+listen_all-requires-clause-forwards g c = c.as_slice.ensures.value ∙ c.self.invariant.6
 
 pub listen_all-requires-clause-sound : goal.listen_all-requires-clause-sound
 listen_all-requires-clause-sound g c = (subst IsNew (sym c.self.view_is) c.requires).sound

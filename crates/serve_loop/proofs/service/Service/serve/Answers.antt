@@ -12,24 +12,24 @@ use Rattle.serve_loop.proofs.service.Service.serve.Goals as goal
 
 pub loop-count-init : goal.loop-count-init
 loop-count-init g c = record {
-  makes = c.start-begun.ensures.makes;
-  on = c.start-begun.ensures.on;
-  config = c.start-begun.ensures.config;
-  number = omega (arith, c.start-begun.ensures.number);
-  turns = omega (arith, c.start-begun.ensures.turns);
-  counts = grown _ _ _ c.start-begun.ensures.makes.counted;
+  makes = c.in_default.ensures.makes;
+  on = c.in_default.ensures.on;
+  config = c.in_default.ensures.config;
+  number = omega (arith, c.in_default.ensures.number);
+  turns = omega (arith, c.in_default.ensures.turns);
+  counts = grown _ _ _ c.in_default.ensures.makes.counted;
 }
 
 pub turn-requires-clause-turns : goal.turn-requires-clause-turns
 turn-requires-clause-turns g c =
-    let turns = c.self.invariant.0 ∙ ap (λ (s : ServiceState). s.slirp.config.turns) c.self.view_is ∙ ap (λ (k : Config). k.turns) c.start-begun.ensures.config in
+    let turns = c.self.invariant.0 ∙ ap (λ (s : ServiceState). s.slirp.config.turns) c.self.view_is ∙ ap (λ (k : Config). k.turns) c.in_default.ensures.config in
     let few = subst (λ n. c.loop-count._count < n) turns c.loop-count-test.true in
     omega (arith, few, c.requires.turns, c.loop-count.invariant.turns)
 
 pub loop-count-preserved : goal.loop-count-preserved
 loop-count-preserved g c =
     let config = c.args.self.now.slirp.config in
-    let turns = c.self.invariant.0 ∙ ap (λ (s : ServiceState). s.slirp.config.turns) c.self.view_is ∙ ap (λ (k : Config). k.turns) c.start-begun.ensures.config in
+    let turns = c.self.invariant.0 ∙ ap (λ (s : ServiceState). s.slirp.config.turns) c.self.view_is ∙ ap (λ (k : Config). k.turns) c.in_default.ensures.config in
     let few = subst (λ n. c.loop-count._count < n) turns c.loop-count-test.true in
     record {
       makes = makes_from c.loop-count.invariant.makes (c.in-Again.ensures.makes config c.loop-count._count few);
@@ -41,24 +41,30 @@ loop-count-preserved g c =
     }
 
 pub returns-in-Ended-clause-makes : goal.returns-in-Ended-clause-makes
-returns-in-Ended-clause-makes g c =
-    let config = c.args.self.now.slirp.config in
-    let turns = c.self.invariant.0 ∙ ap (λ (s : ServiceState). s.slirp.config.turns) c.self.view_is ∙ ap (λ (k : Config). k.turns) c.start-begun.ensures.config in
-    let few = subst (λ n. c.loop-count._count < n) turns c.loop-count-test.true in
-    makes_from c.loop-count.invariant.makes (c.in-Ended.ensures.makes config c.loop-count._count few)
+returns-in-Ended-clause-makes g c = c.in-Ended.ensures.makes
 
 pub returns-in-Ended-clause-served : goal.returns-in-Ended-clause-served
-returns-in-Ended-clause-served g c = told c.args.self.now.slirp.config c.in-Ended.end _ _ (returns-in-Ended-clause-makes g c)
+returns-in-Ended-clause-served g c = told c.args.self.now.slirp.config c.in-Ended.end _ _ c.in-Ended.ensures.makes
 
-pub returns-in-Ended-clause-faults : goal.returns-in-Ended-clause-faults
-returns-in-Ended-clause-faults g c = end_after c.in-Ended.end (g.W.World.tells c.args.world.now).faults (g.W.World.tells c.loop-count.world).faults (g.W.World.tells c.turn.new.world).faults c.loop-count.invariant.counts c.in-Ended.ensures.faults
+pub returns-in-Ended-turn-clause-makes : goal.returns-in-Ended-turn-clause-makes
+returns-in-Ended-turn-clause-makes g c =
+    let config = c.args.self.now.slirp.config in
+    let turns = c.self.invariant.0 ∙ ap (λ (s : ServiceState). s.slirp.config.turns) c.self.view_is ∙ ap (λ (k : Config). k.turns) c.in_default.ensures.config in
+    let few = subst (λ n. c.loop-count._count < n) turns c.loop-count-test.true in
+    makes_from c.loop-count.invariant.makes (c.in-Ended-turn.ensures.makes config c.loop-count._count few)
+
+pub returns-in-Ended-turn-clause-served : goal.returns-in-Ended-turn-clause-served
+returns-in-Ended-turn-clause-served g c = told c.args.self.now.slirp.config c.in-Ended-turn.end _ _ (returns-in-Ended-turn-clause-makes g c)
+
+pub returns-in-Ended-turn-clause-faults : goal.returns-in-Ended-turn-clause-faults
+returns-in-Ended-turn-clause-faults g c = end_after c.in-Ended-turn.end (g.W.World.tells c.args.world.now).faults (g.W.World.tells c.loop-count.world).faults (g.W.World.tells c.turn.new.world).faults c.loop-count.invariant.counts c.in-Ended-turn.ensures.faults
 
 pub returns-clause-makes : goal.returns-clause-makes
 returns-clause-makes g c =
     let config = c.args.self.now.slirp.config in
     let slirp = c.self-2.inside.slirp in
     let end = TurnsSpent c.self-2.inside.turns in
-    let turns = c.self.invariant.0 ∙ ap (λ (s : ServiceState). s.slirp.config.turns) c.self.view_is ∙ ap (λ (k : Config). k.turns) c.start-begun.ensures.config in
+    let turns = c.self.invariant.0 ∙ ap (λ (s : ServiceState). s.slirp.config.turns) c.self.view_is ∙ ap (λ (k : Config). k.turns) c.in_default.ensures.config in
     let all = subst (λ n. n ≤ c.loop-count._count) turns c.loop-count-test.false in
     let most = c.self-2.invariant.0 ∙ ap (λ (s : ServiceState). s.slirp.config.turns) c.self-2.view_is ∙ ap (λ (k : Config). k.turns) c.loop-count.invariant.config in
     let ran = makes_as _ _ _ _ c.loop-count.invariant.makes (λ made holds. spent config c.loop-count._count c.self-2.inside.turns c.loop-count.self made c.requires.some_turns all most holds) in

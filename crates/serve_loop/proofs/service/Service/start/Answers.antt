@@ -1,16 +1,38 @@
-use Rattle.std.proofs.Common.{[], ◌∷◌, ◌++◌, false, Some, length, refl, sym, ◌∙◌, ap, subst}
-use Rattle.world_face.specs.Journal.{Entry, Now}
+use Rattle.std.proofs.Common.{◌∷◌, false, length, sym, ◌∙◌, ap, subst}
+use Rattle.world_face.specs.Journal.{Now}
 use Rattle.world_face.specs.Tells.{Makes}
 use Rattle.world_face.proofs.Telling.{makes_as, makes_next}
-use Rattle.slirp_core.specs.Holds.{after}
+use Rattle.stream_netdev.specs.Keeps.{ReadsOn}
+use Rattle.stream_netdev.specs.State.{LinkState, under_way}
+use Rattle.slirp_core.specs.Holds.{after, Opens}
 use Rattle.slirp_core.specs.State.{SlirpState}
-use Rattle.slirp_core.proofs.Counted.{grown}
 use Rattle.slirp_core.proofs.Starting.{started}
-use Rattle.tcp_flows.specs.Kept.{Kept}
-use Rattle.serve_loop.specs.Served.{IsNew, ServiceState}
+use Rattle.serve_loop.specs.Served.{ServiceState}
 use Rattle.serve_loop.specs.Turns.{Closes, HoldsNow}
 use Rattle.serve_loop.specs.declared.service.End.TheVariants.{ListenRefused}
-use Rattle.serve_loop.proofs.Counted.{end_before}
 use Rattle.serve_loop.proofs.Serving.{finishes, refused, reads_new}
 use Rattle.serve_loop.proofs.service.Service.start.Goals as goal
 
+pub returns-in-Some-clause-makes : goal.returns-in-Some-clause-makes
+returns-in-Some-clause-makes g c =
+    let i = c.self.inside in
+    let new = c.listen.new.self in
+    let config = c.args.self.now.slirp.config in
+    let place = c.in-Some.place in
+    finishes config (ListenRefused place) i.slirp.forwards i.slirp.associations i.slirp.flows.flows.parts _ _ _
+    (subst (λ (s : ServiceState). Makes (g.W.World.tells c.args.world.now) (g.W.World.tells c.listen.new.world) (Closes config (ListenRefused place) s.slirp.forwards s.slirp.associations s.slirp.flows.flows.parts)) (sym c.self.view_is)
+    (makes_as _ _ _ _ c.in-Some.ensures.makes (λ made closing. refused config place new.slirp new.link made closing)))
+    c.close_all.ensures.makes
+
+pub returns-clause-makes : goal.returns-clause-makes
+returns-clause-makes g c =
+    let i = c.self.inside in
+    let config = c.args.self.now.slirp.config in
+    let told = c.now-told.result in
+    makes_next _ _ _ _ _ _
+    (subst (λ (s : ServiceState). Makes (g.W.World.tells c.args.world.now) (g.W.World.tells c.listen.new.world) (Opens config (length config.forwards) s.slirp s.link)) (sym c.self.view_is) c.in_default.ensures.makes)
+    c.now-told.ensures
+    (λ made opens allowed. subst (λ (s : SlirpState). HoldsNow config (after 0) false s i.link (Now told ∷ made)) (sym c.tell_moment.ensures) (started config i.slirp i.link told made allowed opens))
+
+pub returns-clause-on : goal.returns-clause-on
+returns-clause-on g c = subst (λ (l : LinkState). ReadsOn (under_way l)) (sym c.in_default.ensures.link ∙ sym (ap (λ (s : ServiceState). s.link) c.self.view_is)) (reads_new c.args.self.now c.requires)

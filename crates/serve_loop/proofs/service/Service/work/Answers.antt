@@ -1,4 +1,4 @@
-use Rattle.std.proofs.Common.{◌≡◌, Bool, ◌+◌, ◌≤◌, ◌∷◌, true, false, drop, List, if◌then◌else◌, refl, sym, ◌∙◌, subst, arith}
+use Rattle.std.proofs.Common.{◌≡◌, ◌+◌, ◌∷◌, true, false, drop, List, refl, sym, ◌∙◌, subst, arith}
 use Rattle.poll_list.specs.Listing.{reads}
 use Rattle.poll_list.specs.declared.Want.{Want}
 use Rattle.poll_list.specs.declared.Who.TheVariants.{Link as TheLink}
@@ -8,11 +8,14 @@ use Rattle.slirp_core.specs.Holds.{standing, after}
 use Rattle.serve_loop.specs.Turns.{AfterTurn, HoldsNow, is_passed_over}
 use Rattle.serve_loop.specs.declared.service.Turn.TheVariants.{Ended}
 use Rattle.serve_loop.proofs.Counted.{end_after, grown_then}
-use Rattle.serve_loop.proofs.Turning.{any_left, both_of, counts_on, enough, ended_left, passed_at, still_reads, weaker}
+use Rattle.serve_loop.proofs.Turning.{both_of, ended_left, passed_at, still_reads, weaker}
 use Rattle.serve_loop.proofs.service.Service.work.Goals as goal
 
 pub attend-requires-clause-number : goal.attend-requires-clause-number
-attend-requires-clause-number g c = omega (arith, c.loop-place.invariant.number, c.requires.number, c.loop-place-test.true)
+attend-requires-clause-number g c =
+    let few = c.min-count.ensures in
+    let less = c.loop-place-test.true in
+    omega (arith, c.loop-place.invariant.number, c.requires.number, less, few)
 
 pub loop-place-init : goal.loop-place-init
 loop-place-init g c = record {

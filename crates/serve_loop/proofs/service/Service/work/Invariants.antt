@@ -1,4 +1,4 @@
-use Rattle.std.proofs.Common.{◌≡◌, ℕ, ◌+◌, ◌≤◌, true, false, drop, if◌then◌else◌}
+use Rattle.std.proofs.Common.{◌≡◌, ℕ, ◌+◌, ◌≤◌, true, false, drop}
 use Rattle.world_face.specs.Tells.{Brings}
 use Rattle.host_policy.specs.Addresses.{Config}
 use Rattle.poll_list.specs.Listing.{reads}

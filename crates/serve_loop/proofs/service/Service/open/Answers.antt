@@ -1,0 +1,54 @@
+use Rattle.std.proofs.Common.{rules, ◌++◌, length, sym, ◌∙◌, ap, subst, arith}
+use Rattle.host_policy.specs.Addresses.{Config}
+use Rattle.host_policy.specs.Ranges.{IsSound}
+use Rattle.slirp_core.specs.Forwards.{AreForConnections}
+use Rattle.slirp_core.specs.Numbers.{flows_for}
+use Rattle.slirp_core.specs.Pumps.{TcpOnce}
+use Rattle.slirp_core.proofs.Listening.{at_ok}
+use Rattle.serve_loop.proofs.Opening.{has_few_turns, has_room_for_a_unit, has_some_turns}
+use Rattle.serve_loop.proofs.service.Service.open.Goals as goal
+
+pub invariant_of-result : goal.invariant_of-result
+invariant_of-result c =
+    let config = c.in_ok-slirp.ensures.config in
+    let opened = c.in-Ok-Ok-Ok-Ok in
+    let few = c.as_slice.ensures.fits in
+    let none = ap length c.new-forwards.ensures in
+    let copied = at_ok c.try_extend_from_slice.result (c.try_extend_from_slice.ensures.variant.1 (omega (arith, few, none))) c.try_extend_from_slice.ensures.ok in (
+      sym (ap (λ (k : Config). k.turns) config),
+      opened.ensures.capacity,
+      opened.ensures'.capacity,
+      search rules,
+      search rules,
+      subst TcpOnce (sym opened.ensures.empty) tt,
+      copied ∙ ap (λ l. l ++ c.as_slice.result.now) c.new-forwards.ensures ∙ c.as_slice.ensures.value ∙ sym (ap (λ (k : Config). k.forwards) config),
+    )
+
+pub returns-clause-new : goal.returns-clause-new
+returns-clause-new c =
+    let config = c.in_ok-slirp.ensures.config in
+    let fresh = c.in_ok-slirp.ensures in
+    let link = c.in_ok-link.ensures in
+    let sound = subst IsSound (sym config) c.requires.sound in
+    record {
+      sound = sound;
+      forwards = fresh.forwards;
+      connections = subst AreForConnections (sym config) c.requires.built.forwards;
+      flows = fresh.flows ∙ ap flows_for (sym config);
+      unit = has_room_for_a_unit c.in_ok-slirp.slirp.config sound;
+      turns = has_few_turns c.in_ok-slirp.slirp.config sound;
+      some_turns = has_some_turns c.in_ok-slirp.slirp.config sound;
+      known = fresh.known;
+      sent = fresh.sent;
+      pending = fresh.pending;
+      moment = fresh.moment;
+      number = fresh.number;
+      associations = fresh.associations;
+      parts = fresh.parts;
+      leases = fresh.leases;
+      unresolved = ap (λ (k : Config). k.resolver) config ∙ c.requires.built.resolver;
+      unbound = ap (λ (k : Config). k.outbound) config ∙ c.requires.built.outbound;
+      input = link.0;
+      output = link.1;
+      free = link.2;
+    }
