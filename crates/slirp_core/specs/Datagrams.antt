@@ -1,7 +1,9 @@
 -- Datagrams and errands as the core has them.
-use Rattle.std.specs.Prelude.{◌≡◌, ℕ, ◌≤◌, ◌++◌, List, length}
+use Rattle.std.specs.Prelude.{◌≡◌, ℕ, ◌≤◌, ◌++◌, true, List, length}
+use Rattle.host_policy.specs.Addresses.{Config}
+use Rattle.dns_relay.specs.Questions.{is_question}
 use Rattle.run_laws.specs.Packets.{Datagram}
-use Rattle.slirp_laws.specs.Datagrams.{Errand, Fate, Ignored, Refused, ForLeases, GoesTo}
+use Rattle.slirp_laws.specs.Datagrams.{Errand, Fate, Ignored, Refused, ForLeases, GoesTo, asks_a_name}
 use Rattle.slirp_core.specs.declared.datagrams.DatagramView.{DatagramView}
 use Rattle.slirp_core.specs.declared.datagrams.ErrandView.{ErrandView}
 use Rattle.slirp_core.specs.declared.datagrams.Outcome.{Outcome}
@@ -19,9 +21,9 @@ fate_of SeenRefused = Refused
 fate_of SeenForLeases = ForLeases
 fate_of (SeenGoesTo to) = GoesTo to
 
--- its payload fits a datagram, and what is quoted of it an answer
-abbrev pub FitsErrand : ErrandView → Type 0
-FitsErrand e = (length e.datagram.body.now ≤ 65507) × (length e.datagram.quote.now ≤ 68)
+-- its payload fits a datagram, what is quoted of it an answer, and to the name server it is a question
+abbrev pub FitsErrand : Config → ErrandView → Type 0
+FitsErrand config e = (length e.datagram.body.now ≤ 65507) × (length e.datagram.quote.now ≤ 68) × (asks_a_name config (errand_of e) ≡ true → is_question e.datagram.body.now ≡ true)
 
 -- octets are a header, a body, and what else may follow
 pub record Lies (octets head body : List ℕ) : Type 0 where

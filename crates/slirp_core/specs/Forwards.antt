@@ -1,12 +1,16 @@
 -- Ports of the host that are given to guests: each has the number of its place in the settings, since they are opened before all other sockets.
-use Rattle.std.specs.Prelude.{◌≡◌, ℕ, ◌+◌, Bool, true, false, List, [], ◌∷◌, ◌++◌, map, slice_get, Some}
+use Rattle.std.specs.Prelude.{◌≡◌, ℕ, ◌+◌, Bool, true, false, List, [], ◌∷◌, ◌++◌, filter, map, slice_get, Option}
+use Rattle.std.specs.Option.{option_and_then}
+use Rattle.net_octets.specs.declared.Endpoint.{Endpoint}
 use Rattle.world_face.specs.Journal.{Close, Entry}
 use Rattle.world_face.specs.declared.Made.TheVariants.{Done, Failed}
 use Rattle.host_policy.specs.Addresses.{Config}
 use Rattle.host_policy.specs.declared.Forward.{Forward}
-use Rattle.host_policy.specs.declared.Proto.TheVariants.{Tcp}
+use Rattle.host_policy.specs.Ranges.{same_proto}
+use Rattle.host_policy.specs.declared.Proto.{Proto}
 use Rattle.port_forward.specs.Adding.{opening_of}
 use Rattle.port_forward.specs.Opened.{Opened, socket_of}
+use Rattle.slirp_laws.specs.Ports.{given_by}
 
 -- these forwards with the numbers from this one on
 abbrev pub with_numbers : ℕ → List Forward → List Opened
@@ -21,9 +25,16 @@ given config = with_numbers 0 config.forwards
 abbrev pub forward_sockets : List Opened → List ℕ
 forward_sockets forwards = map socket_of forwards
 
--- each is for connections: none for datagrams is built yet
-abbrev pub AreForConnections : Config → Type 0
-AreForConnections config = (k : ℕ) (forward : Forward) → slice_get config.forwards k ≡ Some forward → forward.proto ≡ Tcp
+-- of those that are for connections, or for datagrams
+abbrev pub is_over : Proto → Opened → Bool
+is_over proto opened = same_proto proto opened.0.proto
+
+abbrev pub sockets_over : Proto → List Opened → List ℕ
+sockets_over proto forwards = forward_sockets (filter (is_over proto) forwards)
+
+-- the port of a guest to which the port for datagrams at this place is given
+abbrev pub guest_on : List Opened → ℕ → Option Endpoint
+guest_on forwards place = option_and_then (λ (o : Opened). given_by o.0.proto o.0.guest) (slice_get forwards place)
 
 -- a port of the host is open, and its forward is the last of the list; or the host refused it
 abbrev pub Listens : Bool → Forward → ℕ → (old new : List Opened) → List Entry → Type 0

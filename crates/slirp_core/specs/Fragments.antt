@@ -99,10 +99,10 @@ pub record Arrives (old : SlirpState) (held : List PartSet) (mac octets : List �
   pub parts : IsHeld new.parts (with_fragment old.moment (option_and_then (fragment_by old.config octets) (read_ip octets)) held)
 
 -- so many octets hold it, and nothing is owed where something is still to be taken in or sent
-abbrev pub FitsBrought : Brought → List (List ℕ) → ℕ → Type 0
-FitsBrought Nothing pending octets = Unit {0}
-FitsBrought (ATask t) pending octets = FitsTask t × (pending ≡ [])
-FitsBrought (Datagram a) pending octets = FitsAssembled a × (pending ≡ []) × (a.head + a.body ≤ octets)
+abbrev pub FitsBrought : Config → Brought → List (List ℕ) → ℕ → Type 0
+FitsBrought config Nothing pending octets = Unit {0}
+FitsBrought config (ATask t) pending octets = FitsTask config t × (pending ≡ [])
+FitsBrought config (Datagram a) pending octets = FitsAssembled a × (pending ≡ []) × (a.head + a.body ≤ octets)
 
 abbrev pub whole_or_none : Option Assembled → Brought
 whole_or_none None = Nothing

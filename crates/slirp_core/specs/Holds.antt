@@ -1,6 +1,5 @@
 -- What the core keeps of the calls made on the World.
 use Rattle.std.specs.Prelude.{◌≡◌, ℕ, ◌<◌, ◌≤◌, ◌||◌, ◌⊎◌, Bool, true, false, List, [], ◌∷◌, ◌++◌, drop, Contains, Option, None, Some, length}
-use Rattle.net_octets.specs.declared.Endpoint.{Endpoint}
 use Rattle.poll_list.specs.declared.Want.{Want}
 use Rattle.world_face.specs.Journal.{Entry, AreAllowed}
 use Rattle.world_face.specs.Frames.{Ending, LinkFailed}
@@ -8,21 +7,24 @@ use Rattle.host_policy.specs.Addresses.{Config}
 use Rattle.host_policy.specs.declared.Forward.{Forward}
 use Rattle.udp_assoc.specs.Associations.{numbers}
 use Rattle.udp_assoc.specs.declared.assocs.Association.{Association as AnAssociation}
+use Rattle.dns_relay.specs.declared.Question.{Question}
+use Rattle.dns_relay.specs.Questions.{numbers as question_numbers}
 use Rattle.flow_book.specs.Book.{book}
 use Rattle.flow_book.specs.Lots.{due_for_flows, is_reset}
 use Rattle.flow_book.specs.Taught.{taught}
 use Rattle.flow_splice.specs.Splice.{Splice}
 use Rattle.run_laws.specs.Guests.{known}
 use Rattle.run_laws.specs.Moments.{moment, waits}
-use Rattle.port_forward.specs.Opened.{Opened}
+use Rattle.port_forward.specs.Opened.{Opened, socket_for}
 use Rattle.run_laws.specs.Shape.{Cause, Refused, Phase, Opening, Started, Working, By, Over, phase, is_ended}
-use Rattle.run_laws.specs.Sockets.{Kind, is_among, is_association, is_flow, is_listener, kind_of, next_number, open_sockets}
+use Rattle.run_laws.specs.Sockets.{Kind, is_among, is_association, is_flow, is_forward, is_listener, kind_of, next_number, open_sockets}
 use Rattle.slirp_laws.specs.Agenda.{agenda, all_wanted}
 use Rattle.slirp_laws.specs.Answers.{frames_of, identification, left, owed_for_segment}
 use Rattle.slirp_laws.specs.Errands.{errand_left}
 use Rattle.slirp_laws.specs.Datagrams.{Errand, Step, Settled}
 use Rattle.slirp_laws.specs.Relayed.{associations, step_for}
 use Rattle.slirp_laws.specs.Laws.{Finished, Lawful, due_for_services, is_closing}
+use Rattle.slirp_laws.specs.Names.{answered, questions}
 use Rattle.stream_netdev.specs.Keeps.{Keeps}
 use Rattle.stream_netdev.specs.State.{LinkState}
 use Rattle.slirp_core.specs.Forwards.{forward_sockets, given, with_numbers}
@@ -68,6 +70,7 @@ pub record Unbegun (config : Config) (step : Step) (slirp : SlirpState) (link : 
   pub unreported : agenda past ≡ []
   pub unasked : step ≡ Settled
   pub alone : slirp.associations ≡ []
+  pub unnamed : slirp.questions ≡ []
   pub nothing : slirp.pending ≡ []
   pub empty : link.tail ≡ []
 
@@ -87,17 +90,16 @@ pub record OfGuests (config : Config) (slirp : SlirpState) (past : List Entry) :
   pub known : known config past ≡ slirp.known
   pub fragments : OfFragments config slirp past
 
--- What a datagram asks for by the list of associations: no port of the host is given to a guest for datagrams yet, and no question waits.
-abbrev pub no_forward : Endpoint → Option ℕ
-no_forward guest = None
+-- what a datagram asks for by the open forwards, the questions that wait, and the associations
+abbrev pub asked_by : Config → SlirpState → Option Errand → Step
+asked_by config slirp errand = step_for config slirp.questions (λ guest. socket_for guest slirp.forwards) slirp.associations errand
 
-abbrev pub asked_by : Config → List AnAssociation → Option Errand → Step
-asked_by config associations errand = step_for config [] no_forward associations errand
-
--- the associations in the order of use, and what the datagram that came last still asks for; no question waits
-pub record OfRelay (config : Config) (step : Step) (slirp : SlirpState) (past : List Entry) : Type 0 where
+-- the associations and the questions, each in the order of use; what the datagram that came last still asks for; and the socket of the question whose answer came just now, if one did
+pub record OfRelay (config : Config) (step : Step) (heard : Option ℕ) (slirp : SlirpState) (past : List Entry) : Type 0 where
   pub list : associations config past ≡ slirp.associations
-  pub asks : asked_by config slirp.associations (errand_left config past) ≡ step
+  pub questions : questions config past ≡ slirp.questions
+  pub asks : asked_by config slirp (errand_left config past) ≡ step
+  pub heard : answered config past ≡ heard
 
 -- what is kept of flows, and whether the rests that are over have ended
 pub record Flowing : Type 0 where
@@ -114,9 +116,12 @@ pub record OfFlows (config : Config) (f : Flowing) (now : ℕ) (past : List Entr
   pub settings : IsFor config f.kept
   pub unit : 28 ≤ config.mtu
 
--- the next number; and each open socket carries datagrams, is a flow's, or one to which peers come
+-- the next number; and each open socket carries a guest's datagrams, is a flow's, or that of a port of the host that is given to a guest
+abbrev pub is_given : Option Kind → Bool
+is_given kind = is_listener kind || is_forward kind
+
 abbrev pub is_ours : Option Kind → Bool
-is_ours kind = is_association kind || is_flow kind || is_listener kind
+is_ours kind = is_association kind || is_flow kind || is_given kind
 
 pub record OfSockets (next : ℕ) (past : List Entry) : Type 0 where
   pub number : next_number past ≡ next
@@ -134,7 +139,7 @@ pub record Opens (config : Config) (count : ℕ) (slirp : SlirpState) (link : Li
   pub keeps : Keeps link past
   pub answers : OfAnswers config slirp past
   pub guests : OfGuests config slirp past
-  pub relayed : OfRelay config Settled slirp past
+  pub relayed : OfRelay config Settled None slirp past
   pub services : OfServices config slirp past
   pub done : List Forward
   pub left : List Forward
@@ -151,18 +156,20 @@ pub record Opens (config : Config) (count : ℕ) (slirp : SlirpState) (link : Li
   pub none : NoneInSlots slirp.flows.flows.parts
   pub unrested : (book config past).rests ≡ []
   pub alone : slirp.associations ≡ []
+  pub unnamed : slirp.questions ≡ []
   pub nothing : slirp.pending ≡ []
   pub empty : link.tail ≡ []
   pub open_yet : is_closing config past ≡ false
 
--- Between entries that end a run: what the core has is what the calls made so far left, and the datagram that came last still asks for this.
-pub record HoldsAt (config : Config) (at : Standing) (step : Step) (slirp : SlirpState) (f : Flowing) (link : LinkState) (past : List Entry) : Type 0 where
+-- Between entries that end a run: what the core has is what the calls made so far left, and the datagram that came last still asks for this; the answer to a
+-- question came just now on this socket, or none did.
+pub record HoldsOn (config : Config) (at : Standing) (step : Step) (heard : Option ℕ) (slirp : SlirpState) (f : Flowing) (link : LinkState) (past : List Entry) : Type 0 where
   pub lawful : Lawful config past
   pub allowed : AreAllowed past
   pub keeps : Keeps link past
   pub answers : OfAnswers config slirp past
   pub guests : OfGuests config slirp past
-  pub relayed : OfRelay config step slirp past
+  pub relayed : OfRelay config step heard slirp past
   pub services : OfServices config slirp past
   pub forwards : slirp.forwards ≡ given config
   pub flows : OfFlows config f slirp.moment past
@@ -171,6 +178,9 @@ pub record HoldsAt (config : Config) (at : Standing) (step : Step) (slirp : Slir
   pub stands : Stands config step slirp f.kept link past
   pub agenda : IsLast (all_wanted at.wants at.left) (agenda past)
   pub open_yet : is_closing config past ≡ false
+
+abbrev pub HoldsAt : Config → Standing → Step → SlirpState → Flowing → LinkState → List Entry → Type 0
+HoldsAt config at step slirp f link past = HoldsOn config at step None slirp f link past
 
 -- the same, and it asks for nothing
 abbrev pub Holds : Config → Standing → SlirpState → Flowing → LinkState → List Entry → Type 0
@@ -190,7 +200,7 @@ pub record Comes (config : Config) (at : Standing) (slirp : SlirpState) (kept : 
   pub owed : left config past ≡ frames_of config slirp.sent (owed_for_segment (is_reset config (book config past) c.on) c.on)
   pub none : slirp.pending ≡ []
   pub guests : OfGuests config slirp past
-  pub relayed : OfRelay config Settled slirp past
+  pub relayed : OfRelay config Settled None slirp past
   pub services : OfServices config slirp past
   pub forwards : slirp.forwards ≡ given config
   pub learnt : Contains (taught config past) (c.on.tuple.guest.addr, record { 0 = c.on.mac })
@@ -202,41 +212,61 @@ pub record Comes (config : Config) (at : Standing) (slirp : SlirpState) (kept : 
 
 -- ---- the end
 
--- a socket is that of one of these associations or flows
-abbrev pub IsOf : List AnAssociation → List (Option Splice) → ℕ → Type 0
-IsOf list parts n = (is_among n (numbers list) ≡ true) ⊎ HasSocket n parts (λ p. Unit {0})
+-- what of the network has open sockets, but for forwards
+pub record Holders : Type 0 where
+  pub associations : List AnAssociation
+  pub questions : List Question
+  pub parts : List (Option Splice)
 
--- the open sockets are those of these associations and flows, and before them in number those of these forwards
-pub record AreOpenWith (forwards : List ℕ) (list : List AnAssociation) (parts : List (Option Splice)) (past : List Entry) : Type 0 where
-  pub each : (n : ℕ) → is_among n (open_sockets past) ≡ true → (is_among n forwards ≡ true) ⊎ IsOf list parts n
+abbrev pub holders_with : SlirpState → Kept → Holders
+holders_with slirp kept = record { associations = slirp.associations; questions = slirp.questions; parts = kept.flows.parts }
+
+abbrev pub holders_of : SlirpState → Holders
+holders_of slirp = holders_with slirp slirp.flows
+
+-- the sockets of associations and of questions, which carry datagrams; none is that of both
+abbrev pub carriers : Holders → List ℕ
+carriers o = numbers o.associations ++ question_numbers o.questions
+
+abbrev pub AreTwo : Holders → Type 0
+AreTwo o = (n : ℕ) → is_among n (numbers o.associations) ≡ true → is_among n (question_numbers o.questions) ≡ false
+
+-- a socket is one of these, or a flow's
+abbrev pub IsOf : List ℕ → List (Option Splice) → ℕ → Type 0
+IsOf carriers parts n = (is_among n carriers ≡ true) ⊎ HasSocket n parts (λ p. Unit {0})
+
+-- the open sockets are these, which carry datagrams, and those of these flows; before them in number those of these forwards
+pub record AreOpenWith (forwards carriers : List ℕ) (parts : List (Option Splice)) (past : List Entry) : Type 0 where
+  pub each : (n : ℕ) → is_among n (open_sockets past) ≡ true → (is_among n forwards ≡ true) ⊎ IsOf carriers parts n
   pub forward : (n : ℕ) → is_among n forwards ≡ true → is_among n (open_sockets past) ≡ true
-  pub carry : (n : ℕ) → is_among n (numbers list) ≡ true → is_among n (open_sockets past) ≡ true
+  pub carry : (n : ℕ) → is_among n carriers ≡ true → is_among n (open_sockets past) ≡ true
   pub flow : (k : ℕ) (p : Splice) → IsOpenAt parts k p → is_among (number_of p) (open_sockets past) ≡ true
-  pub apart : (k : ℕ) (p : Splice) → IsOpenAt parts k p → is_among (number_of p) (numbers list) ≡ false
+  pub apart : (k : ℕ) (p : Splice) → IsOpenAt parts k p → is_among (number_of p) carriers ≡ false
   pub rising : (bound : ℕ) × IsRising bound forwards
-  pub first : (n m : ℕ) → is_among n forwards ≡ true → IsOf list parts m → n < m
+  pub first : (n m : ℕ) → is_among n forwards ≡ true → IsOf carriers parts m → n < m
 
--- the open sockets are those of these associations and flows
-pub record AreOpen (list : List AnAssociation) (parts : List (Option Splice)) (past : List Entry) : Type 0 where
-  pub each : (n : ℕ) → is_among n (open_sockets past) ≡ true → IsOf list parts n
-  pub carry : (n : ℕ) → is_among n (numbers list) ≡ true → is_among n (open_sockets past) ≡ true
+-- the open sockets are these, which carry datagrams, and those of these flows
+pub record AreOpen (carriers : List ℕ) (parts : List (Option Splice)) (past : List Entry) : Type 0 where
+  pub each : (n : ℕ) → is_among n (open_sockets past) ≡ true → IsOf carriers parts n
+  pub carry : (n : ℕ) → is_among n carriers ≡ true → is_among n (open_sockets past) ≡ true
   pub flow : (k : ℕ) (p : Splice) → IsOpenAt parts k p → is_among (number_of p) (open_sockets past) ≡ true
-  pub apart : (k : ℕ) (p : Splice) → IsOpenAt parts k p → is_among (number_of p) (numbers list) ≡ false
+  pub apart : (k : ℕ) (p : Splice) → IsOpenAt parts k p → is_among (number_of p) carriers ≡ false
 
 -- after an entry that ended the run in this way
-pub record Ended (config : Config) (why : Ending) (forwards : List Opened) (list : List AnAssociation) (parts : List (Option Splice)) (past : List Entry) : Type 0 where
+pub record Ended (config : Config) (why : Ending) (forwards : List Opened) (o : Holders) (past : List Entry) : Type 0 where
   pub lawful : Lawful config past
   pub over : phase config past ≡ Over (By why)
   pub errand : errand_left config past ≡ None
   pub served : due_for_services config past ≡ None
   pub idle : due_for_flows config (book config past) (next_number past) ≡ None
-  pub sockets : AreOpenWith (forward_sockets forwards) list parts past
+  pub sockets : AreOpenWith (forward_sockets forwards) (carriers o) o.parts past
+  pub two : AreTwo o
 
 -- after a pump
 abbrev pub AfterPump : Pumped → Config → Standing → SlirpState → Flowing → LinkState → List Entry → Type 0
 AfterPump Clear config at slirp f link past = Holds config at slirp f link past
 AfterPump Blocked config at slirp f link past = Holds config at slirp f link past
-AfterPump Failed config at slirp f link past = Ended config LinkFailed slirp.forwards slirp.associations f.kept.flows.parts past
+AfterPump Failed config at slirp f link past = Ended config LinkFailed slirp.forwards (holders_with slirp f.kept) past
 
 -- what is left after a pump
 abbrev pub Leaves : Pumped → SlirpState → LinkState → Type 0
@@ -267,8 +297,8 @@ pub data Rests (config : Config) (past : List Entry) : Type 0 where
   OverFor : (cause : Cause) → phase config past ≡ Over cause → Rests config past
   AllWaited : phase config past ≡ Working → Rests config past
 
--- a run that has ended in this phase; only its sockets are to be closed, which are these
-pub record ClosingBy (Open : List Entry → Type 0) (config : Config) (over : Phase) (past : List Entry) : Type 0 where
+-- A run that has ended in this phase; only its sockets are to be closed, which are these.
+pub record ClosingBy (Left : List Entry → Type 0) (o : Holders) (config : Config) (over : Phase) (past : List Entry) : Type 0 where
   pub lawful : Lawful config past
   pub ended : is_ended config past ≡ true
   pub is : over ≡ phase config past
@@ -276,45 +306,46 @@ pub record ClosingBy (Open : List Entry → Type 0) (config : Config) (over : Ph
   pub errand : errand_left config past ≡ None
   pub served : due_for_services config past ≡ None
   pub idle : due_for_flows config (book config past) (next_number past) ≡ None
-  pub sockets : Open past
+  pub sockets : Left past
+  pub two : AreTwo o
 
--- those of associations and flows; or those of forwards, too
-abbrev pub Closing : Config → Phase → List AnAssociation → List (Option Splice) → List Entry → Type 0
-Closing config over list parts past = ClosingBy (AreOpen list parts) config over past
+-- those that carry datagrams, and of flows; or those of forwards, too
+abbrev pub Closing : Config → Phase → Holders → List Entry → Type 0
+Closing config over o past = ClosingBy (AreOpen (carriers o) o.parts) o config over past
 
-abbrev pub ClosingWith : Config → Phase → List ℕ → List AnAssociation → List (Option Splice) → List Entry → Type 0
-ClosingWith config over forwards list parts past = ClosingBy (AreOpenWith forwards list parts) config over past
+abbrev pub ClosingWith : Config → Phase → List ℕ → Holders → List Entry → Type 0
+ClosingWith config over forwards o past = ClosingBy (AreOpenWith forwards (carriers o) o.parts) o config over past
 
 -- a run that is over: it is lawful and finished, and this is the phase in which it ended
 abbrev pub Ran : Config → Phase → List Entry → Type 0
 Ran config over made = Lawful config made × Finished config made × (over ≡ phase config made)
 
 -- after a socket was closed, or none was left
-abbrev pub AfterClosing : Bool → Config → Phase → List AnAssociation → List (Option Splice) → List Entry → Type 0
-AfterClosing true config over list parts past = Closing config over list parts past
-AfterClosing false config over list parts past = Ran config over past
+abbrev pub AfterClosing : Bool → Config → Phase → Holders → List Entry → Type 0
+AfterClosing true config over o past = Closing config over o past
+AfterClosing false config over o past = Ran config over past
 
 -- one socket of these was closed, if there was one
-abbrev pub ClosesNext : Bool → (list new : List AnAssociation) → (parts new_parts : List (Option Splice)) → List Entry → Type 0
-ClosesNext more list new parts new_parts made =
-    (config : Config) (over : Phase) (past : List Entry) → Closing config over list parts past → AfterClosing more config over new new_parts (made ++ past)
+abbrev pub ClosesNext : Bool → (old new : Holders) → List Entry → Type 0
+ClosesNext more old new made =
+    (config : Config) (over : Phase) (past : List Entry) → Closing config over old past → AfterClosing more config over new (made ++ past)
 
 -- those of forwards were closed, but for these
-abbrev pub ClosesForwards : (old new : List ℕ) → List AnAssociation → List (Option Splice) → List Entry → Type 0
-ClosesForwards old new list parts made =
-    (config : Config) (over : Phase) (past : List Entry) → ClosingWith config over old list parts past → ClosingWith config over new list parts (made ++ past)
+abbrev pub ClosesForwards : (old new : List ℕ) → Holders → List Entry → Type 0
+ClosesForwards old new o made =
+    (config : Config) (over : Phase) (past : List Entry) → ClosingWith config over old o past → ClosingWith config over new o (made ++ past)
 
 -- those of forwards were closed, and others but for these
-abbrev pub ClosesOn : List Opened → (list new : List AnAssociation) → (parts new_parts : List (Option Splice)) → List Entry → Type 0
-ClosesOn forwards list new parts new_parts made =
-    (config : Config) (over : Phase) (past : List Entry) → ClosingWith config over (forward_sockets forwards) list parts past → Closing config over new new_parts (made ++ past)
+abbrev pub ClosesOn : List Opened → (old new : Holders) → List Entry → Type 0
+ClosesOn forwards old new made =
+    (config : Config) (over : Phase) (past : List Entry) → ClosingWith config over (forward_sockets forwards) old past → Closing config over new (made ++ past)
 
 -- all of these sockets were closed: whatever run had them, and had ended, is finished
-abbrev pub ClosesAll : List Opened → List AnAssociation → List (Option Splice) → List Entry → Type 0
-ClosesAll forwards list parts made =
-    (config : Config) (over : Phase) (past : List Entry) → ClosingWith config over (forward_sockets forwards) list parts past → Ran config over (made ++ past)
+abbrev pub ClosesAll : List Opened → Holders → List Entry → Type 0
+ClosesAll forwards o made =
+    (config : Config) (over : Phase) (past : List Entry) → ClosingWith config over (forward_sockets forwards) o past → Ran config over (made ++ past)
 
 -- after the ports of the host were opened; or one was refused, and the others are to be closed
 abbrev pub AfterListening : Option ℕ → Config → SlirpState → LinkState → List Entry → Type 0
 AfterListening None config slirp link past = Opens config (length config.forwards) slirp link past
-AfterListening (Some place) config slirp link past = ClosingWith config (Over (Refused place)) (forward_sockets slirp.forwards) slirp.associations slirp.flows.flows.parts past
+AfterListening (Some place) config slirp link past = ClosingWith config (Over (Refused place)) (forward_sockets slirp.forwards) (holders_of slirp) past

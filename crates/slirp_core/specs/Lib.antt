@@ -1,5 +1,7 @@
+pub mod Carrying
 pub mod Counts
 pub mod Datagrams
+pub mod Firsts
 pub mod Forwards
 pub mod Fragments
 pub mod Hearing

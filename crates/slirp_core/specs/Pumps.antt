@@ -5,15 +5,19 @@ use Rattle.poll_list.specs.Listing.{names}
 use Rattle.poll_list.specs.declared.Want.{Want}
 use Rattle.poll_list.specs.declared.Who.TheVariants.{Link, Listener, Udp, Tcp}
 use Rattle.stream_netdev.specs.State.{LinkState}
-use Rattle.udp_assoc.specs.Associations.{idle_life, numbers}
+use Rattle.udp_assoc.specs.Associations.{idle_life}
 use Rattle.udp_assoc.specs.declared.assocs.Association.{Association}
+use Rattle.dns_relay.specs.Questions.{question_life}
+use Rattle.dns_relay.specs.declared.Question.{Question}
+use Rattle.host_policy.specs.declared.Proto.TheVariants.{Tcp as OverTcp, Udp as OverUdp}
 use Rattle.stream_netdev.specs.declared.Offered.{Offered}
 use Rattle.stream_netdev.specs.declared.Offered.TheVariants.{Taken, Blocked as OfferBlocked, Failed as OfferFailed}
 use Rattle.flow_splice.specs.declared.Pumped.{Pumped as PumpedFlows}
 use Rattle.flow_splice.specs.declared.Pumped.TheVariants.{Clear as FlowsClear, Blocked as FlowsBlocked, Failed as FlowsFailed}
 use Rattle.core_flows.specs.Seats.{in_use_slots}
 use Rattle.tcp_flows.specs.Reading.{AreWantsOf}
-use Rattle.slirp_core.specs.Forwards.{forward_sockets}
+use Rattle.slirp_core.specs.Forwards.{sockets_over}
+use Rattle.slirp_core.specs.Holds.{carriers, holders_of}
 use Rattle.slirp_core.specs.State.{SlirpState}
 use Rattle.slirp_core.specs.declared.sending.Pumped.{Pumped}
 use Rattle.slirp_core.specs.declared.sending.Pumped.TheVariants.{Clear, Blocked, Failed}
@@ -47,7 +51,7 @@ link_want read write = if read || write then record { of = Link; read = read; wr
 abbrev pub udp_want : ℕ → Want
 udp_want number = record { of = Udp number; read = true; write = false }
 
--- then the ports of the host that are given to guests, where there is room for a flow more
+-- then the ports of the host to which peers connect, where there is room for a flow more
 abbrev pub listener_want : ℕ → Want
 listener_want number = record { of = Listener number; read = true; write = false }
 
@@ -57,16 +61,25 @@ socket_wants read numbers = if read then map udp_want numbers else []
 
 -- the listeners that are waited for, as there is room for a flow more or not
 abbrev pub listeners_of : SlirpState → List ℕ
-listeners_of slirp = if nat_lt (in_use_slots slirp.flows.flows.table.slots) (length slirp.flows.flows.table.slots) then forward_sockets slirp.forwards else []
+listeners_of slirp = if nat_lt (in_use_slots slirp.flows.flows.table.slots) (length slirp.flows.flows.table.slots) then sockets_over OverTcp slirp.forwards else []
 
--- the link and the listeners; each socket of datagrams once, by rising number; and behind them what flows wait for
+-- two rows of numbers that rise, as one
+abbrev pub into : ℕ → (List ℕ → List ℕ) → List ℕ → List ℕ
+into n rest [] = n ∷ rest []
+into n rest (m ∷ ms) = if nat_lt n m then n ∷ rest (m ∷ ms) else m ∷ into n rest ms
+
+abbrev pub merged : List ℕ → List ℕ → List ℕ
+merged [] ms = ms
+merged (n ∷ ns) ms = into n (merged ns) ms
+
+-- the link and the listeners; each port of the host for datagrams, and behind them each socket of an association or a question, once, by rising number; and behind them what flows wait for
 pub record WantsOf (slirp : SlirpState) (link : LinkState) (wants : List Want) : Type 0 where
   pub sockets : List ℕ
-  pub all : IsPermutation (numbers slirp.associations) sockets
+  pub all : IsPermutation (carriers (holders_of slirp)) sockets
   pub rising : IsNonDecreasing sockets
   pub flows : List Want
   pub of_flows : AreWantsOf slirp.flows.flows.parts flows
-  pub is : wants ≡ ((link_want (is_settled slirp link) link.blocked ++ map listener_want (listeners_of slirp)) ++ socket_wants (is_settled slirp link) sockets) ++ flows
+  pub is : wants ≡ ((link_want (is_settled slirp link) link.blocked ++ map listener_want (listeners_of slirp)) ++ socket_wants (is_settled slirp link) (sockets_over OverUdp slirp.forwards ++ sockets)) ++ flows
 
 -- no flow's socket stands twice
 abbrev pub TcpOnce : List Want → Type 0
@@ -77,3 +90,8 @@ TcpOnce (w ∷ wants) = ((m : ℕ) → w.of ≡ Tcp m → names (Tcp m) wants �
 abbrev pub time_left : ℕ → List Association → Option ℕ
 time_left now [] = None
 time_left now (oldest ∷ associations) = Some (idle_life - (now - oldest.used))
+
+-- and until the longest unused question has waited for long enough
+abbrev pub question_left : ℕ → List Question → Option ℕ
+question_left now [] = None
+question_left now (oldest ∷ questions) = Some (question_life - (now - oldest.used))

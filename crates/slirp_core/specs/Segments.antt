@@ -58,9 +58,9 @@ abbrev pub segment_for : Task → Option Coming
 segment_for (AnErrand e) = None
 segment_for (ASegment s) = Some (coming_of s)
 
-abbrev pub FitsTask : Task → Type 0
-FitsTask (AnErrand e) = FitsErrand e
-FitsTask (ASegment s) = length s.segment.body.now ≤ 65515
+abbrev pub FitsTask : Config → Task → Type 0
+FitsTask config (AnErrand e) = FitsErrand config e
+FitsTask config (ASegment s) = length s.segment.body.now ≤ 65515
 
 -- what becomes of a segment without a flow
 abbrev pub lot_of : StrayLot → Lot

@@ -1,15 +1,18 @@
 -- What the services of the network keep of the record.
-use Rattle.std.specs.Prelude.{◌≡◌, List, None}
+use Rattle.std.specs.Prelude.{◌≡◌, ℕ, ◌<◌, All, List}
 use Rattle.world_face.specs.Journal.{Entry}
 use Rattle.host_policy.specs.Addresses.{Config}
+use Rattle.dns_relay.specs.Asking.{bind_for}
+use Rattle.dns_relay.specs.Questions.{numbers}
+use Rattle.dns_relay.specs.State.{RelayState}
 use Rattle.slirp_laws.specs.Leasing.{leases}
-use Rattle.slirp_core.specs.Forwards.{AreForConnections}
 use Rattle.slirp_core.specs.State.{SlirpState}
 
--- Who has which address. No port of the host is given to a guest for datagrams yet; names have no resolver, so that no question goes out, and datagrams go out from
--- every address of the host.
+-- who has which address
 pub record OfServices (config : Config) (slirp : SlirpState) (past : List Entry) : Type 0 where
   pub leases : leases config past ≡ slirp.leases
-  pub connections : AreForConnections config
-  pub unresolved : config.resolver ≡ None
-  pub unbound : config.outbound ≡ None
+
+-- The relay of questions has the settings, and each of its sockets a number under that of the next one.
+pub record AreAsked (next : ℕ) (config : Config) (relay : RelayState) : Type 0 where
+  pub below : All (λ n. n < next) (numbers relay.list)
+  pub is : relay ≡ record { bind = bind_for config; resolver = config.resolver; name_server = config.vnameserver; list = relay.list }

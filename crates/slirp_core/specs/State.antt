@@ -4,6 +4,7 @@ use Rattle.net_octets.specs.declared.Ip4.{Ip4}
 use Rattle.net_octets.specs.declared.Mac.{Mac}
 use Rattle.host_policy.specs.Addresses.{Config}
 use Rattle.dhcp_server.specs.declared.leases.Lease.{Lease}
+use Rattle.dns_relay.specs.declared.Question.{Question}
 use Rattle.udp_assoc.specs.declared.assocs.Association.{Association}
 use Rattle.ipv4_reasm.specs.Areas.{Gathered}
 use Rattle.port_forward.specs.Opened.{Opened}
@@ -11,7 +12,7 @@ use Rattle.tftp_server.specs.Transfers.{no_files}
 use Rattle.slirp_laws.specs.Answers.{Serving}
 use Rattle.tcp_flows.specs.Kept.{Kept}
 
--- its settings, the guests that are known, the identification of the next datagram, the frames that are owed and aren't out yet, the moment in force, the number of the next socket, the associations, what is in the areas of fragments, the flows of TCP, who has which address, and the open ports of the host that are given to guests
+-- its settings, the guests that are known, the identification of the next datagram, the frames that are owed and aren't out yet, the moment in force, the number of the next socket, the associations, the questions that wait for an answer, what is in the areas of fragments, the flows of TCP, who has which address, and the open ports of the host that are given to guests
 pub record SlirpState : Type 0 where
   pub config : Config
   pub known : List (Ip4 × Mac)
@@ -20,6 +21,7 @@ pub record SlirpState : Type 0 where
   pub moment : ℕ
   pub number : ℕ
   pub associations : List Association
+  pub questions : List Question
   pub parts : List Gathered
   pub flows : Kept
   pub leases : List Lease

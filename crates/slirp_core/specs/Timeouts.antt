@@ -4,7 +4,7 @@ use Rattle.ipv4_head.specs.Sets.{PartSet}
 use Rattle.ipv4_reasm.specs.Answers.{IsFirstDue}
 use Rattle.flow_splice.specs.Splice.{Splice}
 use Rattle.tcp_flows.specs.Reading.{IsDue, IsDueAfter, NoneDue, NoneDueAfter}
-use Rattle.slirp_core.specs.Pumps.{time_left}
+use Rattle.slirp_core.specs.Pumps.{question_left, time_left}
 use Rattle.slirp_core.specs.State.{SlirpState}
 
 abbrev pub sooner : Option ℕ → Option ℕ → Option ℕ
@@ -24,10 +24,10 @@ IsFlowTime true now parts (Some left) = (at : ℕ) × (IsDueAfter now parts at �
 IsFlowTime false now parts None = NoneDue parts
 IsFlowTime false now parts (Some left) = (at : ℕ) × (IsDue parts at × (left ≡ at - now))
 
--- it lasts until the idle life of the longest unused socket is over, these sets are dropped, or a flow is to be told the time
+-- it lasts until the idle life of the longest unused socket is over, the longest unused question has waited for long enough, these sets are dropped, or a flow is to be told the time
 pub record IsTimeout (slirp : SlirpState) (blocked : Bool) (held : List PartSet) (timeout : Option ℕ) : Type 0 where
   pub parts : Option ℕ
   pub of_parts : IsPartTime slirp.moment held parts
   pub flows : Option ℕ
   pub of_flows : IsFlowTime blocked slirp.moment slirp.flows.flows.parts flows
-  pub is : timeout ≡ sooner (sooner (time_left slirp.moment slirp.associations) parts) flows
+  pub is : timeout ≡ sooner (sooner (sooner (time_left slirp.moment slirp.associations) (question_left slirp.moment slirp.questions)) parts) flows

@@ -9,10 +9,17 @@ use arp_table::ArpView;
 use host_policy::Policy;
 use net_octets::{Ip4, Mac};
 
+/// To which hardware address all listen (RFC 894).
+const EVERYONE: Mac = Mac([255; 6]);
+
+/// The hardware address that isn't known yet (RFC 826).
+const NOBODY: Mac = Mac([0; 6]);
+
 impl Slirp {
     ghost use Rattle.arp_table.specs.Arp.{read_arp};
     ghost use Rattle.slirp_core.specs.Packets.{with_arp};
-    ghost use Rattle.slirp_laws.specs.Answers.{frames_of};
+    ghost use Rattle.std.specs.Prelude.{◌∷◌};
+    ghost use Rattle.slirp_laws.specs.Answers.{ArpAnswer, everyone, frames_of, request};
     ghost use Rattle.slirp_core.specs.Packets.{owed_for};
 
     // Takes in an ARP packet.
@@ -28,8 +35,23 @@ impl Slirp {
         };
         self.learn(packet.sender_ip, packet.sender_mac);
         if let Some(reply) = arp_reply(&self.policy, &packet) {
-            self.outgoing.put_arp(&reply);
+            self.outgoing.put_arp(reply.target_mac, &reply);
         }
+    }
+
+    // The virtual host asks everyone for the hardware address of a guest, from now on.
+    pub(crate) fn ask_for(&mut self, guest: Ip4)
+        ensures { self.new ≡ record self.old { pending = frames_of self.old.config self.old.sent (ArpAnswer everyone (request self.old.config guest.0) ∷ []) } }
+    {
+        let vhost = self.policy.vhost();
+        let request = ArpView {
+            reply: false,
+            sender_mac: our_mac(vhost),
+            sender_ip: vhost,
+            target_mac: NOBODY,
+            target_ip: guest,
+        };
+        self.outgoing.put_arp(EVERYONE, &request);
     }
 }
 

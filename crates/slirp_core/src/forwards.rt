@@ -10,8 +10,8 @@ use world_face::{Accepted, World};
 impl Slirp {
     ghost use Rattle.host_policy.specs.Addresses.{Config};
     ghost use Rattle.host_policy.specs.Ranges.{IsSound};
-    ghost use Rattle.slirp_core.specs.Forwards.{AreForConnections, ClosesForward, forward_sockets};
-    ghost use Rattle.slirp_core.specs.Holds.{AfterListening, ClosesForwards, Opens};
+    ghost use Rattle.slirp_core.specs.Forwards.{ClosesForward, forward_sockets};
+    ghost use Rattle.slirp_core.specs.Holds.{AfterListening, ClosesForwards, Opens, holders_of};
     ghost use Rattle.stream_netdev.specs.State.{LinkState};
     ghost use Rattle.world_face.specs.Tells.{Brings, Makes, Rose};
     ghost use Rattle.world_face.specs.Journal.{Entry};
@@ -35,7 +35,6 @@ impl Slirp {
     pub fn listen_all<W: World>(&mut self, world: &mut W, forwards: &[Forward]) -> Option<usize>
         requires forwards { forwards.now ≡ self.old.config.forwards }
         requires sound { IsSound self.old.config }
-        requires connections { AreForConnections self.old.config }
         requires none { self.old.forwards ≡ [] }
         requires number { self.old.number ≡ 0 }
         ensures makes { (config : Config) (link : LinkState) → self.old.config ≡ config → Brings (W.tells world.old) (W.tells world.new)
@@ -131,7 +130,7 @@ impl Slirp {
     // Closes the sockets of all forwards, by rising number.
     pub(crate) fn close_forwards<W: World>(&mut self, world: &mut W)
         ensures makes { Makes (W.tells world.old) (W.tells world.new)
-            (ClosesForwards (forward_sockets self.old.forwards) [] self.old.associations self.old.flows.flows.parts) }
+            (ClosesForwards (forward_sockets self.old.forwards) [] (holders_of self.old)) }
         ensures others { self.new ≡ record self.old { forwards = [] } }
     {
         while self.close_forward(world) {}

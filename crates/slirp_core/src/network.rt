@@ -1,5 +1,8 @@
 // The network: what it knows and keeps, a frame taken in, and what time does to it.
-ghost use Rattle.std.specs.Prelude.{[], ◌≡◌, ◌^◌, ◌<◌, All, length, not, true};
+ghost use Rattle.std.specs.Prelude.{[], ◌≡◌, ◌≤◌, ◌^◌, ◌<◌, All, ℕ, Some, length, not, slice_get, true, false, unwrap_or};
+ghost use Rattle.std.specs.List.Sorted.{IsNonDecreasing};
+ghost use Rattle.host_policy.specs.Settings.{settings};
+ghost use Rattle.run_laws.specs.Sockets.{is_among};
 ghost use Rattle.ipv4_head.specs.Ip.{ip_of, is_unbroken};
 ghost use Rattle.slirp_core.specs.Fragments.{whole_or_none, task_or_none};
 
@@ -10,6 +13,7 @@ use crate::outgoing::{ARP, IPV4, Outgoing};
 use crate::tcp::{Task, is_segment, segment_in};
 use arp_table::ArpTable;
 use dhcp_server::Leases;
+use dns_relay::Relay;
 use host_policy::{Policy, SlirpConfig};
 use ipv4_head::IpView;
 use ipv4_reasm::Reasm;
@@ -27,12 +31,13 @@ const LAST_MOMENT: u64 = 1 << 62;
 /// The room for a reply to a client of DHCP, in octets.
 const MESSAGE_ROOM: usize = 1024;
 
-/// The virtual network: who its guests are, which sockets are open for them, how many datagrams went out, the frames that are owed to a guest and aren't out yet, the fragments that wait to be joined, the flows of TCP, who has which address, and the ports of the host that are given to guests.
+/// The virtual network: who its guests are, which sockets are open for their datagrams and their questions, how many datagrams went out, the frames that are owed to a guest and aren't out yet, the fragments that wait to be joined, the flows of TCP, who has which address, and the ports of the host that are given to guests.
 #[derive(Drop)]
 pub struct Slirp {
     pub(crate) policy: Policy,
     pub(crate) guests: ArpTable,
     pub(crate) associations: Assocs,
+    pub(crate) questions: Relay,
     pub(crate) sent: u16,
     pub(crate) outgoing: Outgoing,
     pub(crate) moment: u64,
@@ -46,17 +51,18 @@ pub struct Slirp {
 }
 
 impl Model for Slirp {
-    ghost use Rattle.std.specs.Prelude.{◌≡◌, ◌<◌, ◌≤◌, ◌^◌, All, length};
+    ghost use Rattle.std.specs.Prelude.{◌≡◌, ◌<◌, ◌≤◌, ◌^◌, All, length, unwrap_or};
     ghost use Rattle.udp_assoc.specs.Associations.{numbers};
     ghost use Rattle.slirp_core.specs.State.{SlirpState};
     ghost use Rattle.slirp_core.specs.Numbers.{AreDrawn};
+    ghost use Rattle.slirp_core.specs.Services.{AreAsked};
 
     ghost Value = { SlirpState };
 
-    ghost view = { λ s. record { config = s.policy; known = s.guests; sent = s.sent; pending = s.outgoing; moment = s.moment; number = s.number; associations = s.associations.list; parts = s.reasm; flows = s.flows; leases = s.leases.leases; forwards = s.forwards } };
+    ghost view = { λ s. record { config = s.policy; known = s.guests; sent = s.sent; pending = s.outgoing; moment = s.moment; number = s.number; associations = s.associations.list; questions = s.questions.list; parts = s.reasm; flows = s.flows; leases = s.leases.leases; forwards = s.forwards } };
 
-    // each socket has a number under that of the next one, those of flows too, of which there are at most 4,096; sockets are opened at 0.0.0.0, every address of the host; and the server of leases has the settings, and room for a reply
-    ghost invariant = { λ s. All (λ n. n < s.number) (numbers s.associations.list) × (s.moment ≤ 2 ^ 62) × (s.associations.bind ≡ 0) × AreDrawn s.number s.flows × (s.leases.config ≡ s.policy) × (length s.message.items ≡ 1024) };
+    // each socket has a number under that of the next one, those of questions and of flows too, of which there are at most 4,096; sockets are opened at the address of the settings, or at 0.0.0.0, every address of the host; and the server of leases and the relay of questions have the settings, and there is room for a reply
+    ghost invariant = { λ s. All (λ n. n < s.number) (numbers s.associations.list) × (s.moment ≤ 2 ^ 62) × (s.associations.bind ≡ unwrap_or s.policy.outbound 0) × AreDrawn s.number s.flows × (s.leases.config ≡ s.policy) × (length s.message.items ≡ 1024) × AreAsked s.number s.policy s.questions };
 }
 
 impl Slirp {
@@ -67,6 +73,7 @@ impl Slirp {
     ghost use Rattle.host_policy.specs.Ranges.{IsSound};
     ghost use Rattle.host_policy.specs.Settings.{settings};
     ghost use Rattle.udp_assoc.specs.Associations.{is_over};
+    ghost use Rattle.dns_relay.specs.Questions.{is_over as is_over_question, numbers as question_numbers};
     ghost use Rattle.slirp_core.specs.Packets.{with_address};
     ghost use Rattle.slirp_core.specs.Segments.{FitsTask, errand_for, segment_for, segment_in, segment_of_ip};
     ghost use Rattle.std.specs.Option.{option_and_then};
@@ -86,11 +93,12 @@ impl Slirp {
     ghost use Rattle.connection_steps.specs.Holding.{is_connects};
     ghost use Rattle.spliced_flows.specs.Core.{CoreHolds, number_of};
     ghost use Rattle.udp_assoc.specs.Associations.{IsLeast, numbers};
+    ghost use Rattle.dns_relay.specs.Relaying.{IsLeast as IsLeastAsked};
     ghost use Rattle.run_laws.specs.Sockets.{is_among};
-    ghost use Rattle.slirp_core.specs.Numbers.{open_flows};
+    ghost use Rattle.slirp_core.specs.Firsts.{IsFlowFirst, IsQuestionFirst, NoFlowFirst, NoQuestionFirst, open_count};
     ghost use Rattle.stream_netdev.specs.State.{LinkState};
     ghost use Rattle.slirp_core.specs.Datagrams.{errand_of, FitsErrand, Lies};
-    ghost use Rattle.slirp_core.specs.Holds.{Standing, after, flowing, Holds, ClosesAll, ClosesNext};
+    ghost use Rattle.slirp_core.specs.Holds.{Standing, after, carriers, flowing, Holds, holders_of, ClosesAll, ClosesNext};
 
     /// A network in which no guest is known, no socket is open and nothing is owed, with room for as many flows of TCP as the settings say. It takes all the memory that it will ever need.
     pub fn new(alloc: Global, c: &SlirpConfig) -> Result<Slirp, NoMemory>
@@ -102,6 +110,7 @@ impl Slirp {
         ensures moment { IfOk result (λ slirp. slirp.moment ≡ 0) }
         ensures number { IfOk result (λ slirp. slirp.number ≡ 0) }
         ensures associations { IfOk result (λ slirp. slirp.associations ≡ []) }
+        ensures questions { IfOk result (λ slirp. slirp.questions ≡ []) }
         ensures parts { IfOk result (λ slirp. slirp.parts ≡ []) }
         ensures flows { IfOk result (λ slirp. slirp.flows ≡ flows_for (settings c.now)) }
         ensures leases { IfOk result (λ slirp. slirp.leases ≡ replicate 16 Free) }
@@ -117,8 +126,8 @@ impl Slirp {
         Ok(Slirp {
             policy: Policy::new(c),
             guests: ArpTable::new(),
-            // from every address of the host: no setting names another yet
-            associations: Assocs::new(Ip4(0)),
+            associations: Assocs::new(bind_for(c)),
+            questions: Relay::new(c),
             sent: 0,
             outgoing,
             moment: 0,
@@ -150,7 +159,7 @@ impl Slirp {
         ensures parts { (held : List PartSet) → IsHeld self.old.parts held
             → IsHeld self.new.parts (with_fragment self.old.moment (fragment_in self.old.config frame.now) held) }
         ensures others { self.new ≡ record self.old { pending = self.new.pending; known = self.new.known; parts = self.new.parts; leases = self.new.leases } }
-        ensures fits { FitsBrought result self.new.pending 65575 }
+        ensures fits { FitsBrought self.old.config result self.new.pending 65575 }
         ensures room { length room.new ≡ 65575 }
     {
         self.outgoing.clear();
@@ -169,12 +178,12 @@ impl Slirp {
 
     /// Takes in what a frame brought, where it made a datagram whole: `octets` are those to which that was copied. A datagram that goes out is answered, or a segment that is to be heard.
     pub fn complete<'a>(&mut self, brought: Brought<'a>, octets: &'a [u8]) -> Option<Task<'a>>
-        requires { FitsBrought brought self.old.pending (length octets.now) }
+        requires { FitsBrought self.old.config brought self.old.pending (length octets.now) }
         ensures errand { option_and_then errand_for result ≡ brought_errand self.old.config brought.entry octets.now }
         ensures segment { option_and_then segment_for result ≡ brought_segment self.old.config brought.entry octets.now }
         ensures changes { self.new ≡ taken_on self.old brought.entry octets.now }
         ensures others { self.new ≡ record self.old { pending = self.new.pending; leases = self.new.leases } }
-        ensures fits { IfSome result FitsTask }
+        ensures fits { IfSome result (FitsTask self.old.config) }
         ensures none { IfSome result (λ t. self.new.pending ≡ []) }
     {
         match brought {
@@ -193,7 +202,7 @@ impl Slirp {
         requires room { length room.old ≡ 65575 }
         ensures arrives { (held : List PartSet) → IsHeld self.old.parts held → Arrives self.old held mac.0 body.now self.new result room.new }
         ensures others { self.new ≡ record self.old { pending = self.new.pending; known = self.new.known; parts = self.new.parts; leases = self.new.leases } }
-        ensures fits { FitsBrought result self.new.pending 65575 }
+        ensures fits { FitsBrought self.old.config result self.new.pending 65575 }
         ensures room { length room.new ≡ 65575 }
     {
         let Ok(packet) = ipv4_head::decode(body) else {
@@ -219,7 +228,7 @@ impl Slirp {
         requires lies { Lies octets.now datagram.now.head.now datagram.now.body.now }
         ensures errand { option_and_then errand_for result ≡ errand_for_udp self.old.config (udp_of self.old.config mac.0 (ip_of datagram.now)) }
         ensures segment { option_and_then segment_for result ≡ segment_of_ip self.old.config mac.0 (ip_of datagram.now) }
-        ensures fits { IfSome result FitsTask }
+        ensures fits { IfSome result (FitsTask self.old.config) }
         ensures none { IfSome result (λ t. self.new.pending ≡ []) }
         ensures changes { self.new ≡ after_ip self.old mac.0 (ip_of datagram.now) }
     {
@@ -245,7 +254,7 @@ impl Slirp {
     }
 
     /// Begins a turn after which another wait may come: the flows are told their guests' hardware addresses and the time, the fragments that have waited for 60,000 milliseconds are dropped, and the
-    /// sockets of datagrams whose idle life is over are closed. Of each kind sockets are closed by rising number. There are at most 2^45 turns.
+    /// sockets of datagrams whose idle life is over are closed, and those of questions that have waited for 10,000 milliseconds. Of each kind sockets are closed by rising number. There are at most 2^45 turns.
     /// A flow that owed no acknowledgement is in time then: its timer isn't due.
     pub fn tick<W: World>(&mut self, world: &mut W)
         requires { self.old.flows.turn < 2 ^ 45 }
@@ -260,13 +269,15 @@ impl Slirp {
         ensures turn { self.new.flows.turn ≡ self.old.flows.turn + 1 }
         // No socket was served in the turn that begins.
         ensures unserved { (k : ℕ) → slice_get self.new.flows.served k ≡ Some self.new.flows.turn → ⊥ }
-        ensures same { self.new ≡ record self.old { associations = self.new.associations; parts = self.new.parts; flows = self.new.flows } }
+        ensures unasked { All (λ q. is_over_question self.new.moment q ≡ false) self.new.questions }
+        ensures same { self.new ≡ record self.old { associations = self.new.associations; questions = self.new.questions; parts = self.new.parts; flows = self.new.flows } }
     {
         self.flows.begin_turn();
         self.tell_addresses();
         self.tell_flows(world);
         self.drop_parts();
         self.close_unused(world);
+        self.close_unanswered(world);
     }
 
     // Tells the flows that don't know it their guest's hardware address, where that is known.
@@ -318,30 +329,44 @@ impl Slirp {
         self.associations.tick(world, self.moment);
     }
 
+    // Closes the sockets of questions that have waited for long enough, by rising number.
+    fn close_unanswered<W: World>(&mut self, world: &mut W)
+        ensures makes { (config : Config) (at : Standing) (aged : Bool) (link : LinkState) → Brings (W.tells world.old) (W.tells world.new)
+            (Holds config at self.old (flowing aged self.old.flows) link) (Holds config at self.new (flowing aged self.new.flows) link) }
+        ensures rising { Makes (W.tells world.old) (W.tells world.new) ClosesRising }
+        ensures none { All (λ q. is_over_question self.new.moment q ≡ false) self.new.questions }
+        ensures same { self.new ≡ record self.old { questions = self.new.questions } }
+    {
+        self.questions.tick(world, self.moment);
+    }
+
     /// Closes all sockets, by rising number: those of forwards first, which were opened before all others.
     pub fn close_all<W: World>(&mut self, world: &mut W)
-        ensures makes { Makes (W.tells world.old) (W.tells world.new) (ClosesAll self.old.forwards self.old.associations self.old.flows.flows.parts) }
+        ensures makes { Makes (W.tells world.old) (W.tells world.new) (ClosesAll self.old.forwards (holders_of self.old)) }
         ensures config { self.new.config ≡ self.old.config }
         ensures number { self.new.number ≡ self.old.number }
         ensures turn { self.new.flows.turn ≡ self.old.flows.turn }
         ensures none { self.new.associations ≡ [] }
+        ensures unasked { self.new.questions ≡ [] }
     {
         self.close_forwards(world);
         while self.close_next(world) {}
     }
 
-    // Closes the socket with the least number, of a flow or of datagrams, and answers whether there was one.
+    // Closes the socket with the least number, of a flow, an association or a question, and answers whether there was one.
     fn close_next<W: World>(&mut self, world: &mut W) -> bool
-        ensures makes { Makes (W.tells world.old) (W.tells world.new)
-            (ClosesNext result self.old.associations self.new.associations self.old.flows.flows.parts self.new.flows.flows.parts) }
-        ensures fewer { result ≡ true → length self.new.associations + open_flows self.new.flows.flows.parts < length self.old.associations + open_flows self.old.flows.flows.parts }
+        ensures makes { Makes (W.tells world.old) (W.tells world.new) (ClosesNext result (holders_of self.old) (holders_of self.new)) }
+        ensures fewer { result ≡ true → open_count self.new < open_count self.old }
         ensures config { self.new.config ≡ self.old.config }
         ensures number { self.new.number ≡ self.old.number }
         ensures turn { self.new.flows.turn ≡ self.old.flows.turn }
         ensures none { result ≡ false → self.new.associations ≡ [] }
+        ensures unasked { result ≡ false → self.new.questions ≡ [] }
     {
         if self.flow_is_first() {
             self.flows.close_first(world)
+        } else if self.question_is_first() {
+            self.questions.close_first(world)
         } else {
             self.associations.close_first(world)
         }
@@ -349,18 +374,44 @@ impl Slirp {
 
     // Whether the open socket with the least number is a flow's.
     fn flow_is_first(&self) -> bool
-        ensures yes { result ≡ true → (n : ℕ) × IsFirst n self.now.flows.flows.parts × ((m : ℕ) → is_among m (numbers self.now.associations) ≡ true → n ≤ m) }
-        ensures no { result ≡ false → (n : ℕ) → IsLeast (λ a. true) self.now.associations (Some n) → (k : ℕ) (p : Splice) → IsOpenAt self.now.flows.flows.parts k p → n ≤ number_of p }
-        ensures none { result ≡ false → self.now.associations ≡ [] → NoneIsAbove None self.now.flows.flows.parts }
+        ensures yes { result ≡ true → IsFlowFirst (carriers (holders_of self.now)) self.now.flows.flows.parts }
+        ensures no { result ≡ false → NoFlowFirst (carriers (holders_of self.now)) self.now.flows.flows.parts }
     {
         let Some(flow) = self.flows.first() else {
             return false;
         };
-        match self.associations.rising().first() {
-            Some(&number) => flow < number,
-            None => true,
+        is_under(flow, self.associations.rising()) && is_under(flow, self.questions.rising())
+    }
+
+    // Whether, of those that carry datagrams, the one with the least number is a question's.
+    fn question_is_first(&self) -> bool
+        ensures yes { result ≡ true → IsQuestionFirst self.now.associations self.now.questions }
+        ensures no { result ≡ false → NoQuestionFirst self.now.associations self.now.questions }
+    {
+        match self.questions.rising().first() {
+            Some(&question) => is_under(question, self.associations.rising()),
+            None => false,
         }
     }
+}
+
+// Whether a number is less than all of these, which rise.
+fn is_under(number: u64, rising: &[u64]) -> bool
+    requires { IsNonDecreasing rising.now }
+    ensures yes { result ≡ true → (m : ℕ) → is_among m rising.now ≡ true → number ≤ m }
+    ensures no { result ≡ false → (first : ℕ) × (slice_get rising.now 0 ≡ Some first) × (first ≤ number) }
+{
+    match rising.first() {
+        Some(&first) => number < first,
+        None => true,
+    }
+}
+
+// At which address of the host the sockets of associations are opened: that of the settings, or every one.
+fn bind_for(c: &SlirpConfig) -> Ip4
+    ensures { result.0 ≡ unwrap_or (settings c.now).outbound 0 }
+{
+    c.outbound.unwrap_or(Ip4(0))
 }
 
 // What the settings say of flows.

@@ -118,12 +118,12 @@ impl Outgoing {
         self.used = 0;
     }
 
-    /// From now on the one frame is that of an ARP packet.
-    pub fn put_arp(&mut self, packet: &ArpView)
-        ensures { self.new ≡ ether_octets packet.now.target_mac.0 packet.now.sender_mac.0 arp_kind (arp_octets (arp_of packet.now)) ∷ [] }
+    /// From now on the one frame is that of an ARP packet, to this hardware address.
+    pub fn put_arp(&mut self, to: Mac, packet: &ArpView)
+        ensures { self.new ≡ ether_octets to.0 packet.now.sender_mac.0 arp_kind (arp_octets (arp_of packet.now)) ∷ [] }
     {
         self.cutting.clear();
-        self.used = write_arp(packet, &mut self.frame, &mut self.packet);
+        self.used = write_arp(to, packet, &mut self.frame, &mut self.packet);
     }
 
     /// From now on the frames are those of a datagram with a message, which has at most 65,515 octets.
@@ -165,9 +165,9 @@ impl Outgoing {
 }
 
 // Writes the frame of an ARP packet, and answers its length.
-fn write_arp(packet: &ArpView, frame: &mut [u8], body: &mut [u8]) -> usize
+fn write_arp(to: Mac, packet: &ArpView, frame: &mut [u8], body: &mut [u8]) -> usize
     requires room { (length frame.old ≡ 1514) × (length body.old ≡ 1514) }
-    ensures frame { take result frame.new ≡ ether_octets packet.now.target_mac.0 packet.now.sender_mac.0 arp_kind (arp_octets (arp_of packet.now)) }
+    ensures frame { take result frame.new ≡ ether_octets to.0 packet.now.sender_mac.0 arp_kind (arp_octets (arp_of packet.now)) }
     ensures length { (0 < result) × (result ≤ 1514) }
     ensures room { (length frame.new ≡ 1514) × (length body.new ≡ 1514) }
 {
@@ -175,7 +175,7 @@ fn write_arp(packet: &ArpView, frame: &mut [u8], body: &mut [u8]) -> usize
         unreachable!()
     };
     let ether = EtherView {
-        to: packet.target_mac,
+        to,
         from: packet.sender_mac,
         kind: ARP,
         body: &body[..written],

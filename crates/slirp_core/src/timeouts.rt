@@ -2,10 +2,11 @@
 ghost use Rattle.std.specs.Prelude.{◌≡◌, List};
 ghost use Rattle.ipv4_head.specs.Sets.{PartSet};
 ghost use Rattle.slirp_core.specs.Fragments.{IsHeld};
-ghost use Rattle.slirp_core.specs.Pumps.{time_left};
+ghost use Rattle.slirp_core.specs.Pumps.{question_left, time_left};
 ghost use Rattle.slirp_core.specs.Timeouts.{IsFlowTime, IsPartTime, sooner};
 
 use crate::network::Slirp;
+use dns_relay::QUESTION_LIFE;
 use udp_assoc::IDLE_LIFE;
 
 impl Slirp {
@@ -15,6 +16,14 @@ impl Slirp {
     {
         let oldest = self.associations.oldest()?;
         Some(IDLE_LIFE.saturating_sub(self.moment.saturating_sub(oldest.used)))
+    }
+
+    // How long it is until the longest unused question has waited for long enough.
+    pub(crate) fn time_of_questions(&self) -> Option<u64>
+        ensures { result ≡ question_left self.now.moment self.now.questions }
+    {
+        let oldest = self.questions.oldest()?;
+        Some(QUESTION_LIFE.saturating_sub(self.moment.saturating_sub(oldest.used)))
     }
 
     // How long it is until the first fragments are dropped.

@@ -1,10 +1,10 @@
 // Datagrams of UDP in both directions: a guest's goes out on the socket of its port, a peer's comes in on it.
-ghost use Rattle.std.specs.Prelude.{[], ◌≡◌, ℕ, ◌+◌, ◌^◌, ◌<◌, ◌≤◌, length, true};
+ghost use Rattle.std.specs.Prelude.{[], ◌≡◌, ℕ, ◌+◌, ◌^◌, ◌<◌, ◌≤◌, is_some, length, true, false};
 
 use crate::datagrams::{DatagramView, ErrandView, Outcome, fate};
 use crate::icmp::PROHIBITED;
 use crate::network::Slirp;
-use host_policy::Reply;
+use host_policy::{Proto, Reply};
 use net_octets::{Endpoint, Mac};
 use udp_assoc::UdpView;
 use world_face::World;
@@ -16,15 +16,15 @@ impl Slirp {
     ghost use Rattle.std.specs.Prelude.{List, ◌∷◌, Some, IfSome};
     ghost use Rattle.std.specs.Option.{option_map};
     ghost use Rattle.host_policy.specs.Addresses.{Config};
-    ghost use Rattle.udp_assoc.specs.Associations.{numbered};
-    ghost use Rattle.udp_assoc.specs.declared.assocs.Association.{Association as AnAssociation};
-    ghost use Rattle.slirp_laws.specs.Answers.{frames_of, reply_at};
+    ghost use Rattle.dns_relay.specs.Questions.{numbered as question_numbered};
+    ghost use Rattle.slirp_laws.specs.Answers.{answer_of, asks_for, frames_of, reply_at};
     ghost use Rattle.slirp_core.specs.Leases.{after_message, after_udp};
-    ghost use Rattle.slirp_laws.specs.Datagrams.{errand_of as errand_by_law};
-    ghost use Rattle.slirp_core.specs.Replies.{told_by, owed_by};
+    ghost use Rattle.slirp_laws.specs.Datagrams.{asks_a_name, errand_of as errand_by_law};
+    ghost use Rattle.slirp_core.specs.Forwards.{guest_on};
+    ghost use Rattle.slirp_core.specs.Replies.{answered_by, told_by, or_learnt, owed_by};
     ghost use Rattle.udp_assoc.specs.Relays.{FitsRoom};
     ghost use Rattle.world_face.specs.Tells.{Brings, Makes};
-    ghost use Rattle.slirp_core.specs.Hearing.{Receives};
+    ghost use Rattle.slirp_core.specs.Hearing.{Receives, is_heard};
     ghost use Rattle.stream_netdev.specs.State.{LinkState};
     ghost use Rattle.slirp_core.specs.Datagrams.{datagram_of, errand_of, FitsErrand};
     ghost use Rattle.slirp_core.specs.Holds.{asked_by, Standing, flowing, standing, Holds, HoldsAt};
@@ -88,23 +88,67 @@ impl Slirp {
         }
     }
 
-    /// Sends a guest's datagram on the socket of its port, which is opened where there is none; where 512 are open the longest unused one is closed before.
+    /// Sends a guest's datagram: a question to the name server on a socket of its own; any other on the first port of the host that is given to its port, else on the
+    /// socket of its port. Where there is none one is opened; where 512 are open the longest unused one of its kind is closed before.
     pub fn relay<W: World>(&mut self, world: &mut W, errand: &ErrandView<'_>)
         requires none { self.old.pending ≡ [] }
-        requires fits { FitsErrand errand.now }
+        requires fits { FitsErrand self.old.config errand.now }
         requires number { self.old.number + 1 < 2 ^ 64 }
         ensures makes { (config : Config) (at : Standing) (aged : Bool) (link : LinkState) → Brings (W.tells world.old) (W.tells world.new)
-            (HoldsAt config at (asked_by config self.old.associations (Some (errand_of errand.now))) self.old (flowing aged self.old.flows) link) (Holds config at self.new (flowing aged self.new.flows) link) }
+            (HoldsAt config at (asked_by config self.old (Some (errand_of errand.now))) self.old (flowing aged self.old.flows) link) (Holds config at self.new (flowing aged self.new.flows) link) }
         ensures number { self.new.number ≤ self.old.number + 1 }
         ensures config { self.new.config ≡ self.old.config }
+        ensures others { self.new ≡ record self.old { associations = self.new.associations; questions = self.new.questions; pending = self.new.pending; number = self.new.number } }
+    {
+        if self.policy.is_name_server(errand.datagram.to.addr) {
+            self.ask(world, errand);
+        } else {
+            self.send(world, errand);
+        }
+    }
+
+    // Sends a question to the resolver, on the socket of the same question of the same port, or on one of its own.
+    fn ask<W: World>(&mut self, world: &mut W, errand: &ErrandView<'_>)
+        requires none { self.old.pending ≡ [] }
+        requires fits { FitsErrand self.old.config errand.now }
+        requires name { asks_a_name self.old.config (errand_of errand.now) ≡ true }
+        requires number { self.old.number + 1 < 2 ^ 64 }
+        ensures makes { (config : Config) (at : Standing) (aged : Bool) (link : LinkState) → Brings (W.tells world.old) (W.tells world.new)
+            (HoldsAt config at (asked_by config self.old (Some (errand_of errand.now))) self.old (flowing aged self.old.flows) link) (Holds config at self.new (flowing aged self.new.flows) link) }
+        ensures number { self.new.number ≤ self.old.number + 1 }
+        ensures others { self.new ≡ record self.old { questions = self.new.questions; pending = self.new.pending; number = self.new.number } }
+    {
+        let datagram = &errand.datagram;
+        let reply = self.questions.query(
+            world,
+            self.moment,
+            &mut self.number,
+            datagram.from,
+            datagram.mac,
+            errand.to,
+            datagram.body,
+        );
+        self.tell(reply, datagram);
+    }
+
+    // Sends any other datagram, on the first port of the host that is given to its port, or on the socket of its port.
+    fn send<W: World>(&mut self, world: &mut W, errand: &ErrandView<'_>)
+        requires none { self.old.pending ≡ [] }
+        requires fits { FitsErrand self.old.config errand.now }
+        requires other { asks_a_name self.old.config (errand_of errand.now) ≡ false }
+        requires number { self.old.number + 1 < 2 ^ 64 }
+        ensures makes { (config : Config) (at : Standing) (aged : Bool) (link : LinkState) → Brings (W.tells world.old) (W.tells world.new)
+            (HoldsAt config at (asked_by config self.old (Some (errand_of errand.now))) self.old (flowing aged self.old.flows) link) (Holds config at self.new (flowing aged self.new.flows) link) }
+        ensures number { self.new.number ≤ self.old.number + 1 }
         ensures others { self.new ≡ record self.old { associations = self.new.associations; pending = self.new.pending; number = self.new.number } }
     {
         let datagram = &errand.datagram;
+        let forward = self.forwards.socket_for(datagram.from);
         let reply = self.associations.guest(
             world,
             self.moment,
             &mut self.number,
-            None,
+            forward,
             datagram.from,
             datagram.mac,
             errand.to,
@@ -124,27 +168,93 @@ impl Slirp {
         }
     }
 
-    /// Receives a datagram on a socket: it is owed to the guest of the socket from now on. `into` is the room for it, 65,507 octets.
+    /// Receives a datagram on a socket: it is owed to the guest of the socket from now on; on that of a question where it answers it, and the socket is closed then.
+    /// `into` is the room for it, 65,507 octets.
     pub fn hear<W: World>(&mut self, world: &mut W, number: u64, into: &mut [u8])
         requires none { self.old.pending ≡ [] }
         requires room { length into.old ≡ 65507 }
         // Where the socket is open a datagram is asked for on it, once.
-        ensures receives { (a : AnAssociation) → numbered number self.old.associations ≡ Some a → Makes (W.tells world.old) (W.tells world.new) (Receives number) }
+        ensures receives { is_heard number self.old ≡ true → Makes (W.tells world.old) (W.tells world.new) (Receives number) }
         ensures makes { (config : Config) (count : ℕ) (wants : List AnItem) (item : AnItem) (items : List AnItem) (aged : Bool) (link : LinkState) → is_to_read (Udp number) (wanted_of wants item) ≡ true → link.tail ≡ [] → Brings (W.tells world.old) (W.tells world.new)
             (Holds config (standing count wants (item ∷ items)) self.old (flowing aged self.old.flows) link) (Holds config (standing count wants items) self.new (flowing aged self.new.flows) link) }
         ensures counts { AreGrown (W.tells world.old).faults (W.tells world.new).faults }
         ensures number { self.new.number ≡ self.old.number }
         ensures config { self.new.config ≡ self.old.config }
+        ensures others { self.new ≡ record self.old { associations = self.new.associations; questions = self.new.questions; pending = self.new.pending } }
+        ensures room { length into.new ≡ 65507 }
+    {
+        if self.questions.has(number) {
+            self.hear_answer(world, number, into);
+        } else {
+            self.hear_peer(world, number, into);
+        }
+    }
+
+    // Receives a datagram on the socket of a question.
+    fn hear_answer<W: World>(&mut self, world: &mut W, number: u64, into: &mut [u8])
+        requires none { self.old.pending ≡ [] }
+        requires room { length into.old ≡ 65507 }
+        requires asked { is_some (question_numbered number self.old.questions) ≡ true }
+        ensures receives { Makes (W.tells world.old) (W.tells world.new) (Receives number) }
+        ensures makes { (config : Config) (count : ℕ) (wants : List AnItem) (item : AnItem) (items : List AnItem) (aged : Bool) (link : LinkState) → is_to_read (Udp number) (wanted_of wants item) ≡ true → link.tail ≡ [] → Brings (W.tells world.old) (W.tells world.new)
+            (Holds config (standing count wants (item ∷ items)) self.old (flowing aged self.old.flows) link) (Holds config (standing count wants items) self.new (flowing aged self.new.flows) link) }
+        ensures counts { AreGrown (W.tells world.old).faults (W.tells world.new).faults }
+        ensures others { self.new ≡ record self.old { questions = self.new.questions; pending = self.new.pending } }
+        ensures room { length into.new ≡ 65507 }
+    {
+        let reply = self.questions.answer(world, self.moment, number, into);
+        self.answer_asker(reply, into);
+    }
+
+    // Receives a datagram on the socket of a port of the host that is given to a guest, or of an association.
+    fn hear_peer<W: World>(&mut self, world: &mut W, number: u64, into: &mut [u8])
+        requires none { self.old.pending ≡ [] }
+        requires room { length into.old ≡ 65507 }
+        requires unasked { is_some (question_numbered number self.old.questions) ≡ false }
+        ensures receives { is_heard number self.old ≡ true → Makes (W.tells world.old) (W.tells world.new) (Receives number) }
+        ensures makes { (config : Config) (count : ℕ) (wants : List AnItem) (item : AnItem) (items : List AnItem) (aged : Bool) (link : LinkState) → is_to_read (Udp number) (wanted_of wants item) ≡ true → link.tail ≡ [] → Brings (W.tells world.old) (W.tells world.new)
+            (Holds config (standing count wants (item ∷ items)) self.old (flowing aged self.old.flows) link) (Holds config (standing count wants items) self.new (flowing aged self.new.flows) link) }
+        ensures counts { AreGrown (W.tells world.old).faults (W.tells world.new).faults }
         ensures others { self.new ≡ record self.old { associations = self.new.associations; pending = self.new.pending } }
         ensures room { length into.new ≡ 65507 }
     {
+        let guest = self.guest_on(number);
         let reply = self
             .associations
-            .host(world, self.moment, number, None, into);
+            .host(world, self.moment, number, guest, into);
         self.answer_peer(reply, into);
     }
 
-    // What a peer said on a socket, whose octets stand at the front of these, is owed to its guest.
+    // The port of a guest to which the port of the host for datagrams with this socket is given.
+    fn guest_on(&self, number: u64) -> Option<Endpoint>
+        ensures { result ≡ guest_on self.now.forwards number }
+    {
+        let (forward, _) = self.forwards.at(number as usize)?;
+        match forward.proto {
+            Proto::Udp => Some(forward.guest),
+            Proto::Tcp => None,
+        }
+    }
+
+    // The answer to a question, whose octets stand at the front of these, is owed to the port that asked.
+    fn answer_asker(&mut self, reply: Reply, octets: &[u8])
+        requires none { self.old.pending ≡ [] }
+        requires fits { FitsRoom reply (length octets.now) }
+        requires room { length octets.now ≤ 65507 }
+        ensures { self.new ≡ record self.old { pending = answered_by self.old octets.now reply } }
+    {
+        if let Reply::Datagram {
+            length,
+            from,
+            to,
+            mac: Some(mac),
+        } = reply
+        {
+            self.put_datagram(from, &octets[..length], to, mac);
+        }
+    }
+
+    // What a peer said on a socket, whose octets stand at the front of these, is owed to its guest. One whose hardware address isn't known is asked for it instead.
     fn answer_peer(&mut self, reply: Reply, octets: &[u8])
         requires none { self.old.pending ≡ [] }
         requires fits { FitsRoom reply (length octets.now) }
@@ -155,10 +265,23 @@ impl Slirp {
             length,
             from,
             to,
-            mac: Some(mac),
+            mac,
         } = reply
         {
-            self.put_reply(from, &octets[..length], to, mac);
+            match self.mac_for(to, mac) {
+                Some(mac) => self.put_reply(from, &octets[..length], to, mac),
+                None => self.seek(from, to),
+            }
+        }
+    }
+
+    // The hardware address of a guest: this one, or that which was learnt last for it.
+    fn mac_for(&self, guest: Endpoint, mac: Option<Mac>) -> Option<Mac>
+        ensures { result ≡ or_learnt self.now guest mac }
+    {
+        match mac {
+            Some(mac) => Some(mac),
+            None => self.guests.find(guest.addr),
         }
     }
 
@@ -171,6 +294,24 @@ impl Slirp {
         let Some(from) = self.policy.shown(peer) else {
             return;
         };
+        self.put_datagram(from, octets, guest, mac);
+    }
+
+    // A request for the hardware address of a guest is owed, for what a peer said to it, where the peer is shown (RFC 826).
+    fn seek(&mut self, peer: Endpoint, guest: Endpoint)
+        requires none { self.old.pending ≡ [] }
+        ensures { self.new ≡ record self.old { pending = frames_of self.old.config self.old.sent (asks_for self.old.config peer guest) } }
+    {
+        if self.policy.shown(peer).is_some() {
+            self.ask_for(guest.addr);
+        }
+    }
+
+    // A datagram is owed to a guest.
+    fn put_datagram(&mut self, from: Endpoint, octets: &[u8], guest: Endpoint, mac: Mac)
+        requires short { length octets.now ≤ 65507 }
+        ensures { self.new ≡ record self.old { pending = frames_of self.old.config self.old.sent (answer_of (record { mac = mac.0; from = from; to = guest; body = octets.now }) ∷ []) } }
+    {
         let course = self.course(mac, from.addr, guest.addr);
         let datagram = UdpView {
             from_port: from.port,

@@ -1,15 +1,17 @@
 // What the network waits for, and how long.
-ghost use Rattle.std.specs.Prelude.{[], ◌≡◌, ◌+◌, ◌≤◌, ◌<◌, ◌^◌, ◌++◌, true, false, List, ℕ, Some, slice_get, map, length, IfOk};
+ghost use Rattle.std.specs.Prelude.{[], ◌∷◌, ◌≡◌, ◌+◌, ◌≤◌, ◌<◌, ◌^◌, ◌++◌, true, false, List, ℕ, Some, slice_get, map, length, IfOk};
 ghost use Rattle.flow_splice.specs.Splice.{Splice};
 ghost use Rattle.spliced_flows.specs.Core.{number_of};
 ghost use Rattle.poll_list.specs.declared.Want.{Want as AWant};
 ghost use Rattle.tcp_flows.specs.Reading.{AreWantsOf};
 ghost use Rattle.poll_list.specs.Listing.{AreWants};
-ghost use Rattle.slirp_core.specs.Pumps.{TcpOnce, link_want, listener_want, socket_wants, udp_want};
+ghost use Rattle.slirp_core.specs.Pumps.{TcpOnce, link_want, listener_want, merged, socket_wants, udp_want};
+ghost use Rattle.slirp_core.specs.Carrying.{HasRoom, sockets_of};
 
 use crate::network::Slirp;
 use crate::timeouts::sooner;
 use arrayvec::ArrayVec;
+use host_policy::Proto;
 use net_octets::NoMemory;
 use poll_list::{Want, Wants, Who};
 use std::alloc::Global;
@@ -25,7 +27,9 @@ use tcp_flows::TcpFlows;
 pub struct TurnWants {
     list: Wants,
     listeners: ArrayVec<u64, 32>,
-    sockets: ArrayVec<u64, 512>,
+    forwards: ArrayVec<u64, 32>,
+    associations: ArrayVec<u64, 512>,
+    questions: ArrayVec<u64, 512>,
     // whether the list has the link, these listeners and these sockets, all for reading
     reads: bool,
     // how many stand before the sockets of datagrams
@@ -34,17 +38,25 @@ pub struct TurnWants {
     before: usize,
 }
 
+/// The sockets of datagrams, each row by rising number: those of ports of the host, those of associations, and those of questions.
+#[derive(Clone, Copy)]
+pub(crate) struct Carriers<'a> {
+    pub forwards: &'a [u64],
+    pub associations: &'a [u64],
+    pub questions: &'a [u64],
+}
+
 impl Model for TurnWants {
     ghost use Rattle.std.specs.Prelude.{◌≡◌, ◌≤◌, true, false, ◌++◌, length, map};
     ghost use Rattle.poll_list.specs.Listing.{AreWants, Listing};
-    ghost use Rattle.slirp_core.specs.Pumps.{link_want, listener_want, udp_want};
+    ghost use Rattle.slirp_core.specs.Pumps.{link_want, listener_want, merged, udp_want};
 
     ghost Value = { Listing };
 
     ghost view = { λ w. w.list };
 
     ghost invariant = { λ w. AreWants w.list.items × (w.front ≤ w.before) × (w.before ≤ length w.list.items)
-        × (w.reads ≡ true → w.list.items ≡ (link_want true false ++ map listener_want w.listeners.items) ++ map udp_want w.sockets.items) };
+        × (w.reads ≡ true → w.list.items ≡ (link_want true false ++ map listener_want w.listeners.items) ++ map udp_want (w.forwards.items ++ merged w.associations.items w.questions.items)) };
 }
 
 impl TurnWants {
@@ -59,7 +71,9 @@ impl TurnWants {
         Ok(TurnWants {
             list,
             listeners: ArrayVec::new(),
-            sockets: ArrayVec::new(),
+            forwards: ArrayVec::new(),
+            associations: ArrayVec::new(),
+            questions: ArrayVec::new(),
             reads: false,
             front: 0,
             before: 0,
@@ -108,23 +122,23 @@ impl TurnWants {
         read: bool,
         write: bool,
         listeners: &[u64],
-        sockets: &[u64],
+        carriers: Carriers<'_>,
         flows: &TcpFlows,
         below: u64,
     )
-        requires room { 4641 ≤ self.old.capacity }
+        requires room { 5153 ≤ self.old.capacity }
         requires flows { length flows.now.flows.parts ≤ 4096 }
         requires numbers { (k : ℕ) (p : Splice) → slice_get flows.now.flows.parts k ≡ Some (Some p) → number_of p < below }
-        requires few { length listeners.now ≤ 32 }
-        requires most { length sockets.now ≤ 512 }
-        ensures items { (added : List AWant) × (self.new.items ≡ ((link_want read write ++ map listener_want listeners.now) ++ socket_wants read sockets.now) ++ added)
+        requires few { length listeners.now + length carriers.forwards.now ≤ 32 }
+        requires most { HasRoom carriers }
+        ensures items { (added : List AWant) × (self.new.items ≡ ((link_want read write ++ map listener_want listeners.now) ++ socket_wants read (sockets_of carriers)) ++ added)
             × AreWantsOf flows.now.flows.parts added }
         ensures once { TcpOnce self.new.items }
         ensures wants { AreWants self.new.items }
-        ensures few { length self.new.items ≤ 4641 }
+        ensures few { length self.new.items ≤ 5153 }
         ensures capacity { self.new.capacity ≡ self.old.capacity }
     {
-        self.fill_before(read, write, listeners, sockets);
+        self.fill_before(read, write, listeners, carriers);
         self.add_flows(flows, below);
     }
 
@@ -145,45 +159,53 @@ impl TurnWants {
     }
 
     // From now on the link is waited for in these directions, these listeners, and these sockets where it is read.
-    fn fill_before(&mut self, read: bool, write: bool, listeners: &[u64], sockets: &[u64])
-        requires room { 545 ≤ self.old.capacity }
-        requires few { length listeners.now ≤ 32 }
-        requires most { length sockets.now ≤ 512 }
-        ensures items { self.new.items ≡ (link_want read write ++ map listener_want listeners.now) ++ socket_wants read sockets.now }
+    fn fill_before(&mut self, read: bool, write: bool, listeners: &[u64], carriers: Carriers<'_>)
+        requires room { 1057 ≤ self.old.capacity }
+        requires few { length listeners.now + length carriers.forwards.now ≤ 32 }
+        requires most { HasRoom carriers }
+        ensures items { self.new.items ≡ (link_want read write ++ map listener_want listeners.now) ++ socket_wants read (sockets_of carriers) }
         ensures wants { AreWants self.new.items }
-        ensures few { length self.new.items ≤ 545 }
+        ensures few { length self.new.items ≤ 1057 }
         ensures capacity { self.new.capacity ≡ self.old.capacity }
     {
         if read && !write {
-            self.read_all(listeners, sockets);
+            self.read_all(listeners, carriers);
         } else {
             self.begin(read, write, listeners);
-            add_wanted(read, sockets, &mut self.list);
+            add_wanted(read, carriers, &mut self.list);
         }
     }
 
     // From now on the link, these listeners and these sockets are waited for, for reading.
-    fn read_all(&mut self, listeners: &[u64], sockets: &[u64])
-        requires room { 545 ≤ self.old.capacity }
-        requires few { length listeners.now ≤ 32 }
-        requires most { length sockets.now ≤ 512 }
-        ensures items { self.new.items ≡ (link_want true false ++ map listener_want listeners.now) ++ map udp_want sockets.now }
+    fn read_all(&mut self, listeners: &[u64], carriers: Carriers<'_>)
+        requires room { 1057 ≤ self.old.capacity }
+        requires few { length listeners.now + length carriers.forwards.now ≤ 32 }
+        requires most { HasRoom carriers }
+        ensures items { self.new.items ≡ (link_want true false ++ map listener_want listeners.now) ++ map udp_want (sockets_of carriers) }
         ensures wants { AreWants self.new.items }
-        ensures few { length self.new.items ≤ 545 }
+        ensures few { length self.new.items ≤ 1057 }
         ensures capacity { self.new.capacity ≡ self.old.capacity }
     {
         if self.reads
             && are_same(self.listeners.as_slice(), listeners)
-            && are_same(self.sockets.as_slice(), sockets)
+            && are_same(self.forwards.as_slice(), carriers.forwards)
+            && are_same(self.associations.as_slice(), carriers.associations)
+            && are_same(self.questions.as_slice(), carriers.questions)
         {
             return;
         }
         self.begin(true, false, listeners);
-        add_sockets(sockets, &mut self.list);
+        add_carriers(carriers, &mut self.list);
         self.listeners.clear();
         let _ = self.listeners.try_extend_from_slice(listeners);
-        self.sockets.clear();
-        let _ = self.sockets.try_extend_from_slice(sockets);
+        self.forwards.clear();
+        let _ = self.forwards.try_extend_from_slice(carriers.forwards);
+        self.associations.clear();
+        let _ = self
+            .associations
+            .try_extend_from_slice(carriers.associations);
+        self.questions.clear();
+        let _ = self.questions.try_extend_from_slice(carriers.questions);
         self.reads = true;
     }
 
@@ -193,7 +215,7 @@ impl TurnWants {
         requires few { length listeners.now ≤ 32 }
         ensures items { self.new.items ≡ link_want read write ++ map listener_want listeners.now }
         ensures wants { AreWants self.new.items }
-        ensures few { length self.new.items ≤ 33 }
+        ensures few { length self.new.items ≤ 1 + length listeners.now }
         ensures capacity { self.new.capacity ≡ self.old.capacity }
     {
         self.reads = false;
@@ -209,45 +231,64 @@ impl TurnWants {
 
 impl Slirp {
     ghost use Rattle.ipv4_head.specs.Sets.{PartSet};
+    ghost use Rattle.host_policy.specs.declared.Proto.TheVariants.{Tcp, Udp};
+    ghost use Rattle.slirp_core.specs.Forwards.{sockets_over};
     ghost use Rattle.slirp_core.specs.Fragments.{IsHeld};
     ghost use Rattle.slirp_core.specs.Pumps.{WantsOf, listeners_of};
     ghost use Rattle.slirp_core.specs.Timeouts.{IsTimeout};
 
-    /// What the network waits for, and how long at most: the link for reading, and each open socket of datagrams by rising number, where nothing is left to be sent; the link for writing where it is blocked; each port of the host that is given to a guest exactly where there is room for a flow more; what flows wait for, by rising number; until the idle life of the longest unused socket is over, the first fragments are dropped, or a flow is to be told the time.
+    /// What the network waits for, and how long at most: the link for reading, and each open socket of datagrams, where nothing is left to be sent: those of ports of the host, then those of associations and questions, by rising number; the link for writing where it is blocked; each port of the host to which peers connect exactly where there is room for a flow more; what flows wait for, by rising number; until the idle life of the longest unused socket is over, the longest unused question has waited for long enough, the first fragments are dropped, or a flow is to be told the time.
     pub fn pollfds_fill(&self, link: &Link, wants: &mut TurnWants) -> Option<u64>
-        requires { 4641 ≤ wants.old.capacity }
+        requires { 5153 ≤ wants.old.capacity }
         ensures timeout { (held : List PartSet) → IsHeld self.now.parts held → IsTimeout self.now link.now.blocked held result }
         ensures items { WantsOf self.now link.now wants.new.items }
         ensures once { TcpOnce wants.new.items }
         ensures wants { AreWants wants.new.items }
-        ensures few { length wants.new.items ≤ 4641 }
+        ensures few { length wants.new.items ≤ 5153 }
         ensures capacity { wants.new.capacity ≡ wants.old.capacity }
     {
         let listeners = self.listeners();
+        let forwards = self.ports_over(Proto::Udp);
+        let carriers = Carriers {
+            forwards: forwards.as_slice(),
+            associations: self.associations.rising(),
+            questions: self.questions.rising(),
+        };
         wants.fill(
             self.is_settled(link),
             link.blocked(),
             listeners.as_slice(),
-            self.associations.rising(),
+            carriers,
             &self.flows,
             self.number,
         );
-        let datagrams = sooner(self.time_of_sockets(), self.time_of_parts());
+        let datagrams = sooner(self.time_of_sockets(), self.time_of_questions());
+        let datagrams = sooner(datagrams, self.time_of_parts());
         sooner(datagrams, self.time_of_flows(link.blocked()))
     }
 
-    // The ports of the host for which peers are waited for: all where there is room for a flow more, else none.
+    // The ports of the host for which peers are waited for: all to which they connect where there is room for a flow more, else none.
     fn listeners(&self) -> ArrayVec<u64, 32>
         ensures items { result.items ≡ listeners_of self.now }
-        ensures few { length result.items ≤ 32 }
+        ensures few { length result.items ≤ length (sockets_over Tcp self.now.forwards) }
+    {
+        if self.flows.has_room() {
+            self.ports_over(Proto::Tcp)
+        } else {
+            ArrayVec::new()
+        }
+    }
+
+    // The sockets of the ports of the host that are open with this protocol, by rising number.
+    fn ports_over(&self, proto: Proto) -> ArrayVec<u64, 32>
+        ensures items { result.items ≡ sockets_over proto self.now.forwards }
     {
         let mut numbers = ArrayVec::new();
-        if !self.flows.has_room() {
-            return numbers;
-        }
         for place in 0..self.forwards.len() {
-            if let Some((_, number)) = self.forwards.at(place) {
-                let _ = numbers.try_push(number);
+            if let Some((forward, number)) = self.forwards.at(place) {
+                if forward.proto == proto {
+                    let _ = numbers.try_push(number);
+                }
             }
         }
         numbers
@@ -298,18 +339,68 @@ fn add_link(read: bool, write: bool, wants: &mut Wants)
     }
 }
 
-// Puts the sockets of these numbers at the end, for reading, where they are wanted.
-fn add_wanted(wanted: bool, numbers: &[u64], wants: &mut Wants)
+// Puts these sockets at the end, for reading, where they are wanted.
+fn add_wanted(wanted: bool, carriers: Carriers<'_>, wants: &mut Wants)
     requires wants { AreWants wants.old.items }
-    requires room { length wants.old.items + length numbers.now ≤ wants.old.capacity }
-    ensures items { wants.new.items ≡ wants.old.items ++ socket_wants wanted numbers.now }
+    requires room { length wants.old.items + length carriers.forwards.now + 1024 ≤ wants.old.capacity }
+    requires most { HasRoom carriers }
+    ensures items { wants.new.items ≡ wants.old.items ++ socket_wants wanted (sockets_of carriers) }
     ensures wants { AreWants wants.new.items }
-    ensures room { length wants.new.items ≤ length wants.old.items + length numbers.now }
+    ensures room { length wants.new.items ≤ length wants.old.items + length carriers.forwards.now + 1024 }
     ensures capacity { wants.new.capacity ≡ wants.old.capacity }
 {
     if wanted {
-        add_sockets(numbers, wants);
+        add_carriers(carriers, wants);
     }
+}
+
+// Puts these sockets at the end, for reading: those of ports of the host, then the others by rising number.
+fn add_carriers(carriers: Carriers<'_>, wants: &mut Wants)
+    requires wants { AreWants wants.old.items }
+    requires room { length wants.old.items + length carriers.forwards.now + 1024 ≤ wants.old.capacity }
+    requires most { HasRoom carriers }
+    ensures items { wants.new.items ≡ wants.old.items ++ map udp_want (sockets_of carriers) }
+    ensures wants { AreWants wants.new.items }
+    ensures room { length wants.new.items ≤ length wants.old.items + length carriers.forwards.now + 1024 }
+    ensures capacity { wants.new.capacity ≡ wants.old.capacity }
+{
+    add_sockets(carriers.forwards, wants);
+    merge_sockets(carriers.associations, carriers.questions, wants);
+}
+
+// Puts the sockets of two rows, each of which rises, at the end, for reading, by rising number.
+fn merge_sockets(some: &[u64], others: &[u64], wants: &mut Wants)
+    requires wants { AreWants wants.old.items }
+    requires room { length wants.old.items + length some.now + length others.now ≤ wants.old.capacity }
+    ensures items { wants.new.items ≡ wants.old.items ++ map udp_want (merged some.now others.now) }
+    ensures wants { AreWants wants.new.items }
+    ensures room { length wants.new.items ≡ length wants.old.items + length some.now + length others.now }
+    ensures capacity { wants.new.capacity ≡ wants.old.capacity }
+{
+    let mut place = 0;
+    for &number in some {
+        while place < others.len() && others[place] <= number {
+            add_socket(others[place], wants);
+            place += 1;
+        }
+        add_socket(number, wants);
+    }
+    add_sockets(&others[place..], wants);
+}
+
+// Puts the socket of this number at the end, for reading.
+fn add_socket(number: u64, wants: &mut Wants)
+    requires wants { AreWants wants.old.items }
+    requires room { length wants.old.items + 1 ≤ wants.old.capacity }
+    ensures items { wants.new.items ≡ wants.old.items ++ udp_want number ∷ [] }
+    ensures wants { AreWants wants.new.items }
+    ensures capacity { wants.new.capacity ≡ wants.old.capacity }
+{
+    wants.add(Want {
+        of: Who::Udp(number),
+        read: true,
+        write: false,
+    });
 }
 
 // Puts the listeners of these numbers at the end, for reading.
