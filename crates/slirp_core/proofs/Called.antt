@@ -17,11 +17,11 @@ use Rattle.slirp_laws.specs.Datagrams.{Settled}
 use Rattle.slirp_laws.specs.Laws.{Lawful}
 use Rattle.stream_netdev.specs.State.{LinkState}
 use Rattle.slirp_core.specs.Forwards.{forward_sockets}
-use Rattle.slirp_core.specs.Holds.{AreOpenWith, Stands, Begins, Standing, InTurn, IsLast, OfGuests, after, standing, AfterPump, Ended, Flowing, Holds, Turns, flowing, is_ours}
+use Rattle.slirp_core.specs.Holds.{AreOpenWith, carriers, holders_with, Stands, Begins, Standing, InTurn, IsLast, OfGuests, after, standing, AfterPump, Ended, Flowing, Holds, Turns, flowing, is_ours}
 use Rattle.slirp_core.specs.State.{SlirpState}
 use Rattle.slirp_core.specs.Waiting.{OfFragments}
-use Rattle.slirp_core.proofs.Parts.{asks_nothing, errand_for, in_turn}
-use Rattle.slirp_core.proofs.Services.{none_due_for_services}
+use Rattle.slirp_core.proofs.Parts.{asks_nothing, errand_for, in_turn, two_in}
+use Rattle.slirp_core.proofs.Services.{none_due_for_services, unheard}
 use Rattle.flow_splice.specs.declared.Pumped.{Pumped as PumpedFlows}
 use Rattle.slirp_core.specs.Pumps.{pumped_flows}
 use Rattle.flow_splice.specs.declared.Pumped.TheVariants.{Clear, Blocked, Failed}
@@ -48,7 +48,7 @@ between config at slirp f link past turn holds = record {
   asked = holds.flows.asked;
   settings = holds.flows.settings;
   lawful = holds.lawful;
-  work = record { working = turn.working; errand = errand_for config Settled slirp past holds.relayed; services = none_due_for_services config past holds.services.unresolved; open_yet = holds.open_yet };
+  work = record { working = turn.working; errand = errand_for config Settled None slirp past holds.relayed; services = none_due_for_services config past holds.relayed.heard; open_yet = holds.open_yet };
   at = holds.clock.moment;
 }
 
@@ -89,8 +89,8 @@ after_flows config at later slirp f link past made aged new same allowed turn ho
       };
       answers = record { sent = leaves.counted ∙ holds.answers.sent; pending = leaves.left ∙ holds.answers.pending };
       guests = guests_left config slirp past made moments others holds.guests;
-      relayed = record { list = others.list ∙ holds.relayed.list; asks = asks_nothing config slirp.associations (errand_left config (made ++ past)) then_is.work.errand };
-      services = record { leases = others.leases ∙ holds.services.leases; connections = holds.services.connections; unresolved = holds.services.unresolved; unbound = holds.services.unbound };
+      relayed = record { list = others.list ∙ holds.relayed.list; questions = others.questions ∙ holds.relayed.questions; asks = asks_nothing config slirp (errand_left config (made ++ past)) then_is.work.errand; heard = unheard config (made ++ past) then_is.work.services };
+      services = record { leases = others.leases ∙ holds.services.leases };
       forwards = holds.forwards;
       flows = record { holds = then_is.holds; asked = then_is.asked; settings = then_is.settings; unit = holds.flows.unit };
       sockets = record { number = leaves.next ∙ holds.sockets.number; kinds = sockets_left config past made others holds.sockets.kinds };
@@ -201,8 +201,8 @@ flows_put config at slirp k f link past holds = record {
   keeps = holds.keeps;
   answers = record { sent = holds.answers.sent; pending = holds.answers.pending };
   guests = record { settings = holds.guests.settings; known = holds.guests.known; fragments = record { held = holds.guests.fragments.held; is_held = holds.guests.fragments.is_held; wait = holds.guests.fragments.wait } };
-  relayed = record { list = holds.relayed.list; asks = holds.relayed.asks };
-  services = record { leases = holds.services.leases; connections = holds.services.connections; unresolved = holds.services.unresolved; unbound = holds.services.unbound };
+  relayed = record { list = holds.relayed.list; questions = holds.relayed.questions; asks = holds.relayed.asks; heard = holds.relayed.heard };
+  services = record { leases = holds.services.leases };
   forwards = holds.forwards;
   flows = holds.flows;
   sockets = holds.sockets;
@@ -287,8 +287,8 @@ module _ (config : Config) (at : Standing) (slirp : SlirpState) (f : Flowing) (l
         keeps = then_is.keeps;
         answers = record { sent = then_is.counted; pending = then_is.nothing ∙ sym none };
         guests = record { settings = guests.settings; known = guests.known; fragments = record { held = fragments.held; is_held = fragments.is_held; wait = fragments.wait } };
-        relayed = record { list = others.list ∙ holds.relayed.list; asks = asks_nothing config slirp.associations (errand_left config (made ++ past)) then_is.between.work.errand };
-        services = record { leases = others.leases ∙ holds.services.leases; connections = holds.services.connections; unresolved = holds.services.unresolved; unbound = holds.services.unbound };
+        relayed = record { list = others.list ∙ holds.relayed.list; questions = others.questions ∙ holds.relayed.questions; asks = asks_nothing config slirp (errand_left config (made ++ past)) then_is.between.work.errand; heard = unheard config (made ++ past) then_is.between.work.services };
+        services = record { leases = others.leases ∙ holds.services.leases };
         forwards = holds.forwards;
         flows = record { holds = then_is.between.holds; asked = then_is.between.asked; settings = then_is.between.settings; unit = holds.flows.unit };
         sockets = record { number = same ∙ holds.sockets.number; kinds = sockets_left config past made others holds.sockets.kinds };
@@ -299,16 +299,17 @@ module _ (config : Config) (at : Standing) (slirp : SlirpState) (f : Flowing) (l
       }
 
   -- the link failed
-  broke : Broken config slirp.moment f.aged new (made ++ past) → LeavesOthers config past made → Ended config LinkFailed slirp.forwards slirp.associations new.flows.parts (made ++ past)
+  broke : Broken config slirp.moment f.aged new (made ++ past) → LeavesOthers config past made → Ended config LinkFailed slirp.forwards (holders_with slirp new) (made ++ past)
   broke then_is others = record {
     lawful = then_is.lawful;
     over = then_is.over;
-    errand = others.errand ∙ errand_for config Settled slirp past holds.relayed;
-    served = none_due_for_services config (made ++ past) holds.services.unresolved;
+    errand = others.errand ∙ errand_for config Settled None slirp past holds.relayed;
+    served = then_is.served;
     idle = then_is.asks;
-    sockets = subst (λ l. AreOpenWith (forward_sockets l) slirp.associations new.flows.parts (made ++ past)) (sym holds.forwards)
-        (open_by config slirp.associations (flowing f.aged new) slirp.moment (made ++ past) holds.services.unresolved then_is.lawful (others.list ∙ holds.relayed.list) then_is.holds (sockets_left config past made others holds.sockets.kinds)
-        (all_given config holds.services.unresolved holds.services.connections (made ++ past) then_is.lawful (Over (By LinkFailed)) then_is.over refl) then_is.open_yet);
+    sockets = subst (λ l. AreOpenWith (forward_sockets l) (carriers (holders_with slirp new)) new.flows.parts (made ++ past)) (sym holds.forwards)
+        (open_by config slirp (flowing f.aged new) slirp.moment (made ++ past) then_is.lawful (others.list ∙ holds.relayed.list) (others.questions ∙ holds.relayed.questions) then_is.holds (sockets_left config past made others holds.sockets.kinds)
+        (all_given config (made ++ past) then_is.lawful (Over (By LinkFailed)) then_is.over refl) then_is.open_yet);
+    two = two_in config slirp (made ++ past) then_is.lawful (others.list ∙ holds.relayed.list) (others.questions ∙ holds.relayed.questions);
   }
 
   -- the flows were pumped

@@ -1,12 +1,17 @@
--- The numbers of flows stay under that of the next socket.
-use Rattle.std.proofs.Common.{◌≡◌, ℕ, zero, suc, ◌<◌, ◌≤◌, ◌+◌, ◌⊎◌, length, replicate, slice_get, Option, Some, None, inl, inr, arith}
+-- The numbers of flows, of associations and of questions stay under that of the next socket.
+use Rattle.std.proofs.Common.{◌≡◌, ℕ, zero, suc, ◌<◌, ◌≤◌, ◌+◌, ◌⊎◌, All, List, [], ◌∷◌, length, replicate, slice_get, Option, Some, None, inl, inr, ◌∙◌, ap, arith}
 use Rattle.std.proofs.lemmas.List.{length-replicate}
+use Rattle.std.proofs.lemmas.List.Elements.{All-cons, All-head, All-nil, All-tail}
+use Rattle.dns_relay.specs.Asking.{bind_for}
+use Rattle.dns_relay.specs.Questions.{numbers}
+use Rattle.dns_relay.specs.State.{RelayState}
 use Rattle.host_policy.specs.Addresses.{Config}
 use Rattle.flow_splice.specs.Splice.{Splice}
 use Rattle.spliced_flows.specs.Core.{number_of}
 use Rattle.tcp_flows.specs.Kept.{Kept}
 use Rattle.tcp_flows.specs.Reading.{Stays}
 use Rattle.slirp_core.specs.Numbers.{AreDrawn, flows_for}
+use Rattle.slirp_core.specs.Services.{AreAsked}
 
 -- after a call that opens none
 pub drawn_stay : (next : ℕ) (old new : Kept) → Stays old new → AreDrawn next old → AreDrawn next new
@@ -49,3 +54,18 @@ drawn_none config few = record {
   opened = omega arith;
   few = let size : length (replicate {A = Option Splice} config.flows None) ≡ config.flows = length-replicate config.flows None in omega (arith, size, few);
 }
+
+-- the numbers of associations and of questions
+pub below_up : (next later : ℕ) (ns : List ℕ) → next ≤ later → All (λ n. n < next) ns → All (λ n. n < later) ns
+below_up next later [] up below = All-nil (λ (n : ℕ). n < later)
+below_up next later (x ∷ ns) up below =
+    let here = All-head (λ (n : ℕ). n < next) x ns below in
+    All-cons (λ (n : ℕ). n < later) x ns (omega (arith, here, up)) (below_up next later ns up (All-tail (λ (n : ℕ). n < next) x ns below))
+
+pub asked_up : (next later : ℕ) (config : Config) (relay : RelayState) → next ≤ later → AreAsked next config relay → AreAsked later config relay
+asked_up next later config relay up asked = record { below = below_up next later (numbers relay.list) up asked.below; is = asked.is }
+
+-- where another list of questions takes the place of one
+pub asked_on : (next : ℕ) (config : Config) (old new : RelayState) → new ≡ record old { list = new.list } → All (λ n. n < next) (numbers new.list)
+    → old ≡ record { bind = bind_for config; resolver = config.resolver; name_server = config.vnameserver; list = old.list } → AreAsked next config new
+asked_on next config old new rest below is = record { below = below; is = rest ∙ ap (λ (r : RelayState). record r { list = new.list }) is }

@@ -33,7 +33,7 @@ use Rattle.slirp_core.specs.Segments.{Coming}
 use Rattle.slirp_core.specs.State.{SlirpState}
 use Rattle.slirp_core.proofs.Guests.{guests_stay}
 use Rattle.slirp_core.proofs.Parts.{asks_nothing, keeps_by}
-use Rattle.slirp_core.proofs.Services.{none_due_for_services}
+use Rattle.slirp_core.proofs.Services.{none_due_for_services, unheard}
 use Rattle.spliced_flows.specs.Core.{Following, mac_of, number_of}
 use Rattle.spliced_flows.specs.Stands.{lot_without}
 use Rattle.spliced_flows.proofs.Joined.{may_connect}
@@ -140,8 +140,8 @@ module _ (config : Config) (at : Standing) (slirp : SlirpState) (kept : Kept) (l
         };
         answers = record { sent = leaves.counted ∙ comes.sent; pending = leaves.left ∙ owed };
         guests = record { settings = guests.settings; known = guests.known; fragments = record { held = fragments.held; is_held = fragments.is_held; wait = fragments.wait } };
-        relayed = record { list = others.list ∙ comes.relayed.list; asks = asks_nothing config slirp.associations (errand_left config (made ++ past)) then_is.work.errand };
-        services = record { leases = others.leases ∙ comes.services.leases; connections = comes.services.connections; unresolved = comes.services.unresolved; unbound = comes.services.unbound };
+        relayed = record { list = others.list ∙ comes.relayed.list; questions = others.questions ∙ comes.relayed.questions; asks = asks_nothing config slirp (errand_left config (made ++ past)) then_is.work.errand; heard = unheard config (made ++ past) then_is.work.services };
+        services = record { leases = others.leases ∙ comes.services.leases };
         forwards = comes.forwards;
         flows = record { holds = then_is.holds; asked = then_is.asked; settings = then_is.settings; unit = comes.unit };
         sockets = record { number = leaves.next ∙ comes.sockets.number; kinds = sockets_left config past made others comes.sockets.kinds };
@@ -217,8 +217,8 @@ module _ (config : Config) (at : Standing) (slirp : SlirpState) (kept : Kept) (l
               keeps = keeps_by link e past tt refl refl refl comes.keeps;
               answers = record { sent = comes.sent; pending = owed };
               guests = guests_stay config slirp (record slirp { number = slirp.number + 1; pending = pending }) e past refl refl comes.guests;
-              relayed = record { list = comes.relayed.list; asks = comes.relayed.asks };
-              services = record { leases = comes.services.leases; connections = comes.services.connections; unresolved = comes.services.unresolved; unbound = comes.services.unbound };
+              relayed = record { list = comes.relayed.list; questions = comes.relayed.questions; asks = comes.relayed.asks; heard = refl };
+              services = record { leases = comes.services.leases };
               forwards = comes.forwards;
               flows = record { holds = then_is.holds; asked = then_is.asked; settings = then_is.settings; unit = comes.unit };
               sockets = record { number = ap (λ n. n + 1) comes.sockets.number; kinds = kinds_joined slirp.number to answer past comes.sockets.kinds };
@@ -253,7 +253,7 @@ module _ (config : Config) (at : Standing) (slirp : SlirpState) (kept : Kept) (l
               asked = asked_then config past (e ∷ past) new.flows.parts new.flows.parts refl (λ guest. refl) (λ k q here. (q, k, here, refl, omega arith)) due_is.asked;
               settings = due_is.settings;
               lawful = (may, due_is.lawful);
-              work = record { working = due_is.work.working; errand = due_is.work.errand; services = none_due_for_services config (e ∷ past) comes.services.unresolved; open_yet = due_is.work.open_yet };
+              work = record { working = due_is.work.working; errand = due_is.work.errand; services = none_due_for_services config (e ∷ past) refl; open_yet = due_is.work.open_yet };
               at = due_is.at;
             })
             (ap (λ o. unconnected config (identification past) o (left config past)) came_is

@@ -1,4 +1,5 @@
 pub mod Arriving
+pub mod Asking
 pub mod Assembling
 pub mod Associating
 pub mod Bridging
@@ -9,10 +10,12 @@ pub mod Filling
 pub mod Given
 pub mod Listening
 pub mod Guests
+pub mod Names
 pub mod NextFrames
 pub mod Parts
 pub mod Pumping
 pub mod Relaying
+pub mod Rising
 pub mod Services
 pub mod Sockets
 pub mod Taking

@@ -3,7 +3,7 @@ use Rattle.std.proofs.Common.{◌≡◌, ◌≢◌, ℕ, zero, suc, ◌+◌, ◌
 use Rattle.std.proofs.lemmas.Bool.Decides.{nat_tests}
 use Rattle.std.proofs.lemmas.Option.{slice_get-get_or}
 use Rattle.std.specs.List.{list_all, list_any}
-use Rattle.world_face.specs.Journal.{AreAllowed, Entry, Listen}
+use Rattle.world_face.specs.Journal.{AreAllowed, Entry}
 use Rattle.world_face.specs.declared.Made.TheVariants.{Done, Failed}
 use Rattle.host_policy.specs.Addresses.{Config, address, is_guest}
 use Rattle.host_policy.specs.Ranges.{IsSound, is_forward, none_twice, same_host_port, same_proto}
@@ -20,7 +20,7 @@ use Rattle.port_forward.proofs.Adding.{no_cause}
 use Rattle.run_laws.specs.Shape.{Over, Refused}
 use Rattle.stream_netdev.specs.State.{LinkState}
 use Rattle.slirp_core.specs.Forwards.{Listens, forward_sockets, with_numbers}
-use Rattle.slirp_core.specs.Holds.{ClosingWith, Opens}
+use Rattle.slirp_core.specs.Holds.{ClosingWith, Opens, holders_of}
 use Rattle.slirp_core.specs.State.{SlirpState}
 use Rattle.slirp_laws.proofs.Bools.{first_of, second_of, turned}
 use Rattle.slirp_core.proofs.Starting.{more_open, next_left, numbers_last, refused}
@@ -158,31 +158,26 @@ one_more_open config place f opened new number at are is grown =
 
 -- ---- a port is opened, or the host refuses it
 
-over_tcp : (config : Config) (place : ℕ) (f : Forward) (slirp : SlirpState) (link : LinkState) (past : List Entry) → slice_get config.forwards place ≡ Some f → Opens config place slirp link past → f.proto ≡ Tcp
-over_tcp config place f slirp link past at opens = opens.services.connections place f at
-
 pub listened : (config : Config) (place : ℕ) (f : Forward) (slirp new : SlirpState) (link : LinkState) (made past : List Entry) → slice_get config.forwards place ≡ Some f → Listens true f slirp.number slirp.forwards new.forwards made
     → new ≡ record slirp { number = slirp.number + 1; forwards = new.forwards } → AreAllowed made → Opens config place slirp link past → Opens config (place + 1) new link (made ++ past)
 listened config place f slirp new link made past at listens same allowed opens =
     let here : Opens config slirp.number slirp link past = subst (λ n. Opens config n slirp link past) (sym opens.number) opens in
     let next = next_left here.done here.left config.forwards f here.all (ap (slice_get config.forwards) (sym here.many ∙ opens.number) ∙ at) in
-    let made_is : made ≡ Listen slirp.number f.host Done ∷ [] = listens.1 ∙ ap (λ p. opening_of p slirp.number f.host Done ∷ []) (over_tcp config place f slirp link past at opens) in
-    let then_is = more_open config slirp link past here f next.0 next.1 (subst AreAllowed made_is allowed).0 in
-    subst (λ es. Opens config (place + 1) new link (es ++ past)) (sym made_is)
-    (subst (λ n. Opens config (n + 1) new link (Listen slirp.number f.host Done ∷ past)) opens.number
-    (subst (λ s. Opens config (slirp.number + 1) s link (Listen slirp.number f.host Done ∷ past)) (sym (same ∙ ap (λ l. record slirp { number = slirp.number + 1; forwards = l }) listens.0)) then_is))
+    let then_is = more_open config slirp link past here f next.0 next.1 (subst AreAllowed listens.1 allowed).0 in
+    subst (λ es. Opens config (place + 1) new link (es ++ past)) (sym listens.1)
+    (subst (λ n. Opens config (n + 1) new link (opening_of f.proto slirp.number f.host Done ∷ past)) opens.number
+    (subst (λ s. Opens config (slirp.number + 1) s link (opening_of f.proto slirp.number f.host Done ∷ past)) (sym (same ∙ ap (λ l. record slirp { number = slirp.number + 1; forwards = l }) listens.0)) then_is))
 
 pub listen_refused : (config : Config) (place : ℕ) (f : Forward) (slirp new : SlirpState) (link : LinkState) (made past : List Entry) → slice_get config.forwards place ≡ Some f → Listens false f slirp.number slirp.forwards new.forwards made
     → new ≡ record slirp { number = slirp.number + 1; forwards = new.forwards } → AreAllowed made → Opens config place slirp link past
-    → ClosingWith config (Over (Refused place)) (forward_sockets new.forwards) new.associations new.flows.flows.parts (made ++ past)
+    → ClosingWith config (Over (Refused place)) (forward_sockets new.forwards) (holders_of new) (made ++ past)
 listen_refused config place f slirp new link made past at listens same allowed opens =
     let here : Opens config slirp.number slirp link past = subst (λ n. Opens config n slirp link past) (sym opens.number) opens in
     let next = next_left here.done here.left config.forwards f here.all (ap (slice_get config.forwards) (sym here.many ∙ opens.number) ∙ at) in
-    let made_is : made ≡ Listen slirp.number f.host Failed ∷ [] = listens.1 ∙ ap (λ p. opening_of p slirp.number f.host Failed ∷ []) (over_tcp config place f slirp link past at opens) in
-    let then_is = refused config slirp link past here f next.0 next.1 (subst AreAllowed made_is allowed).0 in
-    subst (λ es. ClosingWith config (Over (Refused place)) (forward_sockets new.forwards) new.associations new.flows.flows.parts (es ++ past)) (sym made_is)
-    (subst (λ n. ClosingWith config (Over (Refused n)) (forward_sockets new.forwards) new.associations new.flows.flows.parts (Listen slirp.number f.host Failed ∷ past)) opens.number
-    (subst (λ (s : SlirpState). ClosingWith config (Over (Refused slirp.number)) (forward_sockets s.forwards) s.associations s.flows.flows.parts (Listen slirp.number f.host Failed ∷ past))
+    let then_is = refused config slirp link past here f next.0 next.1 (subst AreAllowed listens.1 allowed).0 in
+    subst (λ es. ClosingWith config (Over (Refused place)) (forward_sockets new.forwards) (holders_of new) (es ++ past)) (sym listens.1)
+    (subst (λ n. ClosingWith config (Over (Refused n)) (forward_sockets new.forwards) (holders_of new) (opening_of f.proto slirp.number f.host Failed ∷ past)) opens.number
+    (subst (λ (s : SlirpState). ClosingWith config (Over (Refused slirp.number)) (forward_sockets s.forwards) (holders_of s) (opening_of f.proto slirp.number f.host Failed ∷ past))
     (sym (same ∙ ap (λ l. record slirp { number = slirp.number + 1; forwards = l }) listens.0)) then_is))
 
 -- what the list says of a forward that was added

@@ -7,27 +7,32 @@ use Rattle.world_face.specs.declared.Made.TheVariants.{Done, Failed}
 use Rattle.host_policy.specs.Addresses.{Config}
 use Rattle.udp_assoc.specs.Associations.{numbers, most_associations, socket_of}
 use Rattle.udp_assoc.specs.declared.assocs.Association.{Association}
+use Rattle.dns_relay.specs.Questions.{ident_in, most_questions, numbers as question_numbers, socket_of as question_socket}
+use Rattle.dns_relay.specs.declared.Question.{Question}
+use Rattle.port_forward.specs.Opened.{socket_for as port_for}
 use Rattle.flow_book.specs.Book.{book}
 use Rattle.flow_book.specs.Lots.{due_for_flows}
 use Rattle.run_laws.specs.Happenings.{happens}
-use Rattle.run_laws.specs.Shape.{Phase, Working, phase, due_in, opened}
-use Rattle.run_laws.specs.Sockets.{Kind, Association as OfAssociation, Flow as OfFlow, Forward, Listener, DnsSocket, is_among, is_association, is_forward, kind_of, next_number, open_sockets}
+use Rattle.run_laws.specs.Shape.{Phase, Started, Working, phase, due_in, opened}
+use Rattle.run_laws.specs.Sockets.{is_among, next_number}
 use Rattle.slirp_laws.specs.Agenda.{agenda, all_wanted, behind, from, is_to_read}
 use Rattle.slirp_laws.specs.Asking.{step}
 use Rattle.slirp_laws.specs.Errands.{errand_left}
 use Rattle.slirp_laws.specs.Datagrams.{Step, due_for, Errand, Settled, NeedsRoom, NeedsSocket, asks_a_name}
-use Rattle.slirp_laws.specs.Ports.{forward_for, is_port, opened_for}
+use Rattle.slirp_laws.specs.Names.{questions, step_to_names, with_socket as with_question}
+use Rattle.slirp_laws.specs.Ports.{forward_for}
 use Rattle.slirp_laws.specs.Relayed.{associations, step_for, with_forward, with_socket, without_socket}
 use Rattle.slirp_laws.specs.Laws.{Lawful, May, carries, due, due_for_services, is_closing, unless_due, begins_closing}
-use Rattle.slirp_laws.proofs.Bools.{same}
 use Rattle.slirp_laws.proofs.Deeds.{FlowsAskNothing}
-use Rattle.slirp_laws.proofs.Joining.{joined, joined_step}
+use Rattle.slirp_laws.proofs.Joining.{joined_step}
 use Rattle.stream_netdev.specs.Keeps.{Keeps}
 use Rattle.stream_netdev.specs.State.{LinkState}
-use Rattle.slirp_core.specs.Holds.{Standing, InTurn, is_ours, asked_by, IsLast, OfAnswers, OfClock, OfRelay, Unbegun, Flowing, HoldsAt, OfFlows, OfSockets, Stands, Turns, Begins}
+use Rattle.slirp_core.specs.Holds.{Standing, InTurn, AreTwo, asked_by, carriers, holders_of, IsLast, OfAnswers, OfClock, OfRelay, Unbegun, Flowing, HoldsOn, OfFlows, OfSockets, Stands, Turns, Begins}
 use Rattle.slirp_core.specs.State.{SlirpState}
 use Rattle.slirp_core.proofs.Guests.{guests_stay, of_guests}
-use Rattle.slirp_core.proofs.Services.{kinds_are, no_questions, services_stay}
+use Rattle.slirp_core.proofs.Services.{services_stay}
+use Rattle.slirp_core.proofs.Given.{HasGiven, all_given, forward_is}
+use Rattle.slirp_core.proofs.Names.{carried as carried_names, two_apart}
 use Rattle.tcp_flows.specs.Kept.{Kept}
 use Rattle.slirp_core.proofs.Flows.{close_same, flows_same, flows_stay, no_flow}
 use Rattle.poll_list.specs.Listing.{reads, same_who}
@@ -54,35 +59,44 @@ pub due_is : (config : Config) (past : List Entry) (s : Step) → phase config p
 due_is config past s working serves asks is = due_in_phase config past Working working serves asks ∙ ap (λ t. due_for config t (next_number past)) is
 
 -- of which datagram
+in_room : (b : Bool) (oldest : ℕ) (errand : Errand) → errand_in (if b then NeedsRoom oldest errand else NeedsSocket errand) ≡ Some errand
+in_room true oldest errand = refl
+in_room false oldest errand = refl
+
 in_fresh : (list : List Association) (errand : Errand) → errand_in (without_socket list errand) ≡ Some errand
 in_fresh [] errand = refl
-in_fresh (a ∷ list) errand = by (nat_le most_associations (length (a ∷ list)))
-  where
-    by : (b : Bool) → errand_in (if b then NeedsRoom a.number errand else NeedsSocket errand) ≡ Some errand
-    by true = refl
-    by false = refl
+in_fresh (a ∷ list) errand = in_room (nat_le most_associations (length (a ∷ list))) a.number errand
 
 in_socket : (o : Option ℕ) (list : List Association) (errand : Errand) → errand_in (with_socket o list errand) ≡ Some errand
 in_socket None list errand = in_fresh list errand
 in_socket (Some socket) list errand = refl
 
-in_step : (config : Config) (list : List Association) (o : Option Errand) → errand_in (asked_by config list o) ≡ o
-in_step config list None = refl
-in_step config list (Some errand) = by (asks_a_name config errand)
+in_forward : (o : Option ℕ) (list : List Association) (errand : Errand) → errand_in (with_forward o list errand) ≡ Some errand
+in_forward None list errand = in_socket (socket_of errand.datagram.from list) list errand
+in_forward (Some socket) list errand = refl
+
+in_names : (o : Option ℕ) (asked : List Question) (errand : Errand) → errand_in (with_question o asked errand) ≡ Some errand
+in_names None [] errand = refl
+in_names None (q ∷ asked) errand = in_room (nat_le most_questions (length (q ∷ asked))) q.number errand
+in_names (Some socket) asked errand = refl
+
+in_step : (config : Config) (asked : List Question) (forward : Endpoint → Option ℕ) (list : List Association) (o : Option Errand) → errand_in (step_for config asked forward list o) ≡ o
+in_step config asked forward list None = refl
+in_step config asked forward list (Some errand) = by (asks_a_name config errand)
   where
-    by : (b : Bool) → errand_in (if b then NeedsSocket errand else with_socket (socket_of errand.datagram.from list) list errand) ≡ Some errand
-    by true = refl
-    by false = in_socket (socket_of errand.datagram.from list) list errand
+    by : (b : Bool) → errand_in (if b then step_to_names asked errand else with_forward (forward errand.datagram.from) list errand) ≡ Some errand
+    by true = in_names (question_socket errand.datagram.from (ident_in errand.datagram.body) asked) asked errand
+    by false = in_forward (forward errand.datagram.from) list errand
 
-pub asked_in : (config : Config) (list : List Association) (errand : Errand) → errand_in (asked_by config list (Some errand)) ≡ Some errand
-asked_in config list errand = in_step config list (Some errand)
+pub asked_in : (config : Config) (slirp : SlirpState) (errand : Errand) → errand_in (asked_by config slirp (Some errand)) ≡ Some errand
+asked_in config slirp errand = in_step config slirp.questions (λ guest. port_for guest slirp.forwards) slirp.associations (Some errand)
 
-pub errand_for : (config : Config) (s : Step) (slirp : SlirpState) (past : List Entry) → OfRelay config s slirp past → errand_left config past ≡ errand_in s
-errand_for config s slirp past relayed = sym (in_step config slirp.associations (errand_left config past)) ∙ ap errand_in relayed.asks
+pub errand_for : (config : Config) (s : Step) (heard : Option ℕ) (slirp : SlirpState) (past : List Entry) → OfRelay config s heard slirp past → errand_left config past ≡ errand_in s
+errand_for config s heard slirp past relayed = sym (in_step config slirp.questions (λ guest. port_for guest slirp.forwards) slirp.associations (errand_left config past)) ∙ ap errand_in relayed.asks
 
--- nothing is asked for, whatever the list
-pub asks_nothing : (config : Config) (list : List Association) (o : Option Errand) → o ≡ None → asked_by config list o ≡ Settled
-asks_nothing config list o is = ap (asked_by config list) is
+-- nothing is asked for, whatever the lists
+pub asks_nothing : (config : Config) (slirp : SlirpState) (o : Option Errand) → o ≡ None → asked_by config slirp o ≡ Settled
+asks_nothing config slirp o is = ap (asked_by config slirp) is
 
 pub or_first : (a b : Bool) → a ≡ true → (a || b) ≡ true
 or_first true b is = refl
@@ -92,43 +106,37 @@ pub or_second : (a b : Bool) → b ≡ true → (a || b) ≡ true
 or_second true b is = refl
 or_second false b is = is
 
--- no port of the host is given to a guest: each open socket is an association's or a flow's
-none_of : (p : ℕ → Bool) (l : List ℕ) → ((n : ℕ) → is_among n l ≡ true → p n ≡ false) → filter p l ≡ []
-none_of p [] never = refl
-none_of p (n ∷ l) never = ap (λ b. if b then n ∷ filter p l else filter p l) (never n (or_first (n == n) (is_among n l) (same n))) ∙ none_of p l (λ m among. never m (or_second (m == n) (is_among m l) among))
+-- all ports of the settings are open in a turn, and before the first
+pub given_in : (config : Config) (at : Standing) (step : Step) (heard : Option ℕ) (slirp : SlirpState) (f : Flowing) (link : LinkState) (past : List Entry) → HoldsOn config at step heard slirp f link past → HasGiven config (length config.forwards) past
+given_in config at step heard slirp f link past holds = by holds.stands
+  where
+    by : Stands config step slirp f.kept link past → HasGiven config (length config.forwards) past
+    by (Turns turn) = all_given config past holds.lawful Working turn.working refl
+    by (Begins unbegun free unrested) = all_given config past holds.lawful Started unbegun.started refl
 
-not_given : (kind : Option Kind) → is_ours kind ≡ true → is_forward kind ≡ false
-not_given None is = refl
-not_given (Some OfAssociation) is = refl
-not_given (Some DnsSocket) is = refl
-not_given (Some Forward) is = cc
-not_given (Some Listener) is = refl
-not_given (Some OfFlow) is = refl
+-- the first of them for datagrams to a port of a guest is that of the list
+pub forward_in : (config : Config) (at : Standing) (step : Step) (heard : Option ℕ) (slirp : SlirpState) (f : Flowing) (link : LinkState) (past : List Entry) → HoldsOn config at step heard slirp f link past
+    → (guest : Endpoint) → forward_for config guest past ≡ port_for guest slirp.forwards
+forward_in config at step heard slirp f link past holds guest =
+    forward_is config past holds.lawful (given_in config at step heard slirp f link past holds) holds.open_yet guest ∙ sym (ap (port_for guest) holds.forwards)
 
-none_given : (config : Config) (past : List Entry) (guest : Endpoint) → ((n : ℕ) → is_among n (open_sockets past) ≡ true → is_ours (kind_of n past) ≡ true) → forward_for config guest past ≡ None
-none_given config past guest kinds =
-    ap (λ l. find (λ s. is_port guest (opened_for config s past)) l) (none_of (λ s. is_forward (kind_of s past)) (open_sockets past) (λ n among. not_given (kind_of n past) (kinds n among)))
-
-step_as : (config : Config) (past : List Entry) (list : List Association) (o : Option Errand) → ((n : ℕ) → is_among n (open_sockets past) ≡ true → is_ours (kind_of n past) ≡ true)
-    → step_for config [] (λ guest. forward_for config guest past) list o ≡ asked_by config list o
-step_as config past list None kinds = refl
-step_as config past list (Some errand) kinds = ap (λ f. if asks_a_name config errand then NeedsSocket errand else with_forward f list errand) (none_given config past errand.datagram.from kinds)
-
--- what the list asks for is what the record says
-pub asked_for : (config : Config) (at : Standing) (s : Step) (slirp : SlirpState) (f : Flowing) (link : LinkState) (past : List Entry) → HoldsAt config at s slirp f link past → step config past ≡ s
-asked_for config at s slirp f link past holds =
+-- what the lists ask for is what the record says
+pub asked_for : (config : Config) (at : Standing) (s : Step) (heard : Option ℕ) (slirp : SlirpState) (f : Flowing) (link : LinkState) (past : List Entry) → HoldsOn config at s heard slirp f link past → step config past ≡ s
+asked_for config at s heard slirp f link past holds =
     joined_step config past holds.lawful
-    ∙ ap (λ q. step_for config q (λ guest. forward_for config guest past) (associations config past) (errand_left config past)) (no_questions config past holds.services.unresolved)
-    ∙ step_as config past (associations config past) (errand_left config past) holds.sockets.kinds
-    ∙ ap (λ l. asked_by config l (errand_left config past)) holds.relayed.list ∙ holds.relayed.asks
+    ∙ (λ i. step_for config (holds.relayed.questions i) (λ guest. forward_in config at s heard slirp f link past holds guest i) (holds.relayed.list i) (errand_left config past))
+    ∙ holds.relayed.asks
 
--- the sockets that carry datagrams are those of the list
-pub carried : (config : Config) (list : List Association) (past : List Entry) → config.resolver ≡ None → Lawful config past → associations config past ≡ list → (n : ℕ) → carries past n ≡ is_among n (numbers list)
-carried config list past none lawful is n =
-    ap (λ k. is_among n (open_sockets past) && is_association k) (sym (kinds_are config past none n)) ∙ (joined config past lawful).those n ∙ ap (λ l. is_among n (numbers l)) is
+-- the sockets that carry datagrams are those of the lists
+pub carried : (config : Config) (slirp : SlirpState) (past : List Entry) → Lawful config past → associations config past ≡ slirp.associations → questions config past ≡ slirp.questions → (n : ℕ) → carries past n ≡ is_among n (carriers (holders_of slirp))
+carried config slirp past lawful list asked n = carried_names config past lawful n ∙ (λ i. is_among n (numbers (list i) ++ question_numbers (asked i)))
 
-pub carried_by : (config : Config) (at : Standing) (s : Step) (slirp : SlirpState) (f : Flowing) (link : LinkState) (past : List Entry) → HoldsAt config at s slirp f link past → (n : ℕ) → carries past n ≡ is_among n (numbers slirp.associations)
-carried_by config at s slirp f link past holds n = carried config slirp.associations past holds.services.unresolved holds.lawful holds.relayed.list n
+pub carried_by : (config : Config) (at : Standing) (s : Step) (heard : Option ℕ) (slirp : SlirpState) (f : Flowing) (link : LinkState) (past : List Entry) → HoldsOn config at s heard slirp f link past → (n : ℕ) → carries past n ≡ is_among n (carriers (holders_of slirp))
+carried_by config at s heard slirp f link past holds n = carried config slirp past holds.lawful holds.relayed.list holds.relayed.questions n
+
+-- and none is an association's and a question's
+pub two_in : (config : Config) (slirp : SlirpState) (past : List Entry) → Lawful config past → associations config past ≡ slirp.associations → questions config past ≡ slirp.questions → AreTwo (holders_of slirp)
+two_in config slirp past lawful list asked n among = sym (ap (λ l. is_among n (question_numbers l)) asked) ∙ two_apart config past lawful n (ap (λ l. is_among n (numbers l)) list ∙ among)
 
 -- a turn has begun, where that is against what is so before
 pub in_turn : {config : Config} {step : Step} {slirp : SlirpState} {kept : Kept} {link : LinkState} {past : List Entry} → Stands config step slirp kept link past → (Unbegun config step slirp link past → ⊥) → InTurn config past
@@ -195,21 +203,21 @@ flows_on config f now (UdpRecv socket asked answer octets) past on own lawful fl
 flows_on config f now _ past on own lawful flows = absurd on
 
 -- what a call on a socket changes: the call was allowed, and what it made of answers, associations, sockets, agenda and closing
-pub record Changes (config : Config) (after : Standing) (step : Step) (new : SlirpState) (e : Entry) (past : List Entry) : Type 0 where
+pub record Changes (config : Config) (after : Standing) (step : Step) (heard : Option ℕ) (new : SlirpState) (e : Entry) (past : List Entry) : Type 0 where
   pub may : May config past (call_of e)
   pub allowed : Allowed e
   pub own : ClosesOwn e past
   pub answers : OfAnswers config new (e ∷ past)
-  pub relayed : OfRelay config step new (e ∷ past)
+  pub relayed : OfRelay config step heard new (e ∷ past)
   pub sockets : OfSockets new.number (e ∷ past)
   pub agenda : IsLast (all_wanted after.wants after.left) (agenda (e ∷ past))
   pub open_yet : is_closing config (e ∷ past) ≡ false
 
 -- and the rest stays
-pub after_socket : (config : Config) (at after : Standing) (step new_step : Step) (slirp new : SlirpState) (f : Flowing) (link : LinkState) (e : Entry) (past : List Entry) → IsOnSocket e
+pub after_socket : (config : Config) (at after : Standing) (step new_step : Step) (heard new_heard : Option ℕ) (slirp new : SlirpState) (f : Flowing) (link : LinkState) (e : Entry) (past : List Entry) → IsOnSocket e
     → of_guests new ≡ of_guests slirp → new.moment ≡ slirp.moment → new.leases ≡ slirp.leases → new.forwards ≡ slirp.forwards → after.count ≡ at.count → InTurn config past
-    → HoldsAt config at step slirp f link past → Changes config after new_step new e past → HoldsAt config after new_step new f link (e ∷ past)
-after_socket config at after step new_step slirp new f link e past on same_guests same_moment same_leases same_forwards same_count turn holds changes = record {
+    → HoldsOn config at step heard slirp f link past → Changes config after new_step new_heard new e past → HoldsOn config after new_step new_heard new f link (e ∷ past)
+after_socket config at after step new_step heard new_heard slirp new f link e past on same_guests same_moment same_leases same_forwards same_count turn holds changes = record {
   lawful = (changes.may, holds.lawful);
   allowed = (changes.allowed, holds.allowed);
   keeps = link_stays link e past on holds.keeps;

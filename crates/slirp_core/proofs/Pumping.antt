@@ -21,7 +21,7 @@ use Rattle.stream_netdev.specs.Offers.{offered}
 use Rattle.stream_netdev.specs.State.{LinkState}
 use Rattle.stream_netdev.specs.declared.Offered.{Offered}
 use Rattle.slirp_core.specs.Forwards.{forward_sockets}
-use Rattle.slirp_core.specs.Holds.{Standing, InTurn, AfterPump, AreOpenWith, Flowing, Holds, OfFlows, Turns, LeavesBehind, LeavesRest}
+use Rattle.slirp_core.specs.Holds.{Standing, InTurn, AfterPump, AreOpenWith, AreTwo, carriers, holders_with, Flowing, Holds, OfFlows, Turns, LeavesBehind, LeavesRest}
 use Rattle.slirp_core.specs.Outgoing.{sent_after}
 use Rattle.slirp_core.specs.Pumps.{pumped_of, keep}
 use Rattle.slirp_core.specs.State.{SlirpState}
@@ -29,7 +29,7 @@ use Rattle.slirp_core.specs.declared.sending.Pumped.{Pumped}
 use Rattle.slirp_laws.specs.Errands.{errand_left}
 use Rattle.slirp_laws.proofs.Deeds.{writes}
 use Rattle.slirp_core.proofs.Guests.{guests_stay, of_guests}
-use Rattle.slirp_core.proofs.Parts.{asks_nothing, asked_for, due_is, errand_for, in_turn, or_first}
+use Rattle.slirp_core.proofs.Parts.{asks_nothing, asked_for, due_is, errand_for, in_turn, or_first, two_in}
 use Rattle.slirp_core.proofs.Services.{none_due_for_services}
 use Rattle.slirp_core.proofs.Flows.{answer_goes, flows_answered, flows_stay}
 use Rattle.slirp_core.proofs.Open.{are_open}
@@ -50,7 +50,7 @@ after_write config at slirp new_slirp f old new past octets answer blocked holds
   where
     lawful : (a : Io) → Keeps new (LinkWrite octets a ∷ past) → Lawful config (LinkWrite octets a ∷ past)
     lawful a k = (
-      writes config past octets k.framed.0 (due_is config past Settled turn.working (none_due_for_services config past holds.services.unresolved) holds.flows.holds.asked (asked_for config at Settled slirp f old past holds)) (ap is_working turn.working) may holds.open_yet sent,
+      writes config past octets k.framed.0 (due_is config past Settled turn.working (none_due_for_services config past holds.relayed.heard) holds.flows.holds.asked (asked_for config at Settled None slirp f old past holds)) (ap is_working turn.working) may holds.open_yet sent,
       holds.lawful,
     )
 
@@ -63,9 +63,11 @@ after_write config at slirp new_slirp f old new past octets answer blocked holds
       guests = guests_stay config slirp new_slirp (LinkWrite octets a) past refl (ap of_guests same) holds.guests;
       relayed = record {
         list = holds.relayed.list ∙ sym (ap (λ (s : SlirpState). s.associations) same);
-        asks = asks_nothing config new_slirp.associations (errand_left config past) (errand_for config Settled slirp past holds.relayed);
+        questions = holds.relayed.questions ∙ sym (ap (λ (s : SlirpState). s.questions) same);
+        asks = asks_nothing config new_slirp (errand_left config past) (errand_for config Settled None slirp past holds.relayed);
+        heard = refl;
       };
-      services = record { leases = holds.services.leases ∙ sym (ap (λ (s : SlirpState). s.leases) same); connections = holds.services.connections; unresolved = holds.services.unresolved; unbound = holds.services.unbound };
+      services = record { leases = holds.services.leases ∙ sym (ap (λ (s : SlirpState). s.leases) same) };
       forwards = ap (λ (s : SlirpState). s.forwards) same ∙ holds.forwards;
       flows = subst (λ m. OfFlows config f m (LinkWrite octets a ∷ past)) (sym (ap (λ (s : SlirpState). s.moment) same)) (flows a);
       sockets = record { number = holds.sockets.number ∙ sym (ap (λ (s : SlirpState). s.number) same); kinds = holds.sockets.kinds };
@@ -75,8 +77,8 @@ after_write config at slirp new_slirp f old new past octets answer blocked holds
       open_yet = holds.open_yet;
     }
 
-    now_open : AreOpenWith (forward_sockets slirp.forwards) slirp.associations f.kept.flows.parts past
-    now_open = are_open config at Settled slirp f old past holds
+    now_open : AreOpenWith (forward_sockets slirp.forwards) (carriers (holders_with slirp f.kept)) f.kept.flows.parts past
+    now_open = are_open config at Settled None slirp f old past holds
 
     by_answer : (a : Io) (b : Bool) → Keeps new (LinkWrite octets a ∷ past) → Allowed (LinkWrite octets a) → Left config past octets a new_slirp → AfterPump (pumped_of (offered a) b) config at new_slirp f new (LinkWrite octets a ∷ past)
     by_answer (Done n) true k fine l = goes (Done n) k fine refl l
@@ -88,10 +90,11 @@ after_write config at slirp new_slirp f old new past octets answer blocked holds
     by_answer Failed b k fine l = record {
       lawful = lawful Failed k;
       over = ap (λ p. unless_over p LinkFailed) turn.working;
-      errand = errand_for config Settled slirp past holds.relayed;
-      served = none_due_for_services config (LinkWrite octets Failed ∷ past) holds.services.unresolved;
+      errand = errand_for config Settled None slirp past holds.relayed;
+      served = none_due_for_services config (LinkWrite octets Failed ∷ past) refl;
       idle = (flows Failed).holds.asked;
-      sockets = subst (λ (s : SlirpState). AreOpenWith (forward_sockets s.forwards) s.associations f.kept.flows.parts (LinkWrite octets Failed ∷ past)) (sym same) (record { each = now_open.each; forward = now_open.forward; carry = now_open.carry; flow = now_open.flow; apart = now_open.apart; rising = now_open.rising; first = now_open.first });
+      sockets = subst (λ (s : SlirpState). AreOpenWith (forward_sockets s.forwards) (carriers (holders_with s f.kept)) f.kept.flows.parts (LinkWrite octets Failed ∷ past)) (sym same) (record { each = now_open.each; forward = now_open.forward; carry = now_open.carry; flow = now_open.flow; apart = now_open.apart; rising = now_open.rising; first = now_open.first });
+      two = subst (λ (s : SlirpState). AreTwo (holders_with s f.kept)) (sym same) (two_in config slirp past holds.lawful holds.relayed.list holds.relayed.questions);
     }
 
 -- a write of the rest of a frame

@@ -40,7 +40,7 @@ use Rattle.stream_netdev.specs.State.{LinkState}
 use Rattle.stream_netdev.specs.declared.Arrived.{Arrived}
 use Rattle.slirp_core.specs.Fragments.{IsHeld}
 use Rattle.slirp_core.specs.Forwards.{forward_sockets}
-use Rattle.slirp_core.specs.Holds.{AreOpenWith, asked_by, InTurn, IsLast, standing, Comes, Ended, Holds, HoldsAt, OfFlows, OfSockets, Turns, flowing}
+use Rattle.slirp_core.specs.Holds.{AreOpenWith, carriers, holders_with, asked_by, InTurn, IsLast, standing, Comes, Ended, Holds, HoldsAt, OfFlows, OfSockets, Turns, flowing}
 use Rattle.slirp_core.specs.Packets.{with_frame}
 use Rattle.slirp_core.specs.Services.{OfServices}
 use Rattle.slirp_core.specs.State.{SlirpState, serving_of}
@@ -51,11 +51,12 @@ use Rattle.slirp_core.proofs.Learning.{teaches_sender}
 use Rattle.flow_book.specs.Taught.{taught, taught_by, taught_pair}
 use Rattle.std.specs.Prelude.{Contains}
 use Rattle.slirp_core.proofs.Guests.{guests_learn}
-use Rattle.slirp_core.proofs.Parts.{behind_of, errand_for, from_of, reads_of, skipped, due_is, in_turn}
+use Rattle.slirp_core.proofs.Parts.{behind_of, errand_for, from_of, reads_of, skipped, due_is, in_turn, two_in}
 use Rattle.slirp_core.proofs.Waitings.{fragments_stay, fragments_take}
 use Rattle.tcp_flows.specs.Kept.{Kept}
 use Rattle.slirp_core.proofs.Flows.{flows_stay}
 use Rattle.slirp_core.proofs.Services.{none_due_for_services, serving_is}
+use Rattle.slirp_laws.specs.Names.{answered, questions}
 use Rattle.slirp_core.proofs.Given.{all_given}
 use Rattle.slirp_core.proofs.Open.{open_by}
 
@@ -70,6 +71,8 @@ record Quiet (config : Config) (count : ℕ) (wants : List Want) (item : Want) (
   known_is : known config past ≡ slirp.known
   counted : waits past ≡ count
   list : associations config past ≡ slirp.associations
+  named : questions config past ≡ slirp.questions
+  heard : answered config past ≡ None
   unasked : errand_left config past ≡ None
   clock : moment past ≡ slirp.moment
   fragments : OfFragments config slirp past
@@ -82,7 +85,7 @@ module _ (config : Config) (count : ℕ) (wants : List Want) (item : Want) (item
   -- a read may come, that asks for what is missing
   may_read : (asked : ℕ) (past : List Entry) → MayFrame past (CallLinkRead asked) → Quiet config count wants item items slirp kept wait past → May config past (CallLinkRead asked)
   may_read asked past framed q =
-      reads_on config past asked framed (due_is config past Settled q.turn.working (none_due_for_services config past q.serves.unresolved) q.flows.holds.asked (ap (step_of config past) q.unasked)) (ap is_working q.turn.working)
+      reads_on config past asked framed (due_is config past Settled q.turn.working (none_due_for_services config past q.heard) q.flows.holds.asked (ap (step_of config past) q.unasked)) (ap is_working q.turn.working)
       (reads_of TheLink (wanted_of wants item) (all_wanted wants items) (agenda past) reads_it q.reported)
       (ap (λ t. is_nothing t && is_out (left config past)) q.out ∙ ap is_out q.none) q.open_yet
 
@@ -108,14 +111,13 @@ module _ (config : Config) (count : ℕ) (wants : List Want) (item : Want) (item
           known_is = ap (λ o. with_arrival (option_map (arrival_of config (moment (made ++ past)) (waiting config (made ++ past))) o) (known config (made ++ past))) frame ∙ before.known_is;
           counted = before.counted;
           list = before.list;
+          named = before.named;
+          heard = refl;
           unasked = ap (λ o. errand_after config e (option_map (arrival_of config (moment (made ++ past)) (waiting config (made ++ past))) o) (errand_left config (made ++ past))) frame ∙ before.unasked;
           clock = before.clock;
           fragments = fragments_stay config slirp slirp e (made ++ past) frame refl before.fragments;
           serves = record {
             leases = ap (λ o. leases_by config (moment (made ++ past)) (option_map (arrival_of config (moment (made ++ past)) (waiting config (made ++ past))) o) (leases config (made ++ past))) frame ∙ before.serves.leases;
-            connections = before.serves.connections;
-            unresolved = before.serves.unresolved;
-            unbound = before.serves.unbound;
           };
           waits = ap (λ o. young (moment (made ++ past)) (waits_with config (moment (made ++ past)) o (sets config (made ++ past)))) frame ∙ before.waits;
           flows = flows_stay config (flowing false kept) slirp.moment e (made ++ past) (ap (λ o. doing_by (option_map (arrival_of config (moment (made ++ past)) (waiting config (made ++ past))) o) None e) frame) refl (omega arith) refl before.flows;
@@ -178,6 +180,8 @@ record Newest (config : Config) (count : ℕ) (wants : List Want) (item : Want) 
   known_is : known config all ≡ with_frame config (arrived all) slirp.known
   counted : waits all ≡ count
   list : associations config all ≡ slirp.associations
+  named : questions config all ≡ slirp.questions
+  heard : answered config all ≡ None
   asks : errand_left config all ≡ errand_by_packet config (packet_of config slirp.moment wait (arrived all))
   clock : moment all ≡ slirp.moment
   fragments : (new : SlirpState) → KeepsParts config slirp new (arrived all) → OfFragments config new all
@@ -212,6 +216,8 @@ newest config count wants item items slirp kept wait reads_it (LinkRead asked an
       known_is = teaches (arrives (LinkRead asked answer octets) (made ++ past)) (known config (made ++ past)) ∙ ap (with_frame config (arrives (LinkRead asked answer octets) (made ++ past))) quiet_before.known_is;
       counted = quiet_before.counted;
       list = quiet_before.list;
+      named = quiet_before.named;
+      heard = refl;
       asks = sets_out (arrives (LinkRead asked answer octets) (made ++ past)) quiet_before.unasked ∙ (λ i. errand_by_packet config (packet_of config (quiet_before.clock i) (quiet_before.waits i) (arrives (LinkRead asked answer octets) (made ++ past))));
       clock = quiet_before.clock;
       fragments = λ new keeps. puts new (arrives (LinkRead asked answer octets) (made ++ past)) refl keeps quiet_before.clock quiet_before.fragments;
@@ -296,7 +302,9 @@ module _ (config : Config) (count : ℕ) (wants : List Want) (item : Want) (item
         known_is = holds.guests.known;
         counted = holds.clock.counted;
         list = holds.relayed.list;
-        unasked = errand_for config Settled slirp past holds.relayed;
+        named = holds.relayed.questions;
+        heard = holds.relayed.heard;
+        unasked = errand_for config Settled None slirp past holds.relayed;
         clock = holds.clock.moment;
         fragments = holds.guests.fragments;
         waits = refl;
@@ -315,12 +323,12 @@ module _ (config : Config) (count : ℕ) (wants : List Want) (item : Want) (item
   -- no segment of TCP: what it owes is owed from now on
   pub read_on : (new_slirp : SlirpState) → ending_of answer ≡ None → KeepsParts config slirp new_slirp (hands answer new) → segment_by packet ≡ None
       → new_slirp ≡ after_packet config slirp packet (hands answer new) new_slirp.parts
-      → HoldsAt config (standing count wants items) (asked_by config slirp.associations (errand_by_packet config packet)) new_slirp (flowing false kept) new (made ++ past)
+      → HoldsAt config (standing count wants items) (asked_by config slirp (errand_by_packet config packet)) new_slirp (flowing false kept) new (made ++ past)
   read_on new_slirp goes_on keeps none is =
       let r = read past holds.keeps in
       let then_is = after_packet config slirp packet (hands answer new) new_slirp.parts in
       let was = all.quiet_flows (ap segment_by arrived_is ∙ none) in
-      subst (λ (s : SlirpState). HoldsAt config (standing count wants items) (asked_by config slirp.associations (errand_by_packet config packet)) s (flowing false kept) new (made ++ past)) (sym is) (record {
+      subst (λ (s : SlirpState). HoldsAt config (standing count wants items) (asked_by config slirp (errand_by_packet config packet)) s (flowing false kept) new (made ++ past)) (sym is) (record {
         lawful = all.lawful;
         allowed = allowed_then made past allowed holds.allowed;
         keeps = r.0;
@@ -331,8 +339,8 @@ module _ (config : Config) (count : ℕ) (wants : List Want) (item : Want) (item
         };
         guests = guests_learn config slirp then_is (hands answer new) (made ++ past) holds.guests.settings
             (all.known_is ∙ ap (λ o. with_frame config o slirp.known) r.1.frame) refl refl (all.fragments then_is (subst (λ o. KeepsParts config slirp then_is o) (sym r.1.frame) (kept_as (hands answer new) new_slirp keeps)));
-        relayed = record { list = all.list; asks = ap (asked_by config slirp.associations) (all.asks ∙ ap (errand_by_packet config) arrived_is) };
-        services = record { leases = all.lent ∙ ap (λ p. leases_by_packet config slirp.moment p slirp.leases) arrived_is; connections = holds.services.connections; unresolved = holds.services.unresolved; unbound = holds.services.unbound };
+        relayed = record { list = all.list; questions = all.named; asks = ap (asked_by config slirp) (all.asks ∙ ap (errand_by_packet config) arrived_is); heard = all.heard };
+        services = record { leases = all.lent ∙ ap (λ p. leases_by_packet config slirp.moment p slirp.leases) arrived_is };
         forwards = holds.forwards;
         flows = record { holds = was.holds; asked = was.asked; settings = was.settings; unit = was.unit };
         sockets = all.sockets;
@@ -369,7 +377,7 @@ module _ (config : Config) (count : ℕ) (wants : List Want) (item : Want) (item
           settings = q.flows.settings;
           lawful_before = all.lawful_before;
           lawful = lawful_then;
-          work = subst (InWork config) all.is (record { working = work; errand = unasked; services = none_due_for_services config (made ++ past) holds.services.unresolved; open_yet = all.open_yet });
+          work = subst (InWork config) all.is (record { working = work; errand = unasked; services = none_due_for_services config (made ++ past) all.heard; open_yet = all.open_yet });
           at_before = q.clock;
           at = subst (λ l. moment l ≡ slirp.moment) all.is all.clock;
           comes = all.comes on (ap segment_by (arrived_is ∙ seg));
@@ -385,8 +393,8 @@ module _ (config : Config) (count : ℕ) (wants : List Want) (item : Want) (item
         none = no_packet;
         guests = guests_learn config slirp then_is (hands answer new) (made ++ past) holds.guests.settings
             (all.known_is ∙ ap (λ o. with_frame config o slirp.known) r.1.frame) refl refl (all.fragments then_is (subst (λ o. KeepsParts config slirp then_is o) (sym r.1.frame) (kept_as (hands answer new) new_slirp keeps)));
-        relayed = record { list = all.list; asks = ap (asked_by config slirp.associations) unasked };
-        services = record { leases = all.lent ∙ ap (λ p. leases_by_packet config slirp.moment p slirp.leases) (arrived_is ∙ seg); connections = holds.services.connections; unresolved = holds.services.unresolved; unbound = holds.services.unbound };
+        relayed = record { list = all.list; questions = all.named; asks = ap (asked_by config slirp) unasked; heard = all.heard };
+        services = record { leases = all.lent ∙ ap (λ p. leases_by_packet config slirp.moment p slirp.leases) (arrived_is ∙ seg) };
         forwards = holds.forwards;
         learnt = all.taught_it mac ip tcp (arrived_is ∙ seg);
         unit = holds.flows.unit;
@@ -402,7 +410,7 @@ module _ (config : Config) (count : ℕ) (wants : List Want) (item : Want) (item
       kept_as (Some frame) other keeps = keeps
 
   -- the run has ended
-  pub read_ends_it : (why : Ending) → ending_of answer ≡ Some why → hands answer new ≡ None → Ended config why slirp.forwards slirp.associations kept.flows.parts (made ++ past)
+  pub read_ends_it : (why : Ending) → ending_of answer ≡ Some why → hands answer new ≡ None → Ended config why slirp.forwards (holders_with slirp kept) (made ++ past)
   read_ends_it why is none =
       let r = read past holds.keeps in
       let nothing : packet_of config slirp.moment wait (arrived (made ++ past)) ≡ Unheard = ap (packet_of config slirp.moment wait) (r.1.frame ∙ none) in
@@ -411,9 +419,10 @@ module _ (config : Config) (count : ℕ) (wants : List Want) (item : Want) (item
         lawful = all.lawful;
         over = all.phase_is ∙ ap over_by (r.1.last ∙ is);
         errand = all.asks ∙ ap (errand_by_packet config) nothing;
-        served = none_due_for_services config (made ++ past) holds.services.unresolved;
+        served = none_due_for_services config (made ++ past) all.heard;
         idle = flows.holds.asked;
-        sockets = subst (λ l. AreOpenWith (forward_sockets l) slirp.associations kept.flows.parts (made ++ past)) (sym holds.forwards)
-            (open_by config slirp.associations (flowing false kept) slirp.moment (made ++ past) holds.services.unresolved all.lawful all.list flows.holds all.sockets.kinds
-            (all_given config holds.services.unresolved holds.services.connections (made ++ past) all.lawful (Over (By why)) (all.phase_is ∙ ap over_by (r.1.last ∙ is)) refl) all.open_yet);
+        sockets = subst (λ l. AreOpenWith (forward_sockets l) (carriers (holders_with slirp kept)) kept.flows.parts (made ++ past)) (sym holds.forwards)
+            (open_by config slirp (flowing false kept) slirp.moment (made ++ past) all.lawful all.list all.named flows.holds all.sockets.kinds
+            (all_given config (made ++ past) all.lawful (Over (By why)) (all.phase_is ∙ ap over_by (r.1.last ∙ is)) refl) all.open_yet);
+        two = two_in config slirp (made ++ past) all.lawful all.list all.named;
       }

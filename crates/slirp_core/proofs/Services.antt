@@ -1,28 +1,27 @@
--- The services of the network: who has which address; that no question waits, and no file is served.
+-- The services of the network: who has which address, to whom questions go, and that no file is served.
 use Rattle.std.proofs.Common.{◌≡◌, ℕ, ◌==◌, ◌&&◌, ◌||◌, not, Bool, true, false, List, [], ◌∷◌, ◌++◌, Option, Some, None, option_map, unwrap_or, if◌then◌else◌, nat_lt, refl, sym, ◌∙◌, ap}
 use Rattle.net_octets.specs.declared.Endpoint.{Endpoint}
-use Rattle.world_face.specs.Journal.{Entry, Wait, LinkWrite, Connect, Listen, Accept, Close, UdpOpen, UdpSend, UdpRecv, FileLen, FileRead}
-use Rattle.world_face.specs.declared.Made.TheVariants.{Done as MadeDone, Failed as MadeFailed}
-use Rattle.world_face.specs.declared.Got.TheVariants.{From, NotYet as GotNotYet, Failed as GotFailed}
+use Rattle.std.specs.Option.{option_map_or}
+use Rattle.world_face.specs.Journal.{CallClose, Entry, Wait, LinkWrite, FileLen, FileRead}
 use Rattle.host_policy.specs.declared.Verdict.{Verdict}
 use Rattle.host_policy.specs.declared.Verdict.TheVariants.{Go, Denied}
 use Rattle.host_policy.specs.declared.Rule.TheVariants.{Restricted, PortZero, NameServer, HostLoopback, Network, Reserved}
 use Rattle.host_policy.specs.declared.Proto.TheVariants.{Udp as ByUdp}
 use Rattle.host_policy.specs.Addresses.{Config, address, endpoint, in_network}
-use Rattle.host_policy.specs.Targets.{anywhere, first_octet, is_group_or_reserved, is_loopback, loopback, target}
-use Rattle.dns_relay.specs.Questions.{without}
+use Rattle.host_policy.specs.Targets.{first_octet, is_group_or_reserved, is_loopback, loopback, target}
+use Rattle.dns_relay.specs.Asking.{bind_for}
+use Rattle.dns_relay.specs.Questions.{is_question}
 use Rattle.tftp_server.specs.Asking.{call_for}
 use Rattle.tftp_server.specs.Transfers.{Files, no_files, ticked, begun}
 use Rattle.run_laws.specs.Happenings.{Arrival, Happening, happens}
-use Rattle.run_laws.specs.Moments.{moment, waits}
+use Rattle.run_laws.specs.Moments.{moment}
 use Rattle.run_laws.specs.Packets.{Packet, Unheard, ArpPacket, Message, DatagramPacket, Segment, Datagram}
-use Rattle.run_laws.specs.Sockets.{Kind, DnsSocket, Flow as OfFlow, Listener as OfListener, datagram_kind, kind_of}
 use Rattle.slirp_laws.specs.Answers.{Ledger, Serving, again_by_call, begins_again, files_after, files_by_call, files_by_fate, files_by_packet, files_sent, identification, is_free, ledger, or_begun, serving, unless_begun}
-use Rattle.slirp_laws.specs.Datagrams.{Errand, Ignored, ForLeases, GoesTo, asks_a_name, fate, fate_by, is_to_names, opened_at}
+use Rattle.slirp_laws.specs.Datagrams.{Errand, Fate, ForFiles, Ignored, ForLeases, GoesTo, Refused, asks_a_name, errand_by, errand_of, fate, fate_by, is_to_names, opened_at}
 use Rattle.slirp_laws.specs.Errands.{errand_left}
 use Rattle.slirp_laws.specs.Laws.{due_for_answer, due_for_services, unless_due}
 use Rattle.slirp_laws.specs.Leasing.{leases, leases_by}
-use Rattle.slirp_laws.specs.Names.{answered, answered_by, datagram_kind_for, kind_for, question, questions, with_heard, with_opened, with_sent}
+use Rattle.slirp_laws.specs.Names.{answered}
 use Rattle.slirp_laws.proofs.Steps.{errand_asks, goes_to_target}
 use Rattle.slirp_core.specs.Services.{OfServices}
 use Rattle.slirp_core.specs.State.{SlirpState, serving_of}
@@ -111,108 +110,111 @@ serving_is config slirp (e ∷ past) at of = let idle = serves_none config (e �
 
 -- ---- names
 
--- without a resolver nothing goes to the name server
-nowhere : (a b c : Bool) (r : Option Endpoint) (to : Endpoint) → r ≡ None
-    → (if a then Denied Restricted else (if b then Denied PortZero else unwrap_or (option_map Go (if c then r else None)) (Denied NameServer))) ≡ Go to → ⊥
-nowhere true b c r to none is = cc
-nowhere false true c r to none is = cc
-nowhere false false false r to none is = cc
-nowhere false false true r to none is = denied (sym (ap (λ (o : Option Endpoint). unwrap_or (option_map Go o) (Denied NameServer)) none) ∙ is)
+-- only to the resolver a datagram goes that is for the name server
+to_resolver : (a b c : Bool) (r : Option Endpoint) (to : Endpoint)
+    → (if a then Denied Restricted else (if b then Denied PortZero else unwrap_or (option_map Go (if c then r else None)) (Denied NameServer))) ≡ Go to → r ≡ Some to
+to_resolver true b c r to is = cc
+to_resolver false true c r to is = cc
+to_resolver false false false r to is = cc
+to_resolver false false true None to is = cc
+to_resolver false false true (Some at) to is = ap Some (the_same is)
   where
-    denied : Denied NameServer ≡ Go to → ⊥
-    denied is = cc
+    the_same : Go at ≡ Go to → at ≡ to
+    the_same is = cc
 
-no_name : (config : Config) (d : Datagram) (to : Endpoint) → config.resolver ≡ None → fate config d ≡ GoesTo to → is_to_names config d ≡ false
-no_name config d to none goes = by (is_to_names config d) refl
+pub asks_resolver : (config : Config) (past : List Entry) (errand : Errand) → errand_left config past ≡ Some errand → asks_a_name config errand ≡ true → config.resolver ≡ Some errand.to
+asks_resolver config past errand left name =
+    to_resolver config.restricted (d.to.port == 0) ((d.to.port == 53) && not config.no_dns) config.resolver errand.to
+    (sym (ap (λ (b : Bool).
+    if config.restricted then Denied Restricted
+    else (if d.to.port == 0 then Denied PortZero
+    else (if b then unwrap_or (option_map Go (if (d.to.port == 53) && not config.no_dns then config.resolver else None)) (Denied NameServer)
+    else (if address d.to == config.vhost then (if config.no_loopback then Denied HostLoopback else Go (endpoint loopback d.to.port))
+    else (if in_network config (address d.to) then Denied Network
+    else (if (first_octet (address d.to) == 0) || is_loopback (address d.to) || is_group_or_reserved (address d.to) then Denied Reserved
+    else Go d.to)))))) name)
+    ∙ goes_to_target config d errand.to (errand_asks config past errand left).goes)
   where
-    by : (b : Bool) → is_to_names config d ≡ b → b ≡ false
-    by true is =
-        absurd (nowhere config.restricted (d.to.port == 0) ((d.to.port == 53) && not config.no_dns) config.resolver to none
-        (sym (ap (λ (b : Bool).
-        if config.restricted then Denied Restricted
-        else (if d.to.port == 0 then Denied PortZero
-        else (if b then unwrap_or (option_map Go (if (d.to.port == 53) && not config.no_dns then config.resolver else None)) (Denied NameServer)
-        else (if address d.to == config.vhost then (if config.no_loopback then Denied HostLoopback else Go (endpoint loopback d.to.port))
-        else (if in_network config (address d.to) then Denied Network
-        else (if (first_octet (address d.to) == 0) || is_loopback (address d.to) || is_group_or_reserved (address d.to) then Denied Reserved
-        else Go d.to)))))) is)
-        ∙ goes_to_target config d to goes))
-    by false is = refl
+    abbrev d : Datagram
+    d = errand.datagram
 
-pub asks_none : (config : Config) (past : List Entry) (errand : Errand) → config.resolver ≡ None → errand_left config past ≡ Some errand → asks_a_name config errand ≡ false
-asks_none config past errand none is = no_name config errand.datagram errand.to none (errand_asks config past errand is).goes
-
--- so no question waits
-pub no_questions : (config : Config) (past : List Entry) → config.resolver ≡ None → questions config past ≡ []
-no_questions config [] none = refl
-no_questions config (Close socket ∷ past) none = ap (without socket) (no_questions config past none)
-no_questions config (UdpOpen socket at MadeDone ∷ past) none = by (errand_left config past) refl (no_questions config past none)
+-- one that goes out there is a question
+pub goes_as_question : (config : Config) (d : Datagram) (errand : Errand) → errand_of config d ≡ Some errand → asks_a_name config errand ≡ true → is_question errand.datagram.body ≡ true
+goes_as_question config d errand is name = by_fate (fate config d) refl is
   where
-    by : (o : Option Errand) → errand_left config past ≡ o → questions config past ≡ [] → with_opened config MadeDone socket (moment past) o (questions config past) ≡ []
-    by None is before = before
-    by (Some errand) is before =
-        ap (λ (b : Bool). if b then questions config past ++ (question socket errand (moment past) ∷ []) else questions config past) (asks_none config past errand none is)
-        ∙ before
-no_questions config (UdpOpen socket at MadeFailed ∷ past) none = no_questions config past none
-no_questions config (UdpSend socket to octets answer ∷ past) none = by (errand_left config past) (no_questions config past none)
+    by_question : (a b : Bool) (to : Endpoint) → a ≡ true → (if a && not b then Ignored else GoesTo to) ≡ GoesTo errand.to → b ≡ true
+    by_question true true to one goes = refl
+    by_question true false to one goes = cc
+    by_question false b to one goes = cc
+
+    by_verdict : (v : Verdict) → is_to_names config d ≡ true → fate_by config d v ≡ GoesTo errand.to → is_question d.body ≡ true
+    by_verdict (Go to) name goes = by_question (is_to_names config d) (is_question d.body) to name goes
+    by_verdict (Denied rule) name goes = cc
+
+    by_service : (a b c e : Bool) (v : Verdict) → is_to_names config d ≡ true → (if a then Ignored else (if b then (if c then Ignored else ForLeases) else (if e then Ignored else fate_by config d v))) ≡ GoesTo errand.to → is_question d.body ≡ true
+    by_service true b c e v name goes = cc
+    by_service false true true e v name goes = cc
+    by_service false true false e v name goes = cc
+    by_service false false c true v name goes = cc
+    by_service false false c false v name goes = by_verdict v name goes
+
+    by_fate : (f : Fate) → fate config d ≡ f → errand_by d f ≡ Some errand → is_question errand.datagram.body ≡ true
+    by_fate Ignored goes is = cc
+    by_fate Refused goes is = cc
+    by_fate ForLeases goes is = cc
+    by_fate ForFiles goes is = cc
+    by_fate (GoesTo to) goes is =
+        let whole : record { datagram = d; to = to } ≡ errand = the_errand is in
+        subst (λ (e : Errand). is_question e.datagram.body ≡ true) whole
+        (by_service (d.from.port == 0) ((d.to.port == 67) && ((address d.to == config.vhost) || (address d.to == 0xffffffff))) config.no_dhcp ((d.to.port == 69) && (address d.to == config.vhost)) (target config ByUdp d.to)
+        (ap (is_to_names config) (ap (λ (e : Errand). e.datagram) whole) ∙ name)
+        (goes ∙ ap GoesTo (ap (λ (e : Errand). e.to) whole)))
+      where
+        the_errand : Some (record { datagram = d; to = to }) ≡ Some errand → record { datagram = d; to = to } ≡ errand
+        the_errand is = cc
+
+-- at which address of the host a socket is opened: for a question, and for any other datagram
+pub opened_for_name : (config : Config) (errand : Errand) → asks_a_name config errand ≡ true → config.resolver ≡ Some errand.to → opened_at config errand ≡ endpoint (bind_for config) 0
+opened_for_name config errand name resolver =
+    ap (λ (b : Bool). if b && is_loopback (address errand.to) then endpoint 0 0 else endpoint (unwrap_or config.outbound 0) 0) name
+    ∙ by (is_loopback (address errand.to))
+    ∙ sym (ap (λ (o : Option Endpoint). endpoint (if option_map_or (λ to. is_loopback (address to)) o false then 0 else unwrap_or config.outbound 0) 0) resolver)
   where
-    by : (o : Option Errand) → questions config past ≡ [] → with_sent socket (moment past) o (questions config past) ≡ []
-    by None before = before
-    by (Some errand) before = ap (with_sent socket (moment past) (Some errand)) before
-no_questions config (UdpRecv socket asked (From peer n) octets ∷ past) none = ap (with_heard (From peer n) socket (moment past)) (no_questions config past none)
-no_questions config (UdpRecv socket asked GotNotYet octets ∷ past) none = no_questions config past none
-no_questions config (UdpRecv socket asked GotFailed octets ∷ past) none = no_questions config past none
-no_questions config (_ ∷ past) none = no_questions config past none
+    by : (b : Bool) → (if b then endpoint 0 0 else endpoint (unwrap_or config.outbound 0) 0) ≡ endpoint (if b then 0 else unwrap_or config.outbound 0) 0
+    by true = refl
+    by false = refl
 
-none_answered : (config : Config) (e : Entry) → answered_by config e [] ≡ None
-none_answered config (UdpRecv socket asked (From peer n) octets) = refl
-none_answered config (UdpRecv socket asked GotNotYet octets) = refl
-none_answered config (UdpRecv socket asked GotFailed octets) = refl
-none_answered config _ = refl
+pub opened_for_other : (config : Config) (errand : Errand) → asks_a_name config errand ≡ false → opened_at config errand ≡ endpoint (unwrap_or config.outbound 0) 0
+opened_for_other config errand other = ap (λ (b : Bool). if b && is_loopback (address errand.to) then endpoint 0 0 else endpoint (unwrap_or config.outbound 0) 0) other
 
-answers_none : (config : Config) (past : List Entry) → config.resolver ≡ None → answered config past ≡ None
-answers_none config [] none = refl
-answers_none config (e ∷ past) none = ap (answered_by config e) (no_questions config past none) ∙ none_answered config e
+-- ---- which call is due for a service
 
--- and each socket is of the kind that its entry makes it
-kind_without : (config : Config) (waited : Bool) (o : Option Errand) → ((errand : Errand) → o ≡ Some errand → asks_a_name config errand ≡ false) → datagram_kind_for config waited o ≡ datagram_kind waited
-kind_without config waited None never = refl
-kind_without config waited (Some errand) never = ap (λ (b : Bool). if b then DnsSocket else datagram_kind waited) (never errand refl)
+due_by_answer : (config : Config) (past : List Entry) (o : Option ℕ) → answered config past ≡ o → due_for_services config past ≡ unless_due (due_for_answer o) None
+due_by_answer config past o is =
+    ap (λ o. unless_due (due_for_answer o) (call_for (serving config past).files.quest)) is
+    ∙ ap (λ (f : Files). unless_due (due_for_answer o) (call_for f.quest)) (serves_none config past).files
 
-pub kinds_are : (config : Config) (past : List Entry) → config.resolver ≡ None → (n : ℕ) → kind_for config n past ≡ kind_of n past
-kinds_are config [] none n = refl
-kinds_are config (Connect socket to answer ∷ past) none n = ap (λ (k : Option Kind). if socket == n then Some OfFlow else k) (kinds_are config past none n)
-kinds_are config (Listen socket at answer ∷ past) none n = ap (λ (k : Option Kind). if socket == n then Some OfListener else k) (kinds_are config past none n)
-kinds_are config (UdpOpen socket at answer ∷ past) none n =
-    ap (λ (k : Kind). if socket == n then Some k else kind_for config n past) (kind_without config (nat_lt 0 (waits past)) (errand_left config past) (λ errand is. asks_none config past errand none is))
-    ∙ ap (λ (k : Option Kind). if socket == n then Some (datagram_kind (nat_lt 0 (waits past))) else k) (kinds_are config past none n)
-kinds_are config (Accept listener socket answer ∷ past) none n = ap (λ (k : Option Kind). if socket == n then Some OfFlow else k) (kinds_are config past none n)
-kinds_are config (_ ∷ past) none n = kinds_are config past none n
+-- none, where no answer to a question came just now
+pub none_due_for_services : (config : Config) (past : List Entry) → answered config past ≡ None → due_for_services config past ≡ None
+none_due_for_services config past unheard = due_by_answer config past None unheard
 
--- and datagrams go out from every address
-pub opened_anywhere : (config : Config) (errand : Errand) → config.outbound ≡ None → asks_a_name config errand ≡ false → opened_at config errand ≡ anywhere
-opened_anywhere config errand unbound other =
-    ap (λ (b : Bool). if b && is_loopback (address errand.to) then endpoint 0 0 else endpoint (unwrap_or config.outbound 0) 0) other
-    ∙ ap (λ (o : Option ℕ). endpoint (unwrap_or o 0) 0) unbound
+pub unheard : (config : Config) (past : List Entry) → due_for_services config past ≡ None → answered config past ≡ None
+unheard config past none = by (answered config past) none
+  where
+    by : (o : Option ℕ) → unless_due (due_for_answer o) (call_for (serving config past).files.quest) ≡ None → o ≡ None
+    by None is = refl
+    by (Some socket) is = cc
 
--- ---- no call is due for a service
-
-pub none_due_for_services : (config : Config) (past : List Entry) → config.resolver ≡ None → due_for_services config past ≡ None
-none_due_for_services config past none =
-    ap (λ o. unless_due (due_for_answer o) (call_for (serving config past).files.quest)) (answers_none config past none)
-    ∙ ap (λ (f : Files). call_for f.quest) (serves_none config past).files
+-- else the close of its socket
+pub close_due : (config : Config) (past : List Entry) (socket : ℕ) → answered config past ≡ Some socket → due_for_services config past ≡ Some (CallClose socket)
+close_due config past socket heard = due_by_answer config past (Some socket) heard
 
 -- ---- what an entry leaves
 
 -- one by which no frame came
 pub services_stay : (config : Config) (slirp new : SlirpState) (e : Entry) (past : List Entry) → (happens config past e).came ≡ None → new.leases ≡ slirp.leases → OfServices config slirp past → OfServices config new (e ∷ past)
-services_stay config slirp new e past nothing same of = record {
-  leases = ap (λ o. leases_by config (moment past) o (leases config past)) nothing ∙ of.leases ∙ sym same;
-  connections = of.connections;
-  unresolved = of.unresolved;
-  unbound = of.unbound;
-}
+services_stay config slirp new e past nothing same of = record { leases = ap (λ o. leases_by config (moment past) o (leases config past)) nothing ∙ of.leases ∙ sym same }
 
 -- no entry
 pub services_as : (config : Config) (slirp new : SlirpState) (past : List Entry) → new.leases ≡ slirp.leases → OfServices config slirp past → OfServices config new past
-services_as config slirp new past same of = record { leases = of.leases ∙ sym same; connections = of.connections; unresolved = of.unresolved; unbound = of.unbound }
+services_as config slirp new past same of = record { leases = of.leases ∙ sym same }

@@ -3,37 +3,46 @@ use Rattle.std.proofs.Common.{◌≡◌, ℕ, ◌+◌, ◌^◌, ◌≤◌, ◌==
 use Rattle.std.proofs.lemmas.Bool.Decides.{nat_tests}
 use Rattle.std.proofs.lemmas.List.{length-replicate}
 use Rattle.net_octets.specs.declared.Endpoint.{Endpoint}
-use Rattle.world_face.specs.Journal.{Entry, Allowed, CallListen, CallNow, Listen, Now}
-use Rattle.world_face.specs.Frames.{Ending}
+use Rattle.world_face.specs.Journal.{Entry, Allowed, CallNow, Now, call_of}
+use Rattle.world_face.specs.Frames.{Ending, MayFrame, is_blocked, partial, tail}
 use Rattle.world_face.specs.declared.Made.{Made}
 use Rattle.world_face.specs.declared.Made.TheVariants.{Done, Failed}
 use Rattle.host_policy.specs.Addresses.{Config}
 use Rattle.host_policy.specs.declared.Forward.{Forward}
-use Rattle.host_policy.specs.declared.Proto.TheVariants.{Tcp}
+use Rattle.host_policy.specs.declared.Proto.{Proto}
+use Rattle.host_policy.specs.declared.Proto.TheVariants.{Tcp, Udp}
+use Rattle.port_forward.specs.Adding.{opening_of as port_opening}
 use Rattle.port_forward.specs.Opened.{Opened}
 use Rattle.udp_assoc.specs.Associations.{numbers}
-use Rattle.udp_assoc.specs.declared.assocs.Association.{Association}
+use Rattle.dns_relay.specs.Questions.{numbers as question_numbers}
 use Rattle.ipv4_head.specs.Sets.{PartSet, young}
 use Rattle.ipv4_reasm.specs.Areas.{Gathered}
 use Rattle.run_laws.specs.Shape.{By, Opening, Over, Refused, Started, clocked, due_in, is_over, opened, opening_of as opening_call, phase}
-use Rattle.run_laws.specs.Moments.{waits}
-use Rattle.run_laws.specs.Sockets.{Listener, is_among, kind_of, next_number, open_sockets, with_made}
+use Rattle.run_laws.specs.Moments.{moment, waits}
+use Rattle.run_laws.specs.Happenings.{happens}
+use Rattle.run_laws.specs.Sockets.{is_among, kind_of, next_number, open_sockets, with_made}
 use Rattle.flow_book.specs.Book.{book}
+use Rattle.flow_book.specs.Doings.{Nothing, doing}
 use Rattle.flow_book.specs.Lots.{due_for_flows}
+use Rattle.slirp_laws.specs.Agenda.{agenda}
+use Rattle.slirp_laws.specs.Answers.{identification, left}
 use Rattle.slirp_laws.specs.Asking.{step}
+use Rattle.slirp_laws.specs.Errands.{errand_left}
+use Rattle.slirp_laws.specs.Names.{answered, questions, with_opened as name_opened}
+use Rattle.slirp_laws.specs.Relayed.{associations, with_opened}
 use Rattle.slirp_laws.specs.Datagrams.{Settled, due_for}
 use Rattle.slirp_laws.specs.Laws.{May, due, due_for_services, unless_due}
 use Rattle.slirp_laws.proofs.Bools.{among_last, same}
-use Rattle.slirp_laws.proofs.Deeds.{asks, listens}
+use Rattle.slirp_laws.proofs.Deeds.{asks, listens, opens as opens_socket}
 use Rattle.stream_netdev.specs.State.{LinkState, under_way}
-use Rattle.slirp_core.specs.Forwards.{AreForConnections, forward_sockets, with_numbers}
+use Rattle.slirp_core.specs.Forwards.{forward_sockets, with_numbers}
 use Rattle.slirp_core.specs.Fragments.{IsHeld}
-use Rattle.slirp_core.specs.Holds.{Standing, after, Begins, ClosingWith, Ended, Flowing, Holds, IsOf, OfFlows, Opens, Rests, OverFor, AllWaited, Stands, Turns, flowing, is_ours}
+use Rattle.slirp_core.specs.Holds.{Standing, after, Begins, Holders, ClosingWith, asked_by, carriers, holders_of, holders_with, Ended, Flowing, Holds, IsOf, OfFlows, Opens, Rests, OverFor, AllWaited, Stands, Turns, flowing, is_ours}
 use Rattle.slirp_core.specs.Sockets.{IsRising}
 use Rattle.slirp_core.specs.State.{SlirpState}
 use Rattle.slirp_core.proofs.Guests.{guests_forget, guests_stay}
 use Rattle.dhcp_server.specs.declared.leases.Lease.TheVariants.{Free as LeaseFree}
-use Rattle.slirp_core.proofs.Parts.{errand_for}
+use Rattle.slirp_core.proofs.Parts.{errand_for, two_in}
 use Rattle.slirp_core.proofs.Services.{none_due_for_services, services_stay}
 use Rattle.slirp_core.proofs.Waitings.{fragments_dropped}
 use Rattle.flow_table.specs.Slots.{all_free}
@@ -46,7 +55,7 @@ use Rattle.spliced_flows.proofs.Options.{true_false}
 use Rattle.tcp_flows.specs.Kept.{IsFor, Kept}
 use Rattle.tcp_flows.specs.Reading.{NoneInSlots}
 use Rattle.slirp_core.proofs.Flows.{flows_stay, flows_told}
-use Rattle.slirp_core.proofs.Given.{given_rise}
+use Rattle.slirp_core.proofs.Given.{given_kind, given_rise, opening_kind, opening_made, opening_next, opening_open, opening_waits}
 use Rattle.slirp_core.proofs.Open.{are_open}
 
 -- ---- fragments are dropped
@@ -55,7 +64,7 @@ use Rattle.slirp_core.proofs.Open.{are_open}
 stands_so : (config : Config) (slirp : SlirpState) (parts : List Gathered) (kept : Kept) (link : LinkState) (past : List Entry) → Stands config Settled slirp kept link past → Stands config Settled (record slirp { parts = parts }) kept link past
 stands_so config slirp parts kept link past (Turns turn) = Turns turn
 stands_so config slirp parts kept link past (Begins u free unrested) =
-    Begins (record { started = u.started; unwaited = u.unwaited; unreported = u.unreported; unasked = u.unasked; alone = u.alone; nothing = u.nothing; empty = u.empty }) free unrested
+    Begins (record { started = u.started; unwaited = u.unwaited; unreported = u.unreported; unasked = u.unasked; alone = u.alone; unnamed = u.unnamed; nothing = u.nothing; empty = u.empty }) free unrested
 
 pub forgets : (config : Config) (at : Standing) (slirp new : SlirpState) (f : Flowing) (link : LinkState) (past : List Entry) → new ≡ record slirp { parts = new.parts }
     → ((held : List PartSet) → IsHeld slirp.parts held → IsHeld new.parts (young slirp.moment held)) → Holds config at slirp f link past → Holds config at new f link past
@@ -66,8 +75,8 @@ forgets config at slirp new f link past same drops holds =
       keeps = holds.keeps;
       answers = record { sent = holds.answers.sent; pending = holds.answers.pending };
       guests = guests_forget config slirp (record slirp { parts = new.parts }) past refl refl (fragments_dropped config slirp (record slirp { parts = new.parts }) past (sym holds.clock.moment) holds.guests.fragments (drops holds.guests.fragments.held holds.guests.fragments.is_held)) holds.guests;
-      relayed = record { list = holds.relayed.list; asks = holds.relayed.asks };
-      services = record { leases = holds.services.leases; connections = holds.services.connections; unresolved = holds.services.unresolved; unbound = holds.services.unbound };
+      relayed = record { list = holds.relayed.list; questions = holds.relayed.questions; asks = holds.relayed.asks; heard = holds.relayed.heard };
+      services = record { leases = holds.services.leases };
       forwards = holds.forwards;
       flows = holds.flows;
       sockets = holds.sockets;
@@ -88,7 +97,6 @@ pub record IsUnused (config : Config) (kept : Kept) : Type 0 where
 -- a core that has served nothing, and its link
 pub record IsUnbegun (config : Config) (slirp : SlirpState) (link : LinkState) : Type 0 where
   pub forwards : slirp.forwards ≡ []
-  pub connections : AreForConnections config
   pub settings : slirp.config ≡ config
   pub flows : IsUnused config slirp.flows
   pub known : slirp.known ≡ []
@@ -97,10 +105,9 @@ pub record IsUnbegun (config : Config) (slirp : SlirpState) (link : LinkState) :
   pub moment : slirp.moment ≡ 0
   pub number : slirp.number ≡ 0
   pub associations : slirp.associations ≡ []
+  pub questions : slirp.questions ≡ []
   pub parts : slirp.parts ≡ []
   pub leases : slirp.leases ≡ replicate 16 LeaseFree
-  pub unresolved : config.resolver ≡ None
-  pub unbound : config.outbound ≡ None
   pub input : under_way link ≡ []
   pub output : link.tail ≡ []
   pub free : link.blocked ≡ false
@@ -142,8 +149,8 @@ begun config slirp link new = record {
     known = sym new.known;
     fragments = record { held = []; is_held = subst (λ (areas : List Gathered). IsHeld areas []) (sym new.parts) (record { stand = tt; carry = tt }); wait = refl };
   };
-  relayed = record { list = sym new.associations; asks = refl };
-  services = record { leases = sym new.leases; connections = new.connections; unresolved = new.unresolved; unbound = new.unbound };
+  relayed = record { list = sym new.associations; questions = sym new.questions; asks = refl; heard = refl };
+  services = record { leases = sym new.leases };
   done = [];
   left = config.forwards;
   all = refl;
@@ -159,6 +166,7 @@ begun config slirp link new = record {
   none = all_is_free config slirp.flows new.flows;
   unrested = refl;
   alone = new.associations;
+  unnamed = new.questions;
   nothing = new.pending;
   empty = new.output;
   open_yet = refl;
@@ -166,9 +174,9 @@ begun config slirp link new = record {
 
 -- ---- a port of the host is opened
 
-kinds_listened : (number : ℕ) (at : Endpoint) (answer : Made) (past : List Entry) → ((n : ℕ) → is_among n (open_sockets past) ≡ true → is_ours (kind_of n past) ≡ true)
-    → (n : ℕ) → is_among n (with_made answer number (open_sockets past)) ≡ true → is_ours (kind_of n (Listen number at answer ∷ past)) ≡ true
-kinds_listened number at answer past kinds n among = by (number == n) refl
+kinds_opened : (p : Proto) (number : ℕ) (at : Endpoint) (answer : Made) (past : List Entry) → waits past ≡ 0 → ((n : ℕ) → is_among n (open_sockets past) ≡ true → is_ours (kind_of n past) ≡ true)
+    → (n : ℕ) → is_among n (open_sockets (port_opening p number at answer ∷ past)) ≡ true → is_ours (kind_of n (port_opening p number at answer ∷ past)) ≡ true
+kinds_opened p number at answer past unwaited kinds n among = ap is_ours (opening_kind p number at answer past unwaited n) ∙ by (number == n) refl
   where
     turned : (number == n) ≡ false → (n == number) ≡ false
     turned is = grind (arith, nat_tests, is)
@@ -181,9 +189,13 @@ kinds_listened number at answer past kinds n among = by (number == n) refl
     before Done other is = only (is_among n (open_sockets past)) (n == number) other (sym (among_last n number (open_sockets past)) ∙ is)
     before Failed other is = is
 
-    by : (b : Bool) → (number == n) ≡ b → is_ours (if b then Some Listener else kind_of n past) ≡ true
-    by true is = refl
-    by false is = kinds n (before answer (turned is) among)
+    ours : (p : Proto) → is_ours (Some (given_kind p)) ≡ true
+    ours Tcp = refl
+    ours Udp = refl
+
+    by : (b : Bool) → (number == n) ≡ b → is_ours (if b then Some (given_kind p) else kind_of n past) ≡ true
+    by true is = ours p
+    by false is = kinds n (before answer (turned is) (sym (ap (is_among n) (opening_made p number at answer past)) ∙ among))
 
 numbers_more : (n : ℕ) (fs : List Forward) (f : Forward) → with_numbers n (fs ++ f ∷ []) ≡ with_numbers n fs ++ (f, n + length fs) ∷ []
 numbers_more n [] f = ap (λ m. (f, m) ∷ []) (omega arith)
@@ -216,86 +228,151 @@ next_left done left all f is at = behind done left f (sym (ap (λ l. slice_get l
         the_same x is = cc
     behind (y ∷ done) left f at = behind done left f at
 
-module _ (config : Config) (slirp : SlirpState) (link : LinkState) (past : List Entry) (opens : Opens config slirp.number slirp link past) (f : Forward) (rest : List Forward) (next : opens.left ≡ f ∷ rest) where
-  over_tcp : f.proto ≡ Tcp
-  over_tcp = opens.services.connections (length opens.done) f (ap (λ l. slice_get l (length opens.done)) (opens.all ∙ ap (λ l. opens.done ++ l) next) ∙ at_end opens.done)
-    where
-      at_end : (xs : List Forward) → slice_get (xs ++ f ∷ rest) (length xs) ≡ Some f
-      at_end [] = refl
-      at_end (x ∷ xs) = at_end xs
+-- what an entry that opens a port of the host leaves
+record Quiet (config : Config) (e : Entry) (past : List Entry) : Type 0 where
+  framed : MayFrame past (call_of e)
+  partly : partial (e ∷ past) ≡ partial past
+  rest : tail (e ∷ past) ≡ tail past
+  blocked : is_blocked (e ∷ past) ≡ is_blocked past
+  sent : identification (e ∷ past) ≡ identification past
+  came : (happens config past e).came ≡ None
+  unheard : answered config (e ∷ past) ≡ None
+  silent : doing config past e ≡ Nothing
+  unasked : requests config (e ∷ past) ≡ requests config past
+  moment : moment (e ∷ past) ≡ moment past
+  unreported : agenda (e ∷ past) ≡ agenda past
+  unrested : (book config (e ∷ past)).rests ≡ (book config past).rests
 
-  listen_due : due config past ≡ Some (CallListen slirp.number f.host)
-  listen_due =
+opens_quietly : (config : Config) (p : Proto) (number : ℕ) (at : Endpoint) (answer : Made) (past : List Entry) → Quiet config (port_opening p number at answer) past
+opens_quietly config Tcp number at answer past = record { framed = tt; partly = refl; rest = refl; blocked = refl; sent = refl; came = refl; unheard = refl; silent = refl; unasked = refl; moment = refl; unreported = refl; unrested = refl }
+opens_quietly config Udp number at answer past = record { framed = tt; partly = refl; rest = refl; blocked = refl; sent = refl; came = refl; unheard = refl; silent = refl; unasked = refl; moment = refl; unreported = refl; unrested = refl }
+
+module _ (config : Config) (slirp : SlirpState) (link : LinkState) (past : List Entry) (opens : Opens config slirp.number slirp link past) (f : Forward) (rest : List Forward) (next : opens.left ≡ f ∷ rest) where
+  open_due : due config past ≡ Some (opening_call f.proto slirp.number f)
+  open_due =
       ap (λ p. unless_due (due_in p past) (unless_due (due_for config (step config past) (next_number past)) (unless_due (due_for_services config past) (due_for_flows config (book config past) (next_number past)))))
       (opens.opening ∙ ap (Opening slirp.number) next)
-      ∙ ap (λ proto. Some (opening_call proto (next_number past) f)) over_tcp ∙ ap (λ n. Some (CallListen n f.host)) opens.sockets.number
+      ∙ ap (λ n. Some (opening_call f.proto n f)) opens.sockets.number
 
-  may_listen : May config past (CallListen slirp.number f.host)
-  may_listen = listens config past slirp.number f.host listen_due (ap (λ n. slirp.number == n) opens.sockets.number ∙ same slirp.number) opens.flows.holds.asked opens.open_yet
+  may_open_it : (answer : Made) → May config past (call_of (port_opening f.proto slirp.number f.host answer))
+  may_open_it answer = by f.proto open_due
+    where
+      drawn : (slirp.number == next_number past) ≡ true
+      drawn = ap (λ n. slirp.number == n) opens.sockets.number ∙ same slirp.number
+
+      by : (p : Proto) → due config past ≡ Some (opening_call p slirp.number f) → May config past (call_of (port_opening p slirp.number f.host answer))
+      by Tcp is = listens config past slirp.number f.host is drawn opens.flows.holds.asked opens.open_yet
+      by Udp is = opens_socket config past slirp.number f.host is drawn opens.flows.holds.asked opens.open_yet
+
+  nothing_left : errand_left config past ≡ None
+  nothing_left = errand_for config Settled None slirp past opens.relayed
+
+  abbrev opened_port : Made → Entry
+  opened_port answer = port_opening f.proto slirp.number f.host answer
+
+  -- no datagram is to go out, so no one's socket is opened
+  left_then : (p : Proto) → left config (port_opening p slirp.number f.host Done ∷ past) ≡ left config past
+  left_then Tcp = refl
+  left_then Udp = refl
+
+  errand_then : (p : Proto) (answer : Made) → errand_left config (port_opening p slirp.number f.host answer ∷ past) ≡ None
+  errand_then Tcp answer = nothing_left
+  errand_then Udp Done = nothing_left
+  errand_then Udp Failed = refl
+
+  list_then : (p : Proto) → associations config (port_opening p slirp.number f.host Done ∷ past) ≡ associations config past
+  list_then Tcp = refl
+  list_then Udp = ap (λ o. with_opened config Done slirp.number (moment past) o (associations config past)) nothing_left
+
+  named_then : (p : Proto) → questions config (port_opening p slirp.number f.host Done ∷ past) ≡ questions config past
+  named_then Tcp = refl
+  named_then Udp = ap (λ o. name_opened config Done slirp.number (moment past) o (questions config past)) nothing_left
+
+  phase_then : (p : Proto) (answer : Made) → phase config (port_opening p slirp.number f.host answer ∷ past) ≡ opened answer (phase config past)
+  phase_then Tcp answer = refl
+  phase_then Udp answer = refl
 
   -- it is open
-  module _ (fine : Allowed (Listen slirp.number f.host Done)) where
+  module _ (fine : Allowed (opened_port Done)) where
     abbrev pub with_one : SlirpState
     with_one = record slirp { number = slirp.number + 1; forwards = slirp.forwards ++ (f, slirp.number) ∷ [] }
 
-    pub more_open : Opens config (slirp.number + 1) with_one link (Listen slirp.number f.host Done ∷ past)
+    abbrev q : Quiet config (opened_port Done) past
+    q = opens_quietly config f.proto slirp.number f.host Done past
+
+    pub more_open : Opens config (slirp.number + 1) with_one link (opened_port Done ∷ past)
     more_open = record {
-      lawful = (may_listen, opens.lawful);
+      lawful = (may_open_it Done, opens.lawful);
       allowed = (fine, opens.allowed);
-      keeps = record { framed = (tt, opens.keeps.framed); partly = opens.keeps.partly; rest = opens.keeps.rest; blocked = opens.keeps.blocked };
-      answers = record { sent = opens.answers.sent; pending = opens.answers.pending };
-      guests = guests_stay config slirp with_one (Listen slirp.number f.host Done) past refl refl opens.guests;
-      relayed = record { list = opens.relayed.list; asks = opens.relayed.asks };
-      services = services_stay config slirp with_one (Listen slirp.number f.host Done) past refl refl opens.services;
+      keeps = record { framed = (q.framed, opens.keeps.framed); partly = q.partly ∙ opens.keeps.partly; rest = q.rest ∙ opens.keeps.rest; blocked = q.blocked ∙ opens.keeps.blocked };
+      answers = record { sent = q.sent ∙ opens.answers.sent; pending = left_then f.proto ∙ opens.answers.pending };
+      guests = guests_stay config slirp with_one (opened_port Done) past q.came refl opens.guests;
+      relayed = record {
+        list = list_then f.proto ∙ opens.relayed.list;
+        questions = named_then f.proto ∙ opens.relayed.questions;
+        asks = ap (asked_by config with_one) (errand_then f.proto Done);
+        heard = q.unheard;
+      };
+      services = services_stay config slirp with_one (opened_port Done) past q.came refl opens.services;
       done = opens.done ++ f ∷ [];
       left = rest;
       all = opens.all ∙ ap (λ l. opens.done ++ l) next ∙ one_of opens.done f rest;
       many = ap (λ n. n + 1) opens.many ∙ sym (length_more opens.done f);
       forwards = ap (λ l. l ++ (f, slirp.number) ∷ []) opens.forwards ∙ ap (λ n. with_numbers 0 opens.done ++ (f, n) ∷ []) opens.many ∙ numbers_last opens.done f;
-      opening = ap (λ p. opened Done p) (opens.opening ∙ ap (Opening slirp.number) next);
-      are_open = ap (λ l. l ++ slirp.number ∷ []) opens.are_open ∙ sym (sockets_more slirp.forwards f slirp.number);
-      flows = flows_stay config (flowing false slirp.flows) slirp.moment (Listen slirp.number f.host Done) past refl refl (omega arith) refl opens.flows;
-      sockets = record { number = ap (λ n. n + 1) opens.sockets.number; kinds = kinds_listened slirp.number f.host Done past opens.sockets.kinds };
-      clock = record { moment = opens.clock.moment; counted = opens.clock.counted };
+      opening = phase_then f.proto Done ∙ ap (λ p. opened Done p) (opens.opening ∙ ap (Opening slirp.number) next);
+      are_open = opening_made config f.proto slirp.number f.host Done past ∙ ap (λ l. l ++ slirp.number ∷ []) opens.are_open ∙ sym (sockets_more slirp.forwards f slirp.number);
+      flows = flows_stay config (flowing false slirp.flows) slirp.moment (opened_port Done) past q.silent q.unasked (let up = opening_next config f.proto slirp.number f.host Done past in omega (arith, up)) q.moment opens.flows;
+      sockets = record { number = opening_next config f.proto slirp.number f.host Done past ∙ ap (λ n. n + 1) opens.sockets.number; kinds = kinds_opened f.proto slirp.number f.host Done past opens.clock.counted opens.sockets.kinds };
+      clock = record { moment = q.moment ∙ opens.clock.moment; counted = opening_waits config f.proto slirp.number f.host Done past ∙ opens.clock.counted };
       number = refl;
-      unreported = opens.unreported;
+      unreported = q.unreported ∙ opens.unreported;
       none = opens.none;
-      unrested = opens.unrested;
+      unrested = q.unrested ∙ opens.unrested;
       alone = opens.alone;
+      unnamed = opens.unnamed;
       nothing = opens.nothing;
       empty = opens.empty;
-      open_yet = opens.open_yet;
+      open_yet = opening_open config f.proto slirp.number f.host Done past ∙ opens.open_yet;
     }
 
   -- the host refused it
-  pub refused : Allowed (Listen slirp.number f.host Failed)
-      → ClosingWith config (Over (Refused slirp.number)) (forward_sockets slirp.forwards) slirp.associations slirp.flows.flows.parts (Listen slirp.number f.host Failed ∷ past)
+  pub refused : Allowed (opened_port Failed) → ClosingWith config (Over (Refused slirp.number)) (forward_sockets slirp.forwards) (holders_of slirp) (opened_port Failed ∷ past)
   refused fine = record {
-    lawful = (may_listen, opens.lawful);
-    ended = ap (λ p. is_over p || nat_le config.turns (waits past)) phase_is;
+    lawful = (may_open_it Failed, opens.lawful);
+    ended = ap (λ p. is_over p || nat_le config.turns (waits (opened_port Failed ∷ past))) phase_is;
     is = sym phase_is;
     rests = OverFor (Refused slirp.number) phase_is;
-    errand = errand_for config Settled slirp past opens.relayed;
-    served = none_due_for_services config (Listen slirp.number f.host Failed ∷ past) opens.services.unresolved;
-    idle = (flows_stay config (flowing false slirp.flows) slirp.moment (Listen slirp.number f.host Failed) past refl refl (omega arith) refl opens.flows).holds.asked;
+    errand = errand_then f.proto Failed;
+    served = none_due_for_services config (opened_port Failed ∷ past) q.unheard;
+    idle = (flows_stay config (flowing false slirp.flows) slirp.moment (opened_port Failed) past q.silent q.unasked (let up = opening_next config f.proto slirp.number f.host Failed past in omega (arith, up)) q.moment opens.flows).holds.asked;
     sockets = record {
-      each = λ n among. inl (sym (ap (is_among n) opens.are_open) ∙ among);
-      forward = λ n among. ap (is_among n) opens.are_open ∙ among;
+      each = λ n among. inl (sym (ap (is_among n) (are_same n)) ∙ among);
+      forward = λ n among. ap (is_among n) (are_same n) ∙ among;
       carry = λ n among. absurd (unlisted n among);
       flow = λ k p at. absurd (opens.none k p at.here);
       apart = λ k p at. absurd (opens.none k p at.here);
       rising = (length opens.done, subst (λ l. IsRising (length opens.done) (forward_sockets l)) (sym opens.forwards) (given_rise opens.done 0 (length opens.done) (omega arith)));
       first = λ n m among of. absurd (not_of m of);
     };
+    two = λ n among. absurd (true_false (sym among ∙ ap (λ l. is_among n (numbers l)) opens.alone));
   }
     where
-      phase_is : phase config (Listen slirp.number f.host Failed ∷ past) ≡ Over (Refused slirp.number)
-      phase_is = ap (λ p. opened Failed p) (opens.opening ∙ ap (Opening slirp.number) next)
+      abbrev q : Quiet config (opened_port Failed) past
+      q = opens_quietly config f.proto slirp.number f.host Failed past
 
-      unlisted : (n : ℕ) → is_among n (numbers slirp.associations) ≡ true → ⊥
-      unlisted n among = true_false (sym among ∙ ap (λ l. is_among n (numbers l)) opens.alone)
+      phase_is : phase config (opened_port Failed ∷ past) ≡ Over (Refused slirp.number)
+      phase_is = phase_then f.proto Failed ∙ ap (λ p. opened Failed p) (opens.opening ∙ ap (Opening slirp.number) next)
 
-      not_of : (m : ℕ) → IsOf slirp.associations slirp.flows.flows.parts m → ⊥
+      are_same : (n : ℕ) → open_sockets (opened_port Failed ∷ past) ≡ forward_sockets slirp.forwards
+      are_same n = opening_made config f.proto slirp.number f.host Failed past ∙ opens.are_open
+
+      none_carried : carriers (holders_of slirp) ≡ []
+      none_carried = λ i. numbers (opens.alone i) ++ question_numbers (opens.unnamed i)
+
+      unlisted : (n : ℕ) → is_among n (carriers (holders_of slirp)) ≡ true → ⊥
+      unlisted n among = true_false (sym among ∙ ap (is_among n) none_carried)
+
+      not_of : (m : ℕ) → IsOf (carriers (holders_of slirp)) slirp.flows.flows.parts m → ⊥
       not_of m (inl among) = unlisted m among
       not_of m (inr (k, p, at, number, u)) = opens.none k p at.here
 
@@ -309,13 +386,13 @@ started config slirp link told past fine opens = record {
   keeps = record { framed = (tt, opens.keeps.framed); partly = opens.keeps.partly; rest = opens.keeps.rest; blocked = opens.keeps.blocked };
   answers = record { sent = opens.answers.sent; pending = opens.answers.pending };
   guests = guests_stay config slirp (record slirp { moment = max (min told (2 ^ 62)) slirp.moment }) (Now told) past refl refl opens.guests;
-  relayed = record { list = opens.relayed.list; asks = opens.relayed.asks };
+  relayed = record { list = opens.relayed.list; questions = opens.relayed.questions; asks = opens.relayed.asks; heard = refl };
   services = services_stay config slirp (record slirp { moment = max (min told (2 ^ 62)) slirp.moment }) (Now told) past refl refl opens.services;
   forwards = opens.forwards ∙ ap (with_numbers 0) (sym all_open);
   flows = flows_told config slirp.flows slirp.moment (max (min told (2 ^ 62)) slirp.moment) told past (omega arith) opens.flows;
   sockets = record { number = opens.sockets.number; kinds = opens.sockets.kinds };
   clock = record { moment = ap (max (min told (2 ^ 62))) opens.clock.moment; counted = opens.clock.counted };
-  stands = Begins (record { started = phase_is; unwaited = opens.clock.counted; unreported = opens.unreported; unasked = refl; alone = opens.alone; nothing = opens.nothing; empty = opens.empty }) opens.none opens.unrested;
+  stands = Begins (record { started = phase_is; unwaited = opens.clock.counted; unreported = opens.unreported; unasked = refl; alone = opens.alone; unnamed = opens.unnamed; nothing = opens.nothing; empty = opens.empty }) opens.none opens.unrested;
   agenda = ([], opens.unreported);
   open_yet = opens.open_yet;
 }
@@ -351,9 +428,8 @@ started config slirp link told past fine opens = record {
 -- ---- the end of the turns
 
 -- a run that an entry ended
-pub ran : (config : Config) (why : Ending) (forwards : List Opened) (list : List Association) (parts : List (Option Splice)) (made : List Entry) → Ended config why forwards list parts made
-    → ClosingWith config (phase config made) (forward_sockets forwards) list parts made
-ran config why forwards list parts made ended = record {
+pub ran : (config : Config) (why : Ending) (forwards : List Opened) (o : Holders) (made : List Entry) → Ended config why forwards o made → ClosingWith config (phase config made) (forward_sockets forwards) o made
+ran config why forwards o made ended = record {
   lawful = ended.lawful;
   ended = ap (λ p. is_over p || nat_le config.turns (waits made)) ended.over;
   is = refl;
@@ -362,6 +438,7 @@ ran config why forwards list parts made ended = record {
   served = ended.served;
   idle = ended.idle;
   sockets = ended.sockets;
+  two = ended.two;
 }
 
 either : (b : Bool) → (b || true) ≡ true
@@ -370,16 +447,17 @@ either false = refl
 
 -- after as many waits as there may be
 pub spent : (config : Config) (count : ℕ) (slirp : SlirpState) (f : Flowing) (link : LinkState) (made : List Entry) → 1 ≤ config.turns → config.turns ≤ count → Holds config (after count) slirp f link made
-    → ClosingWith config (phase config made) (forward_sockets slirp.forwards) slirp.associations f.kept.flows.parts made
+    → ClosingWith config (phase config made) (forward_sockets slirp.forwards) (holders_with slirp f.kept) made
 spent config count slirp f link made some all holds = record {
   lawful = holds.lawful;
   ended = ap (λ b. is_over (phase config made) || b) none_left ∙ either (is_over (phase config made));
   is = refl;
   rests = rests holds.stands;
-  errand = errand_for config Settled slirp made holds.relayed;
-  served = none_due_for_services config made holds.services.unresolved;
+  errand = errand_for config Settled None slirp made holds.relayed;
+  served = none_due_for_services config made holds.relayed.heard;
   idle = holds.flows.holds.asked;
-  sockets = are_open config (after count) Settled slirp f link made holds;
+  sockets = are_open config (after count) Settled None slirp f link made holds;
+  two = two_in config slirp made holds.lawful holds.relayed.list holds.relayed.questions;
 }
   where
     none_left : nat_le config.turns (waits made) ≡ true

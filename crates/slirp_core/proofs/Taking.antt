@@ -17,7 +17,6 @@ use Rattle.icmp_echo.specs.declared.IcmpView.{IcmpView}
 use Rattle.icmp_echo.specs.declared.IcmpView.TheVariants.{Echo, Unreachable, Other}
 use Rattle.udp_assoc.specs.Udp.{Udp, summed, udp_octets, udp_with, written_sum}
 use Rattle.udp_assoc.proofs.Spelling.{length-udp}
-use Rattle.udp_assoc.specs.declared.assocs.Association.{Association}
 use Rattle.dhcp_server.specs.declared.leases.Lease.{Lease}
 use Rattle.dhcp_server.specs.declared.message.Message.{Message as ClientMessage}
 use Rattle.dhcp_server.specs.Replies.{everybody, goes_to_all, is_silence, replied_octets, reply_octets, reply_to as lease_reply_to}
@@ -25,7 +24,7 @@ use Rattle.dhcp_server.specs.Serving.{served}
 use Rattle.host_policy.specs.declared.Reply.{Reply}
 use Rattle.host_policy.specs.declared.Reply.TheVariants.{Nothing as ReplyNothing, Datagram as ADatagram, Unreachable as ReplyUnreachable}
 use Rattle.slirp_laws.specs.Leasing.{sending_of}
-use Rattle.slirp_laws.specs.Answers.{Answer, IpAnswer, answers_of, our_mac, datagram_frames, fits_datagram, is_untold, told_about, reply_at, frames_of, owed_for_arp, owed_for_icmp, owed_for_datagram, reset_for}
+use Rattle.slirp_laws.specs.Answers.{Answer, IpAnswer, answer_of, answers_of, our_mac, datagram_frames, fits_datagram, is_untold, told_about, reply_at, frames_of, owed_for_arp, owed_for_icmp, owed_for_datagram, reset_for}
 use Rattle.tcp_segment.specs.Tcp.{Tcp, read_tcp, tcp_length, tcp_octets}
 use Rattle.flow_table.specs.declared.Tuple.{Tuple}
 use Rattle.flow_laws.specs.Event.{Segment}
@@ -247,22 +246,22 @@ shown_parts : (b : Bool) (from peer : Endpoint) → Some from ≡ (if b then Non
 shown_parts true from peer is = absurd cc
 shown_parts false from peer is = (refl, cc)
 
-abbrev pub reply_datagram : Endpoint → List ℕ → Association → List ℕ
-reply_datagram from octets a = udp_octets (address from) (address a.guest) (record { from_port = from.port; to_port = a.guest.port; body = octets })
+-- a datagram of ours goes out whole
+pub datagram_sent : (config : Config) (ident : ℕ) (from to : Endpoint) (mac octets : List ℕ) → length octets ≤ 65507
+    → datagram_frames config.mtu mac (our_mac config.vhost) ident udp_proto (address from) (address to) (udp_octets (address from) (address to) (record { from_port = from.port; to_port = to.port; body = octets }))
+    ≡ frames_of config ident (answer_of (record { mac = mac; from = from; to = to; body = octets }) ∷ [])
+datagram_sent config ident from to mac octets short =
+    let udp : Udp = record { from_port = from.port; to_port = to.port; body = octets } in
+    let long : length (udp_octets (address from) (address to) udp) ≡ 8 + length octets = length-udp (written_sum (summed (address from) (address to) (udp_with 0 udp))) udp in
+    frames_whole config ident mac udp_proto (address from) (address to) (udp_octets (address from) (address to) udp) (omega (arith, long, short))
 
-abbrev reply_packet : Endpoint → List ℕ → Association → Answer
-reply_packet from octets a = IpAnswer a.mac.0 udp_proto (address from) (address a.guest) (reply_datagram from octets a)
-
-pub answered : (config : Config) (ident : ℕ) (peer from : Endpoint) (octets : List ℕ) (a : Association)
-    → Some from ≡ (if is_hidden config peer then None else Some (shown config peer)) → length octets ≤ 65507
-    → datagram_frames config.mtu a.mac.0 (our_mac config.vhost) ident udp_proto (address from) (address a.guest) (reply_datagram from octets a) ≡ frames_of config ident (reply_at config peer octets a.guest a.mac.0)
-answered config ident peer from octets a is short =
+-- that of a peer, as it is shown
+pub shown_sent : (config : Config) (ident : ℕ) (peer from : Endpoint) (octets : List ℕ) (guest : Endpoint) (mac : List ℕ) → Some from ≡ (if is_hidden config peer then None else Some (shown config peer))
+    → frames_of config ident (answer_of (record { mac = mac; from = from; to = guest; body = octets }) ∷ []) ≡ frames_of config ident (reply_at config peer octets guest mac)
+shown_sent config ident peer from octets guest mac is =
     let p = shown_parts (is_hidden config peer) from (shown config peer) is in
-    let udp : Udp = record { from_port = from.port; to_port = a.guest.port; body = octets } in
-    let long : length (reply_datagram from octets a) ≡ 8 + length octets = length-udp (written_sum (summed (address from) (address a.guest) (udp_with 0 udp))) udp in
-    frames_whole config ident a.mac.0 udp_proto (address from) (address a.guest) (reply_datagram from octets a) (omega (arith, long))
-    ∙ ap (λ (e : Endpoint). frames_of config ident (reply_packet e octets a ∷ [])) p.1
-    ∙ sym (ap (λ (b : Bool). frames_of config ident (if b then [] else reply_packet (shown config peer) octets a ∷ [])) p.0)
+    ap (λ (e : Endpoint). frames_of config ident (answer_of (record { mac = mac; from = e; to = guest; body = octets }) ∷ [])) p.1
+    ∙ sym (ap (λ (b : Bool). frames_of config ident (if b then [] else answer_of (record { mac = mac; from = shown config peer; to = guest; body = octets }) ∷ [])) p.0)
 
 -- the reply to a client goes out whole
 pub lease_sent : (config : Config) (ident count : ℕ) (from to : Endpoint) (mac : Mac) (octets : List ℕ) → length octets ≤ 790

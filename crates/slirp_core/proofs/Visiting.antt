@@ -24,11 +24,13 @@ use Rattle.flow_book.specs.Laws.{MayShut, flow_settings}
 use Rattle.flow_book.specs.Lots.{due_for_flows}
 use Rattle.run_laws.specs.Moments.{moment}
 use Rattle.run_laws.specs.Shape.{is_ended, is_over, is_working}
-use Rattle.run_laws.specs.Sockets.{Flow as OfFlow, is_among, is_association, is_listener, kind_of, next_number, number_for_peer, open_sockets, with_peer}
+use Rattle.host_policy.specs.declared.Proto.TheVariants.{Tcp}
+use Rattle.dns_relay.specs.Questions.{numbers as question_numbers, without as question_without}
+use Rattle.run_laws.specs.Sockets.{Flow as OfFlow, Listener as OfListener, is_among, is_association, is_listener, kind_of, next_number, number_for_peer, open_sockets, with_peer}
 use Rattle.core_flows.specs.Seats.{in_use_slots}
 use Rattle.slirp_laws.specs.Agenda.{agenda, all_wanted, is_to_read, wanted_of}
 use Rattle.slirp_laws.specs.Errands.{errand_left}
-use Rattle.slirp_laws.specs.Laws.{May, is_least, may_leave, may_part, parts, takes_peers}
+use Rattle.slirp_laws.specs.Laws.{May, carries, is_least, may_leave, may_part, parts, takes_peers}
 use Rattle.slirp_laws.specs.Names.{kind_for}
 use Rattle.slirp_laws.proofs.Bools.{among_last, among_without, and_both, or_second, same, second_of, turned}
 use Rattle.slirp_laws.proofs.Deeds.{accepts, closes, this_one}
@@ -41,10 +43,9 @@ use Rattle.tcp_flows.specs.Runs.{Between, Welcomes}
 use Rattle.port_forward.specs.Opened.{Opened}
 use Rattle.slirp_laws.specs.Datagrams.{Settled}
 use Rattle.udp_assoc.specs.Associations.{numbers, without}
-use Rattle.udp_assoc.specs.declared.assocs.Association.{Association}
 use Rattle.spliced_flows.proofs.Options.{true_false}
 use Rattle.slirp_laws.proofs.OpenSockets.{next_is_new}
-use Rattle.slirp_core.proofs.Given.{HasGiven}
+use Rattle.slirp_core.proofs.Given.{HasGiven, given_kind}
 use Rattle.slirp_core.specs.Forwards.{with_numbers}
 use Rattle.slirp_core.specs.Visits.{Treats}
 use Rattle.slirp_core.specs.Holds.{Begins, Holds, InTurn, OfFlows, Stands, Turns, flowing, is_ours, standing}
@@ -52,8 +53,9 @@ use Rattle.slirp_core.specs.State.{SlirpState}
 use Rattle.slirp_core.proofs.Called.{between, flows_put}
 use Rattle.slirp_core.proofs.Flows.{close_same, flows_since, flows_stay}
 use Rattle.slirp_core.proofs.Guests.{guests_stay}
-use Rattle.slirp_core.proofs.Open.{given_in}
-use Rattle.slirp_core.proofs.Parts.{asks_nothing, asked_for, behind_of, carried_by, due_is, errand_for, keeps_by, reads_of, still_open}
+use Rattle.slirp_core.proofs.Names.{none_without}
+use Rattle.slirp_core.proofs.Parts.{asks_nothing, asked_for, behind_of, due_is, errand_for, given_in, keeps_by, reads_of, still_open}
+use Rattle.slirp_core.proofs.Relaying.{not_carried, unclosed}
 use Rattle.slirp_core.proofs.Services.{none_due_for_services, services_stay}
 
 -- the kinds of sockets, where a peer came or none
@@ -77,25 +79,8 @@ kinds_visited listener number answer past kinds n among = by (number == n) refl
     by true is = refl
     by false is = kinds n (before answer (turned is) among)
 
--- a list without a number that none has
-none_numbered : (n : ℕ) (list : List Association) → is_among n (numbers list) ≡ false → without n list ≡ list
-none_numbered n [] none = refl
-none_numbered n (a ∷ list) none = by (a.number == n) refl (none_numbered n list (or_next (n == a.number) (is_among n (numbers list)) none))
-  where
-    or_next : (x y : Bool) → (x || y) ≡ false → y ≡ false
-    or_next true y is = cc
-    or_next false y is = is
-
-    or_first : (x y : Bool) → (x || y) ≡ false → x ≡ false
-    or_first true y is = cc
-    or_first false y is = refl
-
-    by : (b : Bool) → (a.number == n) ≡ b → without n list ≡ list → (if not b then a ∷ without n list else without n list) ≡ a ∷ list
-    by true it rest = absurd (true_false (sym (turned a.number n true it) ∙ or_first (n == a.number) (is_among n (numbers list)) none))
-    by false other rest = ap (λ l. a ∷ l) rest
-
 module _ (config : Config) (count : ℕ) (wants : List Want) (item : Want) (items : List Want) (listener : ℕ) (reads_it : is_to_read (AListener listener) (wanted_of wants item) ≡ true) (slirp : SlirpState) (link : LinkState) (past : List Entry)
-    (holds : Holds config (standing count wants (item ∷ items)) slirp (flowing false slirp.flows) link past) (is_open : listener < length config.forwards) (room : in_use_slots slirp.flows.flows.table.slots < length slirp.flows.flows.table.slots) where
+    (holds : Holds config (standing count wants (item ∷ items)) slirp (flowing false slirp.flows) link past) (is_open : (listener < length config.forwards) × (kind_of listener past ≡ Some OfListener)) (room : in_use_slots slirp.flows.flows.table.slots < length slirp.flows.flows.table.slots) where
   -- something was reported, so the first wait has been
   turn : InTurn config past
   turn = by holds.stands
@@ -108,18 +93,18 @@ module _ (config : Config) (count : ℕ) (wants : List Want) (item : Want) (item
       by (Turns t) = t
       by (Begins unbegun free unrested) = absurd (no_last holds.agenda.0 (wanted_of wants item) (all_wanted wants items) (sym unbegun.unreported ∙ holds.agenda.1))
 
-  has : HasGiven config holds.services.unresolved (length config.forwards) past
-  has = given_in config (standing count wants (item ∷ items)) Settled slirp (flowing false slirp.flows) link past holds
+  has : HasGiven config (length config.forwards) past
+  has = given_in config (standing count wants (item ∷ items)) Settled None slirp (flowing false slirp.flows) link past holds
 
   takes : takes_peers config past listener ≡ true
   takes =
       and_both (is_among listener (open_sockets past) && is_listener (kind_of listener past)) (nat_lt (used (book config past).flows) config.flows)
-      (and_both (is_among listener (open_sockets past)) (is_listener (kind_of listener past)) (has.stay holds.open_yet listener is_open) (ap is_listener (has.listening listener is_open)))
+      (and_both (is_among listener (open_sockets past)) (is_listener (kind_of listener past)) (has.stay holds.open_yet listener is_open.0) (ap is_listener is_open.1))
       (let counted = holds.flows.holds.seats.counted in let slots = holds.flows.holds.slots in grind (arith, nat_tests, counted, slots, room))
 
   may_accept : May config past (CallAccept listener slirp.number)
   may_accept = accepts config past listener slirp.number
-      (due_is config past Settled turn.working (none_due_for_services config past holds.services.unresolved) holds.flows.holds.asked (asked_for config (standing count wants (item ∷ items)) Settled slirp (flowing false slirp.flows) link past holds))
+      (due_is config past Settled turn.working (none_due_for_services config past holds.relayed.heard) holds.flows.holds.asked (asked_for config (standing count wants (item ∷ items)) Settled None slirp (flowing false slirp.flows) link past holds))
       (ap is_working turn.working) takes (ap (λ n. slirp.number == n) holds.sockets.number ∙ same slirp.number)
       (reads_of (AListener listener) (wanted_of wants item) (all_wanted wants items) (agenda past) reads_it holds.agenda) holds.open_yet
 
@@ -137,7 +122,7 @@ module _ (config : Config) (count : ℕ) (wants : List Want) (item : Want) (item
       keeps = keeps_by link e past tt refl refl refl holds.keeps;
       answers = record { sent = holds.answers.sent; pending = holds.answers.pending };
       guests = guests_stay config slirp (record slirp { number = number }) e past refl refl holds.guests;
-      relayed = record { list = holds.relayed.list; asks = asks_nothing config slirp.associations (errand_left config (e ∷ past)) then_is.work.errand };
+      relayed = record { list = holds.relayed.list; questions = holds.relayed.questions; asks = asks_nothing config slirp (errand_left config (e ∷ past)) then_is.work.errand; heard = refl };
       services = services_stay config slirp (record slirp { number = number }) e past refl refl holds.services;
       forwards = holds.forwards;
       flows = record { holds = then_is.holds; settings = then_is.settings; asked = then_is.asked; unit = holds.flows.unit };
@@ -164,7 +149,7 @@ module _ (config : Config) (count : ℕ) (wants : List Want) (item : Want) (item
       asked = quiet_flows.asked;
       settings = quiet_flows.settings;
       lawful = (may_accept, holds.lawful);
-      work = record { working = turn.working; errand = errand_for config Settled slirp past holds.relayed; services = none_due_for_services config (none_at ∷ past) holds.services.unresolved; open_yet = holds.open_yet };
+      work = record { working = turn.working; errand = errand_for config Settled None slirp past holds.relayed; services = none_due_for_services config (none_at ∷ past) refl; open_yet = holds.open_yet };
       at = holds.clock.moment;
     }) (next ∙ holds.sockets.number) (λ n among. kinds_visited listener slirp.number answer past holds.sockets.kinds n among)
 
@@ -187,7 +172,7 @@ module _ (config : Config) (count : ℕ) (wants : List Want) (item : Want) (item
           welcome = welcome;
           learnt = λ m is. known_was_taught config past guest.addr m (ap (learnt_for guest.addr) holds.guests.known ∙ sym found ∙ is);
           lawful = (may_accept, holds.lawful);
-          work = record { working = turn.working; errand = errand_for config Settled slirp past holds.relayed; services = none_due_for_services config (visit ∷ past) holds.services.unresolved; open_yet = holds.open_yet };
+          work = record { working = turn.working; errand = errand_for config Settled None slirp past holds.relayed; services = none_due_for_services config (visit ∷ past) refl; open_yet = holds.open_yet };
         }))
         (ap (λ n. n + 1) holds.sockets.number) (λ n among. kinds_visited listener slirp.number (From peer) past holds.sockets.kinds n among)
 
@@ -211,7 +196,7 @@ module _ (config : Config) (count : ℕ) (wants : List Want) (item : Want) (item
       close_is_due = ap (λ b. due_for_flows config b (next_number (visit ∷ past))) doomed_is
 
       work_then : InWork config (visit ∷ past)
-      work_then = record { working = turn.working; errand = errand_for config Settled slirp past holds.relayed; services = none_due_for_services config (visit ∷ past) holds.services.unresolved; open_yet = holds.open_yet }
+      work_then = record { working = turn.working; errand = errand_for config Settled None slirp past holds.relayed; services = none_due_for_services config (visit ∷ past) refl; open_yet = holds.open_yet }
 
       its_kind : kind_for config slirp.number (visit ∷ past) ≡ Some OfFlow
       its_kind = ap (λ b. if b then Some OfFlow else kind_for config slirp.number past) (same slirp.number)
@@ -241,11 +226,12 @@ module _ (config : Config) (count : ℕ) (wants : List Want) (item : Want) (item
       flows_then : OfFlows config (flowing false slirp.flows) slirp.moment shut_again
       flows_then = flows_since config (flowing false slirp.flows) slirp.moment (Close slirp.number ∷ visit ∷ []) past book_then refl (omega arith) refl holds.flows
 
-      -- its number is no association's
-      unlisted : is_among slirp.number (numbers slirp.associations) ≡ false
-      unlisted =
-          sym (carried_by config (standing count wants (item ∷ items)) Settled slirp (flowing false slirp.flows) link past holds slirp.number)
-          ∙ ap (λ b. b && is_association (kind_of slirp.number past)) (ap (λ n. is_among n (open_sockets past)) (sym holds.sockets.number) ∙ next_is_new config past holds.lawful)
+      -- its number is no association's, and no question's
+      uncarried : carries past slirp.number ≡ false
+      uncarried = ap (λ b. b && is_association (kind_of slirp.number past)) (ap (λ n. is_among n (open_sockets past)) (sym holds.sockets.number) ∙ next_is_new config past holds.lawful)
+
+      unlisted : (is_among slirp.number (numbers slirp.associations) ≡ false) × (is_among slirp.number (question_numbers slirp.questions) ≡ false)
+      unlisted = not_carried config (standing count wants (item ∷ items)) Settled None slirp (flowing false slirp.flows) link past holds slirp.number uncarried
 
       kinds_then : (n : ℕ) → is_among n (open_sockets shut_again) ≡ true → is_ours (kind_of n shut_again) ≡ true
       kinds_then n among =
@@ -259,7 +245,7 @@ module _ (config : Config) (count : ℕ) (wants : List Want) (item : Want) (item
         keeps = keeps_by link (Close slirp.number) (visit ∷ past) tt refl refl refl (keeps_by link visit past tt refl refl refl holds.keeps);
         answers = record { sent = holds.answers.sent; pending = holds.answers.pending };
         guests = guests_stay config (record slirp { number = slirp.number + 1 }) (record slirp { number = slirp.number + 1 }) (Close slirp.number) (visit ∷ past) refl refl (guests_stay config slirp (record slirp { number = slirp.number + 1 }) visit past refl refl holds.guests);
-        relayed = record { list = ap (without slirp.number) holds.relayed.list ∙ none_numbered slirp.number slirp.associations unlisted; asks = holds.relayed.asks };
+        relayed = record { list = ap (without slirp.number) holds.relayed.list ∙ unclosed slirp.number slirp.associations unlisted.0; questions = ap (question_without slirp.number) holds.relayed.questions ∙ none_without slirp.number slirp.questions unlisted.1; asks = holds.relayed.asks; heard = refl };
         services = services_stay config (record slirp { number = slirp.number + 1 }) (record slirp { number = slirp.number + 1 }) (Close slirp.number) (visit ∷ past) refl refl
             (services_stay config slirp (record slirp { number = slirp.number + 1 }) visit past refl refl holds.services);
         forwards = holds.forwards;
@@ -281,18 +267,22 @@ at_given (x ∷ fs) n (suc k) f number at = let more = at_given fs (n + 1) k f n
 
 module _ (config : Config) (count : ℕ) (wants : List Want) (item : Want) (items : List Want) (listener : ℕ) (reads_it : is_to_read (AListener listener) (wanted_of wants item) ≡ true) (slirp : SlirpState) (link : LinkState) (past : List Entry)
     (holds : Holds config (standing count wants (item ∷ items)) slirp (flowing false slirp.flows) link past) (room : in_use_slots slirp.flows.flows.table.slots < length slirp.flows.flows.table.slots)
-    (forward : Forward) (number : ℕ) (at : slice_get slirp.forwards listener ≡ Some (forward, number)) where
+    (forward : Forward) (number : ℕ) (at : slice_get slirp.forwards listener ≡ Some (forward, number)) (tcp : forward.proto ≡ Tcp) where
   place : (slice_get config.forwards listener ≡ Some forward) × (listener < length config.forwards)
   place = at_given config.forwards 0 listener forward number (sym (ap (λ l. slice_get l listener) holds.forwards) ∙ at)
 
+  -- it is one to which peers connect
+  is_open : (listener < length config.forwards) × (kind_of listener past ≡ Some OfListener)
+  is_open = (place.1, (given_in config (standing count wants (item ∷ items)) Settled None slirp (flowing false slirp.flows) link past holds).kinds listener forward place.1 place.0 ∙ ap (λ p. Some (given_kind p)) tcp)
+
   leads : port_of config listener ≡ Some forward.guest
-  leads = ap (option_and_then (λ (f : Forward). port_by f.proto f.guest)) place.0 ∙ ap (λ p. port_by p forward.guest) (holds.services.connections listener forward place.0)
+  leads = ap (option_and_then (λ (f : Forward). port_by f.proto f.guest)) place.0 ∙ ap (λ p. port_by p forward.guest) tcp
 
   pub nobody_came : Allowed (Accept listener slirp.number NotYetAccepted) → Holds config (standing count wants items) slirp (flowing false slirp.flows) link (Accept listener slirp.number NotYetAccepted ∷ past)
-  nobody_came fine = none_came config count wants item items listener reads_it slirp link past holds place.1 room NotYetAccepted fine refl refl refl
+  nobody_came fine = none_came config count wants item items listener reads_it slirp link past holds is_open room NotYetAccepted fine refl refl refl
 
   pub none_accepted : Allowed (Accept listener slirp.number AcceptFailed) → Holds config (standing count wants items) slirp (flowing false slirp.flows) link (Accept listener slirp.number AcceptFailed ∷ past)
-  none_accepted fine = none_came config count wants item items listener reads_it slirp link past holds place.1 room AcceptFailed fine refl refl refl
+  none_accepted fine = none_came config count wants item items listener reads_it slirp link past holds is_open room AcceptFailed fine refl refl refl
 
   -- a peer came, and was treated so
   pub treated : (peer : Endpoint) (new : SlirpState) (made : List Entry) → AreAllowed (made ++ Accept listener slirp.number (From peer) ∷ []) → new ≡ record slirp { number = slirp.number + 1; flows = new.flows }
@@ -310,13 +300,13 @@ module _ (config : Config) (count : ℕ) (wants : List Want) (item : Want) (item
       by : (b : Bool) → is_refused config forward.guest peer (book config past) ≡ b → Treats b forward.guest peer slirp new made
           → Holds config (standing count wants items) new (flowing false new.flows) link ((made ++ Accept listener slirp.number (From peer) ∷ []) ++ past)
       by false welcome (none, welcomes) =
-          let begun = welcomed config count wants item items listener reads_it slirp link past holds place.1 room forward.guest peer leads came_so new.flows (learnt_for forward.guest.addr slirp.known) welcome refl
+          let begun = welcomed config count wants item items listener reads_it slirp link past holds is_open room forward.guest peer leads came_so new.flows (learnt_for forward.guest.addr slirp.known) welcome refl
           (subst (λ (c : Config). Welcomes slirp.moment slirp.number slirp.flows new.flows (tuple_for c forward.guest peer) (learnt_for forward.guest.addr slirp.known)) holds.guests.settings welcomes) in
           subst (λ es. Holds config (standing count wants items) new (flowing false new.flows) link ((es ++ Accept listener slirp.number (From peer) ∷ []) ++ past)) (sym none)
           (subst (λ (s : SlirpState). Holds config (standing count wants items) s (flowing false new.flows) link (Accept listener slirp.number (From peer) ∷ past)) (sym same)
           (flows_put config (standing count wants items) (record slirp { number = slirp.number + 1 }) new.flows (flowing false new.flows) link (Accept listener slirp.number (From peer) ∷ past) begun))
       by true refused (one, same_flows) =
-          let shut = turned_away config count wants item items listener reads_it slirp link past holds place.1 room forward.guest peer leads came_so refused (first_allowed made one allowed) in
+          let shut = turned_away config count wants item items listener reads_it slirp link past holds is_open room forward.guest peer leads came_so refused (first_allowed made one allowed) in
           subst (λ es. Holds config (standing count wants items) new (flowing false new.flows) link ((es ++ Accept listener slirp.number (From peer) ∷ []) ++ past)) (sym one)
           (subst (λ (k : Kept). Holds config (standing count wants items) new (flowing false k) link (Close slirp.number ∷ Accept listener slirp.number (From peer) ∷ past)) (sym same_flows)
           (subst (λ (s : SlirpState). Holds config (standing count wants items) s (flowing false slirp.flows) link (Close slirp.number ∷ Accept listener slirp.number (From peer) ∷ past))
@@ -327,13 +317,13 @@ module _ (config : Config) (count : ℕ) (wants : List Want) (item : Want) (item
 
 -- nobody came, or the host failed
 pub passed_by : (a b : Telling) (config : Config) (count : ℕ) (wants : List Want) (item : Want) (items : List Want) (listener : ℕ) → is_to_read (AListener listener) (wanted_of wants item) ≡ true → (slirp : SlirpState) (link : LinkState)
-    → in_use_slots slirp.flows.flows.table.slots < length slirp.flows.flows.table.slots → (forward : Forward) (number : ℕ) → slice_get slirp.forwards listener ≡ Some (forward, number)
+    → in_use_slots slirp.flows.flows.table.slots < length slirp.flows.flows.table.slots → (forward : Forward) (number : ℕ) → slice_get slirp.forwards listener ≡ Some (forward, number) → forward.proto ≡ Tcp
     → (answer : Accepted) → (answer ≡ NotYetAccepted) ⊎ (answer ≡ AcceptFailed) → Answers a b (Accept listener slirp.number answer)
     → Brings a b (Holds config (standing count wants (item ∷ items)) slirp (flowing false slirp.flows) link) (Holds config (standing count wants items) slirp (flowing false slirp.flows) link)
-passed_by a b config count wants item items listener reads_it slirp link room forward number at answer (inl is) answers =
-    brings_one (subst (λ (r : Accepted). Answers a b (Accept listener slirp.number r)) is answers) (λ fine past holds. nobody_came config count wants item items listener reads_it slirp link past holds room forward number at fine)
-passed_by a b config count wants item items listener reads_it slirp link room forward number at answer (inr is) answers =
-    brings_one (subst (λ (r : Accepted). Answers a b (Accept listener slirp.number r)) is answers) (λ fine past holds. none_accepted config count wants item items listener reads_it slirp link past holds room forward number at fine)
+passed_by a b config count wants item items listener reads_it slirp link room forward number at tcp answer (inl is) answers =
+    brings_one (subst (λ (r : Accepted). Answers a b (Accept listener slirp.number r)) is answers) (λ fine past holds. nobody_came config count wants item items listener reads_it slirp link past holds room forward number at tcp fine)
+passed_by a b config count wants item items listener reads_it slirp link room forward number at tcp answer (inr is) answers =
+    brings_one (subst (λ (r : Accepted). Answers a b (Accept listener slirp.number r)) is answers) (λ fine past holds. none_accepted config count wants item items listener reads_it slirp link past holds room forward number at tcp fine)
 
 -- who is refused, by what the policy and the slots say
 pub refused_by : (config : Config) (guest peer other : Endpoint) (b : Book) (found : Option Endpoint) (used : Bool) → found ≡ (if is_hidden config peer then None else Some (shown config peer)) → found ≡ Some other

@@ -17,10 +17,10 @@ use Rattle.slirp_laws.specs.Laws.{Lawful, due}
 use Rattle.slirp_laws.proofs.Deeds.{asks, waits_now}
 use Rattle.stream_netdev.specs.State.{LinkState, under_way}
 use Rattle.slirp_core.specs.Forwards.{forward_sockets}
-use Rattle.slirp_core.specs.Holds.{after, standing, AreOpenWith, Begins, Ended, Holds, OfFlows, Stands, Turns, flowing}
+use Rattle.slirp_core.specs.Holds.{after, standing, AreOpenWith, carriers, holders_with, Begins, Ended, Holds, OfFlows, Stands, Turns, flowing}
 use Rattle.slirp_core.specs.State.{SlirpState}
 use Rattle.slirp_core.proofs.Guests.{guests_stay}
-use Rattle.slirp_core.proofs.Parts.{errand_for, asked_for, due_in_phase, due_is}
+use Rattle.slirp_core.proofs.Parts.{errand_for, asked_for, due_in_phase, due_is, two_in}
 use Rattle.slirp_core.proofs.Services.{none_due_for_services}
 use Rattle.tcp_flows.specs.Kept.{Kept}
 use Rattle.slirp_core.proofs.Flows.{flows_paused, flows_told}
@@ -33,10 +33,10 @@ module _ (config : Config) (count : ℕ) (slirp : SlirpState) (kept : Kept) (old
     (few : count < config.turns) (holds : Holds config (after count) slirp (flowing true kept) old past) where
   -- a wait may begin a turn, the first or a later one
   none_due : Stands config Settled slirp kept old past → due config past ≡ None
-  none_due (Turns turn) = due_is config past Settled turn.working (none_due_for_services config past holds.services.unresolved) holds.flows.holds.asked (asked_for config (after count) Settled slirp (flowing true kept) old past holds)
+  none_due (Turns turn) = due_is config past Settled turn.working (none_due_for_services config past holds.relayed.heard) holds.flows.holds.asked (asked_for config (after count) Settled None slirp (flowing true kept) old past holds)
   none_due (Begins unbegun free unrested) =
-      due_in_phase config past Started unbegun.started (none_due_for_services config past holds.services.unresolved) holds.flows.holds.asked
-      ∙ ap (λ (t : Step). due_for config t (next_number past)) (asked_for config (after count) Settled slirp (flowing true kept) old past holds)
+      due_in_phase config past Started unbegun.started (none_due_for_services config past holds.relayed.heard) holds.flows.holds.asked
+      ∙ ap (λ (t : Step). due_for config t (next_number past)) (asked_for config (after count) Settled None slirp (flowing true kept) old past holds)
 
   turns_on : Stands config Settled slirp kept old past → may_turn (phase config past) ≡ true
   turns_on (Turns turn) = ap may_turn turn.working
@@ -58,17 +58,18 @@ module _ (config : Config) (count : ℕ) (slirp : SlirpState) (kept : Kept) (old
   flows_then : (answer : Waited) (ready : List Want) → OfFlows config (flowing false kept) slirp.moment (Wait wants timeout answer ready ∷ past)
   flows_then answer ready = flows_paused config kept slirp.moment wants timeout answer ready past holds.flows
 
-  now_open : AreOpenWith (forward_sockets slirp.forwards) slirp.associations kept.flows.parts past
-  now_open = are_open config (after count) Settled slirp (flowing true kept) old past holds
+  now_open : AreOpenWith (forward_sockets slirp.forwards) (carriers (holders_with slirp kept)) kept.flows.parts past
+  now_open = are_open config (after count) Settled None slirp (flowing true kept) old past holds
 
-  pub wait_ends_it : (answer : Waited) (ready : List Want) (why : Ending) → wait_ending answer ≡ Some why → Ended config why slirp.forwards slirp.associations kept.flows.parts (Wait wants timeout answer ready ∷ past)
+  pub wait_ends_it : (answer : Waited) (ready : List Want) (why : Ending) → wait_ending answer ≡ Some why → Ended config why slirp.forwards (holders_with slirp kept) (Wait wants timeout answer ready ∷ past)
   wait_ends_it answer ready why is = record {
     lawful = waited answer ready;
     over = ap (λ o. phase_after (Wait wants timeout answer ready) o (phase config past)) is ∙ ends why holds.stands;
-    errand = errand_for config Settled slirp past holds.relayed;
-    served = none_due_for_services config (Wait wants timeout answer ready ∷ past) holds.services.unresolved;
+    errand = errand_for config Settled None slirp past holds.relayed;
+    served = none_due_for_services config (Wait wants timeout answer ready ∷ past) refl;
     idle = (flows_then answer ready).holds.asked;
     sockets = record { each = now_open.each; forward = now_open.forward; carry = now_open.carry; flow = now_open.flow; apart = now_open.apart; rising = now_open.rising; first = now_open.first };
+    two = two_in config slirp past holds.lawful holds.relayed.list holds.relayed.questions;
   }
 
   pub wait_wakes : (ready : List Want) (told : ℕ) (new : LinkState) → Allowed (Wait wants timeout Ready ready) → Allowed (Now told) → under_way new ≡ under_way old → new.tail ≡ old.tail
@@ -85,8 +86,8 @@ module _ (config : Config) (count : ℕ) (slirp : SlirpState) (kept : Kept) (old
     };
     answers = record { sent = holds.answers.sent; pending = holds.answers.pending };
     guests = guests_stay config slirp (record slirp { moment = max (min told (2 ^ 62)) slirp.moment }) (Now told) (Wait wants timeout Ready ready ∷ past) refl refl (guests_stay config slirp slirp (Wait wants timeout Ready ready) past refl refl holds.guests);
-    relayed = record { list = holds.relayed.list; asks = holds.relayed.asks };
-    services = record { leases = holds.services.leases; connections = holds.services.connections; unresolved = holds.services.unresolved; unbound = holds.services.unbound };
+    relayed = record { list = holds.relayed.list; questions = holds.relayed.questions; asks = holds.relayed.asks; heard = refl };
+    services = record { leases = holds.services.leases };
     forwards = holds.forwards;
     flows = flows_told config kept slirp.moment (max (min told (2 ^ 62)) slirp.moment) told (Wait wants timeout Ready ready ∷ past) (not_before told slirp.moment) (flows_then Ready ready);
     sockets = record { number = holds.sockets.number; kinds = holds.sockets.kinds };

@@ -3,7 +3,7 @@ ghost use Rattle.std.specs.Prelude.{[], ◌≡◌, ◌≢◌, ◌<◌, ◌≤◌
 
 use crate::network::Slirp;
 use flow_table::Tuple;
-use host_policy::Forward;
+use host_policy::{Forward, Proto};
 use net_octets::Endpoint;
 use world_face::{Accepted, World};
 
@@ -87,9 +87,12 @@ impl Slirp {
         let Some((forward, _)) = self.forwards.at(listener as usize) else {
             return;
         };
-        match world.accept(listener, self.number) {
-            Accepted::From(peer) => self.welcome(world, forward.guest, peer),
-            Accepted::NotYet | Accepted::Failed => {}
+        match forward.proto {
+            Proto::Tcp => match world.accept(listener, self.number) {
+                Accepted::From(peer) => self.welcome(world, forward.guest, peer),
+                Accepted::NotYet | Accepted::Failed => {}
+            },
+            Proto::Udp => {}
         }
     }
 

@@ -16,7 +16,7 @@ use Rattle.slirp_core.proofs.network.Slirp.tell_flows.Goals as goal
 pub returns-clause-makes : goal.returns-clause-makes
 returns-clause-makes g c config count link few =
     let i = c.self.inside in
-    let slirp : SlirpState = record { config = i.policy; known = i.guests; sent = i.sent; pending = i.outgoing; moment = i.moment; number = i.number; associations = i.associations.list; parts = i.reasm; flows = i.flows; leases = i.leases.leases; forwards = i.forwards } in
+    let slirp : SlirpState = record { config = i.policy; known = i.guests; sent = i.sent; pending = i.outgoing; moment = i.moment; number = i.number; associations = i.associations.list; questions = i.questions.list; parts = i.reasm; flows = i.flows; leases = i.leases.leases; forwards = i.forwards } in
     let new = c.tick.new.self in
     subst (λ (s : SlirpState). Brings (g.W.World.tells c.args.world.now) (g.W.World.tells c.tick.new.world) (Holds config (after count) s (flowing false s.flows) link) (Holds config (after count) (record slirp { flows = new }) (flowing true new) link)) c.self.view_is
     (brings_allowed c.tick.ensures.makes (λ made ticks allowed past holds. flows_put config (after count) slirp new (flowing true new) link _ (told_the_time config count slirp i.flows new link past made ClosesRising few (subst (λ (s : SlirpState). AreTold s.known s.flows.flows.parts) (sym c.self.view_is) c.requires.told) ticks.0 ticks.1 allowed holds)))
@@ -24,7 +24,7 @@ returns-clause-makes g c config count link few =
 pub returns-clause-rising : goal.returns-clause-rising
 returns-clause-rising g c =
     let i = c.self.inside in
-    let slirp : SlirpState = record { config = i.policy; known = i.guests; sent = i.sent; pending = i.outgoing; moment = i.moment; number = i.number; associations = i.associations.list; parts = i.reasm; flows = i.flows; leases = i.leases.leases; forwards = i.forwards } in
+    let slirp : SlirpState = record { config = i.policy; known = i.guests; sent = i.sent; pending = i.outgoing; moment = i.moment; number = i.number; associations = i.associations.list; questions = i.questions.list; parts = i.reasm; flows = i.flows; leases = i.leases.leases; forwards = i.forwards } in
     subst (λ (s : SlirpState). Makes (g.W.World.tells c.args.world.now) (g.W.World.tells c.tick.new.world) (λ made. WhereItTicks s (ClosesRising made))) c.self.view_is
     (makes_as _ _ _ (λ made. WhereItTicks slirp (ClosesRising made)) c.tick.ensures.makes (λ made ticks config count link past few holds. told_rising config count slirp i.flows c.tick.new.self link past made few (subst (λ (s : SlirpState). AreTold s.known s.flows.flows.parts) (sym c.self.view_is) c.requires.told) ticks.0 ticks.1 holds))
 
@@ -36,4 +36,4 @@ returns-clause-ahead g c config before aged past holds n unowed =
 pub invariant_of-self : goal.invariant_of-self
 invariant_of-self g c =
     let i = c.self.inside in
-    (c.self.invariant.0, c.self.invariant.1, c.self.invariant.2, drawn_stay i.number i.flows c.tick.new.self c.tick.ensures.stays c.self.invariant.3, c.self.invariant.4, c.self.invariant.5)
+    (c.self.invariant.0, c.self.invariant.1, c.self.invariant.2, drawn_stay i.number i.flows c.tick.new.self c.tick.ensures.stays c.self.invariant.3, c.self.invariant.4, c.self.invariant.5, c.self.invariant.6)

@@ -17,7 +17,7 @@ use Rattle.slirp_core.proofs.network.Slirp.tick.Goals as goal
 pub returns-clause-makes : goal.returns-clause-makes
 returns-clause-makes g c config count link few =
     let i = c.self.inside in
-    let slirp : SlirpState = record { config = i.policy; known = i.guests; sent = i.sent; pending = i.outgoing; moment = i.moment; number = i.number; associations = i.associations.list; parts = i.reasm; flows = i.flows; leases = i.leases.leases; forwards = i.forwards } in
+    let slirp : SlirpState = record { config = i.policy; known = i.guests; sent = i.sent; pending = i.outgoing; moment = i.moment; number = i.number; associations = i.associations.list; questions = i.questions.list; parts = i.reasm; flows = i.flows; leases = i.leases.leases; forwards = i.forwards } in
     let begun = c.begin_turn.new.self in
     let mid = c.tell_flows.new.self in
     brings_then (brings_none (λ past holds.
@@ -34,7 +34,7 @@ returns-clause-makes g c config count link few =
 pub returns-clause-rising : goal.returns-clause-rising
 returns-clause-rising g c =
     let i = c.self.inside in
-    let slirp : SlirpState = record { config = i.policy; known = i.guests; sent = i.sent; pending = i.outgoing; moment = i.moment; number = i.number; associations = i.associations.list; parts = i.reasm; flows = i.flows; leases = i.leases.leases; forwards = i.forwards } in
+    let slirp : SlirpState = record { config = i.policy; known = i.guests; sent = i.sent; pending = i.outgoing; moment = i.moment; number = i.number; associations = i.associations.list; questions = i.questions.list; parts = i.reasm; flows = i.flows; leases = i.leases.leases; forwards = i.forwards } in
     let begun = c.begin_turn.new.self in
     subst (λ (s : SlirpState). Makes (g.W.World.tells c.args.world.now) (g.W.World.tells c.close_unused.new.world) (λ made. WhereItTicks s (ClosesByKind made))) c.self.view_is
     (makes_then _ _ _ (λ made. WhereItTicks c.tell_addresses.new.self (ClosesRising made)) ClosesRising (λ made. WhereItTicks slirp (ClosesByKind made)) c.tell_flows.ensures.rising c.close_unused.ensures.rising
@@ -53,7 +53,7 @@ returns-clause-rising g c =
 pub returns-clause-ahead : goal.returns-clause-ahead
 returns-clause-ahead g c config at aged link past holds n unowed =
     let i = c.self.inside in
-    let slirp : SlirpState = record { config = i.policy; known = i.guests; sent = i.sent; pending = i.outgoing; moment = i.moment; number = i.number; associations = i.associations.list; parts = i.reasm; flows = i.flows; leases = i.leases.leases; forwards = i.forwards } in
+    let slirp : SlirpState = record { config = i.policy; known = i.guests; sent = i.sent; pending = i.outgoing; moment = i.moment; number = i.number; associations = i.associations.list; questions = i.questions.list; parts = i.reasm; flows = i.flows; leases = i.leases.leases; forwards = i.forwards } in
     let begun : Kept = c.begin_turn.new.self in
     let same : begun.flows ≡ c.args.self.now.flows.flows = ap (λ (k : Kept). k.flows) c.begin_turn.ensures.turn ∙ ap (λ (s : SlirpState). s.flows.flows) c.self.view_is in
     let begins =

@@ -1,0 +1,353 @@
+-- The sockets of questions: which are open, and that they are no others'.
+use Rattle.std.proofs.Common.{◌≡◌, ℕ, ◌==◌, ◌&&◌, ◌||◌, ◌⊎◌, not, nat_lt, Bool, true, false, cond, List, [], ◌∷◌, ◌++◌, filter, find, is_some, Option, Some, None, option_map, if◌then◌else◌, inl, inr, refl, sym, ◌∙◌, ap, subst, arith}
+use Rattle.std.proofs.lemmas.Bool.Decides.{nat_tests}
+use Rattle.net_octets.specs.declared.Endpoint.{Endpoint}
+use Rattle.world_face.specs.Journal.{Entry, Accept, Close, Connect, Listen, UdpOpen, UdpRecv, UdpSend, call_of}
+use Rattle.world_face.specs.declared.Accepted.{Accepted}
+use Rattle.world_face.specs.declared.Accepted.TheVariants.{From as FromPeer, NotYet as NoPeer, Failed as AcceptFailed}
+use Rattle.world_face.specs.declared.Made.{Made}
+use Rattle.world_face.specs.declared.Made.TheVariants.{Done, Failed}
+use Rattle.world_face.specs.declared.Got.{Got}
+use Rattle.world_face.specs.declared.Got.TheVariants.{From, NotYet as GotNotYet, Failed as GotFailed}
+use Rattle.host_policy.specs.Addresses.{Config, address}
+use Rattle.host_policy.specs.Targets.{same_endpoint}
+use Rattle.udp_assoc.specs.Associations.{numbers, moved_last as association_moved}
+use Rattle.udp_assoc.specs.declared.assocs.Association.{Association}
+use Rattle.dns_relay.specs.Questions.{heard_at, is_numbered, is_of, moved_last, numbered, numbers as question_numbers, socket_of, without}
+use Rattle.dns_relay.specs.declared.Question.{Question}
+use Rattle.run_laws.specs.Moments.{moment, waits}
+use Rattle.run_laws.specs.Sockets.{Kind, Association as OfAssociation, DnsSocket, Flow as OfFlow, Forward as OfForward, Listener as OfListener, datagram_kind, is_among, is_association, kind_of, next_number, open_sockets, with_made}
+use Rattle.slirp_laws.specs.Datagrams.{Errand, asks_a_name}
+use Rattle.slirp_laws.specs.Errands.{errand_left}
+use Rattle.slirp_laws.specs.Laws.{Lawful, May, carries}
+use Rattle.slirp_laws.specs.Names.{datagram_kind_for, kind_for, question, questions, with_heard, with_opened, with_sent}
+use Rattle.slirp_laws.specs.Relayed.{associations}
+use Rattle.slirp_laws.proofs.Bools.{among_last, among_without, and_false, equal, first_of, or_second, same, second_of, turned}
+use Rattle.slirp_laws.proofs.Joining.{joined, waited_for}
+use Rattle.slirp_laws.proofs.OpenSockets.{next_is_new, peer_next}
+
+-- ---- their numbers
+
+or_assoc : (a b c : Bool) → (a || (b || c)) ≡ ((a || b) || c)
+or_assoc true b c = refl
+or_assoc false b c = refl
+
+or_swap : (a b : Bool) → (a || b) ≡ (b || a)
+or_swap true true = refl
+or_swap true false = refl
+or_swap false true = refl
+or_swap false false = refl
+
+or_none : (b : Bool) → (b || false) ≡ b
+or_none true = refl
+or_none false = refl
+
+none_first : (a b : Bool) → (a || b) ≡ false → a ≡ false
+none_first true b is = cc
+none_first false b is = refl
+
+none_second : (a b : Bool) → (a || b) ≡ false → b ≡ false
+none_second true b is = cc
+none_second false b is = is
+
+pub among_both : (n : ℕ) (xs ys : List ℕ) → is_among n (xs ++ ys) ≡ (is_among n xs || is_among n ys)
+among_both n [] ys = refl
+among_both n (x ∷ xs) ys = ap (λ b. (n == x) || b) (among_both n xs ys) ∙ or_assoc (n == x) (is_among n xs) (is_among n ys)
+
+pub numbers_last : (list : List Question) (q : Question) → question_numbers (list ++ (q ∷ [])) ≡ question_numbers list ++ (q.number ∷ [])
+numbers_last [] q = refl
+numbers_last (x ∷ list) q = ap (λ ns. x.number ∷ ns) (numbers_last list q)
+
+pub question_last : (n : ℕ) (list : List Question) (q : Question) → is_among n (question_numbers (list ++ (q ∷ []))) ≡ (is_among n (question_numbers list) || (n == q.number))
+question_last n list q = ap (is_among n) (numbers_last list q) ∙ among_last n q.number (question_numbers list)
+
+pub question_moved : (change : Question → Question) → ((q : Question) → (change q).number ≡ q.number) → (n m : ℕ) (list : List Question) → is_among n (question_numbers (moved_last change m list)) ≡ is_among n (question_numbers list)
+question_moved change keeps n m [] = refl
+question_moved change keeps n m (x ∷ list) = by (is_numbered m x) (question_moved change keeps n m list)
+  where
+    by : (t : Bool) → is_among n (question_numbers (moved_last change m list)) ≡ is_among n (question_numbers list)
+        → is_among n (question_numbers (cond t (list ++ (change x ∷ [])) (x ∷ moved_last change m list))) ≡ is_among n (question_numbers (x ∷ list))
+    by true rest = question_last n list (change x) ∙ ap (λ k. is_among n (question_numbers list) || (n == k)) (keeps x) ∙ or_swap (is_among n (question_numbers list)) (n == x.number)
+    by false rest = ap (λ b. (n == x.number) || b) rest
+
+numbers_without : (m : ℕ) (list : List Question) → question_numbers (without m list) ≡ filter (λ s. not (s == m)) (question_numbers list)
+numbers_without m [] = refl
+numbers_without m (x ∷ list) = by (x.number == m) (numbers_without m list)
+  where
+    by : (t : Bool) → question_numbers (without m list) ≡ filter (λ s. not (s == m)) (question_numbers list)
+        → question_numbers (cond (not t) (x ∷ without m list) (without m list)) ≡ cond (not t) (x.number ∷ filter (λ s. not (s == m)) (question_numbers list)) (filter (λ s. not (s == m)) (question_numbers list))
+    by true rest = rest
+    by false rest = ap (λ ns. x.number ∷ ns) rest
+
+pub question_without : (n m : ℕ) (list : List Question) → is_among n (question_numbers (without m list)) ≡ (not (n == m) && is_among n (question_numbers list))
+question_without n m list = ap (is_among n) (numbers_without m list) ∙ among_without n m (question_numbers list)
+
+-- one of no question: nothing is closed, none moves, and none has it
+pub none_without : (n : ℕ) (list : List Question) → is_among n (question_numbers list) ≡ false → without n list ≡ list
+none_without n [] none = refl
+none_without n (q ∷ list) none = by (q.number == n) (turned n q.number false (none_first (n == q.number) (is_among n (question_numbers list)) none)) (none_without n list (none_second (n == q.number) (is_among n (question_numbers list)) none))
+  where
+    by : (b : Bool) → b ≡ false → without n list ≡ list → (if not b then q ∷ without n list else without n list) ≡ q ∷ list
+    by true is rest = cc
+    by false is rest = ap (λ l. q ∷ l) rest
+
+pub none_moved : (change : Question → Question) (n : ℕ) (list : List Question) → is_among n (question_numbers list) ≡ false → moved_last change n list ≡ list
+none_moved change n [] none = refl
+none_moved change n (q ∷ list) none = by (q.number == n) (turned n q.number false (none_first (n == q.number) (is_among n (question_numbers list)) none)) (none_moved change n list (none_second (n == q.number) (is_among n (question_numbers list)) none))
+  where
+    by : (b : Bool) → b ≡ false → moved_last change n list ≡ list → (if b then list ++ (change q ∷ []) else q ∷ moved_last change n list) ≡ q ∷ list
+    by true is rest = cc
+    by false is rest = ap (λ l. q ∷ l) rest
+
+pub none_numbered : (n : ℕ) (list : List Question) → is_among n (question_numbers list) ≡ false → numbered n list ≡ None
+none_numbered n [] none = refl
+none_numbered n (q ∷ list) none = by (q.number == n) (turned n q.number false (none_first (n == q.number) (is_among n (question_numbers list)) none)) (none_numbered n list (none_second (n == q.number) (is_among n (question_numbers list)) none))
+  where
+    by : (b : Bool) → b ≡ false → numbered n list ≡ None → (if b then Some q else numbered n list) ≡ None
+    by true is rest = cc
+    by false is rest = rest
+
+pub one_numbered : (n : ℕ) (list : List Question) (q : Question) → numbered n list ≡ Some q → (q.number ≡ n) × (is_among n (question_numbers list) ≡ true)
+one_numbered n [] q is = cc
+one_numbered n (x ∷ list) q is = by (x.number == n) refl is (λ more. one_numbered n list q more)
+  where
+    by : (b : Bool) → (x.number == n) ≡ b → (if b then Some x else numbered n list) ≡ Some q → (numbered n list ≡ Some q → (q.number ≡ n) × (is_among n (question_numbers list) ≡ true))
+        → (q.number ≡ n) × (((n == x.number) || is_among n (question_numbers list)) ≡ true)
+    by true this is more = let it : x ≡ q = cc in (sym (ap (λ (y : Question). y.number) it) ∙ equal x.number n this, ap (λ b. b || is_among n (question_numbers list)) (turned x.number n true this))
+    by false other is more = let rest = more is in (rest.0, or_second (n == x.number) (is_among n (question_numbers list)) rest.1)
+
+pub numbered_is : (n : ℕ) (list : List Question) → is_some (numbered n list) ≡ is_among n (question_numbers list)
+numbered_is n [] = refl
+numbered_is n (x ∷ list) = by (x.number == n) refl (numbered_is n list)
+  where
+    by : (b : Bool) → (x.number == n) ≡ b → is_some (numbered n list) ≡ is_among n (question_numbers list) → is_some (if b then Some x else numbered n list) ≡ ((n == x.number) || is_among n (question_numbers list))
+    by true this rest = sym (ap (λ b. b || is_among n (question_numbers list)) (turned x.number n true this))
+    by false other rest = rest ∙ sym (ap (λ b. b || is_among n (question_numbers list)) (turned x.number n false other))
+
+-- the socket of the same question is one of theirs
+pub socket_among : (guest : Endpoint) (ident : ℕ) (list : List Question) (n : ℕ) → socket_of guest ident list ≡ Some n → is_among n (question_numbers list) ≡ true
+socket_among guest ident [] n is = cc
+socket_among guest ident (x ∷ list) n is = by (is_of guest ident x) (λ more. socket_among guest ident list n more) is
+  where
+    by : (t : Bool) → (socket_of guest ident list ≡ Some n → is_among n (question_numbers list) ≡ true) → option_map (λ (q : Question). q.number) (cond t (Some x) (find (is_of guest ident) list)) ≡ Some n
+        → ((n == x.number) || is_among n (question_numbers list)) ≡ true
+    by true more is = let this : x.number ≡ n = cc in ap (λ b. b || is_among n (question_numbers list)) (subst (λ m. (n == m) ≡ true) (sym this) (same n))
+    by false more is = or_second (n == x.number) (is_among n (question_numbers list)) (more is)
+
+-- an association's: none moves
+pub association_unmoved : (change : Association → Association) (n : ℕ) (list : List Association) → is_among n (numbers list) ≡ false → association_moved change n list ≡ list
+association_unmoved change n [] none = refl
+association_unmoved change n (a ∷ list) none = by (a.number == n) (turned n a.number false (none_first (n == a.number) (is_among n (numbers list)) none)) (association_unmoved change n list (none_second (n == a.number) (is_among n (numbers list)) none))
+  where
+    by : (b : Bool) → b ≡ false → association_moved change n list ≡ list → (if b then list ++ (change a ∷ []) else a ∷ association_moved change n list) ≡ a ∷ list
+    by true is rest = cc
+    by false is rest = ap (λ l. a ∷ l) rest
+
+-- ---- the kind of a socket
+
+abbrev pub is_name : Option Kind → Bool
+is_name (Some DnsSocket) = true
+is_name _ = false
+
+-- it is that of its entry, which is no question's; or a question's, and its entry makes it an association's
+abbrev pub IsKnown : Config → ℕ → List Entry → Type 0
+IsKnown config n past = ((kind_for config n past ≡ kind_of n past) × (is_name (kind_of n past) ≡ false)) ⊎ ((kind_for config n past ≡ Some DnsSocket) × (kind_of n past ≡ Some OfAssociation))
+
+by_other : (b : Bool) (k : Kind) (before now : Option Kind) → is_name (Some k) ≡ false → ((before ≡ now) × (is_name now ≡ false)) ⊎ ((before ≡ Some DnsSocket) × (now ≡ Some OfAssociation))
+    → (((if b then Some k else before) ≡ (if b then Some k else now)) × (is_name (if b then Some k else now) ≡ false)) ⊎ (((if b then Some k else before) ≡ Some DnsSocket) × ((if b then Some k else now) ≡ Some OfAssociation))
+by_other true k before now none was = inl (refl, none)
+by_other false k before now none was = was
+
+known_kind : (waited : Bool) → is_name (Some (datagram_kind waited)) ≡ false
+known_kind true = refl
+known_kind false = refl
+
+pub known_of : (config : Config) (past : List Entry) → Lawful config past → (n : ℕ) → IsKnown config n past
+known_of config [] lawful n = inl (refl, refl)
+known_of config (Connect socket to answer ∷ past) lawful n = by_other (socket == n) OfFlow (kind_for config n past) (kind_of n past) refl (known_of config past lawful.1 n)
+known_of config (Listen socket at answer ∷ past) lawful n = by_other (socket == n) OfListener (kind_for config n past) (kind_of n past) refl (known_of config past lawful.1 n)
+known_of config (Accept listener socket answer ∷ past) lawful n = by_other (socket == n) OfFlow (kind_for config n past) (kind_of n past) refl (known_of config past lawful.1 n)
+known_of config (UdpOpen socket at answer ∷ past) lawful n = by (errand_left config past) refl (known_of config past lawful.1 n)
+  where
+    abbrev w : Bool
+    w = nat_lt 0 (waits past)
+
+    abbrev Then : Option Errand → Type 0
+    Then o = (((if socket == n then Some (datagram_kind_for config w o) else kind_for config n past) ≡ (if socket == n then Some (datagram_kind w) else kind_of n past)) × (is_name (if socket == n then Some (datagram_kind w) else kind_of n past) ≡ false))
+        ⊎ (((if socket == n then Some (datagram_kind_for config w o) else kind_for config n past) ≡ Some DnsSocket) × ((if socket == n then Some (datagram_kind w) else kind_of n past) ≡ Some OfAssociation))
+
+    asking : (b : Bool) (waited : nat_lt 0 (waits past) ≡ true) (hit : Bool) → IsKnown config n past
+        → (((if hit then Some (if b then DnsSocket else datagram_kind w) else kind_for config n past) ≡ (if hit then Some (datagram_kind w) else kind_of n past)) × (is_name (if hit then Some (datagram_kind w) else kind_of n past) ≡ false))
+        ⊎ (((if hit then Some (if b then DnsSocket else datagram_kind w) else kind_for config n past) ≡ Some DnsSocket) × ((if hit then Some (datagram_kind w) else kind_of n past) ≡ Some OfAssociation))
+    asking true waited true was = inr (refl, ap (λ (v : Bool). Some (datagram_kind v)) waited)
+    asking false waited true was = inl (refl, known_kind w)
+    asking b waited false was = was
+
+    by : (o : Option Errand) → errand_left config past ≡ o → IsKnown config n past → Then o
+    by None is was = by_other (socket == n) (datagram_kind w) (kind_for config n past) (kind_of n past) (known_kind w) was
+    by (Some errand) is was = asking (asks_a_name config errand) (waited_for config past errand is lawful.1) (socket == n) was
+known_of config (_ ∷ past) lawful n = known_of config past lawful.1 n
+
+-- ---- which are open
+
+fresh_other : (answer : Made) (n socket : ℕ) (sockets : List ℕ) (k kind : Option Kind) → is_among socket sockets ≡ false → is_name k ≡ false
+    → (is_among n (with_made answer socket sockets) && is_name (if socket == n then k else kind)) ≡ (is_among n sockets && is_name kind)
+fresh_other answer n socket sockets k kind new other = by answer (socket == n) refl
+  where
+    by : (answer : Made) (t : Bool) → (socket == n) ≡ t → (is_among n (with_made answer socket sockets) && is_name (if t then k else kind)) ≡ (is_among n sockets && is_name kind)
+    by answer true this =
+        let shut : is_among n sockets ≡ false = subst (λ m. is_among m sockets ≡ false) (equal socket n this) new in
+        ap (λ b. is_among n (with_made answer socket sockets) && b) other ∙ and_false (is_among n (with_made answer socket sockets)) ∙ sym (ap (λ b. b && is_name kind) shut)
+    by Done false this = ap (λ b. b && is_name kind) (among_last n socket sockets ∙ ap (λ b. is_among n sockets || b) (turned socket n false this) ∙ or_none (is_among n sockets))
+    by Failed false this = refl
+
+fresh_failed : (n socket : ℕ) (sockets : List ℕ) (k kind : Option Kind) → is_among socket sockets ≡ false
+    → (is_among n sockets && is_name (if socket == n then k else kind)) ≡ (is_among n sockets && is_name kind)
+fresh_failed n socket sockets k kind new = by (socket == n) refl
+  where
+    by : (t : Bool) → (socket == n) ≡ t → (is_among n sockets && is_name (if t then k else kind)) ≡ (is_among n sockets && is_name kind)
+    by true this =
+        let shut : is_among n sockets ≡ false = subst (λ m. is_among m sockets ≡ false) (equal socket n this) new in
+        ap (λ b. b && is_name k) shut ∙ sym (ap (λ b. b && is_name kind) shut)
+    by false this = refl
+
+fresh_one : (n socket : ℕ) (sockets : List ℕ) (kind : Option Kind) → (is_among n (sockets ++ (socket ∷ [])) && is_name (if socket == n then Some DnsSocket else kind)) ≡ ((is_among n sockets && is_name kind) || (n == socket))
+fresh_one n socket sockets kind = by (socket == n) refl
+  where
+    all : (a b : Bool) → b ≡ true → ((a || b) && true) ≡ true
+    all true b two = refl
+    all false b two = ap (λ b. b && true) two
+
+    none : (a b c : Bool) → b ≡ false → ((a || b) && c) ≡ ((a && c) || b)
+    none true true c two = cc
+    none false true true two = refl
+    none false true false two = cc
+    none true false true two = refl
+    none true false false two = refl
+    none false false c two = refl
+
+    by : (t : Bool) → (socket == n) ≡ t → (is_among n (sockets ++ (socket ∷ [])) && is_name (if t then Some DnsSocket else kind)) ≡ ((is_among n sockets && is_name kind) || (n == socket))
+    by true this =
+        ap (λ b. b && true) (among_last n socket sockets) ∙ all (is_among n sockets) (n == socket) (turned socket n true this)
+        ∙ sym (or_second (is_among n sockets && is_name kind) (n == socket) (turned socket n true this))
+    by false this = ap (λ b. b && is_name kind) (among_last n socket sockets) ∙ none (is_among n sockets) (n == socket) (is_name kind) (turned socket n false this)
+
+abbrev AreListed : Config → List Entry → Type 0
+AreListed config past = (n : ℕ) → (is_among n (open_sockets past) && is_name (kind_for config n past)) ≡ is_among n (question_numbers (questions config past))
+
+and_assoc : (a b c : Bool) → ((a && b) && c) ≡ (a && (b && c))
+and_assoc true b c = refl
+and_assoc false b c = refl
+
+listed_open : (config : Config) (past : List Entry) (socket : ℕ) (at : Endpoint) (answer : Made) → is_among socket (open_sockets past) ≡ false → AreListed config past → AreListed config (UdpOpen socket at answer ∷ past)
+listed_open config past socket at Failed new before n = fresh_failed n socket (open_sockets past) (Some (datagram_kind_for config (nat_lt 0 (waits past)) (errand_left config past))) (kind_for config n past) new ∙ before n
+listed_open config past socket at Done new before n = by (errand_left config past)
+  where
+    asking : (errand : Errand) (b : Bool)
+        → (is_among n (open_sockets past ++ (socket ∷ [])) && is_name (if socket == n then Some (if b then DnsSocket else datagram_kind (nat_lt 0 (waits past))) else kind_for config n past))
+        ≡ is_among n (question_numbers (if b then questions config past ++ (question socket errand (moment past) ∷ []) else questions config past))
+    asking errand true = fresh_one n socket (open_sockets past) (kind_for config n past) ∙ ap (λ b. b || (n == socket)) (before n) ∙ sym (question_last n (questions config past) (question socket errand (moment past)))
+    asking errand false = fresh_other Done n socket (open_sockets past) (Some (datagram_kind (nat_lt 0 (waits past)))) (kind_for config n past) new (known_kind (nat_lt 0 (waits past))) ∙ before n
+
+    by : (o : Option Errand) → (is_among n (open_sockets past ++ (socket ∷ [])) && is_name (if socket == n then Some (datagram_kind_for config (nat_lt 0 (waits past)) o) else kind_for config n past))
+        ≡ is_among n (question_numbers (with_opened config Done socket (moment past) o (questions config past)))
+    by None = fresh_other Done n socket (open_sockets past) (Some (datagram_kind (nat_lt 0 (waits past)))) (kind_for config n past) new (known_kind (nat_lt 0 (waits past))) ∙ before n
+    by (Some errand) = asking errand (asks_a_name config errand)
+
+listed_peer : (config : Config) (past : List Entry) (listener socket : ℕ) (answer : Accepted) → is_among socket (open_sockets past) ≡ false → AreListed config past → AreListed config (Accept listener socket answer ∷ past)
+listed_peer config past listener socket (FromPeer peer) new before n = fresh_other Done n socket (open_sockets past) (Some OfFlow) (kind_for config n past) new refl ∙ before n
+listed_peer config past listener socket NoPeer new before n = fresh_other Failed n socket (open_sockets past) (Some OfFlow) (kind_for config n past) new refl ∙ before n
+listed_peer config past listener socket AcceptFailed new before n = fresh_other Failed n socket (open_sockets past) (Some OfFlow) (kind_for config n past) new refl ∙ before n
+
+pub listed : (config : Config) (past : List Entry) → Lawful config past → AreListed config past
+listed config [] lawful n = refl
+listed config (e ∷ past) lawful = by e lawful.0 (listed config past lawful.1)
+  where
+    new : (socket : ℕ) → (socket == next_number past) ≡ true → is_among socket (open_sockets past) ≡ false
+    new socket is = ap (λ n. is_among n (open_sockets past)) (equal socket (next_number past) is) ∙ next_is_new config past lawful.1
+
+    sent : (socket : ℕ) (o : Option Errand) (n : ℕ) → is_among n (question_numbers (with_sent socket (moment past) o (questions config past))) ≡ is_among n (question_numbers (questions config past))
+    sent socket None n = refl
+    sent socket (Some errand) n = question_moved _ (λ q. refl) n socket (questions config past)
+
+    heard : (answer : Got) (socket n : ℕ) → is_among n (question_numbers (with_heard answer socket (moment past) (questions config past))) ≡ is_among n (question_numbers (questions config past))
+    heard (From peer count) socket n = question_moved (heard_at (moment past)) (λ q. refl) n socket (questions config past)
+    heard GotNotYet socket n = refl
+    heard GotFailed socket n = refl
+
+    by : (e : Entry) → May config past (call_of e) → AreListed config past → AreListed config (e ∷ past)
+    by (Connect socket to answer) may before n = fresh_other answer n socket (open_sockets past) (Some OfFlow) (kind_for config n past) (new socket may.socket) refl ∙ before n
+    by (Listen socket at answer) may before n = fresh_other answer n socket (open_sockets past) (Some OfListener) (kind_for config n past) (new socket may.socket) refl ∙ before n
+    by (Accept listener socket answer) may before n = listed_peer config past listener socket answer (new socket (peer_next config past listener socket answer may)) before n
+    by (UdpOpen socket at answer) may before n = listed_open config past socket at answer (new socket may.socket) before n
+    by (UdpSend socket to octets answer) may before n = before n ∙ sym (sent socket (errand_left config past) n)
+    by (UdpRecv socket asked answer octets) may before n = before n ∙ sym (heard answer socket n)
+    by (Close socket) may before n =
+        ap (λ b. b && is_name (kind_for config n past)) (among_without n socket (open_sockets past)) ∙ and_assoc (not (n == socket)) (is_among n (open_sockets past)) (is_name (kind_for config n past))
+        ∙ ap (λ b. not (n == socket) && b) (before n) ∙ sym (question_without n socket (questions config past))
+    by _ may before n = before n
+
+-- ---- the sockets that carry datagrams
+
+pub carried : (config : Config) (past : List Entry) → Lawful config past → (n : ℕ) → carries past n ≡ is_among n (numbers (associations config past) ++ question_numbers (questions config past))
+carried config past lawful n =
+    by (is_among n (open_sockets past)) (known_of config past lawful n) ∙ (λ i. (joined config past lawful).those n i || listed config past lawful n i)
+    ∙ sym (among_both n (numbers (associations config past)) (question_numbers (questions config past)))
+  where
+    same_kind : (k : Option Kind) → is_name k ≡ false → is_association k ≡ (is_association k || is_name k)
+    same_kind k none = sym (ap (λ b. is_association k || b) none ∙ or_none (is_association k))
+
+    by : (b : Bool) → IsKnown config n past → (b && is_association (kind_of n past)) ≡ ((b && is_association (kind_for config n past)) || (b && is_name (kind_for config n past)))
+    by false known = refl
+    by true (inl (is, none)) = same_kind (kind_of n past) none ∙ ap (λ k. is_association k || is_name k) (sym is)
+    by true (inr (is, was)) = ap is_association was ∙ sym (ap (λ k. is_association k || is_name k) is)
+
+-- none is an association's and a question's
+pub two_apart : (config : Config) (past : List Entry) → Lawful config past → (n : ℕ) → is_among n (numbers (associations config past)) ≡ true → is_among n (question_numbers (questions config past)) ≡ false
+two_apart config past lawful n among =
+    sym (listed config past lawful n) ∙ by (is_among n (open_sockets past)) (kind_for config n past) ((joined config past lawful).those n ∙ among)
+  where
+    by : (b : Bool) (k : Option Kind) → (b && is_association k) ≡ true → (b && is_name k) ≡ false
+    by true None is = cc
+    by true (Some OfAssociation) is = refl
+    by true (Some DnsSocket) is = cc
+    by true (Some OfForward) is = refl
+    by true (Some OfListener) is = refl
+    by true (Some OfFlow) is = refl
+    by false k is = refl
+
+pub named_apart : (config : Config) (past : List Entry) → Lawful config past → (n : ℕ) → is_among n (question_numbers (questions config past)) ≡ true → is_among n (numbers (associations config past)) ≡ false
+named_apart config past lawful n among = by (is_among n (numbers (associations config past))) refl
+  where
+    by : (b : Bool) → is_among n (numbers (associations config past)) ≡ b → b ≡ false
+    by true is = let never : true ≡ false = sym among ∙ two_apart config past lawful n is in never
+    by false is = refl
+
+-- the kind of an association's, and of a question's
+pub kind_carried : (config : Config) (past : List Entry) → Lawful config past → (n : ℕ) → is_among n (numbers (associations config past)) ≡ true → kind_for config n past ≡ Some OfAssociation
+kind_carried config past lawful n among = by (kind_for config n past) (second_of (is_among n (open_sockets past)) (is_association (kind_for config n past)) ((joined config past lawful).those n ∙ among))
+  where
+    by : (k : Option Kind) → is_association k ≡ true → k ≡ Some OfAssociation
+    by None is = cc
+    by (Some OfAssociation) is = refl
+    by (Some DnsSocket) is = cc
+    by (Some OfForward) is = cc
+    by (Some OfListener) is = cc
+    by (Some OfFlow) is = cc
+
+pub kind_named : (config : Config) (past : List Entry) → Lawful config past → (n : ℕ) → is_among n (question_numbers (questions config past)) ≡ true → kind_for config n past ≡ Some DnsSocket
+kind_named config past lawful n among = by (kind_for config n past) (second_of (is_among n (open_sockets past)) (is_name (kind_for config n past)) (listed config past lawful n ∙ among))
+  where
+    by : (k : Option Kind) → is_name k ≡ true → k ≡ Some DnsSocket
+    by None is = cc
+    by (Some OfAssociation) is = cc
+    by (Some DnsSocket) is = refl
+    by (Some OfForward) is = cc
+    by (Some OfListener) is = cc
+    by (Some OfFlow) is = cc
+
+-- one that isn't carried is of neither
+pub neither : (config : Config) (past : List Entry) → Lawful config past → (n : ℕ) → carries past n ≡ false → (is_among n (numbers (associations config past)) ≡ false) × (is_among n (question_numbers (questions config past)) ≡ false)
+neither config past lawful n none =
+    let is = sym (among_both n (numbers (associations config past)) (question_numbers (questions config past))) ∙ sym (carried config past lawful n) ∙ none in
+    (none_first (is_among n (numbers (associations config past))) (is_among n (question_numbers (questions config past))) is, none_second (is_among n (numbers (associations config past))) (is_among n (question_numbers (questions config past))) is)
