@@ -17,7 +17,7 @@ use Rattle.stream_netdev.proofs.Reading.{reads_first}
 use Rattle.tcp_flows.specs.Kept.{IsFor, Kept}
 use Rattle.port_forward.specs.Opened.{Opened}
 use Rattle.slirp_core.specs.Forwards.{forward_sockets}
-use Rattle.slirp_core.specs.Holds.{AfterListening, after, flowing, Begins, ClosesAll, ClosingWith, Opens, Stands, Turns}
+use Rattle.slirp_core.specs.Holds.{AfterListening, after, flowing, Begins, ClosesAll, ClosingWith, Opens, Stands, Turns, Holders, holders_of}
 use Rattle.slirp_core.specs.Numbers.{flows_for}
 use Rattle.slirp_core.specs.State.{SlirpState}
 use Rattle.slirp_core.proofs.Starting.{IsUnbegun, begun, ran as ran_by, spent as spent_by}
@@ -34,7 +34,6 @@ flows_fit config = record { ring = refl; mtu = refl; mru = refl; congestion = re
 unbegun : (service : ServiceState) → IsNew service → IsUnbegun service.slirp.config service.slirp service.link
 unbegun service new = record {
   forwards = new.forwards;
-  connections = new.connections;
   settings = refl;
   flows = record { flows = ap (λ (k : Kept). k.flows) new.flows; settings = subst (IsFor service.slirp.config) (sym new.flows) (flows_fit service.slirp.config); unit = new.unit };
   known = new.known;
@@ -43,10 +42,9 @@ unbegun service new = record {
   moment = new.moment;
   number = new.number;
   associations = new.associations;
+  questions = new.questions;
   parts = new.parts;
   leases = new.leases;
-  unresolved = new.unresolved;
-  unbound = new.unbound;
   input = new.input;
   output = new.output;
   free = new.free;
@@ -58,9 +56,9 @@ opens service new = begun service.slirp.config service.slirp service.link (unbeg
 
 -- the host refused a forward
 pub refused : (config : Config) (place : ℕ) (slirp : SlirpState) (link : LinkState) (made : List Entry) → AfterListening (Some place) config slirp link made
-    → Closes config (ListenRefused place) slirp.forwards slirp.associations slirp.flows.flows.parts made
+    → Closes config (ListenRefused place) slirp.forwards (holders_of slirp) made
 refused config place slirp link made closing = record {
-  closing = subst (λ p. ClosingWith config p (forward_sockets slirp.forwards) slirp.associations slirp.flows.flows.parts made) closing.is closing;
+  closing = subst (λ p. ClosingWith config p (forward_sockets slirp.forwards) (holders_of slirp) made) closing.is closing;
   is = ap (end_of config) closing.is;
 }
 
@@ -68,13 +66,13 @@ pub reads_new : (service : ServiceState) → IsNew service → ReadsOn (under_wa
 reads_new service new = subst ReadsOn (sym new.input) reads_first
 
 -- a run that an entry ended
-pub ran : (config : Config) (end : End) (forwards : List Opened) (associations : List Association) (parts : List (Option Splice)) (made : List Entry) → EndedAs config end forwards associations parts made
-    → Closes config end forwards associations parts made
-ran config end forwards associations parts made ended = record { closing = ran_by config ended.why forwards associations parts made ended.ended; is = ended.is ∙ sym (ap (end_of config) ended.ended.over) }
+pub ran : (config : Config) (end : End) (forwards : List Opened) (o : Holders) (made : List Entry) → EndedAs config end forwards o made
+    → Closes config end forwards o made
+ran config end forwards o made ended = record { closing = ran_by config ended.why forwards o made ended.ended; is = ended.is ∙ sym (ap (end_of config) ended.ended.over) }
 
 -- after as many waits as there may be
 pub spent : (config : Config) (count turns : ℕ) (service : ServiceState) (made : List Entry) → 1 ≤ config.turns → config.turns ≤ count → turns ≡ config.turns → HoldsNow config (after count) false service.slirp service.link made
-    → Closes config (TurnsSpent turns) service.slirp.forwards service.slirp.associations service.slirp.flows.flows.parts made
+    → Closes config (TurnsSpent turns) service.slirp.forwards (holders_of service.slirp) made
 spent config count turns service made some all is holds = record {
   closing = spent_by config count service.slirp (flowing false service.slirp.flows) service.link made some all holds;
   is = ap TurnsSpent is ∙ so holds.stands;
@@ -85,14 +83,14 @@ spent config count turns service made some all is holds = record {
     so (Begins first free unrested) = sym (ap (end_of config) first.started)
 
 -- all its sockets were closed then
-pub ran_to : (config : Config) (end : End) (forwards : List Opened) (associations : List Association) (parts : List (Option Splice)) (more past : List Entry) → Closes config end forwards associations parts past
-    → ClosesAll forwards associations parts more → RanTo config end (more ++ past)
-ran_to config end forwards associations parts more past closes all =
+pub ran_to : (config : Config) (end : End) (forwards : List Opened) (o : Holders) (more past : List Entry) → Closes config end forwards o past
+    → ClosesAll forwards o more → RanTo config end (more ++ past)
+ran_to config end forwards o more past closes all =
     let over = all config (phase config past) past closes.closing in (over.0, over.1, closes.is ∙ ap (end_of config) over.2)
 
-pub finishes : (config : Config) (end : End) (forwards : List Opened) (associations : List Association) (parts : List (Option Splice)) (a b c : Telling) → Makes a b (Closes config end forwards associations parts)
-    → Makes b c (ClosesAll forwards associations parts) → Makes a c (RanTo config end)
-finishes config end forwards associations parts a b c ran closed = makes_then a b c _ _ (RanTo config end) ran closed (λ made more closes all. ran_to config end forwards associations parts more made closes all)
+pub finishes : (config : Config) (end : End) (forwards : List Opened) (o : Holders) (a b c : Telling) → Makes a b (Closes config end forwards o)
+    → Makes b c (ClosesAll forwards o) → Makes a c (RanTo config end)
+finishes config end forwards o a b c ran closed = makes_then a b c _ _ (RanTo config end) ran closed (λ made more closes all. ran_to config end forwards o more made closes all)
 
 pub told : (config : Config) (end : End) (old new : Telling) → Makes old new (RanTo config end) → Served config old new
 told config end old new makes = served config old new (makes_as old new (RanTo config end) (λ made. Lawful config made × Finished config made) makes (λ made run. (run.0, run.1)))

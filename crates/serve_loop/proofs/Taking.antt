@@ -20,7 +20,7 @@ use Rattle.stream_netdev.specs.State.{LinkState}
 use Rattle.stream_netdev.specs.declared.Arrived.{Arrived}
 use Rattle.tcp_flows.specs.Kept.{Kept}
 use Rattle.slirp_core.specs.Fragments.{IsHeld, after_frame}
-use Rattle.slirp_core.specs.Holds.{asked_by, standing, flowing, Comes, Ended, HoldsAt}
+use Rattle.slirp_core.specs.Holds.{asked_by, standing, flowing, Comes, Ended, HoldsAt, holders_of}
 use Rattle.slirp_core.specs.Packets.{errand_for_udp, udp_in, with_ether, with_frame}
 use Rattle.slirp_core.specs.Segments.{Coming, coming, coming_by, segment_in}
 use Rattle.slirp_core.specs.State.{SlirpState, serving_of}
@@ -79,8 +79,9 @@ module _ (config : Config) (count : ℕ) (wants : List Want) (item : Want) (item
     same_flows : slirp.flows ≡ done.flows
     same_flows = sym (ap (λ (s : SlirpState). s.flows) (is holds.guests.fragments.held holds.guests.fragments.is_held))
 
-    same_associations : slirp.associations ≡ done.associations
-    same_associations = sym (ap (λ (s : SlirpState). s.associations) (is holds.guests.fragments.held holds.guests.fragments.is_held))
+    -- what is asked for by the lists is what was before
+    same_asks : (o : Option Errand) → asked_by config slirp o ≡ asked_by config done o
+    same_asks o = sym (ap (λ (s : SlirpState). asked_by config s o) (is holds.guests.fragments.held holds.guests.fragments.is_held))
 
     kept : KeepsParts config slirp done (hands answer new)
     kept = subst (λ o. KeepsParts config slirp done o) (sym came)
@@ -104,7 +105,7 @@ module _ (config : Config) (count : ℕ) (wants : List Want) (item : Want) (item
     -- no segment, and what it asks for is still to be done
     pub taken_in : (errand : Option Errand) → ((held : List PartSet) → IsHeld slirp.parts held → errand ≡ errand_for_udp slirp.config (udp_in slirp.config slirp.moment (young slirp.moment held) frame))
         → ((held : List PartSet) → IsHeld slirp.parts held → None ≡ segment_in slirp.config slirp.moment (young slirp.moment held) frame)
-        → HoldsAt config (standing count wants items) (asked_by config done.associations errand) done (flowing false done.flows) new (made ++ past)
+        → HoldsAt config (standing count wants items) (asked_by config done errand) done (flowing false done.flows) new (made ++ past)
     taken_in errand sends none =
         let packet = packet_of config slirp.moment (waiting config past) (hands answer new) in
         let strays : coming_by packet ≡ None =
@@ -112,9 +113,9 @@ module _ (config : Config) (count : ℕ) (wants : List Want) (item : Want) (item
         let asks : errand_by_packet config packet ≡ errand =
         ap (errand_by_packet config) packet_is ∙ sends_same config slirp.moment (waiting config past) frame ∙ sym (of_packet (λ k n w f. errand_for_udp k (udp_in k n w f)) frame errand sends) in
         let h = read_on config count wants item items reads_it slirp slirp.flows old new answer no_packet out made past allowed read holds done goes_on kept (no_segment packet strays) done_is in
-        subst (λ (k : Kept). HoldsAt config (standing count wants items) (asked_by config done.associations errand) done (flowing false k) new (made ++ past)) same_flows
+        subst (λ (k : Kept). HoldsAt config (standing count wants items) (asked_by config done errand) done (flowing false k) new (made ++ past)) same_flows
         (subst (λ (t : Step). HoldsAt config (standing count wants items) t done (flowing false slirp.flows) new (made ++ past))
-        (ap (asked_by config slirp.associations) asks ∙ ap (λ l. asked_by config l errand) same_associations) h)
+        (ap (asked_by config slirp) asks ∙ same_asks errand) h)
 
     -- a segment, which is still to be heard
     pub segment_came : (c : Coming) → ((held : List PartSet) → IsHeld slirp.parts held → Some c ≡ segment_in slirp.config slirp.moment (young slirp.moment held) frame)
@@ -137,8 +138,8 @@ module _ (config : Config) (count : ℕ) (wants : List Want) (item : Want) (item
       (subst (λ o. KeepsParts config slirp slirp o) (sym none) refl) (ap segment_by packet_is)
       (ap (λ (p : List (List ℕ)). record slirp { pending = p }) no_packet
       ∙ sym (ap (λ o. after_packet config slirp (packet_of config slirp.moment at o) o slirp.parts) none)) in
-      subst (λ (t : Step). HoldsAt config (standing count wants items) t slirp (flowing false slirp.flows) new (made ++ past)) (ap (λ p. asked_by config slirp.associations (errand_by_packet config p)) packet_is) h
+      subst (λ (t : Step). HoldsAt config (standing count wants items) t slirp (flowing false slirp.flows) new (made ++ past)) (ap (λ p. asked_by config slirp (errand_by_packet config p)) packet_is) h
 
   -- the run has ended
-  pub read_ended : (why : Ending) → ending_of answer ≡ Some why → hands answer new ≡ None → Ended config why slirp.forwards slirp.associations slirp.flows.flows.parts (made ++ past)
+  pub read_ended : (why : Ending) → ending_of answer ≡ Some why → hands answer new ≡ None → Ended config why slirp.forwards (holders_of slirp) (made ++ past)
   read_ended why is none = read_ends_it config count wants item items reads_it slirp slirp.flows old new answer no_packet out made past allowed read holds why is none

@@ -13,7 +13,7 @@ use Rattle.udp_assoc.specs.declared.assocs.Association.{Association}
 use Rattle.flow_splice.specs.Splice.{Splice}
 use Rattle.slirp_laws.specs.Agenda.{agenda, is_to_read, wanted_of}
 use Rattle.stream_netdev.specs.State.{LinkState, under_way}
-use Rattle.slirp_core.specs.Holds.{Standing, after, standing, flowing, Ended, AfterPump}
+use Rattle.slirp_core.specs.Holds.{Standing, after, standing, flowing, Ended, AfterPump, Holders, holders_of}
 use Rattle.slirp_core.specs.Pumps.{is_settled}
 use Rattle.slirp_core.specs.State.{SlirpState}
 use Rattle.slirp_core.specs.declared.sending.Pumped.{Pumped}
@@ -50,16 +50,16 @@ settled slirp link is =
     (none_at link.tail both.0, none slirp.pending (not_true (nat_lt 0 (length slirp.pending)) both.1))
 
 -- the run has ended
-pub ended_as : (config : Config) (why : Ending) (forwards : List Opened) (associations : List Association) (parts : List (Option Splice)) (past : List Entry) → Ended config why forwards associations parts past
-    → EndedAs config (end_by why) forwards associations parts past
-ended_as config why forwards associations parts past ended = record { why = why; ended = ended; is = refl }
+pub ended_as : (config : Config) (why : Ending) (forwards : List Opened) (o : Holders) (past : List Entry) → Ended config why forwards o past
+    → EndedAs config (end_by why) forwards o past
+ended_as config why forwards o past ended = record { why = why; ended = ended; is = refl }
 
 -- a pump is a part of a turn
 pub pumped : (answer : Pumped) (config : Config) (at : Standing) (aged : Bool) (slirp : SlirpState) (link : LinkState) (past : List Entry) → AfterPump answer config at slirp (flowing aged slirp.flows) link past
     → AfterTurn (turn_of answer) config at aged slirp link past
 pumped Clear config at aged slirp link past holds = holds
 pumped Blocked config at aged slirp link past holds = holds
-pumped PumpFailed config at aged slirp link past ended = ended_as config LinkFailed slirp.forwards slirp.associations slirp.flows.flows.parts past ended
+pumped PumpFailed config at aged slirp link past ended = ended_as config LinkFailed slirp.forwards (holders_of slirp) past ended
 
 -- the same octets are under way
 pub same_under_way : (old new : LinkState) → new.octets ≡ old.octets → new.whole ≡ old.whole → under_way new ≡ under_way old

@@ -5,7 +5,6 @@ use Rattle.dhcp_server.specs.declared.leases.Lease.TheVariants.{Free}
 use Rattle.poll_list.specs.declared.Want.{Want}
 use Rattle.stream_netdev.specs.State.{LinkState, under_way}
 use Rattle.host_policy.specs.Ranges.{IsSound}
-use Rattle.slirp_core.specs.Forwards.{AreForConnections}
 use Rattle.slirp_core.specs.Numbers.{flows_for}
 use Rattle.slirp_core.specs.State.{SlirpState}
 
@@ -16,20 +15,16 @@ pub record ServiceState : Type 0 where
   pub wants : List Want
   pub ready : List Want
 
--- No part is asked for that isn't built: ports of the host are given to guests for connections alone, and no port of the network is forwarded, names aren't served, nor files, datagrams go out from no address of their own, and there is no control.
+-- No part is asked for that isn't built: no port of the network is forwarded, no files are served, and there is no control.
 pub record IsBuilt (config : Config) : Type 0 where
-  pub forwards : AreForConnections config
   pub guest_forwards : config.guest_forwards ≡ []
-  pub resolver : config.resolver ≡ None
   pub files : config.tftp_path ≡ None
-  pub outbound : config.outbound ≡ None
   pub control : config.control ≡ None
 
--- nothing was read or written, no datagram was sent, no guest is known, no socket is open, no moment was told, nothing is owed, no fragment waits and no address is lent; there is room for as many flows as the settings say, and none of them was used; no port of the host is open yet, and those that are to be are for connections; names aren't served and datagrams go out from every address, a frame has room for a header and a unit of 8 octets, and there are at most 2^44 turns, one at least
+-- nothing was read or written, no datagram was sent, no guest is known, no socket is open, no moment was told, nothing is owed, no fragment waits and no address is lent; there is room for as many flows as the settings say, and none of them was used; no port of the host is open yet, and no question waits; a frame has room for a header and a unit of 8 octets, and there are at most 2^44 turns, one at least
 pub record IsNew (service : ServiceState) : Type 0 where
   pub sound : IsSound service.slirp.config
   pub forwards : service.slirp.forwards ≡ []
-  pub connections : AreForConnections service.slirp.config
   pub flows : service.slirp.flows ≡ flows_for service.slirp.config
   pub unit : 28 ≤ service.slirp.config.mtu
   pub turns : service.slirp.config.turns ≤ 2 ^ 44
@@ -40,10 +35,9 @@ pub record IsNew (service : ServiceState) : Type 0 where
   pub moment : service.slirp.moment ≡ 0
   pub number : service.slirp.number ≡ 0
   pub associations : service.slirp.associations ≡ []
+  pub questions : service.slirp.questions ≡ []
   pub parts : service.slirp.parts ≡ []
   pub leases : service.slirp.leases ≡ replicate 16 Free
-  pub unresolved : service.slirp.config.resolver ≡ None
-  pub unbound : service.slirp.config.outbound ≡ None
   pub input : under_way service.link ≡ []
   pub output : service.link.tail ≡ []
   pub free : service.link.blocked ≡ false

@@ -6,8 +6,6 @@ use Rattle.poll_list.specs.declared.Who.TheVariants.{Link}
 use Rattle.world_face.specs.Journal.{Entry}
 use Rattle.world_face.specs.Frames.{Ending, Stopped, WaitFailed}
 use Rattle.host_policy.specs.Addresses.{Config}
-use Rattle.udp_assoc.specs.declared.assocs.Association.{Association as AnAssociation}
-use Rattle.flow_splice.specs.Splice.{Splice}
 use Rattle.run_laws.specs.Shape.{phase}
 use Rattle.slirp_laws.specs.Agenda.{wanted_of}
 use Rattle.slirp_laws.specs.Laws.{Finished, Lawful}
@@ -15,7 +13,7 @@ use Rattle.stream_netdev.specs.Keeps.{ReadsOn}
 use Rattle.stream_netdev.specs.State.{LinkState, under_way}
 use Rattle.port_forward.specs.Opened.{Opened}
 use Rattle.slirp_core.specs.Forwards.{forward_sockets}
-use Rattle.slirp_core.specs.Holds.{Standing, standing, flowing, Holds, Ended, ClosingWith}
+use Rattle.slirp_core.specs.Holds.{Standing, standing, flowing, Holders, holders_of, Holds, Ended, ClosingWith}
 use Rattle.slirp_core.specs.State.{SlirpState}
 use Rattle.serve_loop.specs.Ends.{end_by, end_of}
 use Rattle.serve_loop.specs.declared.service.End.{End}
@@ -38,18 +36,18 @@ HoldsNow config at aged slirp link past = Holds config at slirp (flowing aged sl
 -- after a wait with these wants, and the call of the clock that follows it
 abbrev pub AfterSleep : Slept → Config → ℕ → List Want → List Want → SlirpState → LinkState → List Entry → Type 0
 AfterSleep Ready config count wants ready slirp link past = HoldsNow config (standing count wants ready) false slirp link past
-AfterSleep SleptStopped config count wants ready slirp link past = Ended config Stopped slirp.forwards slirp.associations slirp.flows.flows.parts past
-AfterSleep SleepFailed config count wants ready slirp link past = Ended config WaitFailed slirp.forwards slirp.associations slirp.flows.flows.parts past
+AfterSleep SleptStopped config count wants ready slirp link past = Ended config Stopped slirp.forwards (holders_of slirp) past
+AfterSleep SleepFailed config count wants ready slirp link past = Ended config WaitFailed slirp.forwards (holders_of slirp) past
 
 -- after a turn, or a part of one
-pub record EndedAs (config : Config) (end : End) (forwards : List Opened) (associations : List AnAssociation) (parts : List (Option Splice)) (past : List Entry) : Type 0 where
+pub record EndedAs (config : Config) (end : End) (forwards : List Opened) (o : Holders) (past : List Entry) : Type 0 where
   pub why : Ending
-  pub ended : Ended config why forwards associations parts past
+  pub ended : Ended config why forwards o past
   pub is : end ≡ end_by why
 
 abbrev pub AfterTurn : Turn → Config → Standing → Bool → SlirpState → LinkState → List Entry → Type 0
 AfterTurn Again config at aged slirp link past = HoldsNow config at aged slirp link past
-AfterTurn (TurnEnded end) config at aged slirp link past = EndedAs config end slirp.forwards slirp.associations slirp.flows.flows.parts past
+AfterTurn (TurnEnded end) config at aged slirp link past = EndedAs config end slirp.forwards (holders_of slirp) past
 
 -- and then the link can be read
 abbrev pub GoesOnAfter : Turn → LinkState → Type 0
@@ -57,8 +55,8 @@ GoesOnAfter Again link = ReadsOn (under_way link)
 GoesOnAfter (TurnEnded end) link = Unit {0}
 
 -- a run that has this end; only its sockets are to be closed
-pub record Closes (config : Config) (end : End) (forwards : List Opened) (associations : List AnAssociation) (parts : List (Option Splice)) (past : List Entry) : Type 0 where
-  pub closing : ClosingWith config (phase config past) (forward_sockets forwards) associations parts past
+pub record Closes (config : Config) (end : End) (forwards : List Opened) (o : Holders) (past : List Entry) : Type 0 where
+  pub closing : ClosingWith config (phase config past) (forward_sockets forwards) o past
   pub is : end ≡ end_of config (phase config past)
 
 -- the sockets of a run that has this end are closed, and it is the end of the whole

@@ -109,10 +109,7 @@ impl Service {
     ghost use Rattle.serve_loop.specs.Turns.{AfterSleep, AfterTurn, AfterWholeTurn, GoesOnAfter, HoldsNow, all_passed_over, is_passed_over};
     ghost use Rattle.slirp_core.specs.Pumps.{is_settled};
     ghost use Rattle.serve_loop.specs.Served.{IsBuilt, IsNew};
-    ghost use Rattle.slirp_core.specs.Hearing.{Receives};
-    ghost use Rattle.std.specs.Prelude.{Some};
-    ghost use Rattle.udp_assoc.specs.Associations.{numbered};
-    ghost use Rattle.udp_assoc.specs.declared.assocs.Association.{Association as AnAssociation};
+    ghost use Rattle.slirp_core.specs.Hearing.{Receives, is_heard};
 
     /// A network with these settings that has served nothing. It takes all the memory that it will ever need.
     pub fn open(alloc: Global, c: &SlirpConfig) -> Result<Service, NoMemory>
@@ -522,7 +519,7 @@ impl Service {
     // Receives a datagram on a socket where nothing is left to be sent.
     fn hear<W: World>(&mut self, world: &mut W, number: u64)
         // Where nothing is left to be sent and the socket is open a datagram is asked for on it, once.
-        ensures hears { is_settled self.old.slirp self.old.link ≡ true → (a : AnAssociation) → numbered number self.old.slirp.associations ≡ Some a → Makes (W.tells world.old) (W.tells world.new) (Receives number) }
+        ensures hears { is_settled self.old.slirp self.old.link ≡ true → is_heard number self.old.slirp ≡ true → Makes (W.tells world.old) (W.tells world.new) (Receives number) }
         ensures makes { (config : Config) (count : ℕ) (wants : List AnItem) (item : AnItem) (items : List AnItem) → is_to_read (Udp number) (wanted_of wants item) ≡ true → Brings (W.tells world.old) (W.tells world.new)
             (HoldsNow config (standing count wants (item ∷ items)) false self.old.slirp self.old.link) (HoldsNow config (standing count wants items) false self.new.slirp self.new.link) }
         ensures counts { AreGrown (W.tells world.old).faults (W.tells world.new).faults }

@@ -14,9 +14,6 @@ listen_all-requires-clause-forwards g c = c.as_slice.ensures.value ∙ c.self.in
 pub listen_all-requires-clause-sound : goal.listen_all-requires-clause-sound
 listen_all-requires-clause-sound g c = (subst IsNew (sym c.self.view_is) c.requires).sound
 
-pub listen_all-requires-clause-connections : goal.listen_all-requires-clause-connections
-listen_all-requires-clause-connections g c = (subst IsNew (sym c.self.view_is) c.requires).connections
-
 pub listen_all-requires-clause-none : goal.listen_all-requires-clause-none
 listen_all-requires-clause-none g c = (subst IsNew (sym c.self.view_is) c.requires).forwards
 

@@ -1,7 +1,6 @@
 use Rattle.std.proofs.Common.{rules, ◌++◌, length, sym, ◌∙◌, ap, subst, arith}
 use Rattle.host_policy.specs.Addresses.{Config}
 use Rattle.host_policy.specs.Ranges.{IsSound}
-use Rattle.slirp_core.specs.Forwards.{AreForConnections}
 use Rattle.slirp_core.specs.Numbers.{flows_for}
 use Rattle.slirp_core.specs.Pumps.{TcpOnce}
 use Rattle.slirp_core.proofs.Listening.{at_ok}
@@ -33,7 +32,6 @@ returns-clause-new c =
     record {
       sound = sound;
       forwards = fresh.forwards;
-      connections = subst AreForConnections (sym config) c.requires.built.forwards;
       flows = fresh.flows ∙ ap flows_for (sym config);
       unit = has_room_for_a_unit c.in_ok-slirp.slirp.config sound;
       turns = has_few_turns c.in_ok-slirp.slirp.config sound;
@@ -44,10 +42,9 @@ returns-clause-new c =
       moment = fresh.moment;
       number = fresh.number;
       associations = fresh.associations;
+      questions = fresh.questions;
       parts = fresh.parts;
       leases = fresh.leases;
-      unresolved = ap (λ (k : Config). k.resolver) config ∙ c.requires.built.resolver;
-      unbound = ap (λ (k : Config). k.outbound) config ∙ c.requires.built.outbound;
       input = link.0;
       output = link.1;
       free = link.2;

@@ -1,4 +1,5 @@
 use Rattle.std.proofs.Common.{◌<◌, ◌≤◌, ◌∙◌, ap, sym, subst, arith}
+use Rattle.slirp_core.specs.Holds.{holders_of}
 use Rattle.world_face.proofs.Telling.{makes_as, makes_from}
 use Rattle.host_policy.specs.Addresses.{Config}
 use Rattle.world_face.specs.Tells.{Makes}
@@ -68,8 +69,8 @@ returns-clause-makes g c =
     let all = subst (λ n. n ≤ c.loop-count._count) turns c.loop-count-test.false in
     let most = c.self-2.invariant.0 ∙ ap (λ (s : ServiceState). s.slirp.config.turns) c.self-2.view_is ∙ ap (λ (k : Config). k.turns) c.loop-count.invariant.config in
     let ran = makes_as _ _ _ _ c.loop-count.invariant.makes (λ made holds. spent config c.loop-count._count c.self-2.inside.turns c.loop-count.self made c.requires.some_turns all most holds) in
-    finishes config end slirp.forwards slirp.associations slirp.flows.flows.parts _ _ _
-    (subst (λ (s : ServiceState). Makes (g.W.World.tells c.args.world.now) (g.W.World.tells c.loop-count.world) (Closes config end s.slirp.forwards s.slirp.associations s.slirp.flows.flows.parts)) (sym c.self-2.view_is) ran)
+    finishes config end slirp.forwards (holders_of slirp) _ _ _
+    (subst (λ (s : ServiceState). Makes (g.W.World.tells c.args.world.now) (g.W.World.tells c.loop-count.world) (Closes config end s.slirp.forwards (holders_of s.slirp))) (sym c.self-2.view_is) ran)
     c.close_all.ensures.makes
 
 pub returns-clause-served : goal.returns-clause-served

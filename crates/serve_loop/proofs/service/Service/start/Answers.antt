@@ -4,7 +4,7 @@ use Rattle.world_face.specs.Tells.{Makes}
 use Rattle.world_face.proofs.Telling.{makes_as, makes_next}
 use Rattle.stream_netdev.specs.Keeps.{ReadsOn}
 use Rattle.stream_netdev.specs.State.{LinkState, under_way}
-use Rattle.slirp_core.specs.Holds.{after, Opens}
+use Rattle.slirp_core.specs.Holds.{after, Opens, holders_of}
 use Rattle.slirp_core.specs.State.{SlirpState}
 use Rattle.slirp_core.proofs.Starting.{started}
 use Rattle.serve_loop.specs.Served.{ServiceState}
@@ -19,8 +19,8 @@ returns-in-Some-clause-makes g c =
     let new = c.listen.new.self in
     let config = c.args.self.now.slirp.config in
     let place = c.in-Some.place in
-    finishes config (ListenRefused place) i.slirp.forwards i.slirp.associations i.slirp.flows.flows.parts _ _ _
-    (subst (λ (s : ServiceState). Makes (g.W.World.tells c.args.world.now) (g.W.World.tells c.listen.new.world) (Closes config (ListenRefused place) s.slirp.forwards s.slirp.associations s.slirp.flows.flows.parts)) (sym c.self.view_is)
+    finishes config (ListenRefused place) i.slirp.forwards (holders_of i.slirp) _ _ _
+    (subst (λ (s : ServiceState). Makes (g.W.World.tells c.args.world.now) (g.W.World.tells c.listen.new.world) (Closes config (ListenRefused place) s.slirp.forwards (holders_of s.slirp))) (sym c.self.view_is)
     (makes_as _ _ _ _ c.in-Some.ensures.makes (λ made closing. refused config place new.slirp new.link made closing)))
     c.close_all.ensures.makes
 

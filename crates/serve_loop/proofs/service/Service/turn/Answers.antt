@@ -1,7 +1,7 @@
 use Rattle.std.proofs.Common.{false, subst, sym}
 use Rattle.world_face.specs.Tells.{Brings}
 use Rattle.world_face.proofs.Telling.{brings_from, brings_then}
-use Rattle.slirp_core.specs.Holds.{after}
+use Rattle.slirp_core.specs.Holds.{after, holders_of}
 use Rattle.slirp_core.proofs.Counted.{grown}
 use Rattle.serve_loop.specs.Served.{ServiceState}
 use Rattle.serve_loop.specs.Turns.{EndedAs, HoldsNow}
@@ -17,9 +17,9 @@ returns-in-Ended-clause-makes g c config count few =
     let slirp = c.self.inside.slirp in
     let end = c.in-Ended.end in
     brings_then
-    (subst (λ (s : ServiceState). Brings (g.W.World.tells c.args.world.now) (g.W.World.tells c.take_turn.new.world) (HoldsNow config (after count) false c.args.self.now.slirp c.args.self.now.link) (EndedAs config end s.slirp.forwards s.slirp.associations s.slirp.flows.flows.parts)) (sym c.self.view_is)
+    (subst (λ (s : ServiceState). Brings (g.W.World.tells c.args.world.now) (g.W.World.tells c.take_turn.new.world) (HoldsNow config (after count) false c.args.self.now.slirp c.args.self.now.link) (EndedAs config end s.slirp.forwards (holders_of s.slirp))) (sym c.self.view_is)
     (c.in-Ended.ensures.makes config count few))
-    (brings_from c.close_all.ensures.makes (λ made all past ended. ran_to config end slirp.forwards slirp.associations slirp.flows.flows.parts made past (ran config end slirp.forwards slirp.associations slirp.flows.flows.parts past ended) all))
+    (brings_from c.close_all.ensures.makes (λ made all past ended. ran_to config end slirp.forwards (holders_of slirp) made past (ran config end slirp.forwards (holders_of slirp) past ended) all))
 
 pub returns-in-Ended-clause-faults : goal.returns-in-Ended-clause-faults
 returns-in-Ended-clause-faults g c =

@@ -1,7 +1,12 @@
-use Rattle.std.proofs.Common.{ℕ, ◌≡◌, ◌<◌, ◌≤◌, All, None, length, replicate, sym, ◌∙◌, ap, subst, arith}
+use Rattle.std.proofs.Common.{ℕ, ◌≡◌, ◌<◌, ◌≤◌, All, None, length, replicate, unwrap_or, sym, ◌∙◌, ap, subst, arith}
 use Rattle.std.proofs.lemmas.List.{length-replicate}
 use Rattle.std.proofs.lemmas.List.Elements.{All-nil}
+use Rattle.host_policy.specs.Addresses.{Config}
 use Rattle.host_policy.specs.Settings.{settings}
+use Rattle.dns_relay.specs.Asking.{bind_for}
+use Rattle.dns_relay.specs.Questions.{numbers as question_numbers}
+use Rattle.dns_relay.specs.State.{RelayState}
+use Rattle.slirp_core.specs.Services.{AreAsked}
 use Rattle.flow_table.specs.Slots.{all_free}
 use Rattle.tcp_flows.specs.Rows.{AreSized}
 use Rattle.tcp_flows.specs.declared.flows.Sizes.{Sizes}
@@ -36,8 +41,9 @@ invariant_of-result c =
     }) c.sizes_of.ensures in (
       subst (λ (s : AssocsState). All (λ n. n < 0) (numbers s.list)) (sym c.new-3.ensures) (All-nil (λ n. n < 0)),
       omega arith,
-      ap (λ (s : AssocsState). s.bind) c.new-3.ensures,
+      ap (λ (s : AssocsState). s.bind) c.new-3.ensures ∙ c.bind_for.ensures ∙ sym (ap (λ (k : Config). unwrap_or k.outbound 0) c.new.ensures),
       subst (AreDrawn 0) (sym flows) (drawn_none config (flows_between config c.requires).1),
-      c.new-4.ensures.config ∙ sym c.new.ensures,
+      c.new-5.ensures.config ∙ sym c.new.ensures,
       ap length (c.in-Ok.ensures.items_if_clones_equal (λ y is. is)) ∙ length-replicate {A = ℕ} 1024 0,
+      subst (λ (k : Config). AreAsked 0 k c.new-4.result) (sym c.new.ensures) (record { below = subst (λ (r : RelayState). All (λ n. n < 0) (question_numbers r.list)) (sym c.new-4.ensures) (All-nil (λ n. n < 0)); is = c.new-4.ensures ∙ ap (λ (r : RelayState). record { bind = bind_for config; resolver = config.resolver; name_server = config.vnameserver; list = r.list }) (sym c.new-4.ensures) }),
     )

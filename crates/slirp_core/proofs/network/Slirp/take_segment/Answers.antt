@@ -14,7 +14,7 @@ use Rattle.slirp_core.specs.Holds.{Comes, Holds, flowing}
 use Rattle.slirp_core.specs.Segments.{coming_of}
 use Rattle.slirp_core.specs.State.{SlirpState}
 use Rattle.slirp_core.proofs.Called.{flows_put}
-use Rattle.slirp_core.proofs.Drawn.{drawn_begun, drawn_stay, drawn_up}
+use Rattle.slirp_core.proofs.Drawn.{asked_up, drawn_begun, drawn_stay, drawn_up}
 use Rattle.slirp_core.proofs.Hearing.{alone_dropped, alone_reset, connected, heard_strange, asks_for_room, heard_taken, none_made, unconnected_then}
 use Rattle.slirp_core.proofs.Telling.{brings_allowed}
 use Rattle.slirp_core.proofs.network.Slirp.take_segment.Goals as goal
@@ -131,7 +131,7 @@ begin-requires-clause-above g c = (drawn_stay c.self.inside.number c.self.inside
 pub invariant_of-self-in-Reset : goal.invariant_of-self-in-Reset
 invariant_of-self-in-Reset g c =
     let i = c.self.inside in
-    (c.self.invariant.0, c.self.invariant.1, c.self.invariant.2, drawn_stay i.number i.flows c.segment.new.self c.in-Alone.ensures.stays c.self.invariant.3, c.self.invariant.4, c.self.invariant.5)
+    (c.self.invariant.0, c.self.invariant.1, c.self.invariant.2, drawn_stay i.number i.flows c.segment.new.self c.in-Alone.ensures.stays c.self.invariant.3, c.self.invariant.4, c.self.invariant.5, c.self.invariant.6)
 
 pub invariant_of-self-in-Failed : goal.invariant_of-self-in-Failed
 invariant_of-self-in-Failed g c =
@@ -142,6 +142,7 @@ invariant_of-self-in-Failed g c =
       drawn_up i.number (i.number + 1) c.segment.new.self (omega arith) (drawn_stay i.number i.flows c.segment.new.self c.in-Alone.ensures.stays c.self.invariant.3),
       c.self.invariant.4,
       c.self.invariant.5,
+      asked_up i.number (i.number + 1) i.policy i.questions (omega arith) c.self.invariant.6,
     )
 
 pub invariant_of-self-in-Done : goal.invariant_of-self-in-Done
@@ -153,4 +154,5 @@ invariant_of-self-in-Done g c =
       drawn_begun i.number c.segment.new.self c.begin.new.self c.begin.ensures.slots c.begin.ensures.opened c.begin.ensures.numbers (drawn_stay i.number i.flows c.segment.new.self c.in-Alone.ensures.stays c.self.invariant.3),
       c.self.invariant.4,
       c.self.invariant.5,
+      asked_up i.number (i.number + 1) i.policy i.questions (omega arith) c.self.invariant.6,
     )

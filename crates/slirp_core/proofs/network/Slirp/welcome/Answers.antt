@@ -8,7 +8,7 @@ use Rattle.flow_book.specs.Book.{book, is_refused, tuple_for}
 use Rattle.tcp_flows.specs.Reading.{NoneUses}
 use Rattle.tcp_flows.specs.Runs.{Welcomes}
 use Rattle.slirp_core.specs.State.{SlirpState}
-use Rattle.slirp_core.proofs.Drawn.{drawn_up}
+use Rattle.slirp_core.proofs.Drawn.{asked_up, drawn_up}
 use Rattle.slirp_core.proofs.Visiting.{treats_refused, treats_welcome}
 use Rattle.slirp_core.proofs.network.Slirp.welcome.Goals as goal
 
@@ -45,4 +45,4 @@ accept-requires-clause-count g c = let few = c.self.invariant.3.opened in let nu
 pub invariant_of-self : goal.invariant_of-self
 invariant_of-self g c =
     let i = c.self.inside in
-    (below_up i.number i.associations.list c.self.invariant.0, c.self.invariant.1, c.self.invariant.2, drawn_up i.number (i.number + 1) i.flows (omega arith) c.self.invariant.3, c.self.invariant.4, c.self.invariant.5)
+    (below_up i.number i.associations.list c.self.invariant.0, c.self.invariant.1, c.self.invariant.2, drawn_up i.number (i.number + 1) i.flows (omega arith) c.self.invariant.3, c.self.invariant.4, c.self.invariant.5, asked_up i.number (i.number + 1) i.policy i.questions (omega arith) c.self.invariant.6)
