@@ -21,6 +21,7 @@ pub mod Only
 pub mod OpenSockets
 pub mod Owing
 pub mod Parting
+pub mod Peers
 pub mod Phases
 pub mod Policy
 pub mod Ranges
