@@ -1,8 +1,8 @@
 -- Connections that were accepted at a port of the host stand between the guest that the settings name and a peer that may be seen.
-use Rattle.std.proofs.Common.{◌≡◌, ℕ, ◌==◌, ◌&&◌, ◌||◌, Bool, true, false, List, [], ◌∷◌, find, length, map, slice_get, Option, Some, None, option_and_then, if◌then◌else◌, refl, sym, ◌∙◌, ap, subst}
+use Rattle.std.proofs.Common.{◌≡◌, ℕ, ◌==◌, ◌&&◌, ◌||◌, Bool, true, false, List, [], ◌∷◌, length, map, slice_get, Option, Some, None, option_and_then, if◌then◌else◌, refl, sym, ◌∙◌, subst}
 use Rattle.net_octets.specs.declared.Endpoint.{Endpoint}
 use Rattle.host_policy.specs.Addresses.{Config, address}
-use Rattle.host_policy.specs.Targets.{is_hidden, shown}
+use Rattle.host_policy.specs.Targets.{is_hidden}
 use Rattle.host_policy.specs.declared.Forward.{Forward}
 use Rattle.host_policy.specs.declared.Proto.{Proto}
 use Rattle.host_policy.specs.declared.Proto.TheVariants.{Tcp, Udp}
