@@ -1,16 +1,14 @@
 -- What is read as a datagram from port 53 of the name server is the answer to a question, whole, for the port that asked.
-use Rattle.std.proofs.Common.{inl, inr, ◌≡◌, ℕ, ◌-◌, ◌/◌, ◌%◌, ◌^◌, ◌<◌, ◌≤◌, ◌==◌, ◌&&◌, not, Bool, true, false, List, [], ◌∷◌, length, take, drop, Option, Some, None, if◌then◌else◌, refl, sym, ◌∙◌, ap, subst, arith}
+use Rattle.std.proofs.Common.{inl, inr, ◌≡◌, ℕ, ◌^◌, ◌<◌, ◌≤◌, ◌==◌, ◌&&◌, not, Bool, true, false, List, [], ◌∷◌, length, drop, Option, Some, None, if◌then◌else◌, refl, sym, ◌∙◌, ap, subst, arith}
 use Rattle.std.proofs.lemmas.Nat.{from_be_bytes-to_be_bytes_4}
-use Rattle.std.proofs.lemmas.Option.{cond_some}
 use Rattle.world_face.specs.Journal.{Entry, AreAllowed}
 use Rattle.world_face.specs.Frames.{goes_out}
 use Rattle.net_octets.specs.Kinds.{udp_proto}
-use Rattle.net_octets.specs.Octets.{four_at, one_at, part, two_at}
 use Rattle.host_policy.specs.Addresses.{Config, address, endpoint, in_network}
 use Rattle.host_policy.specs.Targets.{is_hidden, shown}
 use Rattle.host_policy.specs.declared.Reply.TheVariants.{Nothing, Datagram as ADatagram}
 use Rattle.ipv4_head.specs.Cuts.{cut_at}
-use Rattle.ipv4_head.specs.Ip.{Ip, fragment_of, head_length, ip_octets, is_ip, is_unbroken, read_ip}
+use Rattle.ipv4_head.specs.Ip.{Ip, fragment_of, ip_octets, is_unbroken, read_ip}
 use Rattle.udp_assoc.specs.Udp.{Udp, read_udp}
 use Rattle.dhcp_server.specs.Messages.{read_message}
 use Rattle.dhcp_server.specs.Replies.{everybody, goes_to_all, is_silence, reply_to, replied_octets}
@@ -33,6 +31,7 @@ use Rattle.slirp_laws.proofs.Numbers.{carries_no_arp}
 use Rattle.slirp_laws.proofs.Owing.{Begins, Next, Beside, begins_with, first_answers, out_by, out_six}
 use Rattle.slirp_laws.proofs.ReadBack.{datagram_back, reply_as_read}
 use Rattle.slirp_laws.proofs.Reading.{AllAnswers, SixAnswer, SixOccasion, SixSaid, carried_ip, file_answer, six_again, six_occasion}
+use Rattle.slirp_laws.proofs.Spelt.{spelt}
 
 -- ---- an answer, as it is read
 
@@ -66,17 +65,8 @@ no_peer config past ip udp server from r =
 reads_from : (ident fragment proto from guest : ℕ) (body : List ℕ) (ip : Ip) → from < 2 ^ 32 → read_ip (ip_octets ident fragment proto from guest body) ≡ Some ip → ip.from ≡ from
 reads_from ident fragment proto from guest body ip fits is =
     let octets = ip_octets ident fragment proto from guest body in
-    let found = cond_some (is_ip octets) (record {
-      ident = two_at octets 4;
-      more = (two_at octets 6 / 2 ^ 13) % 2 == 1;
-      place = two_at octets 6 % 2 ^ 13;
-      proto = one_at octets 9;
-      from = four_at octets 12;
-      to = four_at octets 16;
-      head = take (head_length octets) octets;
-      body = part octets (head_length octets) (two_at octets 2 - head_length octets);
-    }) ip is in
-    ap (λ (i : Ip). i.from) (sym found.1) ∙ from_be_bytes-to_be_bytes_4 from fits
+    let found = spelt octets ip is in
+    ap (λ (i : Ip). i.from) (sym found) ∙ from_be_bytes-to_be_bytes_4 from fits
 
 abbrev IsFromVhost : Config → Answer → Type 0
 IsFromVhost config (ArpAnswer to arp) = Unit {0}

@@ -39,6 +39,7 @@ pub mod Rows
 pub mod Sentences
 pub mod Sized
 pub mod Sorts
+pub mod Spelt
 pub mod Steps
 pub mod Strays
 pub mod UdpRows
