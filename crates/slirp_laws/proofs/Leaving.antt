@@ -34,7 +34,7 @@ use Rattle.slirp_laws.proofs.Askers.{WasAskedOf, all_were_asked, is_due}
 use Rattle.slirp_laws.proofs.Bools.{and_both, among_without, equal, first_of, second_of, or_second, same}
 use Rattle.slirp_laws.proofs.Listed.{AllQuestions, all_last, all_left, all_moved, among_found, found, numbers_last, numbers_moved, numbers_without, socket_found}
 use Rattle.slirp_laws.proofs.Longest.{Once, equal_endpoints, no_longer, same_port}
-use Rattle.slirp_laws.proofs.OpenSockets.{gone_by, hears_on_open}
+use Rattle.slirp_laws.proofs.OpenSockets.{IsGone, gone_by, hears_on_open, stays_gone}
 use Rattle.slirp_laws.proofs.Parting.{closing_ended, parts_where}
 use Rattle.slirp_laws.proofs.Phases.{hears_settled, others_due, sends}
 use Rattle.slirp_laws.proofs.Steps.{Asks, errand_asks, errand_is, opened_for_question, step_to_name}
@@ -346,3 +346,26 @@ closed_next config e past socket asked count guest peer octets lawful a =
     (ap (λ o. unless_due o (unless_due (due_for config (step config now) (next_number now)) (others_due config now))) first
     ∙ ap (λ s. unless_due (due_for config s (next_number now)) (others_due config now)) settled
     ∙ ap (λ o. unless_due (unless_due (due_for_answer o) (call_for (serving config now).files.quest)) (due_for_flows config (book config now) (next_number now))) this)
+
+close_entry : (e : Entry) (n : ℕ) → call_of e ≡ CallClose n → e ≡ Close n
+close_entry (Close socket) n is = cc
+close_entry _ n is = absurd cc
+
+-- from then on the socket is closed
+gone_since : (config : Config) (e : Entry) (between past : List Entry) (socket asked count : ℕ) (guest peer : Endpoint) (octets : List ℕ) → Lawful config (e ∷ (between ++ (UdpRecv socket asked (From peer count) octets ∷ past))) → IsAnswerTo config past socket guest peer octets
+    → IsGone socket (e ∷ (between ++ (UdpRecv socket asked (From peer count) octets ∷ past)))
+gone_since config e [] past socket asked count guest peer octets lawful a =
+    let here = UdpRecv socket asked (From peer count) octets ∷ past in
+    let this : e ≡ Close socket = close_entry e socket (closed_next config e past socket asked count guest peer octets lawful a) in
+    subst (λ x. IsGone socket (x ∷ here)) (sym this) (stays_gone config socket [] here (subst (λ x. Lawful config (x ∷ here)) this lawful))
+gone_since config e (f ∷ between) past socket asked count guest peer octets lawful a =
+    gone_by config socket e (f ∷ (between ++ (UdpRecv socket asked (From peer count) octets ∷ past))) lawful.0 (gone_since config f between past socket asked count guest peer octets lawful.1 a)
+
+-- so nothing more is received on it
+pub heard_once : (config : Config) (between past : List Entry) (socket asked count more : ℕ) (guest peer : Endpoint) (octets others : List ℕ) (answer : Got)
+    → Lawful config (UdpRecv socket more answer others ∷ (between ++ (UdpRecv socket asked (From peer count) octets ∷ past))) → IsAnswerTo config past socket guest peer octets → ⊥
+heard_once config [] past socket asked count more guest peer octets others answer lawful a = absurd (let never = closed_next config (UdpRecv socket more answer others) past socket asked count guest peer octets lawful a in cc)
+heard_once config (e ∷ between) past socket asked count more guest peer octets others answer lawful a =
+    let gone = gone_since config e between past socket asked count guest peer octets lawful.1 a in
+    let never : true ≡ false = sym (hears_on_open config (e ∷ (between ++ (UdpRecv socket asked (From peer count) octets ∷ past))) socket more lawful.0.socket) ∙ gone.shut in
+    cc

@@ -4,9 +4,10 @@
 //! A *question* is a datagram of a guest to the name server that has a header of a message and isn't an answer (RFC 1035,
 //! 4.1.1). A socket is opened for each one of a port with one identifier, and each waits for its answer.
 
-ghost use Rattle.std.specs.Prelude.{◌≡◌, ℕ, ◌^◌, ◌<◌, ◌≤◌, ◌⊎◌, List, ◌∷◌, true, false, Some};
+ghost use Rattle.std.specs.Prelude.{◌≡◌, ℕ, ◌^◌, ◌<◌, ◌≤◌, ◌⊎◌, ◌++◌, List, ◌∷◌, true, false, Some};
 ghost use Rattle.net_octets.specs.declared.Endpoint.{Endpoint};
 ghost use Rattle.net_octets.specs.Kinds.{udp_proto};
+ghost use Rattle.world_face.specs.declared.Got.{Got};
 ghost use Rattle.world_face.specs.declared.Got.TheVariants.{From};
 ghost use Rattle.world_face.specs.declared.Sent.{Sent};
 ghost use Rattle.world_face.specs.Journal.{Entry, AreAllowed, Close, UdpRecv, UdpSend, CallClose, call_of};
@@ -46,11 +47,15 @@ pub fn answers_reach_only_the_port_that_asked()
         → AnswerCame config past a.question.guest a.octets }
 {}
 
-/// After the answer to a question the next call closes its socket, so no second one is passed on.
+/// After the answer to a question the next call closes its socket. So nothing more is received on it, and no second answer is
+/// passed on.
 pub fn an_answered_question_is_closed_next()
-    ensures { (config : Config) (e : Entry) (past : List Entry) (socket asked count : ℕ) (guest peer : Endpoint) (octets : List ℕ)
+    ensures next { (config : Config) (e : Entry) (past : List Entry) (socket asked count : ℕ) (guest peer : Endpoint) (octets : List ℕ)
         → Lawful config (e ∷ (UdpRecv socket asked (From peer count) octets ∷ past)) → IsAnswerTo config past socket guest peer octets
         → call_of e ≡ CallClose socket }
+    ensures once { (config : Config) (between past : List Entry) (socket asked count more : ℕ) (guest peer : Endpoint) (octets others : List ℕ) (answer : Got)
+        → Lawful config (UdpRecv socket more answer others ∷ (between ++ (UdpRecv socket asked (From peer count) octets ∷ past)))
+        → ¬ IsAnswerTo config past socket guest peer octets }
 {}
 
 /// Before the end the socket of a question is closed only where its answer came by the call before, where it wasn't used for
