@@ -1,5 +1,5 @@
 -- What the list of questions has of each is what the record says of its socket.
-use Rattle.std.proofs.Common.{◌≡◌, ℕ, ◌<◌, ◌==◌, nat_lt, not, Bool, true, false, List, [], ◌∷◌, ◌++◌, find, Option, Some, None, option_map, if◌then◌else◌, refl, sym, ◌∙◌, ap, subst, arith}
+use Rattle.std.proofs.Common.{◌≡◌, ℕ, ◌<◌, ◌==◌, nat_lt, not, Bool, true, false, List, [], ◌∷◌, ◌++◌, Option, Some, None, option_map, if◌then◌else◌, refl, sym, ◌∙◌, ap, subst, arith}
 use Rattle.std.proofs.lemmas.Bool.Decides.{nat_tests}
 use Rattle.world_face.specs.Journal.{Entry, Connect, Listen, Accept, Close, UdpOpen, UdpSend, UdpRecv, call_of}
 use Rattle.world_face.specs.declared.Made.{Made}
@@ -10,7 +10,7 @@ use Rattle.net_octets.specs.declared.Endpoint.{Endpoint}
 use Rattle.host_policy.specs.Addresses.{Config}
 use Rattle.host_policy.specs.Targets.{same_endpoint}
 use Rattle.dns_relay.specs.declared.Question.{Question}
-use Rattle.dns_relay.specs.Questions.{heard_at, is_of, moved_last, socket_of, without}
+use Rattle.dns_relay.specs.Questions.{heard_at, socket_of, without}
 use Rattle.run_laws.specs.Moments.{moment, waits}
 use Rattle.run_laws.specs.Packets.{Datagram}
 use Rattle.run_laws.specs.Sockets.{DnsSocket, Listener as OfListener, Flow as OfFlow, datagram_kind, is_flow, kind_of, next_number}
@@ -21,6 +21,7 @@ use Rattle.slirp_laws.specs.Names.{datagram_kind_for, kind_for, question, questi
 use Rattle.slirp_laws.specs.Ports.{given_port, last_port, opened_for, port_for}
 use Rattle.slirp_laws.proofs.Bools.{equal, first_of, same}
 use Rattle.slirp_laws.proofs.Joining.{waited_for}
+use Rattle.slirp_laws.proofs.Listed.{AllQuestions, all_last, all_left, all_moved, all_so, socket_found}
 use Rattle.slirp_laws.proofs.Longest.{equal_endpoints}
 use Rattle.slirp_laws.proofs.OpenSockets.{peer_next}
 use Rattle.slirp_laws.proofs.Sorts.{same_flow}
@@ -34,8 +35,7 @@ pub record KeptQuestion (config : Config) (past : List Entry) (q : Question) : T
   pub drawn : q.number < next_number past
 
 abbrev pub AreKeptQuestions : Config → List Entry → List Question → Type 0
-AreKeptQuestions config past [] = Unit {0}
-AreKeptQuestions config past (q ∷ list) = KeptQuestion config past q × AreKeptQuestions config past list
+AreKeptQuestions config past list = AllQuestions (KeptQuestion config past) list
 
 -- ---- of one
 
@@ -56,33 +56,6 @@ kind_on config _ past n may drawn = refl
 kept_on : (config : Config) (e : Entry) (past : List Entry) (q : Question) → May config past (call_of e) → KeptQuestion config past q → KeptQuestion config (e ∷ past) q
 kept_on config e past q may kept = record { guest = opened_on config e past q.number may kept.drawn ∙ kept.guest; kind = kind_on config e past q.number may kept.drawn ∙ kept.kind; drawn = drawn_on e past q.number kept.drawn }
 
-all_on : (config : Config) (e : Entry) (past : List Entry) (list : List Question) → May config past (call_of e) → AreKeptQuestions config past list → AreKeptQuestions config (e ∷ past) list
-all_on config e past [] may kept = tt
-all_on config e past (q ∷ list) may kept = (kept_on config e past q may kept.0, all_on config e past list may kept.1)
-
--- ---- of the list
-
-one_more : (config : Config) (past : List Entry) (list : List Question) (q : Question) → AreKeptQuestions config past list → KeptQuestion config past q → AreKeptQuestions config past (list ++ (q ∷ []))
-one_more config past [] q kept one = (one, tt)
-one_more config past (x ∷ list) q kept one = (kept.0, one_more config past list q kept.1 one)
-
-moved : (config : Config) (past : List Entry) (change : Question → Question) (n : ℕ) (list : List Question) → ((q : Question) → KeptQuestion config past q → KeptQuestion config past (change q)) → AreKeptQuestions config past list
-    → AreKeptQuestions config past (moved_last change n list)
-moved config past change n [] keeps kept = tt
-moved config past change n (q ∷ list) keeps kept = by (q.number == n) (moved config past change n list keeps kept.1)
-  where
-    by : (b : Bool) → AreKeptQuestions config past (moved_last change n list) → AreKeptQuestions config past (if b then list ++ (change q ∷ []) else q ∷ moved_last change n list)
-    by true rest = one_more config past list (change q) kept.1 (keeps q kept.0)
-    by false rest = (kept.0, rest)
-
-shut : (config : Config) (past : List Entry) (n : ℕ) (list : List Question) → AreKeptQuestions config past list → AreKeptQuestions config past (without n list)
-shut config past n [] kept = tt
-shut config past n (q ∷ list) kept = by (q.number == n) (shut config past n list kept.1)
-  where
-    by : (b : Bool) → AreKeptQuestions config past (without n list) → AreKeptQuestions config past (if not b then q ∷ without n list else without n list)
-    by true rest = rest
-    by false rest = (kept.0, rest)
-
 -- ---- by an entry
 
 opened_kept : (config : Config) (past : List Entry) (socket : ℕ) (at : Endpoint) (answer : Made) (o : Option Errand) → May config past (call_of (UdpOpen socket at answer)) → Lawful config past → errand_left config past ≡ o
@@ -102,7 +75,7 @@ opened_kept config past socket at Done (Some errand) may lawful left kept = by (
     }
 
     by : (b : Bool) → asks_a_name config errand ≡ b → AreKeptQuestions config (UdpOpen socket at Done ∷ past) (if b then questions config past ++ (question socket errand (moment past) ∷ []) else questions config past)
-    by true name = one_more config (UdpOpen socket at Done ∷ past) (questions config past) (question socket errand (moment past)) kept (new name)
+    by true name = all_last (KeptQuestion config (UdpOpen socket at Done ∷ past)) (questions config past) (question socket errand (moment past)) kept (new name)
     by false other = kept
 
 same_question : (config : Config) (past : List Entry) (q other : Question) → other.number ≡ q.number → other.guest ≡ q.guest → KeptQuestion config past q → KeptQuestion config past other
@@ -114,15 +87,15 @@ same_question config past q other number guest kept = record {
 
 sent_kept : (config : Config) (past : List Entry) (socket now : ℕ) (o : Option Errand) (list : List Question) → AreKeptQuestions config past list → AreKeptQuestions config past (with_sent socket now o list)
 sent_kept config past socket now None list kept = kept
-sent_kept config past socket now (Some errand) list kept = moved config past _ socket list (λ q one. same_question config past q _ refl refl one) kept
+sent_kept config past socket now (Some errand) list kept = all_moved (KeptQuestion config past) _ socket list (λ q one. same_question config past q _ refl refl one) kept
 
 heard_kept : (config : Config) (past : List Entry) (answer : Got) (socket now : ℕ) (list : List Question) → AreKeptQuestions config past list → AreKeptQuestions config past (with_heard answer socket now list)
-heard_kept config past (From peer n) socket now list kept = moved config past (heard_at now) socket list (λ q one. same_question config past q (heard_at now q) refl refl one) kept
+heard_kept config past (From peer n) socket now list kept = all_moved (KeptQuestion config past) (heard_at now) socket list (λ q one. same_question config past q (heard_at now q) refl refl one) kept
 heard_kept config past GotNotYet socket now list kept = kept
 heard_kept config past GotFailed socket now list kept = kept
 
 kept_by : (config : Config) (e : Entry) (past : List Entry) → May config past (call_of e) → Lawful config past → AreKeptQuestions config (e ∷ past) (questions config past) → AreKeptQuestions config (e ∷ past) (questions config (e ∷ past))
-kept_by config (Close socket) past may lawful kept = shut config (Close socket ∷ past) socket (questions config past) kept
+kept_by config (Close socket) past may lawful kept = all_left (KeptQuestion config (Close socket ∷ past)) socket (questions config past) kept
 kept_by config (UdpOpen socket at answer) past may lawful kept = opened_kept config past socket at answer (errand_left config past) may lawful refl kept
 kept_by config (UdpSend socket to octets answer) past may lawful kept = sent_kept config (UdpSend socket to octets answer ∷ past) socket (moment past) (errand_left config past) (questions config past) kept
 kept_by config (UdpRecv socket asked answer octets) past may lawful kept = heard_kept config (UdpRecv socket asked answer octets ∷ past) answer socket (moment past) (questions config past) kept
@@ -130,23 +103,15 @@ kept_by config _ past may lawful kept = kept
 
 pub kept_questions : (config : Config) (past : List Entry) → Lawful config past → AreKeptQuestions config past (questions config past)
 kept_questions config [] lawful = tt
-kept_questions config (e ∷ past) lawful = kept_by config e past lawful.0 lawful.1 (all_on config e past (questions config past) lawful.0 (kept_questions config past lawful.1))
+kept_questions config (e ∷ past) lawful = kept_by config e past lawful.0 lawful.1
+    (all_so (KeptQuestion config past) (KeptQuestion config (e ∷ past)) (questions config past) (λ q kept. kept_on config e past q lawful.0 kept) (kept_questions config past lawful.1))
 
 -- ---- the socket of a question was opened for the port that asks it
 
-found_among : (config : Config) (past : List Entry) (guest : Endpoint) (ident socket : ℕ) (list : List Question) → AreKeptQuestions config past list → socket_of guest ident list ≡ Some socket → opened_for config socket past ≡ Some guest
-found_among config past guest ident socket [] kept is = cc
-found_among config past guest ident socket (q ∷ list) kept is = by (is_of guest ident q) refl is (λ more. found_among config past guest ident socket list kept.1 more)
-  where
-    by : (b : Bool) → is_of guest ident q ≡ b → option_map (λ (x : Question). x.number) (if b then Some q else find (is_of guest ident) list) ≡ Some socket → (socket_of guest ident list ≡ Some socket → opened_for config socket past ≡ Some guest)
-        → opened_for config socket past ≡ Some guest
-    by true this is more =
-        let here : q.number ≡ socket = cc in
-        subst (λ n. opened_for config n past ≡ Some guest) here (kept.0.guest ∙ ap Some (equal_endpoints q.guest guest (first_of (same_endpoint q.guest guest) (q.ident == ident) this)))
-    by false this is more = more is
-
 pub asked_for : (config : Config) (past : List Entry) (guest : Endpoint) (ident socket : ℕ) → Lawful config past → socket_of guest ident (questions config past) ≡ Some socket → opened_for config socket past ≡ Some guest
-asked_for config past guest ident socket lawful is = found_among config past guest ident socket (questions config past) (kept_questions config past lawful) is
+asked_for config past guest ident socket lawful is =
+    let q = socket_found (KeptQuestion config past) guest ident socket (questions config past) (kept_questions config past lawful) is in
+    subst (λ n. opened_for config n past ≡ Some guest) q.3 (q.1.guest ∙ ap Some (equal_endpoints q.0.guest guest (first_of (same_endpoint q.0.guest guest) (q.0.ident == ident) q.2)))
 
 -- ---- the socket of a connection is no question's
 

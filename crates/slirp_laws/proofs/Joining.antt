@@ -23,7 +23,7 @@ use Rattle.slirp_laws.specs.Datagrams.{Errand, NeedsSocket, NeedsSending, asks_a
 use Rattle.slirp_laws.specs.Laws.{May, Lawful}
 use Rattle.slirp_laws.specs.Ports.{is_used_by, last_datagram, last_mac, last_port, last_use, mac_of, opened_for, serves_port, used_at, forward_for, given_port, port_for}
 use Rattle.slirp_laws.specs.Relayed.{association, associations, step_for, with_opened, with_sent}
-use Rattle.slirp_laws.proofs.Bools.{and_false, equal, or_second, same, turned, among_last, among_without}
+use Rattle.slirp_laws.proofs.Bools.{and_false, equal, or_second, or_swap, same, turned, among_last, among_without}
 use Rattle.slirp_laws.proofs.Finding.{Joined, same_port_socket, same_step}
 use Rattle.slirp_laws.proofs.Longest.{once_open}
 use Rattle.slirp_laws.proofs.OpenSockets.{next_is_new, peer_next}
@@ -36,12 +36,6 @@ use Rattle.slirp_laws.proofs.Uses.{AllBefore, AreKept, AreUnused, Kept, NoneOf, 
 pub numbers_last : (list : List Association) (a : Association) → numbers (list ++ (a ∷ [])) ≡ numbers list ++ (a.number ∷ [])
 numbers_last [] a = refl
 numbers_last (x ∷ list) a = ap (λ ns. x.number ∷ ns) (numbers_last list a)
-
-or_swap : (a b : Bool) → (a || b) ≡ (b || a)
-or_swap true true = refl
-or_swap true false = refl
-or_swap false true = refl
-or_swap false false = refl
 
 among_moved : (change : Association → Association) → ((a : Association) → (change a).number ≡ a.number) → (n m : ℕ) (list : List Association) → is_among n (numbers (moved_last change m list)) ≡ is_among n (numbers list)
 among_moved change keeps n m [] = refl
@@ -74,21 +68,21 @@ silent config e past list none carried joined = quiet config e past list (all_un
 
 -- ---- a socket is opened
 
-and_assoc : (a b c : Bool) → ((a && b) && c) ≡ (a && (b && c))
+pub and_assoc : (a b c : Bool) → ((a && b) && c) ≡ (a && (b && c))
 and_assoc true b c = refl
 and_assoc false b c = refl
 
--- one that isn't a guest's
-fresh_other : (answer : Made) (n socket : ℕ) (sockets : List ℕ) (k kind : Option Kind) → is_among socket sockets ≡ false → is_association k ≡ false
-    → (is_among n (with_made answer socket sockets) && is_association (if socket == n then k else kind)) ≡ (is_among n sockets && is_association kind)
-fresh_other answer n socket sockets k kind new other = by answer (socket == n) refl
+-- one whose kind fails a test
+pub fresh_other : (test : Option Kind → Bool) (answer : Made) (n socket : ℕ) (sockets : List ℕ) (k kind : Option Kind) → is_among socket sockets ≡ false → test k ≡ false
+    → (is_among n (with_made answer socket sockets) && test (if socket == n then k else kind)) ≡ (is_among n sockets && test kind)
+fresh_other test answer n socket sockets k kind new other = by answer (socket == n) refl
   where
-    by : (answer : Made) (t : Bool) → (socket == n) ≡ t → (is_among n (with_made answer socket sockets) && is_association (if t then k else kind)) ≡ (is_among n sockets && is_association kind)
+    by : (answer : Made) (t : Bool) → (socket == n) ≡ t → (is_among n (with_made answer socket sockets) && test (if t then k else kind)) ≡ (is_among n sockets && test kind)
     by answer true this =
         let one = equal socket n this in
         let shut : is_among n sockets ≡ false = subst (λ m. is_among m sockets ≡ false) one new in
-        ap (λ b. is_among n (with_made answer socket sockets) && b) other ∙ and_false (is_among n (with_made answer socket sockets)) ∙ sym (ap (λ b. b && is_association kind) shut)
-    by Done false this = ap (λ b. b && is_association kind) (among_last n socket sockets ∙ ap (λ b. is_among n sockets || b) (turned socket n false this) ∙ or_none (is_among n sockets))
+        ap (λ b. is_among n (with_made answer socket sockets) && b) other ∙ and_false (is_among n (with_made answer socket sockets)) ∙ sym (ap (λ b. b && test kind) shut)
+    by Done false this = ap (λ b. b && test kind) (among_last n socket sockets ∙ ap (λ b. is_among n sockets || b) (turned socket n false this) ∙ or_none (is_among n sockets))
       where
         or_none : (b : Bool) → (b || false) ≡ b
         or_none true = refl
@@ -96,20 +90,20 @@ fresh_other answer n socket sockets k kind new other = by answer (socket == n) r
     by Failed false this = refl
 
 -- one that couldn't be opened
-fresh_failed : (n socket : ℕ) (sockets : List ℕ) (k kind : Option Kind) → is_among socket sockets ≡ false
-    → (is_among n sockets && is_association (if socket == n then k else kind)) ≡ (is_among n sockets && is_association kind)
-fresh_failed n socket sockets k kind new = by (socket == n) refl
+pub fresh_failed : (test : Option Kind → Bool) (n socket : ℕ) (sockets : List ℕ) (k kind : Option Kind) → is_among socket sockets ≡ false
+    → (is_among n sockets && test (if socket == n then k else kind)) ≡ (is_among n sockets && test kind)
+fresh_failed test n socket sockets k kind new = by (socket == n) refl
   where
-    by : (t : Bool) → (socket == n) ≡ t → (is_among n sockets && is_association (if t then k else kind)) ≡ (is_among n sockets && is_association kind)
+    by : (t : Bool) → (socket == n) ≡ t → (is_among n sockets && test (if t then k else kind)) ≡ (is_among n sockets && test kind)
     by true this =
         let shut : is_among n sockets ≡ false = subst (λ m. is_among m sockets ≡ false) (equal socket n this) new in
-        ap (λ b. b && is_association k) shut ∙ sym (ap (λ b. b && is_association kind) shut)
+        ap (λ b. b && test k) shut ∙ sym (ap (λ b. b && test kind) shut)
     by false this = refl
 
--- a guest's
-fresh_one : (n socket : ℕ) (sockets : List ℕ) (k kind : Option Kind) → is_association k ≡ true
-    → (is_among n (sockets ++ (socket ∷ [])) && is_association (if socket == n then k else kind)) ≡ ((is_among n sockets && is_association kind) || (n == socket))
-fresh_one n socket sockets k kind one = by (socket == n) refl
+-- one whose kind passes it
+pub fresh_one : (test : Option Kind → Bool) (n socket : ℕ) (sockets : List ℕ) (k kind : Option Kind) → test k ≡ true
+    → (is_among n (sockets ++ (socket ∷ [])) && test (if socket == n then k else kind)) ≡ ((is_among n sockets && test kind) || (n == socket))
+fresh_one test n socket sockets k kind one = by (socket == n) refl
   where
     all : (a b c : Bool) → b ≡ true → c ≡ true → ((a || b) && c) ≡ true
     all true b c two three = three
@@ -122,11 +116,11 @@ fresh_one n socket sockets k kind one = by (socket == n) refl
     none false true c two = cc
     none false false c two = refl
 
-    by : (t : Bool) → (socket == n) ≡ t → (is_among n (sockets ++ (socket ∷ [])) && is_association (if t then k else kind)) ≡ ((is_among n sockets && is_association kind) || (n == socket))
+    by : (t : Bool) → (socket == n) ≡ t → (is_among n (sockets ++ (socket ∷ [])) && test (if t then k else kind)) ≡ ((is_among n sockets && test kind) || (n == socket))
     by true this =
-        ap (λ b. b && is_association k) (among_last n socket sockets) ∙ all (is_among n sockets) (n == socket) (is_association k) (turned socket n true this) one
-        ∙ sym (or_second (is_among n sockets && is_association kind) (n == socket) (turned socket n true this))
-    by false this = ap (λ b. b && is_association kind) (among_last n socket sockets) ∙ none (is_among n sockets) (n == socket) (is_association kind) (turned socket n false this)
+        ap (λ b. b && test k) (among_last n socket sockets) ∙ all (is_among n sockets) (n == socket) (test k) (turned socket n true this) one
+        ∙ sym (or_second (is_among n sockets && test kind) (n == socket) (turned socket n true this))
+    by false this = ap (λ b. b && test kind) (among_last n socket sockets) ∙ none (is_among n sockets) (n == socket) (test kind) (turned socket n false this)
 
 unused_below : (config : Config) (past : List Entry) (socket : ℕ) (at : Endpoint) (answer : Made) (list : List Association) → (socket == next_number past) ≡ true → AreKept config past list → AreUnused (UdpOpen socket at answer) list
 unused_below config past socket at answer [] is kept = tt
@@ -176,7 +170,7 @@ module _ (config : Config) (past : List Entry) (socket : ℕ) (at : Endpoint) (n
   early_joins answer early none = by answer
     where
       carried : (answer : Made) (n : ℕ) → serves_port config (UdpOpen socket at answer ∷ past) n ≡ serves_port config past n
-      carried answer n = fresh_other answer n socket (open_sockets past) (Some (datagram_kind_for config (nat_lt 0 (waits past)) (errand_left config past))) (kind_for config n past) new
+      carried answer n = fresh_other is_association answer n socket (open_sockets past) (Some (datagram_kind_for config (nat_lt 0 (waits past)) (errand_left config past))) (kind_for config n past) new
           (ap (λ o. is_association (Some (datagram_kind_for config (nat_lt 0 (waits past)) o))) none ∙ early_kind early)
 
       by : (answer : Made) → Joined config (UdpOpen socket at answer ∷ past) (with_opened config answer socket (moment past) None list)
@@ -198,12 +192,12 @@ module _ (config : Config) (past : List Entry) (socket : ℕ) (at : Endpoint) (n
     -- for a question
     name_joins : (answer : Made) → asks_a_name config errand ≡ true → Joined config (UdpOpen socket at answer ∷ past) list
     name_joins answer name = quiet config (UdpOpen socket at answer) past list (unused answer)
-        (λ n. fresh_other answer n socket (open_sockets past) (Some (datagram_kind_for config (nat_lt 0 (waits past)) (errand_left config past))) (kind_for config n past) new (kind_is true name)) joined
+        (λ n. fresh_other is_association answer n socket (open_sockets past) (Some (datagram_kind_for config (nat_lt 0 (waits past)) (errand_left config past))) (kind_for config n past) new (kind_is true name)) joined
 
     -- for its port
     port_joins : (answer : Made) → asks_a_name config errand ≡ false → NoneOf errand.datagram.from list → Joined config (UdpOpen socket at answer ∷ past) (with_opened config answer socket (moment past) (Some errand) list)
     port_joins Done other none = subst (λ (b : Bool). Joined config (UdpOpen socket at Done ∷ past) (if b then list else list ++ (association socket errand (moment past) ∷ []))) (sym other) (record {
-      those = λ n. fresh_one n socket (open_sockets past) (Some (datagram_kind_for config (nat_lt 0 (waits past)) (errand_left config past))) (kind_for config n past) (kind_is false other)
+      those = λ n. fresh_one is_association n socket (open_sockets past) (Some (datagram_kind_for config (nat_lt 0 (waits past)) (errand_left config past))) (kind_for config n past) (kind_is false other)
           ∙ ap (λ b. b || (n == socket)) (joined.those n) ∙ sym (list_last n);
       kept = kept_last config (UdpOpen socket at Done ∷ past) list (association socket errand (moment past)) (are_kept_on config (UdpOpen socket at Done) past list (unused Done) joined.kept)
           (kept_new config past socket at Done errand number waited asks);
@@ -211,7 +205,7 @@ module _ (config : Config) (past : List Entry) (socket : ℕ) (at : Endpoint) (n
           (before_new config past socket at Done errand number waited asks list (unused Done) joined.kept none);
     })
     port_joins Failed other none = quiet config (UdpOpen socket at Failed) past list (unused Failed)
-        (λ n. fresh_failed n socket (open_sockets past) (Some (datagram_kind_for config (nat_lt 0 (waits past)) (errand_left config past))) (kind_for config n past) new) joined
+        (λ n. fresh_failed is_association n socket (open_sockets past) (Some (datagram_kind_for config (nat_lt 0 (waits past)) (errand_left config past))) (kind_for config n past) new) joined
 
     late_joins : (answer : Made) (name : Bool) → asks_a_name config errand ≡ name → (name ≡ false → NoneOf errand.datagram.from list) → Joined config (UdpOpen socket at answer ∷ past) (with_opened config answer socket (moment past) (Some errand) list)
     late_joins Done true name none = subst (λ (b : Bool). Joined config (UdpOpen socket at Done ∷ past) (if b then list else list ++ (association socket errand (moment past) ∷ []))) (sym name) (name_joins Done name)
@@ -330,22 +324,22 @@ closed_joins config past socket list joined = record {
 -- a peer was accepted, or none came
 peer_joins : (config : Config) (past : List Entry) (listener socket : ℕ) (answer : Accepted) (list : List Association) → is_among socket (open_sockets past) ≡ false → Joined config past list → Joined config (Accept listener socket answer ∷ past) list
 peer_joins config past listener socket (FromPeer peer) list new joined =
-    silent config (Accept listener socket (FromPeer peer)) past list (λ n. refl) (λ n. fresh_other Done n socket (open_sockets past) (Some OfFlow) (kind_for config n past) new refl) joined
+    silent config (Accept listener socket (FromPeer peer)) past list (λ n. refl) (λ n. fresh_other is_association Done n socket (open_sockets past) (Some OfFlow) (kind_for config n past) new refl) joined
 peer_joins config past listener socket NoPeer list new joined =
-    silent config (Accept listener socket NoPeer) past list (λ n. refl) (λ n. fresh_other Failed n socket (open_sockets past) (Some OfFlow) (kind_for config n past) new refl) joined
+    silent config (Accept listener socket NoPeer) past list (λ n. refl) (λ n. fresh_other is_association Failed n socket (open_sockets past) (Some OfFlow) (kind_for config n past) new refl) joined
 peer_joins config past listener socket AcceptFailed list new joined =
-    silent config (Accept listener socket AcceptFailed) past list (λ n. refl) (λ n. fresh_other Failed n socket (open_sockets past) (Some OfFlow) (kind_for config n past) new refl) joined
+    silent config (Accept listener socket AcceptFailed) past list (λ n. refl) (λ n. fresh_other is_association Failed n socket (open_sockets past) (Some OfFlow) (kind_for config n past) new refl) joined
 
 joins_by : (config : Config) (e : Entry) (past : List Entry) → May config past (call_of e) → Lawful config past → JoinedAt config past → JoinedAt config (e ∷ past)
 joins_by config (Connect socket to answer) past may lawful joined =
     let new : is_among socket (open_sockets past) ≡ false = ap (λ n. is_among n (open_sockets past)) (equal socket (next_number past) may.socket) ∙ next_is_new config past lawful in
-    silent config (Connect socket to answer) past (associations config past) (λ n. refl) (λ n. fresh_other answer n socket (open_sockets past) (Some OfFlow) (kind_for config n past) new refl) joined
+    silent config (Connect socket to answer) past (associations config past) (λ n. refl) (λ n. fresh_other is_association answer n socket (open_sockets past) (Some OfFlow) (kind_for config n past) new refl) joined
 joins_by config (Accept listener socket answer) past may lawful joined =
     let new : is_among socket (open_sockets past) ≡ false = ap (λ n. is_among n (open_sockets past)) (equal socket (next_number past) (peer_next config past listener socket answer may)) ∙ next_is_new config past lawful in
     peer_joins config past listener socket answer (associations config past) new joined
 joins_by config (Listen socket at answer) past may lawful joined =
     let new : is_among socket (open_sockets past) ≡ false = ap (λ n. is_among n (open_sockets past)) (equal socket (next_number past) may.socket) ∙ next_is_new config past lawful in
-    silent config (Listen socket at answer) past (associations config past) (λ n. refl) (λ n. fresh_other answer n socket (open_sockets past) (Some OfListener) (kind_for config n past) new refl) joined
+    silent config (Listen socket at answer) past (associations config past) (λ n. refl) (λ n. fresh_other is_association answer n socket (open_sockets past) (Some OfListener) (kind_for config n past) new refl) joined
 joins_by config (UdpOpen socket at answer) past may lawful joined = opened_joins config past socket at answer may lawful joined
 joins_by config (UdpSend socket to octets answer) past may lawful joined = sent_joins config past socket to octets answer may joined
 joins_by config (UdpRecv socket asked answer octets) past may lawful joined = heard_joins config past socket asked answer octets joined

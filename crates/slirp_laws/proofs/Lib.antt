@@ -1,4 +1,6 @@
+pub mod Answering
 pub mod Asked
+pub mod Askers
 pub mod Beside
 pub mod Bools
 pub mod Checks
@@ -7,13 +9,16 @@ pub mod Deeds
 pub mod Finding
 pub mod FlowRows
 mod ForwardRows
-pub mod Giving
 pub mod FragmentRows
 pub mod Framing
+pub mod Giving
+pub mod Hearing
 pub mod Joining
 pub mod KeepingFlows
 pub mod LeaseRows
+pub mod Leaving
 pub mod Lent
+pub mod Listed
 pub mod Longest
 pub mod NameRows
 pub mod Numbers
@@ -21,18 +26,22 @@ pub mod Only
 pub mod OpenSockets
 pub mod Owing
 pub mod Parting
+pub mod Peers
 pub mod Phases
 pub mod Policy
 pub mod Ranges
 pub mod ReadBack
 pub mod Reading
 pub mod Replies
+pub mod Resolving
 pub mod RestRows
 pub mod Rows
 pub mod Sentences
 pub mod Sized
 pub mod Sorts
+pub mod Spelt
 pub mod Steps
 pub mod Strays
 pub mod UdpRows
 pub mod Uses
+pub mod Waiting

@@ -136,7 +136,7 @@ by_kind config past socket (Some OfForward) guests is = cc
 by_kind config past socket (Some Listener) guests is = cc
 by_kind config past socket (Some Flow) guests is = cc
 
-parts_where : (closing least parts_ ended : Bool) → (closing ≡ true → ended ≡ true) → ended ≡ false → (if closing then least else parts_ || (ended && least)) ≡ true → parts_ ≡ true
+pub parts_where : (closing least parts_ ended : Bool) → (closing ≡ true → ended ≡ true) → ended ≡ false → (if closing then least else parts_ || (ended && least)) ≡ true → parts_ ≡ true
 parts_where true least parts_ ended already running is = let over = already refl in cc
 parts_where false least true ended already running is = refl
 parts_where false least false ended already running is = let over = first_of ended least is in cc

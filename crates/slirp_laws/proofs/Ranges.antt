@@ -1,5 +1,5 @@
 -- What guests and peers say is in its range where each answer is one that a World may give.
-use Rattle.std.proofs.Common.{◌≡◌, ℕ, ◌-◌, ◌/◌, ◌%◌, ◌^◌, ◌<◌, ◌==◌, ◌&&◌, not, cond, find, lit<, nat_le, Bool, true, false, List, [], ◌∷◌, ◌++◌, get_or, length, nat_lt, slice_get, take, drop, Option, Some, None, option_map, option_and_then, if◌then◌else◌, inl, inr, refl, ap, subst, arith}
+use Rattle.std.proofs.Common.{◌≡◌, ℕ, ◌-◌, ◌^◌, ◌<◌, ◌==◌, ◌&&◌, not, cond, find, lit<, nat_le, Bool, true, false, List, [], ◌∷◌, ◌++◌, get_or, length, nat_lt, slice_get, drop, Option, Some, None, option_map, option_and_then, if◌then◌else◌, inl, inr, refl, ap, subst, arith}
 use Rattle.std.proofs.lemmas.Bool.{cases_lt}
 use Rattle.std.proofs.lemmas.List.{get_or_past}
 use Rattle.std.specs.List.{range_with_len}
@@ -22,7 +22,7 @@ use Rattle.host_policy.specs.declared.Proto.TheVariants.{Tcp as ByTcp, Udp as By
 use Rattle.host_policy.specs.Addresses.{Config, is_guest}
 use Rattle.ether_frame.specs.Ether.{Ether, read_ether}
 use Rattle.arp_table.specs.Arp.{Arp, read_arp}
-use Rattle.ipv4_head.specs.Ip.{Ip, read_ip, is_ip, head_length, is_unbroken}
+use Rattle.ipv4_head.specs.Ip.{Ip, read_ip, head_length, is_unbroken}
 use Rattle.ipv4_head.specs.Sets.{Key, Part, PartSet, Outcome, UnevenPart, LongPart, Clashes, Waits, Joined, has_octet, joined_body, joined_size, octet_in, octet_of, outcome_among, parts_for, changed_by, OfParts, OfSets, place_of, set_for, start_of, whole_by}
 use Rattle.ipv4_head.proofs.Members.{found_key, of_changed_by, of_left, of_there, of_young, same_key}
 use Rattle.icmp_echo.specs.Icmp.{Icmp, read_icmp}
@@ -42,6 +42,7 @@ use Rattle.dns_relay.specs.Questions.{numbered}
 use Rattle.tftp_server.specs.Asking.{by_answer}
 use Rattle.tftp_server.specs.Transfers.{Outcome as FileOutcome, Said}
 use Rattle.slirp_laws.specs.Said.{Occasion, Heard, by_call, by_joined, by_made, by_outcome, by_said, by_sent, heard_on, last_occasion, occasion_after, refused_or, unsent_or, HasPorts}
+use Rattle.slirp_laws.proofs.Spelt.{spelt}
 
 abbrev IsOctet : ℕ → Type 0
 IsOctet octet = octet < 2 ^ 8
@@ -129,18 +130,9 @@ ether_range frame ether is all =
 
 ip_range : (octets : List ℕ) (ip : Ip) → read_ip octets ≡ Some ip → AreOctets octets → (ip.from < 2 ^ 32) × AreOctets ip.body
 ip_range octets ip is all =
-    let found = cond_some (is_ip octets) (record {
-      ident = two_at octets 4;
-      more = (two_at octets 6 / 2 ^ 13) % 2 == 1;
-      place = two_at octets 6 % 2 ^ 13;
-      proto = one_at octets 9;
-      from = four_at octets 12;
-      to = four_at octets 16;
-      head = take (head_length octets) octets;
-      body = part octets (head_length octets) (two_at octets 2 - head_length octets);
-    }) ip is in
-    let from : four_at octets 12 ≡ ip.from = ap (λ (i : Ip). i.from) found.1 in
-    let body : part octets (head_length octets) (two_at octets 2 - head_length octets) ≡ ip.body = ap (λ (i : Ip). i.body) found.1 in (
+    let found = spelt octets ip is in
+    let from : four_at octets 12 ≡ ip.from = ap (λ (i : Ip). i.from) found in
+    let body : part octets (head_length octets) (two_at octets 2 - head_length octets) ≡ ip.body = ap (λ (i : Ip). i.body) found in (
       subst (λ n. n < 2 ^ 32) from (four_at-fits octets 12 (in_range octets all)),
       subst AreOctets body (All-take IsOctet (two_at octets 2 - head_length octets) (drop (head_length octets) octets) (All-drop IsOctet (head_length octets) octets all)),
     )

@@ -15,7 +15,7 @@ use Rattle.ipv4_head.proofs.Spelling.{reads as reads_datagram}
 use Rattle.udp_assoc.specs.Udp.{Udp, read_udp, summed, udp_octets, udp_with, written_sum}
 use Rattle.udp_assoc.proofs.Spelling.{length-udp, reads as reads_udp}
 use Rattle.udp_assoc.proofs.Writing.{front_is}
-use Rattle.slirp_laws.specs.Answers.{our_mac, part_frame, uncut}
+use Rattle.slirp_laws.specs.Answers.{IpAnswer, frames_for, our_mac, part_frame, uncut}
 use Rattle.slirp_laws.specs.Laws.{Lawful}
 use Rattle.slirp_laws.specs.Said.{AnswersQuestion, Carries, Heard, IsOfServer, IsReplyToItsPort, RepliesToItsPort, identification_with, HasPorts}
 use Rattle.slirp_laws.proofs.Ranges.{RangePeer, RangePort, range_peer, range_port}
@@ -70,42 +70,49 @@ shown_range config peer ours is = by (is_loopback (address peer))
     by true = (ours, is.1)
     by false = is
 
-module _ (config : Config) (past : List Entry) (frame : List ℕ) (ip : Ip) (udp : Udp) (r : RepliesToItsPort config past frame) (peer_range : IsEndpoint (shown config r.peer)) (guest_range : IsEndpoint r.guest) where
-  from : ℕ
-  from = address (shown config r.peer)
+-- a whole datagram of UDP is read as it was written
+pub record IsReadAs (ip : Ip) (udp : Udp) (source target : ℕ) (sent : Udp) : Type 0 where
+  pub from : ip.from ≡ source
+  pub to : ip.to ≡ target
+  pub whole : udp ≡ sent
 
-  to : ℕ
-  to = address r.guest
+pub datagram_back : (config : Config) (past : List Entry) (frame : List ℕ) (ip : Ip) (udp : Udp) (k : ℕ) (rest : List (List ℕ)) (mac : List ℕ) (from to : ℕ) (sent : Udp)
+    → drop k (frames_for config (identification_with k past) (IpAnswer mac udp_proto from to (udp_octets from to sent))) ≡ frame ∷ rest → from < 2 ^ 32 → to < 2 ^ 32 → sent.from_port < 2 ^ 16 → sent.to_port < 2 ^ 16
+    → 28 ≤ config.mtu → length mac ≡ 6 → Carries frame ip → is_unbroken ip ≡ true → read_udp ip.from ip.to ip.body ≡ Some udp → IsReadAs ip udp from to sent
+datagram_back config past frame ip udp k rest mac from to sent frames one other from_port to_port room six c unbroken is =
+    let body = udp_octets from to sent in
+    let ident = identification_with k past in
+    let long : length body ≡ 8 + length sent.body = length-udp (written_sum (summed from to (udp_with 0 sent))) sent in
+    let p = part_of_frames config ident mac udp_proto from to body frame rest k frames in
+    let fits : length body ≤ 65515 = p.short in
+    let read_back = reads_cut config ident mac udp_proto from to body frame k ip room (ident_fits k past) six p c in
+    let tests = unbroken_is ip.more ip.place unbroken in
+    let only = only_cut config.mtu body k room (sym read_back.place ∙ tests.1) (sym read_back.more ∙ tests.0) in
+    let held = carried_ip config ident mac udp_proto from to (uncut body) ip six (subst (λ f. Carries f ip) (p.is ∙ ap (part_frame mac (our_mac config.vhost) ident udp_proto from to) only) c) in
+    let whole = same_some (read_ip (ip_octets ident 0 udp_proto from to body)) ip _ held
+    (ip_back ident udp_proto from to body (ident_fits k past) one other (omega (arith, fits))) in
+    let that : read_udp from to body ≡ Some udp = ap (λ (i : Ip). read_udp i.from i.to i.body) (sym whole) ∙ is in
+    record {
+      from = ap (λ (i : Ip). i.from) whole;
+      to = ap (λ (i : Ip). i.to) whole;
+      whole = same_some (read_udp from to body) udp sent that (udp_back from to sent from_port to_port (omega (arith, long, fits)));
+    }
 
-  reply : Udp
-  reply = record { from_port = (shown config r.peer).port; to_port = r.guest.port; body = r.octets }
-
-  as_read : 28 ≤ config.mtu → length r.mac ≡ 6 → Carries frame ip → is_unbroken ip ≡ true → read_udp ip.from ip.to ip.body ≡ Some udp → IsReplyToItsPort config past ip udp
-  unfolding from to reply
-  as_read room six c unbroken is =
-      let fits = r.fits in
-      let body = udp_octets from to reply in
-      let ident = identification_with r.out past in
-      let long : length body ≡ 8 + length r.octets = length-udp (written_sum (summed from to (udp_with 0 reply))) reply in
-      let p = part_of_frames config ident r.mac udp_proto from to body frame r.rest r.out r.is in
-      let read_back = reads_cut config ident r.mac udp_proto from to body frame r.out ip room (ident_fits r.out past) six p c in
-      let tests = unbroken_is ip.more ip.place unbroken in
-      let only = only_cut config.mtu body r.out room (sym read_back.place ∙ tests.1) (sym read_back.more ∙ tests.0) in
-      let held = carried_ip config ident r.mac udp_proto from to (uncut body) ip six (subst (λ f. Carries f ip) (p.is ∙ ap (part_frame r.mac (our_mac config.vhost) ident udp_proto from to) only) c) in
-      let whole = same_some (read_ip (ip_octets ident 0 udp_proto from to body)) ip _ held
-      (ip_back ident udp_proto from to body (ident_fits r.out past) peer_range.0 guest_range.0 (omega (arith, long, fits))) in
-      let that : read_udp from to body ≡ Some udp = ap (λ (i : Ip). read_udp i.from i.to i.body) (sym whole) ∙ is in
-      let same = same_some (read_udp from to body) udp reply that (udp_back from to reply peer_range.1 guest_range.1 (omega (arith, fits))) in
-      let sent_to : r.guest ≡ endpoint ip.to udp.to_port = λ i. record { addr = record { 0 = (sym whole i).to }; port = (sym same i).to_port } in
-      let sent_from : shown config r.peer ≡ endpoint ip.from udp.from_port = λ i. record { addr = record { 0 = (sym whole i).from }; port = (sym same i).from_port } in
-      record {
-        socket = r.socket;
-        peer = r.peer;
-        last = r.last ∙ ap (λ (u : Udp). Heard r.socket r.peer u.body) (sym same);
-        port = r.port ∙ ap Some sent_to;
-        seen = r.seen;
-        source = sent_from;
-      }
+as_read : (config : Config) (past : List Entry) (frame : List ℕ) (ip : Ip) (udp : Udp) (r : RepliesToItsPort config past frame) → IsEndpoint (shown config r.peer) → IsEndpoint r.guest → 28 ≤ config.mtu → length r.mac ≡ 6 → Carries frame ip → is_unbroken ip ≡ true
+    → read_udp ip.from ip.to ip.body ≡ Some udp → IsReplyToItsPort config past ip udp
+as_read config past frame ip udp r peer_range guest_range room six c unbroken is =
+    let reply : Udp = record { from_port = (shown config r.peer).port; to_port = r.guest.port; body = r.octets } in
+    let back = datagram_back config past frame ip udp r.out r.rest r.mac (address (shown config r.peer)) (address r.guest) reply r.is peer_range.0 guest_range.0 peer_range.1 guest_range.1 room six c unbroken is in
+    let sent_to : r.guest ≡ endpoint ip.to udp.to_port = λ i. record { addr = record { 0 = sym back.to i }; port = (sym back.whole i).to_port } in
+    let sent_from : shown config r.peer ≡ endpoint ip.from udp.from_port = λ i. record { addr = record { 0 = sym back.from i }; port = (sym back.whole i).from_port } in
+    record {
+      socket = r.socket;
+      peer = r.peer;
+      last = r.last ∙ ap (λ (u : Udp). Heard r.socket r.peer u.body) (sym back.whole);
+      port = r.port ∙ ap Some sent_to;
+      seen = r.seen;
+      source = sent_from;
+    }
 
 pub reply_as_read : (config : Config) (e : Entry) (past : List Entry) (frame : List ℕ) (ip : Ip) (udp : Udp) → 28 ≤ config.mtu → Lawful config (e ∷ past) → AreAllowed past → config.vhost < 2 ^ 32 → HasPorts config → goes_out e past ≡ Some frame
     → Carries frame ip → is_unbroken ip ≡ true → ip.proto ≡ udp_proto → read_udp ip.from ip.to ip.body ≡ Some udp

@@ -1,5 +1,5 @@
 -- Our frames, as they are read.
-use Rattle.std.proofs.Common.{◌≡◌, ℕ, ◌+◌, ◌-◌, ◌/◌, ◌%◌, ◌^◌, ◌<◌, ◌≤◌, ◌==◌, ◌&&◌, not, nat_le, Bool, true, false, List, [], ◌∷◌, ◌++◌, length, take, drop, filter, find, map, Option, Some, None, Result, Ok, Err, option_map, option_and_then, if◌then◌else◌, refl, sym, ◌∙◌, ap, subst, arith, lit<, zero, suc}
+use Rattle.std.proofs.Common.{◌≡◌, ℕ, ◌+◌, ◌/◌, ◌%◌, ◌^◌, ◌<◌, ◌≤◌, ◌==◌, ◌&&◌, not, nat_le, Bool, true, false, List, [], ◌∷◌, ◌++◌, length, take, drop, filter, find, map, Option, Some, None, Result, Ok, Err, option_map, option_and_then, if◌then◌else◌, refl, sym, ◌∙◌, ap, subst, arith, lit<, zero, suc}
 use Rattle.std.proofs.lemmas.Bool.Decides.{nat_tests}
 use Rattle.std.proofs.lemmas.Nat.{from_be_bytes-to_be_bytes_2}
 use Rattle.std.proofs.lemmas.Option.{cond_some}
@@ -19,7 +19,7 @@ use Rattle.net_octets.specs.declared.Endpoint.{Endpoint}
 use Rattle.net_octets.specs.declared.Ip4.{Ip4}
 use Rattle.net_octets.specs.declared.Mac.{Mac}
 use Rattle.net_octets.specs.Kinds.{arp_kind, ipv4_kind, icmp_proto, udp_proto, tcp_proto}
-use Rattle.net_octets.specs.Octets.{one_at, two_at, four_at, part}
+use Rattle.net_octets.specs.Octets.{two_at, four_at, part}
 use Rattle.net_octets.proofs.Parts.{length-part}
 use Rattle.host_policy.specs.Addresses.{Config, endpoint, is_guest, is_ours}
 use Rattle.host_policy.specs.declared.Reply.TheVariants.{Nothing, Datagram as ADatagram}
@@ -28,7 +28,7 @@ use Rattle.ether_frame.specs.Ether.{Ether, read_ether, ether_octets}
 use Rattle.ether_frame.proofs.Spelling.{reads as reads_frame}
 use Rattle.arp_table.specs.Arp.{Arp, read_arp, is_arp, arp_octets}
 use Rattle.arp_table.specs.Table.{is_for as has_address, mac_of as learnt_for}
-use Rattle.ipv4_head.specs.Ip.{Ip, read_ip, is_ip, ip_octets, fragment_of, head_length}
+use Rattle.ipv4_head.specs.Ip.{Ip, read_ip, ip_octets, fragment_of}
 use Rattle.ipv4_head.specs.Sets.{Part, PartSet}
 use Rattle.icmp_echo.specs.Icmp.{Icmp, echo, unreachable, other as another, read_icmp}
 use Rattle.udp_assoc.specs.Udp.{Udp, read_udp}
@@ -63,6 +63,7 @@ use Rattle.slirp_laws.specs.Names.{after_call as question_after, question, quest
 use Rattle.slirp_laws.specs.Ports.{last_datagram, last_mac, mac_by, mac_of, opened_for, or_before, mac_for, mac_known}
 use Rattle.slirp_laws.specs.Said.{Carries, is_for_server, Occasion, NoOccasion, Came, Heard, HeardOfName, OfFile, Unsent, Unconnected, by_call, by_got, by_joined, by_made, by_outcome, by_said, by_sent, heard_on, last_occasion, occasion_after, owed_for, refused_or, unsent_or}
 use Rattle.slirp_laws.proofs.Bools.{first_of}
+use Rattle.slirp_laws.proofs.Spelt.{spelt}
 use Rattle.slirp_laws.proofs.Steps.{errand_asks}
 use Rattle.slirp_laws.proofs.Framing.{fragment_fits, our_six, place_kept}
 
@@ -815,22 +816,13 @@ more_kept place false fits = let is : (0 + place) / 8192 % 2 ≡ 0 = omega arith
 reads_ip : (ident place proto from guest : ℕ) (more : Bool) (body : List ℕ) (ip : Ip) → ident < 2 ^ 16 → place < 2 ^ 13 → read_ip (ip_octets ident (fragment_of more place) proto from guest body) ≡ Some ip → ReadsBack ident place proto more ip
 reads_ip ident place proto from guest more body ip fits within is =
     let octets = ip_octets ident (fragment_of more place) proto from guest body in
-    let found = cond_some (is_ip octets) (record {
-      ident = two_at octets 4;
-      more = (two_at octets 6 / 2 ^ 13) % 2 == 1;
-      place = two_at octets 6 % 2 ^ 13;
-      proto = one_at octets 9;
-      from = four_at octets 12;
-      to = four_at octets 16;
-      head = take (head_length octets) octets;
-      body = part octets (head_length octets) (two_at octets 2 - head_length octets);
-    }) ip is in
+    let found = spelt octets ip is in
     let fragment : two_at octets 6 ≡ fragment_of more place = from_be_bytes-to_be_bytes_2 (fragment_of more place) (fragment_fits place more within) in
     record {
-      ident = ap (λ (i : Ip). i.ident) (sym found.1) ∙ from_be_bytes-to_be_bytes_2 ident fits;
-      place = ap (λ (i : Ip). i.place) (sym found.1) ∙ ap (λ n. n % 2 ^ 13) fragment ∙ place_kept place more within;
-      more = ap (λ (i : Ip). i.more) (sym found.1) ∙ ap (λ n. (n / 2 ^ 13) % 2 == 1) fragment ∙ more_kept place more within;
-      proto = ap (λ (i : Ip). i.proto) (sym found.1);
+      ident = ap (λ (i : Ip). i.ident) (sym found) ∙ from_be_bytes-to_be_bytes_2 ident fits;
+      place = ap (λ (i : Ip). i.place) (sym found) ∙ ap (λ n. n % 2 ^ 13) fragment ∙ place_kept place more within;
+      more = ap (λ (i : Ip). i.more) (sym found) ∙ ap (λ n. (n / 2 ^ 13) % 2 == 1) fragment ∙ more_kept place more within;
+      proto = ap (λ (i : Ip). i.proto) (sym found);
     }
 
 -- the frame of an answer is read as it was written

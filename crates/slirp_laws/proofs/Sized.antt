@@ -1,6 +1,5 @@
 -- A segment of a flow, with its headers, is no longer than the MTU.
-use Rattle.std.proofs.Common.{◌≡◌, ℕ, ◌+◌, ◌-◌, ◌≤◌, ◌&&◌, ◌||◌, not, min, max, Bool, true, false, List, [], ◌∷◌, length, drop, MatchBool, Option, Some, None, if◌then◌else◌, refl, sym, ◌∙◌, ap, subst, arith, length-append}
-use Rattle.std.specs.Option.{unwrap_or}
+use Rattle.std.proofs.Common.{◌≡◌, ℕ, ◌+◌, ◌-◌, ◌≤◌, ◌&&◌, ◌||◌, not, Bool, true, false, List, [], ◌∷◌, length, drop, MatchBool, Option, Some, None, if◌then◌else◌, refl, ◌∙◌, ap, subst, arith, length-append}
 use Rattle.world_face.specs.Journal.{Entry, LinkWrite}
 use Rattle.world_face.specs.Frames.{goes_out, opens, tail}
 use Rattle.world_face.specs.declared.Io.{Io}
@@ -12,11 +11,10 @@ use Rattle.tcp_segment.specs.Tcp.{Tcp, mss_octets, options_octets, scale_octets,
 use Rattle.tcp_segment.proofs.Spelling.{length-segment}
 use Rattle.run_laws.specs.Moments.{moment}
 use Rattle.flow_laws.specs.Event.{Segment, Story}
-use Rattle.flow_laws.specs.Lawful.{IsPiece, May as MayOfOne, Send, our_mss, our_scale}
-use Rattle.flow_laws.specs.Windows.{is_scaled, least_shift, mss, their_mss}
+use Rattle.flow_laws.specs.Lawful.{IsPiece, May as MayOfOne, Send}
+use Rattle.flow_laws.specs.Windows.{is_scaled, least_shift, mss}
 use Rattle.flow_book.specs.Book.{book}
-use Rattle.flow_book.specs.Flows.{Flow, is_strange, owner}
-use Rattle.flow_book.specs.Laws.{MaySend, MaySendOn, MayTouch, MayWrite, flow_settings}
+use Rattle.flow_book.specs.Laws.{MaySend, MaySendOn, MayWrite, flow_settings}
 use Rattle.flow_book.specs.Segments.{OnTuple, segment_in}
 use Rattle.slirp_laws.specs.Answers.{left}
 use Rattle.slirp_laws.specs.Laws.{Lawful}

@@ -213,11 +213,13 @@ no_lease : (b : Bool) (to : Endpoint) → (if b then Ignored else ForLeases) ≡
 no_lease true to is = cc
 no_lease false to is = cc
 
-pub goes_to_target : (config : Config) (d : Datagram) (to : Endpoint) → fate config d ≡ GoesTo to → target config ByUdp d.to ≡ Go to
-goes_to_target config d to is =
+pub goes_by_policy : (config : Config) (d : Datagram) (to : Endpoint) → fate config d ≡ GoesTo to → fate_by config d (target config ByUdp d.to) ≡ GoesTo to
+goes_by_policy config d to is =
     let third = fate_by config d (target config ByUdp d.to) in
     let second = if (d.to.port == 69) && (address d.to == config.vhost) then Ignored else third in
-    goes_by config d (target config ByUdp d.to) to
-    (passed_or ((d.to.port == 69) && (address d.to == config.vhost)) Ignored third to (λ never. cc)
+    passed_or ((d.to.port == 69) && (address d.to == config.vhost)) Ignored third to (λ never. cc)
     (passed_or ((d.to.port == 67) && ((address d.to == config.vhost) || (address d.to == 0xffffffff))) (if config.no_dhcp then Ignored else ForLeases) second to (no_lease config.no_dhcp to)
-    (passed_or (d.from.port == 0) Ignored (if (d.to.port == 67) && ((address d.to == config.vhost) || (address d.to == 0xffffffff)) then (if config.no_dhcp then Ignored else ForLeases) else second) to (λ never. cc) is)))
+    (passed_or (d.from.port == 0) Ignored (if (d.to.port == 67) && ((address d.to == config.vhost) || (address d.to == 0xffffffff)) then (if config.no_dhcp then Ignored else ForLeases) else second) to (λ never. cc) is))
+
+pub goes_to_target : (config : Config) (d : Datagram) (to : Endpoint) → fate config d ≡ GoesTo to → target config ByUdp d.to ≡ Go to
+goes_to_target config d to is = goes_by config d (target config ByUdp d.to) to (goes_by_policy config d to is)

@@ -1,18 +1,17 @@
 -- Of the frames of answers only those of resets are read as segments.
-use Rattle.std.proofs.Common.{◌≡◌, ℕ, ◌+◌, ◌-◌, ◌/◌, ◌%◌, ◌^◌, ◌<◌, ◌≤◌, ◌==◌, ◌&&◌, not, Bool, true, false, List, [], ◌∷◌, length, take, drop, Option, Some, None, option_and_then, Result, Ok, Err, if◌then◌else◌, refl, sym, ◌∙◌, ap, subst, arith}
+use Rattle.std.proofs.Common.{◌≡◌, ℕ, ◌+◌, ◌-◌, ◌^◌, ◌<◌, ◌≤◌, ◌==◌, ◌&&◌, not, Bool, true, false, List, [], ◌∷◌, length, take, drop, Option, Some, None, option_and_then, Result, Ok, Err, if◌then◌else◌, refl, sym, ◌∙◌, ap, subst, arith}
 use Rattle.std.proofs.lemmas.List.{take_all}
 use Rattle.std.proofs.lemmas.Nat.{from_be_bytes-to_be_bytes_2}
-use Rattle.std.proofs.lemmas.Option.{cond_some}
 use Rattle.std.specs.Result.{result_ok}
 use Rattle.net_octets.specs.declared.Endpoint.{Endpoint}
 use Rattle.net_octets.specs.declared.Fault.{Fault}
 use Rattle.net_octets.specs.Kinds.{icmp_proto, ipv4_kind, tcp_proto, udp_proto}
-use Rattle.net_octets.specs.Octets.{four_at, one_at, part, two_at}
+use Rattle.net_octets.specs.Octets.{one_at, part, two_at}
 use Rattle.world_face.specs.Journal.{Entry}
 use Rattle.host_policy.specs.Addresses.{Config, address, is_ours}
 use Rattle.host_policy.specs.Targets.{is_hidden}
 use Rattle.ether_frame.specs.Ether.{Ether, read_ether}
-use Rattle.ipv4_head.specs.Ip.{Ip, head_length, ip_octets, is_ip, is_unbroken, read_ip}
+use Rattle.ipv4_head.specs.Ip.{Ip, ip_octets, is_unbroken, read_ip}
 use Rattle.icmp_echo.specs.Icmp.{Icmp, echo, unreachable, other as another}
 use Rattle.tcp_segment.specs.declared.TheConstants.{RST}
 use Rattle.tcp_segment.specs.Tcp.{Tcp, fields_of, has, head_reading, options_reading, read_tcp, tcp_octets, ◌>>=◌}
@@ -36,6 +35,7 @@ use Rattle.slirp_laws.proofs.Numbers.{carries_no_arp, ident_fits, reads_cut}
 use Rattle.slirp_laws.proofs.Owing.{next_left, out_six}
 use Rattle.slirp_laws.proofs.ReadBack.{only_cut, unbroken_is}
 use Rattle.slirp_laws.proofs.Reading.{AllAnswers, SixAnswer, all_if, carried_ip}
+use Rattle.slirp_laws.proofs.Spelt.{spelt}
 
 -- ---- which answers carry segments
 
@@ -125,19 +125,10 @@ carries_one frame on is = of_ether frame on (read_ether frame) refl is
 body_back : (ident proto from to : ℕ) (body : List ℕ) (ip : Ip) → 20 + length body < 2 ^ 16 → read_ip (ip_octets ident 0 proto from to body) ≡ Some ip → ip.body ≡ body
 body_back ident proto from to body ip fits is =
     let octets = ip_octets ident 0 proto from to body in
-    let found = cond_some (is_ip octets) (record {
-      ident = two_at octets 4;
-      more = (two_at octets 6 / 2 ^ 13) % 2 == 1;
-      place = two_at octets 6 % 2 ^ 13;
-      proto = one_at octets 9;
-      from = four_at octets 12;
-      to = four_at octets 16;
-      head = take (head_length octets) octets;
-      body = part octets (head_length octets) (two_at octets 2 - head_length octets);
-    }) ip is in
+    let found = spelt octets ip is in
     let size : two_at octets 2 ≡ 20 + length body = from_be_bytes-to_be_bytes_2 (20 + length body) fits in
     let rest : 20 + length body - 20 ≡ length body = omega arith in
-    ap (λ (i : Ip). i.body) (sym found.1) ∙ ap (λ n. part octets 20 (n - 20)) size ∙ ap (λ n. take n body) rest ∙ take_all (length body) body (omega arith)
+    ap (λ (i : Ip). i.body) (sym found) ∙ ap (λ n. part octets 20 (n - 20)) size ∙ ap (λ n. take n body) rest ∙ take_all (length body) body (omega arith)
 
 -- the flags that are read are those that stand there
 kept : {A : Type 0} (o : Result A Fault) (make : A → Tcp) (n : ℕ) (tcp : Tcp) → ((a : A) → (make a).flags ≡ n) → result_ok (o >>= λ a. Ok (make a)) ≡ Some tcp → tcp.flags ≡ n

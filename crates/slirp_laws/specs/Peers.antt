@@ -1,0 +1,20 @@
+-- Connections that peers open at ports of the host.
+use Rattle.std.specs.Prelude.{◌≡◌, ℕ, false, Some, slice_get}
+use Rattle.net_octets.specs.declared.Endpoint.{Endpoint}
+use Rattle.host_policy.specs.Addresses.{Config}
+use Rattle.host_policy.specs.Targets.{is_hidden, shown}
+use Rattle.host_policy.specs.declared.Forward.{Forward}
+use Rattle.host_policy.specs.declared.Proto.TheVariants.{Tcp}
+use Rattle.flow_table.specs.declared.Tuple.{Tuple}
+
+-- The two ends are the guest to which the settings give a port of the host for connections, and a peer as the policy shows it, which doesn't pass for another
+-- address of the network.
+pub record IsForPeer (config : Config) (ends : Tuple) : Type 0 where
+  pub place : ℕ
+  pub forward : Forward
+  pub given : slice_get config.forwards place ≡ Some forward
+  pub proto : forward.proto ≡ Tcp
+  pub guest : ends.guest ≡ forward.guest
+  pub peer : Endpoint
+  pub seen : is_hidden config peer ≡ false
+  pub other : ends.other ≡ shown config peer
