@@ -31,7 +31,8 @@ use Rattle.slirp_core.specs.Holds.{asked_by, Standing, standing, Flowing, HoldsA
 use Rattle.slirp_core.specs.Replies.{answered_by, asked_of, told_by}
 use Rattle.slirp_core.specs.State.{SlirpState}
 use Rattle.slirp_core.proofs.Associating.{parted, passes_over, sent_on}
-use Rattle.slirp_core.proofs.Names.{association_unmoved, one_numbered, question_last, socket_among}
+use Rattle.slirp_core.proofs.Names.{association_unmoved, one_numbered, socket_among}
+use Rattle.slirp_laws.proofs.Listed.{numbers_last}
 use Rattle.slirp_laws.proofs.Bools.{or_second, same, turned}
 use Rattle.slirp_core.proofs.Relaying.{after_answer, after_asking, after_dropping, after_no_hearing, after_not_yet, after_refusal, after_stranger, after_waiting, asks_by_name, named, no_port, port_of_name, relays_own, relays_question}
 use Rattle.slirp_core.proofs.Ticking.{below_more}
@@ -70,7 +71,7 @@ module _ (config : Config) (at : Standing) (f : Flowing) (link : LinkState) wher
       by Failed allowed = sent_on config at f link slirp past socket errand slirp.associations then_named on unmoved refl holds Failed allowed
 
   last_among : (list : List Question) (q : Question) → is_among q.number (numbers (list ++ (q ∷ []))) ≡ true
-  last_among list q = question_last q.number list q ∙ or_second (is_among q.number (numbers list)) (q.number == q.number) (same q.number)
+  last_among list q = numbers_last q.number list q ∙ or_second (is_among q.number (numbers list)) (q.number == q.number) (same q.number)
 
   -- a socket was opened for one, or wasn't
   opened_for : (slirp : SlirpState) (past : List Entry) (errand : Errand) → asks_a_name config errand ≡ true → (new : List Question) (reply : Reply) (calls : List Entry)

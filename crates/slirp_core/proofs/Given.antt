@@ -38,8 +38,9 @@ use Rattle.slirp_core.specs.Sockets.{AllAbove, IsRising}
 use Rattle.core_flows.proofs.Seats.{same_or_not}
 use Rattle.spliced_flows.proofs.Options.{true_false}
 use Rattle.slirp_core.proofs.Rising.{open_rise}
-use Rattle.slirp_core.proofs.Names.{is_name, known_of}
+use Rattle.slirp_core.proofs.Names.{known_of}
 use Rattle.slirp_laws.specs.Names.{kind_for}
+use Rattle.slirp_laws.specs.Questions.{is_for_question}
 
 -- ---- a port of the host is opened where it is due alone
 
@@ -137,7 +138,7 @@ module _ (config : Config) where
       never (Some Listener) is parts = cc
       never (Some OfFlow) is parts = cc
 
-      by : ((kind_for config m past ≡ kind_of m past) × (is_name (kind_of m past) ≡ false)) ⊎ ((kind_for config m past ≡ Some DnsSocket) × (kind_of m past ≡ Some OfAssociation)) → ⊥
+      by : ((kind_for config m past ≡ kind_of m past) × (is_for_question (kind_of m past) ≡ false)) ⊎ ((kind_for config m past ≡ Some DnsSocket) × (kind_of m past ≡ Some OfAssociation)) → ⊥
       by (inl (is, none)) = never (kind_of m past) kind (sym (ap (may_part config past m) is) ∙ parted)
       by (inr (is, was)) = cc (sym (ap is_given was) ∙ kind)
 

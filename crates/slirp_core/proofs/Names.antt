@@ -21,26 +21,14 @@ use Rattle.slirp_laws.specs.Datagrams.{Errand, asks_a_name}
 use Rattle.slirp_laws.specs.Errands.{errand_left}
 use Rattle.slirp_laws.specs.Laws.{Lawful, May, carries}
 use Rattle.slirp_laws.specs.Names.{datagram_kind_for, kind_for, question, questions, with_heard, with_opened, with_sent}
+use Rattle.slirp_laws.specs.Questions.{is_for_question}
 use Rattle.slirp_laws.specs.Relayed.{associations}
-use Rattle.slirp_laws.proofs.Bools.{among_last, among_without, and_false, equal, first_of, or_second, same, second_of, turned}
+use Rattle.slirp_laws.proofs.Bools.{among_last, among_without, and_false, equal, or_assoc, or_false, or_second, same, second_of, turned}
 use Rattle.slirp_laws.proofs.Joining.{joined, waited_for}
+use Rattle.slirp_laws.proofs.Listed.{numbers_last, numbers_moved, numbers_without}
 use Rattle.slirp_laws.proofs.OpenSockets.{next_is_new, peer_next}
 
 -- ---- their numbers
-
-or_assoc : (a b c : Bool) → (a || (b || c)) ≡ ((a || b) || c)
-or_assoc true b c = refl
-or_assoc false b c = refl
-
-or_swap : (a b : Bool) → (a || b) ≡ (b || a)
-or_swap true true = refl
-or_swap true false = refl
-or_swap false true = refl
-or_swap false false = refl
-
-or_none : (b : Bool) → (b || false) ≡ b
-or_none true = refl
-or_none false = refl
 
 none_first : (a b : Bool) → (a || b) ≡ false → a ≡ false
 none_first true b is = cc
@@ -53,34 +41,6 @@ none_second false b is = is
 pub among_both : (n : ℕ) (xs ys : List ℕ) → is_among n (xs ++ ys) ≡ (is_among n xs || is_among n ys)
 among_both n [] ys = refl
 among_both n (x ∷ xs) ys = ap (λ b. (n == x) || b) (among_both n xs ys) ∙ or_assoc (n == x) (is_among n xs) (is_among n ys)
-
-pub numbers_last : (list : List Question) (q : Question) → question_numbers (list ++ (q ∷ [])) ≡ question_numbers list ++ (q.number ∷ [])
-numbers_last [] q = refl
-numbers_last (x ∷ list) q = ap (λ ns. x.number ∷ ns) (numbers_last list q)
-
-pub question_last : (n : ℕ) (list : List Question) (q : Question) → is_among n (question_numbers (list ++ (q ∷ []))) ≡ (is_among n (question_numbers list) || (n == q.number))
-question_last n list q = ap (is_among n) (numbers_last list q) ∙ among_last n q.number (question_numbers list)
-
-pub question_moved : (change : Question → Question) → ((q : Question) → (change q).number ≡ q.number) → (n m : ℕ) (list : List Question) → is_among n (question_numbers (moved_last change m list)) ≡ is_among n (question_numbers list)
-question_moved change keeps n m [] = refl
-question_moved change keeps n m (x ∷ list) = by (is_numbered m x) (question_moved change keeps n m list)
-  where
-    by : (t : Bool) → is_among n (question_numbers (moved_last change m list)) ≡ is_among n (question_numbers list)
-        → is_among n (question_numbers (cond t (list ++ (change x ∷ [])) (x ∷ moved_last change m list))) ≡ is_among n (question_numbers (x ∷ list))
-    by true rest = question_last n list (change x) ∙ ap (λ k. is_among n (question_numbers list) || (n == k)) (keeps x) ∙ or_swap (is_among n (question_numbers list)) (n == x.number)
-    by false rest = ap (λ b. (n == x.number) || b) rest
-
-numbers_without : (m : ℕ) (list : List Question) → question_numbers (without m list) ≡ filter (λ s. not (s == m)) (question_numbers list)
-numbers_without m [] = refl
-numbers_without m (x ∷ list) = by (x.number == m) (numbers_without m list)
-  where
-    by : (t : Bool) → question_numbers (without m list) ≡ filter (λ s. not (s == m)) (question_numbers list)
-        → question_numbers (cond (not t) (x ∷ without m list) (without m list)) ≡ cond (not t) (x.number ∷ filter (λ s. not (s == m)) (question_numbers list)) (filter (λ s. not (s == m)) (question_numbers list))
-    by true rest = rest
-    by false rest = ap (λ ns. x.number ∷ ns) rest
-
-pub question_without : (n m : ℕ) (list : List Question) → is_among n (question_numbers (without m list)) ≡ (not (n == m) && is_among n (question_numbers list))
-question_without n m list = ap (is_among n) (numbers_without m list) ∙ among_without n m (question_numbers list)
 
 -- one of no question: nothing is closed, none moves, and none has it
 pub none_without : (n : ℕ) (list : List Question) → is_among n (question_numbers list) ≡ false → without n list ≡ list
@@ -145,20 +105,16 @@ association_unmoved change n (a ∷ list) none = by (a.number == n) (turned n a.
 
 -- ---- the kind of a socket
 
-abbrev pub is_name : Option Kind → Bool
-is_name (Some DnsSocket) = true
-is_name _ = false
-
 -- it is that of its entry, which is no question's; or a question's, and its entry makes it an association's
 abbrev pub IsKnown : Config → ℕ → List Entry → Type 0
-IsKnown config n past = ((kind_for config n past ≡ kind_of n past) × (is_name (kind_of n past) ≡ false)) ⊎ ((kind_for config n past ≡ Some DnsSocket) × (kind_of n past ≡ Some OfAssociation))
+IsKnown config n past = ((kind_for config n past ≡ kind_of n past) × (is_for_question (kind_of n past) ≡ false)) ⊎ ((kind_for config n past ≡ Some DnsSocket) × (kind_of n past ≡ Some OfAssociation))
 
-by_other : (b : Bool) (k : Kind) (before now : Option Kind) → is_name (Some k) ≡ false → ((before ≡ now) × (is_name now ≡ false)) ⊎ ((before ≡ Some DnsSocket) × (now ≡ Some OfAssociation))
-    → (((if b then Some k else before) ≡ (if b then Some k else now)) × (is_name (if b then Some k else now) ≡ false)) ⊎ (((if b then Some k else before) ≡ Some DnsSocket) × ((if b then Some k else now) ≡ Some OfAssociation))
+by_other : (b : Bool) (k : Kind) (before now : Option Kind) → is_for_question (Some k) ≡ false → ((before ≡ now) × (is_for_question now ≡ false)) ⊎ ((before ≡ Some DnsSocket) × (now ≡ Some OfAssociation))
+    → (((if b then Some k else before) ≡ (if b then Some k else now)) × (is_for_question (if b then Some k else now) ≡ false)) ⊎ (((if b then Some k else before) ≡ Some DnsSocket) × ((if b then Some k else now) ≡ Some OfAssociation))
 by_other true k before now none was = inl (refl, none)
 by_other false k before now none was = was
 
-known_kind : (waited : Bool) → is_name (Some (datagram_kind waited)) ≡ false
+known_kind : (waited : Bool) → is_for_question (Some (datagram_kind waited)) ≡ false
 known_kind true = refl
 known_kind false = refl
 
@@ -173,11 +129,11 @@ known_of config (UdpOpen socket at answer ∷ past) lawful n = by (errand_left c
     w = nat_lt 0 (waits past)
 
     abbrev Then : Option Errand → Type 0
-    Then o = (((if socket == n then Some (datagram_kind_for config w o) else kind_for config n past) ≡ (if socket == n then Some (datagram_kind w) else kind_of n past)) × (is_name (if socket == n then Some (datagram_kind w) else kind_of n past) ≡ false))
+    Then o = (((if socket == n then Some (datagram_kind_for config w o) else kind_for config n past) ≡ (if socket == n then Some (datagram_kind w) else kind_of n past)) × (is_for_question (if socket == n then Some (datagram_kind w) else kind_of n past) ≡ false))
         ⊎ (((if socket == n then Some (datagram_kind_for config w o) else kind_for config n past) ≡ Some DnsSocket) × ((if socket == n then Some (datagram_kind w) else kind_of n past) ≡ Some OfAssociation))
 
     asking : (b : Bool) (waited : nat_lt 0 (waits past) ≡ true) (hit : Bool) → IsKnown config n past
-        → (((if hit then Some (if b then DnsSocket else datagram_kind w) else kind_for config n past) ≡ (if hit then Some (datagram_kind w) else kind_of n past)) × (is_name (if hit then Some (datagram_kind w) else kind_of n past) ≡ false))
+        → (((if hit then Some (if b then DnsSocket else datagram_kind w) else kind_for config n past) ≡ (if hit then Some (datagram_kind w) else kind_of n past)) × (is_for_question (if hit then Some (datagram_kind w) else kind_of n past) ≡ false))
         ⊎ (((if hit then Some (if b then DnsSocket else datagram_kind w) else kind_for config n past) ≡ Some DnsSocket) × ((if hit then Some (datagram_kind w) else kind_of n past) ≡ Some OfAssociation))
     asking true waited true was = inr (refl, ap (λ (v : Bool). Some (datagram_kind v)) waited)
     asking false waited true was = inl (refl, known_kind w)
@@ -190,28 +146,28 @@ known_of config (_ ∷ past) lawful n = known_of config past lawful.1 n
 
 -- ---- which are open
 
-fresh_other : (answer : Made) (n socket : ℕ) (sockets : List ℕ) (k kind : Option Kind) → is_among socket sockets ≡ false → is_name k ≡ false
-    → (is_among n (with_made answer socket sockets) && is_name (if socket == n then k else kind)) ≡ (is_among n sockets && is_name kind)
+fresh_other : (answer : Made) (n socket : ℕ) (sockets : List ℕ) (k kind : Option Kind) → is_among socket sockets ≡ false → is_for_question k ≡ false
+    → (is_among n (with_made answer socket sockets) && is_for_question (if socket == n then k else kind)) ≡ (is_among n sockets && is_for_question kind)
 fresh_other answer n socket sockets k kind new other = by answer (socket == n) refl
   where
-    by : (answer : Made) (t : Bool) → (socket == n) ≡ t → (is_among n (with_made answer socket sockets) && is_name (if t then k else kind)) ≡ (is_among n sockets && is_name kind)
+    by : (answer : Made) (t : Bool) → (socket == n) ≡ t → (is_among n (with_made answer socket sockets) && is_for_question (if t then k else kind)) ≡ (is_among n sockets && is_for_question kind)
     by answer true this =
         let shut : is_among n sockets ≡ false = subst (λ m. is_among m sockets ≡ false) (equal socket n this) new in
-        ap (λ b. is_among n (with_made answer socket sockets) && b) other ∙ and_false (is_among n (with_made answer socket sockets)) ∙ sym (ap (λ b. b && is_name kind) shut)
-    by Done false this = ap (λ b. b && is_name kind) (among_last n socket sockets ∙ ap (λ b. is_among n sockets || b) (turned socket n false this) ∙ or_none (is_among n sockets))
+        ap (λ b. is_among n (with_made answer socket sockets) && b) other ∙ and_false (is_among n (with_made answer socket sockets)) ∙ sym (ap (λ b. b && is_for_question kind) shut)
+    by Done false this = ap (λ b. b && is_for_question kind) (among_last n socket sockets ∙ ap (λ b. is_among n sockets || b) (turned socket n false this) ∙ or_false (is_among n sockets))
     by Failed false this = refl
 
 fresh_failed : (n socket : ℕ) (sockets : List ℕ) (k kind : Option Kind) → is_among socket sockets ≡ false
-    → (is_among n sockets && is_name (if socket == n then k else kind)) ≡ (is_among n sockets && is_name kind)
+    → (is_among n sockets && is_for_question (if socket == n then k else kind)) ≡ (is_among n sockets && is_for_question kind)
 fresh_failed n socket sockets k kind new = by (socket == n) refl
   where
-    by : (t : Bool) → (socket == n) ≡ t → (is_among n sockets && is_name (if t then k else kind)) ≡ (is_among n sockets && is_name kind)
+    by : (t : Bool) → (socket == n) ≡ t → (is_among n sockets && is_for_question (if t then k else kind)) ≡ (is_among n sockets && is_for_question kind)
     by true this =
         let shut : is_among n sockets ≡ false = subst (λ m. is_among m sockets ≡ false) (equal socket n this) new in
-        ap (λ b. b && is_name k) shut ∙ sym (ap (λ b. b && is_name kind) shut)
+        ap (λ b. b && is_for_question k) shut ∙ sym (ap (λ b. b && is_for_question kind) shut)
     by false this = refl
 
-fresh_one : (n socket : ℕ) (sockets : List ℕ) (kind : Option Kind) → (is_among n (sockets ++ (socket ∷ [])) && is_name (if socket == n then Some DnsSocket else kind)) ≡ ((is_among n sockets && is_name kind) || (n == socket))
+fresh_one : (n socket : ℕ) (sockets : List ℕ) (kind : Option Kind) → (is_among n (sockets ++ (socket ∷ [])) && is_for_question (if socket == n then Some DnsSocket else kind)) ≡ ((is_among n sockets && is_for_question kind) || (n == socket))
 fresh_one n socket sockets kind = by (socket == n) refl
   where
     all : (a b : Bool) → b ≡ true → ((a || b) && true) ≡ true
@@ -226,14 +182,14 @@ fresh_one n socket sockets kind = by (socket == n) refl
     none true false false two = refl
     none false false c two = refl
 
-    by : (t : Bool) → (socket == n) ≡ t → (is_among n (sockets ++ (socket ∷ [])) && is_name (if t then Some DnsSocket else kind)) ≡ ((is_among n sockets && is_name kind) || (n == socket))
+    by : (t : Bool) → (socket == n) ≡ t → (is_among n (sockets ++ (socket ∷ [])) && is_for_question (if t then Some DnsSocket else kind)) ≡ ((is_among n sockets && is_for_question kind) || (n == socket))
     by true this =
         ap (λ b. b && true) (among_last n socket sockets) ∙ all (is_among n sockets) (n == socket) (turned socket n true this)
-        ∙ sym (or_second (is_among n sockets && is_name kind) (n == socket) (turned socket n true this))
-    by false this = ap (λ b. b && is_name kind) (among_last n socket sockets) ∙ none (is_among n sockets) (n == socket) (is_name kind) (turned socket n false this)
+        ∙ sym (or_second (is_among n sockets && is_for_question kind) (n == socket) (turned socket n true this))
+    by false this = ap (λ b. b && is_for_question kind) (among_last n socket sockets) ∙ none (is_among n sockets) (n == socket) (is_for_question kind) (turned socket n false this)
 
 abbrev AreListed : Config → List Entry → Type 0
-AreListed config past = (n : ℕ) → (is_among n (open_sockets past) && is_name (kind_for config n past)) ≡ is_among n (question_numbers (questions config past))
+AreListed config past = (n : ℕ) → (is_among n (open_sockets past) && is_for_question (kind_for config n past)) ≡ is_among n (question_numbers (questions config past))
 
 and_assoc : (a b c : Bool) → ((a && b) && c) ≡ (a && (b && c))
 and_assoc true b c = refl
@@ -244,12 +200,12 @@ listed_open config past socket at Failed new before n = fresh_failed n socket (o
 listed_open config past socket at Done new before n = by (errand_left config past)
   where
     asking : (errand : Errand) (b : Bool)
-        → (is_among n (open_sockets past ++ (socket ∷ [])) && is_name (if socket == n then Some (if b then DnsSocket else datagram_kind (nat_lt 0 (waits past))) else kind_for config n past))
+        → (is_among n (open_sockets past ++ (socket ∷ [])) && is_for_question (if socket == n then Some (if b then DnsSocket else datagram_kind (nat_lt 0 (waits past))) else kind_for config n past))
         ≡ is_among n (question_numbers (if b then questions config past ++ (question socket errand (moment past) ∷ []) else questions config past))
-    asking errand true = fresh_one n socket (open_sockets past) (kind_for config n past) ∙ ap (λ b. b || (n == socket)) (before n) ∙ sym (question_last n (questions config past) (question socket errand (moment past)))
+    asking errand true = fresh_one n socket (open_sockets past) (kind_for config n past) ∙ ap (λ b. b || (n == socket)) (before n) ∙ sym (numbers_last n (questions config past) (question socket errand (moment past)))
     asking errand false = fresh_other Done n socket (open_sockets past) (Some (datagram_kind (nat_lt 0 (waits past)))) (kind_for config n past) new (known_kind (nat_lt 0 (waits past))) ∙ before n
 
-    by : (o : Option Errand) → (is_among n (open_sockets past ++ (socket ∷ [])) && is_name (if socket == n then Some (datagram_kind_for config (nat_lt 0 (waits past)) o) else kind_for config n past))
+    by : (o : Option Errand) → (is_among n (open_sockets past ++ (socket ∷ [])) && is_for_question (if socket == n then Some (datagram_kind_for config (nat_lt 0 (waits past)) o) else kind_for config n past))
         ≡ is_among n (question_numbers (with_opened config Done socket (moment past) o (questions config past)))
     by None = fresh_other Done n socket (open_sockets past) (Some (datagram_kind (nat_lt 0 (waits past)))) (kind_for config n past) new (known_kind (nat_lt 0 (waits past))) ∙ before n
     by (Some errand) = asking errand (asks_a_name config errand)
@@ -268,10 +224,10 @@ listed config (e ∷ past) lawful = by e lawful.0 (listed config past lawful.1)
 
     sent : (socket : ℕ) (o : Option Errand) (n : ℕ) → is_among n (question_numbers (with_sent socket (moment past) o (questions config past))) ≡ is_among n (question_numbers (questions config past))
     sent socket None n = refl
-    sent socket (Some errand) n = question_moved _ (λ q. refl) n socket (questions config past)
+    sent socket (Some errand) n = numbers_moved _ (λ q. refl) n socket (questions config past)
 
     heard : (answer : Got) (socket n : ℕ) → is_among n (question_numbers (with_heard answer socket (moment past) (questions config past))) ≡ is_among n (question_numbers (questions config past))
-    heard (From peer count) socket n = question_moved (heard_at (moment past)) (λ q. refl) n socket (questions config past)
+    heard (From peer count) socket n = numbers_moved (heard_at (moment past)) (λ q. refl) n socket (questions config past)
     heard GotNotYet socket n = refl
     heard GotFailed socket n = refl
 
@@ -283,8 +239,8 @@ listed config (e ∷ past) lawful = by e lawful.0 (listed config past lawful.1)
     by (UdpSend socket to octets answer) may before n = before n ∙ sym (sent socket (errand_left config past) n)
     by (UdpRecv socket asked answer octets) may before n = before n ∙ sym (heard answer socket n)
     by (Close socket) may before n =
-        ap (λ b. b && is_name (kind_for config n past)) (among_without n socket (open_sockets past)) ∙ and_assoc (not (n == socket)) (is_among n (open_sockets past)) (is_name (kind_for config n past))
-        ∙ ap (λ b. not (n == socket) && b) (before n) ∙ sym (question_without n socket (questions config past))
+        ap (λ b. b && is_for_question (kind_for config n past)) (among_without n socket (open_sockets past)) ∙ and_assoc (not (n == socket)) (is_among n (open_sockets past)) (is_for_question (kind_for config n past))
+        ∙ ap (λ b. not (n == socket) && b) (before n) ∙ sym (numbers_without n socket (questions config past))
     by _ may before n = before n
 
 -- ---- the sockets that carry datagrams
@@ -294,20 +250,20 @@ carried config past lawful n =
     by (is_among n (open_sockets past)) (known_of config past lawful n) ∙ (λ i. (joined config past lawful).those n i || listed config past lawful n i)
     ∙ sym (among_both n (numbers (associations config past)) (question_numbers (questions config past)))
   where
-    same_kind : (k : Option Kind) → is_name k ≡ false → is_association k ≡ (is_association k || is_name k)
-    same_kind k none = sym (ap (λ b. is_association k || b) none ∙ or_none (is_association k))
+    same_kind : (k : Option Kind) → is_for_question k ≡ false → is_association k ≡ (is_association k || is_for_question k)
+    same_kind k none = sym (ap (λ b. is_association k || b) none ∙ or_false (is_association k))
 
-    by : (b : Bool) → IsKnown config n past → (b && is_association (kind_of n past)) ≡ ((b && is_association (kind_for config n past)) || (b && is_name (kind_for config n past)))
+    by : (b : Bool) → IsKnown config n past → (b && is_association (kind_of n past)) ≡ ((b && is_association (kind_for config n past)) || (b && is_for_question (kind_for config n past)))
     by false known = refl
-    by true (inl (is, none)) = same_kind (kind_of n past) none ∙ ap (λ k. is_association k || is_name k) (sym is)
-    by true (inr (is, was)) = ap is_association was ∙ sym (ap (λ k. is_association k || is_name k) is)
+    by true (inl (is, none)) = same_kind (kind_of n past) none ∙ ap (λ k. is_association k || is_for_question k) (sym is)
+    by true (inr (is, was)) = ap is_association was ∙ sym (ap (λ k. is_association k || is_for_question k) is)
 
 -- none is an association's and a question's
 pub two_apart : (config : Config) (past : List Entry) → Lawful config past → (n : ℕ) → is_among n (numbers (associations config past)) ≡ true → is_among n (question_numbers (questions config past)) ≡ false
 two_apart config past lawful n among =
     sym (listed config past lawful n) ∙ by (is_among n (open_sockets past)) (kind_for config n past) ((joined config past lawful).those n ∙ among)
   where
-    by : (b : Bool) (k : Option Kind) → (b && is_association k) ≡ true → (b && is_name k) ≡ false
+    by : (b : Bool) (k : Option Kind) → (b && is_association k) ≡ true → (b && is_for_question k) ≡ false
     by true None is = cc
     by true (Some OfAssociation) is = refl
     by true (Some DnsSocket) is = cc
@@ -336,9 +292,9 @@ kind_carried config past lawful n among = by (kind_for config n past) (second_of
     by (Some OfFlow) is = cc
 
 pub kind_named : (config : Config) (past : List Entry) → Lawful config past → (n : ℕ) → is_among n (question_numbers (questions config past)) ≡ true → kind_for config n past ≡ Some DnsSocket
-kind_named config past lawful n among = by (kind_for config n past) (second_of (is_among n (open_sockets past)) (is_name (kind_for config n past)) (listed config past lawful n ∙ among))
+kind_named config past lawful n among = by (kind_for config n past) (second_of (is_among n (open_sockets past)) (is_for_question (kind_for config n past)) (listed config past lawful n ∙ among))
   where
-    by : (k : Option Kind) → is_name k ≡ true → k ≡ Some DnsSocket
+    by : (k : Option Kind) → is_for_question k ≡ true → k ≡ Some DnsSocket
     by None is = cc
     by (Some OfAssociation) is = cc
     by (Some DnsSocket) is = refl

@@ -45,6 +45,7 @@ use Rattle.slirp_laws.proofs.Bools.{among_last, among_without, and_both, first_o
 use Rattle.slirp_laws.proofs.Deeds.{any_one, closes, hears, opens, sends, this_one}
 use Rattle.slirp_laws.proofs.Finding.{idle_is, says_of}
 use Rattle.slirp_laws.proofs.Joining.{joined}
+use Rattle.slirp_laws.proofs.Listed.{numbers_moved, socket_last}
 use Rattle.slirp_laws.proofs.Longest.{among_if, find_some}
 use Rattle.slirp_laws.proofs.Steps.{errand_in}
 use Rattle.stream_netdev.specs.State.{LinkState}
@@ -52,7 +53,7 @@ use Rattle.slirp_core.specs.Holds.{asked_by, Standing, standing, InTurn, IsLast,
 use Rattle.slirp_core.specs.Replies.{owed_at}
 use Rattle.slirp_core.specs.State.{SlirpState}
 use Rattle.slirp_core.proofs.Given.{leads_at}
-use Rattle.slirp_core.proofs.Names.{association_unmoved, carried as carried_names, kind_carried, kind_named, named_apart, neither, none_moved, none_numbered, none_without, one_numbered, question_moved as question_kept, two_apart}
+use Rattle.slirp_core.proofs.Names.{association_unmoved, carried as carried_names, kind_carried, kind_named, named_apart, neither, none_moved, none_numbered, none_without, one_numbered, two_apart}
 use Rattle.slirp_core.proofs.Parts.{asks_nothing, behind_of, errand_for, forward_in, given_in, or_first, or_second, reads_of, still_open, after_socket, asked_for, due_is, in_turn}
 use Rattle.slirp_core.proofs.Services.{asks_resolver, close_due, none_due_for_services, opened_for_name, opened_for_other}
 use Rattle.slirp_core.proofs.Sockets.{numbered_among, idle_among}
@@ -144,19 +145,6 @@ question_none_for (Some socket) list errand is = cc
 question_none_of_room : (o : Option ℕ) (list : List Question) (socket : ℕ) (errand : Errand) → with_question o list errand ≡ NeedsRoom socket errand → o ≡ None
 question_none_of_room None list socket errand is = refl
 question_none_of_room (Some s) list socket errand is = cc
-
-question_last_for : (errand : Errand) (number now : ℕ) (list : List Question) → question_socket errand.datagram.from (ident_in errand.datagram.body) list ≡ None
-    → question_socket errand.datagram.from (ident_in errand.datagram.body) (list ++ (question number errand now ∷ [])) ≡ Some number
-question_last_for errand number now [] none =
-    ap (λ (b : Bool). option_map (λ (x : Question). x.number) (if b then Some (question number errand now) else None))
-    (and_both (same_endpoint errand.datagram.from errand.datagram.from) (ident_in errand.datagram.body == ident_in errand.datagram.body) (same_guest errand.datagram.from) (same (ident_in errand.datagram.body)))
-question_last_for errand number now (q ∷ list) none = by (is_asked errand.datagram.from (ident_in errand.datagram.body) q) none (λ rest. question_last_for errand number now list rest)
-  where
-    by : (b : Bool) → option_map (λ (x : Question). x.number) (if b then Some q else find (is_asked errand.datagram.from (ident_in errand.datagram.body)) list) ≡ None
-        → (question_socket errand.datagram.from (ident_in errand.datagram.body) list ≡ None → question_socket errand.datagram.from (ident_in errand.datagram.body) (list ++ (question number errand now ∷ [])) ≡ Some number)
-        → option_map (λ (x : Question). x.number) (if b then Some q else find (is_asked errand.datagram.from (ident_in errand.datagram.body)) (list ++ (question number errand now ∷ []))) ≡ Some number
-    by true none more = cc
-    by false none more = more none
 
 question_still_none : (guest : Endpoint) (ident socket : ℕ) (list : List Question) → question_socket guest ident list ≡ None → question_socket guest ident (question_without socket list) ≡ None
 question_still_none guest ident socket [] none = refl
@@ -360,7 +348,8 @@ module _ (config : Config) (at : Standing) (slirp : SlirpState) (f : Flowing) (l
         asks = ap (asked_by config then_state) is_left
             ∙ asks_by_name config then_state errand name
             ∙ ap (λ o. with_question o (slirp.questions ++ (question slirp.number errand slirp.moment ∷ [])) errand)
-            (question_last_for errand slirp.number slirp.moment slirp.questions (question_none_for (question_socket errand.datagram.from (ident_in errand.datagram.body) slirp.questions) slirp.questions errand (sym (asks_by_name config slirp errand name) ∙ asks_so)));
+            (socket_last errand.datagram.from (ident_in errand.datagram.body) slirp.questions (question slirp.number errand slirp.moment) (question_none_for (question_socket errand.datagram.from (ident_in errand.datagram.body) slirp.questions) slirp.questions errand (sym (asks_by_name config slirp errand name) ∙ asks_so))
+            (and_both (same_endpoint errand.datagram.from errand.datagram.from) (ident_in errand.datagram.body == ident_in errand.datagram.body) (same_guest errand.datagram.from) (same (ident_in errand.datagram.body))));
         heard = refl;
       })
         where
@@ -752,7 +741,7 @@ module _ (config : Config) (count : ℕ) (wants : List Want) (item : Want) (item
         after_answered config behind_it
         (record slirp { questions = question_moved (heard_on slirp.moment) socket slirp.questions; pending = frames_of slirp.config slirp.sent (name_answer slirp.config q octets ∷ []) }) f link
         (UdpRecv socket size (From peer count_of) octets ∷ past) socket allowed_close
-        (question_kept (heard_on slirp.moment) (λ x. refl) socket socket slirp.questions ∙ asked_here.1) (record { working = hear_turn.working; waited = hear_turn.waited })
+        (numbers_moved (heard_on slirp.moment) (λ x. refl) socket socket slirp.questions ∙ asked_here.1) (record { working = hear_turn.working; waited = hear_turn.waited })
         (heard_with relays_question peer count_of octets allowed (Some socket) slirp.associations (question_moved (heard_on slirp.moment) socket slirp.questions)
         (frames_of slirp.config slirp.sent (name_answer slirp.config q octets ∷ []))
         (association_unmoved (heard_at slirp.moment) socket slirp.associations unlisted) refl

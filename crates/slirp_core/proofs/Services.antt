@@ -22,7 +22,8 @@ use Rattle.slirp_laws.specs.Errands.{errand_left}
 use Rattle.slirp_laws.specs.Laws.{due_for_answer, due_for_services, unless_due}
 use Rattle.slirp_laws.specs.Leasing.{leases, leases_by}
 use Rattle.slirp_laws.specs.Names.{answered}
-use Rattle.slirp_laws.proofs.Steps.{errand_asks, goes_to_target}
+use Rattle.slirp_laws.proofs.Askers.{is_asked, to_resolver}
+use Rattle.slirp_laws.proofs.Steps.{errand_asks}
 use Rattle.slirp_core.specs.Services.{OfServices}
 use Rattle.slirp_core.specs.State.{SlirpState, serving_of}
 
@@ -110,65 +111,21 @@ serving_is config slirp (e ∷ past) at of = let idle = serves_none config (e �
 
 -- ---- names
 
--- only to the resolver a datagram goes that is for the name server
-to_resolver : (a b c : Bool) (r : Option Endpoint) (to : Endpoint)
-    → (if a then Denied Restricted else (if b then Denied PortZero else unwrap_or (option_map Go (if c then r else None)) (Denied NameServer))) ≡ Go to → r ≡ Some to
-to_resolver true b c r to is = cc
-to_resolver false true c r to is = cc
-to_resolver false false false r to is = cc
-to_resolver false false true None to is = cc
-to_resolver false false true (Some at) to is = ap Some (the_same is)
-  where
-    the_same : Go at ≡ Go to → at ≡ to
-    the_same is = cc
-
+-- a datagram that goes out to the name server goes to the resolver, and is a question
 pub asks_resolver : (config : Config) (past : List Entry) (errand : Errand) → errand_left config past ≡ Some errand → asks_a_name config errand ≡ true → config.resolver ≡ Some errand.to
-asks_resolver config past errand left name =
-    to_resolver config.restricted (d.to.port == 0) ((d.to.port == 53) && not config.no_dns) config.resolver errand.to
-    (sym (ap (λ (b : Bool).
-    if config.restricted then Denied Restricted
-    else (if d.to.port == 0 then Denied PortZero
-    else (if b then unwrap_or (option_map Go (if (d.to.port == 53) && not config.no_dns then config.resolver else None)) (Denied NameServer)
-    else (if address d.to == config.vhost then (if config.no_loopback then Denied HostLoopback else Go (endpoint loopback d.to.port))
-    else (if in_network config (address d.to) then Denied Network
-    else (if (first_octet (address d.to) == 0) || is_loopback (address d.to) || is_group_or_reserved (address d.to) then Denied Reserved
-    else Go d.to)))))) name)
-    ∙ goes_to_target config d errand.to (errand_asks config past errand left).goes)
-  where
-    abbrev d : Datagram
-    d = errand.datagram
+asks_resolver config past errand left name = to_resolver config errand name (errand_asks config past errand left).goes
 
--- one that goes out there is a question
 pub goes_as_question : (config : Config) (d : Datagram) (errand : Errand) → errand_of config d ≡ Some errand → asks_a_name config errand ≡ true → is_question errand.datagram.body ≡ true
-goes_as_question config d errand is name = by_fate (fate config d) refl is
+goes_as_question config d errand is name = by (fate config d) refl is
   where
-    by_question : (a b : Bool) (to : Endpoint) → a ≡ true → (if a && not b then Ignored else GoesTo to) ≡ GoesTo errand.to → b ≡ true
-    by_question true true to one goes = refl
-    by_question true false to one goes = cc
-    by_question false b to one goes = cc
-
-    by_verdict : (v : Verdict) → is_to_names config d ≡ true → fate_by config d v ≡ GoesTo errand.to → is_question d.body ≡ true
-    by_verdict (Go to) name goes = by_question (is_to_names config d) (is_question d.body) to name goes
-    by_verdict (Denied rule) name goes = cc
-
-    by_service : (a b c e : Bool) (v : Verdict) → is_to_names config d ≡ true → (if a then Ignored else (if b then (if c then Ignored else ForLeases) else (if e then Ignored else fate_by config d v))) ≡ GoesTo errand.to → is_question d.body ≡ true
-    by_service true b c e v name goes = cc
-    by_service false true true e v name goes = cc
-    by_service false true false e v name goes = cc
-    by_service false false c true v name goes = cc
-    by_service false false c false v name goes = by_verdict v name goes
-
-    by_fate : (f : Fate) → fate config d ≡ f → errand_by d f ≡ Some errand → is_question errand.datagram.body ≡ true
-    by_fate Ignored goes is = cc
-    by_fate Refused goes is = cc
-    by_fate ForLeases goes is = cc
-    by_fate ForFiles goes is = cc
-    by_fate (GoesTo to) goes is =
+    by : (f : Fate) → fate config d ≡ f → errand_by d f ≡ Some errand → is_question errand.datagram.body ≡ true
+    by Ignored goes is = cc
+    by Refused goes is = cc
+    by ForLeases goes is = cc
+    by ForFiles goes is = cc
+    by (GoesTo to) goes is =
         let whole : record { datagram = d; to = to } ≡ errand = the_errand is in
-        subst (λ (e : Errand). is_question e.datagram.body ≡ true) whole
-        (by_service (d.from.port == 0) ((d.to.port == 67) && ((address d.to == config.vhost) || (address d.to == 0xffffffff))) config.no_dhcp ((d.to.port == 69) && (address d.to == config.vhost)) (target config ByUdp d.to)
-        (ap (is_to_names config) (ap (λ (e : Errand). e.datagram) whole) ∙ name)
-        (goes ∙ ap GoesTo (ap (λ (e : Errand). e.to) whole)))
+        is_asked config errand name (ap (λ (e : Errand). fate config e.datagram) (sym whole) ∙ goes ∙ ap (λ (e : Errand). GoesTo e.to) whole)
       where
         the_errand : Some (record { datagram = d; to = to }) ≡ Some errand → record { datagram = d; to = to } ≡ errand
         the_errand is = cc
