@@ -25,7 +25,7 @@ use Rattle.slirp_laws.specs.Questions.{is_for_question}
 use Rattle.slirp_laws.specs.Relayed.{associations}
 use Rattle.slirp_laws.proofs.Bools.{among_last, among_without, and_false, equal, or_assoc, or_false, or_second, same, second_of, turned}
 use Rattle.slirp_laws.proofs.Joining.{joined, waited_for}
-use Rattle.slirp_laws.proofs.Listed.{numbers_last, numbers_moved, numbers_without}
+use Rattle.slirp_laws.proofs.Waiting.{are_waiting}
 use Rattle.slirp_laws.proofs.OpenSockets.{next_is_new, peer_next}
 
 -- ---- their numbers
@@ -144,110 +144,11 @@ known_of config (UdpOpen socket at answer ∷ past) lawful n = by (errand_left c
     by (Some errand) is was = asking (asks_a_name config errand) (waited_for config past errand is lawful.1) (socket == n) was
 known_of config (_ ∷ past) lawful n = known_of config past lawful.1 n
 
--- ---- which are open
-
-fresh_other : (answer : Made) (n socket : ℕ) (sockets : List ℕ) (k kind : Option Kind) → is_among socket sockets ≡ false → is_for_question k ≡ false
-    → (is_among n (with_made answer socket sockets) && is_for_question (if socket == n then k else kind)) ≡ (is_among n sockets && is_for_question kind)
-fresh_other answer n socket sockets k kind new other = by answer (socket == n) refl
-  where
-    by : (answer : Made) (t : Bool) → (socket == n) ≡ t → (is_among n (with_made answer socket sockets) && is_for_question (if t then k else kind)) ≡ (is_among n sockets && is_for_question kind)
-    by answer true this =
-        let shut : is_among n sockets ≡ false = subst (λ m. is_among m sockets ≡ false) (equal socket n this) new in
-        ap (λ b. is_among n (with_made answer socket sockets) && b) other ∙ and_false (is_among n (with_made answer socket sockets)) ∙ sym (ap (λ b. b && is_for_question kind) shut)
-    by Done false this = ap (λ b. b && is_for_question kind) (among_last n socket sockets ∙ ap (λ b. is_among n sockets || b) (turned socket n false this) ∙ or_false (is_among n sockets))
-    by Failed false this = refl
-
-fresh_failed : (n socket : ℕ) (sockets : List ℕ) (k kind : Option Kind) → is_among socket sockets ≡ false
-    → (is_among n sockets && is_for_question (if socket == n then k else kind)) ≡ (is_among n sockets && is_for_question kind)
-fresh_failed n socket sockets k kind new = by (socket == n) refl
-  where
-    by : (t : Bool) → (socket == n) ≡ t → (is_among n sockets && is_for_question (if t then k else kind)) ≡ (is_among n sockets && is_for_question kind)
-    by true this =
-        let shut : is_among n sockets ≡ false = subst (λ m. is_among m sockets ≡ false) (equal socket n this) new in
-        ap (λ b. b && is_for_question k) shut ∙ sym (ap (λ b. b && is_for_question kind) shut)
-    by false this = refl
-
-fresh_one : (n socket : ℕ) (sockets : List ℕ) (kind : Option Kind) → (is_among n (sockets ++ (socket ∷ [])) && is_for_question (if socket == n then Some DnsSocket else kind)) ≡ ((is_among n sockets && is_for_question kind) || (n == socket))
-fresh_one n socket sockets kind = by (socket == n) refl
-  where
-    all : (a b : Bool) → b ≡ true → ((a || b) && true) ≡ true
-    all true b two = refl
-    all false b two = ap (λ b. b && true) two
-
-    none : (a b c : Bool) → b ≡ false → ((a || b) && c) ≡ ((a && c) || b)
-    none true true c two = cc
-    none false true true two = refl
-    none false true false two = cc
-    none true false true two = refl
-    none true false false two = refl
-    none false false c two = refl
-
-    by : (t : Bool) → (socket == n) ≡ t → (is_among n (sockets ++ (socket ∷ [])) && is_for_question (if t then Some DnsSocket else kind)) ≡ ((is_among n sockets && is_for_question kind) || (n == socket))
-    by true this =
-        ap (λ b. b && true) (among_last n socket sockets) ∙ all (is_among n sockets) (n == socket) (turned socket n true this)
-        ∙ sym (or_second (is_among n sockets && is_for_question kind) (n == socket) (turned socket n true this))
-    by false this = ap (λ b. b && is_for_question kind) (among_last n socket sockets) ∙ none (is_among n sockets) (n == socket) (is_for_question kind) (turned socket n false this)
-
-abbrev AreListed : Config → List Entry → Type 0
-AreListed config past = (n : ℕ) → (is_among n (open_sockets past) && is_for_question (kind_for config n past)) ≡ is_among n (question_numbers (questions config past))
-
-and_assoc : (a b c : Bool) → ((a && b) && c) ≡ (a && (b && c))
-and_assoc true b c = refl
-and_assoc false b c = refl
-
-listed_open : (config : Config) (past : List Entry) (socket : ℕ) (at : Endpoint) (answer : Made) → is_among socket (open_sockets past) ≡ false → AreListed config past → AreListed config (UdpOpen socket at answer ∷ past)
-listed_open config past socket at Failed new before n = fresh_failed n socket (open_sockets past) (Some (datagram_kind_for config (nat_lt 0 (waits past)) (errand_left config past))) (kind_for config n past) new ∙ before n
-listed_open config past socket at Done new before n = by (errand_left config past)
-  where
-    asking : (errand : Errand) (b : Bool)
-        → (is_among n (open_sockets past ++ (socket ∷ [])) && is_for_question (if socket == n then Some (if b then DnsSocket else datagram_kind (nat_lt 0 (waits past))) else kind_for config n past))
-        ≡ is_among n (question_numbers (if b then questions config past ++ (question socket errand (moment past) ∷ []) else questions config past))
-    asking errand true = fresh_one n socket (open_sockets past) (kind_for config n past) ∙ ap (λ b. b || (n == socket)) (before n) ∙ sym (numbers_last n (questions config past) (question socket errand (moment past)))
-    asking errand false = fresh_other Done n socket (open_sockets past) (Some (datagram_kind (nat_lt 0 (waits past)))) (kind_for config n past) new (known_kind (nat_lt 0 (waits past))) ∙ before n
-
-    by : (o : Option Errand) → (is_among n (open_sockets past ++ (socket ∷ [])) && is_for_question (if socket == n then Some (datagram_kind_for config (nat_lt 0 (waits past)) o) else kind_for config n past))
-        ≡ is_among n (question_numbers (with_opened config Done socket (moment past) o (questions config past)))
-    by None = fresh_other Done n socket (open_sockets past) (Some (datagram_kind (nat_lt 0 (waits past)))) (kind_for config n past) new (known_kind (nat_lt 0 (waits past))) ∙ before n
-    by (Some errand) = asking errand (asks_a_name config errand)
-
-listed_peer : (config : Config) (past : List Entry) (listener socket : ℕ) (answer : Accepted) → is_among socket (open_sockets past) ≡ false → AreListed config past → AreListed config (Accept listener socket answer ∷ past)
-listed_peer config past listener socket (FromPeer peer) new before n = fresh_other Done n socket (open_sockets past) (Some OfFlow) (kind_for config n past) new refl ∙ before n
-listed_peer config past listener socket NoPeer new before n = fresh_other Failed n socket (open_sockets past) (Some OfFlow) (kind_for config n past) new refl ∙ before n
-listed_peer config past listener socket AcceptFailed new before n = fresh_other Failed n socket (open_sockets past) (Some OfFlow) (kind_for config n past) new refl ∙ before n
-
-pub listed : (config : Config) (past : List Entry) → Lawful config past → AreListed config past
-listed config [] lawful n = refl
-listed config (e ∷ past) lawful = by e lawful.0 (listed config past lawful.1)
-  where
-    new : (socket : ℕ) → (socket == next_number past) ≡ true → is_among socket (open_sockets past) ≡ false
-    new socket is = ap (λ n. is_among n (open_sockets past)) (equal socket (next_number past) is) ∙ next_is_new config past lawful.1
-
-    sent : (socket : ℕ) (o : Option Errand) (n : ℕ) → is_among n (question_numbers (with_sent socket (moment past) o (questions config past))) ≡ is_among n (question_numbers (questions config past))
-    sent socket None n = refl
-    sent socket (Some errand) n = numbers_moved _ (λ q. refl) n socket (questions config past)
-
-    heard : (answer : Got) (socket n : ℕ) → is_among n (question_numbers (with_heard answer socket (moment past) (questions config past))) ≡ is_among n (question_numbers (questions config past))
-    heard (From peer count) socket n = numbers_moved (heard_at (moment past)) (λ q. refl) n socket (questions config past)
-    heard GotNotYet socket n = refl
-    heard GotFailed socket n = refl
-
-    by : (e : Entry) → May config past (call_of e) → AreListed config past → AreListed config (e ∷ past)
-    by (Connect socket to answer) may before n = fresh_other answer n socket (open_sockets past) (Some OfFlow) (kind_for config n past) (new socket may.socket) refl ∙ before n
-    by (Listen socket at answer) may before n = fresh_other answer n socket (open_sockets past) (Some OfListener) (kind_for config n past) (new socket may.socket) refl ∙ before n
-    by (Accept listener socket answer) may before n = listed_peer config past listener socket answer (new socket (peer_next config past listener socket answer may)) before n
-    by (UdpOpen socket at answer) may before n = listed_open config past socket at answer (new socket may.socket) before n
-    by (UdpSend socket to octets answer) may before n = before n ∙ sym (sent socket (errand_left config past) n)
-    by (UdpRecv socket asked answer octets) may before n = before n ∙ sym (heard answer socket n)
-    by (Close socket) may before n =
-        ap (λ b. b && is_for_question (kind_for config n past)) (among_without n socket (open_sockets past)) ∙ and_assoc (not (n == socket)) (is_among n (open_sockets past)) (is_for_question (kind_for config n past))
-        ∙ ap (λ b. not (n == socket) && b) (before n) ∙ sym (numbers_without n socket (questions config past))
-    by _ may before n = before n
-
 -- ---- the sockets that carry datagrams
 
 pub carried : (config : Config) (past : List Entry) → Lawful config past → (n : ℕ) → carries past n ≡ is_among n (numbers (associations config past) ++ question_numbers (questions config past))
 carried config past lawful n =
-    by (is_among n (open_sockets past)) (known_of config past lawful n) ∙ (λ i. (joined config past lawful).those n i || listed config past lawful n i)
+    by (is_among n (open_sockets past)) (known_of config past lawful n) ∙ (λ i. (joined config past lawful).those n i || (are_waiting config past lawful).those n i)
     ∙ sym (among_both n (numbers (associations config past)) (question_numbers (questions config past)))
   where
     same_kind : (k : Option Kind) → is_for_question k ≡ false → is_association k ≡ (is_association k || is_for_question k)
@@ -261,7 +162,7 @@ carried config past lawful n =
 -- none is an association's and a question's
 pub two_apart : (config : Config) (past : List Entry) → Lawful config past → (n : ℕ) → is_among n (numbers (associations config past)) ≡ true → is_among n (question_numbers (questions config past)) ≡ false
 two_apart config past lawful n among =
-    sym (listed config past lawful n) ∙ by (is_among n (open_sockets past)) (kind_for config n past) ((joined config past lawful).those n ∙ among)
+    sym ((are_waiting config past lawful).those n) ∙ by (is_among n (open_sockets past)) (kind_for config n past) ((joined config past lawful).those n ∙ among)
   where
     by : (b : Bool) (k : Option Kind) → (b && is_association k) ≡ true → (b && is_for_question k) ≡ false
     by true None is = cc
@@ -292,7 +193,7 @@ kind_carried config past lawful n among = by (kind_for config n past) (second_of
     by (Some OfFlow) is = cc
 
 pub kind_named : (config : Config) (past : List Entry) → Lawful config past → (n : ℕ) → is_among n (question_numbers (questions config past)) ≡ true → kind_for config n past ≡ Some DnsSocket
-kind_named config past lawful n among = by (kind_for config n past) (second_of (is_among n (open_sockets past)) (is_for_question (kind_for config n past)) (listed config past lawful n ∙ among))
+kind_named config past lawful n among = by (kind_for config n past) (second_of (is_among n (open_sockets past)) (is_for_question (kind_for config n past)) ((are_waiting config past lawful).those n ∙ among))
   where
     by : (k : Option Kind) → is_for_question k ≡ true → k ≡ Some DnsSocket
     by None is = cc

@@ -105,31 +105,34 @@ no_socket_for : (o : Option ℕ) (list : List Question) (errand : Errand) → wi
 no_socket_for None list errand is = refl
 no_socket_for (Some socket) list errand is = cc
 
-opened_unsent : (config : Config) (past : List Entry) (socket : ℕ) (at : Endpoint) (errand : Errand) → May config past (CallUdpOpen socket at) → Lawful config past → errand_left config past ≡ Some errand → asks_a_name config errand ≡ true
-    → IsUnsent config (UdpOpen socket at Done ∷ past) socket errand.datagram.from (ident_in errand.datagram.body)
-opened_unsent config past socket at errand may lawful left names =
+-- a socket is opened for a question where none waits that is of this port with this identifier
+pub no_socket_yet : (config : Config) (past : List Entry) (socket : ℕ) (at : Endpoint) (errand : Errand) → May config past (CallUdpOpen socket at) → Lawful config past → errand_left config past ≡ Some errand → asks_a_name config errand ≡ true
+    → socket_of errand.datagram.from (ident_in errand.datagram.body) (questions config past) ≡ None
+no_socket_yet config past socket at errand may lawful left names =
     elim (opens config past socket at may) [
-      | inl early ↦ (let none = early.0 in absurd (omega (arith, none, some)))
-      | inr o ↦ record {
-        errand = errand;
-        needs = step_to_name config (UdpOpen socket at Done ∷ past) errand names left ∙ ap (λ list. step_to_names list errand) list_is
-            ∙ ap (λ o. with_socket o (questions config past ++ (question socket errand (moment past) ∷ [])) errand) (socket_last errand.datagram.from (ident_in errand.datagram.body) (questions config past) (question socket errand (moment past))
-            (no_socket_for (socket_of errand.datagram.from (ident_in errand.datagram.body) (questions config past)) (questions config past) errand (sym (step_to_name config past errand names left) ∙ o.asked ∙ ap NeedsSocket (the_same o.errand (sym (errand_is config past (NeedsSocket o.errand) o.asked) ∙ left))))
-            (and_both (same_endpoint errand.datagram.from errand.datagram.from) (ident_in errand.datagram.body == ident_in errand.datagram.body) (same_port errand.datagram.from) (same (ident_in errand.datagram.body))));
-        names = names;
-        port = refl;
-        identifier = refl;
-        ahead = first_due (phase config past) past (unless_due (due_for config (step config past) (next_number past)) (others_due config past)) socket at (has_waited config past) some
-            (due_call (due config past) (CallUdpOpen socket at) may.place may.due);
-      }
+      | inl early ↦ (let none = early.0 in let waited = waited_for config past errand left lawful in let some : 0 < waits past = grind (arith, nat_tests, waited) in absurd (omega (arith, none, some)))
+      | inr o ↦ no_socket_for (socket_of errand.datagram.from (ident_in errand.datagram.body) (questions config past)) (questions config past) errand
+          (sym (step_to_name config past errand names left) ∙ o.asked ∙ ap NeedsSocket (the_same o.errand (sym (errand_is config past (NeedsSocket o.errand) o.asked) ∙ left)))
     ]
   where
-    some : 0 < waits past
-    some = let waited = waited_for config past errand left lawful in grind (arith, nat_tests, waited)
-
     the_same : (other : Errand) → Some other ≡ Some errand → other ≡ errand
     the_same other is = cc
 
+opened_unsent : (config : Config) (past : List Entry) (socket : ℕ) (at : Endpoint) (errand : Errand) → May config past (CallUdpOpen socket at) → Lawful config past → errand_left config past ≡ Some errand → asks_a_name config errand ≡ true
+    → IsUnsent config (UdpOpen socket at Done ∷ past) socket errand.datagram.from (ident_in errand.datagram.body)
+opened_unsent config past socket at errand may lawful left names = record {
+  errand = errand;
+  needs = step_to_name config (UdpOpen socket at Done ∷ past) errand names left ∙ ap (λ list. step_to_names list errand) list_is
+      ∙ ap (λ o. with_socket o (questions config past ++ (question socket errand (moment past) ∷ [])) errand) (socket_last errand.datagram.from (ident_in errand.datagram.body) (questions config past) (question socket errand (moment past))
+      (no_socket_yet config past socket at errand may lawful left names)
+      (and_both (same_endpoint errand.datagram.from errand.datagram.from) (ident_in errand.datagram.body == ident_in errand.datagram.body) (same_port errand.datagram.from) (same (ident_in errand.datagram.body))));
+  names = names;
+  port = refl;
+  identifier = refl;
+  ahead = first_due (phase config past) past (unless_due (due_for config (step config past) (next_number past)) (others_due config past)) socket at (has_waited config past) (let waited = waited_for config past errand left lawful in grind (arith, nat_tests, waited))
+      (due_call (due config past) (CallUdpOpen socket at) may.place may.due);
+}
+  where
     list_is : questions config (UdpOpen socket at Done ∷ past) ≡ questions config past ++ (question socket errand (moment past) ∷ [])
     list_is = ap (λ o. with_opened config Done socket (moment past) o (questions config past)) left
         ∙ ap (λ (b : Bool). if b then questions config past ++ (question socket errand (moment past) ∷ []) else questions config past) names

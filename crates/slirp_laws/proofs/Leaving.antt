@@ -184,33 +184,34 @@ leaves_for config past socket may lawful running one =
 
 -- ---- what is asked on an open socket is kept
 
-abbrev HasIdent : ℕ → ℕ → Question → Type 0
-HasIdent n ident q = q.number ≡ n → q.ident ≡ ident
+abbrev pub IsFor : ℕ → Endpoint → ℕ → Question → Type 0
+IsFor n guest ident q = q.number ≡ n → (q.guest ≡ guest) × (q.ident ≡ ident)
 
 -- of a list in the order of use only one has the number
-vacuous : (past : List Entry) (n ident : ℕ) (list : List Question) → AllUsedAfter past n (numbers list) → AllQuestions (HasIdent n ident) list
-vacuous past n ident [] is = tt
-vacuous past n ident (q ∷ list) is = (
+vacuous : (past : List Entry) (n : ℕ) (guest : Endpoint) (ident : ℕ) (list : List Question) → AllUsedAfter past n (numbers list) → AllQuestions (IsFor n guest ident) list
+vacuous past n guest ident [] is = tt
+vacuous past n guest ident (q ∷ list) is = (
   (λ this. (let one = ap (λ m. last_use m past) this in let later = is.0 in absurd (omega (arith, one, later)))),
-  vacuous past n ident list is.1,
+  vacuous past n guest ident list is.1,
 )
 
-record IsOfOne (n ident : ℕ) (list : List Question) : Type 0 where
-  among : is_among n (numbers list) ≡ true
-  idents : AllQuestions (HasIdent n ident) list
+-- a question has this number, and each one that has it is of this port with this identifier
+pub record IsOfOne (n : ℕ) (guest : Endpoint) (ident : ℕ) (list : List Question) : Type 0 where
+  pub among : is_among n (numbers list) ≡ true
+  pub idents : AllQuestions (IsFor n guest ident) list
 
-of_one : (past : List Entry) (guest : Endpoint) (ident n : ℕ) (list : List Question) → AreByLastUse past (numbers list) → socket_of guest ident list ≡ Some n → IsOfOne n ident list
+of_one : (past : List Entry) (guest : Endpoint) (ident n : ℕ) (list : List Question) → AreByLastUse past (numbers list) → socket_of guest ident list ≡ Some n → IsOfOne n guest ident list
 of_one past guest ident n [] order is = absurd cc
 of_one past guest ident n (x ∷ list) order is = by (is_of guest ident x) refl is (λ more. of_one past guest ident n list order.1 more)
   where
-    by : (b : Bool) → is_of guest ident x ≡ b → option_map (λ (q : Question). q.number) (if b then Some x else find (is_of guest ident) list) ≡ Some n → (socket_of guest ident list ≡ Some n → IsOfOne n ident list) → IsOfOne n ident (x ∷ list)
+    by : (b : Bool) → is_of guest ident x ≡ b → option_map (λ (q : Question). q.number) (if b then Some x else find (is_of guest ident) list) ≡ Some n → (socket_of guest ident list ≡ Some n → IsOfOne n guest ident list) → IsOfOne n guest ident (x ∷ list)
     by true this is more =
         let here : x.number ≡ n = cc in
         record {
           among = ap (λ b. b || is_among n (numbers list)) (ap (λ m. n == m) here ∙ same n);
           idents = (
-            (λ number. equal x.ident ident (second_of (same_endpoint x.guest guest) (x.ident == ident) this)),
-            subst (λ m. AllQuestions (HasIdent m ident) list) here (vacuous past x.number ident list order.0),
+            (λ number. (equal_endpoints x.guest guest (first_of (same_endpoint x.guest guest) (x.ident == ident) this), equal x.ident ident (second_of (same_endpoint x.guest guest) (x.ident == ident) this))),
+            subst (λ m. AllQuestions (IsFor m guest ident) list) here (vacuous past x.number guest ident list order.0),
           );
         }
     by false other is more =
@@ -226,45 +227,45 @@ or_first true b is = refl
 or_first false b is = cc
 
 -- an entry after which the socket is open
-opened_keeps : (config : Config) (past : List Entry) (n ident socket now : ℕ) (answer : Made) (o : Option Errand) (list : List Question) → socket ≡ next_number past → n < next_number past → IsOfOne n ident list → IsOfOne n ident (with_opened config answer socket now o list)
-opened_keeps config past n ident socket now Done None list number drawn one = one
-opened_keeps config past n ident socket now Failed o list number drawn one = one
-opened_keeps config past n ident socket now Done (Some errand) list number drawn one = by (asks_a_name config errand)
+opened_keeps : (config : Config) (past : List Entry) (n : ℕ) (guest : Endpoint) (ident socket now : ℕ) (answer : Made) (o : Option Errand) (list : List Question) → socket ≡ next_number past → n < next_number past → IsOfOne n guest ident list → IsOfOne n guest ident (with_opened config answer socket now o list)
+opened_keeps config past n guest ident socket now Done None list number drawn one = one
+opened_keeps config past n guest ident socket now Failed o list number drawn one = one
+opened_keeps config past n guest ident socket now Done (Some errand) list number drawn one = by (asks_a_name config errand)
   where
-    by : (b : Bool) → IsOfOne n ident (if b then list ++ (question socket errand now ∷ []) else list)
+    by : (b : Bool) → IsOfOne n guest ident (if b then list ++ (question socket errand now ∷ []) else list)
     by true = record {
       among = numbers_last n list (question socket errand now) ∙ or_first (is_among n (numbers list)) (n == socket) one.among;
-      idents = all_last (HasIdent n ident) list (question socket errand now) one.idents (λ this. absurd (omega (arith, number, drawn, this)));
+      idents = all_last (IsFor n guest ident) list (question socket errand now) one.idents (λ this. absurd (omega (arith, number, drawn, this)));
     }
     by false = one
 
-sent_keeps : (n ident socket now : ℕ) (o : Option Errand) (list : List Question) → IsOfOne n ident list → IsOfOne n ident (with_sent socket now o list)
-sent_keeps n ident socket now None list one = one
-sent_keeps n ident socket now (Some errand) list one = record {
+sent_keeps : (n : ℕ) (guest : Endpoint) (ident socket now : ℕ) (o : Option Errand) (list : List Question) → IsOfOne n guest ident list → IsOfOne n guest ident (with_sent socket now o list)
+sent_keeps n guest ident socket now None list one = one
+sent_keeps n guest ident socket now (Some errand) list one = record {
   among = numbers_moved _ (λ q. refl) n socket list ∙ one.among;
-  idents = all_moved (HasIdent n ident) _ socket list (λ q is. is) one.idents;
+  idents = all_moved (IsFor n guest ident) _ socket list (λ q is. is) one.idents;
 }
 
-heard_keeps : (n ident socket now : ℕ) (answer : Got) (list : List Question) → IsOfOne n ident list → IsOfOne n ident (with_heard answer socket now list)
-heard_keeps n ident socket now (From peer count) list one = record {
+heard_keeps : (n : ℕ) (guest : Endpoint) (ident socket now : ℕ) (answer : Got) (list : List Question) → IsOfOne n guest ident list → IsOfOne n guest ident (with_heard answer socket now list)
+heard_keeps n guest ident socket now (From peer count) list one = record {
   among = numbers_moved _ (λ q. refl) n socket list ∙ one.among;
-  idents = all_moved (HasIdent n ident) _ socket list (λ q is. is) one.idents;
+  idents = all_moved (IsFor n guest ident) _ socket list (λ q is. is) one.idents;
 }
-heard_keeps n ident socket now GotNotYet list one = one
-heard_keeps n ident socket now GotFailed list one = one
+heard_keeps n guest ident socket now GotNotYet list one = one
+heard_keeps n guest ident socket now GotFailed list one = one
 
-closed_keeps : (n ident socket : ℕ) (list : List Question) → not (n == socket) ≡ true → IsOfOne n ident list → IsOfOne n ident (without socket list)
-closed_keeps n ident socket list other one = record {
+closed_keeps : (n : ℕ) (guest : Endpoint) (ident socket : ℕ) (list : List Question) → not (n == socket) ≡ true → IsOfOne n guest ident list → IsOfOne n guest ident (without socket list)
+closed_keeps n guest ident socket list other one = record {
   among = numbers_without n socket list ∙ and_both (not (n == socket)) (is_among n (numbers list)) other one.among;
-  idents = all_left (HasIdent n ident) socket list one.idents;
+  idents = all_left (IsFor n guest ident) socket list one.idents;
 }
 
-keeps_one : (config : Config) (e : Entry) (past : List Entry) (n ident : ℕ) → May config past (call_of e) → n < next_number past → is_among n (open_sockets (e ∷ past)) ≡ true → IsOfOne n ident (questions config past) → IsOfOne n ident (questions config (e ∷ past))
-keeps_one config (Close socket) past n ident may drawn open_yet one = closed_keeps n ident socket (questions config past) (first_of (not (n == socket)) (is_among n (open_sockets past)) (sym (among_without n socket (open_sockets past)) ∙ open_yet)) one
-keeps_one config (UdpOpen socket at answer) past n ident may drawn open_yet one = opened_keeps config past n ident socket (moment past) answer (errand_left config past) (questions config past) (equal socket (next_number past) may.socket) drawn one
-keeps_one config (UdpSend socket to octets answer) past n ident may drawn open_yet one = sent_keeps n ident socket (moment past) (errand_left config past) (questions config past) one
-keeps_one config (UdpRecv socket asked answer octets) past n ident may drawn open_yet one = heard_keeps n ident socket (moment past) answer (questions config past) one
-keeps_one config _ past n ident may drawn open_yet one = one
+keeps_one : (config : Config) (e : Entry) (past : List Entry) (n : ℕ) (guest : Endpoint) (ident : ℕ) → May config past (call_of e) → n < next_number past → is_among n (open_sockets (e ∷ past)) ≡ true → IsOfOne n guest ident (questions config past) → IsOfOne n guest ident (questions config (e ∷ past))
+keeps_one config (Close socket) past n guest ident may drawn open_yet one = closed_keeps n guest ident socket (questions config past) (first_of (not (n == socket)) (is_among n (open_sockets past)) (sym (among_without n socket (open_sockets past)) ∙ open_yet)) one
+keeps_one config (UdpOpen socket at answer) past n guest ident may drawn open_yet one = opened_keeps config past n guest ident socket (moment past) answer (errand_left config past) (questions config past) (equal socket (next_number past) may.socket) drawn one
+keeps_one config (UdpSend socket to octets answer) past n guest ident may drawn open_yet one = sent_keeps n guest ident socket (moment past) (errand_left config past) (questions config past) one
+keeps_one config (UdpRecv socket asked answer octets) past n guest ident may drawn open_yet one = heard_keeps n guest ident socket (moment past) answer (questions config past) one
+keeps_one config _ past n guest ident may drawn open_yet one = one
 
 -- a socket that is open was so before, where its number was drawn
 was_open : (config : Config) (e : Entry) (past : List Entry) (n : ℕ) → May config past (call_of e) → n < next_number past → is_among n (open_sockets (e ∷ past)) ≡ true → is_among n (open_sockets past) ≡ true
@@ -275,15 +276,15 @@ was_open config e past n may drawn open_yet = by (is_among n (open_sockets past)
     by false shut = (let gone = gone_by config n e past may (record { drawn = drawn; shut = shut }) in let never : true ≡ false = sym open_yet ∙ gone.shut in cc)
 
 -- a question that was sent on a socket that is open yet waits
-record IsKept (config : Config) (past : List Entry) (n ident : ℕ) : Type 0 where
+record IsKept (config : Config) (past : List Entry) (n : ℕ) (guest : Endpoint) (ident : ℕ) : Type 0 where
   drawn : n < next_number past
-  one : is_among n (open_sockets past) ≡ true → IsOfOne n ident (questions config past)
+  one : is_among n (open_sockets past) ≡ true → IsOfOne n guest ident (questions config past)
 
 same_datagram : (o : Option Datagram) (a b : Datagram) → o ≡ Some a → o ≡ Some b → a ≡ b
 same_datagram o a b is was = let both : Some a ≡ Some b = sym is ∙ was in cc
 
 asked_here : (config : Config) (earlier : List Entry) (socket : ℕ) (to : Endpoint) (d : Datagram) (answer : Sent) → Lawful config (UdpSend socket to d.body answer ∷ earlier) → last_datagram config earlier ≡ Some d → (d.to.addr.0 == config.vnameserver) ≡ true
-    → IsKept config (UdpSend socket to d.body answer ∷ earlier) socket (ident_in d.body)
+    → IsKept config (UdpSend socket to d.body answer ∷ earlier) socket d.from (ident_in d.body)
 asked_here config earlier socket to d answer lawful last names =
     let s = sends config earlier socket to d.body lawful.0 in
     let asks : Asks config (last_datagram config earlier) s.errand = errand_asks config earlier s.errand (errand_is config earlier (NeedsSending socket s.errand) s.asked) in
@@ -292,29 +293,28 @@ asked_here config earlier socket to d answer lawful last names =
     let at = opened_for_question config earlier socket s.errand server s.asked in
     let one = of_one earlier s.errand.datagram.from (ident_in s.errand.datagram.body) socket (questions config earlier) (are_waiting config earlier lawful.1).order at in
     let known = socket_found (KeptQuestion config earlier) s.errand.datagram.from (ident_in s.errand.datagram.body) socket (questions config earlier) (kept_questions config earlier lawful.1) at in
-    let ident : ident_in s.errand.datagram.body ≡ ident_in d.body = ap (λ (x : Datagram). ident_in x.body) (sym this) in
     record {
       drawn = (let drawn = known.1.drawn in let number = known.3 in omega (arith, drawn, number));
-      one = λ open_yet. sent_keeps socket (ident_in d.body) socket (moment earlier) (errand_left config earlier) (questions config earlier) (subst (λ i. IsOfOne socket i (questions config earlier)) ident one);
+      one = λ open_yet. sent_keeps socket d.from (ident_in d.body) socket (moment earlier) (errand_left config earlier) (questions config earlier) (subst (λ (x : Datagram). IsOfOne socket x.from (ident_in x.body) (questions config earlier)) (sym this) one);
     }
 
 kept_since : (config : Config) (later earlier : List Entry) (socket : ℕ) (to : Endpoint) (d : Datagram) (answer : Sent) → Lawful config (later ++ (UdpSend socket to d.body answer ∷ earlier)) → last_datagram config earlier ≡ Some d → (d.to.addr.0 == config.vnameserver) ≡ true
-    → IsKept config (later ++ (UdpSend socket to d.body answer ∷ earlier)) socket (ident_in d.body)
+    → IsKept config (later ++ (UdpSend socket to d.body answer ∷ earlier)) socket d.from (ident_in d.body)
 kept_since config [] earlier socket to d answer lawful last names = asked_here config earlier socket to d answer lawful last names
 kept_since config (e ∷ later) earlier socket to d answer lawful last names =
     let past = later ++ (UdpSend socket to d.body answer ∷ earlier) in
     let before = kept_since config later earlier socket to d answer lawful.1 last names in
     record {
       drawn = drawn_on e past socket before.drawn;
-      one = λ open_yet. keeps_one config e past socket (ident_in d.body) lawful.0 before.drawn open_yet (before.one (was_open config e past socket lawful.0 before.drawn open_yet));
+      one = λ open_yet. keeps_one config e past socket d.from (ident_in d.body) lawful.0 before.drawn open_yet (before.one (was_open config e past socket lawful.0 before.drawn open_yet));
     }
 
 -- what was asked on an open socket waits, with its identifier
-kept_asked : (config : Config) (past : List Entry) (socket : ℕ) (guest : Endpoint) (ident : ℕ) → Lawful config past → is_among socket (open_sockets past) ≡ true → WasAsked config past socket guest ident → IsOfOne socket ident (questions config past)
+pub kept_asked : (config : Config) (past : List Entry) (socket : ℕ) (guest : Endpoint) (ident : ℕ) → Lawful config past → is_among socket (open_sockets past) ≡ true → WasAsked config past socket guest ident → IsOfOne socket guest ident (questions config past)
 kept_asked config past socket guest ident lawful open_yet w =
     let names : (w.datagram.to.addr.0 == config.vnameserver) ≡ true = ap (λ n. n == config.vnameserver) w.to_names ∙ same config.vnameserver in
-    let here = subst (λ l. IsKept config l socket (ident_in w.datagram.body)) (sym w.sent) (kept_since config w.later w.earlier socket w.resolver w.datagram w.answer (subst (Lawful config) w.sent lawful) w.last names) in
-    subst (λ i. IsOfOne socket i (questions config past)) w.identifier (here.one open_yet)
+    let here = subst (λ l. IsKept config l socket w.datagram.from (ident_in w.datagram.body)) (sym w.sent) (kept_since config w.later w.earlier socket w.resolver w.datagram w.answer (subst (Lawful config) w.sent lawful) w.last names) in
+    subst (λ g. IsOfOne socket g ident (questions config past)) w.port (subst (λ i. IsOfOne socket w.datagram.from i (questions config past)) w.identifier (here.one open_yet))
 
 -- ---- after the answer
 
@@ -336,8 +336,8 @@ closed_next config e past socket asked count guest peer octets lawful a =
     let now = UdpRecv socket asked (From peer count) octets ∷ past in
     let one = kept_asked config past socket guest (ident_in octets) lawful.1.1 (hears_on_open config past socket asked may.socket) a.asked in
     let q = among_found socket (questions config past) one.among in
-    let known = found (HasIdent socket (ident_in octets)) socket (questions config past) q.0 one.idents q.1 in
-    let counts = counts_of config q.0 peer octets a.resolves a.answers (known.0 known.1) in
+    let known = found (IsFor socket guest (ident_in octets)) socket (questions config past) q.0 one.idents q.1 in
+    let counts = counts_of config q.0 peer octets a.resolves a.answers (known.0 known.1).1 in
     let this : answered config now ≡ Some socket = ap (answered_on config peer octets) q.1 ∙ ap (λ (b : Bool). if b then Some q.0.number else None) counts ∙ ap Some known.1 in
     let first : due_in (phase config now) now ≡ None = working_none (phase config past) now may.place in
     let none : errand_left config past ≡ None = errand_is config past Settled (hears_settled config past socket asked may) in

@@ -32,6 +32,7 @@ pub mod Policy
 pub mod Ranges
 pub mod ReadBack
 pub mod Reading
+pub mod Repeats
 pub mod Replies
 pub mod Resolving
 pub mod RestRows

@@ -18,10 +18,11 @@ ghost use Rattle.udp_assoc.specs.Udp.{Udp, read_udp};
 ghost use Rattle.dns_relay.specs.Questions.{is_question};
 ghost use Rattle.run_laws.specs.Packets.{Datagram};
 ghost use Rattle.run_laws.specs.Shape.{is_ended};
+ghost use Rattle.run_laws.specs.Sockets.{is_among, open_sockets};
 ghost use Rattle.slirp_laws.specs.Laws.{Lawful};
 ghost use Rattle.slirp_laws.specs.Names.{kind_for};
 ghost use Rattle.slirp_laws.specs.Ports.{last_datagram};
-ghost use Rattle.slirp_laws.specs.Questions.{AnswerCame, HasNameServer, HasWaitedLong, HasWaitedLongest, IsAnswerTo, WasJustAnswered, is_for_question};
+ghost use Rattle.slirp_laws.specs.Questions.{AnswerCame, HasNameServer, HasWaitedLong, HasWaitedLongest, IsAnswerTo, WasAsked, WasJustAnswered, is_for_question};
 ghost use Rattle.slirp_laws.specs.Said.{AnswersQuestion, Carries, HasPorts};
 
 /// What is sent on the socket of a question goes to the resolver alone. It is a question, and the payload, whole, of the datagram
@@ -32,6 +33,18 @@ pub fn questions_go_to_the_resolver_alone()
     ensures asks { (config : Config) (past : List Entry) (socket : ℕ) (to : Endpoint) (octets : List ℕ) (answer : Sent)
         → Lawful config (UdpSend socket to octets answer ∷ past) → is_for_question (kind_for config socket past) ≡ true
         → (d : Datagram) × (last_datagram config past ≡ Some d) × (address d.to ≡ config.vnameserver) × (octets ≡ d.body) × (is_question octets ≡ true) }
+{}
+
+/// Each question waits on one socket, and each socket is for one: no two open ones were asked questions of one port with one
+/// identifier, so one that is asked again goes out again on the same socket; and whatever was asked on an open one is of one port
+/// with one identifier.
+pub fn each_question_has_a_socket_of_its_own()
+    ensures socket { (config : Config) (past : List Entry) (one other : ℕ) (guest : Endpoint) (ident : ℕ) → Lawful config past
+        → is_among one (open_sockets past) ≡ true → is_among other (open_sockets past) ≡ true
+        → WasAsked config past one guest ident → WasAsked config past other guest ident → one ≡ other }
+    ensures question { (config : Config) (past : List Entry) (socket : ℕ) (guest other : Endpoint) (ident more : ℕ) → Lawful config past
+        → is_among socket (open_sockets past) ≡ true → WasAsked config past socket guest ident → WasAsked config past socket other more
+        → (guest ≡ other) × (ident ≡ more) }
 {}
 
 /// An answer goes to the asker, whole. A frame that goes out and is read as a datagram from the name server is from its port 53,
