@@ -4,12 +4,9 @@ use Rattle.world_face.specs.Journal.{Entry, Place}
 use Rattle.world_face.specs.Tells.{Telling, Makes}
 use Rattle.host_policy.specs.Addresses.{Config}
 use Rattle.host_policy.specs.Ranges.{first_broken}
-use Rattle.host_policy.specs.declared.Forward.{Forward}
-use Rattle.host_policy.specs.declared.Proto.TheVariants.{Tcp}
 use Rattle.host_policy.specs.declared.config.Field.{Field}
 use Rattle.slirp_config.specs.Meaning.{AnswersBy, AreSettings, HasPlace, Meaning, Means, MeansReplay, MeansServe, Replays, Serves, config_of, said}
 use Rattle.slirp_config.specs.Options.{Word, value_of}
-use Rattle.slirp_config.proofs.Built.{each_forward_is_of_tcp}
 use Rattle.slirp_config.specs.declared.Command.{Command}
 use Rattle.slirp_config.specs.declared.WordFault.{WordFault}
 use Rattle.slirp_config.specs.declared.WordFault.TheVariants.{Usage as Misread, BadConfig as BadField}
@@ -25,26 +22,16 @@ use Rattle.slirp_app.specs.declared.status.Outcome.{Outcome}
 use Rattle.slirp_app.specs.declared.status.Outcome.TheVariants.{BadConfig}
 
 -- what no option gives is not asked for
-module _ (config : Config) (connections : (k : ℕ) (forward : Forward) → slice_get config.forwards k ≡ Some forward → forward.proto ≡ Tcp) where
-  is_built : (given : Word → Option Word) → AreSettings given config → IsBuilt config
-  is_built given set = record {
-    forwards = connections;
-    guest_forwards = ap (λ (k : Config). k.guest_forwards) set.rest;
-    resolver = ap (λ (k : Config). k.resolver) set.rest;
-    files = ap (λ (k : Config). k.tftp_path) set.rest;
-    outbound = ap (λ (k : Config). k.outbound) set.rest;
-    control = ap (λ (k : Config). k.control) set.rest;
-  }
-
-  built_replay : (behind : List Word) (file : Word) → MeansReplay behind file config → IsBuilt config
-  built_replay behind file (line, rules, same, all, alone, some, few, are, set) = is_built (value_of line) set
-
-  built_serve : (behind : List Word) (at : Place) → MeansServe behind config at → IsBuilt config
-  built_serve behind at (line, same, all, link, are, set) = is_built (value_of line) set
+is_built : (config : Config) (given : Word → Option Word) → AreSettings given config → IsBuilt config
+is_built config given set = record {
+  guest_forwards = ap (λ (k : Config). k.guest_forwards) set.rest;
+  files = ap (λ (k : Config). k.tftp_path) set.rest;
+  control = ap (λ (k : Config). k.control) set.rest;
+}
 
 pub built : (words : List Word) (meaning : Meaning) → Means words meaning → IsBuilt (config_of meaning)
-built words (Replays file config) (behind, is, meant) = built_replay config (each_forward_is_of_tcp words (Replays file config) (behind, is, meant)) behind file meant
-built words (Serves config at) (behind, is, meant) = built_serve config (each_forward_is_of_tcp words (Serves config at) (behind, is, meant)) behind at meant
+built words (Replays file config) (behind, is, line, rules, same, all, alone, some, few, are, set) = is_built config (value_of line) set
+built words (Serves config at) (behind, is, line, same, all, link, are, set) = is_built config (value_of line) set
 
 named : (behind : List Word) (file : Word) (config : Config) → MeansReplay behind file config → (0 < length file) × (length file ≤ 1280)
 named behind file config (line, rules, same, all, alone, some, few, are, set) = (some, few)

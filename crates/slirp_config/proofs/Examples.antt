@@ -1,9 +1,9 @@
 -- What some command lines mean.
-use Rattle.std.proofs.Common.{refl, [], ◌∷◌, codes, None, inr, arith}
+use Rattle.std.proofs.Common.{refl, [], ◌∷◌, codes, None, Some, inl, inr, arith}
 use Rattle.host_policy.specs.Addresses.{endpoint}
 use Rattle.host_policy.specs.Settings.{usual}
 use Rattle.host_policy.specs.Targets.{loopback}
-use Rattle.host_policy.specs.declared.Proto.TheVariants.{Tcp}
+use Rattle.host_policy.specs.declared.Proto.TheVariants.{Tcp, Udp}
 use Rattle.std.specs.Fmt.{digits}
 use Rattle.slirp_config.specs.Options.{Apart, Joined, Plain}
 use Rattle.slirp_config.specs.Texts.{address_text}
@@ -42,9 +42,12 @@ another_network = (
       mru = refl;
       flows = refl;
       ring = refl;
+      resolver = refl;
       turns = refl;
-      congestion = refl;
+      outbound = refl;
+      no_dns = refl;
       no_dhcp = refl;
+      congestion = refl;
       version = refl;
       rest = refl;
     },
@@ -76,7 +79,6 @@ first_guest = (
           type = inr refl;
           host = record { before = codes "127.0.0.1"; behind = codes "2222"; spelt = refl; address = (refl, omega arith); port = (refl, omega arith) };
           guest = record { before = []; behind = codes "22"; spelt = refl; address = refl; port = (refl, omega arith) };
-          built = refl;
         },
       ),
       tt,
@@ -96,9 +98,72 @@ first_guest = (
       mru = refl;
       flows = refl;
       ring = refl;
+      resolver = refl;
       turns = refl;
-      congestion = refl;
+      outbound = refl;
+      no_dns = refl;
       no_dhcp = refl;
+      congestion = refl;
+      version = refl;
+      rest = refl;
+    },
+  ),
+)
+
+-- a RULE for datagrams, the address from which datagrams go out, and who is asked for names: such settings are of version 2
+datagrams : Means
+    (codes "replay" ∷ codes "F" ∷ codes "udp::53-:53" ∷ codes "--resolver=192.0.2.1:53" ∷ codes "--outbound" ∷ codes "192.0.2.9" ∷ [])
+    (Replays (codes "F") (record usual {
+      version = 2;
+      resolver = Some (endpoint 0xc0000201 53);
+      outbound = Some 0xc0000209;
+      forwards = record { proto = Udp; host = endpoint 0 53; guest = endpoint 0x0a00020f 53 } ∷ [];
+    }))
+unfolding address_text digits
+datagrams = (
+  codes "F" ∷ codes "udp::53-:53" ∷ codes "--resolver=192.0.2.1:53" ∷ codes "--outbound" ∷ codes "192.0.2.9" ∷ [],
+  refl,
+  (
+    record { pieces = Plain (codes "F") ∷ Plain (codes "udp::53-:53") ∷ Joined (codes "--resolver") (codes "192.0.2.1:53") ∷ Apart (codes "--outbound") (codes "192.0.2.9") ∷ []; behind = None },
+    codes "udp::53-:53" ∷ [],
+    refl,
+    ((refl, (refl, ((refl, omega arith), ((refl, omega arith, refl), tt)))), refl, omega arith),
+    refl,
+    omega arith,
+    omega arith,
+    (
+      inl (record {
+        kind = codes "udp";
+        outside = codes ":53";
+        inside = codes ":53";
+        spelt = refl;
+        type = refl;
+        host = record { before = []; behind = codes "53"; spelt = refl; address = refl; port = (refl, omega arith) };
+        guest = record { before = []; behind = codes "53"; spelt = refl; address = refl; port = (refl, omega arith) };
+      }),
+      tt,
+    ),
+    record {
+      net = (refl, refl);
+      host = refl;
+      dns = refl;
+      dhcp_start = refl;
+      restricted = refl;
+      no_loopback = refl;
+      hostname = refl;
+      domainname = refl;
+      tftp_server_name = refl;
+      bootfile = refl;
+      mtu = refl;
+      mru = refl;
+      flows = refl;
+      ring = refl;
+      resolver = (endpoint 0xc0000201 53, refl, (refl, (omega arith, omega arith)));
+      turns = refl;
+      outbound = (0xc0000209, refl, (refl, omega arith));
+      no_dns = refl;
+      no_dhcp = refl;
+      congestion = refl;
       version = refl;
       rest = refl;
     },

@@ -16,4 +16,3 @@ pub mod Only
 pub mod Narrow
 pub mod Answered
 pub mod Commanded
-pub mod Built

@@ -1,16 +1,17 @@
 -- Options give one settings, and words one meaning.
 use Rattle.std.proofs.Common.{◌≡◌, ℕ, ◌+◌, ◌%◌, ◌^◌, Bool, List, [], ◌∷◌, ◌++◌, codes, decimal, Option, Some, None, MatchOption, refl, sym, ◌∙◌, ap, subst, arith}
 use Rattle.std.proofs.lemmas.Fmt.{decimal_injective}
+use Rattle.net_octets.specs.declared.Endpoint.{Endpoint}
 use Rattle.host_policy.specs.Addresses.{Config}
 use Rattle.host_policy.specs.Settings.{usual}
 use Rattle.host_policy.specs.Ranges.{mask_of}
 use Rattle.host_policy.specs.declared.Forward.{Forward}
 use Rattle.world_face.specs.Journal.{Place, AtPath, AtEndpoint}
 use Rattle.slirp_config.specs.declared.options.Verb.TheVariants.{Replay, Serve}
-use Rattle.slirp_config.specs.Meaning.{AreSettings, MeansReplay, MeansServe, version_of}
+use Rattle.slirp_config.specs.Meaning.{AreSettings, MeansReplay, MeansServe}
 use Rattle.slirp_config.specs.Options.{Word, value_in}
 use Rattle.slirp_config.specs.Rules.{AreRules}
-use Rattle.slirp_config.specs.Texts.{IsNumber, IsAddress, IsNetwork, IsLink, endpoint_text, is_other}
+use Rattle.slirp_config.specs.Texts.{IsNumber, IsAddress, IsNetwork, IsEndpointText, IsLink, endpoint_text, is_other}
 use Rattle.slirp_config.specs.Walking.{Walk}
 use Rattle.slirp_config.proofs.Addresses.{address, address_form, address_fits, network_form, same_address, same_endpoint}
 use Rattle.slirp_config.proofs.Meant.{IsLinkAt, one_walk, replay_meant, serve_meant}
@@ -31,6 +32,15 @@ same_long text n m hn hm = decimal_injective n m hn.1 hm.1 (sym hn.0 ∙ hm.0)
 
 same_at : (text : Word) (n m : ℕ) → IsAddress text n → IsAddress text m → n ≡ m
 same_at text n m hn hm = same_address n m hn.1 hm.1 (sym hn.0 ∙ hm.0)
+
+same_to : (text : Word) (e f : Endpoint) → IsEndpointText text e → IsEndpointText text f → e ≡ f
+same_to text e f he hf = same_endpoint e f he.1 hf.1 (sym he.0 ∙ hf.0)
+
+-- one value, or none
+one_if_any : {X : Type 0} (o : Option Word) (P : Word → X → Type 0) → ((text : Word) (x y : X) → P text x → P text y → x ≡ y) → (a b : Option X)
+    → MatchOption o (a ≡ None) (λ text. (x : X) × (a ≡ Some x) × P text x) → MatchOption o (b ≡ None) (λ text. (x : X) × (b ≡ Some x) × P text x) → a ≡ b
+one_if_any None P same a b ha hb = ha ∙ sym hb
+one_if_any (Some text) P same a b ha hb = ha.1 ∙ ap Some (same text ha.0 hb.0 ha.2 hb.2) ∙ sym hb.1
 
 same_network : (text : Word) (n m k l : ℕ) → IsNetwork text n m → IsNetwork text k l → (n ≡ k) × (m ≡ l)
 same_network text n m k l h g =
@@ -66,32 +76,38 @@ one_settings given rules c d h g hf gf =
     let mru : c.mru ≡ d.mru = one_of (given (codes "--mru")) usual.mru usual.mru (IsNumber 16) refl same_short c.mru d.mru h.mru g.mru in
     let flows : c.flows ≡ d.flows = one_of (given (codes "--flows")) usual.flows usual.flows (IsNumber 64) refl same_long c.flows d.flows h.flows g.flows in
     let ring : c.ring ≡ d.ring = one_of (given (codes "--ring")) usual.ring usual.ring (IsNumber 64) refl same_long c.ring d.ring h.ring g.ring in
+    let resolver : c.resolver ≡ d.resolver = one_if_any (given (codes "--resolver")) IsEndpointText same_to c.resolver d.resolver h.resolver g.resolver in
     let turns : c.turns ≡ d.turns = one_of (given (codes "--turns")) usual.turns usual.turns (IsNumber 64) refl same_long c.turns d.turns h.turns g.turns in
-    let congestion : c.congestion ≡ d.congestion = h.congestion ∙ sym g.congestion in
+    let outbound : c.outbound ≡ d.outbound = one_if_any (given (codes "--outbound")) IsAddress same_at c.outbound d.outbound h.outbound g.outbound in
+    let no_dns : c.no_dns ≡ d.no_dns = h.no_dns ∙ sym g.no_dns in
     let no_dhcp : c.no_dhcp ≡ d.no_dhcp = h.no_dhcp ∙ sym g.no_dhcp in
-    let version : c.version ≡ d.version = h.version ∙ ap version_of no_dhcp ∙ sym g.version in
+    let congestion : c.congestion ≡ d.congestion = h.congestion ∙ sym g.congestion in
+    let version : c.version ≡ d.version = h.version ∙ sym g.version in
     let forwards : c.forwards ≡ d.forwards = same_forwards rules d.dhcp_start c.forwards d.forwards (subst (λ (n : ℕ). AreRules rules n c.forwards) dhcp_start hf) gf in
     h.rest
-    ∙ ap (λ (x : ℕ). made usual x c.mask c.vhost c.vnameserver c.dhcp_start c.restricted c.no_loopback c.hostname c.domainname c.tftp_server_name c.bootfile c.mtu c.mru c.flows c.ring c.turns c.congestion c.no_dhcp c.version c.forwards) network
-    ∙ ap (λ (x : ℕ). made usual d.network x c.vhost c.vnameserver c.dhcp_start c.restricted c.no_loopback c.hostname c.domainname c.tftp_server_name c.bootfile c.mtu c.mru c.flows c.ring c.turns c.congestion c.no_dhcp c.version c.forwards) mask
-    ∙ ap (λ (x : ℕ). made usual d.network d.mask x c.vnameserver c.dhcp_start c.restricted c.no_loopback c.hostname c.domainname c.tftp_server_name c.bootfile c.mtu c.mru c.flows c.ring c.turns c.congestion c.no_dhcp c.version c.forwards) vhost
-    ∙ ap (λ (x : ℕ). made usual d.network d.mask d.vhost x c.dhcp_start c.restricted c.no_loopback c.hostname c.domainname c.tftp_server_name c.bootfile c.mtu c.mru c.flows c.ring c.turns c.congestion c.no_dhcp c.version c.forwards) vnameserver
-    ∙ ap (λ (x : ℕ). made usual d.network d.mask d.vhost d.vnameserver x c.restricted c.no_loopback c.hostname c.domainname c.tftp_server_name c.bootfile c.mtu c.mru c.flows c.ring c.turns c.congestion c.no_dhcp c.version c.forwards) dhcp_start
-    ∙ ap (λ (x : Bool). made usual d.network d.mask d.vhost d.vnameserver d.dhcp_start x c.no_loopback c.hostname c.domainname c.tftp_server_name c.bootfile c.mtu c.mru c.flows c.ring c.turns c.congestion c.no_dhcp c.version c.forwards) restricted
-    ∙ ap (λ (x : Bool). made usual d.network d.mask d.vhost d.vnameserver d.dhcp_start d.restricted x c.hostname c.domainname c.tftp_server_name c.bootfile c.mtu c.mru c.flows c.ring c.turns c.congestion c.no_dhcp c.version c.forwards) no_loopback
-    ∙ ap (λ (x : List ℕ). made usual d.network d.mask d.vhost d.vnameserver d.dhcp_start d.restricted d.no_loopback x c.domainname c.tftp_server_name c.bootfile c.mtu c.mru c.flows c.ring c.turns c.congestion c.no_dhcp c.version c.forwards) hostname
-    ∙ ap (λ (x : List ℕ). made usual d.network d.mask d.vhost d.vnameserver d.dhcp_start d.restricted d.no_loopback d.hostname x c.tftp_server_name c.bootfile c.mtu c.mru c.flows c.ring c.turns c.congestion c.no_dhcp c.version c.forwards) domainname
-    ∙ ap (λ (x : List ℕ). made usual d.network d.mask d.vhost d.vnameserver d.dhcp_start d.restricted d.no_loopback d.hostname d.domainname x c.bootfile c.mtu c.mru c.flows c.ring c.turns c.congestion c.no_dhcp c.version c.forwards) tftp_server_name
-    ∙ ap (λ (x : List ℕ). made usual d.network d.mask d.vhost d.vnameserver d.dhcp_start d.restricted d.no_loopback d.hostname d.domainname d.tftp_server_name x c.mtu c.mru c.flows c.ring c.turns c.congestion c.no_dhcp c.version c.forwards) bootfile
-    ∙ ap (λ (x : ℕ). made usual d.network d.mask d.vhost d.vnameserver d.dhcp_start d.restricted d.no_loopback d.hostname d.domainname d.tftp_server_name d.bootfile x c.mru c.flows c.ring c.turns c.congestion c.no_dhcp c.version c.forwards) mtu
-    ∙ ap (λ (x : ℕ). made usual d.network d.mask d.vhost d.vnameserver d.dhcp_start d.restricted d.no_loopback d.hostname d.domainname d.tftp_server_name d.bootfile d.mtu x c.flows c.ring c.turns c.congestion c.no_dhcp c.version c.forwards) mru
-    ∙ ap (λ (x : ℕ). made usual d.network d.mask d.vhost d.vnameserver d.dhcp_start d.restricted d.no_loopback d.hostname d.domainname d.tftp_server_name d.bootfile d.mtu d.mru x c.ring c.turns c.congestion c.no_dhcp c.version c.forwards) flows
-    ∙ ap (λ (x : ℕ). made usual d.network d.mask d.vhost d.vnameserver d.dhcp_start d.restricted d.no_loopback d.hostname d.domainname d.tftp_server_name d.bootfile d.mtu d.mru d.flows x c.turns c.congestion c.no_dhcp c.version c.forwards) ring
-    ∙ ap (λ (x : ℕ). made usual d.network d.mask d.vhost d.vnameserver d.dhcp_start d.restricted d.no_loopback d.hostname d.domainname d.tftp_server_name d.bootfile d.mtu d.mru d.flows d.ring x c.congestion c.no_dhcp c.version c.forwards) turns
-    ∙ ap (λ (x : Bool). made usual d.network d.mask d.vhost d.vnameserver d.dhcp_start d.restricted d.no_loopback d.hostname d.domainname d.tftp_server_name d.bootfile d.mtu d.mru d.flows d.ring d.turns x c.no_dhcp c.version c.forwards) congestion
-    ∙ ap (λ (x : Bool). made usual d.network d.mask d.vhost d.vnameserver d.dhcp_start d.restricted d.no_loopback d.hostname d.domainname d.tftp_server_name d.bootfile d.mtu d.mru d.flows d.ring d.turns d.congestion x c.version c.forwards) no_dhcp
-    ∙ ap (λ (x : ℕ). made usual d.network d.mask d.vhost d.vnameserver d.dhcp_start d.restricted d.no_loopback d.hostname d.domainname d.tftp_server_name d.bootfile d.mtu d.mru d.flows d.ring d.turns d.congestion d.no_dhcp x c.forwards) version
-    ∙ ap (λ (x : List Forward). made usual d.network d.mask d.vhost d.vnameserver d.dhcp_start d.restricted d.no_loopback d.hostname d.domainname d.tftp_server_name d.bootfile d.mtu d.mru d.flows d.ring d.turns d.congestion d.no_dhcp d.version x) forwards
+    ∙ ap (λ (x : ℕ). made usual x c.mask c.vhost c.vnameserver c.dhcp_start c.restricted c.no_loopback c.hostname c.domainname c.tftp_server_name c.bootfile c.mtu c.mru c.flows c.ring c.resolver c.turns c.outbound c.no_dns c.no_dhcp c.congestion c.version c.forwards) network
+    ∙ ap (λ (x : ℕ). made usual d.network x c.vhost c.vnameserver c.dhcp_start c.restricted c.no_loopback c.hostname c.domainname c.tftp_server_name c.bootfile c.mtu c.mru c.flows c.ring c.resolver c.turns c.outbound c.no_dns c.no_dhcp c.congestion c.version c.forwards) mask
+    ∙ ap (λ (x : ℕ). made usual d.network d.mask x c.vnameserver c.dhcp_start c.restricted c.no_loopback c.hostname c.domainname c.tftp_server_name c.bootfile c.mtu c.mru c.flows c.ring c.resolver c.turns c.outbound c.no_dns c.no_dhcp c.congestion c.version c.forwards) vhost
+    ∙ ap (λ (x : ℕ). made usual d.network d.mask d.vhost x c.dhcp_start c.restricted c.no_loopback c.hostname c.domainname c.tftp_server_name c.bootfile c.mtu c.mru c.flows c.ring c.resolver c.turns c.outbound c.no_dns c.no_dhcp c.congestion c.version c.forwards) vnameserver
+    ∙ ap (λ (x : ℕ). made usual d.network d.mask d.vhost d.vnameserver x c.restricted c.no_loopback c.hostname c.domainname c.tftp_server_name c.bootfile c.mtu c.mru c.flows c.ring c.resolver c.turns c.outbound c.no_dns c.no_dhcp c.congestion c.version c.forwards) dhcp_start
+    ∙ ap (λ (x : Bool). made usual d.network d.mask d.vhost d.vnameserver d.dhcp_start x c.no_loopback c.hostname c.domainname c.tftp_server_name c.bootfile c.mtu c.mru c.flows c.ring c.resolver c.turns c.outbound c.no_dns c.no_dhcp c.congestion c.version c.forwards) restricted
+    ∙ ap (λ (x : Bool). made usual d.network d.mask d.vhost d.vnameserver d.dhcp_start d.restricted x c.hostname c.domainname c.tftp_server_name c.bootfile c.mtu c.mru c.flows c.ring c.resolver c.turns c.outbound c.no_dns c.no_dhcp c.congestion c.version c.forwards) no_loopback
+    ∙ ap (λ (x : List ℕ). made usual d.network d.mask d.vhost d.vnameserver d.dhcp_start d.restricted d.no_loopback x c.domainname c.tftp_server_name c.bootfile c.mtu c.mru c.flows c.ring c.resolver c.turns c.outbound c.no_dns c.no_dhcp c.congestion c.version c.forwards) hostname
+    ∙ ap (λ (x : List ℕ). made usual d.network d.mask d.vhost d.vnameserver d.dhcp_start d.restricted d.no_loopback d.hostname x c.tftp_server_name c.bootfile c.mtu c.mru c.flows c.ring c.resolver c.turns c.outbound c.no_dns c.no_dhcp c.congestion c.version c.forwards) domainname
+    ∙ ap (λ (x : List ℕ). made usual d.network d.mask d.vhost d.vnameserver d.dhcp_start d.restricted d.no_loopback d.hostname d.domainname x c.bootfile c.mtu c.mru c.flows c.ring c.resolver c.turns c.outbound c.no_dns c.no_dhcp c.congestion c.version c.forwards) tftp_server_name
+    ∙ ap (λ (x : List ℕ). made usual d.network d.mask d.vhost d.vnameserver d.dhcp_start d.restricted d.no_loopback d.hostname d.domainname d.tftp_server_name x c.mtu c.mru c.flows c.ring c.resolver c.turns c.outbound c.no_dns c.no_dhcp c.congestion c.version c.forwards) bootfile
+    ∙ ap (λ (x : ℕ). made usual d.network d.mask d.vhost d.vnameserver d.dhcp_start d.restricted d.no_loopback d.hostname d.domainname d.tftp_server_name d.bootfile x c.mru c.flows c.ring c.resolver c.turns c.outbound c.no_dns c.no_dhcp c.congestion c.version c.forwards) mtu
+    ∙ ap (λ (x : ℕ). made usual d.network d.mask d.vhost d.vnameserver d.dhcp_start d.restricted d.no_loopback d.hostname d.domainname d.tftp_server_name d.bootfile d.mtu x c.flows c.ring c.resolver c.turns c.outbound c.no_dns c.no_dhcp c.congestion c.version c.forwards) mru
+    ∙ ap (λ (x : ℕ). made usual d.network d.mask d.vhost d.vnameserver d.dhcp_start d.restricted d.no_loopback d.hostname d.domainname d.tftp_server_name d.bootfile d.mtu d.mru x c.ring c.resolver c.turns c.outbound c.no_dns c.no_dhcp c.congestion c.version c.forwards) flows
+    ∙ ap (λ (x : ℕ). made usual d.network d.mask d.vhost d.vnameserver d.dhcp_start d.restricted d.no_loopback d.hostname d.domainname d.tftp_server_name d.bootfile d.mtu d.mru d.flows x c.resolver c.turns c.outbound c.no_dns c.no_dhcp c.congestion c.version c.forwards) ring
+    ∙ ap (λ (x : Option Endpoint). made usual d.network d.mask d.vhost d.vnameserver d.dhcp_start d.restricted d.no_loopback d.hostname d.domainname d.tftp_server_name d.bootfile d.mtu d.mru d.flows d.ring x c.turns c.outbound c.no_dns c.no_dhcp c.congestion c.version c.forwards) resolver
+    ∙ ap (λ (x : ℕ). made usual d.network d.mask d.vhost d.vnameserver d.dhcp_start d.restricted d.no_loopback d.hostname d.domainname d.tftp_server_name d.bootfile d.mtu d.mru d.flows d.ring d.resolver x c.outbound c.no_dns c.no_dhcp c.congestion c.version c.forwards) turns
+    ∙ ap (λ (x : Option ℕ). made usual d.network d.mask d.vhost d.vnameserver d.dhcp_start d.restricted d.no_loopback d.hostname d.domainname d.tftp_server_name d.bootfile d.mtu d.mru d.flows d.ring d.resolver d.turns x c.no_dns c.no_dhcp c.congestion c.version c.forwards) outbound
+    ∙ ap (λ (x : Bool). made usual d.network d.mask d.vhost d.vnameserver d.dhcp_start d.restricted d.no_loopback d.hostname d.domainname d.tftp_server_name d.bootfile d.mtu d.mru d.flows d.ring d.resolver d.turns d.outbound x c.no_dhcp c.congestion c.version c.forwards) no_dns
+    ∙ ap (λ (x : Bool). made usual d.network d.mask d.vhost d.vnameserver d.dhcp_start d.restricted d.no_loopback d.hostname d.domainname d.tftp_server_name d.bootfile d.mtu d.mru d.flows d.ring d.resolver d.turns d.outbound d.no_dns x c.congestion c.version c.forwards) no_dhcp
+    ∙ ap (λ (x : Bool). made usual d.network d.mask d.vhost d.vnameserver d.dhcp_start d.restricted d.no_loopback d.hostname d.domainname d.tftp_server_name d.bootfile d.mtu d.mru d.flows d.ring d.resolver d.turns d.outbound d.no_dns d.no_dhcp x c.version c.forwards) congestion
+    ∙ ap (λ (x : ℕ). made usual d.network d.mask d.vhost d.vnameserver d.dhcp_start d.restricted d.no_loopback d.hostname d.domainname d.tftp_server_name d.bootfile d.mtu d.mru d.flows d.ring d.resolver d.turns d.outbound d.no_dns d.no_dhcp d.congestion x c.forwards) version
+    ∙ ap (λ (x : List Forward). made usual d.network d.mask d.vhost d.vnameserver d.dhcp_start d.restricted d.no_loopback d.hostname d.domainname d.tftp_server_name d.bootfile d.mtu d.mru d.flows d.ring d.resolver d.turns d.outbound d.no_dns d.no_dhcp d.congestion d.version x) forwards
     ∙ sym g.rest
 
 -- the link is at one place

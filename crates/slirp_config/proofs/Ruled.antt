@@ -71,10 +71,6 @@ same_type kind Udp Udp h g = refl
 same_type kind Tcp Udp h g = absurd (two_types kind h g)
 same_type kind Udp Tcp h g = absurd (two_types kind g h)
 
-pub not_udp : (proto : Proto) → (proto ≡ Udp → ⊥) → proto ≡ Tcp
-not_udp Tcp other = refl
-not_udp Udp other = absurd (other refl)
-
 -- the two sides
 form : (kind outside inside : List ℕ) → (((kind ++ 58 ∷ []) ++ outside) ++ 45 ∷ []) ++ inside ≡ kind ++ 58 ∷ (outside ++ 45 ∷ inside)
 form kind outside inside = simp append_assoc

@@ -1,12 +1,13 @@
 -- Settings that options give, field by field.
 use Rattle.std.proofs.Common.{ℕ, Bool, List, Option, ap}
+use Rattle.net_octets.specs.declared.Endpoint.{Endpoint}
 use Rattle.host_policy.specs.Addresses.{Config}
 use Rattle.host_policy.specs.declared.Forward.{Forward}
 use Rattle.slirp_config.specs.Meaning.{AreSettings}
 use Rattle.slirp_config.specs.Options.{Word}
 
-abbrev pub made : Config → (network mask vhost vnameserver dhcp_start : ℕ) (restricted no_loopback : Bool) (hostname domainname tftp_server_name bootfile : List ℕ) (mtu mru flows ring turns : ℕ) (congestion no_dhcp : Bool) (version : ℕ) (forwards : List Forward) → Config
-made base network mask vhost vnameserver dhcp_start restricted no_loopback hostname domainname tftp_server_name bootfile mtu mru flows ring turns congestion no_dhcp version forwards = record base {
+abbrev pub made : Config → (network mask vhost vnameserver dhcp_start : ℕ) (restricted no_loopback : Bool) (hostname domainname tftp_server_name bootfile : List ℕ) (mtu mru flows ring : ℕ) (resolver : Option Endpoint) (turns : ℕ) (outbound : Option ℕ) (no_dns no_dhcp congestion : Bool) (version : ℕ) (forwards : List Forward) → Config
+made base network mask vhost vnameserver dhcp_start restricted no_loopback hostname domainname tftp_server_name bootfile mtu mru flows ring resolver turns outbound no_dns no_dhcp congestion version forwards = record base {
   network = network;
   mask = mask;
   vhost = vhost;
@@ -22,9 +23,12 @@ made base network mask vhost vnameserver dhcp_start restricted no_loopback hostn
   mru = mru;
   flows = flows;
   ring = ring;
+  resolver = resolver;
   turns = turns;
-  congestion = congestion;
+  outbound = outbound;
+  no_dns = no_dns;
   no_dhcp = no_dhcp;
+  congestion = congestion;
   version = version;
   forwards = forwards;
 }
@@ -46,9 +50,12 @@ with_forwards given config forwards are = record {
   mru = are.mru;
   flows = are.flows;
   ring = are.ring;
+  resolver = are.resolver;
   turns = are.turns;
-  congestion = are.congestion;
+  outbound = are.outbound;
+  no_dns = are.no_dns;
   no_dhcp = are.no_dhcp;
+  congestion = are.congestion;
   version = are.version;
   rest = ap (λ (c : Config). record c { forwards = forwards }) are.rest;
 }

@@ -1,6 +1,7 @@
 -- What the words of a command line mean.
-use Rattle.std.specs.Prelude.{◌≡◌, ℕ, ◌+◌, ◌%◌, ◌^◌, ◌<◌, ◌≤◌, Bool, List, [], ◌∷◌, length, codes, Option, is_some, Result, Ok, Err, MatchOption, if◌then◌else◌}
+use Rattle.std.specs.Prelude.{◌≡◌, ℕ, ◌+◌, ◌%◌, ◌^◌, ◌<◌, ◌≤◌, ◌||◌, List, [], ◌∷◌, length, codes, Option, Some, None, is_some, Result, Ok, Err, MatchOption, if◌then◌else◌}
 use Rattle.std.specs.Option.{option_map_or}
+use Rattle.net_octets.specs.declared.Endpoint.{Endpoint}
 use Rattle.host_policy.specs.Addresses.{Config}
 use Rattle.host_policy.specs.Settings.{settings, usual}
 use Rattle.host_policy.specs.Ranges.{first_broken}
@@ -12,7 +13,7 @@ use Rattle.slirp_config.specs.declared.WordFault.TheVariants.{BadConfig}
 use Rattle.slirp_config.specs.declared.options.Verb.TheVariants.{Replay, Serve}
 use Rattle.slirp_config.specs.Options.{Word, Line, IsLine, line_words, words_alone, value_of}
 use Rattle.slirp_config.specs.Rules.{AreRules}
-use Rattle.slirp_config.specs.Texts.{IsNumber, IsAddress, IsNetwork, IsLink, held_text}
+use Rattle.slirp_config.specs.Texts.{IsNumber, IsAddress, IsNetwork, IsEndpointText, IsLink, held_text}
 
 -- A schedule in a file is replayed, or the link at a place is served, with these settings.
 pub data Meaning : Type 0 where
@@ -24,8 +25,8 @@ config_of (Replays file config) = config
 config_of (Serves config at) = config
 
 -- a command with an option that only version 2 of the settings has is of that version
-abbrev pub version_of : (no_dhcp : Bool) → ℕ
-version_of no_dhcp = if no_dhcp then 2 else 1
+abbrev pub version_of : (given : Word → Option Word) → ℕ
+version_of given = if is_some (given (codes "--outbound")) || is_some (given (codes "--no-dns")) || is_some (given (codes "--no-dhcp")) then 2 else 1
 
 -- the settings that options give, by the value that each name has; what no option gives is usual. No option gives forwards
 pub record AreSettings (given : Word → Option Word) (config : Config) : Type 0 where
@@ -43,10 +44,13 @@ pub record AreSettings (given : Word → Option Word) (config : Config) : Type 0
   pub mru : MatchOption (given (codes "--mru")) (config.mru ≡ usual.mru) (λ text. IsNumber 16 text config.mru)
   pub flows : MatchOption (given (codes "--flows")) (config.flows ≡ usual.flows) (λ text. IsNumber 64 text config.flows)
   pub ring : MatchOption (given (codes "--ring")) (config.ring ≡ usual.ring) (λ text. IsNumber 64 text config.ring)
+  pub resolver : MatchOption (given (codes "--resolver")) (config.resolver ≡ None) (λ text. (at : Endpoint) × (config.resolver ≡ Some at) × IsEndpointText text at)
   pub turns : MatchOption (given (codes "--turns")) (config.turns ≡ usual.turns) (λ text. IsNumber 64 text config.turns)
-  pub congestion : config.congestion ≡ is_some (given (codes "--congestion"))
+  pub outbound : MatchOption (given (codes "--outbound")) (config.outbound ≡ None) (λ text. (a : ℕ) × (config.outbound ≡ Some a) × IsAddress text a)
+  pub no_dns : config.no_dns ≡ is_some (given (codes "--no-dns"))
   pub no_dhcp : config.no_dhcp ≡ is_some (given (codes "--no-dhcp"))
-  pub version : config.version ≡ version_of config.no_dhcp
+  pub congestion : config.congestion ≡ is_some (given (codes "--congestion"))
+  pub version : config.version ≡ version_of given
   pub rest : config ≡ record usual {
     network = config.network;
     mask = config.mask;
@@ -63,9 +67,12 @@ pub record AreSettings (given : Word → Option Word) (config : Config) : Type 0
     mru = config.mru;
     flows = config.flows;
     ring = config.ring;
+    resolver = config.resolver;
     turns = config.turns;
-    congestion = config.congestion;
+    outbound = config.outbound;
+    no_dns = config.no_dns;
     no_dhcp = config.no_dhcp;
+    congestion = config.congestion;
     version = config.version;
     forwards = config.forwards;
   }

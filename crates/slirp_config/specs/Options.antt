@@ -43,6 +43,9 @@ rows =
     ∷ valued (codes "--turns")
     ∷ flag (codes "--congestion")
     ∷ flag (codes "--no-dhcp")
+    ∷ valued (codes "--resolver")
+    ∷ flag (codes "--no-dns")
+    ∷ valued (codes "--outbound")
     ∷ []
 
 abbrev pub has_row : Verb → Row → Bool

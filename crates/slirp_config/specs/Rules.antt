@@ -33,8 +33,6 @@ pub record IsForward (text : List ℕ) (dhcp_start : ℕ) (forward : Forward) : 
   pub type : IsType kind forward.proto
   pub host : IsPortAt 0 outside forward.host
   pub guest : IsPortAt dhcp_start inside forward.guest
-  -- Until forwards of datagrams are built `udp` has no reading. This line and the branch in `read_forward` go together.
-  pub built : forward.proto ≡ Tcp
 
 -- `hostfwd=` may stand in front
 abbrev pub IsRule : (text : List ℕ) (dhcp_start : ℕ) (forward : Forward) → Type 0

@@ -10,16 +10,18 @@
 //! | `--link` | `unix:PATH`, PATH of 1 to 107 octets, or `tcp:` and an endpoint; `serve` alone | needed |
 //! | `--net` | an address, `/` and a number up to 32 | 10.0.2.0/24 |
 //! | `--host`, `--dns`, `--dhcpstart` | an address | 2, 3 and 15 behind the network's first address, modulo 2^32 |
-//! | `--restrict`, `--no-loopback`, `--congestion`, `--no-dhcp` | flags | not set |
+//! | `--restrict`, `--no-loopback`, `--congestion`, `--no-dhcp`, `--no-dns` | flags | not set |
 //! | `--hostname`, `--domainname`, `--tftp-server-name`, `--bootfile` | a text | none |
 //! | `--mtu`, `--mru` | a number up to 65,535 | 1500 |
 //! | `--flows`, `--ring`, `--turns` | a number up to 2^64 - 1 | 256, 65,535, 2^44 |
+//! | `--resolver` | an endpoint: an address, `:` and a number up to 65,535 | none |
+//! | `--outbound` | an address | none |
 //!
-//! RULE is `[hostfwd=][tcp]:[hostaddr]:hostport-[guestaddr]:guestport`, with addresses and numbers up to 65,535: this port of the host leads to that one of a
-//! guest. Without an address it is every one of the host's, 0.0.0.0, and the first that is lent to guests, whether `--dhcpstart` stands before the RULE or
-//! behind it. `udp` in the place of `tcp` has no reading until forwards of datagrams are built.
+//! RULE is `[hostfwd=][tcp|udp]:[hostaddr]:hostport-[guestaddr]:guestport`, with addresses and numbers up to 65,535: this port of the host leads to that one
+//! of a guest, of TCP where no type is said. Without an address it is every one of the host's, 0.0.0.0, and the first that is lent to guests, whether
+//! `--dhcpstart` stands before the RULE or behind it.
 //!
-//! A setting out of its range is named, the first in the order of `host_policy`: a text of over 127 octets too, and more than 32 RULEs. With `--no-dhcp` the settings are of version 2.
+//! A setting out of its range is named, the first in the order of `host_policy`: a text of over 127 octets too, and more than 32 RULEs. With `--no-dhcp`, `--no-dns` or `--outbound` the settings are of version 2.
 #![tactic(auto)]
 
 mod line;

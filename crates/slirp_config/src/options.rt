@@ -34,7 +34,7 @@ macro_rules! rows {
 }
 
 /// How many options there are.
-pub(crate) const COUNT: usize = 18;
+pub(crate) const COUNT: usize = 21;
 
 const OPTIONS: [Row; COUNT] = rows![
     "--link" value of serve,
@@ -55,6 +55,9 @@ const OPTIONS: [Row; COUNT] = rows![
     "--turns" value of all,
     "--congestion" flag of all,
     "--no-dhcp" flag of all,
+    "--resolver" value of all,
+    "--no-dns" flag of all,
+    "--outbound" value of all,
 ];
 
 /// Whether a value goes with the command's option of this name; None where it has no such option.

@@ -85,10 +85,6 @@ fn read_forward(text: &[u8], dhcp_start: Ip4) -> Result<Forward, NoReading>
 {
     let (kind, behind) = split_at(text, b':')?;
     let proto = read_type(kind)?;
-    // Until forwards of datagrams are built.
-    if let Proto::Udp = proto {
-        return Err(NoReading);
-    }
     let (outside, inside) = split_at(behind, b'-')?;
     Ok(Forward {
         proto,

@@ -1,21 +1,24 @@
 //! The settings that options give.
-ghost use Rattle.std.specs.Prelude.{◌≡◌, ℕ, ◌+◌, ◌%◌, ◌^◌, [], IfOk, MatchOption, OnErr, codes, is_some, map, min, option_copied};
-ghost use Rattle.std.specs.Option.{option_map_or};
+ghost use Rattle.std.specs.Prelude.{◌≡◌, ℕ, ◌+◌, ◌%◌, ◌^◌, ◌||◌, [], IfOk, MatchOption, None, OnErr, Option, Some, codes, is_some, map, min, option_copied};
+ghost use Rattle.std.specs.Option.{option_map, option_map_or};
 ghost use Rattle.host_policy.specs.Addresses.{Config};
 ghost use Rattle.host_policy.specs.Settings.{settings};
+ghost use Rattle.net_octets.specs.declared.Endpoint.{Endpoint as AnEndpoint};
 ghost use Rattle.slirp_config.specs.Meaning.{AreSettings, version_of};
 ghost use Rattle.slirp_config.specs.Options.{value_in};
 ghost use Rattle.slirp_config.specs.Rules.{AreRules};
-ghost use Rattle.slirp_config.specs.Texts.{IsAddress, IsNetwork, IsNumber, held_text};
+ghost use Rattle.slirp_config.specs.Texts.{IsAddress, IsEndpointText, IsNetwork, IsNumber, held_text};
 ghost use Rattle.slirp_config.specs.Narrowing.{narrowed, narrowed_settings};
 ghost use Rattle.slirp_config.specs.Walking.{walk_of};
 
 use crate::line::{Line, NoReading};
 use crate::rules::put_forwards;
-use crate::values::{held_text, read_address, read_network, read_number, read_short};
+use crate::values::{
+    held_text, read_address, read_endpoint, read_network, read_number, read_short,
+};
 use arrayvec::ArrayVec;
 use host_policy::SlirpConfig;
-use net_octets::Ip4;
+use net_octets::{Endpoint, Ip4};
 
 impl<'a> Line<'a> {
     /// The settings that the options and these RULEs give; what none gives is usual.
@@ -51,10 +54,13 @@ impl<'a> Line<'a> {
         config.if_mru = self.short("--mru", config.if_mru)?;
         config.flows = narrow(self.number("--flows", config.flows as u64)?);
         config.ring = narrow(self.number("--ring", config.ring as u64)?);
+        config.resolver = self.resolver()?;
         config.turns = self.number("--turns", config.turns)?;
-        config.congestion = self.has("--congestion");
+        config.outbound = self.outbound()?;
+        config.disable_dns = self.has("--no-dns");
         config.disable_dhcp = self.has("--no-dhcp");
-        config.version = version_of(config.disable_dhcp);
+        config.congestion = self.has("--congestion");
+        config.version = self.version();
         Ok(config)
     }
 
@@ -111,13 +117,41 @@ impl<'a> Line<'a> {
             None => Ok(usual),
         }
     }
-}
 
-// 2 where a setting is given that only version 2 has.
-fn version_of(disable_dhcp: bool) -> u32
-    ensures { result ≡ version_of disable_dhcp }
-{
-    if disable_dhcp { 2 } else { 1 }
+    // Who is asked for names, where it is given.
+    fn resolver(&self) -> Result<Option<Endpoint>, NoReading>
+        ensures read { IfOk result (λ read. MatchOption (value_in (walk_of self.now).options (codes "--resolver")) (read ≡ None) (λ text. (at : AnEndpoint) × (read ≡ Some at) × IsEndpointText text at)) }
+        ensures refused { OnErr result ((read : Option AnEndpoint) → ¬ MatchOption (value_in (walk_of self.now).options (codes "--resolver")) (read ≡ None) (λ text. (at : AnEndpoint) × (read ≡ Some at) × IsEndpointText text at)) }
+    {
+        let Some(text) = self.value("--resolver") else {
+            return Ok(None);
+        };
+        let at = read_endpoint(text.as_bytes())?;
+        Ok(Some(at))
+    }
+
+    // The address from which datagrams go out, where it is given.
+    fn outbound(&self) -> Result<Option<Ip4>, NoReading>
+        ensures read { IfOk result (λ read. MatchOption (value_in (walk_of self.now).options (codes "--outbound")) (option_map (λ a. a.0) read ≡ None) (λ text. (a : ℕ) × (option_map (λ b. b.0) read ≡ Some a) × IsAddress text a)) }
+        ensures refused { OnErr result ((read : Option ℕ) → ¬ MatchOption (value_in (walk_of self.now).options (codes "--outbound")) (read ≡ None) (λ text. (a : ℕ) × (read ≡ Some a) × IsAddress text a)) }
+    {
+        let Some(text) = self.value("--outbound") else {
+            return Ok(None);
+        };
+        let address = read_address(text.as_bytes())?;
+        Ok(Some(address))
+    }
+
+    // 2 where an option is given that only version 2 has.
+    fn version(&self) -> u32
+        ensures { result ≡ version_of (value_in (walk_of self.now).options) }
+    {
+        if self.has("--outbound") || self.has("--no-dns") || self.has("--no-dhcp") {
+            2
+        } else {
+            1
+        }
+    }
 }
 
 // The number, or the greatest of 32 bits, which is out of every range too.

@@ -84,6 +84,9 @@ fn settings_of(alloc: Global, config: &SlirpConfig) -> Result<String, AllocError
     if config.disable_dhcp {
         text.push_str(", no-dhcp")?;
     }
+    if config.disable_dns {
+        text.push_str(", no-dns")?;
+    }
     if config.version != 1 {
         let version = format!(in alloc; ", version {}", config.version)?;
         text.push_str(version.as_str())?;
@@ -96,6 +99,16 @@ fn settings_of(alloc: Global, config: &SlirpConfig) -> Result<String, AllocError
         config.tftp_server_name.as_slice(),
     )?;
     push_told(&mut text, ", bootfile ", config.bootfile.as_slice())?;
+    if let Some(resolver) = config.resolver {
+        let addr = dotted(alloc, resolver.addr)?;
+        let asked = format!(in alloc; ", resolver {addr}:{}", resolver.port)?;
+        text.push_str(asked.as_str())?;
+    }
+    if let Some(outbound) = config.outbound {
+        let addr = dotted(alloc, outbound)?;
+        let from = format!(in alloc; ", outbound {addr}")?;
+        text.push_str(from.as_str())?;
+    }
     for forward in config.forwards.as_slice() {
         push_forward(alloc, &mut text, forward)?;
     }

@@ -2,7 +2,7 @@ use Rattle.std.proofs.Common.{ℕ, List, sym, subst}
 use Rattle.std.proofs.lemmas.Result.{err_from_is_err_and}
 use Rattle.slirp_config.specs.Rules.{IsType, IsPortAt}
 use Rattle.slirp_config.proofs.Parting.{no_part}
-use Rattle.slirp_config.proofs.Ruled.{forward_parts, side_parts, spelt_forward, not_udp}
+use Rattle.slirp_config.proofs.Ruled.{forward_parts, side_parts, spelt_forward}
 use Rattle.slirp_config.proofs.rules.read_forward.Goals as goal
 
 pub returns-in_err-proto-clause-refused : goal.returns-in_err-proto-clause-refused
@@ -36,5 +36,4 @@ returns-clause-forward c = record {
   type = c.in_ok-proto.ensures.proto;
   host = c.in_ok-read_port_at.ensures.port;
   guest = c.in_ok-read_port_at-2.ensures.port;
-  built = not_udp c.in_ok-proto.proto c.in_default.not-Udp;
 }

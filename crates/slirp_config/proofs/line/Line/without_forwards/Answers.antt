@@ -1,5 +1,6 @@
 use Rattle.std.proofs.Common.{◌≡◌, ℕ, ◌+◌, ◌%◌, ◌^◌, Option, codes, refl, ◌∙◌, ap}
 use Rattle.std.proofs.lemmas.Result.{err_from_is_err_and}
+use Rattle.std.specs.Option.{option_map}
 use Rattle.host_policy.specs.Addresses.{Config}
 use Rattle.host_policy.specs.Settings.{usual}
 use Rattle.slirp_config.specs.Narrowing.{narrowed}
@@ -35,7 +36,13 @@ pub returns-in_err-number-2-clause-refused : goal.returns-in_err-number-2-clause
 returns-in_err-number-2-clause-refused c = let p = err_from_is_err_and c.from_residual-in_err-number-2.result c.from_residual-in_err-number-2.ensures.1 in rw (p.1) (λ config are. c.in_err-number-2.ensures.refused config.ring usual.ring are.ring)
 
 pub returns-in_err-config-6-clause-refused : goal.returns-in_err-config-6-clause-refused
-returns-in_err-config-6-clause-refused c = let p = err_from_is_err_and c.from_residual-in_err-config-6.result c.from_residual-in_err-config-6.ensures.1 in rw (p.1) (λ config are. c.in_err-config-6.ensures.refused config.turns usual.turns are.turns)
+returns-in_err-config-6-clause-refused c = let p = err_from_is_err_and c.from_residual-in_err-config-6.result c.from_residual-in_err-config-6.ensures.1 in rw (p.1) (λ config are. c.in_err-config-6.ensures.refused config.resolver are.resolver)
+
+pub returns-in_err-config-7-clause-refused : goal.returns-in_err-config-7-clause-refused
+returns-in_err-config-7-clause-refused c = let p = err_from_is_err_and c.from_residual-in_err-config-7.result c.from_residual-in_err-config-7.ensures.1 in rw (p.1) (λ config are. c.in_err-config-7.ensures.refused config.turns usual.turns are.turns)
+
+pub returns-in_err-config-8-clause-refused : goal.returns-in_err-config-8-clause-refused
+returns-in_err-config-8-clause-refused c = let p = err_from_is_err_and c.from_residual-in_err-config-8.result c.from_residual-in_err-config-8.ensures.1 in rw (p.1) (λ config are. c.in_err-config-8.ensures.refused config.outbound are.outbound)
 
 pub returns-clause-set : goal.returns-clause-set
 returns-clause-set c =
@@ -48,8 +55,10 @@ returns-clause-set c =
     let mru = c.in_ok-config-5.field-0 in
     let flows = c.in_ok-number.field-0 in
     let ring = c.in_ok-number-2.field-0 in
-    let turns = c.in_ok-config-6.field-0 in
-    let set = λ (u : Config) (f r : ℕ). made u network mask c.in_ok-config.field-0.0 c.in_ok-config-2.field-0.0 c.in_ok-config-3.field-0.0 c.has.result c.has-2.result c.text-config.result.items c.text-config-2.result.items c.text-config-3.result.items c.text-config-4.result.items mtu mru f r turns c.has-3.result c.has-4.result c.version_of.result u.forwards in (
+    let resolver = c.in_ok-config-6.field-0 in
+    let turns = c.in_ok-config-7.field-0 in
+    let outbound = option_map (λ a. a.0) c.in_ok-config-8.field-0 in
+    let set = λ (u : Config) (f r : ℕ). made u network mask c.in_ok-config.field-0.0 c.in_ok-config-2.field-0.0 c.in_ok-config-3.field-0.0 c.has.result c.has-2.result c.text-config.result.items c.text-config-2.result.items c.text-config-3.result.items c.text-config-4.result.items mtu mru f r resolver turns outbound c.has-3.result c.has-4.result c.has-5.result c.version.result u.forwards in (
       set usual flows ring,
       record {
         net = match_default (given (codes "--net")) ((network ≡ base.vnetwork.0) × (mask ≡ base.vnetmask.0)) ((network ≡ usual.network) × (mask ≡ usual.mask)) (λ text. IsNetwork text network mask) (λ d. (d.0 ∙ ap (λ (u : Config). u.network) is, d.1 ∙ ap (λ (u : Config). u.mask) is)) c.in_ok-network.ensures.read;
@@ -66,10 +75,13 @@ returns-clause-set c =
         mru = match_default (given (codes "--mru")) (mru ≡ base.if_mru) (mru ≡ usual.mru) (λ text. IsNumber 16 text mru) (λ d. d ∙ ap (λ (u : Config). u.mru) is) c.in_ok-config-5.ensures.read;
         flows = match_default (given (codes "--flows")) (flows ≡ base.flows) (flows ≡ usual.flows) (λ text. IsNumber 64 text flows) (λ d. d ∙ ap (λ (u : Config). u.flows) is) c.in_ok-number.ensures.read;
         ring = match_default (given (codes "--ring")) (ring ≡ base.ring) (ring ≡ usual.ring) (λ text. IsNumber 64 text ring) (λ d. d ∙ ap (λ (u : Config). u.ring) is) c.in_ok-number-2.ensures.read;
-        turns = match_default (given (codes "--turns")) (turns ≡ base.turns) (turns ≡ usual.turns) (λ text. IsNumber 64 text turns) (λ d. d ∙ ap (λ (u : Config). u.turns) is) c.in_ok-config-6.ensures.read;
-        congestion = c.has-3.ensures;
+        resolver = c.in_ok-config-6.ensures.read;
+        turns = match_default (given (codes "--turns")) (turns ≡ base.turns) (turns ≡ usual.turns) (λ text. IsNumber 64 text turns) (λ d. d ∙ ap (λ (u : Config). u.turns) is) c.in_ok-config-7.ensures.read;
+        outbound = c.in_ok-config-8.ensures.read;
+        no_dns = c.has-3.ensures;
         no_dhcp = c.has-4.ensures;
-        version = c.version_of.ensures;
+        congestion = c.has-5.ensures;
+        version = c.version.ensures;
         rest = refl;
       },
       ap (λ (u : Config). set u c.narrow.result c.narrow-2.result) is ∙ ap (λ (n : ℕ). set usual n c.narrow-2.result) c.narrow.ensures ∙ ap (λ (n : ℕ). set usual (narrowed flows) n) c.narrow-2.ensures,
