@@ -95,11 +95,11 @@ abbrev pub asked_by : Config → SlirpState → Option Errand → Step
 asked_by config slirp errand = step_for config slirp.questions (λ guest. socket_for guest slirp.forwards) slirp.associations errand
 
 -- the associations and the questions, each in the order of use; what the datagram that came last still asks for; and the socket of the question whose answer came just now, if one did
-pub record OfRelay (config : Config) (step : Step) (heard : Option ℕ) (slirp : SlirpState) (past : List Entry) : Type 0 where
+pub record OfRelay (config : Config) (step : Step) (on : Option ℕ) (slirp : SlirpState) (past : List Entry) : Type 0 where
   pub list : associations config past ≡ slirp.associations
   pub questions : questions config past ≡ slirp.questions
   pub asks : asked_by config slirp (errand_left config past) ≡ step
-  pub heard : answered config past ≡ heard
+  pub heard : answered config past ≡ on
 
 -- what is kept of flows, and whether the rests that are over have ended
 pub record Flowing : Type 0 where

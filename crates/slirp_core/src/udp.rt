@@ -101,9 +101,9 @@ impl Slirp {
         ensures others { self.new ≡ record self.old { associations = self.new.associations; questions = self.new.questions; pending = self.new.pending; number = self.new.number } }
     {
         if self.policy.is_name_server(errand.datagram.to.addr) {
-            self.ask(world, errand);
+            self.ask(world, errand)
         } else {
-            self.send(world, errand);
+            self.send(world, errand)
         }
     }
 
@@ -184,9 +184,9 @@ impl Slirp {
         ensures room { length into.new ≡ 65507 }
     {
         if self.questions.has(number) {
-            self.hear_answer(world, number, into);
+            self.hear_answer(world, number, into)
         } else {
-            self.hear_peer(world, number, into);
+            self.hear_peer(world, number, into)
         }
     }
 

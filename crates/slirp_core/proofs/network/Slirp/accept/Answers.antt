@@ -32,7 +32,7 @@ returns-in-NotYet g c =
     record {
       makes = λ config count wants item items link reads_it.
           subst (λ (s : SlirpState). Brings (g.W.World.tells c.args.world.now) (g.W.World.tells c.accept.new.self) (Holds config (standing count wants (item ∷ items)) s (flowing false s.flows) link) (Holds config (standing count wants items) s (flowing false s.flows) link)) c.self.view_is
-          (passed_by _ _ config count wants item items c.args.listener reads_it slirp link room c.in-Some.forward c.in-Some.field-0-1 (sym c.at.ensures ∙ c.in-Some.is) c.accept.result c.in-NotYet.is c.accept.ensures);
+          (passed_by _ _ config count wants item items c.args.listener reads_it slirp link room c.in-Some.forward c.in-Some.field-0-1 (sym c.at.ensures ∙ c.in-Some.is) c.in-Tcp.is c.accept.result c.in-NotYet.is c.accept.ensures);
       counts = grown _ _ _ c.accept.ensures.counted;
       number = omega arith;
       turn = refl;
@@ -57,7 +57,7 @@ returns-in-From-clause-makes g c config count wants item items link reads_it =
     (λ es (made, is, treats) allowed past holds.
     subst (λ l. Holds config (standing count wants items) new (flowing false new.flows) link (l ++ past)) (sym is)
     (treated config count wants item items c.args.listener reads_it slirp link past holds (subst (λ (s : SlirpState). in_use_slots s.flows.flows.table.slots < length s.flows.flows.table.slots) c.self.view_is room)
-    forward c.in-Some.field-0-1 (subst (λ (s : SlirpState). slice_get s.forwards c.args.listener ≡ Some (forward, c.in-Some.field-0-1)) c.self.view_is (sym c.at.ensures ∙ c.in-Some.is)) peer new made (subst AreAllowed is allowed) c.welcome.ensures.others
+    forward c.in-Some.field-0-1 (subst (λ (s : SlirpState). slice_get s.forwards c.args.listener ≡ Some (forward, c.in-Some.field-0-1)) c.self.view_is (sym c.at.ensures ∙ c.in-Some.is)) c.in-Tcp.is peer new made (subst AreAllowed is allowed) c.welcome.ensures.others
     (treats config slirp.moment false past holds.flows.holds holds.guests.settings)))
 
 pub returns-in-From-clause-counts : goal.returns-in-From-clause-counts
