@@ -1,4 +1,5 @@
 pub mod Arriving
+pub mod Askers
 pub mod Assembling
 pub mod Associating
 pub mod Bridging
@@ -8,6 +9,8 @@ pub mod Datagramming
 pub mod Filling
 pub mod Given
 pub mod Listening
+pub mod Forwarding
+pub mod Merging
 pub mod Guests
 pub mod NextFrames
 pub mod Parts
