@@ -7,7 +7,7 @@ use Rattle.world_face.specs.declared.Accepted.TheVariants.{From, NotYet as NotYe
 use Rattle.world_face.specs.declared.Made.{Made}
 use Rattle.world_face.specs.declared.Made.TheVariants.{Done, Failed}
 use Rattle.host_policy.specs.Addresses.{Config}
-use Rattle.udp_assoc.specs.Associations.{IsLeast, numbers, without}
+use Rattle.udp_assoc.specs.Associations.{numbers, without}
 use Rattle.udp_assoc.specs.declared.assocs.Association.{Association}
 use Rattle.dns_relay.specs.Questions.{numbers as question_numbers, without as without_question}
 use Rattle.dns_relay.specs.declared.Question.{Question}
@@ -28,7 +28,7 @@ use Rattle.slirp_core.proofs.Sockets.{rising_last, rising_up, rising_without, th
 use Rattle.spliced_flows.specs.Core.{number_of}
 use Rattle.spliced_flows.proofs.Ending.{may_close_least}
 use Rattle.spliced_flows.proofs.Options.{none_some, some_same, true_false}
-use Rattle.tcp_flows.specs.Reading.{HasSocket, IsNextOpen, IsOpenAt, NoneIsAbove}
+use Rattle.tcp_flows.specs.Reading.{IsNextOpen, IsOpenAt, NoneIsAbove}
 use Rattle.port_forward.specs.Opened.{Opened, is_at, socket_at, socket_of, without as without_port}
 use Rattle.host_policy.specs.declared.Forward.{Forward}
 use Rattle.host_policy.specs.declared.Proto.{Proto}

@@ -1,10 +1,9 @@
 -- Two rows of numbers that rise, as one.
-use Rattle.std.proofs.Common.{◌≡◌, ℕ, zero, suc, ◌+◌, ◌<◌, ◌≤◌, ◌++◌, Bool, true, false, List, [], ◌∷◌, length, map, drop, take, get_or, nat_lt, if◌then◌else◌, IsPermutation, refl, sym, ◌∙◌, ap, subst, append_assoc, arith}
+use Rattle.std.proofs.Common.{◌≡◌, ℕ, zero, suc, ◌+◌, ◌<◌, ◌≤◌, ◌++◌, Bool, true, false, List, [], ◌∷◌, length, drop, take, get_or, nat_lt, if◌then◌else◌, IsPermutation, refl, sym, ◌∙◌, ap, subst, arith}
 use Rattle.std.specs.List.Sorted.{IsNonDecreasing}
 use Rattle.std.proofs.lemmas.Bool.Decides.{nat_tests}
 use Rattle.std.proofs.lemmas.List.Sorted.{IsPermutation-append, IsPermutation-cons, IsPermutation-middle, IsPermutation-refl, IsPermutation-trans, length_permutation}
-use Rattle.poll_list.specs.declared.Want.{Want}
-use Rattle.slirp_core.specs.Pumps.{into, merged, udp_want}
+use Rattle.slirp_core.specs.Pumps.{into, merged}
 
 -- ---- it has the numbers of both
 
@@ -92,16 +91,7 @@ merged_rises some others one two = never_falls (merged some others) (climbs_merg
 
 -- ---- one after the other
 
--- a number that is less than the next of the row comes before it
-pub comes_before : (n : ℕ) (rest : List ℕ → List ℕ) (row : List ℕ) (k d : ℕ) → k < length row → n < get_or row k d → n ∷ rest (drop k row) ≡ into n rest (drop k row)
-comes_before n rest [] k d few less = absurd (omega (arith, few))
-comes_before n rest (m ∷ row) zero d few less = ap (λ b. if b then n ∷ rest (m ∷ row) else m ∷ into n rest row) (sym (is_less n m less))
-  where
-    is_less : (n m : ℕ) → n < m → nat_lt n m ≡ true
-    is_less n m less = grind (arith, nat_tests, less)
-comes_before n rest (m ∷ row) (suc k) d few less = comes_before n rest row k d (omega (arith, few)) less
-
--- else the next of the row does
+-- the next of the row comes before a number that isn't less
 pub comes_behind : (n : ℕ) (rest : List ℕ → List ℕ) (row : List ℕ) (k d : ℕ) → k < length row → get_or row k d ≤ n → get_or row k d ∷ into n rest (drop (k + 1) row) ≡ into n rest (drop k row)
 comes_behind n rest [] k d few less = absurd (omega (arith, few))
 comes_behind n rest (m ∷ row) zero d few less = ap (λ b. if b then n ∷ rest (m ∷ row) else m ∷ into n rest row) (sym (isnt_less n m less))
@@ -120,7 +110,7 @@ length_merged some others = length_permutation (some ++ others) (merged some oth
     simple [] others = omega arith
     simple (n ∷ some) others = let more = simple some others in omega (arith, more)
 
--- and behind the row it is the next
+-- behind the row the number is the next
 none_left : (row : List ℕ) (k : ℕ) → length row ≤ k → drop k row ≡ []
 none_left [] zero all = refl
 none_left [] (suc k) all = refl

@@ -1,8 +1,7 @@
-use Rattle.std.proofs.Common.{◌≡◌, ◌+◌, ◌-◌, ℕ, ◌++◌, ◌∷◌, [], List, get_or, length, map, take, drop, refl, sym, ◌∙◌, ap, subst, append_assoc, arith, length-drop}
+use Rattle.std.proofs.Common.{◌+◌, ◌-◌, ℕ, ◌++◌, ◌∷◌, [], List, get_or, length, map, drop, refl, ◌∙◌, ap, append_assoc, arith}
 use Rattle.std.proofs.lemmas.Grind.{common_steps}
-use Rattle.std.proofs.lemmas.List.{take_all}
 use Rattle.slirp_core.specs.Pumps.{into, udp_want}
-use Rattle.slirp_core.proofs.Merging.{comes_before, comes_behind, comes_last}
+use Rattle.slirp_core.proofs.Merging.{comes_behind, comes_last}
 use Rattle.slirp_core.proofs.wants.add_up_to.Goals as goal
 
 pub loop-place-init : goal.loop-place-init

@@ -1,4 +1,4 @@
-use Rattle.std.proofs.Common.{refl, sym, subst}
+use Rattle.std.proofs.Common.{refl, subst}
 use Rattle.dns_relay.specs.Questions.{numbers as question_numbers}
 use Rattle.spliced_flows.specs.Core.{number_of}
 use Rattle.udp_assoc.specs.Associations.{numbers}

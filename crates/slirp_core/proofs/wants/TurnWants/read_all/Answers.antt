@@ -1,4 +1,4 @@
-use Rattle.std.proofs.Common.{◌≡◌, ◌+◌, ◌≤◌, ℕ, List, length, sym, ◌∙◌, ap, subst}
+use Rattle.std.proofs.Common.{◌+◌, ◌≤◌, length, sym, ◌∙◌, ap, subst}
 use Rattle.poll_list.specs.Listing.{Listing}
 use Rattle.slirp_core.proofs.Filling.{few_read}
 use Rattle.slirp_core.proofs.wants.TurnWants.read_all.Goals as goal
