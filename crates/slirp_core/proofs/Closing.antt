@@ -197,11 +197,11 @@ module _ (config : Config) (over : Phase) (o : Holders) (past : List Entry) (clo
     pub carrier_closed : Closing config over (record { associations = associations; questions = questions; parts = o.parts }) (Close n ∷ past)
     carrier_closed = closed (AreOpen (carriers o) o.parts) o config over past closing n (now_open.carry n is.least.0) (λ m among. least_of m (now_open.each m among))
         (AreOpen others o.parts) (record { associations = associations; questions = questions; parts = o.parts }) two (record {
-      each = λ m among. let was = was_among m n past among in each_left m was.0 (now_open.each m was.1);
-      carry = λ m among. let was = both_of (not (m == n)) (is_among m (carriers o)) (sym (left m) ∙ among) in still_among m n past (now_open.carry m was.1) (apart_from m n was.0);
-      flow = λ k p at. still_among (number_of p) n past (now_open.flow k p at) (λ same_one. true_false (sym is.least.0 ∙ ap (λ x. is_among x (carriers o)) (sym same_one) ∙ now_open.apart k p at));
-      apart = λ k p at. left (number_of p) ∙ none_left (not (number_of p == n)) (is_among (number_of p) (carriers o)) (now_open.apart k p at);
-    })
+          each = λ m among. let was = was_among m n past among in each_left m was.0 (now_open.each m was.1);
+          carry = λ m among. let was = both_of (not (m == n)) (is_among m (carriers o)) (sym (left m) ∙ among) in still_among m n past (now_open.carry m was.1) (apart_from m n was.0);
+          flow = λ k p at. still_among (number_of p) n past (now_open.flow k p at) (λ same_one. true_false (sym is.least.0 ∙ ap (λ x. is_among x (carriers o)) (sym same_one) ∙ now_open.apart k p at));
+          apart = λ k p at. left (number_of p) ∙ none_left (not (number_of p == n)) (is_among (number_of p) (carriers o)) (now_open.apart k p at);
+        })
 
   -- an association's, which is no question's
   pub association_closed : (n : ℕ) → is_among n (numbers o.associations) ≡ true → IsCarrier n (carriers o) o.parts → Closing config over (record o { associations = without n o.associations }) (Close n ∷ past)

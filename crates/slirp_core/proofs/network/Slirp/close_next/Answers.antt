@@ -135,8 +135,7 @@ pub invariant_of-self-else-question_is_first : goal.invariant_of-self-else-quest
 invariant_of-self-else-question_is_first g c =
     let i = c.self.inside in
     let closing = c.close_first-else-question_is_first in
-    let makes = closing.ensures.closes in
-    (
+    let makes = closing.ensures.closes in (
       below_first i.number closing.result i.associations.list closing.new.self.list makes.made makes.holds c.self.invariant.0,
       c.self.invariant.1,
       closing.ensures.bind ∙ c.self.invariant.2,

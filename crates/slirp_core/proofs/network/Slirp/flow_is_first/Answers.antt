@@ -24,7 +24,7 @@ returns-then-is_under-clause-yes c less =
       c.in-Some.flow,
       c.in-Some.ensures.first,
       flow_is_under c.in-Some.flow o (λ m among. c.is_under.ensures.yes c.if-is_under.true m (among_rising (numbers o.associations) c.rising.result.now c.rising.ensures.all m among))
-      (λ m among. c.is_under-then-is_under.ensures.yes less m (among_rising (question_numbers o.questions) named.result.now named.ensures.all m among)),
+          (λ m among. c.is_under-then-is_under.ensures.yes less m (among_rising (question_numbers o.questions) named.result.now named.ensures.all m among)),
     )
 
 pub returns-then-is_under-clause-no : goal.returns-then-is_under-clause-no
