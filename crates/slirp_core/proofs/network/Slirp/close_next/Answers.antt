@@ -1,4 +1,4 @@
-use Rattle.std.proofs.Common.{◌+◌, ◌++◌, ◌<◌, length, sym, ◌∙◌, ap, subst, arith}
+use Rattle.std.proofs.Common.{◌+◌, ◌++◌, ◌<◌, length, sym, ◌∙◌, ap, subst, true, arith}
 use Rattle.world_face.specs.Tells.{Makes}
 use Rattle.world_face.proofs.Telling.{makes_as}
 use Rattle.dns_relay.proofs.Below.{below_closed}
