@@ -1,4 +1,4 @@
--- The sockets of a run that is over are closed by rising number, those of associations and of flows.
+-- The sockets of a run that is over are closed by rising number, those of associations, of questions and of flows.
 use Rattle.std.proofs.Common.{append_assoc, ◌≡◌, ℕ, suc, length, find, if◌then◌else◌, ◌<◌, ◌≤◌, ◌+◌, ◌==◌, ◌&&◌, ◌||◌, ◌⊎◌, not, All, Bool, true, false, List, [], ◌∷◌, ◌++◌, filter, set, slice_get, Option, Some, None, option_map, inl, inr, refl, sym, ◌∙◌, ap, subst, arith}
 use Rattle.std.proofs.lemmas.List.Elements.{All-head, All-tail}
 use Rattle.world_face.specs.Journal.{Entry, Call, call_of, Connect, Listen, Accept, Close, UdpOpen, CallClose}
@@ -7,8 +7,10 @@ use Rattle.world_face.specs.declared.Accepted.TheVariants.{From, NotYet as NotYe
 use Rattle.world_face.specs.declared.Made.{Made}
 use Rattle.world_face.specs.declared.Made.TheVariants.{Done, Failed}
 use Rattle.host_policy.specs.Addresses.{Config}
-use Rattle.udp_assoc.specs.Associations.{IsLeast, numbers, without}
+use Rattle.udp_assoc.specs.Associations.{numbers, without}
 use Rattle.udp_assoc.specs.declared.assocs.Association.{Association}
+use Rattle.dns_relay.specs.Questions.{numbers as question_numbers, without as without_question}
+use Rattle.dns_relay.specs.declared.Question.{Question}
 use Rattle.flow_splice.specs.Splice.{Splice}
 use Rattle.run_laws.specs.Shape.{Phase, Over, Working, is_over, is_working, phase}
 use Rattle.run_laws.specs.Sockets.{first, is_among, next_number, open_sockets, with_made}
@@ -21,11 +23,12 @@ use Rattle.slirp_laws.proofs.OpenSockets.{peer_next}
 use Rattle.core_flows.proofs.Tables.{get_set_at, get_set_other}
 use Rattle.core_flows.proofs.Seats.{differ, same_or_not}
 use Rattle.slirp_core.specs.Sockets.{AllAbove, IsRising}
-use Rattle.slirp_core.proofs.Sockets.{least_among, rising_last, rising_up, rising_without, those_without}
+use Rattle.slirp_core.proofs.Askers.{among_both, asked_without}
+use Rattle.slirp_core.proofs.Sockets.{rising_last, rising_up, rising_without, those_without}
 use Rattle.spliced_flows.specs.Core.{number_of}
 use Rattle.spliced_flows.proofs.Ending.{may_close_least}
 use Rattle.spliced_flows.proofs.Options.{none_some, some_same, true_false}
-use Rattle.tcp_flows.specs.Reading.{HasSocket, IsNextOpen, IsOpenAt, NoneIsAbove}
+use Rattle.tcp_flows.specs.Reading.{IsNextOpen, IsOpenAt, NoneIsAbove}
 use Rattle.port_forward.specs.Opened.{Opened, is_at, socket_at, socket_of, without as without_port}
 use Rattle.host_policy.specs.declared.Forward.{Forward}
 use Rattle.host_policy.specs.declared.Proto.{Proto}
@@ -34,7 +37,8 @@ use Rattle.host_policy.specs.Ranges.{same_proto}
 use Rattle.host_policy.specs.Targets.{same_endpoint}
 use Rattle.slirp_laws.proofs.Longest.{same_port}
 use Rattle.slirp_core.specs.Forwards.{ClosesForward, forward_sockets}
-use Rattle.slirp_core.specs.Holds.{AreOpen, AreOpenWith, Closing, ClosingBy, ClosingWith, ClosesAll, ClosesForwards, ClosesNext, ClosesOn, IsOf, Ran, Rests, OverFor, AllWaited}
+use Rattle.slirp_core.specs.Firsts.{IsLeastOf}
+use Rattle.slirp_core.specs.Holds.{AreOpen, AreOpenWith, AreTwo, Closing, ClosingBy, ClosingWith, ClosesAll, ClosesForwards, ClosesNext, ClosesOn, Holders, IsOf, Ran, carriers, Rests, OverFor, AllWaited}
 use Rattle.slirp_core.proofs.Parts.{due_in_phase, due_is}
 use Rattle.slirp_core.proofs.Rising.{open_rise}
 
@@ -67,17 +71,17 @@ at_most n x (y ∷ list) all is = by_one (x == y.number) refl (λ more. at_most 
     by_one true one more is = let here = equal x y.number one in omega (arith, here, All-head (λ (a : Association). true ≡ true → n ≤ a.number) y list all refl)
     by_one false other more is = more is
 
--- an association's socket, less than those of all others and of all flows
-pub record IsCarrier (n : ℕ) (list : List Association) (parts : List (Option Splice)) : Type 0 where
-  pub least : IsLeast (λ a. true) list (Some n)
+-- one that carries datagrams, less than all others that do and those of all flows
+pub record IsCarrier (n : ℕ) (carriers : List ℕ) (parts : List (Option Splice)) : Type 0 where
+  pub least : IsLeastOf n carriers
   pub below : (k : ℕ) (p : Splice) → IsOpenAt parts k p → n ≤ number_of p
 
 -- a flow's
-pub record IsFlows (n k : ℕ) (list : List Association) (parts : List (Option Splice)) : Type 0 where
+pub record IsFlows (n k : ℕ) (carriers : List ℕ) (parts : List (Option Splice)) : Type 0 where
   pub next : IsNextOpen None n k parts
-  pub below : (m : ℕ) → is_among m (numbers list) ≡ true → n ≤ m
+  pub below : (m : ℕ) → is_among m carriers ≡ true → n ≤ m
 
-module _ (Open : List Entry → Type 0) (config : Config) (over : Phase) (past : List Entry) (closing : ClosingBy Open config over past) (n : ℕ) (among : is_among n (open_sockets past) ≡ true)
+module _ (Open : List Entry → Type 0) (o : Holders) (config : Config) (over : Phase) (past : List Entry) (closing : ClosingBy Open o config over past) (n : ℕ) (among : is_among n (open_sockets past) ≡ true)
     (least : (m : ℕ) → is_among m (open_sockets past) ≡ true → n ≤ m) where
   first_is : first (open_sockets past) ≡ Some n
   first_is = first_least (next_number past) n (open_sockets past) (open_rise config past closing.lawful) among least
@@ -99,8 +103,8 @@ module _ (Open : List Entry → Type 0) (config : Config) (over : Phase) (past :
   rests_on (OverFor cause is) = OverFor cause is
   rests_on (AllWaited working) = AllWaited working
 
-  closed : (Left : List Entry → Type 0) → Left (Close n ∷ past) → ClosingBy Left config over (Close n ∷ past)
-  closed Left left = record {
+  closed : (Left : List Entry → Type 0) (new : Holders) → AreTwo new → Left (Close n ∷ past) → ClosingBy Left new config over (Close n ∷ past)
+  closed Left new two left = record {
     lawful = (may_close, closing.lawful);
     ended = closing.ended;
     is = closing.is;
@@ -109,6 +113,7 @@ module _ (Open : List Entry → Type 0) (config : Config) (over : Phase) (past :
     served = quest_none config past closing.served;
     idle = refl;
     sockets = left;
+    two = two;
   }
 
 both_of : (a b : Bool) → (a && b) ≡ true → (a ≡ true) × (b ≡ true)
@@ -120,6 +125,10 @@ both_are : (a b : Bool) → a ≡ true → b ≡ true → (a && b) ≡ true
 both_are true true one two = refl
 both_are true false one two = cc
 both_are false b one two = cc
+
+none_left : (a b : Bool) → b ≡ false → (a && b) ≡ false
+none_left true b is = is
+none_left false b is = refl
 
 -- others than this one
 other : (m n : ℕ) → (m ≡ n → ⊥) → not (m == n) ≡ true
@@ -143,96 +152,131 @@ was_among m n past among = both_of (not (m == n)) (is_among m (open_sockets past
 left_among : (m n : ℕ) (list : List Association) → is_among m (numbers (without n list)) ≡ (not (m == n) && is_among m (numbers list))
 left_among m n list = sym (those_without n list (numbers list) (λ k. refl) m) ∙ among_without m n (numbers list)
 
-module _ (config : Config) (over : Phase) (list : List Association) (parts : List (Option Splice)) (past : List Entry) (closing : Closing config over list parts past) where
-  abbrev now_open : AreOpen list parts past
+module _ (config : Config) (over : Phase) (o : Holders) (past : List Entry) (closing : Closing config over o past) where
+  abbrev now_open : AreOpen (carriers o) o.parts past
   now_open = closing.sockets
 
-  -- an association's was closed
-  module _ (n : ℕ) (is : IsCarrier n list parts) where
-    listed : is_among n (numbers list) ≡ true
-    listed = least_among n list is.least
+  -- one that carries datagrams was closed, and the others are left
+  module _ (n : ℕ) (is : IsCarrier n (carriers o) o.parts) (associations : List Association) (questions : List Question)
+      (left : (m : ℕ) → is_among m (numbers associations ++ question_numbers questions) ≡ (not (m == n) && is_among m (carriers o)))
+      (two : AreTwo (record { associations = associations; questions = questions; parts = o.parts })) where
+    abbrev others : List ℕ
+    others = numbers associations ++ question_numbers questions
 
-    least_of : (m : ℕ) → (is_among m (numbers list) ≡ true) ⊎ HasSocket m parts (λ p. Unit {0}) → n ≤ m
-    least_of m (inl among) = at_most n m list is.least.1 among
+    least_of : (m : ℕ) → IsOf (carriers o) o.parts m → n ≤ m
+    least_of m (inl among) = is.least.1 m among
     least_of m (inr (k, p, at, number, u)) = subst (λ x. n ≤ x) number (is.below k p at)
 
-    each_left : (m : ℕ) → (not (m == n) ≡ true) → (is_among m (numbers list) ≡ true) ⊎ HasSocket m parts (λ p. Unit {0}) → (is_among m (numbers (without n list)) ≡ true) ⊎ HasSocket m parts (λ p. Unit {0})
-    each_left m apart (inl among) = inl (left_among m n list ∙ both_are (not (m == n)) (is_among m (numbers list)) apart among)
+    each_left : (m : ℕ) → (not (m == n) ≡ true) → IsOf (carriers o) o.parts m → IsOf others o.parts m
+    each_left m apart (inl among) = inl (left m ∙ both_are (not (m == n)) (is_among m (carriers o)) apart among)
     each_left m apart (inr has) = inr has
 
-    pub carrier_closed : Closing config over (without n list) parts (Close n ∷ past)
-    carrier_closed = closed (AreOpen list parts) config over past closing n (now_open.carry n listed) (λ m among. least_of m (now_open.each m among)) (AreOpen (without n list) parts) (record {
-      each = λ m among. let was = was_among m n past among in each_left m was.0 (now_open.each m was.1);
-      carry = λ m among. let was = both_of (not (m == n)) (is_among m (numbers list)) (sym (left_among m n list) ∙ among) in still_among m n past (now_open.carry m was.1) (apart_from m n was.0);
-      flow = λ k p at. still_among (number_of p) n past (now_open.flow k p at) (λ same_one. true_false (sym listed ∙ ap (λ x. is_among x (numbers list)) (sym same_one) ∙ now_open.apart k p at));
-      apart = λ k p at. left_among (number_of p) n list ∙ none_left (not (number_of p == n)) (is_among (number_of p) (numbers list)) (now_open.apart k p at);
-    })
-      where
-        none_left : (a b : Bool) → b ≡ false → (a && b) ≡ false
-        none_left true b is = is
-        none_left false b is = refl
+    pub carrier_closed : Closing config over (record { associations = associations; questions = questions; parts = o.parts }) (Close n ∷ past)
+    carrier_closed = closed (AreOpen (carriers o) o.parts) o config over past closing n (now_open.carry n is.least.0) (λ m among. least_of m (now_open.each m among))
+        (AreOpen others o.parts) (record { associations = associations; questions = questions; parts = o.parts }) two (record {
+          each = λ m among. let was = was_among m n past among in each_left m was.0 (now_open.each m was.1);
+          carry = λ m among. let was = both_of (not (m == n)) (is_among m (carriers o)) (sym (left m) ∙ among) in still_among m n past (now_open.carry m was.1) (apart_from m n was.0);
+          flow = λ k p at. still_among (number_of p) n past (now_open.flow k p at) (λ same_one. true_false (sym is.least.0 ∙ ap (λ x. is_among x (carriers o)) (sym same_one) ∙ now_open.apart k p at));
+          apart = λ k p at. left (number_of p) ∙ none_left (not (number_of p == n)) (is_among (number_of p) (carriers o)) (now_open.apart k p at);
+        })
+
+  -- an association's, which is no question's
+  pub association_closed : (n : ℕ) → is_among n (numbers o.associations) ≡ true → IsCarrier n (carriers o) o.parts → Closing config over (record o { associations = without n o.associations }) (Close n ∷ past)
+  association_closed n among is = carrier_closed n is (without n o.associations) o.questions left two
+    where
+      both : (a e q : Bool) → (e ≡ true → q ≡ false) → ((not e && a) || q) ≡ (not e && (a || q))
+      both a true q none = none refl
+      both a false q none = refl
+
+      left : (m : ℕ) → is_among m (numbers (without n o.associations) ++ question_numbers o.questions) ≡ (not (m == n) && is_among m (carriers o))
+      left m =
+          among_both m (numbers (without n o.associations)) (question_numbers o.questions) ∙ ap (λ b. b || is_among m (question_numbers o.questions)) (left_among m n o.associations)
+          ∙ both (is_among m (numbers o.associations)) (m == n) (is_among m (question_numbers o.questions)) (λ same_one. ap (λ x. is_among x (question_numbers o.questions)) (equal m n same_one) ∙ closing.two n among)
+          ∙ ap (λ b. not (m == n) && b) (sym (among_both m (numbers o.associations) (question_numbers o.questions)))
+
+      two : AreTwo (record o { associations = without n o.associations })
+      two m here = closing.two m (both_of (not (m == n)) (is_among m (numbers o.associations)) (sym (left_among m n o.associations) ∙ here)).1
+
+  -- a question's, which is no association's
+  pub question_closed : (n : ℕ) → is_among n (question_numbers o.questions) ≡ true → IsCarrier n (carriers o) o.parts → Closing config over (record o { questions = without_question n o.questions }) (Close n ∷ past)
+  question_closed n among is = carrier_closed n is o.associations (without_question n o.questions) left two
+    where
+      both : (a e q : Bool) → (e ≡ true → a ≡ false) → (a || (not e && q)) ≡ (not e && (a || q))
+      both true true q none = none refl
+      both false true q none = refl
+      both true false q none = refl
+      both false false q none = refl
+
+      no_other : (b : Bool) → is_among n (numbers o.associations) ≡ b → b ≡ false
+      no_other true is = absurd (true_false (sym among ∙ closing.two n is))
+      no_other false is = refl
+
+      left : (m : ℕ) → is_among m (numbers o.associations ++ question_numbers (without_question n o.questions)) ≡ (not (m == n) && is_among m (carriers o))
+      left m =
+          among_both m (numbers o.associations) (question_numbers (without_question n o.questions)) ∙ ap (λ b. is_among m (numbers o.associations) || b) (asked_without m n o.questions)
+          ∙ both (is_among m (numbers o.associations)) (m == n) (is_among m (question_numbers o.questions)) (λ same_one. ap (λ x. is_among x (numbers o.associations)) (equal m n same_one) ∙ no_other (is_among n (numbers o.associations)) refl)
+          ∙ ap (λ b. not (m == n) && b) (sym (among_both m (numbers o.associations) (question_numbers o.questions)))
+
+      two : AreTwo (record o { questions = without_question n o.questions })
+      two m here = asked_without m n o.questions ∙ none_left (not (m == n)) (is_among m (question_numbers o.questions)) (closing.two m here)
 
   -- a flow's was closed
-  module _ (n k : ℕ) (is : IsFlows n k list parts) where
+  module _ (n k : ℕ) (is : IsFlows n k (carriers o) o.parts) where
     abbrev new_parts : List (Option Splice)
-    new_parts = set parts k None
+    new_parts = set o.parts k None
 
     here : is_among n (open_sockets past) ≡ true
     here = subst (λ m. is_among m (open_sockets past) ≡ true) is.next.number (now_open.flow k is.next.part is.next.at)
 
-    unlisted : is_among n (numbers list) ≡ false
-    unlisted = subst (λ m. is_among m (numbers list) ≡ false) is.next.number (now_open.apart k is.next.part is.next.at)
+    unlisted : is_among n (carriers o) ≡ false
+    unlisted = subst (λ m. is_among m (carriers o) ≡ false) is.next.number (now_open.apart k is.next.part is.next.at)
 
-    least_with : (m : ℕ) → (is_among m (numbers list) ≡ true) ⊎ HasSocket m parts (λ p. Unit {0}) → n ≤ m
+    least_with : (m : ℕ) → IsOf (carriers o) o.parts m → n ≤ m
     least_with m (inl among) = is.below m among
     least_with m (inr (j, p, at, number, u)) = subst (λ x. n ≤ x) number (is.next.least j p at tt)
 
     -- another slot than this one is as it was
-    stays_at : (j : ℕ) (p : Splice) → IsOpenAt parts j p → (number_of p ≡ n → ⊥) → IsOpenAt new_parts j p
-    stays_at j p at apart = record { here = get_set_other parts k j None (λ same_slot. apart (of_slot same_slot)) ∙ at.here; open_yet = at.open_yet }
+    stays_at : (j : ℕ) (p : Splice) → IsOpenAt o.parts j p → (number_of p ≡ n → ⊥) → IsOpenAt new_parts j p
+    stays_at j p at apart = record { here = get_set_other o.parts k j None (λ same_slot. apart (of_slot same_slot)) ∙ at.here; open_yet = at.open_yet }
       where
         of_slot : j ≡ k → number_of p ≡ n
-        of_slot same_slot = ap number_of (one p (some_same (Some p) (Some is.next.part) (sym at.here ∙ ap (slice_get parts) same_slot ∙ is.next.at.here))) ∙ is.next.number
+        of_slot same_slot = ap number_of (one p (some_same (Some p) (Some is.next.part) (sym at.here ∙ ap (slice_get o.parts) same_slot ∙ is.next.at.here))) ∙ is.next.number
           where
             one : (q : Splice) → Some q ≡ Some is.next.part → q ≡ is.next.part
             one q same_part = some_same q is.next.part same_part
 
-    was_at : (j : ℕ) (p : Splice) → IsOpenAt new_parts j p → IsOpenAt parts j p × (number_of p ≡ n → ⊥)
+    was_at : (j : ℕ) (p : Splice) → IsOpenAt new_parts j p → IsOpenAt o.parts j p × (number_of p ≡ n → ⊥)
     was_at j p at = by (same_or_not j k)
       where
         not_here : j ≡ k → ⊥
-        not_here same_slot = none_some (some_same None (Some p) (sym (get_set_at parts k (Some is.next.part) None is.next.at.here) ∙ ap (slice_get new_parts) (sym same_slot) ∙ at.here))
+        not_here same_slot = none_some (some_same None (Some p) (sym (get_set_at o.parts k (Some is.next.part) None is.next.at.here) ∙ ap (slice_get new_parts) (sym same_slot) ∙ at.here))
 
-        by : (j ≡ k) ⊎ ((j == k) ≡ false) → IsOpenAt parts j p × (number_of p ≡ n → ⊥)
+        by : (j ≡ k) ⊎ ((j == k) ≡ false) → IsOpenAt o.parts j p × (number_of p ≡ n → ⊥)
         by (inl same_slot) = absurd (not_here same_slot)
         by (inr apart) =
-            let before : IsOpenAt parts j p = record { here = sym (get_set_other parts k j None (differ j k apart)) ∙ at.here; open_yet = at.open_yet } in
+            let before : IsOpenAt o.parts j p = record { here = sym (get_set_other o.parts k j None (differ j k apart)) ∙ at.here; open_yet = at.open_yet } in
             (before, λ number. differ j k apart (is.next.only j p before number))
 
-    each_but : (m : ℕ) → (not (m == n) ≡ true) → (is_among m (numbers list) ≡ true) ⊎ HasSocket m parts (λ p. Unit {0}) → (is_among m (numbers list) ≡ true) ⊎ HasSocket m new_parts (λ p. Unit {0})
+    each_but : (m : ℕ) → (not (m == n) ≡ true) → IsOf (carriers o) o.parts m → IsOf (carriers o) new_parts m
     each_but m apart (inl among) = inl among
     each_but m apart (inr (j, p, at, number, u)) = inr (j, p, stays_at j p at (λ is_n. apart_from m n apart (sym number ∙ is_n)), number, u)
 
-    pub flow_closed : Closing config over list new_parts (Close n ∷ past)
-    flow_closed = closed (AreOpen list parts) config over past closing n here (λ m among. least_with m (now_open.each m among)) (AreOpen list new_parts) (record {
+    pub flow_closed : Closing config over (record o { parts = new_parts }) (Close n ∷ past)
+    flow_closed = closed (AreOpen (carriers o) o.parts) o config over past closing n here (λ m among. least_with m (now_open.each m among)) (AreOpen (carriers o) new_parts) (record o { parts = new_parts }) closing.two (record {
       each = λ m among. let was = was_among m n past among in each_but m was.0 (now_open.each m was.1);
-      carry = λ m among. still_among m n past (now_open.carry m among) (λ same_one. true_false (sym among ∙ ap (λ x. is_among x (numbers list)) same_one ∙ unlisted));
+      carry = λ m among. still_among m n past (now_open.carry m among) (λ same_one. true_false (sym among ∙ ap (λ x. is_among x (carriers o)) same_one ∙ unlisted));
       flow = λ j p at. let was = was_at j p at in still_among (number_of p) n past (now_open.flow j p was.0) was.1;
       apart = λ j p at. now_open.apart j p (was_at j p at).0;
     })
 
   -- ---- none is left
 
-  module _ (none : IsLeast (λ a. true) list None) (none_above : NoneIsAbove None parts) where
+  module _ (none : carriers o ≡ []) (none_above : NoneIsAbove None o.parts) where
     shut : open_sockets past ≡ []
     shut = empty (open_sockets past) refl
       where
-        none_listed : (list : List Association) → IsLeast (λ a. true) list None → (m : ℕ) → is_among m (numbers list) ≡ false
-        none_listed [] none m = refl
-        none_listed (y ∷ list) none m = let never = All-head (λ (a : Association). true ≡ false) y list none in cc
-
-        no_one : (m : ℕ) → (is_among m (numbers list) ≡ true) ⊎ HasSocket m parts (λ p. Unit {0}) → ⊥
-        no_one m (inl among) = true_false (sym among ∙ none_listed list none m)
+        no_one : (m : ℕ) → IsOf (carriers o) o.parts m → ⊥
+        no_one m (inl among) = true_false (sym among ∙ ap (is_among m) none)
         no_one m (inr (k, p, at, number, u)) = none_above k p at tt
 
         empty : (sockets : List ℕ) → open_sockets past ≡ sockets → open_sockets past ≡ []
@@ -250,11 +294,11 @@ module _ (config : Config) (over : Phase) (list : List Association) (parts : Lis
 
 -- ---- the sockets of forwards are closed before
 
-module _ (config : Config) (over : Phase) (n : ℕ) (forwards : List ℕ) (list : List Association) (parts : List (Option Splice)) (past : List Entry) (closing : ClosingWith config over (n ∷ forwards) list parts past) where
-  abbrev are_open_now : AreOpenWith (n ∷ forwards) list parts past
+module _ (config : Config) (over : Phase) (n : ℕ) (forwards : List ℕ) (o : Holders) (past : List Entry) (closing : ClosingWith config over (n ∷ forwards) o past) where
+  abbrev are_open_now : AreOpenWith (n ∷ forwards) (carriers o) o.parts past
   are_open_now = closing.sockets
 
-  least_here : (m : ℕ) → (is_among m (n ∷ forwards) ≡ true) ⊎ IsOf list parts m → n ≤ m
+  least_here : (m : ℕ) → (is_among m (n ∷ forwards) ≡ true) ⊎ IsOf (carriers o) o.parts m → n ≤ m
   least_here m (inl among) = by (m == n) refl among
     where
       by : (b : Bool) → (m == n) ≡ b → (b || is_among m forwards) ≡ true → n ≤ m
@@ -262,10 +306,10 @@ module _ (config : Config) (over : Phase) (n : ℕ) (forwards : List ℕ) (list 
       by false is among = let above = above_all n m forwards are_open_now.rising.1.1 among in omega (arith, above)
   least_here m (inr of) = let less = are_open_now.first n m (ap (λ b. b || is_among n forwards) (same n)) of in omega (arith, less)
 
-  other_than : (m : ℕ) → IsOf list parts m → m ≡ n → ⊥
+  other_than : (m : ℕ) → IsOf (carriers o) o.parts m → m ≡ n → ⊥
   other_than m of is = let less = are_open_now.first n m (ap (λ b. b || is_among n forwards) (same n)) of in omega (arith, less, is)
 
-  each_behind : (m : ℕ) → not (m == n) ≡ true → (is_among m (n ∷ forwards) ≡ true) ⊎ IsOf list parts m → (is_among m forwards ≡ true) ⊎ IsOf list parts m
+  each_behind : (m : ℕ) → not (m == n) ≡ true → (is_among m (n ∷ forwards) ≡ true) ⊎ IsOf (carriers o) o.parts m → (is_among m forwards ≡ true) ⊎ IsOf (carriers o) o.parts m
   each_behind m apart (inl among) = inl (by (m == n) apart among)
     where
       by : (b : Bool) → not b ≡ true → (b || is_among m forwards) ≡ true → is_among m forwards ≡ true
@@ -273,8 +317,8 @@ module _ (config : Config) (over : Phase) (n : ℕ) (forwards : List ℕ) (list 
       by false apart among = among
   each_behind m apart (inr of) = inr of
 
-  pub forward_closed : ClosingWith config over forwards list parts (Close n ∷ past)
-  forward_closed = closed (AreOpenWith (n ∷ forwards) list parts) config over past closing n (are_open_now.forward n (ap (λ b. b || is_among n forwards) (same n))) (λ m among. least_here m (are_open_now.each m among)) (AreOpenWith forwards list parts) (record {
+  pub forward_closed : ClosingWith config over forwards o (Close n ∷ past)
+  forward_closed = closed (AreOpenWith (n ∷ forwards) (carriers o) o.parts) o config over past closing n (are_open_now.forward n (ap (λ b. b || is_among n forwards) (same n))) (λ m among. least_here m (are_open_now.each m among)) (AreOpenWith forwards (carriers o) o.parts) o closing.two (record {
     each = λ m among. let was = was_among m n past among in each_behind m was.0 (are_open_now.each m was.1);
     forward = λ m among. still_among m n past (are_open_now.forward m (or_second (m == n) (is_among m forwards) among)) (λ is. let above = above_all n m forwards are_open_now.rising.1.1 among in omega (arith, above, is));
     carry = λ m among. still_among m n past (are_open_now.carry m among) (other_than m (inl among));
@@ -285,8 +329,8 @@ module _ (config : Config) (over : Phase) (n : ℕ) (forwards : List ℕ) (list 
   })
 
 -- once none is left the others are
-pub no_forwards : (config : Config) (over : Phase) (list : List Association) (parts : List (Option Splice)) (past : List Entry) → ClosingWith config over [] list parts past → Closing config over list parts past
-no_forwards config over list parts past closing = record {
+pub no_forwards : (config : Config) (over : Phase) (o : Holders) (past : List Entry) → ClosingWith config over [] o past → Closing config over o past
+no_forwards config over o past closing = record {
   lawful = closing.lawful;
   ended = closing.ended;
   is = closing.is;
@@ -300,9 +344,10 @@ no_forwards config over list parts past closing = record {
     flow = closing.sockets.flow;
     apart = closing.sockets.apart;
   };
+  two = closing.two;
 }
   where
-    others : (n : ℕ) → (false ≡ true) ⊎ IsOf list parts n → IsOf list parts n
+    others : (n : ℕ) → (false ≡ true) ⊎ IsOf (carriers o) o.parts n → IsOf (carriers o) o.parts n
     others n (inl never) = cc
     others n (inr of) = of
 
@@ -335,20 +380,20 @@ all_left p (x ∷ list) many = by (p x) many (no_more p list) (all_left p list)
     by false many most more = absurd (omega (arith, many, most))
 
 -- the first of them is closed next
-pub closes_forward : (first : List ℕ) (n : ℕ) (rest : List ℕ) (list : List Association) (parts : List (Option Splice)) (made : List Entry) → ClosesForwards first (n ∷ rest) list parts made → ClosesForwards first rest list parts (Close n ∷ made)
-closes_forward first n rest list parts made closes config over past closing = forward_closed config over n rest list parts (made ++ past) (closes config over past closing)
+pub closes_forward : (first : List ℕ) (n : ℕ) (rest : List ℕ) (o : Holders) (made : List Entry) → ClosesForwards first (n ∷ rest) o made → ClosesForwards first rest o (Close n ∷ made)
+closes_forward first n rest o made closes config over past closing = forward_closed config over n rest o (made ++ past) (closes config over past closing)
 
-pub closes_next_forward : (first : List ℕ) (old new : List Opened) (list : List Association) (parts : List (Option Splice)) (made more : List Entry) → ClosesForwards first (forward_sockets old) list parts made → ClosesForward true old new more
-    → ClosesForwards first (forward_sockets new) list parts (more ++ made)
-closes_next_forward first old new list parts made more closes (forward, n, was, one) =
-    subst (λ es. ClosesForwards first (forward_sockets new) list parts (es ++ made)) (sym one)
-    (closes_forward first n (forward_sockets new) list parts made (subst (λ (l : List Opened). ClosesForwards first (forward_sockets l) list parts made) was closes))
+pub closes_next_forward : (first : List ℕ) (old new : List Opened) (o : Holders) (made more : List Entry) → ClosesForwards first (forward_sockets old) o made → ClosesForward true old new more
+    → ClosesForwards first (forward_sockets new) o (more ++ made)
+closes_next_forward first old new o made more closes (forward, n, was, one) =
+    subst (λ es. ClosesForwards first (forward_sockets new) o (es ++ made)) (sym one)
+    (closes_forward first n (forward_sockets new) o made (subst (λ (l : List Opened). ClosesForwards first (forward_sockets l) o made) was closes))
 
-pub closes_no_forward : (first : List ℕ) (old new : List Opened) (list : List Association) (parts : List (Option Splice)) (made more : List Entry) → ClosesForwards first (forward_sockets old) list parts made → ClosesForward false old new more
-    → ClosesForwards first [] list parts (more ++ made)
-closes_no_forward first old new list parts made more closes (was, now, none) =
-    subst (λ es. ClosesForwards first [] list parts (es ++ made)) (sym none)
-    (subst (λ (l : List Opened). ClosesForwards first (forward_sockets l) list parts made) was closes)
+pub closes_no_forward : (first : List ℕ) (old new : List Opened) (o : Holders) (made more : List Entry) → ClosesForwards first (forward_sockets old) o made → ClosesForward false old new more
+    → ClosesForwards first [] o (more ++ made)
+closes_no_forward first old new o made more closes (was, now, none) =
+    subst (λ es. ClosesForwards first [] o (es ++ made)) (sym none)
+    (subst (λ (l : List Opened). ClosesForwards first (forward_sockets l) o made) was closes)
 
 -- the first forward of the list is the first with its port
 pub first_forward : (list : List Opened) (f : Forward) (n : ℕ) → slice_get list 0 ≡ Some (f, n) → socket_at f.proto f.host list ≡ Some n
@@ -379,15 +424,13 @@ none_first_forward (x ∷ list) at = cc
 
 -- ---- one after another
 
-pub closes_first : (forwards : List Opened) (list : List Association) (parts : List (Option Splice)) (made : List Entry) → ClosesForwards (forward_sockets forwards) [] list parts made → ClosesOn forwards list list parts parts made
-closes_first forwards list parts made closes config over past closing = no_forwards config over list parts (made ++ past) (closes config over past closing)
+pub closes_first : (forwards : List Opened) (o : Holders) (made : List Entry) → ClosesForwards (forward_sockets forwards) [] o made → ClosesOn forwards o o made
+closes_first forwards o made closes config over past closing = no_forwards config over o (made ++ past) (closes config over past closing)
 
-pub closes_on : (forwards : List Opened) (first old new : List Association) (first_parts old_parts new_parts : List (Option Splice)) (made more : List Entry) → ClosesOn forwards first old first_parts old_parts made
-    → ClosesNext true old new old_parts new_parts more → ClosesOn forwards first new first_parts new_parts (more ++ made)
-closes_on forwards first old new first_parts old_parts new_parts made more closes later config over past closing =
-    subst (Closing config over new new_parts) (sym (append_assoc more made past)) (later config over (made ++ past) (closes config over past closing))
+pub closes_on : (forwards : List Opened) (first old new : Holders) (made more : List Entry) → ClosesOn forwards first old made → ClosesNext true old new more → ClosesOn forwards first new (more ++ made)
+closes_on forwards first old new made more closes later config over past closing =
+    subst (Closing config over new) (sym (append_assoc more made past)) (later config over (made ++ past) (closes config over past closing))
 
-pub closes_last : (forwards : List Opened) (first old new : List Association) (first_parts old_parts new_parts : List (Option Splice)) (made more : List Entry) → ClosesOn forwards first old first_parts old_parts made
-    → ClosesNext false old new old_parts new_parts more → ClosesAll forwards first first_parts (more ++ made)
-closes_last forwards first old new first_parts old_parts new_parts made more closes later config over past closing =
+pub closes_last : (forwards : List Opened) (first old new : Holders) (made more : List Entry) → ClosesOn forwards first old made → ClosesNext false old new more → ClosesAll forwards first (more ++ made)
+closes_last forwards first old new made more closes later config over past closing =
     subst (Ran config over) (sym (append_assoc more made past)) (later config over (made ++ past) (closes config over past closing))

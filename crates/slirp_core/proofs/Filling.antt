@@ -1,6 +1,7 @@
 -- What is waited for.
-use Rattle.std.proofs.Common.{◌-◌, drop, take, take-append-drop, ◌≡◌, ℕ, zero, suc, ◌^◌, ◌<◌, ◌≤◌, ◌==◌, ◌&&◌, ◌||◌, not, nat_lt, Bool, true, false, IsTrue, List, [], ◌∷◌, ◌++◌, map, length, slice_get, Option, Some, refl, sym, ◌∙◌, ap, subst, append_assoc, arith}
+use Rattle.std.proofs.Common.{◌-◌, ◌+◌, drop, take, take-append-drop, ◌≡◌, ℕ, zero, suc, ◌^◌, ◌<◌, ◌≤◌, ◌==◌, ◌&&◌, ◌||◌, not, nat_lt, Bool, true, false, IsTrue, List, [], ◌∷◌, ◌++◌, map, length, slice_get, Option, Some, refl, sym, ◌∙◌, ap, subst, append_assoc, arith, length-append}
 use Rattle.std.proofs.lemmas.Bool.Decides.{nat_tests}
+use Rattle.std.proofs.lemmas.List.{length-map}
 use Rattle.std.specs.Prelude.{Contains}
 use Rattle.std.proofs.lemmas.List.Elements.{Contains-append_left, Contains-append_right, Contains-push}
 use Rattle.std.specs.List.{list_any}
@@ -13,25 +14,29 @@ use Rattle.stream_netdev.specs.State.{LinkState}
 use Rattle.flow_splice.specs.Splice.{Splice}
 use Rattle.spliced_flows.specs.Core.{number_of}
 use Rattle.tcp_flows.specs.Reading.{AreAbove, AreRising, AreWantsOf, want_of}
-use Rattle.udp_assoc.specs.Associations.{numbers}
+use Rattle.host_policy.specs.declared.Proto.TheVariants.{Udp as OverUdp}
 use Rattle.spliced_flows.proofs.Options.{true_false}
-use Rattle.slirp_core.specs.Pumps.{TcpOnce, WantsOf, is_settled, link_want, listener_want, listeners_of, udp_want, socket_wants}
+use Rattle.slirp_core.specs.Forwards.{sockets_over}
+use Rattle.slirp_core.specs.Holds.{carriers, holders_of}
+use Rattle.slirp_core.specs.Pumps.{TcpOnce, WantsOf, is_settled, link_want, listener_want, listeners_of, merged, udp_want, socket_wants}
 use Rattle.slirp_core.specs.State.{SlirpState}
+use Rattle.slirp_core.proofs.Merging.{length_merged}
 
 -- the link, then the sockets where they are wanted, and what flows wait for
-pub wants_of : (slirp : SlirpState) (link : LinkState) (wants flows : List Want) (read write : Bool) (listeners sockets : List ℕ) → read ≡ is_settled slirp link → write ≡ link.blocked → listeners ≡ listeners_of slirp
-    → IsPermutation (numbers slirp.associations) sockets → IsNonDecreasing sockets
-    → AreWantsOf slirp.flows.flows.parts flows → wants ≡ ((link_want read write ++ map listener_want listeners) ++ socket_wants read sockets) ++ flows → WantsOf slirp link wants
-wants_of slirp link wants flows read write listeners sockets settled blocked listen all rising of_flows is = record {
+pub wants_of : (slirp : SlirpState) (link : LinkState) (wants flows : List Want) (read write : Bool) (listeners forwards sockets : List ℕ) → read ≡ is_settled slirp link → write ≡ link.blocked
+    → listeners ≡ listeners_of slirp → forwards ≡ sockets_over OverUdp slirp.forwards → IsPermutation (carriers (holders_of slirp)) sockets → IsNonDecreasing sockets
+    → AreWantsOf slirp.flows.flows.parts flows → wants ≡ ((link_want read write ++ map listener_want listeners) ++ socket_wants read (forwards ++ sockets)) ++ flows → WantsOf slirp link wants
+wants_of slirp link wants flows read write listeners forwards sockets settled blocked listen given all rising of_flows is = record {
   sockets = sockets;
   all = all;
   rising = rising;
   flows = flows;
   of_flows = of_flows;
   is =
-      is ∙ ap (λ (b : Bool). ((link_want b write ++ map listener_want listeners) ++ socket_wants b sockets) ++ flows) settled
-      ∙ ap (λ (b : Bool). ((link_want (is_settled slirp link) b ++ map listener_want listeners) ++ socket_wants (is_settled slirp link) sockets) ++ flows) blocked
-      ∙ ap (λ l. ((link_want (is_settled slirp link) link.blocked ++ map listener_want l) ++ socket_wants (is_settled slirp link) sockets) ++ flows) listen;
+      is ∙ ap (λ (b : Bool). ((link_want b write ++ map listener_want listeners) ++ socket_wants b (forwards ++ sockets)) ++ flows) settled
+      ∙ ap (λ (b : Bool). ((link_want (is_settled slirp link) b ++ map listener_want listeners) ++ socket_wants (is_settled slirp link) (forwards ++ sockets)) ++ flows) blocked
+      ∙ ap (λ l. ((link_want (is_settled slirp link) link.blocked ++ map listener_want l) ++ socket_wants (is_settled slirp link) (forwards ++ sockets)) ++ flows) listen
+      ∙ ap (λ (l : List ℕ). ((link_want (is_settled slirp link) link.blocked ++ map listener_want (listeners_of slirp)) ++ socket_wants (is_settled slirp link) (l ++ sockets)) ++ flows) given;
 }
 
 -- all is wanted for reading
@@ -53,6 +58,18 @@ few_wants true true = omega arith
 few_wants true false = omega arith
 few_wants false true = omega arith
 few_wants false false = omega arith
+
+-- how many are wanted for reading
+pub few_read : (wants : List Want) (listeners forwards some others : List ℕ) → wants ≡ (link_want true false ++ map listener_want listeners) ++ map udp_want (forwards ++ merged some others)
+    → length listeners + length forwards ≤ 32 → length some ≤ 512 → length others ≤ 512 → length wants ≤ 1057
+few_read wants listeners forwards some others is few one two =
+    let long = ap length is in
+    let all = length-append (link_want true false ++ map listener_want listeners) (map udp_want (forwards ++ merged some others)) in
+    let given = length-map (forwards ++ merged some others) udp_want in
+    let behind = length-append forwards (merged some others) in
+    let both = length_merged some others in
+    let before = length-map listeners listener_want in
+    omega (arith, long, all, given, behind, both, before)
 
 more_of : (wants : List Want) (w : Want) → (w.read || w.write) ≡ true → is_who w.of ≡ true → AreWants wants → AreWants (wants ++ (w ∷ []))
 more_of [] w some who are = both (w.read || w.write) (is_who w.of) some who

@@ -4,26 +4,30 @@ use Rattle.std.specs.Prelude.{Contains}
 use Rattle.std.specs.List.Sorted.{IsNonDecreasing}
 use Rattle.std.proofs.lemmas.Bool.Decides.{nat_tests}
 use Rattle.std.proofs.lemmas.List.Elements.{Contains-append_right}
-use Rattle.std.proofs.lemmas.List.Sorted.{Contains-permutation, IsPermutation-sym}
+use Rattle.std.proofs.lemmas.List.Sorted.{Contains-permutation, IsPermutation-refl, IsPermutation-sym}
 use Rattle.world_face.specs.Journal.{Entry, Close}
 use Rattle.host_policy.specs.Addresses.{Config}
 use Rattle.flow_splice.specs.Splice.{Splice, is_open}
 use Rattle.run_laws.specs.Shape.{Phase}
 use Rattle.run_laws.specs.Sockets.{is_among}
 use Rattle.slirp_laws.proofs.Bools.{equal, same}
-use Rattle.spliced_flows.specs.Core.{number_of}
-use Rattle.spliced_flows.proofs.Options.{none_some, some_same}
+use Rattle.spliced_flows.proofs.Options.{none_some, some_same, true_false}
 use Rattle.tcp_flows.specs.Reading.{IsFirst, IsNextOpen, IsOpenAt, NoneIsAbove}
 use Rattle.tcp_flows.specs.Runs.{ClosesFirst}
-use Rattle.udp_assoc.specs.Associations.{IsLeast, numbers}
+use Rattle.udp_assoc.specs.Associations.{numbers}
 use Rattle.udp_assoc.specs.Relays.{ClosesLeast}
 use Rattle.udp_assoc.specs.declared.assocs.Association.{Association}
-use Rattle.slirp_core.specs.Holds.{AfterClosing, Closing, Ran}
+use Rattle.dns_relay.specs.Questions.{numbers as question_numbers}
+use Rattle.dns_relay.specs.Relaying.{ClosesLeast as ClosesLeastAsked}
+use Rattle.dns_relay.specs.declared.Question.{Question}
+use Rattle.slirp_core.specs.Firsts.{IsFlowFirst, IsLeastOf, IsQuestionFirst, NoFlowFirst, NoQuestionFirst}
+use Rattle.slirp_core.specs.Holds.{AfterClosing, Closing, Holders, Ran, carriers}
 use Rattle.slirp_core.specs.Numbers.{count_open, open_flows}
-use Rattle.slirp_core.proofs.Sockets.{no_association}
-use Rattle.slirp_core.proofs.Closing.{IsFlows, all_closed, at_most, carrier_closed, flow_closed}
+use Rattle.slirp_core.proofs.Askers.{among_both, among_first, among_second, asked_at_most, asked_least, least_asked, no_question, none_asked}
+use Rattle.slirp_core.proofs.Sockets.{least_among, no_association}
+use Rattle.slirp_core.proofs.Closing.{IsFlows, all_closed, association_closed, at_most, flow_closed, question_closed}
 
--- ---- the numbers of associations, by rising number
+-- ---- numbers, and the same ones as they rise
 
 contains_among : (m : ℕ) (ns : List ℕ) → is_among m ns ≡ true → Contains ns m
 contains_among m [] is = cc
@@ -42,50 +46,63 @@ among_at m (x ∷ ns) (suc k) few is = later (m == x) (is_among m ns) (among_at 
     later true b is = refl
     later false b is = is
 
-module _ (list : List Association) (rising : List ℕ) (all : IsPermutation (numbers list) rising) (rise : IsNonDecreasing rising) (first : ℕ) (is_first : slice_get rising 0 ≡ Some first) where
-  head_is : (ns : List ℕ) (d : ℕ) → slice_get ns 0 ≡ Some first → (0 < length ns) × (get_or ns 0 d ≡ first)
+module _ (ns rising : List ℕ) (all : IsPermutation ns rising) (rise : IsNonDecreasing rising) (first : ℕ) (is_first : slice_get rising 0 ≡ Some first) where
+  head_is : (ms : List ℕ) (d : ℕ) → slice_get ms 0 ≡ Some first → (0 < length ms) × (get_or ms 0 d ≡ first)
   head_is [] d is = cc
-  head_is (x ∷ ns) d is = (omega arith, here is)
+  head_is (x ∷ ms) d is = (omega arith, here is)
     where
       here : Some x ≡ Some first → x ≡ first
       here is = cc
 
   -- the first is less than the others
-  first_under : (m : ℕ) → is_among m (numbers list) ≡ true → first ≤ m
+  first_under : (m : ℕ) → is_among m ns ≡ true → first ≤ m
   first_under m among =
-      let there = Contains-permutation (numbers list) rising m all (contains_among m (numbers list) among) in
+      let there = Contains-permutation ns rising m all (contains_among m ns among) in
       let least = rise 0 there.0 m (omega arith) there.1 in
       let first_is = (head_is rising m is_first).1 in
       let at = there.2 in
       omega (arith, least, first_is, at)
 
   -- and is one of them
-  first_among : is_among first (numbers list) ≡ true
+  first_among : is_among first ns ≡ true
   first_among =
       let head = head_is rising first is_first in
-      let there = Contains-permutation rising (numbers list) first (IsPermutation-sym (numbers list) rising all) (0, head.0, head.1) in
-      among_at first (numbers list) there.0 there.1 there.2
+      let there = Contains-permutation rising ns first (IsPermutation-sym ns rising all) (0, head.0, head.1) in
+      among_at first ns there.0 there.1 there.2
 
-  least_first : (n : ℕ) → IsLeast (λ a. true) list (Some n) → n ≤ first
-  least_first n least = at_most n first list least.1 first_among
+  pub first_is_least : IsLeastOf first ns
+  first_is_least = (first_among, first_under)
 
-  pub some_listed : list ≡ [] → ⊥
-  some_listed none = cc (sym first_among ∙ ap (λ (l : List Association). is_among first (numbers l)) none)
-
-  -- a number that is less than the first, or isn't
-  pub less_first : (n : ℕ) → nat_lt n first ≡ true → (m : ℕ) → is_among m (numbers list) ≡ true → n ≤ m
-  less_first n less m among = let under = first_under m among in grind (arith, nat_tests, less, under)
-
-  pub first_less : (n : ℕ) → nat_lt n first ≡ false → (m : ℕ) → IsLeast (λ a. true) list (Some m) → m ≤ n
-  first_less n not_less m least = let under = least_first m least in grind (arith, nat_tests, not_less, under)
+-- one of them is one of those that rise
+pub among_rising : (ns rising : List ℕ) → IsPermutation ns rising → (m : ℕ) → is_among m ns ≡ true → is_among m rising ≡ true
+among_rising ns rising all m among =
+    let there = Contains-permutation ns rising m all (contains_among m ns among) in
+    among_at m rising there.0 there.1 there.2
 
 -- where none stands by rising number there is none
-pub none_listed : (list : List Association) (rising : List ℕ) → IsPermutation (numbers list) rising → slice_get rising 0 ≡ None → (m : ℕ) → is_among m (numbers list) ≡ true → ⊥
-none_listed list rising all none m among = by rising none (Contains-permutation (numbers list) rising m all (contains_among m (numbers list) among))
+pub none_listed : (ns rising : List ℕ) → IsPermutation ns rising → slice_get rising 0 ≡ None → (m : ℕ) → is_among m ns ≡ true → ⊥
+none_listed ns rising all none m among = by rising none (Contains-permutation ns rising m all (contains_among m ns among))
   where
-    by : (ns : List ℕ) → slice_get ns 0 ≡ None → Contains ns m → ⊥
+    by : (ms : List ℕ) → slice_get ms 0 ≡ None → Contains ms m → ⊥
     by [] none has = let few = has.1 in omega (arith, few)
-    by (x ∷ ns) none has = cc
+    by (x ∷ ms) none has = cc
+
+-- ---- whether a number is less than all of a row
+
+-- a number that is less than the first of a row that rises, or isn't
+pub under_all : (n : ℕ) (rising : List ℕ) → IsNonDecreasing rising → (first : ℕ) → slice_get rising 0 ≡ Some first → nat_lt n first ≡ true → (m : ℕ) → is_among m rising ≡ true → n ≤ m
+under_all n rising rise first is_first less m among =
+    let under = (first_is_least rising rising (IsPermutation-refl rising) rise first is_first).1 m among in
+    less_than n first m less under
+  where
+    less_than : (n first m : ℕ) → nat_lt n first ≡ true → first ≤ m → n ≤ m
+    less_than n first m less under = grind (arith, nat_tests, less, under)
+
+pub not_under : (n first : ℕ) → nat_lt n first ≡ false → first ≤ n
+not_under n first not_less = grind (arith, nat_tests, not_less)
+
+pub none_under : (n : ℕ) (rising : List ℕ) → slice_get rising 0 ≡ None → (m : ℕ) → is_among m rising ≡ true → n ≤ m
+none_under n rising none m among = absurd (none_listed rising rising (IsPermutation-refl rising) none m among)
 
 -- ---- the flow with the least number
 
@@ -95,8 +112,8 @@ module _ (n : ℕ) (parts : List (Option Splice)) (first : IsFirst n parts) wher
   one_open none = let has = first.has in none has.0 has.1 has.2 tt
 
   -- it is the next one to be closed
-  pub next_flow : (m k : ℕ) (list : List Association) → IsNextOpen None m k parts → ((j : ℕ) → is_among j (numbers list) ≡ true → n ≤ j) → IsFlows m k list parts
-  next_flow m k list next below = record {
+  pub next_flow : (m k : ℕ) (carriers : List ℕ) → IsNextOpen None m k parts → ((j : ℕ) → is_among j carriers ≡ true → n ≤ j) → IsFlows m k carriers parts
+  next_flow m k carriers next below = record {
     next = next;
     below = λ j among.
         let has = first.has in
@@ -138,29 +155,116 @@ pub fewer_flows : (b : Bool) (old new : List (Option Splice)) (made : List Entry
 fewer_flows true old new made closes is = subst (λ (l : List (Option Splice)). open_flows l < open_flows old) (sym closes.3) (open_less old closes.1 closes.2.part closes.2.at)
 fewer_flows false old new made closes is = cc
 
+-- ---- which one has the least number
+
+-- where a flow's number is less than all of both rows, or isn't
+pub flow_is_under : (n : ℕ) (o : Holders) → ((m : ℕ) → is_among m (numbers o.associations) ≡ true → n ≤ m) → ((m : ℕ) → is_among m (question_numbers o.questions) ≡ true → n ≤ m)
+    → (m : ℕ) → is_among m (carriers o) ≡ true → n ≤ m
+flow_is_under n o one two m among = by (is_among m (numbers o.associations)) refl (sym (among_both m (numbers o.associations) (question_numbers o.questions)) ∙ among)
+  where
+    by : (b : Bool) → is_among m (numbers o.associations) ≡ b → (b || is_among m (question_numbers o.questions)) ≡ true → n ≤ m
+    by true is among = one m is
+    by false is among = two m among
+
+pub flow_isnt_under : (n : ℕ) (o : Holders) → IsFirst n o.parts → (first : ℕ) → is_among first (carriers o) ≡ true → first ≤ n → NoFlowFirst (carriers o) o.parts
+flow_isnt_under n o is first among most = record {
+  below = λ m least k p at.
+      let under = least.1 first among in
+      let above = is.least k p at in
+      omega (arith, under, above, most);
+  none = λ none. absurd (true_false (sym among ∙ ap (is_among first) none));
+}
+
+pub no_flow : (o : Holders) → NoneIsAbove None o.parts → NoFlowFirst (carriers o) o.parts
+no_flow o none = record { below = λ m least k p at. absurd (none k p at tt); none = λ empty. none }
+
+-- a question's number is less than those of all associations, or isn't
+pub question_is_under : (list : List Association) (asked : List Question) (rising : List ℕ) → IsPermutation (question_numbers asked) rising → IsNonDecreasing rising → (n : ℕ) → slice_get rising 0 ≡ Some n
+    → ((m : ℕ) → is_among m (numbers list) ≡ true → n ≤ m) → IsQuestionFirst list asked
+question_is_under list asked rising all rise n is_first below =
+    let least = first_is_least (question_numbers asked) rising all rise n is_first in
+    (n, asked_least n asked least.0 least.1, below)
+
+pub question_isnt_under : (list : List Association) (asked : List Question) (rising : List ℕ) → IsPermutation (question_numbers asked) rising → IsNonDecreasing rising → (n : ℕ) → slice_get rising 0 ≡ Some n
+    → (first : ℕ) → is_among first (numbers list) ≡ true → first ≤ n → NoQuestionFirst list asked
+question_isnt_under list asked rising all rise n is_first first among most = record {
+  below = λ m least k is.
+      let under = at_most m first list least.1 among in
+      let above = (first_is_least (question_numbers asked) rising all rise n is_first).1 k is in
+      omega (arith, under, above, most);
+  none = λ none. absurd (true_false (sym among ∙ ap (λ (l : List Association). is_among first (numbers l)) none));
+}
+
+pub no_question_first : (list : List Association) (asked : List Question) (rising : List ℕ) → IsPermutation (question_numbers asked) rising → slice_get rising 0 ≡ None → NoQuestionFirst list asked
+no_question_first list asked rising all none = record {
+  below = λ m least k is. absurd (none_listed (question_numbers asked) rising all none k is);
+  none = λ empty. none_asked asked (none_listed (question_numbers asked) rising all none);
+}
+
 -- ---- the socket with the least number is closed
 
--- the open socket with the least number is a flow's
-abbrev pub IsFlowFirst : List Association → List (Option Splice) → Type 0
-IsFlowFirst list parts = (n : ℕ) × IsFirst n parts × ((m : ℕ) → is_among m (numbers list) ≡ true → n ≤ m)
-
--- no flow's number is less than those of the associations
-pub record NoFlowFirst (list : List Association) (parts : List (Option Splice)) : Type 0 where
-  pub below : (n : ℕ) → IsLeast (λ a. true) list (Some n) → (k : ℕ) (p : Splice) → IsOpenAt parts k p → n ≤ number_of p
-  pub none : list ≡ [] → NoneIsAbove None parts
-
 module _ (config : Config) (over : Phase) (made past : List Entry) where
-  pub flow_first : (b : Bool) (list : List Association) (old new : List (Option Splice)) → IsFlowFirst list old → ClosesFirst b old new made → Closing config over list old past → AfterClosing b config over list new (made ++ past)
-  flow_first true list old new first closes closing =
-      subst (λ (m : List Entry). Closing config over list new (m ++ past)) (sym closes.4)
-      (subst (λ (l : List (Option Splice)). Closing config over list l (Close closes.0 ∷ past)) (sym closes.3)
-      (flow_closed config over list old past closing closes.0 closes.1 (next_flow first.0 old first.1 closes.0 closes.1 list closes.2 first.2)))
-  flow_first false list old new first closes closing = absurd (one_open first.0 old first.1 closes.0)
+  pub flow_first : (b : Bool) (o : Holders) (new : List (Option Splice)) → IsFlowFirst (carriers o) o.parts → ClosesFirst b o.parts new made → Closing config over o past → AfterClosing b config over (record o { parts = new }) (made ++ past)
+  flow_first true o new first closes closing =
+      subst (λ (m : List Entry). Closing config over (record o { parts = new }) (m ++ past)) (sym closes.4)
+      (subst (λ (l : List (Option Splice)). Closing config over (record o { parts = l }) (Close closes.0 ∷ past)) (sym closes.3)
+      (flow_closed config over o past closing closes.0 closes.1 (next_flow first.0 o.parts first.1 closes.0 closes.1 (carriers o) closes.2 first.2)))
+  flow_first false o new first closes closing = absurd (one_open first.0 o.parts first.1 closes.0)
 
-  pub carrier_first : (b : Bool) (old new : List Association) (parts : List (Option Splice)) → NoFlowFirst old parts → ClosesLeast (λ a. true) b old new made → Closing config over old parts past → AfterClosing b config over new parts (made ++ past)
-  carrier_first true old new parts first closes closing =
-      subst (λ (m : List Entry). Closing config over new parts (m ++ past)) (sym closes.1)
-      (subst (λ (l : List Association). Closing config over l parts (Close closes.0 ∷ past)) (sym closes.3)
-      (carrier_closed config over old parts past closing closes.0 (record { least = closes.2; below = first.below closes.0 closes.2 })))
-  carrier_first false old new parts first closes closing =
-      subst (λ (m : List Entry). Ran config over (m ++ past)) (sym closes.0) (all_closed config over old parts past closing closes.1 (first.none (no_association old closes.1)))
+  pub question_first : (b : Bool) (o : Holders) (new : List Question) → NoFlowFirst (carriers o) o.parts → IsQuestionFirst o.associations o.questions → ClosesLeastAsked (λ q. true) b o.questions new made → Closing config over o past
+      → AfterClosing b config over (record o { questions = new }) (made ++ past)
+  question_first true o new no_flow first closes closing =
+      subst (λ (m : List Entry). Closing config over (record o { questions = new }) (m ++ past)) (sym closes.1)
+      (subst (λ (l : List Question). Closing config over (record o { questions = l }) (Close closes.0 ∷ past)) (sym closes.3)
+      (question_closed config over o past closing closes.0 listed (record { least = least; below = no_flow.below closes.0 least })))
+    where
+      listed : is_among closes.0 (question_numbers o.questions) ≡ true
+      listed = least_asked closes.0 o.questions closes.2
+
+      under : closes.0 ≤ first.0
+      under = asked_at_most closes.0 first.0 o.questions closes.2.1 (least_asked first.0 o.questions first.1)
+
+      least : IsLeastOf closes.0 (carriers o)
+      least = (
+        among_second closes.0 (numbers o.associations) (question_numbers o.questions) listed,
+        flow_is_under closes.0 o (λ m among. let above = first.2 m among in omega (arith, under, above)) (λ m among. asked_at_most closes.0 m o.questions closes.2.1 among),
+      )
+  question_first false o new no_flow first closes closing = absurd (true_false (sym (least_asked first.0 o.questions first.1) ∙ ap (λ (l : List Question). is_among first.0 (question_numbers l)) (no_question o.questions closes.1)))
+
+  pub association_first : (b : Bool) (o : Holders) (new : List Association) → NoFlowFirst (carriers o) o.parts → NoQuestionFirst o.associations o.questions → ClosesLeast (λ a. true) b o.associations new made → Closing config over o past
+      → AfterClosing b config over (record o { associations = new }) (made ++ past)
+  association_first true o new no_flow no_question closes closing =
+      subst (λ (m : List Entry). Closing config over (record o { associations = new }) (m ++ past)) (sym closes.1)
+      (subst (λ (l : List Association). Closing config over (record o { associations = l }) (Close closes.0 ∷ past)) (sym closes.3)
+      (association_closed config over o past closing closes.0 listed (record { least = least; below = no_flow.below closes.0 least })))
+    where
+      listed : is_among closes.0 (numbers o.associations) ≡ true
+      listed = least_among closes.0 o.associations closes.2
+
+      least : IsLeastOf closes.0 (carriers o)
+      least = (
+        among_first closes.0 (numbers o.associations) (question_numbers o.questions) listed,
+        flow_is_under closes.0 o (λ m among. at_most closes.0 m o.associations closes.2.1 among) (no_question.below closes.0 closes.2),
+      )
+  association_first false o new no_flow no_question closes closing =
+      subst (λ (m : List Entry). Ran config over (m ++ past)) (sym closes.0) (all_closed config over o past closing none (no_flow.none none))
+    where
+      alone : o.associations ≡ []
+      alone = no_association o.associations closes.1
+
+      none : carriers o ≡ []
+      none = ap (λ (l : List Association). numbers l ++ question_numbers o.questions) alone ∙ ap question_numbers (no_question.none alone)
+
+-- ---- whether there was one
+
+pub some_flow : (b : Bool) (carriers : List ℕ) (old new : List (Option Splice)) (made : List Entry) → IsFlowFirst carriers old → ClosesFirst b old new made → b ≡ false → ⊥
+some_flow true carriers old new made first closes is = cc
+some_flow false carriers old new made first closes is = one_open first.0 old first.1 closes.0
+
+pub some_question : (b : Bool) (list : List Association) (old new : List Question) (made : List Entry) → IsQuestionFirst list old → ClosesLeastAsked (λ q. true) b old new made → b ≡ false → ⊥
+some_question true list old new made first closes is = cc
+some_question false list old new made first closes is = true_false (sym (least_asked first.0 old first.1) ∙ ap (λ (l : List Question). is_among first.0 (question_numbers l)) (no_question old closes.1))
+
+pub no_association_left : (b : Bool) (old new : List Association) (asked : List Question) (made : List Entry) → NoQuestionFirst old asked → ClosesLeast (λ a. true) b old new made → b ≡ false → asked ≡ []
+no_association_left true old new asked made first closes is = cc
+no_association_left false old new asked made first closes is = first.none (no_association old closes.1)

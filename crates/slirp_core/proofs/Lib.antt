@@ -1,4 +1,5 @@
 pub mod Arriving
+pub mod Askers
 pub mod Asking
 pub mod Assembling
 pub mod Associating
@@ -9,6 +10,8 @@ pub mod Datagramming
 pub mod Filling
 pub mod Given
 pub mod Listening
+pub mod Forwarding
+pub mod Merging
 pub mod Guests
 pub mod Names
 pub mod NextFrames

@@ -11,7 +11,7 @@ use Rattle.host_policy.specs.declared.Forward.{Forward}
 use Rattle.host_policy.specs.declared.Proto.{Proto}
 use Rattle.host_policy.specs.declared.Proto.TheVariants.{Tcp, Udp}
 use Rattle.host_policy.specs.declared.config.Field.TheVariants.{Forwards}
-use Rattle.std.specs.Prelude.{Result, Ok, Err, OnOk}
+use Rattle.std.specs.Prelude.{Result, Ok, Err}
 use Rattle.std.specs.Result.{is_ok, result_err}
 use Rattle.port_forward.specs.declared.FwdFault.{FwdFault}
 use Rattle.port_forward.specs.Adding.{Adds, fault_of, opening_of}
@@ -186,35 +186,3 @@ listens_by forward number old new (Ok u) made (Done, is, (none, grown)) = (grown
 listens_by forward number old new (Ok u) made (Failed, is, (fault, same)) = cc
 listens_by forward number old new (Err e) made (Done, is, (none, grown)) = cc
 listens_by forward number old new (Err e) made (Failed, is, (fault, same)) = (same, is)
-
--- ---- the list as far as it was read
-
-pub listener_taken : (list : List Opened) (k : ℕ) (f : Forward) (n : ℕ) → slice_get list k ≡ Some (f, n) → take (k + 1) (forward_sockets list) ≡ take k (forward_sockets list) ++ n ∷ []
-listener_taken [] k f n at = cc
-listener_taken (x ∷ list) zero f n at = ap (λ (y : Opened). y.1 ∷ []) (the_same at)
-  where
-    the_same : Some x ≡ Some (f, n) → x ≡ (f, n)
-    the_same is = cc
-listener_taken (x ∷ list) (suc k) f n at =
-    let next : suc (k + 1) ≡ suc k + 1 = omega arith in
-    subst (λ j. take j (forward_sockets (x ∷ list)) ≡ x.1 ∷ (take k (forward_sockets list) ++ n ∷ [])) next (ap (λ l. x.1 ∷ l) (listener_taken list k f n at))
-
-pub listeners_taken : (list : List Opened) (k : ℕ) → length list ≤ k → take k (forward_sockets list) ≡ forward_sockets list
-listeners_taken [] zero all = refl
-listeners_taken [] (suc k) all = refl
-listeners_taken (x ∷ list) zero all = absurd (omega (arith, all))
-listeners_taken (x ∷ list) (suc k) all = ap (λ l. x.1 ∷ l) (listeners_taken list k (omega (arith, all)))
-
-pub few_taken : (list : List Opened) (k : ℕ) → length (take k (forward_sockets list)) ≤ k
-few_taken list zero = omega arith
-few_taken [] (suc k) = omega arith
-few_taken (x ∷ list) (suc k) = let few = few_taken list k in omega (arith, few)
-
-pub none_further : (list : List Opened) (k : ℕ) → slice_get list k ≡ None → length list ≤ k
-none_further [] k at = omega arith
-none_further (x ∷ list) zero at = cc
-none_further (x ∷ list) (suc k) at = let less = none_further list k at in omega (arith, less)
-
-pub at_ok : {T E P : Type 0} (result : Result T E) → is_ok result ≡ true → OnOk result P → P
-at_ok (Ok x) is p = p
-at_ok (Err e) is p = cc

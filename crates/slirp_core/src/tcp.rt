@@ -7,6 +7,7 @@ ghost use Rattle.core_flows.specs.Seats.{in_use_slots};
 ghost use Rattle.flow_book.specs.Lots.{is_opening, lot_by, reset_to};
 ghost use Rattle.host_policy.specs.declared.Proto.TheVariants.{Tcp as OverTcp};
 ghost use Rattle.flow_book.specs.Segments.{segment_of};
+ghost use Rattle.host_policy.specs.Addresses.{Config};
 ghost use Rattle.host_policy.specs.Targets.{target};
 ghost use Rattle.spliced_flows.specs.Stands.{lot_without};
 ghost use Rattle.slirp_core.specs.Packets.{is_segment};
@@ -55,7 +56,6 @@ pub enum StrayLot {
 }
 
 impl Slirp {
-    ghost use Rattle.host_policy.specs.Addresses.{Config};
     ghost use Rattle.slirp_laws.specs.Answers.{frames_of, reset_for};
     ghost use Rattle.slirp_core.specs.Counts.{AreGrown};
     ghost use Rattle.slirp_core.specs.Holds.{Standing, Holds, Comes, flowing};
@@ -146,7 +146,7 @@ pub(crate) fn segment_in<'a>(mac: Mac, datagram: &IpView<'a>) -> Option<Task<'a>
     requires size { length datagram.now.body.now ≤ 65515 }
     ensures segment { option_and_then segment_for result ≡ option_map (coming mac.0 (ip_of datagram.now)) (read_tcp datagram.now.from.0 datagram.now.to.0 datagram.now.body.now) }
     ensures errand { option_and_then errand_for result ≡ None }
-    ensures fits { IfSome result FitsTask }
+    ensures fits { (config : Config) → IfSome result (FitsTask config) }
 {
     let Ok(segment) = tcp_segment::decode(datagram.body, datagram.from, datagram.to) else {
         return None;

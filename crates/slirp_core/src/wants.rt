@@ -1,17 +1,18 @@
 // What the network waits for, and how long.
 ghost use Rattle.std.specs.Prelude.{[], ◌∷◌, ◌≡◌, ◌+◌, ◌≤◌, ◌<◌, ◌^◌, ◌++◌, true, false, List, ℕ, Some, slice_get, map, length, IfOk};
 ghost use Rattle.flow_splice.specs.Splice.{Splice};
+ghost use Rattle.host_policy.specs.Ranges.{same_proto};
 ghost use Rattle.spliced_flows.specs.Core.{number_of};
 ghost use Rattle.poll_list.specs.declared.Want.{Want as AWant};
 ghost use Rattle.tcp_flows.specs.Reading.{AreWantsOf};
 ghost use Rattle.poll_list.specs.Listing.{AreWants};
-ghost use Rattle.slirp_core.specs.Pumps.{TcpOnce, link_want, listener_want, merged, socket_wants, udp_want};
+ghost use Rattle.slirp_core.specs.Pumps.{TcpOnce, into, link_want, listener_want, merged, socket_wants, udp_want};
 ghost use Rattle.slirp_core.specs.Carrying.{HasRoom, sockets_of};
 
 use crate::network::Slirp;
 use crate::timeouts::sooner;
 use arrayvec::ArrayVec;
-use host_policy::Proto;
+use host_policy::{Forward, Proto};
 use net_octets::NoMemory;
 use poll_list::{Want, Wants, Who};
 use std::alloc::Global;
@@ -131,7 +132,7 @@ impl TurnWants {
         requires numbers { (k : ℕ) (p : Splice) → slice_get flows.now.flows.parts k ≡ Some (Some p) → number_of p < below }
         requires few { length listeners.now + length carriers.forwards.now ≤ 32 }
         requires most { HasRoom carriers }
-        ensures items { (added : List AWant) × (self.new.items ≡ ((link_want read write ++ map listener_want listeners.now) ++ socket_wants read (sockets_of carriers)) ++ added)
+        ensures items { (added : List AWant) × (self.new.items ≡ ((link_want read write ++ map listener_want listeners.now) ++ socket_wants read (sockets_of carriers.entry)) ++ added)
             × AreWantsOf flows.now.flows.parts added }
         ensures once { TcpOnce self.new.items }
         ensures wants { AreWants self.new.items }
@@ -163,7 +164,7 @@ impl TurnWants {
         requires room { 1057 ≤ self.old.capacity }
         requires few { length listeners.now + length carriers.forwards.now ≤ 32 }
         requires most { HasRoom carriers }
-        ensures items { self.new.items ≡ (link_want read write ++ map listener_want listeners.now) ++ socket_wants read (sockets_of carriers) }
+        ensures items { self.new.items ≡ (link_want read write ++ map listener_want listeners.now) ++ socket_wants read (sockets_of carriers.entry) }
         ensures wants { AreWants self.new.items }
         ensures few { length self.new.items ≤ 1057 }
         ensures capacity { self.new.capacity ≡ self.old.capacity }
@@ -181,7 +182,7 @@ impl TurnWants {
         requires room { 1057 ≤ self.old.capacity }
         requires few { length listeners.now + length carriers.forwards.now ≤ 32 }
         requires most { HasRoom carriers }
-        ensures items { self.new.items ≡ (link_want true false ++ map listener_want listeners.now) ++ map udp_want (sockets_of carriers) }
+        ensures items { self.new.items ≡ (link_want true false ++ map listener_want listeners.now) ++ map udp_want (sockets_of carriers.entry) }
         ensures wants { AreWants self.new.items }
         ensures few { length self.new.items ≤ 1057 }
         ensures capacity { self.new.capacity ≡ self.old.capacity }
@@ -282,17 +283,25 @@ impl Slirp {
     // The sockets of the ports of the host that are open with this protocol, by rising number.
     fn ports_over(&self, proto: Proto) -> ArrayVec<u64, 32>
         ensures items { result.items ≡ sockets_over proto self.now.forwards }
+        ensures few { length self.now.forwards ≤ 32 }
     {
         let mut numbers = ArrayVec::new();
         for place in 0..self.forwards.len() {
             if let Some((forward, number)) = self.forwards.at(place) {
-                if forward.proto == proto {
+                if is_over(proto, &forward) {
                     let _ = numbers.try_push(number);
                 }
             }
         }
         numbers
     }
+}
+
+// Whether a forward is for this protocol.
+fn is_over(proto: Proto, forward: &Forward) -> bool
+    ensures { result ≡ same_proto proto forward.now.proto }
+{
+    proto == forward.proto
 }
 
 // Whether two lists of numbers are the same.
@@ -344,9 +353,9 @@ fn add_wanted(wanted: bool, carriers: Carriers<'_>, wants: &mut Wants)
     requires wants { AreWants wants.old.items }
     requires room { length wants.old.items + length carriers.forwards.now + 1024 ≤ wants.old.capacity }
     requires most { HasRoom carriers }
-    ensures items { wants.new.items ≡ wants.old.items ++ socket_wants wanted (sockets_of carriers) }
+    ensures items { wants.new.items ≡ wants.old.items ++ socket_wants wanted (sockets_of carriers.entry) }
     ensures wants { AreWants wants.new.items }
-    ensures room { length wants.new.items ≤ length wants.old.items + length carriers.forwards.now + 1024 }
+    ensures room { length wants.new.items ≤ length wants.old.items + length carriers.entry.forwards.now + 1024 }
     ensures capacity { wants.new.capacity ≡ wants.old.capacity }
 {
     if wanted {
@@ -359,9 +368,9 @@ fn add_carriers(carriers: Carriers<'_>, wants: &mut Wants)
     requires wants { AreWants wants.old.items }
     requires room { length wants.old.items + length carriers.forwards.now + 1024 ≤ wants.old.capacity }
     requires most { HasRoom carriers }
-    ensures items { wants.new.items ≡ wants.old.items ++ map udp_want (sockets_of carriers) }
+    ensures items { wants.new.items ≡ wants.old.items ++ map udp_want (sockets_of carriers.entry) }
     ensures wants { AreWants wants.new.items }
-    ensures room { length wants.new.items ≤ length wants.old.items + length carriers.forwards.now + 1024 }
+    ensures room { length wants.new.items ≤ length wants.old.items + length carriers.entry.forwards.now + 1024 }
     ensures capacity { wants.new.capacity ≡ wants.old.capacity }
 {
     add_sockets(carriers.forwards, wants);
@@ -377,15 +386,30 @@ fn merge_sockets(some: &[u64], others: &[u64], wants: &mut Wants)
     ensures room { length wants.new.items ≡ length wants.old.items + length some.now + length others.now }
     ensures capacity { wants.new.capacity ≡ wants.old.capacity }
 {
-    let mut place = 0;
+    let mut left = others;
     for &number in some {
-        while place < others.len() && others[place] <= number {
-            add_socket(others[place], wants);
-            place += 1;
-        }
+        left = add_up_to(number, left, wants);
         add_socket(number, wants);
     }
-    add_sockets(&others[place..], wants);
+    add_sockets(left, wants);
+}
+
+// Puts the sockets of a row up to this number at the end, for reading, and answers the others.
+fn add_up_to<'a>(number: u64, row: &'a [u64], wants: &mut Wants) -> &'a [u64]
+    requires wants { AreWants wants.old.items }
+    requires room { length wants.old.items + length row.now ≤ wants.old.capacity }
+    ensures items { (rest : List ℕ → List ℕ) → wants.new.items ++ map udp_want (number ∷ rest result.now) ≡ wants.old.items ++ map udp_want (into number rest row.now) }
+    ensures wants { AreWants wants.new.items }
+    ensures room { length wants.new.items + length result.now ≡ length wants.old.items + length row.now }
+    ensures capacity { wants.new.capacity ≡ wants.old.capacity }
+{
+    for place in 0..row.len() {
+        if number < row[place] {
+            return &row[place..];
+        }
+        add_socket(row[place], wants);
+    }
+    &row[row.len()..]
 }
 
 // Puts the socket of this number at the end, for reading.

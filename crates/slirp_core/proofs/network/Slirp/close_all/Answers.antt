@@ -1,7 +1,7 @@
 use Rattle.std.proofs.Common.{Bool, sym, ◌∙◌, ap, subst}
 use Rattle.world_face.specs.Tells.{Makes}
 use Rattle.world_face.proofs.Telling.{makes_as, makes_then}
-use Rattle.slirp_core.specs.Holds.{ClosesNext, ClosesOn}
+use Rattle.slirp_core.specs.Holds.{ClosesNext, ClosesOn, holders_of}
 use Rattle.slirp_core.specs.State.{SlirpState}
 use Rattle.slirp_core.proofs.Closing.{closes_first, closes_last, closes_on}
 use Rattle.slirp_core.proofs.network.Slirp.close_all.Goals as goal
@@ -11,8 +11,8 @@ loop-init g c =
     let first = c.args.self.now in
     let same = c.close_forwards.ensures.others in
     record {
-      makes = subst (λ (s : SlirpState). Makes (g.W.World.tells c.args.world.now) (g.W.World.tells c.close_forwards.new.world) (ClosesOn first.forwards first.associations s.associations first.flows.flows.parts s.flows.flows.parts)) (sym same)
-          (makes_as _ _ _ _ c.close_forwards.ensures.makes (λ made closes. closes_first first.forwards first.associations first.flows.flows.parts made closes));
+      makes = subst (λ (s : SlirpState). Makes (g.W.World.tells c.args.world.now) (g.W.World.tells c.close_forwards.new.world) (ClosesOn first.forwards (holders_of first) (holders_of s))) (sym same)
+          (makes_as _ _ _ _ c.close_forwards.ensures.makes (λ made closes. closes_first first.forwards (holders_of first) made closes));
       config = ap (λ (s : SlirpState). s.config) same;
       number = ap (λ (s : SlirpState). s.number) same;
       turn = ap (λ (s : SlirpState). s.flows.turn) same;
@@ -28,8 +28,8 @@ loop-preserved g c =
     let new = c.close_next.new in
     record {
       makes = makes_then _ _ _ _ _ _ c.loop.invariant.makes
-          (subst (λ (b : Bool). Makes (g.W.World.tells c.loop.world) (g.W.World.tells new.world) (ClosesNext b old.associations new.self.associations old.flows.flows.parts new.self.flows.flows.parts)) c.loop-test.true c.close_next.ensures.makes)
-          (λ made more closes later. closes_on first.forwards first.associations old.associations new.self.associations first.flows.flows.parts old.flows.flows.parts new.self.flows.flows.parts made more closes later);
+          (subst (λ (b : Bool). Makes (g.W.World.tells c.loop.world) (g.W.World.tells new.world) (ClosesNext b (holders_of old) (holders_of new.self))) c.loop-test.true c.close_next.ensures.makes)
+          (λ made more closes later. closes_on first.forwards (holders_of first) (holders_of old) (holders_of new.self) made more closes later);
       config = c.close_next.ensures.config ∙ c.loop.invariant.config;
       number = c.close_next.ensures.number ∙ c.loop.invariant.number;
       turn = c.close_next.ensures.turn ∙ c.loop.invariant.turn;
@@ -41,8 +41,8 @@ returns-clause-makes g c =
     let old = c.loop.self in
     let new = c.close_next.new in
     makes_then _ _ _ _ _ _ c.loop.invariant.makes
-    (subst (λ (b : Bool). Makes (g.W.World.tells c.loop.world) (g.W.World.tells new.world) (ClosesNext b old.associations new.self.associations old.flows.flows.parts new.self.flows.flows.parts)) c.loop-test.false c.close_next.ensures.makes)
-    (λ made more closes later. closes_last first.forwards first.associations old.associations new.self.associations first.flows.flows.parts old.flows.flows.parts new.self.flows.flows.parts made more closes later)
+    (subst (λ (b : Bool). Makes (g.W.World.tells c.loop.world) (g.W.World.tells new.world) (ClosesNext b (holders_of old) (holders_of new.self))) c.loop-test.false c.close_next.ensures.makes)
+    (λ made more closes later. closes_last first.forwards (holders_of first) (holders_of old) (holders_of new.self) made more closes later)
 
 pub returns-clause-config : goal.returns-clause-config
 returns-clause-config g c = c.close_next.ensures.config ∙ c.loop.invariant.config
@@ -55,3 +55,6 @@ returns-clause-turn g c = c.close_next.ensures.turn ∙ c.loop.invariant.turn
 
 pub returns-clause-none : goal.returns-clause-none
 returns-clause-none g c = c.close_next.ensures.none c.loop-test.false
+
+pub returns-clause-unasked : goal.returns-clause-unasked
+returns-clause-unasked g c = c.close_next.ensures.unasked c.loop-test.false

@@ -3,6 +3,7 @@ use Rattle.world_face.specs.Tells.{Makes}
 use Rattle.world_face.proofs.Telling.{makes_none, makes_then}
 use Rattle.port_forward.specs.Opened.{Opened}
 use Rattle.slirp_core.specs.Forwards.{ClosesForward, forward_sockets}
+use Rattle.slirp_core.specs.Holds.{holders_of}
 use Rattle.slirp_core.specs.State.{SlirpState}
 use Rattle.slirp_core.proofs.Closing.{closes_next_forward, closes_no_forward}
 use Rattle.slirp_core.proofs.network.Slirp.close_forwards.Goals as goal
@@ -21,7 +22,7 @@ loop-preserved g c =
     record {
       makes = makes_then _ _ _ _ _ _ c.loop.invariant.makes
           (subst (λ (b : Bool). Makes (g.W.World.tells c.loop.world) (g.W.World.tells c.close_forward.new.world) (ClosesForward b old new)) c.loop-test.true c.close_forward.ensures.makes)
-          (λ made more closes later. closes_next_forward (forward_sockets first.forwards) old new first.associations first.flows.flows.parts made more closes later);
+          (λ made more closes later. closes_next_forward (forward_sockets first.forwards) old new (holders_of first) made more closes later);
       others = c.close_forward.ensures.others ∙ ap (λ (s : SlirpState). record s { forwards = new }) c.loop.invariant.others;
     }
 
@@ -32,7 +33,7 @@ returns-clause-makes g c =
     let new = c.close_forward.new.self.forwards in
     makes_then _ _ _ _ _ _ c.loop.invariant.makes
     (subst (λ (b : Bool). Makes (g.W.World.tells c.loop.world) (g.W.World.tells c.close_forward.new.world) (ClosesForward b old new)) c.loop-test.false c.close_forward.ensures.makes)
-    (λ made more closes later. closes_no_forward (forward_sockets first.forwards) old new first.associations first.flows.flows.parts made more closes later)
+    (λ made more closes later. closes_no_forward (forward_sockets first.forwards) old new (holders_of first) made more closes later)
 
 pub returns-clause-others : goal.returns-clause-others
 returns-clause-others g c =

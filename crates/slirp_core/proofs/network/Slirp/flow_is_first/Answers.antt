@@ -1,38 +1,47 @@
-use Rattle.std.proofs.Common.{◌≡◌, ℕ, ◌≤◌, true, [], Some, None, sym, subst, arith}
-use Rattle.flow_splice.specs.Splice.{Splice}
+use Rattle.std.proofs.Common.{refl, subst}
+use Rattle.dns_relay.specs.Questions.{numbers as question_numbers}
 use Rattle.spliced_flows.specs.Core.{number_of}
-use Rattle.tcp_flows.specs.Reading.{IsOpenAt, NoneIsAbove}
-use Rattle.udp_assoc.specs.Associations.{IsLeast}
+use Rattle.udp_assoc.specs.Associations.{numbers}
+use Rattle.slirp_core.specs.Firsts.{IsFlowFirst, NoFlowFirst}
+use Rattle.slirp_core.specs.Holds.{Holders, carriers, holders_of}
 use Rattle.slirp_core.specs.State.{SlirpState}
-use Rattle.slirp_core.proofs.Least.{IsFlowFirst, first_less, less_first, none_listed, some_listed}
+use Rattle.slirp_core.proofs.Askers.{among_first, among_second}
+use Rattle.slirp_core.proofs.Least.{among_rising, first_is_least, flow_is_under, flow_isnt_under, no_flow}
 use Rattle.slirp_core.proofs.network.Slirp.flow_is_first.Goals as goal
 
-pub returns-in-Some-first-clause-yes : goal.returns-in-Some-first-clause-yes
-returns-in-Some-first-clause-yes c less =
-    let rising = c.rising in
-    subst (λ (s : SlirpState). IsFlowFirst s.associations s.flows.flows.parts) c.self.view_is (
+pub returns-in_default-clause-no : goal.returns-in_default-clause-no
+returns-in_default-clause-no c is =
+    let i = c.self.inside in
+    let o : Holders = record { associations = i.associations.list; questions = i.questions.list; parts = i.flows.flows.parts } in
+    subst (λ (s : SlirpState). NoFlowFirst (carriers (holders_of s)) s.flows.flows.parts) c.self.view_is (no_flow o (λ k p at u. c.in_default.ensures.none (number_of p) k p at refl))
+
+pub returns-then-is_under-clause-yes : goal.returns-then-is_under-clause-yes
+returns-then-is_under-clause-yes c less =
+    let i = c.self.inside in
+    let o : Holders = record { associations = i.associations.list; questions = i.questions.list; parts = i.flows.flows.parts } in
+    let named = c.rising-then-is_under in
+    subst (λ (s : SlirpState). IsFlowFirst (carriers (holders_of s)) s.flows.flows.parts) c.self.view_is (
       c.in-Some.flow,
       c.in-Some.ensures.first,
-      less_first c.self.inside.associations.list rising.result.now rising.ensures.all rising.ensures.rising c.in-Some-first.field-0.now (sym c.in-Some-first.ensures.value) c.in-Some.flow less,
+      flow_is_under c.in-Some.flow o (λ m among. c.is_under.ensures.yes c.if-is_under.true m (among_rising (numbers o.associations) c.rising.result.now c.rising.ensures.all m among))
+          (λ m among. c.is_under-then-is_under.ensures.yes less m (among_rising (question_numbers o.questions) named.result.now named.ensures.all m among)),
     )
 
-pub returns-in-Some-first-clause-no : goal.returns-in-Some-first-clause-no
-returns-in-Some-first-clause-no c not_less =
-    let rising = c.rising in
-    subst (λ (s : SlirpState). (n : ℕ) → IsLeast (λ a. true) s.associations (Some n) → (k : ℕ) (p : Splice) → IsOpenAt s.flows.flows.parts k p → n ≤ number_of p) c.self.view_is
-    (λ n least k p at.
-    let most = first_less c.self.inside.associations.list rising.result.now rising.ensures.all rising.ensures.rising c.in-Some-first.field-0.now (sym c.in-Some-first.ensures.value) c.in-Some.flow not_less n least in
-    let above = c.in-Some.ensures.first.least k p at in
-    omega (arith, most, above))
+pub returns-then-is_under-clause-no : goal.returns-then-is_under-clause-no
+returns-then-is_under-clause-no c not_less =
+    let i = c.self.inside in
+    let o : Holders = record { associations = i.associations.list; questions = i.questions.list; parts = i.flows.flows.parts } in
+    let named = c.rising-then-is_under in
+    let found = c.is_under-then-is_under.ensures.no not_less in
+    let among = (first_is_least (question_numbers o.questions) named.result.now named.ensures.all named.ensures.rising found.0 found.1).0 in
+    subst (λ (s : SlirpState). NoFlowFirst (carriers (holders_of s)) s.flows.flows.parts) c.self.view_is
+    (flow_isnt_under c.in-Some.flow o c.in-Some.ensures.first found.0 (among_second found.0 (numbers o.associations) (question_numbers o.questions) among) found.2)
 
-pub returns-in-Some-first-clause-none : goal.returns-in-Some-first-clause-none
-returns-in-Some-first-clause-none c not_less =
-    let rising = c.rising in
-    subst (λ (s : SlirpState). s.associations ≡ [] → NoneIsAbove None s.flows.flows.parts) c.self.view_is
-    (λ none. absurd (some_listed c.self.inside.associations.list rising.result.now rising.ensures.all rising.ensures.rising c.in-Some-first.field-0.now (sym c.in-Some-first.ensures.value) none))
-
-pub returns-in-None-clause-yes : goal.returns-in-None-clause-yes
-returns-in-None-clause-yes c is =
-    let rising = c.rising in
-    subst (λ (s : SlirpState). IsFlowFirst s.associations s.flows.flows.parts) c.self.view_is
-    (c.in-Some.flow, c.in-Some.ensures.first, λ m among. absurd (none_listed c.self.inside.associations.list rising.result.now rising.ensures.all (sym c.in-None.ensures.value) m among))
+pub returns-else-is_under-clause-no : goal.returns-else-is_under-clause-no
+returns-else-is_under-clause-no c is =
+    let i = c.self.inside in
+    let o : Holders = record { associations = i.associations.list; questions = i.questions.list; parts = i.flows.flows.parts } in
+    let found = c.is_under.ensures.no c.if-is_under.false in
+    let among = (first_is_least (numbers o.associations) c.rising.result.now c.rising.ensures.all c.rising.ensures.rising found.0 found.1).0 in
+    subst (λ (s : SlirpState). NoFlowFirst (carriers (holders_of s)) s.flows.flows.parts) c.self.view_is
+    (flow_isnt_under c.in-Some.flow o c.in-Some.ensures.first found.0 (among_first found.0 (numbers o.associations) (question_numbers o.questions) among) found.2)

@@ -1,27 +1,52 @@
-use Rattle.std.proofs.Common.{Bool, ◌∙◌, ap, subst}
+use Rattle.std.proofs.Common.{Bool, Option, ℕ, length, ◌∙◌, ap, subst, arith}
 use Rattle.std.specs.List.Sorted.{IsPermutation}
+use Rattle.dns_relay.specs.Questions.{numbers as question_numbers}
 use Rattle.tcp_flows.specs.Reading.{AreWantsOf}
 use Rattle.udp_assoc.specs.Associations.{numbers}
+use Rattle.slirp_core.specs.Holds.{carriers, holders_of}
+use Rattle.slirp_core.specs.Pumps.{merged, time_left}
 use Rattle.slirp_core.specs.State.{SlirpState}
 use Rattle.slirp_core.specs.Timeouts.{IsFlowTime, sooner}
 use Rattle.slirp_core.proofs.Filling.{wants_of}
+use Rattle.slirp_core.proofs.Forwarding.{both_over}
+use Rattle.slirp_core.proofs.Merging.{merged_all, merged_rises}
 use Rattle.slirp_core.proofs.network.Slirp.pollfds_fill.Goals as goal
 
 pub returns-clause-timeout : goal.returns-clause-timeout
-returns-clause-timeout c held is = record {
-  parts = c.time_of_parts.result;
-  of_parts = c.time_of_parts.ensures held is;
-  flows = c.time_of_flows.result;
-  of_flows = subst (λ (b : Bool). IsFlowTime b c.args.self.now.moment c.args.self.now.flows.flows.parts c.time_of_flows.result) c.blocked-2.ensures c.time_of_flows.ensures;
-  is = c.sooner.ensures ∙ ap (λ o. sooner o c.time_of_flows.result) (c.sooner-datagrams.ensures ∙ ap (λ o. sooner o c.time_of_parts.result) c.time_of_sockets.ensures);
-}
+returns-clause-timeout c held is =
+    let now = c.args.self.now in
+    record {
+      parts = c.time_of_parts.result;
+      of_parts = c.time_of_parts.ensures held is;
+      flows = c.time_of_flows.result;
+      of_flows = subst (λ (b : Bool). IsFlowTime b now.moment now.flows.flows.parts c.time_of_flows.result) c.blocked-2.ensures c.time_of_flows.ensures;
+      is =
+          c.sooner.ensures
+          ∙ ap (λ (o : Option ℕ). sooner o c.time_of_flows.result) (c.sooner-datagrams-2.ensures
+          ∙ ap (λ (o : Option ℕ). sooner o c.time_of_parts.result) (c.sooner-datagrams.ensures ∙ ap (λ (o : Option ℕ). sooner o c.time_of_questions.result) c.time_of_sockets.ensures ∙ ap (sooner (time_left now.moment now.associations)) c.time_of_questions.ensures));
+    }
 
 pub returns-clause-items : goal.returns-clause-items
 returns-clause-items c =
+    let i = c.self.inside in
     let added = c.fill.ensures.items in
-    wants_of c.args.self.now c.args.link.now c.fill.new.self.items added.0 c.is_settled.result c.blocked.result c.as_slice.result.now c.rising.result.now c.is_settled.ensures c.blocked.ensures (c.as_slice.ensures.value ∙ c.listeners-listeners.ensures.items)
-    (subst (λ (s : SlirpState). IsPermutation (numbers s.associations) c.rising.result.now) c.self.view_is c.rising.ensures.all) c.rising.ensures.rising
+    let some = c.rising.result.now in
+    let others = c.rising-2.result.now in
+    wants_of c.args.self.now c.args.link.now c.fill.new.self.items added.0 c.is_settled.result c.blocked.result c.as_slice-2.result.now c.as_slice.result.now (merged some others) c.is_settled.ensures c.blocked.ensures
+    (c.as_slice-2.ensures.value ∙ c.listeners-listeners.ensures.items) (c.as_slice.ensures.value ∙ c.ports_over-forwards.ensures.items)
+    (subst (λ (s : SlirpState). IsPermutation (carriers (holders_of s)) (merged some others)) c.self.view_is
+    (merged_all (numbers i.associations.list) (question_numbers i.questions.list) some others c.rising.ensures.all c.rising-2.ensures.all)) (merged_rises some others c.rising.ensures.rising c.rising-2.ensures.rising)
     (subst (λ (s : SlirpState). AreWantsOf s.flows.flows.parts added.0) c.self.view_is added.2) added.1
 
 pub fill-requires-clause-numbers : goal.fill-requires-clause-numbers
 fill-requires-clause-numbers c = c.self.invariant.3.below
+
+-- the listeners and the ports for datagrams are forwards
+pub fill-requires-clause-few : goal.fill-requires-clause-few
+fill-requires-clause-few c =
+    let all = both_over c.args.self.now.forwards in
+    let most = c.ports_over-forwards.ensures.few in
+    let few = c.listeners-listeners.ensures.few in
+    let one = ap length c.as_slice-2.ensures.value in
+    let two = ap length (c.as_slice.ensures.value ∙ c.ports_over-forwards.ensures.items) in
+    omega (arith, all, most, few, one, two)
