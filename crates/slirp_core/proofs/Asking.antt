@@ -61,14 +61,11 @@ module _ (config : Config) (at : Standing) (f : Flowing) (link : LinkState) wher
       unmoved : association_moved (sent_from (record { 0 = errand.datagram.mac }) slirp.moment) socket slirp.associations ≡ slirp.associations
       unmoved = association_unmoved (sent_from (record { 0 = errand.datagram.mac }) slirp.moment) socket slirp.associations (no_port config at slirp f link past (NeedsSending socket errand) None holds socket among)
 
-      abbrev then_named : List Question
-      then_named = moved_last (asked_from (record { 0 = errand.datagram.mac }) slirp.moment) socket slirp.questions
-
       by : (answer : Sent) → Allowed (UdpSend socket errand.to errand.datagram.body answer)
-          → Holds config at (record slirp { questions = then_named; pending = told_by slirp errand.datagram (told answer) }) f link (UdpSend socket errand.to errand.datagram.body answer ∷ past)
-      by Done allowed = sent_on config at f link slirp past socket errand slirp.associations then_named on unmoved refl holds Done allowed
-      by NotYet allowed = sent_on config at f link slirp past socket errand slirp.associations then_named on unmoved refl holds NotYet allowed
-      by Failed allowed = sent_on config at f link slirp past socket errand slirp.associations then_named on unmoved refl holds Failed allowed
+          → Holds config at (record slirp { questions = (moved_last (asked_from (record { 0 = errand.datagram.mac }) slirp.moment) socket slirp.questions); pending = told_by slirp errand.datagram (told answer) }) f link (UdpSend socket errand.to errand.datagram.body answer ∷ past)
+      by Done allowed = sent_on config at f link slirp past socket errand slirp.associations (moved_last (asked_from (record { 0 = errand.datagram.mac }) slirp.moment) socket slirp.questions) on unmoved refl holds Done allowed
+      by NotYet allowed = sent_on config at f link slirp past socket errand slirp.associations (moved_last (asked_from (record { 0 = errand.datagram.mac }) slirp.moment) socket slirp.questions) on unmoved refl holds NotYet allowed
+      by Failed allowed = sent_on config at f link slirp past socket errand slirp.associations (moved_last (asked_from (record { 0 = errand.datagram.mac }) slirp.moment) socket slirp.questions) on unmoved refl holds Failed allowed
 
   last_among : (list : List Question) (q : Question) → is_among q.number (numbers (list ++ (q ∷ []))) ≡ true
   last_among list q = numbers_last q.number list q ∙ or_second (is_among q.number (numbers list)) (q.number == q.number) (same q.number)
@@ -142,45 +139,38 @@ module _ (config : Config) (count : ℕ) (wants : List Want) (item : Want) (item
   heard slirp relay settings past socket room into new reply made reported whole none out hears allowed holds =
       by_hears (subst (λ (r : RelayState). Hears r slirp.moment socket room into new reply made) settings hears)
     where
-      abbrev seen : RelayState
-      seen = record { bind = relay.bind; resolver = config.resolver; name_server = config.vnameserver; list = slirp.questions }
-
-      abbrev Then : List Question → Reply → List Entry → Type 0
-      Then list reply made = Holds config (standing count wants items) (record slirp { questions = list; pending = answered_by slirp into reply }) f link (made ++ past)
-
-      by_answer : (q : Question) → numbered socket slirp.questions ≡ Some q → (answer : Got) → AreAllowed (calls_after seen q answer (filled_got answer into) ++ (UdpRecv socket room answer (filled_got answer into) ∷ []))
-          → Then (list_after seen slirp.moment q answer (filled_got answer into)) (passed seen q answer (filled_got answer into)) (calls_after seen q answer (filled_got answer into) ++ (UdpRecv socket room answer (filled_got answer into) ∷ []))
+      by_answer : (q : Question) → numbered socket slirp.questions ≡ Some q → (answer : Got) → AreAllowed (calls_after (record { bind = relay.bind; resolver = config.resolver; name_server = config.vnameserver; list = slirp.questions }) q answer (filled_got answer into) ++ (UdpRecv socket room answer (filled_got answer into) ∷ []))
+          → Holds config (standing count wants items) (record slirp { questions = (list_after (record { bind = relay.bind; resolver = config.resolver; name_server = config.vnameserver; list = slirp.questions }) slirp.moment q answer (filled_got answer into)); pending = answered_by slirp into (passed (record { bind = relay.bind; resolver = config.resolver; name_server = config.vnameserver; list = slirp.questions }) q answer (filled_got answer into)) }) f link ((calls_after (record { bind = relay.bind; resolver = config.resolver; name_server = config.vnameserver; list = slirp.questions }) q answer (filled_got answer into) ++ (UdpRecv socket room answer (filled_got answer into) ∷ [])) ++ past)
       by_answer q found (From peer size) allowed = by (is_answered config.resolver q peer (take size into)) refl allowed
         where
           is_it : q.number ≡ socket
           is_it = (one_numbered socket slirp.questions q found).0
 
           by : (b : Bool) → is_answered config.resolver q peer (take size into) ≡ b → AreAllowed ((if b then Close q.number ∷ [] else []) ++ (UdpRecv socket room (From peer size) (take size into) ∷ []))
-              → Then (if b then without q.number (moved_last (heard_at slirp.moment) q.number slirp.questions) else moved_last (heard_at slirp.moment) q.number slirp.questions)
-              (if b then Reply.Datagram size (endpoint config.vnameserver 53) q.guest (Some q.mac) else Reply.Nothing) ((if b then Close q.number ∷ [] else []) ++ (UdpRecv socket room (From peer size) (take size into) ∷ []))
+              → Holds config (standing count wants items) (record slirp { questions = (if b then without q.number (moved_last (heard_at slirp.moment) q.number slirp.questions) else moved_last (heard_at slirp.moment) q.number slirp.questions); pending = answered_by slirp into (if b then Reply.Datagram size (endpoint config.vnameserver 53) q.guest (Some q.mac) else Reply.Nothing) }) f link (((if b then Close q.number ∷ [] else []) ++ (UdpRecv socket room (From peer size) (take size into) ∷ [])) ++ past)
           by true answers allowed =
-              subst (λ n. Then (without n (moved_last (heard_at slirp.moment) n slirp.questions)) (Reply.Datagram size (endpoint config.vnameserver 53) q.guest (Some q.mac)) (Close n ∷ UdpRecv socket room (From peer size) (take size into) ∷ [])) (sym is_it)
+              subst (λ n. Holds config (standing count wants items) (record slirp { questions = (without n (moved_last (heard_at slirp.moment) n slirp.questions)); pending = answered_by slirp into (Reply.Datagram size (endpoint config.vnameserver 53) q.guest (Some q.mac)) }) f link ((Close n ∷ UdpRecv socket room (From peer size) (take size into) ∷ []) ++ past)) (sym is_it)
               (subst (λ (k : Config). Holds config (standing count wants items) (record slirp { questions = without socket (moved_last (heard_at slirp.moment) socket slirp.questions); pending = frames_of slirp.config slirp.sent (name_answer k q (take size into) ∷ []) }) f link
               (Close socket ∷ UdpRecv socket room (From peer size) (take size into) ∷ past)) holds.guests.settings
               (after_answer config count wants item items slirp f link past socket room reported whole none out holds q found peer size (take size into) answers allowed.1.0 tt))
           by false other allowed =
-              subst (λ n. Then (moved_last (heard_at slirp.moment) n slirp.questions) Reply.Nothing (UdpRecv socket room (From peer size) (take size into) ∷ [])) (sym is_it)
+              subst (λ n. Holds config (standing count wants items) (record slirp { questions = (moved_last (heard_at slirp.moment) n slirp.questions); pending = answered_by slirp into Reply.Nothing }) f link ((UdpRecv socket room (From peer size) (take size into) ∷ []) ++ past)) (sym is_it)
               (after_stranger config count wants item items slirp f link past socket room reported whole none out holds q found peer size (take size into) other allowed.0)
       by_answer q found GotNotYet allowed =
           after_not_yet config count wants item items slirp f link past socket room reported whole none out holds (relays_question config count wants item items slirp f link past socket room reported whole none out holds q found) (filled_got GotNotYet into) allowed.0
       by_answer q found GotFailed allowed =
           after_no_hearing config count wants item items slirp f link past socket room reported whole none out holds (relays_question config count wants item items slirp f link past socket room reported whole none out holds q found) (filled_got GotFailed into) allowed.0
 
-      by_hears : Hears seen slirp.moment socket room into new reply made → Holds config (standing count wants items) (record slirp { questions = new; pending = answered_by slirp into reply }) f link (made ++ past)
+      by_hears : Hears (record { bind = relay.bind; resolver = config.resolver; name_server = config.vnameserver; list = slirp.questions }) slirp.moment socket room into new reply made → Holds config (standing count wants items) (record slirp { questions = new; pending = answered_by slirp into reply }) f link (made ++ past)
       by_hears (OnNone found no_call is replies) =
-          subst (λ (l : List Question). Then l reply made) (sym is)
-          (subst (λ (r : Reply). Then slirp.questions r made) (sym replies)
-          (subst (λ (m : List Entry). Then slirp.questions Reply.Nothing m) (sym no_call)
+          subst (λ (l : List Question). Holds config (standing count wants items) (record slirp { questions = l; pending = answered_by slirp into reply }) f link (made ++ past)) (sym is)
+          (subst (λ (r : Reply). Holds config (standing count wants items) (record slirp { questions = slirp.questions; pending = answered_by slirp into r }) f link (made ++ past)) (sym replies)
+          (subst (λ (m : List Entry). Holds config (standing count wants items) (record slirp { questions = slirp.questions; pending = answered_by slirp into Reply.Nothing }) f link (m ++ past)) (sym no_call)
           (passes_over config count wants item items slirp f link past holds)))
       by_hears (OnQuestion q answer found calls is replies) =
-          subst (λ (l : List Question). Then l reply made) (sym is)
-          (subst (λ (r : Reply). Then (list_after seen slirp.moment q answer (filled_got answer into)) r made) (sym replies)
-          (subst (λ (m : List Entry). Then (list_after seen slirp.moment q answer (filled_got answer into)) (passed seen q answer (filled_got answer into)) m) (sym calls)
+          subst (λ (l : List Question). Holds config (standing count wants items) (record slirp { questions = l; pending = answered_by slirp into reply }) f link (made ++ past)) (sym is)
+          (subst (λ (r : Reply). Holds config (standing count wants items) (record slirp { questions = (list_after (record { bind = relay.bind; resolver = config.resolver; name_server = config.vnameserver; list = slirp.questions }) slirp.moment q answer (filled_got answer into)); pending = answered_by slirp into r }) f link (made ++ past)) (sym replies)
+          (subst (λ (m : List Entry). Holds config (standing count wants items) (record slirp { questions = (list_after (record { bind = relay.bind; resolver = config.resolver; name_server = config.vnameserver; list = slirp.questions }) slirp.moment q answer (filled_got answer into)); pending = answered_by slirp into (passed (record { bind = relay.bind; resolver = config.resolver; name_server = config.vnameserver; list = slirp.questions }) q answer (filled_got answer into)) }) f link (m ++ past)) (sym calls)
           (by_answer q found answer (subst AreAllowed calls allowed))))
 
 -- ---- their numbers rise

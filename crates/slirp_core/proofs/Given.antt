@@ -553,21 +553,18 @@ finds_first guest p q (f ∷ fs) k agree =
         let says = agree (suc j) g at in
         (ap q it ∙ says.0, λ udp. ap p it ∙ says.1 udp)
 
-    abbrev behind : List ℕ
-    behind = filter q (forward_sockets (with_numbers (k + 1) fs))
-
-    by : (proto : Proto) → f.proto ≡ proto → find p behind ≡ socket_for guest (with_numbers (k + 1) fs)
-        → find p (if same_proto f.proto Udp then k ∷ behind else behind) ≡ option_map socket_of (if leads_to guest (f, k) then Some (f, k) else find (leads_to guest) (with_numbers (k + 1) fs))
+    by : (proto : Proto) → f.proto ≡ proto → find p (filter q (forward_sockets (with_numbers (k + 1) fs))) ≡ socket_for guest (with_numbers (k + 1) fs)
+        → find p (if same_proto f.proto Udp then k ∷ filter q (forward_sockets (with_numbers (k + 1) fs)) else filter q (forward_sockets (with_numbers (k + 1) fs))) ≡ option_map socket_of (if leads_to guest (f, k) then Some (f, k) else find (leads_to guest) (with_numbers (k + 1) fs))
     by Tcp is rest =
-        ap (λ proto. find p (if same_proto proto Udp then k ∷ behind else behind)) is ∙ rest
+        ap (λ proto. find p (if same_proto proto Udp then k ∷ filter q (forward_sockets (with_numbers (k + 1) fs)) else filter q (forward_sockets (with_numbers (k + 1) fs)))) is ∙ rest
         ∙ sym (ap (λ proto. option_map socket_of (if same_proto proto Udp && same_endpoint f.guest guest then Some (f, k) else find (leads_to guest) (with_numbers (k + 1) fs))) is)
     by Udp is rest =
-        ap (λ proto. find p (if same_proto proto Udp then k ∷ behind else behind)) is
-        ∙ ap (λ b. if b then Some k else find p behind) (ap p (sym front) ∙ (agree 0 f refl).1 is)
+        ap (λ proto. find p (if same_proto proto Udp then k ∷ filter q (forward_sockets (with_numbers (k + 1) fs)) else filter q (forward_sockets (with_numbers (k + 1) fs)))) is
+        ∙ ap (λ b. if b then Some k else find p (filter q (forward_sockets (with_numbers (k + 1) fs)))) (ap p (sym front) ∙ (agree 0 f refl).1 is)
         ∙ found (same_endpoint f.guest guest)
         ∙ sym (ap (λ proto. option_map socket_of (if same_proto proto Udp && same_endpoint f.guest guest then Some (f, k) else find (leads_to guest) (with_numbers (k + 1) fs))) is)
       where
-        found : (b : Bool) → (if b then Some k else find p behind) ≡ option_map socket_of (if b then Some (f, k) else find (leads_to guest) (with_numbers (k + 1) fs))
+        found : (b : Bool) → (if b then Some k else find p (filter q (forward_sockets (with_numbers (k + 1) fs)))) ≡ option_map socket_of (if b then Some (f, k) else find (leads_to guest) (with_numbers (k + 1) fs))
         found true = refl
         found false = rest
 
@@ -584,10 +581,7 @@ module _ (config : Config) (past : List Entry) (lawful : Lawful config past) (ha
   pub leads_at : (n : ℕ) (f : Forward) → slice_get config.forwards n ≡ Some f → f.proto ≡ Udp → (kind_of n past ≡ Some OfForward) × (opened_for config n past ≡ Some f.guest)
   leads_at n f at udp =
       let kind = kind_at n f at ∙ ap (λ proto. Some (given_kind proto)) udp in
-      (kind, leads config n past kind ∙ ap (λ o. option_and_then_given o) at ∙ ap (λ proto. given_by proto f.guest) udp)
-    where
-      abbrev option_and_then_given : Option Forward → Option Endpoint
-      option_and_then_given o = option_and_then (λ (g : Forward). given_by g.proto g.guest) o
+      (kind, leads config n past kind ∙ ap (option_and_then (λ (g : Forward). given_by g.proto g.guest)) at ∙ ap (λ proto. given_by proto f.guest) udp)
 
   agrees : (guest : Endpoint) (n : ℕ) (f : Forward) → slice_get config.forwards n ≡ Some f
       → (is_forward (kind_of n past) ≡ same_proto f.proto Udp) × (f.proto ≡ Udp → is_port guest (opened_for config n past) ≡ same_endpoint f.guest guest)

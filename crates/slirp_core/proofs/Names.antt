@@ -125,22 +125,17 @@ known_of config (Listen socket at answer ∷ past) lawful n = by_other (socket =
 known_of config (Accept listener socket answer ∷ past) lawful n = by_other (socket == n) OfFlow (kind_for config n past) (kind_of n past) refl (known_of config past lawful.1 n)
 known_of config (UdpOpen socket at answer ∷ past) lawful n = by (errand_left config past) refl (known_of config past lawful.1 n)
   where
-    abbrev w : Bool
-    w = nat_lt 0 (waits past)
-
-    abbrev Then : Option Errand → Type 0
-    Then o = (((if socket == n then Some (datagram_kind_for config w o) else kind_for config n past) ≡ (if socket == n then Some (datagram_kind w) else kind_of n past)) × (is_for_question (if socket == n then Some (datagram_kind w) else kind_of n past) ≡ false))
-        ⊎ (((if socket == n then Some (datagram_kind_for config w o) else kind_for config n past) ≡ Some DnsSocket) × ((if socket == n then Some (datagram_kind w) else kind_of n past) ≡ Some OfAssociation))
-
     asking : (b : Bool) (waited : nat_lt 0 (waits past) ≡ true) (hit : Bool) → IsKnown config n past
-        → (((if hit then Some (if b then DnsSocket else datagram_kind w) else kind_for config n past) ≡ (if hit then Some (datagram_kind w) else kind_of n past)) × (is_for_question (if hit then Some (datagram_kind w) else kind_of n past) ≡ false))
-        ⊎ (((if hit then Some (if b then DnsSocket else datagram_kind w) else kind_for config n past) ≡ Some DnsSocket) × ((if hit then Some (datagram_kind w) else kind_of n past) ≡ Some OfAssociation))
+        → (((if hit then Some (if b then DnsSocket else datagram_kind (nat_lt 0 (waits past))) else kind_for config n past) ≡ (if hit then Some (datagram_kind (nat_lt 0 (waits past))) else kind_of n past)) × (is_for_question (if hit then Some (datagram_kind (nat_lt 0 (waits past))) else kind_of n past) ≡ false))
+        ⊎ (((if hit then Some (if b then DnsSocket else datagram_kind (nat_lt 0 (waits past))) else kind_for config n past) ≡ Some DnsSocket) × ((if hit then Some (datagram_kind (nat_lt 0 (waits past))) else kind_of n past) ≡ Some OfAssociation))
     asking true waited true was = inr (refl, ap (λ (v : Bool). Some (datagram_kind v)) waited)
-    asking false waited true was = inl (refl, known_kind w)
+    asking false waited true was = inl (refl, known_kind (nat_lt 0 (waits past)))
     asking b waited false was = was
 
-    by : (o : Option Errand) → errand_left config past ≡ o → IsKnown config n past → Then o
-    by None is was = by_other (socket == n) (datagram_kind w) (kind_for config n past) (kind_of n past) (known_kind w) was
+    by : (o : Option Errand) → errand_left config past ≡ o → IsKnown config n past
+        → (((if socket == n then Some (datagram_kind_for config (nat_lt 0 (waits past)) o) else kind_for config n past) ≡ (if socket == n then Some (datagram_kind (nat_lt 0 (waits past))) else kind_of n past)) × (is_for_question (if socket == n then Some (datagram_kind (nat_lt 0 (waits past))) else kind_of n past) ≡ false))
+        ⊎ (((if socket == n then Some (datagram_kind_for config (nat_lt 0 (waits past)) o) else kind_for config n past) ≡ Some DnsSocket) × ((if socket == n then Some (datagram_kind (nat_lt 0 (waits past))) else kind_of n past) ≡ Some OfAssociation))
+    by None is was = by_other (socket == n) (datagram_kind (nat_lt 0 (waits past))) (kind_for config n past) (kind_of n past) (known_kind (nat_lt 0 (waits past))) was
     by (Some errand) is was = asking (asks_a_name config errand) (waited_for config past errand is lawful.1) (socket == n) was
 known_of config (_ ∷ past) lawful n = known_of config past lawful.1 n
 

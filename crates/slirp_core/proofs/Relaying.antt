@@ -345,16 +345,13 @@ module _ (config : Config) (at : Standing) (slirp : SlirpState) (f : Flowing) (l
             ∙ ap (λ (b : Bool). if b then questions config past ++ (question slirp.number errand (moment past) ∷ []) else questions config past) name
             ∙ ap (λ l. l ++ (question slirp.number errand (moment past) ∷ [])) holds.relayed.questions
             ∙ ap (λ m. slirp.questions ++ (question slirp.number errand m ∷ [])) holds.clock.moment;
-        asks = ap (asked_by config then_state) is_left
-            ∙ asks_by_name config then_state errand name
+        asks = ap (asked_by config (record slirp { number = slirp.number + 1; questions = slirp.questions ++ (question slirp.number errand slirp.moment ∷ []) })) is_left
+            ∙ asks_by_name config (record slirp { number = slirp.number + 1; questions = slirp.questions ++ (question slirp.number errand slirp.moment ∷ []) }) errand name
             ∙ ap (λ o. with_question o (slirp.questions ++ (question slirp.number errand slirp.moment ∷ [])) errand)
             (socket_last errand.datagram.from (ident_in errand.datagram.body) slirp.questions (question slirp.number errand slirp.moment) (question_none_for (question_socket errand.datagram.from (ident_in errand.datagram.body) slirp.questions) slirp.questions errand (sym (asks_by_name config slirp errand name) ∙ asks_so))
             (and_both (same_endpoint errand.datagram.from errand.datagram.from) (ident_in errand.datagram.body == ident_in errand.datagram.body) (same_guest errand.datagram.from) (same (ident_in errand.datagram.body))));
         heard = refl;
       })
-        where
-          abbrev then_state : SlirpState
-          then_state = record slirp { number = slirp.number + 1; questions = slirp.questions ++ (question slirp.number errand slirp.moment ∷ []) }
 
   -- ---- a datagram is sent
 

@@ -357,7 +357,7 @@ module _ (config : Config) (slirp : SlirpState) (link : LinkState) (past : List 
     two = λ n among. absurd (true_false (sym among ∙ ap (λ l. is_among n (numbers l)) opens.alone));
   }
     where
-      abbrev q : Quiet config (opened_port Failed) past
+      q : Quiet config (opened_port Failed) past
       q = opens_quietly config f.proto slirp.number f.host Failed past
 
       phase_is : phase config (opened_port Failed ∷ past) ≡ Over (Refused slirp.number)
