@@ -214,7 +214,7 @@ flows_put config at slirp k f link past holds = record {
   where
     stands : Stands config Settled slirp f.kept link past → Stands config Settled (record slirp { flows = k }) f.kept link past
     stands (Turns turn) = Turns turn
-    stands (Begins u free unrested) = Begins (record { started = u.started; unwaited = u.unwaited; unreported = u.unreported; unasked = u.unasked; alone = u.alone; nothing = u.nothing; empty = u.empty }) free unrested
+    stands (Begins u free unrested) = Begins (record { started = u.started; unwaited = u.unwaited; unreported = u.unreported; unasked = u.unasked; alone = u.alone; unnamed = u.unnamed; nothing = u.nothing; empty = u.empty }) free unrested
 
 -- a turn begins
 pub turn_begins : (config : Config) (at : Standing) (slirp : SlirpState) (aged : Bool) (kept : Kept) (link : LinkState) (past : List Entry) → Holds config at slirp (flowing aged kept) link past

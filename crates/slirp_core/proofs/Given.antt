@@ -485,6 +485,14 @@ given_rise (f ∷ fs) k bound fits = (omega (arith, fits), above_given fs k (k +
 
 -- ---- the first forward of a port
 
+above : (n m : ℕ) (ms : List ℕ) → AllAbove n ms → is_among m ms ≡ true → n < m
+above n m [] up is = cc
+above n m (y ∷ ms) up is = by (m == y) refl is (above n m ms up.1)
+  where
+    by : (t : Bool) → (m == y) ≡ t → (t || is_among m ms) ≡ true → (is_among m ms ≡ true → n < m) → n < m
+    by true one is rest = let here = equal m y one in let less = up.0 in omega (arith, here, less)
+    by false other is rest = rest is
+
 -- numbers that rise, with all of these and none before: they stand in front
 pub stand_first : (fs : List Forward) (k bound : ℕ) (ns : List ℕ) → IsRising bound ns → ((n : ℕ) → is_among n ns ≡ true → k ≤ n) → ((n : ℕ) → k ≤ n → n < k + length fs → is_among n ns ≡ true)
     → (rest : List ℕ) × (ns ≡ forward_sockets (with_numbers k fs) ++ rest) × ((n : ℕ) → is_among n rest ≡ true → k + length fs ≤ n)
@@ -495,14 +503,6 @@ stand_first (f ∷ fs) k bound (x ∷ ns) rising low all =
     let rest = stand_first fs (k + 1) bound ns rising.2 (λ n among. let up = above x n ns rising.1 among in omega (arith, up, first)) (λ n from to. behind n from (all n (omega (arith, from)) (omega (arith, to)))) in
     (rest.0, ap (λ y. y ∷ ns) first ∙ ap (λ l. k ∷ l) rest.1, λ n among. let up = rest.2 n among in omega (arith, up))
   where
-    above : (n m : ℕ) (ms : List ℕ) → AllAbove n ms → is_among m ms ≡ true → n < m
-    above n m [] up is = cc
-    above n m (y ∷ ms) up is = by (m == y) refl is
-      where
-        by : (t : Bool) → (m == y) ≡ t → (t || is_among m ms) ≡ true → n < m
-        by true one is = let here = equal m y one in let less = up.0 in omega (arith, here, less)
-        by false other is = above n m ms up.1 is
-
     head_is : x ≡ k
     head_is = by (k == x) refl (all k (omega arith) (omega arith))
       where
@@ -591,6 +591,12 @@ module _ (config : Config) (past : List Entry) (lawful : Lawful config past) (ha
       by Tcp = refl
       by Udp = refl
 
+  from_first : (guest : Endpoint) (j : ℕ) (f : Forward) → slice_get config.forwards j ≡ Some f
+      → (is_forward (kind_of (0 + j) past) ≡ same_proto f.proto Udp) × (f.proto ≡ Udp → is_port guest (opened_for config (0 + j) past) ≡ same_endpoint f.guest guest)
+  from_first guest j f at =
+      let it : j ≡ 0 + j = omega arith in
+      subst (λ n. (is_forward (kind_of n past) ≡ same_proto f.proto Udp) × (f.proto ≡ Udp → is_port guest (opened_for config n past) ≡ same_endpoint f.guest guest)) it (agrees guest j f at)
+
   pub forward_is : (guest : Endpoint) → forward_for config guest past ≡ socket_for guest (given config)
   forward_is guest =
       ap (λ l. find (λ s. is_port guest (opened_for config s past)) (filter (λ s. is_forward (kind_of s past)) l)) stands.1
@@ -598,7 +604,7 @@ module _ (config : Config) (past : List Entry) (lawful : Lawful config past) (ha
       (filter_both (λ s. is_forward (kind_of s past)) (forward_sockets (given config)) stands.0
       ∙ ap (λ l. filter (λ s. is_forward (kind_of s past)) (forward_sockets (given config)) ++ l) (filter_none (λ s. is_forward (kind_of s past)) stands.0 none_behind)
       ∙ all_of (filter (λ s. is_forward (kind_of s past)) (forward_sockets (given config))))
-      ∙ finds_first guest (λ s. is_port guest (opened_for config s past)) (λ s. is_forward (kind_of s past)) config.forwards 0 (λ j f at. agrees guest j f at)
+      ∙ finds_first guest (λ s. is_port guest (opened_for config s past)) (λ s. is_forward (kind_of s past)) config.forwards 0 (λ j f at. from_first guest j f at)
     where
       stands : (rest : List ℕ) × (open_sockets past ≡ forward_sockets (given config) ++ rest) × ((n : ℕ) → is_among n rest ≡ true → 0 + length config.forwards ≤ n)
       stands = stand_first config.forwards 0 (next_number past) (open_sockets past) (open_rise config past lawful) (λ n among. omega arith) (λ n from to. has.stay open_yet n (omega (arith, to)))

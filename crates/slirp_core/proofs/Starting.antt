@@ -28,6 +28,7 @@ use Rattle.slirp_laws.specs.Agenda.{agenda}
 use Rattle.slirp_laws.specs.Answers.{identification, left}
 use Rattle.slirp_laws.specs.Asking.{step}
 use Rattle.slirp_laws.specs.Errands.{errand_left}
+use Rattle.slirp_laws.specs.Sending.{requests}
 use Rattle.slirp_laws.specs.Names.{answered, questions, with_opened as name_opened}
 use Rattle.slirp_laws.specs.Relayed.{associations, with_opened}
 use Rattle.slirp_laws.specs.Datagrams.{Settled, due_for}
@@ -174,9 +175,9 @@ begun config slirp link new = record {
 
 -- ---- a port of the host is opened
 
-kinds_opened : (p : Proto) (number : ℕ) (at : Endpoint) (answer : Made) (past : List Entry) → waits past ≡ 0 → ((n : ℕ) → is_among n (open_sockets past) ≡ true → is_ours (kind_of n past) ≡ true)
+kinds_opened : (config : Config) (p : Proto) (number : ℕ) (at : Endpoint) (answer : Made) (past : List Entry) → waits past ≡ 0 → ((n : ℕ) → is_among n (open_sockets past) ≡ true → is_ours (kind_of n past) ≡ true)
     → (n : ℕ) → is_among n (open_sockets (port_opening p number at answer ∷ past)) ≡ true → is_ours (kind_of n (port_opening p number at answer ∷ past)) ≡ true
-kinds_opened p number at answer past unwaited kinds n among = ap is_ours (opening_kind p number at answer past unwaited n) ∙ by (number == n) refl
+kinds_opened config p number at answer past unwaited kinds n among = ap is_ours (opening_kind config p number at answer past unwaited n) ∙ by (number == n) refl
   where
     turned : (number == n) ≡ false → (n == number) ≡ false
     turned is = grind (arith, nat_tests, is)
@@ -195,7 +196,7 @@ kinds_opened p number at answer past unwaited kinds n among = ap is_ours (openin
 
     by : (b : Bool) → (number == n) ≡ b → is_ours (if b then Some (given_kind p) else kind_of n past) ≡ true
     by true is = ours p
-    by false is = kinds n (before answer (turned is) (sym (ap (is_among n) (opening_made p number at answer past)) ∙ among))
+    by false is = kinds n (before answer (turned is) (sym (ap (is_among n) (opening_made config p number at answer past)) ∙ among))
 
 numbers_more : (n : ℕ) (fs : List Forward) (f : Forward) → with_numbers n (fs ++ f ∷ []) ≡ with_numbers n fs ++ (f, n + length fs) ∷ []
 numbers_more n [] f = ap (λ m. (f, m) ∷ []) (omega arith)
@@ -322,7 +323,7 @@ module _ (config : Config) (slirp : SlirpState) (link : LinkState) (past : List 
       opening = phase_then f.proto Done ∙ ap (λ p. opened Done p) (opens.opening ∙ ap (Opening slirp.number) next);
       are_open = opening_made config f.proto slirp.number f.host Done past ∙ ap (λ l. l ++ slirp.number ∷ []) opens.are_open ∙ sym (sockets_more slirp.forwards f slirp.number);
       flows = flows_stay config (flowing false slirp.flows) slirp.moment (opened_port Done) past q.silent q.unasked (let up = opening_next config f.proto slirp.number f.host Done past in omega (arith, up)) q.moment opens.flows;
-      sockets = record { number = opening_next config f.proto slirp.number f.host Done past ∙ ap (λ n. n + 1) opens.sockets.number; kinds = kinds_opened f.proto slirp.number f.host Done past opens.clock.counted opens.sockets.kinds };
+      sockets = record { number = opening_next config f.proto slirp.number f.host Done past ∙ ap (λ n. n + 1) opens.sockets.number; kinds = kinds_opened config f.proto slirp.number f.host Done past opens.clock.counted opens.sockets.kinds };
       clock = record { moment = q.moment ∙ opens.clock.moment; counted = opening_waits config f.proto slirp.number f.host Done past ∙ opens.clock.counted };
       number = refl;
       unreported = q.unreported ∙ opens.unreported;
