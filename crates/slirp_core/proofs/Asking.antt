@@ -152,7 +152,7 @@ module _ (config : Config) (count : ℕ) (wants : List Want) (item : Want) (item
               subst (λ n. Holds config (standing count wants items) (record slirp { questions = (without n (moved_last (heard_at slirp.moment) n slirp.questions)); pending = answered_by slirp into (Reply.Datagram size (endpoint config.vnameserver 53) q.guest (Some q.mac)) }) f link ((Close n ∷ UdpRecv socket room (From peer size) (take size into) ∷ []) ++ past)) (sym is_it)
               (subst (λ (k : Config). Holds config (standing count wants items) (record slirp { questions = without socket (moved_last (heard_at slirp.moment) socket slirp.questions); pending = frames_of slirp.config slirp.sent (name_answer k q (take size into) ∷ []) }) f link
               (Close socket ∷ UdpRecv socket room (From peer size) (take size into) ∷ past)) holds.guests.settings
-              (after_answer config count wants item items slirp f link past socket room reported whole none out holds q found peer size (take size into) answers allowed.1.0 tt))
+              (after_answer config count wants item items slirp f link past socket room reported whole none out holds q found peer size (take size into) answers allowed.1.0 (subst (λ n. Allowed (Close n)) is_it allowed.0)))
           by false other allowed =
               subst (λ n. Holds config (standing count wants items) (record slirp { questions = (moved_last (heard_at slirp.moment) n slirp.questions); pending = answered_by slirp into Reply.Nothing }) f link ((UdpRecv socket room (From peer size) (take size into) ∷ []) ++ past)) (sym is_it)
               (after_stranger config count wants item items slirp f link past socket room reported whole none out holds q found peer size (take size into) other allowed.0)

@@ -469,7 +469,7 @@ module _ (config : Config) (at : Standing) (slirp : SlirpState) (f : Flowing) (l
       let then_state : SlirpState = record slirp { questions = question_without socket slirp.questions } in
       parted_from socket step (NeedsSocket errand) None slirp.associations (question_without socket slirp.questions) (unclosed socket slirp.associations (no_port step None holds socket among)) refl holds turn (named step None holds socket among) allowed
       (this_one config past (CallClose socket) (due_is config past step turn.working (none_due_for_services config past holds.relayed.heard) holds.flows.holds.asked (asks step None holds)))
-      (name_parted step None holds socket among (or_first (name_gives_way config socket (asked config past)) (is_just_answered config past socket || has_waited config past socket) (ap (name_gives_way config socket) (asks step None holds) ∙ (λ i. same socket i && name i))))
+      (name_parted step None holds socket among (or_first (name_gives_way config socket (asked config past) || is_just_answered config past socket) (has_waited config past socket) (or_first (name_gives_way config socket (asked config past)) (is_just_answered config past socket) (ap (name_gives_way config socket) (asks step None holds) ∙ (λ i. same socket i && name i)))))
       (ap (asked_by config then_state) left ∙ asks_by_name config then_state errand name
       ∙ ap (λ o. with_question o (question_without socket slirp.questions) errand) (question_still_none errand.datagram.from (ident_in errand.datagram.body) socket slirp.questions none)
       ∙ question_has_room (question_without socket slirp.questions) errand (grind (arith, nat_tests, room)))
@@ -495,17 +495,17 @@ module _ (config : Config) (at : Standing) (slirp : SlirpState) (f : Flowing) (l
       let over : has_waited config past socket ≡ true = ap (is_over socket (moment past)) holds.relayed.questions ∙ ap (λ m. is_over socket m slirp.questions) holds.clock.moment ∙ waited in
       parted_from socket Settled Settled None slirp.associations (question_without socket slirp.questions) (unclosed socket slirp.associations (no_port Settled None holds socket among)) refl holds turn (named Settled None holds socket among) allowed
       (any_one config past (CallClose socket) (due_is config past Settled turn.working (none_due_for_services config past holds.relayed.heard) holds.flows.holds.asked (asks Settled None holds)))
-      (name_parted Settled None holds socket among (or_second (name_gives_way config socket (asked config past)) (is_just_answered config past socket || has_waited config past socket) (or_second (is_just_answered config past socket) (has_waited config past socket) over)))
+      (name_parted Settled None holds socket among (or_second (name_gives_way config socket (asked config past) || is_just_answered config past socket) (has_waited config past socket) over))
       (asks_nothing config (record slirp { questions = question_without socket slirp.questions }) (errand_left config past) (errand_is Settled None holds))
 
   -- its answer came just now
   pub after_answered : (socket : ℕ) → Allowed (Close socket) → is_among socket (question_numbers slirp.questions) ≡ true → InTurn config past → HoldsOn config at Settled (Some socket) slirp f link past
       → Holds config at (record slirp { questions = question_without socket slirp.questions }) f link (Close socket ∷ past)
-  after_answered socket allowed among turn holds =
-      parted_from socket Settled Settled (Some socket) slirp.associations (question_without socket slirp.questions) (unclosed socket slirp.associations (no_port Settled (Some socket) holds socket among)) refl holds turn (named Settled (Some socket) holds socket among) allowed
-      (this_one config past (CallClose socket) (close_is_due config past socket turn (asks Settled (Some socket) holds) holds.relayed.heard))
-      (name_parted Settled (Some socket) holds socket among (or_second (name_gives_way config socket (asked config past)) (is_just_answered config past socket || has_waited config past socket)
-      (or_first (is_just_answered config past socket) (has_waited config past socket) (ap (is_it socket) holds.relayed.heard ∙ same socket))))
+  after_answered socket allowed among in_one holds =
+      parted_from socket Settled Settled (Some socket) slirp.associations (question_without socket slirp.questions) (unclosed socket slirp.associations (no_port Settled (Some socket) holds socket among)) refl holds in_one (named Settled (Some socket) holds socket among) allowed
+      (this_one config past (CallClose socket) (close_is_due config past socket in_one (asks Settled (Some socket) holds) holds.relayed.heard))
+      (name_parted Settled (Some socket) holds socket among (or_first (name_gives_way config socket (asked config past) || is_just_answered config past socket) (has_waited config past socket)
+      (or_second (name_gives_way config socket (asked config past)) (is_just_answered config past socket) (ap (is_it socket) holds.relayed.heard ∙ same socket))))
       (asks_nothing config (record slirp { questions = question_without socket slirp.questions }) (errand_left config past) (errand_is Settled (Some socket) holds))
 
   -- nothing is left to be sent
