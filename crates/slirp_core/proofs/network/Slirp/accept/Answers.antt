@@ -65,3 +65,6 @@ returns-in-From-clause-counts g c =
     let first = grown _ _ _ c.in-From.ensures.counted in
     let then_is = grown _ _ _ c.welcome.ensures.treats.counted in
     (omega (arith, first.0, then_is.0), omega (arith, first.1, then_is.1), omega (arith, first.2, then_is.2))
+
+pub returns-in-Udp-clause-makes : goal.returns-in-Udp-clause-makes
+returns-in-Udp-clause-makes g c config count wants item items link reads_it = brings_none (λ past holds. passes_over config count wants item items c.args.self.now (flowing false c.args.self.now.flows) link past holds)

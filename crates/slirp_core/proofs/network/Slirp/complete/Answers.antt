@@ -10,7 +10,7 @@ pub take_datagram-requires-clause-lies : goal.take_datagram-requires-clause-lies
 take_datagram-requires-clause-lies c =
     let octets = c.args.octets.now in
     let a = c.in-Datagram.assembled in
-    let fits = subst (λ (b : Brought). FitsBrought b c.args.self.now.pending (length octets)) c.in-Datagram.is c.requires in
+    let fits = subst (λ (b : Brought). FitsBrought c.args.self.now.config b c.args.self.now.pending (length octets)) c.in-Datagram.is c.requires in
     subst (λ (ip : Ip). Lies octets ip.head ip.body) (sym c.datagram_at-datagram.ensures.datagram) (front_lies octets a.head a.body fits.0.0 fits.0.1)
 
 pub returns-in-Datagram-clause-changes : goal.returns-in-Datagram-clause-changes

@@ -1,8 +1,10 @@
-use Rattle.std.proofs.Common.{◌≡◌, true, false, Some, sym, ◌∙◌, ap}
+use Rattle.std.proofs.Common.{◌≡◌, ◌≤◌, length, true, false, Some, sym, ◌∙◌, ap, subst}
 use Rattle.ipv4_head.specs.Ip.{ip_of}
 use Rattle.host_policy.specs.Addresses.{Config}
 use Rattle.slirp_core.specs.Packets.{is_message_to_us, is_segment, udp_of}
-use Rattle.slirp_core.specs.Datagrams.{datagram_of}
+use Rattle.slirp_core.specs.Datagrams.{datagram_of, errand_of}
+use Rattle.slirp_core.specs.declared.datagrams.DatagramView.{DatagramView}
+use Rattle.slirp_core.proofs.Services.{goes_as_question}
 use Rattle.slirp_core.specs.State.{SlirpState}
 use Rattle.slirp_core.proofs.Taking.{message_to_us, no_message, no_errand, no_errand_of_segment, no_segment_of_message, one_segment, segment_came}
 use Rattle.slirp_core.proofs.network.Slirp.take_datagram.Goals as goal
@@ -59,3 +61,16 @@ returns-then-is_segment-clause-changes c =
     let asked : is_message_to_us c.args.self.now.config ip ≡ false = ap (λ (k : Config). is_message_to_us k ip) (sym policy) ∙ sym c.is_message_to_us.ensures ∙ c.if-is_message_to_us.false in
     let carries : is_segment c.args.self.now.config ip ≡ true = ap (λ (k : Config). is_segment k ip) (sym policy) ∙ sym c.is_segment.ensures ∙ c.if-is_segment.true in
     ap (λ p. record c.args.self.now { pending = p }) c.requires.none ∙ segment_came c.args.self.now c.args.mac.0 ip asked carries
+
+pub returns-then-is_segment-clause-fits : goal.returns-then-is_segment-clause-fits
+returns-then-is_segment-clause-fits c = c.segment_in.ensures.fits c.args.self.now.config
+
+pub returns-clause-fits : goal.returns-clause-fits
+returns-clause-fits c =
+    let d = c.in_ok-datagram in
+    let errand = c.in_ok-errand.errand in
+    let same = c.in_ok-errand.ensures.same in (
+      subst (λ (v : DatagramView). length v.body.now ≤ 65507) (sym same) d.ensures.body,
+      subst (λ (v : DatagramView). length v.quote.now ≤ 68) (sym same) d.ensures.quote,
+      λ name. goes_as_question c.args.self.now.config (datagram_of d.datagram) (errand_of errand) (sym c.in_ok-errand.ensures.errand) name,
+    )
