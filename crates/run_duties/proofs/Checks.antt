@@ -236,83 +236,32 @@ module _ (config : Config) (past : List Entry) where
 
   wait_is : (wants : List Want) (timeout : Option ℕ) → must_wait config past wants timeout ≡ true → MustWait config past wants timeout
   wait_is wants timeout is =
-      let p = three (waits_for config past wants && are_served (unserved config past) && (is_blocked past || is_all_out config past))
+      let p = three (waits_for config past wants && (is_blocked past || is_all_out config past))
       ((is_blocked past || all_flows (is_settled_now config past) (book config past).flows) && all_flows (λ f. may_wait f.story (moment past)) (book config past).flows && all_ahead (moment past) (lives config past))
-      (is_by (wait_end (moment past) timeout) (deadlines config past) && is_from (wait_end (moment past) timeout) (alarms config past) && are_few past) is in
-      let q = three (waits_for config past wants) (are_served (unserved config past)) (is_blocked past || is_all_out config past) p.0 in
+      (is_by (wait_end (moment past) timeout) (deadlines config past) && is_from (wait_end (moment past) timeout) (alarms config past)) is in
+      let listed = first_of (waits_for config past wants) (is_blocked past || is_all_out config past) p.0 in
+      let out = second_of (waits_for config past wants) (is_blocked past || is_all_out config past) p.0 in
       let r = three (is_blocked past || all_flows (is_settled_now config past) (book config past).flows) (all_flows (λ f. may_wait f.story (moment past)) (book config past).flows) (all_ahead (moment past) (lives config past)) p.1 in
-      let t = three (is_by (wait_end (moment past) timeout) (deadlines config past)) (is_from (wait_end (moment past) timeout) (alarms config past)) (are_few past) p.2 in
       record {
-        waits_for = waits_for_is wants q.0;
-        served = q.1;
-        out = either (is_blocked past) (is_all_out config past) q.2;
+        waits_for = waits_for_is wants listed;
+        out = either (is_blocked past) (is_all_out config past) out;
         settled = λ free number f found.
             settled (flow_settings config) f.story (guest_is_known (scene config past) f) (is_at_rest config past f) (moment past)
             (found_passes (is_settled_now config past) number (book config past).flows f (either (is_blocked past) (all_flows (is_settled_now config past) (book config past).flows) r.0 free) found);
         closed = λ number f found. waits f.story (moment past) (found_passes (λ g. may_wait g.story (moment past)) number (book config past).flows f r.1 found);
         unused = ahead_is (moment past) (lives config past) r.2;
-        until = by_is (wait_end (moment past) timeout) (deadlines config past) t.0;
-        from = from_is (wait_end (moment past) timeout) (alarms config past) t.1;
-        few = t.2;
+        until = by_is (wait_end (moment past) timeout) (deadlines config past) (first_of (is_by (wait_end (moment past) timeout) (deadlines config past)) (is_from (wait_end (moment past) timeout) (alarms config past)) p.2);
+        from = from_is (wait_end (moment past) timeout) (alarms config past) (second_of (is_by (wait_end (moment past) timeout) (deadlines config past)) (is_from (wait_end (moment past) timeout) (alarms config past)) p.2);
       }
 
   waits_is : (call : Call) → waits_as_it_must config past call ≡ true → WaitsAsItMust config past call
   waits_is (CallWait wants timeout) is = wait_is wants timeout is
   waits_is _ is = tt
 
--- ---- calls of flows
-
-acts : (s : Settings) (now : ℕ) (o : Option Flow) (act : Act) → must_act s now o act ≡ true → MustAct s now o act
-acts s now None act is = tt
-acts s now (Some f) act is = must_is s f.story now act is
-
-asks : (s : Settings) (o : Option Flow) (asked : ℕ) → asks_for_room s o asked ≡ true → AsksForRoom s o asked
-asks s None asked is = tt
-asks s (Some f) asked is = equal asked (read_size s f.story) is
-
-sends : (s : Settings) (now : ℕ) (seg : Segment) (o : Option Flow) → must_send s now seg o ≡ true → MustSend s now seg o
-sends s now seg None is = tt
-sends s now seg (Some f) is = by_test (is_strange seg f) is
-  where
-    by_test : (b : Bool) → (b || must s f.story now (Send seg)) ≡ true → MatchBool b (Unit {0}) (Must s f.story now (Send seg))
-    by_test true one = tt
-    by_test false one = must_is s f.story now (Send seg) one
-
-sends_on : (s : Settings) (now : ℕ) (flows : List Flow) (o : Option OnTuple) → must_send_on s now flows o ≡ true → MustSendOn s now flows o
-sends_on s now flows None is = tt
-sends_on s now flows (Some on) is = sends s now on.segment (owner on.tuple flows) is
-
-writes_is : (s : Settings) (now : ℕ) (flows : List Flow) (rest octets : List ℕ) → must_write s now flows rest octets ≡ true → MustWrite s now flows rest octets
-writes_is s now flows [] octets is = sends_on s now flows (segment_in (drop 4 octets)) is
-writes_is s now flows (x ∷ rest) octets is = tt
-
-touches : (config : Config) (past : List Entry) (call : Call) → must_touch config past call ≡ true → MustTouch config past call
-touches config past (CallLinkWrite octets) is = writes_is (flow_settings config) (moment past) (book config past).flows (tail past) octets is
-touches config past (CallConnected socket) is = acts (flow_settings config) (moment past) (flow_of socket (book config past).flows) AskConnected is
-touches config past (CallTcpRead socket asked) is = (
-  acts (flow_settings config) (moment past) (flow_of socket (book config past).flows) Read
-      (first_of (must_act (flow_settings config) (moment past) (flow_of socket (book config past).flows) Read) (asks_for_room (flow_settings config) (flow_of socket (book config past).flows) asked) is),
-  asks (flow_settings config) (flow_of socket (book config past).flows) asked
-      (second_of (must_act (flow_settings config) (moment past) (flow_of socket (book config past).flows) Read) (asks_for_room (flow_settings config) (flow_of socket (book config past).flows) asked) is),
-)
-touches config past (CallTcpWrite socket octets) is = acts (flow_settings config) (moment past) (flow_of socket (book config past).flows) (Write octets) is
-touches config past (CallTcpEnd socket) is = acts (flow_settings config) (moment past) (flow_of socket (book config past).flows) EndHost is
-touches config past _ is = tt
-
-at_once : (config : Config) (past : List Entry) (call : Call) → closes_at_once config past call ≡ true → ClosesAtOnce config past call
-at_once config past call is number f found close = by (must_close f.story) (is_close f.number call) refl (must_close_is f.story close) (found_passes (λ g. not (must_close g.story) || is_close g.number call) number (book config past).flows f is found)
-  where
-    by : (a b : Bool) → is_close f.number call ≡ b → a ≡ true → (not a || b) ≡ true → call ≡ CallClose number
-    by true true test is_one one = closes f.number call test ∙ ap CallClose (found_number number (book config past).flows f found)
-    by true false test is_one one = absurd cc
-    by false b test is_one one = absurd cc
-
 -- ---- a record
 
 pub must_come : (config : Config) (past : List Entry) (call : Call) → is_must config past call ≡ true → MustCome config past call
-must_come config past call is =
-    let p = three (waits_as_it_must config past call) (must_touch config past call) (closes_at_once config past call) is in
-    record { waits = waits_is config past call p.0; touches = touches config past call p.1; at_once = at_once config past call p.2 }
+must_come config past call is = record { waits = waits_is config past call is }
 
 -- a record that passes is dutiful
 pub is_sound : (config : Config) (past : List Entry) → is_dutiful config past ≡ true → Dutiful config past

@@ -1,28 +1,20 @@
 -- A test that says of a record whether it is dutiful, by computing. It asks of every guest what the duties ask of an honest one.
-use Rattle.std.specs.Prelude.{ℕ, ◌==◌, ◌&&◌, ◌||◌, not, nat_le, Bool, true, false, List, [], ◌∷◌, drop, Option, Some, None}
+use Rattle.std.specs.Prelude.{ℕ, ◌&&◌, ◌||◌, not, nat_le, Bool, true, false, List, [], ◌∷◌, Option, Some, None}
 use Rattle.poll_list.specs.Listing.{reads, writes}
 use Rattle.poll_list.specs.declared.Want.{Want}
 use Rattle.poll_list.specs.declared.Who.{Who}
 use Rattle.poll_list.specs.declared.Who.TheVariants.{Link, Listener, Tcp, Udp}
-use Rattle.world_face.specs.Journal.{Entry, Call, call_of, CallWait, CallLinkWrite, CallConnected, CallTcpRead, CallTcpWrite, CallTcpEnd}
-use Rattle.world_face.specs.Frames.{is_blocked, tail}
+use Rattle.world_face.specs.Journal.{Entry, Call, call_of, CallWait}
+use Rattle.world_face.specs.Frames.{is_blocked}
 use Rattle.host_policy.specs.Addresses.{Config}
 use Rattle.run_laws.specs.Moments.{moment}
 use Rattle.run_laws.specs.Sockets.{open_sockets}
-use Rattle.flow_laws.specs.CheckDuty.{all_ahead, is_settled, may_wait, may_wait_to_write, must, must_close}
-use Rattle.flow_laws.specs.Dutiful.{read_size}
-use Rattle.flow_laws.specs.Event.{Segment}
-use Rattle.flow_laws.specs.Lawful.{Act, AskConnected, Write, EndHost, Read, Send}
-use Rattle.flow_laws.specs.Settings.{Settings}
+use Rattle.flow_laws.specs.CheckDuty.{all_ahead, is_settled, may_wait, may_wait_to_write}
 use Rattle.flow_book.specs.Book.{book, scene}
-use Rattle.flow_book.specs.Check.{is_close}
-use Rattle.flow_book.specs.Flows.{Flow, flow_of, guest_is_known, is_strange, owner}
+use Rattle.flow_book.specs.Flows.{Flow, flow_of, guest_is_known}
 use Rattle.flow_book.specs.Laws.{flow_settings}
-use Rattle.flow_book.specs.Segments.{OnTuple, segment_in}
 use Rattle.slirp_laws.specs.Laws.{is_all_out}
-use Rattle.run_duties.specs.Counting.{are_few}
 use Rattle.run_duties.specs.Duties.{is_at_rest}
-use Rattle.run_duties.specs.Serving.{are_served, unserved}
 use Rattle.run_duties.specs.Times.{alarms, deadlines, lives, wait_end}
 use Rattle.run_duties.specs.Waiting.{are_in_order, is_read, is_written}
 
@@ -95,53 +87,19 @@ is_from (Some at) (m ∷ ms) = nat_le m at || is_from (Some at) ms
 
 abbrev pub must_wait : Config → List Entry → List Want → Option ℕ → Bool
 must_wait config past wants timeout =
-    (waits_for config past wants && are_served (unserved config past) && (is_blocked past || is_all_out config past))
+    (waits_for config past wants && (is_blocked past || is_all_out config past))
     && ((is_blocked past || all_flows (is_settled_now config past) (book config past).flows) && all_flows (λ f. may_wait f.story (moment past)) (book config past).flows
     && all_ahead (moment past) (lives config past))
-    && (is_by (wait_end (moment past) timeout) (deadlines config past) && is_from (wait_end (moment past) timeout) (alarms config past) && are_few past)
+    && (is_by (wait_end (moment past) timeout) (deadlines config past) && is_from (wait_end (moment past) timeout) (alarms config past))
 
 abbrev pub waits_as_it_must : Config → List Entry → Call → Bool
 waits_as_it_must config past (CallWait wants timeout) = must_wait config past wants timeout
 waits_as_it_must config past _ = true
 
--- ---- calls of flows
-
-abbrev pub must_act : Settings → ℕ → Option Flow → Act → Bool
-must_act s now None act = true
-must_act s now (Some f) act = must s f.story now act
-
-abbrev pub asks_for_room : Settings → Option Flow → ℕ → Bool
-asks_for_room s None asked = true
-asks_for_room s (Some f) asked = asked == read_size s f.story
-
-abbrev pub must_send : Settings → ℕ → Segment → Option Flow → Bool
-must_send s now segment None = true
-must_send s now segment (Some f) = is_strange segment f || must s f.story now (Send segment)
-
-abbrev pub must_send_on : Settings → ℕ → List Flow → Option OnTuple → Bool
-must_send_on s now flows None = true
-must_send_on s now flows (Some on) = must_send s now on.segment (owner on.tuple flows)
-
-abbrev pub must_write : Settings → ℕ → List Flow → List ℕ → List ℕ → Bool
-must_write s now flows [] octets = must_send_on s now flows (segment_in (drop 4 octets))
-must_write s now flows (x ∷ rest) octets = true
-
-abbrev pub must_touch : Config → List Entry → Call → Bool
-must_touch config past (CallLinkWrite octets) = must_write (flow_settings config) (moment past) (book config past).flows (tail past) octets
-must_touch config past (CallConnected socket) = must_act (flow_settings config) (moment past) (flow_of socket (book config past).flows) AskConnected
-must_touch config past (CallTcpRead socket asked) =
-    must_act (flow_settings config) (moment past) (flow_of socket (book config past).flows) Read && asks_for_room (flow_settings config) (flow_of socket (book config past).flows) asked
-must_touch config past (CallTcpWrite socket octets) = must_act (flow_settings config) (moment past) (flow_of socket (book config past).flows) (Write octets)
-must_touch config past (CallTcpEnd socket) = must_act (flow_settings config) (moment past) (flow_of socket (book config past).flows) EndHost
-must_touch config past _ = true
-
-abbrev pub closes_at_once : Config → List Entry → Call → Bool
-closes_at_once config past call = all_flows (λ f. not (must_close f.story) || is_close f.number call) (book config past).flows
-
 -- ---- a record
 
 abbrev pub is_must : Config → List Entry → Call → Bool
-is_must config past call = waits_as_it_must config past call && must_touch config past call && closes_at_once config past call
+is_must config past call = waits_as_it_must config past call
 
 abbrev pub is_dutiful : Config → List Entry → Bool
 is_dutiful config [] = true

@@ -11,9 +11,6 @@ use Rattle.flow_book.specs.Book.{book, is_young, scene}
 use Rattle.flow_book.specs.Flows.{Flow, flow_of, guest_is_known, rests_among}
 use Rattle.flow_book.specs.Laws.{flow_settings}
 use Rattle.slirp_laws.specs.Laws.{is_all_out}
-use Rattle.run_duties.specs.Acts.{ClosesAtOnce, MustTouch}
-use Rattle.run_duties.specs.Counting.{are_few}
-use Rattle.run_duties.specs.Serving.{are_served, unserved}
 use Rattle.run_duties.specs.Times.{alarms, deadlines, lives, wait_end}
 use Rattle.run_duties.specs.Waiting.{WaitsFor}
 
@@ -33,8 +30,6 @@ IsSettledNow config past f = IsSettled (flow_settings config) f.story (guest_is_
 pub record MustWait (config : Config) (past : List Entry) (wants : List Want) (timeout : Option ℕ) : Type 0 where
   -- what is waited for
   pub waits_for : WaitsFor config past wants
-  -- each direction that the last wait reported and that was wanted had its calls, or isn't waited for any more
-  pub served : are_served (unserved config past) ≡ true
   -- unless the link is blocked the answer to what came last is out, and each flow is settled
   pub out : is_blocked past ≡ false → is_all_out config past ≡ true
   pub settled : is_blocked past ≡ false → EachFlow config past (IsSettledNow config past)
@@ -44,8 +39,6 @@ pub record MustWait (config : Config) (past : List Entry) (wants : List Want) (t
   -- it lasts no longer than to what has to be done at a time, and at least to the first of them
   pub until : IsBy (wait_end (moment past) timeout) (deadlines config past)
   pub from : IsFrom (wait_end (moment past) timeout) (alarms config past)
-  -- since the last wait each call had its cause
-  pub few : are_few past ≡ true
 
 abbrev pub WaitsAsItMust : Config → List Entry → Call → Type 0
 WaitsAsItMust config past (CallWait wants timeout) = MustWait config past wants timeout
@@ -54,8 +47,6 @@ WaitsAsItMust config past _ = Unit {0}
 -- the next call is as it must be
 pub record Must (config : Config) (past : List Entry) (call : Call) : Type 0 where
   pub waits : WaitsAsItMust config past call
-  pub touches : MustTouch config past call
-  pub at_once : ClosesAtOnce config past call
 
 -- each call was as it must be
 abbrev pub Dutiful : Config → List Entry → Type 0
