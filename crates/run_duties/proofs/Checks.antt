@@ -4,34 +4,25 @@ use Rattle.poll_list.specs.Listing.{reads, same_who, writes}
 use Rattle.poll_list.specs.declared.Want.{Want}
 use Rattle.poll_list.specs.declared.Who.{Who}
 use Rattle.poll_list.specs.declared.Who.TheVariants.{Link, Listener, Tcp, Udp}
-use Rattle.world_face.specs.Journal.{Entry, Call, call_of, CallClose, CallWait, CallLinkWrite, CallConnected, CallTcpRead, CallTcpWrite, CallTcpEnd}
-use Rattle.world_face.specs.Frames.{is_blocked, tail}
+use Rattle.world_face.specs.Journal.{Entry, Call, call_of, CallWait}
+use Rattle.world_face.specs.Frames.{is_blocked}
 use Rattle.host_policy.specs.Addresses.{Config}
 use Rattle.run_laws.specs.Moments.{moment}
 use Rattle.run_laws.specs.Sockets.{is_among, open_sockets}
-use Rattle.flow_laws.specs.CheckDuty.{all_ahead, may_wait, must, must_close}
-use Rattle.flow_laws.specs.Dutiful.{AreAhead, Must, read_size}
-use Rattle.flow_laws.specs.Event.{Segment}
-use Rattle.flow_laws.specs.Lawful.{Act, AskConnected, Write, EndHost, Read, Send}
-use Rattle.flow_laws.specs.Settings.{Settings}
+use Rattle.flow_laws.specs.CheckDuty.{all_ahead, may_wait}
+use Rattle.flow_laws.specs.Dutiful.{AreAhead}
 use Rattle.flow_laws.proofs.Answering.{nat_less}
 use Rattle.flow_laws.proofs.Computing.{nat_within}
-use Rattle.flow_laws.proofs.Duties.{may_wait_to_write_is, must_close_is, must_is}
+use Rattle.flow_laws.proofs.Duties.{may_wait_to_write_is}
 use Rattle.flow_laws.proofs.Settled.{settled, waits}
 use Rattle.flow_steps.specs.Bounds.{IsBy, IsFrom}
 use Rattle.flow_book.specs.Book.{book, scene}
-use Rattle.flow_book.specs.Check.{is_close}
-use Rattle.flow_book.specs.Flows.{Flow, flow_of, guest_is_known, is_numbered, is_strange, owner}
+use Rattle.flow_book.specs.Flows.{Flow, flow_of, guest_is_known, is_numbered}
 use Rattle.flow_book.specs.Laws.{flow_settings}
-use Rattle.flow_book.specs.Segments.{OnTuple, segment_in}
-use Rattle.flow_book.proofs.Checks.{closes}
 use Rattle.slirp_laws.specs.Laws.{is_all_out}
 use Rattle.slirp_laws.proofs.Bools.{equal, first_of, second_of}
-use Rattle.run_duties.specs.Acts.{AsksForRoom, ClosesAtOnce, MustAct, MustSend, MustSendOn, MustTouch, MustWrite}
-use Rattle.run_duties.specs.Check.{all_flows, all_may, asks_for_room, closes_at_once, flows_are, implies, is_by, is_dutiful, is_from, is_must, is_settled_now, is_wanted, may_be_wanted, may_be_written, may_write_flow, must_act, must_send, must_send_on, must_touch, must_wait, must_write, sockets_are, waits_as_it_must, waits_for}
-use Rattle.run_duties.specs.Counting.{are_few}
+use Rattle.run_duties.specs.Check.{all_flows, all_may, flows_are, implies, is_by, is_dutiful, is_from, is_must, is_settled_now, is_wanted, may_be_wanted, may_be_written, may_write_flow, must_wait, sockets_are, waits_as_it_must, waits_for}
 use Rattle.run_duties.specs.Duties.{Dutiful, Must as MustCome, MustWait, WaitsAsItMust, is_at_rest}
-use Rattle.run_duties.specs.Serving.{are_served, unserved}
 use Rattle.run_duties.specs.Times.{alarms, deadlines, lives, wait_end}
 use Rattle.run_duties.specs.Waiting.{MayBeWritten, MayWriteFlow, WaitsFor, are_in_order, is_read, is_written, reads_flow, writes_flow}
 
