@@ -1,0 +1,57 @@
+-- How long a run may wait, and how long it waits at least.
+use Rattle.std.specs.Prelude.{ℕ, ◌+◌, Bool, true, false, List, [], ◌∷◌, ◌++◌, filter, map, Option, Some, None}
+use Rattle.world_face.specs.Journal.{Entry}
+use Rattle.world_face.specs.Frames.{is_blocked}
+use Rattle.host_policy.specs.Addresses.{Config}
+use Rattle.dns_relay.specs.Questions.{question_life}
+use Rattle.ipv4_head.specs.Sets.{PartSet}
+use Rattle.udp_assoc.specs.Associations.{idle_life}
+use Rattle.run_laws.specs.Fragments.{waiting}
+use Rattle.run_laws.specs.Moments.{moment}
+use Rattle.flow_laws.specs.Event.{Story}
+use Rattle.flow_laws.specs.Dutiful.{connect_deadline, resend_deadline, wakes}
+use Rattle.flow_book.specs.Book.{book, is_young, longest_rest}
+use Rattle.flow_book.specs.Flows.{Flow, Rest}
+use Rattle.slirp_laws.specs.Ports.{associations_open, used_at}
+use Rattle.slirp_laws.specs.Questions.{questions_open}
+
+-- the moments that each flow has
+abbrev pub of_flows : (Story → List ℕ) → List Flow → List ℕ
+of_flows moments [] = []
+of_flows moments (f ∷ flows) = moments f.story ++ of_flows moments flows
+
+-- when the idle life of each open socket of a guest's port is over, and that of each question
+abbrev pub association_lives : Config → List Entry → List ℕ
+association_lives config past = map (λ socket. used_at socket past + idle_life) (associations_open config past)
+
+abbrev pub question_lives : Config → List Entry → List ℕ
+question_lives config past = map (λ socket. used_at socket past + question_life) (questions_open config past)
+
+abbrev pub lives : Config → List Entry → List ℕ
+lives config past = association_lives config past ++ question_lives config past
+
+-- a wait doesn't pass the end of a host's time to connect, nor of an idle life, nor, unless the link is blocked, a minute since what is under way went out
+abbrev pub unless_blocked : Bool → List ℕ → List ℕ
+unless_blocked true moments = []
+unless_blocked false moments = moments
+
+abbrev pub deadlines : Config → List Entry → List ℕ
+deadlines config past =
+    of_flows connect_deadline (book config past).flows ++ lives config past
+    ++ unless_blocked (is_blocked past) (of_flows resend_deadline (book config past).flows)
+
+-- when the first of fragments that wait are dropped, and the flows that rest are through
+abbrev pub drops : Config → List Entry → List ℕ
+drops config past = map (λ (s : PartSet). s.since + 60000) (waiting config past)
+
+abbrev pub rest_ends : Config → List Entry → List ℕ
+rest_ends config past = map (λ (r : Rest). r.since + longest_rest) (filter (is_young (moment past)) (book config past).rests)
+
+-- the moments for which a wait may be cut short
+abbrev pub alarms : Config → List Entry → List ℕ
+alarms config past = of_flows wakes (book config past).flows ++ lives config past ++ drops config past ++ rest_ends config past
+
+-- the moment at which a wait that begins now is over
+abbrev pub wait_end : ℕ → Option ℕ → Option ℕ
+wait_end now None = None
+wait_end now (Some timeout) = Some (now + timeout)
