@@ -352,7 +352,9 @@ module _ (config : Config) where
     where
       by : (answer : Made) → (slice_get config.forwards count ≡ Some f) × (drop (count + 1) config.forwards ≡ fs) × (count + 1 ≤ length config.forwards) → Stage (opened answer (Opening count (f ∷ fs))) (port_opening f.proto count f.host answer ∷ past)
       by Done more = (
-        opening_next f.proto count f.host Done past ∙ ap (λ n. n + 1) next, more.1, more.2,
+        opening_next f.proto count f.host Done past ∙ ap (λ n. n + 1) next,
+        more.1,
+        more.2,
         opening_waits f.proto count f.host Done past ∙ unwaited,
         more_open f past count f.host more.0 unwaited next has,
       )

@@ -128,7 +128,6 @@ has_room : (list : List Association) (errand : Errand) → nat_le most_associati
 has_room [] errand room = refl
 has_room (x ∷ others) errand room = ap (λ b. if b then NeedsRoom x.number errand else NeedsSocket errand) room
 
-
 none_to_forward : (o : Option ℕ) (list : List Association) (errand : Errand) → with_forward o list errand ≡ NeedsSocket errand → o ≡ None
 none_to_forward None list errand is = refl
 none_to_forward (Some socket) list errand is = cc

@@ -50,5 +50,5 @@ invariant_of-self g c =
       c.self.invariant.4,
       c.self.invariant.5,
       asked_on c.query-reply.new.number i.policy i.questions c.query-reply.new.self c.query-reply.ensures.rest
-      (below_relayed i.questions.bind (asked_of errand) i.moment i.number c.query-reply.new.number i.questions.list c.query-reply.new.self.list c.query-reply.result makes.made makes.holds c.self.invariant.6.below) c.self.invariant.6.is,
+          (below_relayed i.questions.bind (asked_of errand) i.moment i.number c.query-reply.new.number i.questions.list c.query-reply.new.self.list c.query-reply.result makes.made makes.holds c.self.invariant.6.below) c.self.invariant.6.is,
     )

@@ -47,5 +47,5 @@ invariant_of-self g c =
       c.self.invariant.4,
       c.self.invariant.5,
       asked_on i.number i.policy i.questions c.answer-reply.new.self c.answer-reply.ensures.rest
-      (below_heard i.number i.questions i.moment c.args.number (length c.args.into.now) c.answer-reply.new.into c.answer-reply.new.self.list c.answer-reply.result makes.made makes.holds c.self.invariant.6.below) c.self.invariant.6.is,
+          (below_heard i.number i.questions i.moment c.args.number (length c.args.into.now) c.answer-reply.new.into c.answer-reply.new.self.list c.answer-reply.result makes.made makes.holds c.self.invariant.6.below) c.self.invariant.6.is,
     )
