@@ -1,11 +1,9 @@
 -- A run from its first call to its last.
-use Rattle.std.proofs.Common.{◌≡◌, ℕ, ◌≤◌, false, List, [], ◌++◌, Option, Some, refl, sym, ◌∙◌, ap, subst}
+use Rattle.std.proofs.Common.{◌≡◌, ℕ, ◌≤◌, false, List, [], ◌++◌, Some, refl, sym, ◌∙◌, ap, subst}
 use Rattle.world_face.specs.Journal.{Entry}
 use Rattle.world_face.specs.Tells.{Telling, Makes}
 use Rattle.world_face.proofs.Telling.{makes_as, makes_then}
 use Rattle.host_policy.specs.Addresses.{Config}
-use Rattle.udp_assoc.specs.declared.assocs.Association.{Association}
-use Rattle.flow_splice.specs.Splice.{Splice}
 use Rattle.run_laws.specs.Shape.{phase}
 use Rattle.slirp_laws.specs.Datagrams.{Settled}
 use Rattle.slirp_laws.specs.Laws.{Finished, Lawful}

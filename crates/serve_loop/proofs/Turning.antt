@@ -1,5 +1,5 @@
 -- The parts of a turn, and the items that it serves.
-use Rattle.std.proofs.Common.{◌≡◌, ℕ, zero, suc, ◌+◌, ◌^◌, ◌<◌, ◌≤◌, ◌==◌, ◌&&◌, ◌||◌, not, nat_lt, Bool, true, false, List, [], ◌∷◌, ◌++◌, drop, length, get_or, Option, sym, ◌∙◌, ap, arith, refl, if◌then◌else◌}
+use Rattle.std.proofs.Common.{◌≡◌, ℕ, zero, suc, ◌+◌, ◌^◌, ◌<◌, ◌≤◌, ◌==◌, ◌&&◌, ◌||◌, not, nat_lt, Bool, true, false, List, [], ◌∷◌, ◌++◌, drop, length, get_or, sym, ◌∙◌, ap, arith, refl, if◌then◌else◌}
 use Rattle.std.proofs.lemmas.Bool.Decides.{nat_tests}
 use Rattle.poll_list.specs.Listing.{same_who, reads, writes}
 use Rattle.poll_list.specs.declared.Want.{Want}
@@ -9,8 +9,6 @@ use Rattle.world_face.specs.Journal.{Entry}
 use Rattle.world_face.specs.Frames.{Ending, LinkFailed}
 use Rattle.host_policy.specs.Addresses.{Config}
 use Rattle.port_forward.specs.Opened.{Opened}
-use Rattle.udp_assoc.specs.declared.assocs.Association.{Association}
-use Rattle.flow_splice.specs.Splice.{Splice}
 use Rattle.slirp_laws.specs.Agenda.{agenda, is_to_read, wanted_of}
 use Rattle.stream_netdev.specs.State.{LinkState, under_way}
 use Rattle.slirp_core.specs.Holds.{Standing, after, standing, flowing, Ended, AfterPump, Holders, holders_of}

@@ -1,11 +1,11 @@
 -- What is done by what the words mean, and the status of it.
-use Rattle.std.proofs.Common.{◌≡◌, ◌≢◌, ◌↔◌, ◌⊎◌, inl, inr, ℕ, ◌<◌, ◌≤◌, length, List, [], slice_get, Option, Some, None, Result, Ok, Err, MatchOption, refl, sym, ◌∙◌, ap, subst, arith}
+use Rattle.std.proofs.Common.{◌≡◌, ◌≢◌, ◌↔◌, ◌⊎◌, inl, inr, ℕ, ◌<◌, ◌≤◌, length, List, [], Option, Some, None, Result, Ok, Err, MatchOption, refl, sym, ◌∙◌, ap, subst, arith}
 use Rattle.world_face.specs.Journal.{Entry, Place}
 use Rattle.world_face.specs.Tells.{Telling, Makes}
 use Rattle.host_policy.specs.Addresses.{Config}
 use Rattle.host_policy.specs.Ranges.{first_broken}
 use Rattle.host_policy.specs.declared.config.Field.{Field}
-use Rattle.slirp_config.specs.Meaning.{AnswersBy, AreSettings, HasPlace, Meaning, Means, MeansReplay, MeansServe, Replays, Serves, config_of, said}
+use Rattle.slirp_config.specs.Meaning.{AnswersBy, AreSettings, HasPlace, Meaning, Means, MeansReplay, Replays, Serves, config_of, said}
 use Rattle.slirp_config.specs.Options.{Word, value_of}
 use Rattle.slirp_config.specs.declared.Command.{Command}
 use Rattle.slirp_config.specs.declared.WordFault.{WordFault}

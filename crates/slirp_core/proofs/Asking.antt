@@ -14,8 +14,8 @@ use Rattle.world_face.specs.declared.Got.{Got}
 use Rattle.world_face.specs.declared.Got.TheVariants.{From, NotYet as GotNotYet, Failed as GotFailed}
 use Rattle.udp_assoc.specs.Associations.{moved_last as association_moved, sent_from}
 use Rattle.dns_relay.specs.Asking.{bind_for}
-use Rattle.dns_relay.specs.Questions.{asked_from, heard_at, ident_in, is_answered, is_idle, is_numbered, is_over, most_questions, moved_last, numbered, numbers, socket_of, without}
-use Rattle.dns_relay.specs.Relaying.{Asked, BySocket, ByNewSocket, ClosesLeast, Hears, IsLeast, OnNone, OnQuestion, Opens, OpensFor, OpensNone, Relays, Ticks, calls_after, calls_for_room, list_after, passed, question_of, told, with_room}
+use Rattle.dns_relay.specs.Questions.{asked_from, heard_at, ident_in, is_answered, is_numbered, is_over, most_questions, moved_last, numbered, numbers, without}
+use Rattle.dns_relay.specs.Relaying.{Asked, BySocket, ByNewSocket, Hears, OnNone, OnQuestion, Opens, OpensFor, OpensNone, Relays, Ticks, calls_after, calls_for_room, list_after, passed, question_of, told, with_room}
 use Rattle.dns_relay.specs.State.{RelayState}
 use Rattle.dns_relay.specs.declared.Question.{Question}
 use Rattle.run_laws.specs.Sockets.{is_among}

@@ -12,7 +12,7 @@ use Rattle.world_face.specs.declared.Sent.{Sent}
 use Rattle.world_face.specs.declared.Sent.TheVariants.{Done, NotYet, Failed}
 use Rattle.world_face.specs.declared.Got.{Got}
 use Rattle.world_face.specs.declared.Got.TheVariants.{From, NotYet as GotNotYet, Failed as GotFailed}
-use Rattle.udp_assoc.specs.Associations.{most_associations, numbers, numbered, socket_of, without, moved_last, sent_from, heard_at}
+use Rattle.udp_assoc.specs.Associations.{most_associations, numbers, numbered, without, moved_last, sent_from, heard_at}
 use Rattle.udp_assoc.specs.Relays.{Relays, ByForward, BySocket, ByNewSocket, OpensFor, Opens, OpensNone, Hears, OnForward, OnAssociation, OnNone, Ticks, calls_for_room, with_room, with_reply, opened, told, passed, ClosesLeast}
 use Rattle.udp_assoc.specs.declared.assocs.Association.{Association}
 use Rattle.dns_relay.specs.Questions.{asked_from, moved_last as question_moved, numbered as question_numbered, numbers as question_numbers}

@@ -1,11 +1,7 @@
 -- The sockets of a run that is over are closed by rising number, those of associations, of questions and of flows.
 use Rattle.std.proofs.Common.{append_assoc, ◌≡◌, ℕ, suc, length, find, if◌then◌else◌, ◌<◌, ◌≤◌, ◌+◌, ◌==◌, ◌&&◌, ◌||◌, ◌⊎◌, not, All, Bool, true, false, List, [], ◌∷◌, ◌++◌, filter, set, slice_get, Option, Some, None, option_map, inl, inr, refl, sym, ◌∙◌, ap, subst, arith}
 use Rattle.std.proofs.lemmas.List.Elements.{All-head, All-tail}
-use Rattle.world_face.specs.Journal.{Entry, Call, call_of, Connect, Listen, Accept, Close, UdpOpen, CallClose}
-use Rattle.world_face.specs.declared.Accepted.{Accepted}
-use Rattle.world_face.specs.declared.Accepted.TheVariants.{From, NotYet as NotYetAccepted, Failed as AcceptFailed}
-use Rattle.world_face.specs.declared.Made.{Made}
-use Rattle.world_face.specs.declared.Made.TheVariants.{Done, Failed}
+use Rattle.world_face.specs.Journal.{Entry, Call, Close, CallClose}
 use Rattle.host_policy.specs.Addresses.{Config}
 use Rattle.udp_assoc.specs.Associations.{numbers, without}
 use Rattle.udp_assoc.specs.declared.assocs.Association.{Association}
@@ -13,18 +9,17 @@ use Rattle.dns_relay.specs.Questions.{numbers as question_numbers, without as wi
 use Rattle.dns_relay.specs.declared.Question.{Question}
 use Rattle.flow_splice.specs.Splice.{Splice}
 use Rattle.run_laws.specs.Shape.{Phase, Over, Working, is_over, is_working, phase}
-use Rattle.run_laws.specs.Sockets.{first, is_among, next_number, open_sockets, with_made}
+use Rattle.run_laws.specs.Sockets.{first, is_among, next_number, open_sockets}
 use Rattle.slirp_laws.specs.Asking.{step, step_of}
 use Rattle.slirp_laws.specs.Datagrams.{Settled, due_for}
-use Rattle.slirp_laws.specs.Laws.{Lawful, May, MayDue, due, unless_due}
+use Rattle.slirp_laws.specs.Laws.{May, MayDue, due, unless_due}
 use Rattle.slirp_laws.proofs.Bools.{among_without, and_both, equal, or_second, same}
 use Rattle.slirp_laws.proofs.Deeds.{any_one, quest_none, this_one}
-use Rattle.slirp_laws.proofs.OpenSockets.{peer_next}
 use Rattle.core_flows.proofs.Tables.{get_set_at, get_set_other}
 use Rattle.core_flows.proofs.Seats.{differ, same_or_not}
 use Rattle.slirp_core.specs.Sockets.{AllAbove, IsRising}
 use Rattle.slirp_core.proofs.Askers.{among_both, asked_without}
-use Rattle.slirp_core.proofs.Sockets.{rising_last, rising_up, rising_without, those_without}
+use Rattle.slirp_core.proofs.Sockets.{those_without}
 use Rattle.spliced_flows.specs.Core.{number_of}
 use Rattle.spliced_flows.proofs.Ending.{may_close_least}
 use Rattle.spliced_flows.proofs.Options.{none_some, some_same, true_false}

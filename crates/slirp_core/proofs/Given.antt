@@ -14,7 +14,7 @@ use Rattle.host_policy.specs.declared.Proto.{Proto}
 use Rattle.host_policy.specs.declared.Proto.TheVariants.{Tcp, Udp}
 use Rattle.host_policy.specs.Ranges.{same_proto}
 use Rattle.host_policy.specs.Targets.{same_endpoint}
-use Rattle.port_forward.specs.Opened.{Opened, leads_to, socket_for, socket_of}
+use Rattle.port_forward.specs.Opened.{leads_to, socket_for, socket_of}
 use Rattle.host_policy.specs.Addresses.{Config}
 use Rattle.flow_book.specs.Book.{book}
 use Rattle.flow_book.specs.Lots.{due_for_flows}
@@ -31,7 +31,7 @@ use Rattle.slirp_laws.proofs.Steps.{errand_is}
 use Rattle.slirp_laws.specs.Asking.{step}
 use Rattle.slirp_laws.specs.Datagrams.{Step, Settled, NeedsRoom, NeedsSocket, NeedsSending, due_for}
 use Rattle.run_laws.specs.Sockets.{first}
-use Rattle.slirp_laws.specs.Ports.{forward_for, forwards_open, given_by, given_port, is_port, opened_for}
+use Rattle.slirp_laws.specs.Ports.{forward_for, given_by, given_port, is_port, opened_for}
 use Rattle.slirp_core.specs.Forwards.{forward_sockets, given, guest_on, with_numbers}
 use Rattle.slirp_core.specs.Holds.{is_given}
 use Rattle.slirp_core.specs.Sockets.{AllAbove, IsRising}

@@ -1,32 +1,24 @@
 -- The sockets of questions: which are open, and that they are no others'.
-use Rattle.std.proofs.Common.{◌≡◌, ℕ, ◌==◌, ◌&&◌, ◌||◌, ◌⊎◌, not, nat_lt, Bool, true, false, cond, List, [], ◌∷◌, ◌++◌, filter, find, is_some, Option, Some, None, option_map, if◌then◌else◌, inl, inr, refl, sym, ◌∙◌, ap, subst, arith}
+use Rattle.std.proofs.Common.{◌≡◌, ℕ, ◌==◌, ◌&&◌, ◌||◌, ◌⊎◌, not, nat_lt, Bool, true, false, cond, List, [], ◌∷◌, ◌++◌, find, is_some, Option, Some, None, option_map, if◌then◌else◌, inl, inr, refl, sym, ◌∙◌, ap, subst, arith}
 use Rattle.std.proofs.lemmas.Bool.Decides.{nat_tests}
 use Rattle.net_octets.specs.declared.Endpoint.{Endpoint}
-use Rattle.world_face.specs.Journal.{Entry, Accept, Close, Connect, Listen, UdpOpen, UdpRecv, UdpSend, call_of}
-use Rattle.world_face.specs.declared.Accepted.{Accepted}
-use Rattle.world_face.specs.declared.Accepted.TheVariants.{From as FromPeer, NotYet as NoPeer, Failed as AcceptFailed}
-use Rattle.world_face.specs.declared.Made.{Made}
-use Rattle.world_face.specs.declared.Made.TheVariants.{Done, Failed}
-use Rattle.world_face.specs.declared.Got.{Got}
-use Rattle.world_face.specs.declared.Got.TheVariants.{From, NotYet as GotNotYet, Failed as GotFailed}
-use Rattle.host_policy.specs.Addresses.{Config, address}
-use Rattle.host_policy.specs.Targets.{same_endpoint}
+use Rattle.world_face.specs.Journal.{Entry, Accept, Connect, Listen, UdpOpen}
+use Rattle.host_policy.specs.Addresses.{Config}
 use Rattle.udp_assoc.specs.Associations.{numbers, moved_last as association_moved}
 use Rattle.udp_assoc.specs.declared.assocs.Association.{Association}
-use Rattle.dns_relay.specs.Questions.{heard_at, is_numbered, is_of, moved_last, numbered, numbers as question_numbers, socket_of, without}
+use Rattle.dns_relay.specs.Questions.{is_of, moved_last, numbered, numbers as question_numbers, socket_of, without}
 use Rattle.dns_relay.specs.declared.Question.{Question}
-use Rattle.run_laws.specs.Moments.{moment, waits}
-use Rattle.run_laws.specs.Sockets.{Kind, Association as OfAssociation, DnsSocket, Flow as OfFlow, Forward as OfForward, Listener as OfListener, datagram_kind, is_among, is_association, kind_of, next_number, open_sockets, with_made}
+use Rattle.run_laws.specs.Moments.{waits}
+use Rattle.run_laws.specs.Sockets.{Kind, Association as OfAssociation, DnsSocket, Flow as OfFlow, Forward as OfForward, Listener as OfListener, datagram_kind, is_among, is_association, kind_of, open_sockets}
 use Rattle.slirp_laws.specs.Datagrams.{Errand, asks_a_name}
 use Rattle.slirp_laws.specs.Errands.{errand_left}
-use Rattle.slirp_laws.specs.Laws.{Lawful, May, carries}
-use Rattle.slirp_laws.specs.Names.{datagram_kind_for, kind_for, question, questions, with_heard, with_opened, with_sent}
+use Rattle.slirp_laws.specs.Laws.{Lawful, carries}
+use Rattle.slirp_laws.specs.Names.{datagram_kind_for, kind_for, question, questions}
 use Rattle.slirp_laws.specs.Questions.{is_for_question}
 use Rattle.slirp_laws.specs.Relayed.{associations}
-use Rattle.slirp_laws.proofs.Bools.{among_last, among_without, and_false, equal, or_assoc, or_false, or_second, same, second_of, turned}
+use Rattle.slirp_laws.proofs.Bools.{equal, or_assoc, or_false, or_second, same, second_of, turned}
 use Rattle.slirp_laws.proofs.Joining.{joined, waited_for}
 use Rattle.slirp_laws.proofs.Waiting.{are_waiting}
-use Rattle.slirp_laws.proofs.OpenSockets.{next_is_new, peer_next}
 
 -- ---- their numbers
 

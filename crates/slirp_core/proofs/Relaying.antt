@@ -1,5 +1,5 @@
 -- Calls on the sockets of datagrams: those of associations, of questions, and of ports of the host that are given to guests.
-use Rattle.std.proofs.Common.{◌≡◌, ℕ, ◌+◌, ◌<◌, ◌==◌, ◌&&◌, ◌||◌, not, Bool, true, false, nat_le, nat_lt, zero, suc, List, [], ◌∷◌, ◌++◌, length, find, slice_get, Option, Some, None, option_map, unwrap_or, if◌then◌else◌, refl, sym, ◌∙◌, ap, subst, arith}
+use Rattle.std.proofs.Common.{◌≡◌, ℕ, ◌+◌, ◌<◌, ◌==◌, ◌&&◌, ◌||◌, not, Bool, true, false, nat_le, nat_lt, zero, suc, List, [], ◌∷◌, ◌++◌, length, find, slice_get, Option, Some, None, option_map, unwrap_or, if◌then◌else◌, refl, sym, ◌∙◌, ap, arith}
 use Rattle.std.proofs.lemmas.Bool.Decides.{nat_tests}
 use Rattle.poll_list.specs.declared.Want.{Want}
 use Rattle.poll_list.specs.declared.Who.TheVariants.{Udp as UdpAt}
@@ -23,7 +23,7 @@ use Rattle.dns_relay.specs.Asking.{bind_for}
 use Rattle.dns_relay.specs.Questions.{asked_from, heard_at as heard_on, ident_in, is_answered, is_idle as is_over, is_of as is_asked, most_questions, moved_last as question_moved, numbered as question_numbered, numbers as question_numbers, socket_of as question_socket, without as question_without}
 use Rattle.dns_relay.specs.declared.Question.{Question}
 use Rattle.udp_assoc.proofs.Yielding.{still_none}
-use Rattle.port_forward.specs.Opened.{Opened, leads_to, socket_for as port_for}
+use Rattle.port_forward.specs.Opened.{socket_for as port_for}
 use Rattle.run_laws.specs.Guests.{known}
 use Rattle.run_laws.specs.Moments.{moment, waits}
 use Rattle.flow_book.specs.Book.{book}
@@ -32,7 +32,7 @@ use Rattle.flow_book.specs.Lots.{due_for_flows}
 use Rattle.run_laws.specs.Shape.{due_in, phase, is_ended, is_over as is_run_over, is_working}
 use Rattle.run_laws.specs.Sockets.{Association as OfAssociation, DnsSocket, Flow as OfFlow, Forward, Kind, Listener, datagram_kind, is_among, is_association, is_forward, kind_of, next_number, open_sockets, with_made}
 use Rattle.slirp_laws.specs.Agenda.{agenda, all_wanted, is_to_read, wanted_of}
-use Rattle.slirp_laws.specs.Answers.{asks_for, frames_of, identification, is_out, left, name_answer, name_reply, told_about, no_network, unsent, unless_sent, reply_at, reply_for, reply_on}
+use Rattle.slirp_laws.specs.Answers.{frames_of, identification, is_out, left, name_answer, told_about, no_network, unsent, unless_sent, reply_at, reply_for, reply_on}
 use Rattle.slirp_laws.specs.Asking.{step as asked}
 use Rattle.slirp_laws.specs.Errands.{errand_left}
 use Rattle.slirp_laws.specs.Names.{answered, answered_on, has_waited, question, questions, step_to_names, with_opened as name_opened, with_sent as name_sent, with_socket as with_question, without_socket as without_question}
@@ -40,7 +40,7 @@ use Rattle.slirp_laws.specs.Ports.{forwards_open, is_port, mac_for, mac_known, m
 use Rattle.slirp_laws.specs.Said.{SaysOf}
 use Rattle.slirp_laws.specs.Datagrams.{Errand, Step, Settled, NeedsRoom, NeedsSocket, NeedsSending, asks_a_name, due_for, opened_at}
 use Rattle.slirp_laws.specs.Relayed.{association, associations, with_forward, with_opened, with_sent, with_socket, without_socket}
-use Rattle.slirp_laws.specs.Laws.{Lawful, May, MayDue, carries, due, due_for_services, gives_way, is_all_out, is_for_datagrams, is_just_answered, is_least, is_nothing, is_unused, may_part, name_gives_way, parts, relays, unless_due}
+use Rattle.slirp_laws.specs.Laws.{May, MayDue, carries, due, due_for_services, gives_way, is_all_out, is_for_datagrams, is_just_answered, is_least, is_nothing, is_unused, may_part, name_gives_way, parts, relays, unless_due}
 use Rattle.slirp_laws.proofs.Bools.{among_last, among_without, and_both, first_of, same, second_of, turned}
 use Rattle.slirp_laws.proofs.Deeds.{any_one, closes, hears, opens, sends, this_one}
 use Rattle.slirp_laws.proofs.Finding.{idle_is, says_of}

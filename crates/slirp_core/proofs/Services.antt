@@ -1,14 +1,13 @@
 -- The services of the network: who has which address, to whom questions go, and that no file is served.
-use Rattle.std.proofs.Common.{◌≡◌, ℕ, ◌==◌, ◌&&◌, ◌||◌, not, Bool, true, false, List, [], ◌∷◌, ◌++◌, Option, Some, None, option_map, unwrap_or, if◌then◌else◌, nat_lt, refl, sym, ◌∙◌, ap}
+use Rattle.std.proofs.Common.{◌≡◌, ℕ, ◌==◌, ◌&&◌, ◌||◌, Bool, true, false, List, [], ◌∷◌, ◌++◌, Option, Some, None, unwrap_or, if◌then◌else◌, refl, sym, ◌∙◌, ap}
 use Rattle.net_octets.specs.declared.Endpoint.{Endpoint}
 use Rattle.std.specs.Option.{option_map_or}
 use Rattle.world_face.specs.Journal.{CallClose, Entry, Wait, LinkWrite, FileLen, FileRead}
 use Rattle.host_policy.specs.declared.Verdict.{Verdict}
 use Rattle.host_policy.specs.declared.Verdict.TheVariants.{Go, Denied}
-use Rattle.host_policy.specs.declared.Rule.TheVariants.{Restricted, PortZero, NameServer, HostLoopback, Network, Reserved}
 use Rattle.host_policy.specs.declared.Proto.TheVariants.{Udp as ByUdp}
-use Rattle.host_policy.specs.Addresses.{Config, address, endpoint, in_network}
-use Rattle.host_policy.specs.Targets.{first_octet, is_group_or_reserved, is_loopback, loopback, target}
+use Rattle.host_policy.specs.Addresses.{Config, address, endpoint}
+use Rattle.host_policy.specs.Targets.{is_loopback, target}
 use Rattle.dns_relay.specs.Asking.{bind_for}
 use Rattle.dns_relay.specs.Questions.{is_question}
 use Rattle.tftp_server.specs.Asking.{call_for}
@@ -17,7 +16,7 @@ use Rattle.run_laws.specs.Happenings.{Arrival, Happening, happens}
 use Rattle.run_laws.specs.Moments.{moment}
 use Rattle.run_laws.specs.Packets.{Packet, Unheard, ArpPacket, Message, DatagramPacket, Segment, Datagram}
 use Rattle.slirp_laws.specs.Answers.{Ledger, Serving, again_by_call, begins_again, files_after, files_by_call, files_by_fate, files_by_packet, files_sent, identification, is_free, ledger, or_begun, serving, unless_begun}
-use Rattle.slirp_laws.specs.Datagrams.{Errand, Fate, ForFiles, Ignored, ForLeases, GoesTo, Refused, asks_a_name, errand_by, errand_of, fate, fate_by, is_to_names, opened_at}
+use Rattle.slirp_laws.specs.Datagrams.{Errand, Fate, ForFiles, Ignored, ForLeases, GoesTo, Refused, asks_a_name, errand_by, errand_of, fate, fate_by, opened_at}
 use Rattle.slirp_laws.specs.Errands.{errand_left}
 use Rattle.slirp_laws.specs.Laws.{due_for_answer, due_for_services, unless_due}
 use Rattle.slirp_laws.specs.Leasing.{leases, leases_by}

@@ -24,7 +24,7 @@ use Rattle.dhcp_server.specs.Serving.{served}
 use Rattle.host_policy.specs.declared.Reply.{Reply}
 use Rattle.host_policy.specs.declared.Reply.TheVariants.{Nothing as ReplyNothing, Datagram as ADatagram, Unreachable as ReplyUnreachable}
 use Rattle.slirp_laws.specs.Leasing.{sending_of}
-use Rattle.slirp_laws.specs.Answers.{Answer, IpAnswer, answer_of, answers_of, our_mac, datagram_frames, fits_datagram, is_untold, told_about, reply_at, frames_of, owed_for_arp, owed_for_icmp, owed_for_datagram, reset_for}
+use Rattle.slirp_laws.specs.Answers.{IpAnswer, answer_of, answers_of, our_mac, datagram_frames, fits_datagram, is_untold, told_about, reply_at, frames_of, owed_for_arp, owed_for_icmp, owed_for_datagram, reset_for}
 use Rattle.tcp_segment.specs.Tcp.{Tcp, read_tcp, tcp_length, tcp_octets}
 use Rattle.flow_table.specs.declared.Tuple.{Tuple}
 use Rattle.flow_laws.specs.Event.{Segment}

@@ -43,7 +43,6 @@ use Rattle.tcp_flows.specs.Runs.{Between, Welcomes}
 use Rattle.port_forward.specs.Opened.{Opened}
 use Rattle.slirp_laws.specs.Datagrams.{Settled}
 use Rattle.udp_assoc.specs.Associations.{numbers, without}
-use Rattle.spliced_flows.proofs.Options.{true_false}
 use Rattle.slirp_laws.proofs.OpenSockets.{next_is_new}
 use Rattle.slirp_core.proofs.Given.{HasGiven, given_kind}
 use Rattle.slirp_core.specs.Forwards.{with_numbers}

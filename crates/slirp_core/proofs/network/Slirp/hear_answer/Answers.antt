@@ -3,7 +3,6 @@ use Rattle.world_face.specs.Tells.{Brings}
 use Rattle.world_face.proofs.Telling.{makes_as}
 use Rattle.slirp_core.proofs.Telling.{brings_allowed}
 use Rattle.host_policy.specs.Addresses.{Config}
-use Rattle.dns_relay.specs.Asking.{bind_for}
 use Rattle.dns_relay.specs.Questions.{numbered}
 use Rattle.dns_relay.specs.State.{RelayState}
 use Rattle.dns_relay.proofs.Below.{below_heard}

@@ -1,6 +1,5 @@
 use Rattle.std.proofs.Common.{◌≡◌, ℕ, List, [], ◌∷◌, ◌∙◌, ap}
 use Rattle.net_octets.specs.Kinds.{udp_proto}
-use Rattle.host_policy.specs.Addresses.{Config}
 use Rattle.udp_assoc.specs.Udp.{udp_octets}
 use Rattle.slirp_laws.specs.Answers.{answer_of, datagram_frames, frames_of}
 use Rattle.slirp_core.specs.State.{SlirpState}
