@@ -3,7 +3,7 @@ use Rattle.host_policy.specs.Addresses.{Config}
 use Rattle.host_policy.specs.Ranges.{IsSound}
 use Rattle.slirp_core.specs.Numbers.{flows_for}
 use Rattle.slirp_core.specs.Pumps.{TcpOnce}
-use Rattle.slirp_core.proofs.Listening.{at_ok}
+use Rattle.slirp_core.proofs.Forwarding.{at_ok}
 use Rattle.serve_loop.proofs.Opening.{has_few_turns, has_room_for_a_unit, has_some_turns}
 use Rattle.serve_loop.proofs.service.Service.open.Goals as goal
 
