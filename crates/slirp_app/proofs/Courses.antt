@@ -5,7 +5,7 @@ use Rattle.world_face.specs.Tells.{Telling, Makes}
 use Rattle.host_policy.specs.Addresses.{Config}
 use Rattle.host_policy.specs.Ranges.{first_broken}
 use Rattle.host_policy.specs.declared.config.Field.{Field}
-use Rattle.slirp_config.specs.Meaning.{AnswersBy, AreSettings, HasPlace, Meaning, Means, MeansReplay, Replays, Serves, config_of, said}
+use Rattle.slirp_config.specs.Meaning.{AnswersBy, AreSettings, HasPlace, Meaning, Means, MeansReplay, MeansServe, Replays, Serves, config_of, said}
 use Rattle.slirp_config.specs.Options.{Word, value_of}
 use Rattle.slirp_config.specs.declared.Command.{Command}
 use Rattle.slirp_config.specs.declared.WordFault.{WordFault}
@@ -29,9 +29,15 @@ is_built config given set = record {
   control = ap (λ (k : Config). k.control) set.rest;
 }
 
+built_replay : (config : Config) (behind : List Word) (file : Word) → MeansReplay behind file config → IsBuilt config
+built_replay config behind file (line, rules, same, all, alone, some, few, are, set) = is_built config (value_of line) set
+
+built_serve : (config : Config) (behind : List Word) (at : Place) → MeansServe behind config at → IsBuilt config
+built_serve config behind at (line, same, all, link, are, set) = is_built config (value_of line) set
+
 pub built : (words : List Word) (meaning : Meaning) → Means words meaning → IsBuilt (config_of meaning)
-built words (Replays file config) (behind, is, line, rules, same, all, alone, some, few, are, set) = is_built config (value_of line) set
-built words (Serves config at) (behind, is, line, same, all, link, are, set) = is_built config (value_of line) set
+built words (Replays file config) (behind, is, meant) = built_replay config behind file meant
+built words (Serves config at) (behind, is, meant) = built_serve config behind at meant
 
 named : (behind : List Word) (file : Word) (config : Config) → MeansReplay behind file config → (0 < length file) × (length file ≤ 1280)
 named behind file config (line, rules, same, all, alone, some, few, are, set) = (some, few)
