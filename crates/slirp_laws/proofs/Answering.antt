@@ -35,7 +35,7 @@ use Rattle.slirp_laws.proofs.Spelt.{spelt}
 
 -- ---- an answer, as it is read
 
-answer_read : (config : Config) (past : List Entry) (frame : List ℕ) (ip : Ip) (udp : Udp) → 28 ≤ config.mtu → Lawful config past → AreAllowed past → HasPorts config → config.vnameserver < 2 ^ 32 → Carries frame ip → is_unbroken ip ≡ true
+pub answer_read : (config : Config) (past : List Entry) (frame : List ℕ) (ip : Ip) (udp : Udp) → 28 ≤ config.mtu → Lawful config past → AreAllowed past → HasPorts config → config.vnameserver < 2 ^ 32 → Carries frame ip → is_unbroken ip ≡ true
     → read_udp ip.from ip.to ip.body ≡ Some udp → (a : AnswersQuestion config past frame) → (udp.from_port ≡ 53) × AnswerCame config past (endpoint ip.to udp.to_port) udp.body
 answer_read config past frame ip udp room lawful allowed ports fits c unbroken is a =
     let q = a.question in

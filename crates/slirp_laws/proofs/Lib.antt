@@ -6,6 +6,12 @@ pub mod Bools
 pub mod Checks
 pub mod CutRows
 pub mod Deeds
+pub mod FileCalls
+pub mod FileFrames
+pub mod FileLaws
+pub mod FileRows
+pub mod FileSteps
+pub mod FileTurns
 pub mod Finding
 pub mod FlowRows
 mod ForwardRows
@@ -15,6 +21,7 @@ pub mod Giving
 pub mod Hearing
 pub mod Joining
 pub mod KeepingFlows
+pub mod KeptFiles
 pub mod LeaseRows
 pub mod Leaving
 pub mod Lent
@@ -24,6 +31,7 @@ pub mod NameRows
 pub mod Numbers
 pub mod Only
 pub mod OpenSockets
+pub mod Outcomes
 pub mod Owing
 pub mod Parting
 pub mod Peers

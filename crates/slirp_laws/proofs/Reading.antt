@@ -826,7 +826,7 @@ reads_ip ident place proto from guest more body ip fits within is =
     }
 
 -- the frame of an answer is read as it was written
-framed_ip : (to from body : List ℕ) (kind : ℕ) → length to ≡ 6 → length from ≡ 6 → kind < 2 ^ 16 → read_ether (ether_octets to from kind body) ≡ Some (record { to = to; from = from; kind = kind; body = body })
+pub framed_ip : (to from body : List ℕ) (kind : ℕ) → length to ≡ 6 → length from ≡ 6 → kind < 2 ^ 16 → read_ether (ether_octets to from kind body) ≡ Some (record { to = to; from = from; kind = kind; body = body })
 framed_ip to from body kind to_six from_six fits =
     reads_frame (ether_octets to from kind body) (record { to = to; from = from; kind = kind; body = body }) (record { to = to_six; from = from_six; kind = fits; is = refl })
 

@@ -216,8 +216,8 @@ no_lease false to is = cc
 pub goes_by_policy : (config : Config) (d : Datagram) (to : Endpoint) → fate config d ≡ GoesTo to → fate_by config d (target config ByUdp d.to) ≡ GoesTo to
 goes_by_policy config d to is =
     let third = fate_by config d (target config ByUdp d.to) in
-    let second = if (d.to.port == 69) && (address d.to == config.vhost) then Ignored else third in
-    passed_or ((d.to.port == 69) && (address d.to == config.vhost)) Ignored third to (λ never. cc)
+    let second = if (d.to.port == 69) && (address d.to == config.vhost) then ForFiles else third in
+    passed_or ((d.to.port == 69) && (address d.to == config.vhost)) ForFiles third to (λ never. cc)
     (passed_or ((d.to.port == 67) && ((address d.to == config.vhost) || (address d.to == 0xffffffff))) (if config.no_dhcp then Ignored else ForLeases) second to (no_lease config.no_dhcp to)
     (passed_or (d.from.port == 0) Ignored (if (d.to.port == 67) && ((address d.to == config.vhost) || (address d.to == 0xffffffff)) then (if config.no_dhcp then Ignored else ForLeases) else second) to (λ never. cc) is))
 

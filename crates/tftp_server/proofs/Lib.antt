@@ -1,16 +1,19 @@
 mod Agreeing
 mod Beginning
 mod Bringing
+pub mod Choosing
 mod Cutting
 mod Following
 mod Keeping
 mod Knowing
-mod Listing
+pub mod Listing
 mod Naming
 mod Numbering
 mod Reading
-mod Repeating
+pub mod Repeating
 mod Serving
-mod Staying
-mod Timing
+pub mod Staying
+pub mod Timing
+pub mod Turning
+pub mod Waiting
 mod Writing

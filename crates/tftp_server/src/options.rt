@@ -86,7 +86,7 @@ impl Model for Agreed {
 
     ghost view = { λ s. record { size = s.size; timeout = s.timeout; answered = map answered_pair s.answered.items } };
 
-    ghost invariant = { λ s. (8 ≤ s.size) × (s.size ≤ 1468) × (s.timeout ≤ 255000) × AreOnce s.answered.items };
+    ghost invariant = { λ s. (8 ≤ s.size) × (s.size ≤ 1468) × (s.timeout ≤ 255000) × AreOnce s.answered.items × (1000 ≤ s.timeout) };
 }
 
 impl Agreed {
@@ -210,6 +210,7 @@ impl Agreed {
     /// How long a packet waits for its acknowledgement, in milliseconds.
     pub fn timeout(&self) -> u64
         ensures timeout { result ≡ self.now.timeout }
+        ensures least { 1000 ≤ result }
         ensures most { result ≤ 255000 }
     {
         self.timeout

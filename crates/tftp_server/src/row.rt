@@ -23,6 +23,7 @@ pub(crate) struct Row {
     pub due: u64,
     ghost least: { 8 ≤ size },
     ghost most: { size ≤ 1468 },
-    ghost waits: { timeout ≤ 255000 },
+    ghost waits: { 1000 ≤ timeout },
+    ghost waits_most: { timeout ≤ 255000 },
     ghost within: { is_last ≡ false → block * size ≤ length },
 }

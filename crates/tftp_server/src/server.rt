@@ -7,7 +7,7 @@ ghost use Rattle.tftp_server.specs.Transfers.{Transfer, acknowledged, came, is_f
 ghost use Rattle.tftp_server.specs.Asking.{IsServed};
 ghost use Rattle.tftp_server.specs.Reading.{are_pairs};
 ghost use Rattle.tftp_server.specs.Serving.{said_by, IsFromServer};
-ghost use Rattle.tftp_server.specs.Rows.{folder_octets, next_of, seeking_length, sought, transfer_of};
+ghost use Rattle.tftp_server.specs.Rows.{AreSound, folder_octets, next_of, seeking_length, sought, transfer_of};
 ghost use Rattle.tftp_server.specs.Blocks.{ReadsBlock};
 
 use crate::options::Agreed;
@@ -59,7 +59,7 @@ impl Tftp {
             (IsServed now (came self.old.folder now mac.0 from body.now (settled self.old.transfers)) self.new.transfers (said_by result into.new)) }
         ensures from { IsFromServer self.old.vhost result }
         ensures rest { self.new ≡ record self.old { transfers = self.new.transfers } }
-        ensures few { length self.new.transfers ≤ 20 }
+        ensures sound { AreSound self.new.transfers }
     {
         let reply = self.take_in(world, now, from, mac, body, into);
         let _few = &self.rows;

@@ -6,7 +6,7 @@ ghost use Rattle.host_policy.specs.Targets.{same_endpoint};
 ghost use Rattle.net_octets.specs.declared.Endpoint.{Endpoint as AnEndpoint};
 ghost use Rattle.tftp_server.specs.Transfers.{is_for, without, with_room, sending, ticked, begun, most_transfers};
 ghost use Rattle.tftp_server.specs.Serving.{said_by, earlier, IsFromServer, IsNextDue};
-ghost use Rattle.tftp_server.specs.Rows.{transfer_of, transfers_of, IsSentAgain, TakesAcknowledged};
+ghost use Rattle.tftp_server.specs.Rows.{transfer_of, transfers_of, AreSound, IsSentAgain, TakesAcknowledged};
 
 use crate::row::Row;
 use crate::{MOST_AGAIN, MOST_TRANSFERS, PORT};
@@ -65,6 +65,7 @@ impl Tftp {
     pub fn next_again(&mut self, now: u64, into: &mut [u8]) -> Reply
         requires moment { now ≤ 2 ^ 62 }
         requires room { 1472 ≤ length into.old }
+        ensures sound { AreSound self.old.transfers }
         ensures list { self.new ≡ record self.old { transfers = ticked now true self.old.transfers } }
         ensures says { said_by result into.new ≡ begun now true self.old.transfers }
         ensures from { IsFromServer self.old.vhost result }
@@ -80,14 +81,16 @@ impl Tftp {
 
     /// Transfers whose packet went again five times and is due once more are gone.
     pub fn end_over(&mut self, now: u64)
-        ensures { self.new ≡ record self.old { transfers = ticked now false self.old.transfers } }
+        ensures sound { AreSound self.old.transfers }
+        ensures list { self.new ≡ record self.old { transfers = ticked now false self.old.transfers } }
     {
         self.rows.retain(|row| is_left(row, now));
     }
 
     /// The earliest moment after this one at which a packet is due to go again. None exactly where there is none.
     pub fn next_due(&self, now: u64) -> Option<u64>
-        ensures { IsNextDue now self.now.transfers result }
+        ensures sound { AreSound self.now.transfers }
+        ensures next { IsNextDue now self.now.transfers result }
     {
         next_due(self.rows.as_slice(), now)
     }

@@ -14,7 +14,7 @@ pub invariant_of-self : goal.invariant_of-self
 invariant_of-self c =
     let s = c.self.inside in
     let new = not_among FileSize s.size s.timeout s.answered.items c.args.self.now c.self.view_is c.requires in
-    (c.self.invariant.0, c.self.invariant.1, c.self.invariant.2, rw c.push.ensures.items (once_push s.answered.items FileSize c.args.length c.self.invariant.3 new))
+    (c.self.invariant.0, c.self.invariant.1, c.self.invariant.2, rw c.push.ensures.items (once_push s.answered.items FileSize c.args.length c.self.invariant.3 new), c.self.invariant.4)
 
 pub returns : goal.returns
 returns c =

@@ -15,7 +15,7 @@ invariant_of-self c =
     let s = c.self.inside in
     let new = not_among BlockSize s.size s.timeout s.answered.items c.args.self.now c.self.view_is c.requires in
     let range = in_its_range 8 65464 c.in-Some.n c.args.value.now c.in-Some.ensures in
-    (omega (arith, range.0, c.min-size.ensures), omega (arith, c.min-size.ensures), c.self.invariant.2, rw c.push.ensures.items (once_push s.answered.items BlockSize c.min-size.result c.self.invariant.3 new))
+    (omega (arith, range.0, c.min-size.ensures), omega (arith, c.min-size.ensures), c.self.invariant.2, rw c.push.ensures.items (once_push s.answered.items BlockSize c.min-size.result c.self.invariant.3 new), c.self.invariant.4)
 
 pub returns : goal.returns
 returns c =

@@ -15,7 +15,7 @@ invariant_of-self c =
     let s = c.self.inside in
     let new = not_among Timeout s.size s.timeout s.answered.items c.args.self.now c.self.view_is c.requires in
     let range = in_its_range 1 255 c.in-Some.seconds c.args.value.now c.in-Some.ensures in
-    (c.self.invariant.0, c.self.invariant.1, omega (arith, range.1), rw c.push.ensures.items (once_push s.answered.items Timeout c.in-Some.seconds c.self.invariant.3 new))
+    (c.self.invariant.0, c.self.invariant.1, omega (arith, range.1), rw c.push.ensures.items (once_push s.answered.items Timeout c.in-Some.seconds c.self.invariant.3 new), omega (arith, range.0))
 
 pub returns : goal.returns
 returns c =

@@ -4,9 +4,10 @@ use Rattle.std.specs.Option.{option_map}
 use Rattle.std.proofs.lemmas.Fn.{filter_same}
 use Rattle.tftp_server.specs.Transfers.{Transfer, are_left, is_due}
 use Rattle.tftp_server.specs.Serving.{Serving}
-use Rattle.tftp_server.specs.Rows.{AreApart, transfer_of, transfers_of}
+use Rattle.tftp_server.specs.Rows.{AreApart, AreSound, transfer_of, transfers_of}
 use Rattle.tftp_server.specs.declared.row.Row.{Row}
 use Rattle.tftp_server.proofs.Listing.{apart_filter, filter_map_is}
+use Rattle.tftp_server.proofs.Waiting.{rows_sound}
 use Rattle.tftp_server.proofs.transfers.Tftp.end_over.Goals as goal
 
 -- the rows that are left, as transfers
@@ -24,9 +25,14 @@ invariant_of-self c = (
   subst AreApart (sym (left c)) (apart_filter (λ t. not (is_due c.args.now t) || nat_lt t.again 5) (transfers_of (option_map (λ f. f.bytes) c.self.inside.folder) c.self.inside.rows.items) c.self.invariant.2),
 )
 
-pub returns : goal.returns
-returns c =
+pub returns-clause-list : goal.returns-clause-list
+returns-clause-list c =
     let vhost = c.self.inside.vhost.0 in
     let folder = option_map (λ f. f.bytes) c.self.inside.folder in
     ap (λ (ts : List Transfer). let s : Serving = record { vhost = vhost; folder = folder; transfers = ts } in s) (left c)
     ∙ ap (λ (s : Serving). let t : Serving = record s { transfers = are_left c.args.now s.transfers } in t) c.self.view_is
+
+pub returns-clause-sound : goal.returns-clause-sound
+returns-clause-sound c =
+    let folder = option_map (λ f. f.bytes) c.self.inside.folder in
+    subst (λ (s : Serving). AreSound s.transfers) c.self.view_is (rows_sound folder c.self.inside.rows.items (omega (arith, c.self.invariant.0, c.self.inside.rows.ok.0)) c.self.invariant.2)

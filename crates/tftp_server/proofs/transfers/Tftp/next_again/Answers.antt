@@ -16,16 +16,16 @@ returns-in_default-clause-list c =
     let old = c.args.self.now in
     let folder = option_map (λ f. f.bytes) c.self.inside.folder in
     let rows = c.self.inside.rows.items in
-    let left : transfers_of folder rows ≡ are_left c.args.now old.transfers = ap (λ (s : Serving). s.transfers) (c.self.view_is ∙ c.end_over.ensures) in
+    let left : transfers_of folder rows ≡ are_left c.args.now old.transfers = ap (λ (s : Serving). s.transfers) (c.self.view_is ∙ c.end_over.ensures.list) in
     let none = sym (ap (find (goes_again c.args.now)) left) ∙ due_none c.args.now folder rows (sym (ap (position (is_due_row c.args.now)) c.as_slice.ensures.value) ∙ sym c.in_default.ensures) in
-    c.end_over.ensures ∙ ap (λ (ts : List Transfer). let s : Serving = record old { transfers = ts } in s) (tick_none c.args.now old.transfers none)
+    c.end_over.ensures.list ∙ ap (λ (ts : List Transfer). let s : Serving = record old { transfers = ts } in s) (tick_none c.args.now old.transfers none)
 
 pub returns-in_default-clause-says : goal.returns-in_default-clause-says
 returns-in_default-clause-says c =
     let old = c.args.self.now in
     let folder = option_map (λ f. f.bytes) c.self.inside.folder in
     let rows = c.self.inside.rows.items in
-    let left : transfers_of folder rows ≡ are_left c.args.now old.transfers = ap (λ (s : Serving). s.transfers) (c.self.view_is ∙ c.end_over.ensures) in
+    let left : transfers_of folder rows ≡ are_left c.args.now old.transfers = ap (λ (s : Serving). s.transfers) (c.self.view_is ∙ c.end_over.ensures.list) in
     let none = sym (ap (find (goes_again c.args.now)) left) ∙ due_none c.args.now folder rows (sym (ap (position (is_due_row c.args.now)) c.as_slice.ensures.value) ∙ sym c.in_default.ensures) in
     says_none c.args.now old.transfers none
 
@@ -65,11 +65,11 @@ returns-clause-list c =
     let place = sym (ap (position (is_due_row c.args.now)) c.as_slice.ensures.value) ∙ sym c.in-Some.ensures in
     let within : c.in-Some.place < length rows = (position_some (is_due_row c.args.now) rows c.in-Some.place place).within in
     let low : c.in-Some.place < length (transfers_of folder rows) = omega (arith, within, length-map rows (transfer_of folder)) in
-    let left : transfers_of folder rows ≡ are_left c.args.now old.transfers = ap (λ (s : Serving). s.transfers) (c.self.view_is ∙ c.end_over.ensures) in
+    let left : transfers_of folder rows ≡ are_left c.args.now old.transfers = ap (λ (s : Serving). s.transfers) (c.self.view_is ∙ c.end_over.ensures.list) in
     let list = ap (transfers_of folder) (new_rows c) ∙ new_transfers c (transfer_of folder row)
     ∙ tick_some c.args.now old.transfers (transfers_of folder rows) c.in-Some.place (transfer_of folder row) left low c.self.invariant.2 (due_some c.args.now folder rows c.in-Some.place row place) in
     ap (λ (ts : List Transfer). let s : Serving = record { vhost = vhost; folder = folder; transfers = ts } in s) list
-    ∙ ap (λ (s : Serving). let v : Serving = record s { transfers = ticked c.args.now true old.transfers } in v) (c.self.view_is ∙ c.end_over.ensures)
+    ∙ ap (λ (s : Serving). let v : Serving = record s { transfers = ticked c.args.now true old.transfers } in v) (c.self.view_is ∙ c.end_over.ensures.list)
 
 pub returns-clause-says : goal.returns-clause-says
 returns-clause-says c =
@@ -84,7 +84,7 @@ returns-clause-says c =
     let place = sym (ap (position (is_due_row now)) c.as_slice.ensures.value) ∙ sym c.in-Some.ensures in
     let within : i < length rows = (position_some (is_due_row now) rows i place).within in
     let low : i < length list = omega (arith, within, length-map rows (transfer_of folder)) in
-    let left : list ≡ are_left now old.transfers = ap (λ (s : Serving). s.transfers) (c.self.view_is ∙ c.end_over.ensures) in
+    let left : list ≡ are_left now old.transfers = ap (λ (s : Serving). s.transfers) (c.self.view_is ∙ c.end_over.ensures.list) in
     let same : length c.count_again.new.rows ≡ length rows = c.count_again.auto.rows ∙ ap length c.deref_mut.ensures.value in
     let there : i < length c.count_again.new.rows = omega (arith, within, same) in
     let at : row ≡ get_or c.count_again.new.rows i row = c.index-row.ensures ∙ ap (λ (l : List Row). get_or l i row) (new_rows c) in
