@@ -27,7 +27,7 @@ impl Slirp {
     ghost use Rattle.host_policy.specs.Targets.{is_hidden};
     ghost use Rattle.spliced_flows.specs.Core.{CoreHolds};
     ghost use Rattle.tcp_flows.specs.Reading.{NoneUses};
-    ghost use Rattle.slirp_core.specs.Visits.{Treats};
+    ghost use Rattle.slirp_core.specs.Visits.{AsksForPeer, ClosesOne, Treats, is_awaited};
     ghost use Rattle.std.specs.Prelude.{Bool, List, ◌∷◌, true, false, not, is_some};
 
     /// Opens the ports of the host that the settings give to guests, in their order, each with the next number. Answers the place of the first one that the
@@ -73,6 +73,8 @@ impl Slirp {
     /// One that would pass for a guest, or whose two ends are in use, is refused: its socket is closed at once.
     pub fn accept<W: World>(&mut self, world: &mut W, listener: u64)
         requires number { self.old.number + 1 < 2 ^ 64 }
+        // Where there is room, and peers come to that port, one is asked for, once.
+        ensures asks { is_awaited listener self.old ≡ true → Makes (W.tells world.old) (W.tells world.new) (AsksForPeer listener self.old.number) }
         ensures makes { (config : Config) (count : ℕ) (wants : List AnItem) (item : AnItem) (items : List AnItem) (link : LinkState) → is_to_read (Listener listener) (wanted_of wants item) ≡ true
             → Brings (W.tells world.old) (W.tells world.new)
             (Holds config (standing count wants (item ∷ items)) self.old (flowing false self.old.flows) link) (Holds config (standing count wants items) self.new (flowing false self.new.flows) link) }
@@ -100,6 +102,7 @@ impl Slirp {
     fn welcome<W: World>(&mut self, world: &mut W, guest: Endpoint, peer: Endpoint)
         requires number { self.old.number + 1 < 2 ^ 64 }
         requires room { in_use_slots self.old.flows.flows.table.slots < length self.old.flows.flows.table.slots }
+        ensures closes { Makes (W.tells world.old) (W.tells world.new) (ClosesOne self.old.number) }
         ensures treats { Makes (W.tells world.old) (W.tells world.new) (λ made. (config : Config) (now : ℕ) (aged : Bool) (past : List Entry)
             → CoreHolds config now aged None self.old.flows.flows past → self.old.config ≡ config → Treats (is_refused config guest peer (book config past)) guest peer self.old self.new made) }
         ensures turn { self.new.flows.turn ≡ self.old.flows.turn }

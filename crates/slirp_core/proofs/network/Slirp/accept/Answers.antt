@@ -1,4 +1,8 @@
-use Rattle.std.proofs.Common.{[], ◌∷◌, ◌++◌, ◌≡◌, ◌<◌, ℕ, Bool, false, List, Some, None, length, slice_get, refl, sym, ◌∙◌, ap, subst, arith}
+use Rattle.std.proofs.Common.{[], ◌∷◌, ◌++◌, ◌≡◌, ◌<◌, ◌&&◌, nat_lt, ℕ, Bool, true, false, List, Some, None, length, slice_get, refl, sym, ◌∙◌, ap, subst, arith}
+use Rattle.std.specs.Option.{option_map_or}
+use Rattle.host_policy.specs.Ranges.{same_proto}
+use Rattle.host_policy.specs.declared.Proto.TheVariants.{Tcp}
+use Rattle.slirp_core.specs.Forwards.{is_over}
 use Rattle.std.proofs.lemmas.Bool.Decides.{nat_tests}
 use Rattle.world_face.specs.Journal.{Accept, AreAllowed, Entry}
 use Rattle.world_face.specs.declared.Accepted.TheVariants.{From}
@@ -10,7 +14,7 @@ use Rattle.flow_book.specs.Book.{book, is_refused}
 use Rattle.spliced_flows.specs.Core.{CoreHolds}
 use Rattle.slirp_core.specs.Holds.{Holds, flowing, standing}
 use Rattle.slirp_core.specs.State.{SlirpState}
-use Rattle.slirp_core.specs.Visits.{Treats}
+use Rattle.slirp_core.specs.Visits.{AsksForPeer, ClosesOne, Treats}
 use Rattle.slirp_core.proofs.Associating.{passes_over}
 use Rattle.slirp_core.proofs.Counted.{grown}
 use Rattle.slirp_core.proofs.Telling.{brings_allowed}
@@ -33,6 +37,7 @@ returns-in-NotYet g c =
       makes = λ config count wants item items link reads_it.
           subst (λ (s : SlirpState). Brings (g.W.World.tells c.args.world.now) (g.W.World.tells c.accept.new.self) (Holds config (standing count wants (item ∷ items)) s (flowing false s.flows) link) (Holds config (standing count wants items) s (flowing false s.flows) link)) c.self.view_is
           (passed_by _ _ config count wants item items c.args.listener reads_it slirp link room c.in-Some.forward c.in-Some.field-0-1 (sym c.at.ensures ∙ c.in-Some.is) c.in-Tcp.is c.accept.result c.in-NotYet.is c.accept.ensures);
+      asks = λ awaited. makes_one _ _ _ _ (subst (λ (s : SlirpState). Answers (g.W.World.tells c.args.world.now) (g.W.World.tells c.accept.new.self) (Accept c.args.listener s.number c.accept.result)) c.self.view_is c.accept.ensures) (λ allowed. (c.accept.result, false, refl));
       counts = grown _ _ _ c.accept.ensures.counted;
       number = omega arith;
       turn = refl;
@@ -68,3 +73,40 @@ returns-in-From-clause-counts g c =
 
 pub returns-in-Udp-clause-makes : goal.returns-in-Udp-clause-makes
 returns-in-Udp-clause-makes g c config count wants item items link reads_it = brings_none (λ past holds. passes_over config count wants item items c.args.self.now (flowing false c.args.self.now.flows) link past holds)
+
+-- where a test fails none is awaited
+none_awaited : (a b : Bool) → a ≡ false → (a && b) ≡ true → false ≡ true
+none_awaited true b is awaited = sym is ∙ refl
+none_awaited false b is awaited = awaited
+
+not_here : (a b : Bool) → b ≡ false → (a && b) ≡ true → false ≡ true
+not_here true b is awaited = sym is ∙ awaited
+not_here false b is awaited = awaited
+
+pub returns-then-not-has_room-clause-asks : goal.returns-then-not-has_room-clause-asks
+returns-then-not-has_room-clause-asks g c awaited =
+    let full = c.if-not-has_room.ensures in
+    let never : false ≡ true = none_awaited (nat_lt (in_use_slots c.args.self.now.flows.flows.table.slots) (length c.args.self.now.flows.flows.table.slots)) (option_map_or (is_over Tcp) (slice_get c.args.self.now.forwards c.args.listener) false)
+    (subst (λ (s : SlirpState). nat_lt (in_use_slots s.flows.flows.table.slots) (length s.flows.flows.table.slots) ≡ false) c.self.view_is (sym full)) awaited in
+    absurd cc
+
+pub returns-in_default-clause-asks : goal.returns-in_default-clause-asks
+returns-in_default-clause-asks g c awaited =
+    let none = subst (λ (s : SlirpState). slice_get s.forwards c.args.listener ≡ None) c.self.view_is (sym c.at.ensures ∙ c.in_default.is) in
+    let never : false ≡ true = not_here (nat_lt (in_use_slots c.args.self.now.flows.flows.table.slots) (length c.args.self.now.flows.flows.table.slots)) (option_map_or (is_over Tcp) (slice_get c.args.self.now.forwards c.args.listener) false)
+    (ap (λ o. option_map_or (is_over Tcp) o false) none) awaited in
+    absurd cc
+
+pub returns-in-Udp-clause-asks : goal.returns-in-Udp-clause-asks
+returns-in-Udp-clause-asks g c awaited =
+    let some = subst (λ (s : SlirpState). slice_get s.forwards c.args.listener ≡ Some (c.in-Some.forward, c.in-Some.field-0-1)) c.self.view_is (sym c.at.ensures ∙ c.in-Some.is) in
+    let never : false ≡ true = not_here (nat_lt (in_use_slots c.args.self.now.flows.flows.table.slots) (length c.args.self.now.flows.flows.table.slots)) (option_map_or (is_over Tcp) (slice_get c.args.self.now.forwards c.args.listener) false)
+    (ap (λ o. option_map_or (is_over Tcp) o false) some ∙ ap (same_proto Tcp) c.in-Udp.is) awaited in
+    absurd cc
+
+pub returns-in-From-clause-asks : goal.returns-in-From-clause-asks
+returns-in-From-clause-asks g c awaited =
+    let slirp = c.args.self.now in
+    makes_then _ _ _ (λ made. made ≡ Accept c.args.listener slirp.number (From c.in-From.peer) ∷ []) (ClosesOne slirp.number) (AsksForPeer c.args.listener slirp.number)
+    (makes_one _ _ _ _ (subst (λ (s : SlirpState). Answers (g.W.World.tells c.args.world.now) (g.W.World.tells c.accept.new.self) (Accept c.args.listener s.number (From c.in-From.peer))) c.self.view_is c.in-From.ensures) (λ allowed. refl)) c.welcome.ensures.closes
+    (λ one more is (closed, closes). (From c.in-From.peer, closed, λ i. closes i ++ is i))

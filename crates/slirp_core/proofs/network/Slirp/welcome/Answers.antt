@@ -1,4 +1,4 @@
-use Rattle.std.proofs.Common.{◌+◌, ◌<◌, [], ◌∷◌, length, refl, sym, ap, subst, arith}
+use Rattle.std.proofs.Common.{true, false, ◌+◌, ◌<◌, [], ◌∷◌, length, refl, sym, ap, subst, arith}
 use Rattle.world_face.specs.Journal.{Close}
 use Rattle.world_face.proofs.Telling.{makes_none, makes_one}
 use Rattle.arp_table.specs.Table.{mac_of as learnt_for}
@@ -46,3 +46,9 @@ pub invariant_of-self : goal.invariant_of-self
 invariant_of-self g c =
     let i = c.self.inside in
     (below_up i.number i.associations.list c.self.invariant.0, c.self.invariant.1, c.self.invariant.2, drawn_up i.number (i.number + 1) i.flows (omega arith) c.self.invariant.3, c.self.invariant.4, c.self.invariant.5, asked_up i.number (i.number + 1) i.policy i.questions (omega arith) c.self.invariant.6)
+
+pub returns-in_default-clause-closes : goal.returns-in_default-clause-closes
+returns-in_default-clause-closes g c = makes_one _ _ _ _ c.close.ensures (λ allowed. (true, ap (λ (s : SlirpState). Close s.number ∷ []) c.self.view_is))
+
+pub returns-clause-closes : goal.returns-clause-closes
+returns-clause-closes g c = makes_none _ _ (false, refl)
