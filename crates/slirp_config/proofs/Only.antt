@@ -72,6 +72,7 @@ one_settings given rules c d h g hf gf =
     let domainname : c.domainname ≡ d.domainname = h.domainname ∙ sym g.domainname in
     let tftp_server_name : c.tftp_server_name ≡ d.tftp_server_name = h.tftp_server_name ∙ sym g.tftp_server_name in
     let bootfile : c.bootfile ≡ d.bootfile = h.bootfile ∙ sym g.bootfile in
+    let tftp_path : c.tftp_path ≡ d.tftp_path = h.tftp_path ∙ sym g.tftp_path in
     let mtu : c.mtu ≡ d.mtu = one_of (given (codes "--mtu")) usual.mtu usual.mtu (IsNumber 16) refl same_short c.mtu d.mtu h.mtu g.mtu in
     let mru : c.mru ≡ d.mru = one_of (given (codes "--mru")) usual.mru usual.mru (IsNumber 16) refl same_short c.mru d.mru h.mru g.mru in
     let flows : c.flows ≡ d.flows = one_of (given (codes "--flows")) usual.flows usual.flows (IsNumber 64) refl same_long c.flows d.flows h.flows g.flows in
@@ -85,29 +86,30 @@ one_settings given rules c d h g hf gf =
     let version : c.version ≡ d.version = h.version ∙ sym g.version in
     let forwards : c.forwards ≡ d.forwards = same_forwards rules d.dhcp_start c.forwards d.forwards (subst (λ (n : ℕ). AreRules rules n c.forwards) dhcp_start hf) gf in
     h.rest
-    ∙ ap (λ (x : ℕ). made usual x c.mask c.vhost c.vnameserver c.dhcp_start c.restricted c.no_loopback c.hostname c.domainname c.tftp_server_name c.bootfile c.mtu c.mru c.flows c.ring c.resolver c.turns c.outbound c.no_dns c.no_dhcp c.congestion c.version c.forwards) network
-    ∙ ap (λ (x : ℕ). made usual d.network x c.vhost c.vnameserver c.dhcp_start c.restricted c.no_loopback c.hostname c.domainname c.tftp_server_name c.bootfile c.mtu c.mru c.flows c.ring c.resolver c.turns c.outbound c.no_dns c.no_dhcp c.congestion c.version c.forwards) mask
-    ∙ ap (λ (x : ℕ). made usual d.network d.mask x c.vnameserver c.dhcp_start c.restricted c.no_loopback c.hostname c.domainname c.tftp_server_name c.bootfile c.mtu c.mru c.flows c.ring c.resolver c.turns c.outbound c.no_dns c.no_dhcp c.congestion c.version c.forwards) vhost
-    ∙ ap (λ (x : ℕ). made usual d.network d.mask d.vhost x c.dhcp_start c.restricted c.no_loopback c.hostname c.domainname c.tftp_server_name c.bootfile c.mtu c.mru c.flows c.ring c.resolver c.turns c.outbound c.no_dns c.no_dhcp c.congestion c.version c.forwards) vnameserver
-    ∙ ap (λ (x : ℕ). made usual d.network d.mask d.vhost d.vnameserver x c.restricted c.no_loopback c.hostname c.domainname c.tftp_server_name c.bootfile c.mtu c.mru c.flows c.ring c.resolver c.turns c.outbound c.no_dns c.no_dhcp c.congestion c.version c.forwards) dhcp_start
-    ∙ ap (λ (x : Bool). made usual d.network d.mask d.vhost d.vnameserver d.dhcp_start x c.no_loopback c.hostname c.domainname c.tftp_server_name c.bootfile c.mtu c.mru c.flows c.ring c.resolver c.turns c.outbound c.no_dns c.no_dhcp c.congestion c.version c.forwards) restricted
-    ∙ ap (λ (x : Bool). made usual d.network d.mask d.vhost d.vnameserver d.dhcp_start d.restricted x c.hostname c.domainname c.tftp_server_name c.bootfile c.mtu c.mru c.flows c.ring c.resolver c.turns c.outbound c.no_dns c.no_dhcp c.congestion c.version c.forwards) no_loopback
-    ∙ ap (λ (x : List ℕ). made usual d.network d.mask d.vhost d.vnameserver d.dhcp_start d.restricted d.no_loopback x c.domainname c.tftp_server_name c.bootfile c.mtu c.mru c.flows c.ring c.resolver c.turns c.outbound c.no_dns c.no_dhcp c.congestion c.version c.forwards) hostname
-    ∙ ap (λ (x : List ℕ). made usual d.network d.mask d.vhost d.vnameserver d.dhcp_start d.restricted d.no_loopback d.hostname x c.tftp_server_name c.bootfile c.mtu c.mru c.flows c.ring c.resolver c.turns c.outbound c.no_dns c.no_dhcp c.congestion c.version c.forwards) domainname
-    ∙ ap (λ (x : List ℕ). made usual d.network d.mask d.vhost d.vnameserver d.dhcp_start d.restricted d.no_loopback d.hostname d.domainname x c.bootfile c.mtu c.mru c.flows c.ring c.resolver c.turns c.outbound c.no_dns c.no_dhcp c.congestion c.version c.forwards) tftp_server_name
-    ∙ ap (λ (x : List ℕ). made usual d.network d.mask d.vhost d.vnameserver d.dhcp_start d.restricted d.no_loopback d.hostname d.domainname d.tftp_server_name x c.mtu c.mru c.flows c.ring c.resolver c.turns c.outbound c.no_dns c.no_dhcp c.congestion c.version c.forwards) bootfile
-    ∙ ap (λ (x : ℕ). made usual d.network d.mask d.vhost d.vnameserver d.dhcp_start d.restricted d.no_loopback d.hostname d.domainname d.tftp_server_name d.bootfile x c.mru c.flows c.ring c.resolver c.turns c.outbound c.no_dns c.no_dhcp c.congestion c.version c.forwards) mtu
-    ∙ ap (λ (x : ℕ). made usual d.network d.mask d.vhost d.vnameserver d.dhcp_start d.restricted d.no_loopback d.hostname d.domainname d.tftp_server_name d.bootfile d.mtu x c.flows c.ring c.resolver c.turns c.outbound c.no_dns c.no_dhcp c.congestion c.version c.forwards) mru
-    ∙ ap (λ (x : ℕ). made usual d.network d.mask d.vhost d.vnameserver d.dhcp_start d.restricted d.no_loopback d.hostname d.domainname d.tftp_server_name d.bootfile d.mtu d.mru x c.ring c.resolver c.turns c.outbound c.no_dns c.no_dhcp c.congestion c.version c.forwards) flows
-    ∙ ap (λ (x : ℕ). made usual d.network d.mask d.vhost d.vnameserver d.dhcp_start d.restricted d.no_loopback d.hostname d.domainname d.tftp_server_name d.bootfile d.mtu d.mru d.flows x c.resolver c.turns c.outbound c.no_dns c.no_dhcp c.congestion c.version c.forwards) ring
-    ∙ ap (λ (x : Option Endpoint). made usual d.network d.mask d.vhost d.vnameserver d.dhcp_start d.restricted d.no_loopback d.hostname d.domainname d.tftp_server_name d.bootfile d.mtu d.mru d.flows d.ring x c.turns c.outbound c.no_dns c.no_dhcp c.congestion c.version c.forwards) resolver
-    ∙ ap (λ (x : ℕ). made usual d.network d.mask d.vhost d.vnameserver d.dhcp_start d.restricted d.no_loopback d.hostname d.domainname d.tftp_server_name d.bootfile d.mtu d.mru d.flows d.ring d.resolver x c.outbound c.no_dns c.no_dhcp c.congestion c.version c.forwards) turns
-    ∙ ap (λ (x : Option ℕ). made usual d.network d.mask d.vhost d.vnameserver d.dhcp_start d.restricted d.no_loopback d.hostname d.domainname d.tftp_server_name d.bootfile d.mtu d.mru d.flows d.ring d.resolver d.turns x c.no_dns c.no_dhcp c.congestion c.version c.forwards) outbound
-    ∙ ap (λ (x : Bool). made usual d.network d.mask d.vhost d.vnameserver d.dhcp_start d.restricted d.no_loopback d.hostname d.domainname d.tftp_server_name d.bootfile d.mtu d.mru d.flows d.ring d.resolver d.turns d.outbound x c.no_dhcp c.congestion c.version c.forwards) no_dns
-    ∙ ap (λ (x : Bool). made usual d.network d.mask d.vhost d.vnameserver d.dhcp_start d.restricted d.no_loopback d.hostname d.domainname d.tftp_server_name d.bootfile d.mtu d.mru d.flows d.ring d.resolver d.turns d.outbound d.no_dns x c.congestion c.version c.forwards) no_dhcp
-    ∙ ap (λ (x : Bool). made usual d.network d.mask d.vhost d.vnameserver d.dhcp_start d.restricted d.no_loopback d.hostname d.domainname d.tftp_server_name d.bootfile d.mtu d.mru d.flows d.ring d.resolver d.turns d.outbound d.no_dns d.no_dhcp x c.version c.forwards) congestion
-    ∙ ap (λ (x : ℕ). made usual d.network d.mask d.vhost d.vnameserver d.dhcp_start d.restricted d.no_loopback d.hostname d.domainname d.tftp_server_name d.bootfile d.mtu d.mru d.flows d.ring d.resolver d.turns d.outbound d.no_dns d.no_dhcp d.congestion x c.forwards) version
-    ∙ ap (λ (x : List Forward). made usual d.network d.mask d.vhost d.vnameserver d.dhcp_start d.restricted d.no_loopback d.hostname d.domainname d.tftp_server_name d.bootfile d.mtu d.mru d.flows d.ring d.resolver d.turns d.outbound d.no_dns d.no_dhcp d.congestion d.version x) forwards
+    ∙ ap (λ (x : ℕ). made usual x c.mask c.vhost c.vnameserver c.dhcp_start c.restricted c.no_loopback c.hostname c.domainname c.tftp_server_name c.bootfile c.tftp_path c.mtu c.mru c.flows c.ring c.resolver c.turns c.outbound c.no_dns c.no_dhcp c.congestion c.version c.forwards) network
+    ∙ ap (λ (x : ℕ). made usual d.network x c.vhost c.vnameserver c.dhcp_start c.restricted c.no_loopback c.hostname c.domainname c.tftp_server_name c.bootfile c.tftp_path c.mtu c.mru c.flows c.ring c.resolver c.turns c.outbound c.no_dns c.no_dhcp c.congestion c.version c.forwards) mask
+    ∙ ap (λ (x : ℕ). made usual d.network d.mask x c.vnameserver c.dhcp_start c.restricted c.no_loopback c.hostname c.domainname c.tftp_server_name c.bootfile c.tftp_path c.mtu c.mru c.flows c.ring c.resolver c.turns c.outbound c.no_dns c.no_dhcp c.congestion c.version c.forwards) vhost
+    ∙ ap (λ (x : ℕ). made usual d.network d.mask d.vhost x c.dhcp_start c.restricted c.no_loopback c.hostname c.domainname c.tftp_server_name c.bootfile c.tftp_path c.mtu c.mru c.flows c.ring c.resolver c.turns c.outbound c.no_dns c.no_dhcp c.congestion c.version c.forwards) vnameserver
+    ∙ ap (λ (x : ℕ). made usual d.network d.mask d.vhost d.vnameserver x c.restricted c.no_loopback c.hostname c.domainname c.tftp_server_name c.bootfile c.tftp_path c.mtu c.mru c.flows c.ring c.resolver c.turns c.outbound c.no_dns c.no_dhcp c.congestion c.version c.forwards) dhcp_start
+    ∙ ap (λ (x : Bool). made usual d.network d.mask d.vhost d.vnameserver d.dhcp_start x c.no_loopback c.hostname c.domainname c.tftp_server_name c.bootfile c.tftp_path c.mtu c.mru c.flows c.ring c.resolver c.turns c.outbound c.no_dns c.no_dhcp c.congestion c.version c.forwards) restricted
+    ∙ ap (λ (x : Bool). made usual d.network d.mask d.vhost d.vnameserver d.dhcp_start d.restricted x c.hostname c.domainname c.tftp_server_name c.bootfile c.tftp_path c.mtu c.mru c.flows c.ring c.resolver c.turns c.outbound c.no_dns c.no_dhcp c.congestion c.version c.forwards) no_loopback
+    ∙ ap (λ (x : List ℕ). made usual d.network d.mask d.vhost d.vnameserver d.dhcp_start d.restricted d.no_loopback x c.domainname c.tftp_server_name c.bootfile c.tftp_path c.mtu c.mru c.flows c.ring c.resolver c.turns c.outbound c.no_dns c.no_dhcp c.congestion c.version c.forwards) hostname
+    ∙ ap (λ (x : List ℕ). made usual d.network d.mask d.vhost d.vnameserver d.dhcp_start d.restricted d.no_loopback d.hostname x c.tftp_server_name c.bootfile c.tftp_path c.mtu c.mru c.flows c.ring c.resolver c.turns c.outbound c.no_dns c.no_dhcp c.congestion c.version c.forwards) domainname
+    ∙ ap (λ (x : List ℕ). made usual d.network d.mask d.vhost d.vnameserver d.dhcp_start d.restricted d.no_loopback d.hostname d.domainname x c.bootfile c.tftp_path c.mtu c.mru c.flows c.ring c.resolver c.turns c.outbound c.no_dns c.no_dhcp c.congestion c.version c.forwards) tftp_server_name
+    ∙ ap (λ (x : List ℕ). made usual d.network d.mask d.vhost d.vnameserver d.dhcp_start d.restricted d.no_loopback d.hostname d.domainname d.tftp_server_name x c.tftp_path c.mtu c.mru c.flows c.ring c.resolver c.turns c.outbound c.no_dns c.no_dhcp c.congestion c.version c.forwards) bootfile
+    ∙ ap (λ (x : Option (List ℕ)). made usual d.network d.mask d.vhost d.vnameserver d.dhcp_start d.restricted d.no_loopback d.hostname d.domainname d.tftp_server_name d.bootfile x c.mtu c.mru c.flows c.ring c.resolver c.turns c.outbound c.no_dns c.no_dhcp c.congestion c.version c.forwards) tftp_path
+    ∙ ap (λ (x : ℕ). made usual d.network d.mask d.vhost d.vnameserver d.dhcp_start d.restricted d.no_loopback d.hostname d.domainname d.tftp_server_name d.bootfile d.tftp_path x c.mru c.flows c.ring c.resolver c.turns c.outbound c.no_dns c.no_dhcp c.congestion c.version c.forwards) mtu
+    ∙ ap (λ (x : ℕ). made usual d.network d.mask d.vhost d.vnameserver d.dhcp_start d.restricted d.no_loopback d.hostname d.domainname d.tftp_server_name d.bootfile d.tftp_path d.mtu x c.flows c.ring c.resolver c.turns c.outbound c.no_dns c.no_dhcp c.congestion c.version c.forwards) mru
+    ∙ ap (λ (x : ℕ). made usual d.network d.mask d.vhost d.vnameserver d.dhcp_start d.restricted d.no_loopback d.hostname d.domainname d.tftp_server_name d.bootfile d.tftp_path d.mtu d.mru x c.ring c.resolver c.turns c.outbound c.no_dns c.no_dhcp c.congestion c.version c.forwards) flows
+    ∙ ap (λ (x : ℕ). made usual d.network d.mask d.vhost d.vnameserver d.dhcp_start d.restricted d.no_loopback d.hostname d.domainname d.tftp_server_name d.bootfile d.tftp_path d.mtu d.mru d.flows x c.resolver c.turns c.outbound c.no_dns c.no_dhcp c.congestion c.version c.forwards) ring
+    ∙ ap (λ (x : Option Endpoint). made usual d.network d.mask d.vhost d.vnameserver d.dhcp_start d.restricted d.no_loopback d.hostname d.domainname d.tftp_server_name d.bootfile d.tftp_path d.mtu d.mru d.flows d.ring x c.turns c.outbound c.no_dns c.no_dhcp c.congestion c.version c.forwards) resolver
+    ∙ ap (λ (x : ℕ). made usual d.network d.mask d.vhost d.vnameserver d.dhcp_start d.restricted d.no_loopback d.hostname d.domainname d.tftp_server_name d.bootfile d.tftp_path d.mtu d.mru d.flows d.ring d.resolver x c.outbound c.no_dns c.no_dhcp c.congestion c.version c.forwards) turns
+    ∙ ap (λ (x : Option ℕ). made usual d.network d.mask d.vhost d.vnameserver d.dhcp_start d.restricted d.no_loopback d.hostname d.domainname d.tftp_server_name d.bootfile d.tftp_path d.mtu d.mru d.flows d.ring d.resolver d.turns x c.no_dns c.no_dhcp c.congestion c.version c.forwards) outbound
+    ∙ ap (λ (x : Bool). made usual d.network d.mask d.vhost d.vnameserver d.dhcp_start d.restricted d.no_loopback d.hostname d.domainname d.tftp_server_name d.bootfile d.tftp_path d.mtu d.mru d.flows d.ring d.resolver d.turns d.outbound x c.no_dhcp c.congestion c.version c.forwards) no_dns
+    ∙ ap (λ (x : Bool). made usual d.network d.mask d.vhost d.vnameserver d.dhcp_start d.restricted d.no_loopback d.hostname d.domainname d.tftp_server_name d.bootfile d.tftp_path d.mtu d.mru d.flows d.ring d.resolver d.turns d.outbound d.no_dns x c.congestion c.version c.forwards) no_dhcp
+    ∙ ap (λ (x : Bool). made usual d.network d.mask d.vhost d.vnameserver d.dhcp_start d.restricted d.no_loopback d.hostname d.domainname d.tftp_server_name d.bootfile d.tftp_path d.mtu d.mru d.flows d.ring d.resolver d.turns d.outbound d.no_dns d.no_dhcp x c.version c.forwards) congestion
+    ∙ ap (λ (x : ℕ). made usual d.network d.mask d.vhost d.vnameserver d.dhcp_start d.restricted d.no_loopback d.hostname d.domainname d.tftp_server_name d.bootfile d.tftp_path d.mtu d.mru d.flows d.ring d.resolver d.turns d.outbound d.no_dns d.no_dhcp d.congestion x c.forwards) version
+    ∙ ap (λ (x : List Forward). made usual d.network d.mask d.vhost d.vnameserver d.dhcp_start d.restricted d.no_loopback d.hostname d.domainname d.tftp_server_name d.bootfile d.tftp_path d.mtu d.mru d.flows d.ring d.resolver d.turns d.outbound d.no_dns d.no_dhcp d.congestion d.version x) forwards
     ∙ sym g.rest
 
 -- the link is at one place

@@ -6,8 +6,8 @@ use Rattle.host_policy.specs.declared.Forward.{Forward}
 use Rattle.slirp_config.specs.Meaning.{AreSettings}
 use Rattle.slirp_config.specs.Options.{Word}
 
-abbrev pub made : Config → (network mask vhost vnameserver dhcp_start : ℕ) (restricted no_loopback : Bool) (hostname domainname tftp_server_name bootfile : List ℕ) (mtu mru flows ring : ℕ) (resolver : Option Endpoint) (turns : ℕ) (outbound : Option ℕ) (no_dns no_dhcp congestion : Bool) (version : ℕ) (forwards : List Forward) → Config
-made base network mask vhost vnameserver dhcp_start restricted no_loopback hostname domainname tftp_server_name bootfile mtu mru flows ring resolver turns outbound no_dns no_dhcp congestion version forwards = record base {
+abbrev pub made : Config → (network mask vhost vnameserver dhcp_start : ℕ) (restricted no_loopback : Bool) (hostname domainname tftp_server_name bootfile : List ℕ) (tftp_path : Option (List ℕ)) (mtu mru flows ring : ℕ) (resolver : Option Endpoint) (turns : ℕ) (outbound : Option ℕ) (no_dns no_dhcp congestion : Bool) (version : ℕ) (forwards : List Forward) → Config
+made base network mask vhost vnameserver dhcp_start restricted no_loopback hostname domainname tftp_server_name bootfile tftp_path mtu mru flows ring resolver turns outbound no_dns no_dhcp congestion version forwards = record base {
   network = network;
   mask = mask;
   vhost = vhost;
@@ -19,6 +19,7 @@ made base network mask vhost vnameserver dhcp_start restricted no_loopback hostn
   domainname = domainname;
   tftp_server_name = tftp_server_name;
   bootfile = bootfile;
+  tftp_path = tftp_path;
   mtu = mtu;
   mru = mru;
   flows = flows;
@@ -46,6 +47,7 @@ with_forwards given config forwards are = record {
   domainname = are.domainname;
   tftp_server_name = are.tftp_server_name;
   bootfile = are.bootfile;
+  tftp_path = are.tftp_path;
   mtu = are.mtu;
   mru = are.mru;
   flows = are.flows;

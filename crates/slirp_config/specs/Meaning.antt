@@ -1,6 +1,6 @@
 -- What the words of a command line mean.
 use Rattle.std.specs.Prelude.{◌≡◌, ℕ, ◌+◌, ◌%◌, ◌^◌, ◌<◌, ◌≤◌, ◌||◌, List, [], ◌∷◌, length, codes, Option, Some, None, is_some, Result, Ok, Err, MatchOption, if◌then◌else◌}
-use Rattle.std.specs.Option.{option_map_or}
+use Rattle.std.specs.Option.{option_map, option_map_or}
 use Rattle.net_octets.specs.declared.Endpoint.{Endpoint}
 use Rattle.host_policy.specs.Addresses.{Config}
 use Rattle.host_policy.specs.Settings.{settings, usual}
@@ -13,7 +13,7 @@ use Rattle.slirp_config.specs.declared.WordFault.TheVariants.{BadConfig}
 use Rattle.slirp_config.specs.declared.options.Verb.TheVariants.{Replay, Serve}
 use Rattle.slirp_config.specs.Options.{Word, Line, IsLine, line_words, words_alone, value_of}
 use Rattle.slirp_config.specs.Rules.{AreRules}
-use Rattle.slirp_config.specs.Texts.{IsNumber, IsAddress, IsNetwork, IsEndpointText, IsLink, held_text}
+use Rattle.slirp_config.specs.Texts.{IsNumber, IsAddress, IsNetwork, IsEndpointText, IsLink, held_folder, held_text}
 
 -- A schedule in a file is replayed, or the link at a place is served, with these settings.
 pub data Meaning : Type 0 where
@@ -40,6 +40,7 @@ pub record AreSettings (given : Word → Option Word) (config : Config) : Type 0
   pub domainname : config.domainname ≡ option_map_or held_text (given (codes "--domainname")) []
   pub tftp_server_name : config.tftp_server_name ≡ option_map_or held_text (given (codes "--tftp-server-name")) []
   pub bootfile : config.bootfile ≡ option_map_or held_text (given (codes "--bootfile")) []
+  pub tftp_path : config.tftp_path ≡ option_map held_folder (given (codes "--tftp"))
   pub mtu : MatchOption (given (codes "--mtu")) (config.mtu ≡ usual.mtu) (λ text. IsNumber 16 text config.mtu)
   pub mru : MatchOption (given (codes "--mru")) (config.mru ≡ usual.mru) (λ text. IsNumber 16 text config.mru)
   pub flows : MatchOption (given (codes "--flows")) (config.flows ≡ usual.flows) (λ text. IsNumber 64 text config.flows)
@@ -63,6 +64,7 @@ pub record AreSettings (given : Word → Option Word) (config : Config) : Type 0
     domainname = config.domainname;
     tftp_server_name = config.tftp_server_name;
     bootfile = config.bootfile;
+    tftp_path = config.tftp_path;
     mtu = config.mtu;
     mru = config.mru;
     flows = config.flows;

@@ -46,6 +46,7 @@ rows =
     ∷ valued (codes "--resolver")
     ∷ flag (codes "--no-dns")
     ∷ valued (codes "--outbound")
+    ∷ valued (codes "--tftp")
     ∷ []
 
 abbrev pub has_row : Verb → Row → Bool

@@ -42,9 +42,15 @@ IsLinkPlace (AtEndpoint at) = IsEndpoint at
 abbrev pub IsLink : (text : List ℕ) (at : Place) → Type 0
 IsLink text at = (text ≡ link_text at) × IsLinkPlace at
 
--- a text as the settings hold it. One of over 127 octets isn't held: in its place stands an octet that no text has, for which its field is refused
+-- a text as the settings hold it. One of more octets than there is room for isn't held: in its place stands an octet that no text has, for which its field is refused
+abbrev pub held : (room : ℕ) → List ℕ → List ℕ
+held room text = if nat_le (length text) room then text else 0 ∷ []
+
 abbrev pub held_text : List ℕ → List ℕ
-held_text text = if nat_le (length text) 127 then text else 0 ∷ []
+held_text text = held 127 text
+
+abbrev pub held_folder : List ℕ → List ℕ
+held_folder text = held 1024 text
 
 -- any octet but this one
 abbrev pub is_other : ℕ → ℕ → Bool

@@ -16,12 +16,13 @@
 //! | `--flows`, `--ring`, `--turns` | a number up to 2^64 - 1 | 256, 65,535, 2^44 |
 //! | `--resolver` | an endpoint: an address, `:` and a number up to 65,535 | none |
 //! | `--outbound` | an address | none |
+//! | `--tftp` | a folder: a text | none |
 //!
 //! RULE is `[hostfwd=][tcp|udp]:[hostaddr]:hostport-[guestaddr]:guestport`, with addresses and numbers up to 65,535: this port of the host leads to that one
 //! of a guest, of TCP where no type is said. Without an address it is every one of the host's, 0.0.0.0, and the first that is lent to guests, whether
 //! `--dhcpstart` stands before the RULE or behind it.
 //!
-//! A setting out of its range is named, the first in the order of `host_policy`: a text of over 127 octets too, and more than 32 RULEs. With `--no-dhcp`, `--no-dns` or `--outbound` the settings are of version 2.
+//! A setting out of its range is named, the first in the order of `host_policy`: a text of over 127 octets too, a folder of over 1,024, and more than 32 RULEs. With `--no-dhcp`, `--no-dns` or `--outbound` the settings are of version 2.
 #![tactic(auto)]
 
 mod line;

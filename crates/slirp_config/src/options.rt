@@ -34,7 +34,7 @@ macro_rules! rows {
 }
 
 /// How many options there are.
-pub(crate) const COUNT: usize = 21;
+pub(crate) const COUNT: usize = 22;
 
 const OPTIONS: [Row; COUNT] = rows![
     "--link" value of serve,
@@ -58,6 +58,7 @@ const OPTIONS: [Row; COUNT] = rows![
     "--resolver" value of all,
     "--no-dns" flag of all,
     "--outbound" value of all,
+    "--tftp" value of all,
 ];
 
 /// Whether a value goes with the command's option of this name; None where it has no such option.

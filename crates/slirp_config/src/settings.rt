@@ -7,16 +7,16 @@ ghost use Rattle.net_octets.specs.declared.Endpoint.{Endpoint as AnEndpoint};
 ghost use Rattle.slirp_config.specs.Meaning.{AreSettings, version_of};
 ghost use Rattle.slirp_config.specs.Options.{value_in};
 ghost use Rattle.slirp_config.specs.Rules.{AreRules};
-ghost use Rattle.slirp_config.specs.Texts.{IsAddress, IsEndpointText, IsNetwork, IsNumber, held_text};
+ghost use Rattle.slirp_config.specs.Texts.{IsAddress, IsEndpointText, IsNetwork, IsNumber, held_folder, held_text};
 ghost use Rattle.slirp_config.specs.Narrowing.{narrowed, narrowed_settings};
 ghost use Rattle.slirp_config.specs.Walking.{walk_of};
 
 use crate::line::{Line, NoReading};
 use crate::rules::put_forwards;
 use crate::values::{
-    held_text, read_address, read_endpoint, read_network, read_number, read_short,
+    held_folder, held_text, read_address, read_endpoint, read_network, read_number, read_short,
 };
-use arrayvec::ArrayVec;
+use arrayvec::{ArrayString, ArrayVec};
 use host_policy::SlirpConfig;
 use net_octets::{Endpoint, Ip4};
 
@@ -50,6 +50,7 @@ impl<'a> Line<'a> {
         config.vdomainname = self.text("--domainname");
         config.tftp_server_name = self.text("--tftp-server-name");
         config.bootfile = self.text("--bootfile");
+        config.tftp_path = self.folder();
         config.if_mtu = self.short("--mtu", config.if_mtu)?;
         config.if_mru = self.short("--mru", config.if_mru)?;
         config.flows = narrow(self.number("--flows", config.flows as u64)?);
@@ -93,6 +94,16 @@ impl<'a> Line<'a> {
         match self.value(name) {
             Some(text) => held_text(text.as_bytes()),
             None => ArrayVec::new(),
+        }
+    }
+
+    // The folder of the files that guests may read, where it is given.
+    fn folder(&self) -> Option<ArrayString<1024>>
+        ensures { option_map (λ path. path.bytes) result ≡ option_map held_folder (value_in (walk_of self.now).options (codes "--tftp")) }
+    {
+        match self.value("--tftp") {
+            Some(text) => Some(held_folder(text)),
+            None => None,
         }
     }
 

@@ -5,7 +5,7 @@ ghost use Rattle.std.specs.Str.{IsUtf8};
 ghost use Rattle.net_octets.specs.declared.Endpoint.{Endpoint as AnEndpoint};
 ghost use Rattle.host_policy.specs.Ranges.{mask_of};
 ghost use Rattle.world_face.specs.Journal.{AreOctets, AtPath, IsPlace, Place, place_of as link_place};
-ghost use Rattle.slirp_config.specs.Texts.{IsNumber, IsAddress, IsNetwork, IsLink, IsEndpointText, held_text, is_other, IsReadAs};
+ghost use Rattle.slirp_config.specs.Texts.{IsNumber, IsAddress, IsNetwork, IsLink, IsEndpointText, held_folder, held_text, is_other, IsReadAs};
 
 use crate::line::NoReading;
 use arrayvec::{ArrayString, ArrayVec};
@@ -164,6 +164,20 @@ pub(crate) fn held_text(text: &[u8]) -> ArrayVec<u8, 127>
         Err(_) => {
             let mut refused = ArrayVec::new();
             refused.push(0);
+            refused
+        }
+    }
+}
+
+/// The octets of a folder's name. One of over 1,024 isn't held, as a text isn't of over 127.
+pub(crate) fn held_folder(text: &str) -> ArrayString<1024>
+    ensures { result.bytes ≡ held_folder text.now }
+{
+    match ArrayString::from(text) {
+        Ok(held) => held,
+        Err(_) => {
+            let mut refused = ArrayString::new();
+            refused.push('\0');
             refused
         }
     }

@@ -99,6 +99,9 @@ fn settings_of(alloc: Global, config: &SlirpConfig) -> Result<String, AllocError
         config.tftp_server_name.as_slice(),
     )?;
     push_told(&mut text, ", bootfile ", config.bootfile.as_slice())?;
+    if let Some(folder) = &config.tftp_path {
+        push_told(&mut text, ", tftp ", folder.as_str().as_bytes())?;
+    }
     if let Some(resolver) = config.resolver {
         let addr = dotted(alloc, resolver.addr)?;
         let asked = format!(in alloc; ", resolver {addr}:{}", resolver.port)?;

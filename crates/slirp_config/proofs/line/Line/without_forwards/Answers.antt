@@ -58,7 +58,8 @@ returns-clause-set c =
     let resolver = c.in_ok-config-6.field-0 in
     let turns = c.in_ok-config-7.field-0 in
     let outbound = option_map (λ a. a.0) c.in_ok-config-8.field-0 in
-    let set = λ (u : Config) (f r : ℕ). made u network mask c.in_ok-config.field-0.0 c.in_ok-config-2.field-0.0 c.in_ok-config-3.field-0.0 c.has.result c.has-2.result c.text-config.result.items c.text-config-2.result.items c.text-config-3.result.items c.text-config-4.result.items mtu mru f r resolver turns outbound c.has-3.result c.has-4.result c.has-5.result c.version.result u.forwards in (
+    let folder = option_map (λ path. path.bytes) c.folder-config.result in
+    let set = λ (u : Config) (f r : ℕ). made u network mask c.in_ok-config.field-0.0 c.in_ok-config-2.field-0.0 c.in_ok-config-3.field-0.0 c.has.result c.has-2.result c.text-config.result.items c.text-config-2.result.items c.text-config-3.result.items c.text-config-4.result.items folder mtu mru f r resolver turns outbound c.has-3.result c.has-4.result c.has-5.result c.version.result u.forwards in (
       set usual flows ring,
       record {
         net = match_default (given (codes "--net")) ((network ≡ base.vnetwork.0) × (mask ≡ base.vnetmask.0)) ((network ≡ usual.network) × (mask ≡ usual.mask)) (λ text. IsNetwork text network mask) (λ d. (d.0 ∙ ap (λ (u : Config). u.network) is, d.1 ∙ ap (λ (u : Config). u.mask) is)) c.in_ok-network.ensures.read;
@@ -71,6 +72,7 @@ returns-clause-set c =
         domainname = c.text-config-2.ensures;
         tftp_server_name = c.text-config-3.ensures;
         bootfile = c.text-config-4.ensures;
+        tftp_path = c.folder-config.ensures;
         mtu = match_default (given (codes "--mtu")) (mtu ≡ base.if_mtu) (mtu ≡ usual.mtu) (λ text. IsNumber 16 text mtu) (λ d. d ∙ ap (λ (u : Config). u.mtu) is) c.in_ok-config-4.ensures.read;
         mru = match_default (given (codes "--mru")) (mru ≡ base.if_mru) (mru ≡ usual.mru) (λ text. IsNumber 16 text mru) (λ d. d ∙ ap (λ (u : Config). u.mru) is) c.in_ok-config-5.ensures.read;
         flows = match_default (given (codes "--flows")) (flows ≡ base.flows) (flows ≡ usual.flows) (λ text. IsNumber 64 text flows) (λ d. d ∙ ap (λ (u : Config). u.flows) is) c.in_ok-number.ensures.read;
