@@ -364,6 +364,16 @@ impl Timers {
         requires { slot < length self.old }
         ensures { self.new ≡ slice_set self.old slot (Some at) }
     {
+        if self.moments[slot] != Some(at) {
+            self.put(slot, at);
+        }
+    }
+
+    // The timer of a slot runs until another moment.
+    fn put(&mut self, slot: usize, at: u64)
+        requires { slot < length self.old }
+        ensures { self.new ≡ slice_set self.old slot (Some at) }
+    {
         stop(&self.moments, &mut self.row, slot);
         insert_timer(&mut self.row, SlotTimer { slot, at });
         self.moments[slot] = Some(at);
@@ -371,6 +381,16 @@ impl Timers {
 
     /// Stops the timer of a slot, if it runs.
     pub fn clear(&mut self, slot: usize)
+        requires { slot < length self.old }
+        ensures { self.new ≡ slice_set self.old slot None }
+    {
+        if self.moments[slot].is_some() {
+            self.take_out(slot);
+        }
+    }
+
+    // The timer of a slot, which runs, is stopped.
+    fn take_out(&mut self, slot: usize)
         requires { slot < length self.old }
         ensures { self.new ≡ slice_set self.old slot None }
     {

@@ -2,7 +2,7 @@ use Rattle.std.proofs.Common.{subst, arith, List, Option, ℕ, None}
 use Rattle.std.specs.Prelude.{slice_set}
 use Rattle.retransmit.specs.Rows.{AreTimers}
 use Rattle.retransmit.proofs.Rowing.{set_row, row_room}
-use Rattle.retransmit.proofs.Timers.set.Goals as goal
+use Rattle.retransmit.proofs.Timers.put.Goals as goal
 
 pub insert_timer-requires-clause-room : goal.insert_timer-requires-clause-room
 insert_timer-requires-clause-room c =
