@@ -42,7 +42,7 @@ impl Model for Wants {
 }
 
 impl Wants {
-    ghost use Rattle.std.specs.Prelude.{◌≡◌, ◌<◌, [], ◌∷◌, ◌++◌, IfOk, length};
+    ghost use Rattle.std.specs.Prelude.{◌≡◌, ◌<◌, [], ◌∷◌, ◌++◌, IfOk, length, take};
 
     /// An empty list with room for `capacity` wants.
     pub fn open(alloc: Global, capacity: usize) -> Result<Wants, AllocError>
@@ -70,6 +70,14 @@ impl Wants {
         ensures capacity { self.new.capacity ≡ self.old.capacity }
     {
         self.list.push_reserved(w);
+    }
+
+    /// Takes away all but the first `len`; nothing where there are no more.
+    pub fn truncate(&mut self, len: usize)
+        ensures items { self.new.items ≡ take len self.old.items }
+        ensures capacity { self.new.capacity ≡ self.old.capacity }
+    {
+        self.list.truncate(len);
     }
 
     pub fn items(&self) -> &[Want]
