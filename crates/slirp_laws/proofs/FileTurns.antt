@@ -28,9 +28,9 @@ same_octets [] = refl
 same_octets (x ∷ xs) = and_both (x == x) (bytes_eq xs xs) (same x) (same_octets xs)
 
 -- the frame of a packet of a file is no segment's, and asks for nobody
-record IsNoFlows (frame : List ℕ) : Type 0 where
-  segment : segment_in frame ≡ None
-  asked : asked_in frame ≡ None
+pub record IsNoFlows (frame : List ℕ) : Type 0 where
+  pub segment : segment_in frame ≡ None
+  pub asked : asked_in frame ≡ None
 
 of_part : (config : Config) (past : List Entry) (mac : List ℕ) (from to : ℕ) (body frame : List ℕ) (rest : List (List ℕ)) → 28 ≤ config.mtu → length mac ≡ 6 → drop 0 (frames_for config (identification past) (IpAnswer mac udp_proto from to body)) ≡ frame ∷ rest → IsNoFlows frame
 of_part config past mac from to body frame rest room six is = record { segment = ap (option_and_then went_of) framed ∙ by (read_ip octets) refl; asked = ap (option_and_then asked_of) framed }
@@ -66,8 +66,8 @@ pub record MayGoAgain (config : Config) (past : List Entry) (said : Said) (frame
   pub frames : frames_of config (identification past) (told_of_files config (Some said)) ≡ frame ∷ rest
 
 module _ (config : Config) (past : List Entry) (said : Said) (frame : List ℕ) (rest : List (List ℕ)) (room : 28 ≤ config.mtu) (m : MayGoAgain config past said frame rest) where
-  none : IsNoFlows frame
-  none =
+  pub no_flows : IsNoFlows frame
+  no_flows =
       let six : length said.mac ≡ 6 = subst SixSaid m.may (six_again config past) in
       let a = file_answer config said in
       of_part config past said.mac config.vhost (address said.guest) (udp_octets config.vhost (address said.guest) (record { from_port = 69; to_port = said.guest.port; body = said.octets })) frame rest room six (sym (frames_one config (identification past) a) ∙ m.frames)
@@ -77,15 +77,15 @@ module _ (config : Config) (past : List Entry) (said : Said) (frame : List ℕ) 
 
   starts_it : starts frame (again_frames config (identification past) (serving config past)) ≡ true
   starts_it =
-      ap (λ o. not (is_some o || is_some (asked_in frame)) && is_first frame (again_frames config (identification past) (serving config past))) none.segment
-      ∙ ap (λ o. not (is_some o) && is_first frame (again_frames config (identification past) (serving config past))) none.asked
+      ap (λ o. not (is_some o || is_some (asked_in frame)) && is_first frame (again_frames config (identification past) (serving config past))) no_flows.segment
+      ∙ ap (λ o. not (is_some o) && is_first frame (again_frames config (identification past) (serving config past))) no_flows.asked
       ∙ ap (is_first frame) again_is ∙ same_octets frame
 
   pub is_explained_again : is_explained config past frame ≡ true
   is_explained_again =
       ap (λ l. is_first frame l || (is_out l && is_beside config past frame)) m.nothing
-      ∙ ap (λ o. sends_segment config past frame o || may_ask config past frame (asked_in frame) || sends_again config past frame) none.segment
-      ∙ ap (λ o. may_ask config past frame o || sends_again config past frame) none.asked ∙ starts_it
+      ∙ ap (λ o. sends_segment config past frame o || may_ask config past frame (asked_in frame) || sends_again config past frame) no_flows.segment
+      ∙ ap (λ o. may_ask config past frame o || sends_again config past frame) no_flows.asked ∙ starts_it
 
   -- ---- and what the record keeps then
 
