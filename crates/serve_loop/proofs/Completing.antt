@@ -3,18 +3,17 @@ use Rattle.std.proofs.Common.{◌≡◌, ℕ, List, Option, sym, ◌∙◌, ap, 
 use Rattle.host_policy.specs.Addresses.{Config}
 use Rattle.ipv4_head.specs.Sets.{PartSet, young}
 use Rattle.run_laws.specs.Fragments.{fragment_in, with_fragment}
-use Rattle.slirp_laws.specs.Datagrams.{Errand}
-use Rattle.slirp_core.specs.Fragments.{IsHeld, after_frame, brought_errand, brought_segment, taken_on}
-use Rattle.slirp_core.specs.Packets.{errand_for_udp, udp_in}
+use Rattle.slirp_core.specs.Fragments.{IsHeld, after_frame, brought_request, brought_segment, taken_on}
+use Rattle.slirp_core.specs.Packets.{Request, request_for_udp, udp_in}
 use Rattle.slirp_core.specs.Segments.{Coming, segment_in}
 use Rattle.slirp_core.specs.State.{SlirpState}
 use Rattle.slirp_core.specs.declared.fragments.Brought.{Brought}
 
 module _ (slirp mid new : SlirpState) (frame : List ℕ) (brought : Brought) (room octets : List ℕ) (same : octets ≡ room) where
-  pub sends_then : (errand : Option Errand) → mid.config ≡ slirp.config → errand ≡ brought_errand mid.config brought octets
-      → ((held : List PartSet) → IsHeld slirp.parts held → brought_errand slirp.config brought room ≡ errand_for_udp slirp.config (udp_in slirp.config slirp.moment (young slirp.moment held) frame))
-      → (held : List PartSet) → IsHeld slirp.parts held → errand ≡ errand_for_udp slirp.config (udp_in slirp.config slirp.moment (young slirp.moment held) frame)
-  sends_then errand settings is brings held h = is ∙ ap (brought_errand mid.config brought) same ∙ ap (λ (k : Config). brought_errand k brought room) settings ∙ brings held h
+  pub asks_then : (request : Option Request) → mid.config ≡ slirp.config → request ≡ brought_request mid.config brought octets
+      → ((held : List PartSet) → IsHeld slirp.parts held → brought_request slirp.config brought room ≡ request_for_udp slirp.config (udp_in slirp.config slirp.moment (young slirp.moment held) frame))
+      → (held : List PartSet) → IsHeld slirp.parts held → request ≡ request_for_udp slirp.config (udp_in slirp.config slirp.moment (young slirp.moment held) frame)
+  asks_then request settings is brings held h = is ∙ ap (brought_request mid.config brought) same ∙ ap (λ (k : Config). brought_request k brought room) settings ∙ brings held h
 
   pub segment_then : (segment : Option Coming) → mid.config ≡ slirp.config → segment ≡ brought_segment mid.config brought octets
       → ((held : List PartSet) → IsHeld slirp.parts held → brought_segment slirp.config brought room ≡ segment_in slirp.config slirp.moment (young slirp.moment held) frame)

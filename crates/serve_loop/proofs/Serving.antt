@@ -43,6 +43,7 @@ unbegun service new = record {
   questions = new.questions;
   parts = new.parts;
   leases = new.leases;
+  transfers = new.transfers;
   input = new.input;
   output = new.output;
   free = new.free;

@@ -11,7 +11,7 @@ use Rattle.ipv4_head.specs.Sets.{PartSet, young}
 use Rattle.tcp_segment.specs.Tcp.{Tcp}
 use Rattle.flow_book.specs.Segments.{segment_by}
 use Rattle.run_laws.specs.Fragments.{fragment_in, waiting, with_fragment}
-use Rattle.run_laws.specs.Packets.{Packet, Unheard, ArpPacket, Message, DatagramPacket, Segment, packet_in}
+use Rattle.run_laws.specs.Packets.{Packet, Unheard, ArpPacket, Message, DatagramPacket, Segment, Datagram, packet_in}
 use Rattle.slirp_laws.specs.Agenda.{is_to_read, wanted_of}
 use Rattle.slirp_laws.specs.Answers.{frames_of}
 use Rattle.slirp_laws.specs.Datagrams.{Errand, Step, errand_by_packet}
@@ -20,12 +20,12 @@ use Rattle.stream_netdev.specs.State.{LinkState}
 use Rattle.stream_netdev.specs.declared.Arrived.{Arrived}
 use Rattle.tcp_flows.specs.Kept.{Kept}
 use Rattle.slirp_core.specs.Fragments.{IsHeld, after_frame}
-use Rattle.slirp_core.specs.Holds.{asked_by, standing, flowing, Comes, Ended, HoldsAt, holders_of}
-use Rattle.slirp_core.specs.Packets.{errand_for_udp, udp_in, with_ether, with_frame}
+use Rattle.slirp_core.specs.Holds.{AsksFile, asked_by, standing, flowing, Comes, Ended, HoldsAt, holders_of}
+use Rattle.slirp_core.specs.Packets.{Request, ToServe, errand_in, file_in, request_by_packet, request_for_udp, udp_in, with_ether, with_frame}
 use Rattle.slirp_core.specs.Segments.{Coming, coming, coming_by, segment_in}
 use Rattle.slirp_core.specs.State.{SlirpState, serving_of}
-use Rattle.slirp_core.proofs.Bridging.{brings_same, lends_same, owes_same, sends_same}
-use Rattle.slirp_core.proofs.Reading.{KeepsParts, after_packet, packet_of, read_ends_it, read_on, read_segment}
+use Rattle.slirp_core.proofs.Bridging.{asks_same, brings_same, lends_same, owes_same}
+use Rattle.slirp_core.proofs.Reading.{KeepsParts, after_packet, errand_is_in, packet_of, read_ends_it, read_file, read_on, read_segment}
 use Rattle.serve_loop.specs.Turns.{HoldsNow}
 
 -- a packet that holds a segment, or none
@@ -102,20 +102,32 @@ module _ (config : Config) (count : ℕ) (wants : List Want) (item : Want) (item
         })
         ∙ sym (ap (λ o. after_packet config slirp (packet_of config slirp.moment (waiting config past) o) o done.parts) came)
 
-    -- no segment, and what it asks for is still to be done
-    pub taken_in : (errand : Option Errand) → ((held : List PartSet) → IsHeld slirp.parts held → errand ≡ errand_for_udp slirp.config (udp_in slirp.config slirp.moment (young slirp.moment held) frame))
+    -- what it asks for
+    asks_for : (request : Option Request) → ((held : List PartSet) → IsHeld slirp.parts held → request ≡ request_for_udp slirp.config (udp_in slirp.config slirp.moment (young slirp.moment held) frame))
+        → request_by_packet config (packet_of config slirp.moment (waiting config past) (hands answer new)) ≡ request
+    asks_for request asks =
+        ap (request_by_packet config) packet_is ∙ asks_same config slirp.moment (waiting config past) frame ∙ sym (of_packet (λ k n w f. request_for_udp k (udp_in k n w f)) frame request asks)
+
+    -- a datagram for the server of files, which is still to be served
+    pub file_came : (d : Datagram) → ((held : List PartSet) → IsHeld slirp.parts held → Some (ToServe d) ≡ request_for_udp slirp.config (udp_in slirp.config slirp.moment (young slirp.moment held) frame))
+        → AsksFile config (standing count wants items) done done.flows new d (made ++ past)
+    file_came d asks =
+        subst (λ (k : Kept). AsksFile config (standing count wants items) done k new d (made ++ past)) same_flows
+        (read_file config count wants item items reads_it slirp slirp.flows old new answer no_packet out made past allowed read holds done d goes_on kept (ap file_in (asks_for (Some (ToServe d)) asks)) done_is)
+
+    -- no segment, and nothing for the server of files: what it asks for is still to be done
+    pub taken_in : (request : Option Request) → file_in request ≡ None → ((held : List PartSet) → IsHeld slirp.parts held → request ≡ request_for_udp slirp.config (udp_in slirp.config slirp.moment (young slirp.moment held) frame))
         → ((held : List PartSet) → IsHeld slirp.parts held → None ≡ segment_in slirp.config slirp.moment (young slirp.moment held) frame)
-        → HoldsAt config (standing count wants items) (asked_by config done errand) done (flowing false done.flows) new (made ++ past)
-    taken_in errand sends none =
+        → HoldsAt config (standing count wants items) (asked_by config done (errand_in request)) done (flowing false done.flows) new (made ++ past)
+    taken_in request no_file sends none =
         let packet = packet_of config slirp.moment (waiting config past) (hands answer new) in
         let strays : coming_by packet ≡ None =
         ap coming_by packet_is ∙ brings_same config slirp.moment (waiting config past) frame ∙ sym (of_packet segment_in frame None none) in
-        let asks : errand_by_packet config packet ≡ errand =
-        ap (errand_by_packet config) packet_is ∙ sends_same config slirp.moment (waiting config past) frame ∙ sym (of_packet (λ k n w f. errand_for_udp k (udp_in k n w f)) frame errand sends) in
-        let h = read_on config count wants item items reads_it slirp slirp.flows old new answer no_packet out made past allowed read holds done goes_on kept (no_segment packet strays) done_is in
-        subst (λ (k : Kept). HoldsAt config (standing count wants items) (asked_by config done errand) done (flowing false k) new (made ++ past)) same_flows
+        let asks : errand_by_packet config packet ≡ errand_in request = errand_is_in config packet ∙ ap errand_in (asks_for request sends) in
+        let h = read_on config count wants item items reads_it slirp slirp.flows old new answer no_packet out made past allowed read holds done goes_on kept (no_segment packet strays) (ap file_in (asks_for request sends) ∙ no_file) done_is in
+        subst (λ (k : Kept). HoldsAt config (standing count wants items) (asked_by config done (errand_in request)) done (flowing false k) new (made ++ past)) same_flows
         (subst (λ (t : Step). HoldsAt config (standing count wants items) t done (flowing false slirp.flows) new (made ++ past))
-        (ap (asked_by config slirp) asks ∙ same_asks errand) h)
+        (ap (asked_by config slirp) asks ∙ same_asks (errand_in request)) h)
 
     -- a segment, which is still to be heard
     pub segment_came : (c : Coming) → ((held : List PartSet) → IsHeld slirp.parts held → Some c ≡ segment_in slirp.config slirp.moment (young slirp.moment held) frame)
@@ -135,7 +147,7 @@ module _ (config : Config) (count : ℕ) (wants : List Want) (item : Want) (item
       let at = waiting config past in
       let packet_is : packet_of config slirp.moment at (hands answer new) ≡ Unheard = ap (packet_of config slirp.moment at) none in
       let h = read_on config count wants item items reads_it slirp slirp.flows old new answer no_packet out made past allowed read holds slirp goes_on
-      (subst (λ o. KeepsParts config slirp slirp o) (sym none) refl) (ap segment_by packet_is)
+      (subst (λ o. KeepsParts config slirp slirp o) (sym none) refl) (ap segment_by packet_is) (ap (λ p. file_in (request_by_packet config p)) packet_is)
       (ap (λ (p : List (List ℕ)). record slirp { pending = p }) no_packet
       ∙ sym (ap (λ o. after_packet config slirp (packet_of config slirp.moment at o) o slirp.parts) none)) in
       subst (λ (t : Step). HoldsAt config (standing count wants items) t slirp (flowing false slirp.flows) new (made ++ past)) (ap (λ p. asked_by config slirp (errand_by_packet config p)) packet_is) h

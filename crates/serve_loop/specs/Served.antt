@@ -15,13 +15,12 @@ pub record ServiceState : Type 0 where
   pub wants : List Want
   pub ready : List Want
 
--- No part is asked for that isn't built: no port of the network is forwarded, no files are served, and there is no control.
+-- No part is asked for that isn't built: no port of the network is forwarded, and there is no control.
 pub record IsBuilt (config : Config) : Type 0 where
   pub guest_forwards : config.guest_forwards ≡ []
-  pub files : config.tftp_path ≡ None
   pub control : config.control ≡ None
 
--- nothing was read or written, no datagram was sent, no guest is known, no socket is open, no moment was told, nothing is owed, no fragment waits and no address is lent; there is room for as many flows as the settings say, and none of them was used; no port of the host is open yet, and no question waits; a frame has room for a header and a unit of 8 octets, and there are at most 2^44 turns, one at least
+-- nothing was read or written, no datagram was sent, no guest is known, no socket is open, no moment was told, nothing is owed, no fragment waits, no address is lent and no guest gets a file; there is room for as many flows as the settings say, and none of them was used; no port of the host is open yet, and no question waits; a frame has room for a header and a unit of 8 octets, and there are at most 2^44 turns, one at least
 pub record IsNew (service : ServiceState) : Type 0 where
   pub sound : IsSound service.slirp.config
   pub forwards : service.slirp.forwards ≡ []
@@ -38,6 +37,7 @@ pub record IsNew (service : ServiceState) : Type 0 where
   pub questions : service.slirp.questions ≡ []
   pub parts : service.slirp.parts ≡ []
   pub leases : service.slirp.leases ≡ replicate 16 Free
+  pub transfers : service.slirp.transfers ≡ []
   pub input : under_way service.link ≡ []
   pub output : service.link.tail ≡ []
   pub free : service.link.blocked ≡ false

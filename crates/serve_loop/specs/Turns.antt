@@ -1,5 +1,5 @@
 -- What a turn, and each part of it, comes to.
-use Rattle.std.specs.Prelude.{◌≡◌, ℕ, ◌&&◌, not, Bool, true, false, List, [], ◌∷◌}
+use Rattle.std.specs.Prelude.{◌≡◌, ℕ, ◌&&◌, not, Bool, true, false, List, [], ◌∷◌, None}
 use Rattle.poll_list.specs.Listing.{same_who}
 use Rattle.poll_list.specs.declared.Want.{Want}
 use Rattle.poll_list.specs.declared.Who.TheVariants.{Link}
@@ -9,6 +9,7 @@ use Rattle.host_policy.specs.Addresses.{Config}
 use Rattle.run_laws.specs.Shape.{phase}
 use Rattle.slirp_laws.specs.Agenda.{wanted_of}
 use Rattle.slirp_laws.specs.Laws.{Finished, Lawful}
+use Rattle.tftp_server.specs.Transfers.{next_again}
 use Rattle.stream_netdev.specs.Keeps.{ReadsOn}
 use Rattle.stream_netdev.specs.State.{LinkState, under_way}
 use Rattle.port_forward.specs.Opened.{Opened}
@@ -32,6 +33,10 @@ still to_read item = to_read && not (same_who Link item.of && item.read)
 -- What the network and its link have is what the calls made so far left; before a wait the rests of flows that are over have ended, too.
 abbrev pub HoldsNow : Config → Standing → Bool → SlirpState → LinkState → List Entry → Type 0
 HoldsNow config at aged slirp link past = Holds config at slirp (flowing aged slirp.flows) link past
+
+-- where nothing is left to be sent, no packet of a file is due to go again
+abbrev pub NoneGoesAgain : SlirpState → Type 0
+NoneGoesAgain slirp = slirp.pending ≡ [] → next_again slirp.moment slirp.transfers ≡ None
 
 -- after a wait with these wants, and the call of the clock that follows it
 abbrev pub AfterSleep : Slept → Config → ℕ → List Want → List Want → SlirpState → LinkState → List Entry → Type 0

@@ -1,7 +1,7 @@
 // The loop of turns.
 //
 // A run begins with the ports of the host that are given to guests and with the moment (`start`), then goes by turns until one ends it (`serve`). A turn tells the flows of TCP the time, closes what has been
-// idle too long, sends what is owed, and waits for what it wants; then it asks for the moment and serves what was reported, in the order of the list: a
+// idle too long, sends what is owed, with the packets of files that are due to go again, and waits for what it wants; then it asks for the moment and serves what was reported, in the order of the list: a
 // frame is read and taken in, a peer of a forward is taken, a peer's datagram is received, or a flow's socket is served, writing before reading, and after each what is owed for it is
 // sent. A frame or a datagram is read only while nothing is left to be sent. At the end every socket is closed, by rising number.
 ghost use Rattle.std.specs.Prelude.{◌≡◌, ◌&&◌, ◌||◌, ◌++◌, List, true, false, IfSome, if◌then◌else◌};
@@ -106,7 +106,7 @@ impl Service {
     ghost use Rattle.serve_loop.specs.Ends.{end_of, IsCounted};
     ghost use Rattle.slirp_core.specs.Counts.{AreGrown};
     ghost use Rattle.slirp_core.specs.Holds.{AfterListening, after, standing};
-    ghost use Rattle.serve_loop.specs.Turns.{AfterSleep, AfterTurn, AfterWholeTurn, GoesOnAfter, HoldsNow, all_passed_over, is_passed_over};
+    ghost use Rattle.serve_loop.specs.Turns.{AfterSleep, AfterTurn, AfterWholeTurn, GoesOnAfter, HoldsNow, NoneGoesAgain, all_passed_over, is_passed_over};
     ghost use Rattle.slirp_core.specs.Pumps.{is_settled};
     ghost use Rattle.serve_loop.specs.Served.{IsBuilt, IsNew};
     ghost use Rattle.slirp_core.specs.Hearing.{Receives, is_heard};
@@ -237,16 +237,44 @@ impl Service {
         ensures turns { self.new.slirp.flows.turn ≤ self.old.slirp.flows.turn + 1 }
     {
         self.slirp.tick(world);
-        match self.pump(world) {
+        match self.send_all(world) {
             Turn::Again => self.wake(world),
             Turn::Ended(end) => Turn::Ended(end),
         }
+    }
+
+    // Sends what is owed. The packets of files that are due to go again are among it, one after another: each is owed where nothing else is left to be sent,
+    // and a pump follows it. Each time one is due fewer.
+    fn send_all<W: World>(&mut self, world: &mut W) -> Turn
+        requires { ReadsOn (under_way self.old.link) }
+        ensures makes { (config : Config) (at : Standing) → Brings (W.tells world.old) (W.tells world.new)
+            (HoldsNow config at true self.old.slirp self.old.link) (AfterTurn result config at true self.new.slirp self.new.link) }
+        // Where the turn goes on and nothing is left to be sent, no packet is due.
+        ensures none { result ≡ Turn.Again → NoneGoesAgain self.new.slirp }
+        ensures faults { IsCounted result (W.tells world.old).faults (W.tells world.new).faults }
+        ensures on { GoesOnAfter result self.new.link }
+        ensures config { self.new.slirp.config ≡ self.old.slirp.config }
+        ensures number { self.new.slirp.number ≡ self.old.slirp.number }
+        ensures turns { self.new.slirp.flows.turn ≡ self.old.slirp.flows.turn }
+    {
+        self.slirp.send_again();
+        if let Turn::Ended(end) = self.pump(world) {
+            return Turn::Ended(end);
+        }
+        while self.slirp.send_again() {
+            match self.pump(world) {
+                Turn::Again => {}
+                Turn::Ended(end) => return Turn::Ended(end),
+            }
+        }
+        Turn::Again
     }
 
     // A wait and what follows it.
     fn wake<W: World>(&mut self, world: &mut W) -> Turn
         requires on { ReadsOn (under_way self.old.link) }
         requires number { self.old.slirp.number + 5155 < 2 ^ 64 }
+        requires none { NoneGoesAgain self.old.slirp }
         ensures makes { (config : Config) (count : ℕ) → count < config.turns → Brings (W.tells world.old) (W.tells world.new)
             (HoldsNow config (after count) true self.old.slirp self.old.link) (AfterTurn result config (after (count + 1)) false self.new.slirp self.new.link) }
         ensures faults { IsCounted result (W.tells world.old).faults (W.tells world.new).faults }
@@ -264,6 +292,7 @@ impl Service {
 
     // Waits, and asks for the moment where it was woken.
     fn sleep<W: World>(&mut self, world: &mut W) -> Slept
+        requires none { NoneGoesAgain self.old.slirp }
         ensures makes { (config : Config) (count : ℕ) → count < config.turns → Brings (W.tells world.old) (W.tells world.new)
             (HoldsNow config (after count) true self.old.slirp self.old.link) (AfterSleep result config (count + 1) self.new.wants self.new.ready self.new.slirp self.new.link) }
         ensures counts { AreGrown (W.tells world.old).faults (W.tells world.new).faults }
@@ -482,7 +511,7 @@ impl Service {
         }
     }
 
-    // Reads a frame where nothing is left to be sent, takes it in, and sends its datagram on, or hands its segment on.
+    // Reads a frame where nothing is left to be sent, takes it in, and sends its datagram on, serves it, or hands its segment on.
     fn receive<W: World>(&mut self, world: &mut W) -> Turn
         requires on { ReadsOn (under_way self.old.link) }
         requires number { self.old.slirp.number + 1 < 2 ^ 64 }
@@ -503,6 +532,7 @@ impl Service {
                 let brought = self.slirp.input(self.link.frame(), &mut self.joined);
                 match self.slirp.complete(brought, &self.joined) {
                     Some(Task::Errand(errand)) => self.slirp.relay(world, &errand),
+                    Some(Task::File(datagram)) => self.slirp.take_file(world, &datagram),
                     Some(Task::Segment(segment)) => self.slirp.take_segment(world, &segment),
                     None => {}
                 }
@@ -551,6 +581,7 @@ impl Service {
         ensures config { self.new.slirp.config ≡ self.old.slirp.config }
         ensures number { self.new.slirp.number ≡ self.old.slirp.number }
         ensures turns { self.new.slirp.flows.turn ≡ self.old.slirp.flows.turn }
+        ensures files { (self.new.slirp.moment ≡ self.old.slirp.moment) × (self.new.slirp.transfers ≡ self.old.slirp.transfers) }
         ensures reports { (self.new.wants ≡ self.old.wants) × (self.new.ready ≡ self.old.ready) }
     {
         let pumped = self.slirp.pump(world, &mut self.link);

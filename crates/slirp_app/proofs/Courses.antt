@@ -25,7 +25,6 @@ use Rattle.slirp_app.specs.declared.status.Outcome.TheVariants.{BadConfig}
 is_built : (config : Config) (given : Word → Option Word) → AreSettings given config → IsBuilt config
 is_built config given set = record {
   guest_forwards = ap (λ (k : Config). k.guest_forwards) set.rest;
-  files = ap (λ (k : Config). k.tftp_path) set.rest;
   control = ap (λ (k : Config). k.control) set.rest;
 }
 

@@ -8,9 +8,9 @@ use Rattle.ipv4_head.specs.Ip.{Ip, read_ip, is_unbroken}
 use Rattle.ipv4_head.specs.Sets.{Part, PartSet, young}
 use Rattle.ipv4_reasm.specs.Areas.{Gathered}
 use Rattle.run_laws.specs.Fragments.{Fragment, arrived, fragment_by, joined_by, key_by, part_by, with_fragment}
-use Rattle.slirp_core.specs.Segments.{errand_for, segment_for, segment_of_arrived, segment_of_ip}
-use Rattle.slirp_core.specs.Fragments.{Arrives, CameBy, Gathers, GathersIf, IsHeld, after_ip, after_octets, assembled_ip, brought_errand, brought_segment, task_or_none, taken_on, whole_or_none}
-use Rattle.slirp_core.specs.Packets.{errand_for_udp, leases_with, owed_for, owed_for_ip, udp_of, udp_of_arrived, with_address}
+use Rattle.slirp_core.specs.Segments.{request_for, segment_for, segment_of_arrived, segment_of_ip}
+use Rattle.slirp_core.specs.Fragments.{Arrives, CameBy, Gathers, GathersIf, IsHeld, after_ip, after_octets, assembled_ip, brought_request, brought_segment, task_or_none, taken_on, whole_or_none}
+use Rattle.slirp_core.specs.Packets.{request_for_udp, leases_with, owed_for, owed_for_ip, udp_of, udp_of_arrived, with_address}
 use Rattle.slirp_laws.specs.Answers.{frames_of}
 use Rattle.slirp_core.specs.State.{SlirpState, serving_of}
 use Rattle.slirp_core.specs.declared.tcp.Task.{Task}
@@ -20,7 +20,7 @@ use Rattle.slirp_core.specs.declared.fragments.Brought.TheVariants.{Nothing}
 -- none is read
 pub none_arrives : (old : SlirpState) (held : List PartSet) (mac octets room : List ℕ) → read_ip octets ≡ None → old.pending ≡ [] → IsHeld old.parts held → Arrives old held mac octets old Nothing room
 none_arrives old held mac octets room read none is = record {
-  errand = sym (ap (λ o. errand_for_udp old.config (option_and_then (udp_of_arrived old.config old.moment (young old.moment held) mac octets) o)) read);
+  request = sym (ap (λ o. request_for_udp old.config (option_and_then (udp_of_arrived old.config old.moment (young old.moment held) mac octets) o)) read);
   segment = sym (ap (option_and_then (segment_of_arrived old.config old.moment (young old.moment held) mac octets)) read);
   changes =
       ap (λ p. record old { pending = p }) none
@@ -37,9 +37,9 @@ whole_fragment guest false f is = cc
 no_fragment : (config : Config) (octets : List ℕ) (ip : Ip) → is_unbroken ip ≡ true → fragment_by config octets ip ≡ None
 no_fragment config octets ip whole = whole_fragment (is_guest config ip.from) (is_unbroken ip) (record { key = key_by ip; part = part_by octets ip }) whole
 
-errand_sent : (config : Config) (o : Option Task) (room : List ℕ) → brought_errand config (task_or_none o) room ≡ option_and_then errand_for o
-errand_sent config None room = refl
-errand_sent config (Some t) room = refl
+request_sent : (config : Config) (o : Option Task) (room : List ℕ) → brought_request config (task_or_none o) room ≡ option_and_then request_for o
+request_sent config None room = refl
+request_sent config (Some t) room = refl
 
 segment_sent : (config : Config) (o : Option Task) (room : List ℕ) → brought_segment config (task_or_none o) room ≡ option_and_then segment_for o
 segment_sent config None room = refl
@@ -60,17 +60,17 @@ module _ (old : SlirpState) (held : List PartSet) (mac octets : List ℕ) (ip : 
   }
 
   -- a whole datagram is taken in
-  pub whole_arrives : (new : SlirpState) (o : Option Task) → is_unbroken ip ≡ true → option_and_then errand_for o ≡ errand_for_udp old.config (udp_of old.config mac ip) → option_and_then segment_for o ≡ segment_of_ip old.config mac ip
+  pub whole_arrives : (new : SlirpState) (o : Option Task) → is_unbroken ip ≡ true → option_and_then request_for o ≡ request_for_udp old.config (udp_of old.config mac ip) → option_and_then segment_for o ≡ segment_of_ip old.config mac ip
       → new ≡ after_ip (record old { known = with_address old.config ip.from mac old.known }) mac ip → Arrives old held mac octets new (task_or_none o) room
-  whole_arrives new o whole errand segment same =
+  whole_arrives new o whole request segment same =
       let arrives : arrived old.config old.moment (young old.moment held) octets ip ≡ Some ip =
       ap (λ (b : Bool). if b then Some ip else joined_by old.moment (young old.moment held) (fragment_by old.config octets ip)) whole in
       let parts : new.parts ≡ old.parts = ap (λ (s : SlirpState). s.parts) same in
       let mid : SlirpState = record old { known = with_address old.config ip.from mac old.known } in
       record {
-        errand =
-            errand_sent old.config o room ∙ errand
-            ∙ sym (ap (λ o. errand_for_udp old.config (option_and_then (udp_of_arrived old.config old.moment (young old.moment held) mac octets) o)) read ∙ ap (λ o. errand_for_udp old.config (option_and_then (udp_of old.config mac) o)) arrives);
+        request =
+            request_sent old.config o room ∙ request
+            ∙ sym (ap (λ o. request_for_udp old.config (option_and_then (udp_of_arrived old.config old.moment (young old.moment held) mac octets) o)) read ∙ ap (λ o. request_for_udp old.config (option_and_then (udp_of old.config mac) o)) arrives);
         segment =
             segment_sent old.config o room ∙ segment
             ∙ sym (ap (option_and_then (segment_of_arrived old.config old.moment (young old.moment held) mac octets)) read ∙ ap (option_and_then (segment_of_ip old.config mac)) arrives);
@@ -86,9 +86,9 @@ module _ (old : SlirpState) (held : List PartSet) (mac octets : List ℕ) (ip : 
   abbrev whole_of : Option Assembled → Option Ip
   whole_of o = option_map (λ (a : Assembled). assembled_ip a room) o
 
-  errand_made : (config : Config) (o : Option Assembled) → CameBy mac o → brought_errand config (whole_or_none o) room ≡ errand_for_udp config (option_and_then (udp_of config mac) (whole_of o))
-  errand_made config None came = refl
-  errand_made config (Some a) came = ap (λ m. errand_for_udp config (udp_of config m (assembled_ip a room))) came
+  request_made : (config : Config) (o : Option Assembled) → CameBy mac o → brought_request config (whole_or_none o) room ≡ request_for_udp config (option_and_then (udp_of config mac) (whole_of o))
+  request_made config None came = refl
+  request_made config (Some a) came = ap (λ m. request_for_udp config (udp_of config m (assembled_ip a room))) came
 
   segment_made : (config : Config) (o : Option Assembled) → CameBy mac o → brought_segment config (whole_or_none o) room ≡ option_and_then (segment_of_ip config mac) (whole_of o)
   segment_made config None came = refl
@@ -135,9 +135,9 @@ module _ (old : SlirpState) (held : List PartSet) (mac octets : List ℕ) (ip : 
       let g = gathering (is_guest old.config ip.from) pairs new.parts o refl broken (subst (λ (q : Part). Gathers (record old { known = pairs }) held mac ip q new.parts o room) p_is gathers) in
       let mid : SlirpState = record old { known = with_address old.config ip.from mac old.known; parts = new.parts } in
       record {
-        errand =
-            errand_made old.config o g.came ∙ ap (λ w. errand_for_udp old.config (option_and_then (udp_of old.config mac) w)) g.arrives
-            ∙ sym (ap (λ o. errand_for_udp old.config (option_and_then (udp_of_arrived old.config old.moment (young old.moment held) mac octets) o)) read);
+        request =
+            request_made old.config o g.came ∙ ap (λ w. request_for_udp old.config (option_and_then (udp_of old.config mac) w)) g.arrives
+            ∙ sym (ap (λ o. request_for_udp old.config (option_and_then (udp_of_arrived old.config old.moment (young old.moment held) mac octets) o)) read);
         segment =
             segment_made old.config o g.came ∙ ap (option_and_then (segment_of_ip old.config mac)) g.arrives
             ∙ sym (ap (option_and_then (segment_of_arrived old.config old.moment (young old.moment held) mac octets)) read);

@@ -17,17 +17,16 @@ use Rattle.tcp_segment.specs.Tcp.{Tcp, read_tcp}
 use Rattle.run_laws.specs.Guests.{with_pair}
 use Rattle.run_laws.specs.Fragments.{arrived}
 use Rattle.run_laws.specs.Packets.{Packet, Unheard, packet_of_ip, ArpPacket, Message, DatagramPacket, Segment, Datagram, datagram_in, datagram_of, may_come, packet_of, pair_by, pair_by_arp, pair_by_ip, pair_in, pair_of, packet_in, unless_unheard, whole_packet}
-use Rattle.slirp_laws.specs.Answers.{Answer, Serving, owed_for_arp, owed_for_icmp, owed_for_datagram, owed_for_packet}
+use Rattle.slirp_laws.specs.Answers.{Answer, Serving, owed_for_arp, owed_for_icmp}
 use Rattle.dhcp_server.specs.declared.leases.Lease.{Lease}
 use Rattle.run_laws.specs.Happenings.{datagram_by}
-use Rattle.slirp_laws.specs.Datagrams.{errand_by_packet}
 use Rattle.slirp_laws.specs.Leasing.{leases_by_packet}
 use Rattle.slirp_core.specs.Segments.{Coming, coming, coming_by, segment_in, segment_of_arrived, segment_of_ether, segment_of_ip}
-use Rattle.slirp_core.specs.Packets.{errand_for_udp, leases_with, udp_in, udp_of, udp_of_arrived, udp_of_ether, owed_for, owed_for_arrived, owed_for_ether, owed_for_frame, owed_for_ip, with_address, with_arp, with_ether, with_frame, with_ip}
+use Rattle.slirp_core.specs.Packets.{owed_at_once, owed_with, request_by_packet, request_for_udp, leases_with, udp_in, udp_of, udp_of_arrived, udp_of_ether, owed_for, owed_for_arrived, owed_for_ether, owed_for_frame, owed_for_ip, with_address, with_arp, with_ether, with_frame, with_ip}
 
--- what a packet that may be none owes, and the datagram that it is; a segment is answered when it is heard
+-- what a packet that may be none owes at once, and the datagram that it is
 abbrev owes : Config → Serving → Option Packet → List Answer
-owes config s p = owed_for_packet config s false (unless_unheard p)
+owes config s p = owed_with config s (unless_unheard p)
 
 abbrev carries : Option Packet → Option Datagram
 carries p = datagram_by (unless_unheard p)
@@ -54,11 +53,11 @@ came config mac ip udp = if may_come config ip udp then Some (DatagramPacket (da
 abbrev comes : Config → List ℕ → Ip → Udp → Option Datagram
 comes config mac ip udp = if may_come config ip udp then Some (datagram_of mac ip udp) else None
 
-udp_owes : (config : Config) (s : Serving) (mac : List ℕ) (ip : Ip) (o : Option Udp) → owes config s (option_and_then (came config mac ip) o) ≡ owed_for (owed_for_datagram config s) (option_and_then (comes config mac ip) o)
+udp_owes : (config : Config) (s : Serving) (mac : List ℕ) (ip : Ip) (o : Option Udp) → owes config s (option_and_then (came config mac ip) o) ≡ owed_for (owed_at_once config s) (option_and_then (comes config mac ip) o)
 udp_owes config s mac ip None = refl
 udp_owes config s mac ip (Some udp) = by (may_come config ip udp)
   where
-    by : (b : Bool) → owes config s (if b then Some (DatagramPacket (datagram_of mac ip udp)) else None) ≡ owed_for (owed_for_datagram config s) (if b then Some (datagram_of mac ip udp) else None)
+    by : (b : Bool) → owes config s (if b then Some (DatagramPacket (datagram_of mac ip udp)) else None) ≡ owed_for (owed_at_once config s) (if b then Some (datagram_of mac ip udp) else None)
     by true = refl
     by false = refl
 
@@ -138,7 +137,7 @@ abbrev owed_by : Config → Serving → List ℕ → Ip → (guest ours icmp tcp
 owed_by config s mac ip guest ours icmp tcp udp =
     if guest && ours && icmp then owed_for (owed_for_icmp mac ip) (read_icmp ip.body)
     else (if guest && tcp then []
-    else owed_for (owed_for_datagram config s) (udp_by config mac ip udp))
+    else owed_for (owed_at_once config s) (udp_by config mac ip udp))
 
 owes_by : (config : Config) (s : Serving) (mac : List ℕ) (ip : Ip) (udp icmp tcp guest ours : Bool) → Tests config ip udp icmp tcp guest ours
     → owes config s (packet_by config mac ip udp icmp tcp guest) ≡ owed_by config s mac ip guest ours icmp tcp udp
@@ -246,18 +245,18 @@ ether_brings config now waiting (Some ether) = by (ether.kind == arp_kind) (ethe
 
 -- what it owes, which datagram and which segment it brings, and whom it makes known
 pub owes_same : (config : Config) (s : Serving) (waiting : List PartSet) (frame : List ℕ)
-    → owed_for_packet config s false (packet_in config s.now waiting frame) ≡ owed_for_frame config s waiting frame
+    → owed_with config s (packet_in config s.now waiting frame) ≡ owed_for_frame config s waiting frame
 owes_same config s waiting frame = ether_owes config s waiting (read_ether frame)
 
 udp_same : (config : Config) (now : ℕ) (waiting : List PartSet) (frame : List ℕ) → datagram_by (packet_in config now waiting frame) ≡ udp_in config now waiting frame
 udp_same config now waiting frame = ether_carries config now waiting (read_ether frame)
 
-errand_by_udp : (config : Config) (p : Packet) → errand_by_packet config p ≡ errand_for_udp config (datagram_by p)
-errand_by_udp config Unheard = refl
-errand_by_udp config (ArpPacket arp) = refl
-errand_by_udp config (Message mac ip message) = refl
-errand_by_udp config (DatagramPacket d) = refl
-errand_by_udp config (Segment mac ip tcp) = refl
+request_by_udp : (config : Config) (p : Packet) → request_by_packet config p ≡ request_for_udp config (datagram_by p)
+request_by_udp config Unheard = refl
+request_by_udp config (ArpPacket arp) = refl
+request_by_udp config (Message mac ip message) = refl
+request_by_udp config (DatagramPacket d) = refl
+request_by_udp config (Segment mac ip tcp) = refl
 
 leases_by_udp : (config : Config) (now : ℕ) (p : Packet) (leases : List Lease) → leases_by_packet config now p leases ≡ leases_with config now (datagram_by p) leases
 leases_by_udp config now Unheard leases = refl
@@ -266,9 +265,9 @@ leases_by_udp config now (Message mac ip message) leases = refl
 leases_by_udp config now (DatagramPacket d) leases = refl
 leases_by_udp config now (Segment mac ip tcp) leases = refl
 
--- so what it sends, and what it makes of the leases
-pub sends_same : (config : Config) (now : ℕ) (waiting : List PartSet) (frame : List ℕ) → errand_by_packet config (packet_in config now waiting frame) ≡ errand_for_udp config (udp_in config now waiting frame)
-sends_same config now waiting frame = errand_by_udp config (packet_in config now waiting frame) ∙ ap (errand_for_udp config) (udp_same config now waiting frame)
+-- so what it asks for, and what it makes of the leases
+pub asks_same : (config : Config) (now : ℕ) (waiting : List PartSet) (frame : List ℕ) → request_by_packet config (packet_in config now waiting frame) ≡ request_for_udp config (udp_in config now waiting frame)
+asks_same config now waiting frame = request_by_udp config (packet_in config now waiting frame) ∙ ap (request_for_udp config) (udp_same config now waiting frame)
 
 pub lends_same : (config : Config) (now : ℕ) (waiting : List PartSet) (frame : List ℕ) (leases : List Lease)
     → leases_by_packet config now (packet_in config now waiting frame) leases ≡ leases_with config now (udp_in config now waiting frame) leases

@@ -1,5 +1,5 @@
 -- Calls for flows: reports of their sockets, the time, and what they send.
-use Rattle.std.proofs.Common.{◌≡◌, ℕ, ◌<◌, ◌+◌, ◌||◌, nat_le, Bool, true, false, List, [], ◌∷◌, ◌++◌, filter, None, refl, sym, ◌∙◌, ap, subst, arith}
+use Rattle.std.proofs.Common.{◌≡◌, ℕ, ◌<◌, ◌+◌, ◌||◌, nat_le, Bool, true, false, List, [], ◌∷◌, ◌++◌, filter, None, inl, refl, sym, ◌∙◌, ap, subst, arith}
 use Rattle.std.proofs.lemmas.Bool.Decides.{nat_tests}
 use Rattle.poll_list.specs.declared.Want.{Want}
 use Rattle.poll_list.specs.declared.Who.TheVariants.{Tcp as OnTcp}
@@ -21,7 +21,11 @@ use Rattle.slirp_core.specs.Holds.{AreOpenWith, carriers, holders_with, Stands, 
 use Rattle.slirp_core.specs.State.{SlirpState}
 use Rattle.slirp_core.specs.Waiting.{OfFragments}
 use Rattle.slirp_core.proofs.Parts.{asks_nothing, errand_for, in_turn, two_in}
+use Rattle.slirp_core.specs.Owed.{IsOwed, kept_by}
+use Rattle.slirp_core.proofs.Owing.{SameLedger, nothing_left, of_left, owed_aged, owed_as, owed_on, same_beside}
 use Rattle.slirp_core.proofs.Services.{none_due_for_services, unheard}
+use Rattle.slirp_laws.proofs.KeptFiles.{now_is}
+use Rattle.tftp_server.specs.Transfers.{Files, Transfer, are_left}
 use Rattle.flow_splice.specs.declared.Pumped.{Pumped as PumpedFlows}
 use Rattle.slirp_core.specs.Pumps.{pumped_flows}
 use Rattle.flow_splice.specs.declared.Pumped.TheVariants.{Clear, Blocked, Failed}
@@ -48,7 +52,7 @@ between config at slirp f link past turn holds = record {
   asked = holds.flows.asked;
   settings = holds.flows.settings;
   lawful = holds.lawful;
-  work = record { working = turn.working; errand = errand_for config Settled None slirp past holds.relayed; services = none_due_for_services config past holds.relayed.heard; open_yet = holds.open_yet };
+  work = record { working = turn.working; errand = errand_for config Settled None slirp past holds.relayed; services = none_due_for_services config past holds.relayed.heard holds.services.quest; open_yet = holds.open_yet };
   at = holds.clock.moment;
 }
 
@@ -71,13 +75,16 @@ pub sockets_left : (config : Config) (past made : List Entry) → LeavesOthers c
     → (n : ℕ) → is_among n (open_sockets (made ++ past)) ≡ true → is_ours (kind_of n (made ++ past)) ≡ true
 sockets_left config past made others kinds n among = ap is_ours (others.kinds n) ∙ kinds n (others.opens n among)
 
--- Calls for flows, after which their slots stand for the flows again, leave all else.
-pub after_flows : (config : Config) (at later : Standing) (slirp : SlirpState) (f : Flowing) (link : LinkState) (past made : List Entry) (aged : Bool) (new : Kept) → later.count ≡ at.count → AreAllowed made → InTurn config past
+-- Calls for flows, after which their slots stand for the flows again, leave all else; these transfers of files are kept then.
+pub after_flows : (config : Config) (at later : Standing) (slirp : SlirpState) (f : Flowing) (link : LinkState) (past made : List Entry) (aged : Bool) (new : Kept) (transfers : List Transfer) → later.count ≡ at.count → AreAllowed made → InTurn config past
     → Holds config at slirp f link past → Between config slirp.moment aged None new (made ++ past) → Leaves config past made → IsLast (all_wanted later.wants later.left) (agenda (made ++ past))
-    → Holds config later slirp (flowing aged new) link (made ++ past)
-after_flows config at later slirp f link past made aged new same allowed turn holds then_is leaves reported =
+    → (SameLedger config past (made ++ past) → IsOwed config aged (record slirp { transfers = transfers }) (made ++ past))
+    → Holds config later (record slirp { transfers = transfers }) (flowing aged new) link (made ++ past)
+after_flows config at later slirp f link past made aged new transfers same allowed turn holds then_is leaves reported owed =
     let others = leaves.others in
     let moments : moment (made ++ past) ≡ moment past = then_is.at ∙ sym holds.clock.moment in
+    let guests = guests_left config slirp past made moments others holds.guests in
+    let fragments = guests.fragments in
     record {
       lawful = then_is.lawful;
       allowed = allowed_then made past allowed holds.allowed;
@@ -87,10 +94,10 @@ after_flows config at later slirp f link past made aged new same allowed turn ho
         rest = leaves.tail ∙ holds.keeps.rest;
         blocked = leaves.blocked ∙ holds.keeps.blocked;
       };
-      answers = record { sent = leaves.counted ∙ holds.answers.sent; pending = leaves.left ∙ holds.answers.pending };
-      guests = guests_left config slirp past made moments others holds.guests;
+      answers = record { sent = leaves.counted ∙ holds.answers.sent; owed = owed (same_beside config past made leaves.left leaves.counted moments others) };
+      guests = record { settings = guests.settings; known = guests.known; fragments = record { held = fragments.held; is_held = fragments.is_held; wait = fragments.wait } };
       relayed = record { list = others.list ∙ holds.relayed.list; questions = others.questions ∙ holds.relayed.questions; asks = asks_nothing config slirp (errand_left config (made ++ past)) then_is.work.errand; heard = unheard config (made ++ past) then_is.work.services };
-      services = record { leases = others.leases ∙ holds.services.leases };
+      services = record { leases = others.leases ∙ holds.services.leases; quest = ap (λ (k : Files). k.quest) others.files ∙ holds.services.quest };
       forwards = holds.forwards;
       flows = record { holds = then_is.holds; asked = then_is.asked; settings = then_is.settings; unit = holds.flows.unit };
       sockets = record { number = leaves.next ∙ holds.sockets.number; kinds = sockets_left config past made others holds.sockets.kinds };
@@ -115,7 +122,8 @@ pub reported : (config : Config) (count : ℕ) (wants : List Want) (item : Want)
 reported config count wants item items slirp f link past made number read write new wanted reports allowed holds =
     let turn = reported_turn config count wants item items slirp f link past holds in
     let then_is = reports config f.aged past (all_wanted wants items) (between config (standing count wants (item ∷ items)) slirp f link past turn holds) (subst (λ w. IsLast (w ∷ all_wanted wants items) (agenda past)) wanted holds.agenda) in
-    after_flows config (standing count wants (item ∷ items)) (standing count wants items) slirp f link past made f.aged new refl allowed turn holds then_is.between then_is.leaves then_is.agenda
+    after_flows config (standing count wants (item ∷ items)) (standing count wants items) slirp f link past made f.aged new slirp.transfers refl allowed turn holds then_is.between then_is.leaves then_is.agenda
+    (λ same. owed_on config f.aged slirp past (made ++ past) same holds.answers.owed)
 
 -- where another wait may come the run isn't over
 not_ended : (config : Config) (count : ℕ) (slirp : SlirpState) (kept : Kept) (link : LinkState) (past : List Entry) → count < config.turns → InTurn config past
@@ -155,24 +163,29 @@ addresses_told config at slirp aged kept new link past learns idle holds = by ho
         }
     by (Begins unbegun free unrested) = subst (λ (k : Kept). Holds config at slirp (flowing aged k) link past) (sym (idle free)) holds
 
+-- the transfers of files that are over are gone
+abbrev pub without_over : SlirpState → SlirpState
+without_over slirp = record slirp { transfers = are_left slirp.moment slirp.transfers }
+
 -- flows were told the time, in a turn after which another wait may come
 pub ticked : (config : Config) (count : ℕ) (slirp : SlirpState) (kept new : Kept) (link : LinkState) (past made : List Entry) (Closes : List Entry → Type 0) → count < config.turns → AreTold slirp.known kept.flows.parts → Ticks slirp.moment false Closes kept new made → AreAllowed made → InTurn config past
-    → Holds config (after count) slirp (flowing false kept) link past → Holds config (after count) slirp (flowing true new) link (made ++ past)
+    → Holds config (after count) slirp (flowing false kept) link past → Holds config (after count) (without_over slirp) (flowing true new) link (made ++ past)
 ticked config count slirp kept new link past made Closes few told ticks allowed turn holds =
     let then_is = (ticks config past (not_ended config count slirp kept link past few turn holds) (between config (after count) slirp (flowing false kept) link past turn holds) (told_now config slirp kept past told holds.guests.known)).0 in
-    after_flows config (after count) (after count) slirp (flowing false kept) link past made true new refl allowed turn holds then_is.between then_is.leaves (subst (IsLast []) (sym then_is.agenda) holds.agenda)
+    after_flows config (after count) (after count) slirp (flowing false kept) link past made true new (are_left slirp.moment slirp.transfers) refl allowed turn holds then_is.between then_is.leaves (subst (IsLast []) (sym then_is.agenda) holds.agenda)
+    (λ same. owed_aged config slirp (made ++ past) then_is.between.at (owed_on config false slirp past (made ++ past) same holds.answers.owed))
 
 -- and before the first wait, where there is no flow
 pub unticked : (config : Config) (at : Standing) (slirp : SlirpState) (kept : Kept) (link : LinkState) (past : List Entry) → (book config past).rests ≡ [] → Holds config at slirp (flowing false kept) link past
-    → Holds config at slirp (flowing true kept) link past
+    → Holds config at (without_over slirp) (flowing true kept) link past
 unticked config at slirp kept link past unrested holds = record {
   lawful = holds.lawful;
   allowed = holds.allowed;
   keeps = holds.keeps;
-  answers = holds.answers;
-  guests = holds.guests;
-  relayed = holds.relayed;
-  services = holds.services;
+  answers = record { sent = holds.answers.sent; owed = owed_aged config slirp past holds.clock.moment holds.answers.owed };
+  guests = record { settings = holds.guests.settings; known = holds.guests.known; fragments = record { held = holds.guests.fragments.held; is_held = holds.guests.fragments.is_held; wait = holds.guests.fragments.wait } };
+  relayed = record { list = holds.relayed.list; questions = holds.relayed.questions; asks = holds.relayed.asks; heard = holds.relayed.heard };
+  services = record { leases = holds.services.leases; quest = holds.services.quest };
   forwards = holds.forwards;
   flows = record {
     holds = record {
@@ -187,11 +200,15 @@ unticked config at slirp kept link past unrested holds = record {
     unit = holds.flows.unit;
   };
   sockets = holds.sockets;
-  clock = holds.clock;
-  stands = holds.stands;
+  clock = record { moment = holds.clock.moment; counted = holds.clock.counted };
+  stands = stands holds.stands;
   agenda = holds.agenda;
   open_yet = holds.open_yet;
 }
+  where
+    stands : Stands config Settled slirp kept link past → Stands config Settled (without_over slirp) kept link past
+    stands (Turns turn) = Turns turn
+    stands (Begins u free unrested) = Begins (record { started = u.started; unwaited = u.unwaited; unreported = u.unreported; unasked = u.unasked; alone = u.alone; unnamed = u.unnamed; nothing = u.nothing; unserved = ap (are_left slirp.moment) u.unserved; empty = u.empty }) free unrested
 
 -- what the core has beside its relation to flows
 pub flows_put : (config : Config) (at : Standing) (slirp : SlirpState) (k : Kept) (f : Flowing) (link : LinkState) (past : List Entry) → Holds config at slirp f link past → Holds config at (record slirp { flows = k }) f link past
@@ -199,10 +216,10 @@ flows_put config at slirp k f link past holds = record {
   lawful = holds.lawful;
   allowed = holds.allowed;
   keeps = holds.keeps;
-  answers = record { sent = holds.answers.sent; pending = holds.answers.pending };
+  answers = record { sent = holds.answers.sent; owed = owed_as config f.aged slirp (record slirp { flows = k }) past refl refl holds.answers.owed };
   guests = record { settings = holds.guests.settings; known = holds.guests.known; fragments = record { held = holds.guests.fragments.held; is_held = holds.guests.fragments.is_held; wait = holds.guests.fragments.wait } };
   relayed = record { list = holds.relayed.list; questions = holds.relayed.questions; asks = holds.relayed.asks; heard = holds.relayed.heard };
-  services = record { leases = holds.services.leases };
+  services = record { leases = holds.services.leases; quest = holds.services.quest };
   forwards = holds.forwards;
   flows = holds.flows;
   sockets = holds.sockets;
@@ -214,7 +231,7 @@ flows_put config at slirp k f link past holds = record {
   where
     stands : Stands config Settled slirp f.kept link past → Stands config Settled (record slirp { flows = k }) f.kept link past
     stands (Turns turn) = Turns turn
-    stands (Begins u free unrested) = Begins (record { started = u.started; unwaited = u.unwaited; unreported = u.unreported; unasked = u.unasked; alone = u.alone; unnamed = u.unnamed; nothing = u.nothing; empty = u.empty }) free unrested
+    stands (Begins u free unrested) = Begins (record { started = u.started; unwaited = u.unwaited; unreported = u.unreported; unasked = u.unasked; alone = u.alone; unnamed = u.unnamed; nothing = u.nothing; unserved = u.unserved; empty = u.empty }) free unrested
 
 -- a turn begins
 pub turn_begins : (config : Config) (at : Standing) (slirp : SlirpState) (aged : Bool) (kept : Kept) (link : LinkState) (past : List Entry) → Holds config at slirp (flowing aged kept) link past
@@ -242,15 +259,15 @@ turn_begins config at slirp aged kept link past holds = record {
 
 -- the flows of a turn, or of none
 pub told_the_time : (config : Config) (count : ℕ) (slirp : SlirpState) (kept new : Kept) (link : LinkState) (past made : List Entry) (Closes : List Entry → Type 0) → count < config.turns → AreTold slirp.known kept.flows.parts → Ticks slirp.moment false Closes kept new made → IsIdle kept new made → AreAllowed made
-    → Holds config (after count) slirp (flowing false kept) link past → Holds config (after count) slirp (flowing true new) link (made ++ past)
+    → Holds config (after count) slirp (flowing false kept) link past → Holds config (after count) (without_over slirp) (flowing true new) link (made ++ past)
 told_the_time config count slirp kept new link past made Closes few told ticks idle allowed holds = by holds.stands
   where
-    by : Stands config Settled slirp kept link past → Holds config (after count) slirp (flowing true new) link (made ++ past)
+    by : Stands config Settled slirp kept link past → Holds config (after count) (without_over slirp) (flowing true new) link (made ++ past)
     by (Turns turn) = ticked config count slirp kept new link past made Closes few told ticks allowed turn holds
     by (Begins unbegun free unrested) =
         let none = idle free in
-        subst (λ (m : List Entry). Holds config (after count) slirp (flowing true new) link (m ++ past)) (sym none.1)
-        (subst (λ (k : Kept). Holds config (after count) slirp (flowing true k) link past) (sym none.0) (unticked config (after count) slirp kept link past unrested holds))
+        subst (λ (m : List Entry). Holds config (after count) (without_over slirp) (flowing true new) link (m ++ past)) (sym none.1)
+        (subst (λ (k : Kept). Holds config (after count) (without_over slirp) (flowing true k) link past) (sym none.0) (unticked config (after count) slirp kept link past unrested holds))
 
 -- its sockets are closed by rising number
 pub told_rising : (config : Config) (count : ℕ) (slirp : SlirpState) (kept new : Kept) (link : LinkState) (past made : List Entry) → count < config.turns → AreTold slirp.known kept.flows.parts → Ticks slirp.moment false ClosesRising kept new made → IsIdle kept new made
@@ -269,7 +286,7 @@ pub sendable : (config : Config) (at : Standing) (slirp : SlirpState) (f : Flowi
 sendable config at slirp f link past none turn holds = record {
   between = between config at slirp f link past turn holds;
   keeps = holds.keeps;
-  nothing = holds.answers.pending ∙ none;
+  nothing = nothing_left config f.aged slirp past none holds.answers.owed;
   counted = holds.answers.sent;
   knows = holds.guests.known;
 }
@@ -285,10 +302,18 @@ module _ (config : Config) (at : Standing) (slirp : SlirpState) (f : Flowing) (l
         lawful = then_is.between.lawful;
         allowed = allowed_then made past allowed holds.allowed;
         keeps = then_is.keeps;
-        answers = record { sent = then_is.counted; pending = then_is.nothing ∙ sym none };
+        answers = record {
+          sent = then_is.counted;
+          owed = inl (record {
+            left = then_is.nothing ∙ sym none;
+            again = others.again ∙ (of_left config f.aged slirp past none holds.answers.owed).again;
+            files = (of_left config f.aged slirp past none holds.answers.owed).files
+                ∙ sym (λ i. kept_by f.aged false ((now_is config (made ++ past) ∙ then_is.between.at ∙ sym holds.clock.moment ∙ sym (now_is config past)) i) (others.files i).transfers);
+          });
+        };
         guests = record { settings = guests.settings; known = guests.known; fragments = record { held = fragments.held; is_held = fragments.is_held; wait = fragments.wait } };
         relayed = record { list = others.list ∙ holds.relayed.list; questions = others.questions ∙ holds.relayed.questions; asks = asks_nothing config slirp (errand_left config (made ++ past)) then_is.between.work.errand; heard = unheard config (made ++ past) then_is.between.work.services };
-        services = record { leases = others.leases ∙ holds.services.leases };
+        services = record { leases = others.leases ∙ holds.services.leases; quest = ap (λ (k : Files). k.quest) others.files ∙ holds.services.quest };
         forwards = holds.forwards;
         flows = record { holds = then_is.between.holds; asked = then_is.between.asked; settings = then_is.between.settings; unit = holds.flows.unit };
         sockets = record { number = same ∙ holds.sockets.number; kinds = sockets_left config past made others holds.sockets.kinds };

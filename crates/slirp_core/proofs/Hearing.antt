@@ -1,5 +1,5 @@
 -- A segment is heard: its flow takes it, or it strays, or the host connects for it.
-use Rattle.std.proofs.Common.{◌≡◌, ℕ, ◌<◌, ◌+◌, ◌==◌, ◌||◌, nat_lt, Bool, true, false, List, [], ◌∷◌, ◌++◌, length, Some, None, refl, sym, ◌∙◌, ap, subst, arith, if◌then◌else◌}
+use Rattle.std.proofs.Common.{◌≡◌, ℕ, ◌<◌, ◌+◌, ◌==◌, ◌||◌, nat_lt, Bool, true, false, List, [], ◌∷◌, ◌++◌, length, Some, None, inl, refl, sym, ◌∙◌, ap, subst, arith, if◌then◌else◌}
 use Rattle.std.proofs.lemmas.Bool.Decides.{nat_tests}
 use Rattle.std.specs.Prelude.{Contains}
 use Rattle.std.specs.Option.{option_and_then}
@@ -33,6 +33,7 @@ use Rattle.slirp_core.specs.Segments.{Coming}
 use Rattle.slirp_core.specs.State.{SlirpState}
 use Rattle.slirp_core.proofs.Guests.{guests_stay}
 use Rattle.slirp_core.proofs.Parts.{asks_nothing, keeps_by}
+use Rattle.tftp_server.specs.Transfers.{Files}
 use Rattle.slirp_core.proofs.Services.{none_due_for_services, unheard}
 use Rattle.spliced_flows.specs.Core.{Following, mac_of, number_of}
 use Rattle.spliced_flows.specs.Stands.{lot_without}
@@ -138,10 +139,13 @@ module _ (config : Config) (at : Standing) (slirp : SlirpState) (kept : Kept) (l
           rest = leaves.tail ∙ comes.keeps.rest;
           blocked = leaves.blocked ∙ comes.keeps.blocked;
         };
-        answers = record { sent = leaves.counted ∙ comes.sent; pending = leaves.left ∙ owed };
+        answers = record {
+          sent = leaves.counted ∙ comes.sent;
+          owed = inl (record { left = leaves.left ∙ owed; again = others.again ∙ comes.again; files = comes.files ∙ sym (ap (λ (k : Files). k.transfers) others.files) });
+        };
         guests = record { settings = guests.settings; known = guests.known; fragments = record { held = fragments.held; is_held = fragments.is_held; wait = fragments.wait } };
         relayed = record { list = others.list ∙ comes.relayed.list; questions = others.questions ∙ comes.relayed.questions; asks = asks_nothing config slirp (errand_left config (made ++ past)) then_is.work.errand; heard = unheard config (made ++ past) then_is.work.services };
-        services = record { leases = others.leases ∙ comes.services.leases };
+        services = record { leases = others.leases ∙ comes.services.leases; quest = ap (λ (k : Files). k.quest) others.files ∙ comes.services.quest };
         forwards = comes.forwards;
         flows = record { holds = then_is.holds; asked = then_is.asked; settings = then_is.settings; unit = comes.unit };
         sockets = record { number = leaves.next ∙ comes.sockets.number; kinds = sockets_left config past made others comes.sockets.kinds };
@@ -215,10 +219,10 @@ module _ (config : Config) (at : Standing) (slirp : SlirpState) (kept : Kept) (l
               lawful = lawful;
               allowed = (fine, comes.allowed);
               keeps = keeps_by link e past tt refl refl refl comes.keeps;
-              answers = record { sent = comes.sent; pending = owed };
+              answers = record { sent = comes.sent; owed = inl (record { left = owed; again = comes.again; files = comes.files }) };
               guests = guests_stay config slirp (record slirp { number = slirp.number + 1; pending = pending }) e past refl refl comes.guests;
               relayed = record { list = comes.relayed.list; questions = comes.relayed.questions; asks = comes.relayed.asks; heard = refl };
-              services = record { leases = comes.services.leases };
+              services = record { leases = comes.services.leases; quest = comes.services.quest };
               forwards = comes.forwards;
               flows = record { holds = then_is.holds; asked = then_is.asked; settings = then_is.settings; unit = comes.unit };
               sockets = record { number = ap (λ n. n + 1) comes.sockets.number; kinds = kinds_joined slirp.number to answer past comes.sockets.kinds };
@@ -253,7 +257,7 @@ module _ (config : Config) (at : Standing) (slirp : SlirpState) (kept : Kept) (l
               asked = asked_then config past (e ∷ past) new.flows.parts new.flows.parts refl (λ guest. refl) (λ k q here. (q, k, here, refl, omega arith)) due_is.asked;
               settings = due_is.settings;
               lawful = (may, due_is.lawful);
-              work = record { working = due_is.work.working; errand = due_is.work.errand; services = none_due_for_services config (e ∷ past) refl; open_yet = due_is.work.open_yet };
+              work = record { working = due_is.work.working; errand = due_is.work.errand; services = none_due_for_services config (e ∷ past) refl comes.services.quest; open_yet = due_is.work.open_yet };
               at = due_is.at;
             })
             (ap (λ o. unconnected config (identification past) o (left config past)) came_is

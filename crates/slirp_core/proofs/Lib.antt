@@ -1,3 +1,4 @@
+pub mod Again
 pub mod Arriving
 pub mod Askers
 pub mod Asking
@@ -7,6 +8,7 @@ pub mod Bridging
 pub mod Closing
 pub mod Counted
 pub mod Datagramming
+pub mod Owing
 pub mod Filling
 pub mod Given
 pub mod Listening
@@ -20,6 +22,7 @@ pub mod Pumping
 pub mod Relaying
 pub mod Rising
 pub mod Services
+pub mod Serving
 pub mod Sockets
 pub mod Taking
 pub mod Ticking

@@ -30,6 +30,7 @@ use Rattle.stream_netdev.specs.State.{LinkState}
 use Rattle.slirp_core.specs.Holds.{Standing, InTurn, AreTwo, asked_by, carriers, holders_of, IsLast, OfAnswers, OfClock, OfRelay, Unbegun, Flowing, HoldsOn, OfFlows, OfSockets, Stands, Turns, Begins}
 use Rattle.slirp_core.specs.State.{SlirpState}
 use Rattle.slirp_core.proofs.Guests.{guests_stay, of_guests}
+use Rattle.slirp_laws.specs.Answers.{serving}
 use Rattle.slirp_core.proofs.Services.{services_stay}
 use Rattle.slirp_core.proofs.Given.{HasGiven, all_given, forward_is}
 use Rattle.slirp_core.proofs.Names.{carried as carried_names, two_apart}
@@ -183,6 +184,13 @@ brings_none config (UdpSend socket to octets answer) past on = refl
 brings_none config (UdpRecv socket asked answer octets) past on = refl
 brings_none config _ past on = absurd on
 
+seeks_none : (config : Config) (e : Entry) (past : List Entry) → IsOnSocket e → (serving config (e ∷ past)).files ≡ (serving config past).files
+seeks_none config (Close socket) past on = refl
+seeks_none config (UdpOpen socket at answer) past on = refl
+seeks_none config (UdpSend socket to octets answer) past on = refl
+seeks_none config (UdpRecv socket asked answer octets) past on = refl
+seeks_none config _ past on = absurd on
+
 clock_stays : (at after : Standing) (slirp new : SlirpState) (e : Entry) (past : List Entry) → IsOnSocket e → new.moment ≡ slirp.moment → after.count ≡ at.count → OfClock at slirp past → OfClock after new (e ∷ past)
 clock_stays at after slirp new (Close socket) past on same count clock = record { moment = clock.moment ∙ sym same; counted = clock.counted ∙ sym count }
 clock_stays at after slirp new (UdpOpen socket to answer) past on same count clock = record { moment = clock.moment ∙ sym same; counted = clock.counted ∙ sym count }
@@ -203,11 +211,11 @@ flows_on config f now (UdpRecv socket asked answer octets) past on own lawful fl
 flows_on config f now _ past on own lawful flows = absurd on
 
 -- what a call on a socket changes: the call was allowed, and what it made of answers, associations, sockets, agenda and closing
-pub record Changes (config : Config) (after : Standing) (step : Step) (heard : Option ℕ) (new : SlirpState) (e : Entry) (past : List Entry) : Type 0 where
+pub record Changes (config : Config) (aged : Bool) (after : Standing) (step : Step) (heard : Option ℕ) (new : SlirpState) (e : Entry) (past : List Entry) : Type 0 where
   pub may : May config past (call_of e)
   pub allowed : Allowed e
   pub own : ClosesOwn e past
-  pub answers : OfAnswers config new (e ∷ past)
+  pub answers : OfAnswers config step aged new (e ∷ past)
   pub relayed : OfRelay config step heard new (e ∷ past)
   pub sockets : OfSockets new.number (e ∷ past)
   pub agenda : IsLast (all_wanted after.wants after.left) (agenda (e ∷ past))
@@ -216,7 +224,7 @@ pub record Changes (config : Config) (after : Standing) (step : Step) (heard : O
 -- and the rest stays
 pub after_socket : (config : Config) (at after : Standing) (step new_step : Step) (heard new_heard : Option ℕ) (slirp new : SlirpState) (f : Flowing) (link : LinkState) (e : Entry) (past : List Entry) → IsOnSocket e
     → of_guests new ≡ of_guests slirp → new.moment ≡ slirp.moment → new.leases ≡ slirp.leases → new.forwards ≡ slirp.forwards → after.count ≡ at.count → InTurn config past
-    → HoldsOn config at step heard slirp f link past → Changes config after new_step new_heard new e past → HoldsOn config after new_step new_heard new f link (e ∷ past)
+    → HoldsOn config at step heard slirp f link past → Changes config f.aged after new_step new_heard new e past → HoldsOn config after new_step new_heard new f link (e ∷ past)
 after_socket config at after step new_step heard new_heard slirp new f link e past on same_guests same_moment same_leases same_forwards same_count turn holds changes = record {
   lawful = (changes.may, holds.lawful);
   allowed = (changes.allowed, holds.allowed);
@@ -224,7 +232,7 @@ after_socket config at after step new_step heard new_heard slirp new f link e pa
   answers = changes.answers;
   guests = guests_stay config slirp new e past (brings_none config e past on) same_guests holds.guests;
   relayed = changes.relayed;
-  services = services_stay config slirp new e past (brings_none config e past on) same_leases holds.services;
+  services = services_stay config slirp new e past (brings_none config e past on) (seeks_none config e past on) same_leases holds.services;
   forwards = same_forwards ∙ holds.forwards;
   flows = subst (λ m. OfFlows config f m (e ∷ past)) (sym same_moment) (flows_on config f slirp.moment e past on changes.own holds.lawful holds.flows);
   sockets = changes.sockets;

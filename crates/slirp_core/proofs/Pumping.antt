@@ -1,5 +1,5 @@
 -- Writes of a pump that sends what is owed for the frame or datagram that came last.
-use Rattle.std.proofs.Common.{◌≡◌, ℕ, ◌+◌, ◌%◌, ◌^◌, ◌<◌, ◌==◌, ◌&&◌, Bool, true, false, List, [], ◌∷◌, ◌++◌, drop, length, bytes_eq, Some, None, if◌then◌else◌, sym, ◌∙◌, ap, subst, arith, refl}
+use Rattle.std.proofs.Common.{◌≡◌, ℕ, ◌+◌, ◌%◌, ◌^◌, ◌<◌, ◌==◌, ◌&&◌, Bool, true, false, List, [], ◌∷◌, ◌++◌, drop, length, bytes_eq, Some, None, inl, inr, if◌then◌else◌, sym, ◌∙◌, ap, subst, arith, refl}
 use Rattle.std.proofs.lemmas.Bool.Decides.{nat_tests}
 use Rattle.world_face.specs.Journal.{Entry, Allowed, AreAllowed, LinkWrite}
 use Rattle.world_face.specs.declared.Io.{Io}
@@ -13,7 +13,7 @@ use Rattle.flow_book.specs.Doings.{doing_by}
 use Rattle.flow_book.specs.Laws.{MayWrite, flow_settings}
 use Rattle.run_laws.specs.Moments.{moment}
 use Rattle.slirp_laws.specs.Datagrams.{Settled}
-use Rattle.slirp_laws.specs.Sending.{is_beside}
+use Rattle.slirp_laws.specs.Sending.{is_beside, is_explained}
 use Rattle.slirp_laws.specs.Laws.{Lawful, may_begin}
 use Rattle.run_laws.specs.Shape.{phase, is_working, unless_over}
 use Rattle.stream_netdev.specs.Keeps.{Keeps, Writes, Settles}
@@ -30,36 +30,40 @@ use Rattle.slirp_laws.specs.Errands.{errand_left}
 use Rattle.slirp_laws.proofs.Deeds.{writes}
 use Rattle.slirp_core.proofs.Guests.{guests_stay, of_guests}
 use Rattle.slirp_core.proofs.Parts.{asks_nothing, asked_for, due_is, errand_for, in_turn, or_first, two_in}
+use Rattle.slirp_core.specs.Owed.{IsOwed, OfFile, OfLeft}
+use Rattle.slirp_core.proofs.Again.{again_gone, asks_nobody, may_write_again, nothing_to_flows}
+use Rattle.slirp_core.proofs.Owing.{again_stays, files_stay, left_then, owed_as, owed_on, quest_written, unbegun}
+use Rattle.slirp_laws.proofs.FileTurns.{MayGoAgain, is_explained_again}
 use Rattle.slirp_core.proofs.Services.{none_due_for_services}
 use Rattle.slirp_core.proofs.Flows.{answer_goes, flows_answered, flows_stay}
 use Rattle.slirp_core.proofs.Open.{are_open}
 use Rattle.stream_netdev.specs.declared.Offered.TheVariants.{Taken, Blocked as OfferBlocked, Failed as OfferFailed}
 
 -- what is owed after a write is what the network then has
-record Left (config : Config) (past : List Entry) (octets : List ℕ) (answer : Io) (slirp : SlirpState) : Type 0 where
+record Left (config : Config) (aged : Bool) (past : List Entry) (octets : List ℕ) (answer : Io) (slirp : SlirpState) : Type 0 where
   sent : identification (LinkWrite octets answer ∷ past) ≡ slirp.sent
-  pending : taken (goes_out (LinkWrite octets answer) past) (again_frames config (identification past) (serving config past)) (left config past) ≡ slirp.pending
+  owed : IsOwed config aged slirp (LinkWrite octets answer ∷ past)
 
 -- after a lawful write in a turn, by its answer
 after_write : (config : Config) (at : Standing) (slirp new_slirp : SlirpState) (f : Flowing) (old new : LinkState) (past : List Entry) (octets : List ℕ) (answer : Io) (blocked : Bool)
     → Holds config at slirp f old past → InTurn config past → Keeps new (LinkWrite octets answer ∷ past) → Allowed (LinkWrite octets answer) → may_begin config past (tail past) octets ≡ true
     → MayWrite (flow_settings config) (moment past) (book config past).flows (tail past) octets → ((a : Io) → OfFlows config f slirp.moment (LinkWrite octets a ∷ past))
-    → Left config past octets answer new_slirp → new_slirp ≡ record slirp { pending = new_slirp.pending; sent = new_slirp.sent }
+    → Left config f.aged past octets answer new_slirp → new_slirp ≡ record slirp { pending = new_slirp.pending; sent = new_slirp.sent }
     → AfterPump (pumped_of (offered answer) blocked) config at new_slirp f new (LinkWrite octets answer ∷ past)
 after_write config at slirp new_slirp f old new past octets answer blocked holds turn keeps allowed may sent flows remains same = by_answer answer blocked keeps allowed remains
   where
     lawful : (a : Io) → Keeps new (LinkWrite octets a ∷ past) → Lawful config (LinkWrite octets a ∷ past)
     lawful a k = (
-      writes config past octets k.framed.0 (due_is config past Settled turn.working (none_due_for_services config past holds.relayed.heard) holds.flows.holds.asked (asked_for config at Settled None slirp f old past holds)) (ap is_working turn.working) may holds.open_yet sent,
+      writes config past octets k.framed.0 (due_is config past Settled turn.working (none_due_for_services config past holds.relayed.heard holds.services.quest) holds.flows.holds.asked (asked_for config at Settled None slirp f old past holds)) (ap is_working turn.working) may holds.open_yet sent,
       holds.lawful,
     )
 
-    goes : (a : Io) → Keeps new (LinkWrite octets a ∷ past) → Allowed (LinkWrite octets a) → phase config (LinkWrite octets a ∷ past) ≡ phase config past → Left config past octets a new_slirp → Holds config at new_slirp f new (LinkWrite octets a ∷ past)
+    goes : (a : Io) → Keeps new (LinkWrite octets a ∷ past) → Allowed (LinkWrite octets a) → phase config (LinkWrite octets a ∷ past) ≡ phase config past → Left config f.aged past octets a new_slirp → Holds config at new_slirp f new (LinkWrite octets a ∷ past)
     goes a k fine on l = record {
       lawful = lawful a k;
       allowed = (fine, holds.allowed);
       keeps = k;
-      answers = record { sent = l.sent; pending = l.pending };
+      answers = record { sent = l.sent; owed = l.owed };
       guests = guests_stay config slirp new_slirp (LinkWrite octets a) past refl (ap of_guests same) holds.guests;
       relayed = record {
         list = holds.relayed.list ∙ sym (ap (λ (s : SlirpState). s.associations) same);
@@ -67,7 +71,7 @@ after_write config at slirp new_slirp f old new past octets answer blocked holds
         asks = asks_nothing config new_slirp (errand_left config past) (errand_for config Settled None slirp past holds.relayed);
         heard = refl;
       };
-      services = record { leases = holds.services.leases ∙ sym (ap (λ (s : SlirpState). s.leases) same) };
+      services = record { leases = holds.services.leases ∙ sym (ap (λ (s : SlirpState). s.leases) same); quest = quest_written config octets a past holds.services.quest };
       forwards = ap (λ (s : SlirpState). s.forwards) same ∙ holds.forwards;
       flows = subst (λ m. OfFlows config f m (LinkWrite octets a ∷ past)) (sym (ap (λ (s : SlirpState). s.moment) same)) (flows a);
       sockets = record { number = holds.sockets.number ∙ sym (ap (λ (s : SlirpState). s.number) same); kinds = holds.sockets.kinds };
@@ -80,7 +84,7 @@ after_write config at slirp new_slirp f old new past octets answer blocked holds
     now_open : AreOpenWith (forward_sockets slirp.forwards) (carriers (holders_with slirp f.kept)) f.kept.flows.parts past
     now_open = are_open config at Settled None slirp f old past holds
 
-    by_answer : (a : Io) (b : Bool) → Keeps new (LinkWrite octets a ∷ past) → Allowed (LinkWrite octets a) → Left config past octets a new_slirp → AfterPump (pumped_of (offered a) b) config at new_slirp f new (LinkWrite octets a ∷ past)
+    by_answer : (a : Io) (b : Bool) → Keeps new (LinkWrite octets a ∷ past) → Allowed (LinkWrite octets a) → Left config f.aged past octets a new_slirp → AfterPump (pumped_of (offered a) b) config at new_slirp f new (LinkWrite octets a ∷ past)
     by_answer (Done n) true k fine l = goes (Done n) k fine refl l
     by_answer (Done n) false k fine l = goes (Done n) k fine refl l
     by_answer End true k fine l = goes End k fine refl l
@@ -91,7 +95,7 @@ after_write config at slirp new_slirp f old new past octets answer blocked holds
       lawful = lawful Failed k;
       over = ap (λ p. unless_over p LinkFailed) turn.working;
       errand = errand_for config Settled None slirp past holds.relayed;
-      served = none_due_for_services config (LinkWrite octets Failed ∷ past) refl;
+      served = none_due_for_services config (LinkWrite octets Failed ∷ past) refl (quest_written config octets Failed past holds.services.quest);
       idle = (flows Failed).holds.asked;
       sockets = subst (λ (s : SlirpState). AreOpenWith (forward_sockets s.forwards) (carriers (holders_with s f.kept)) f.kept.flows.parts (LinkWrite octets Failed ∷ past)) (sym same) (record { each = now_open.each; forward = now_open.forward; carry = now_open.carry; flow = now_open.flow; apart = now_open.apart; rising = now_open.rising; first = now_open.first });
       two = subst (λ (s : SlirpState). AreTwo (holders_with s f.kept)) (sym same) (two_in config slirp past holds.lawful holds.relayed.list holds.relayed.questions);
@@ -128,13 +132,10 @@ after_flush config at slirp f old new made past result pumped some (answer, is, 
     none_opens a rest [] some is = absurd (omega (arith, ap length is))
     none_opens a rest (x ∷ t) some is = refl
 
-    remains : (a : Io) → opens (LinkWrite old.tail a) (tail past) ≡ None → Left config past old.tail a slirp
+    remains : (a : Io) → opens (LinkWrite old.tail a) (tail past) ≡ None → Left config f.aged past old.tail a slirp
     remains a none =
-        let same_sent : identification (LinkWrite old.tail a ∷ past) ≡ identification past = ap (λ o. with_datagrams o (datagrams_out past) % 2 ^ 16) none in
-        record {
-          sent = same_sent ∙ holds.answers.sent;
-          pending = ap (λ o. taken o (again_frames config (identification past) (serving config past)) (left config past)) none ∙ holds.answers.pending;
-        }
+        let same = unbegun config old.tail a past none in
+        record { sent = same.ident ∙ holds.answers.sent; owed = owed_on config f.aged slirp past (LinkWrite old.tail a ∷ past) same holds.answers.owed }
 
 same : (n : ℕ) → (n == n) ≡ true
 same n = grind (arith, nat_tests)
@@ -153,6 +154,13 @@ is_the_first frame rest = ap (λ f. bytes_eq f frame) (spelt frame) ∙ same_oct
 counts_on : (more out : ℕ) → (more + out) % 2 ^ 16 ≡ (more + out % 2 ^ 16) % 2 ^ 16
 counts_on more out = omega arith
 
+-- the frame may go out, flows are as they should be after it, and what is owed then is what the network has
+record Offers (config : Config) (f : Flowing) (slirp : SlirpState) (past : List Entry) (frame : List ℕ) (rest : List (List ℕ)) : Type 0 where
+  explained : is_explained config past (drop 4 (spelling frame)) ≡ true
+  goes : MayWrite (flow_settings config) (moment past) (book config past).flows (tail past) (spelling frame)
+  flows : (a : Io) → OfFlows config f slirp.moment (LinkWrite (spelling frame) a ∷ past)
+  owed : (a : Io) (next : SlirpState) → tail past ≡ [] → next.pending ≡ keep (offered a) (frame ∷ rest) → next.transfers ≡ slirp.transfers → IsOwed config f.aged next (LinkWrite (spelling frame) a ∷ past)
+
 -- a write of the frame that is next
 pub after_offer : (config : Config) (at : Standing) (slirp new_slirp : SlirpState) (f : Flowing) (old new : LinkState) (made past : List Entry) (frame : List ℕ) (rest : List (List ℕ)) (result : Offered) (pumped : Pumped)
     → old.tail ≡ [] → slirp.pending ≡ frame ∷ rest → Writes result (spelling frame) made
@@ -166,19 +174,17 @@ after_offer config at slirp new_slirp f old new made past frame rest result pump
     let Goal : List Entry → Type 0 = λ made. AfterPump pumped config at new_slirp f new (made ++ past) in
     let k = subst (λ m. Keeps new (m ++ past)) is (keeps past holds.keeps) in
     let tail_is : tail past ≡ [] = holds.keeps.rest ∙ none in
-    let only = holds.answers.pending ∙ is_pending in
-    let first : is_first (drop 4 (spelling frame)) (left config past) ≡ true =
-    ap (is_first (drop 4 (spelling frame))) only ∙ is_the_first frame rest in
     let new_pending : new_slirp.pending ≡ keep (offered answer) (frame ∷ rest) = kept ∙ ap (λ r. keep r slirp.pending) was ∙ ap (keep (offered answer)) is_pending in
     let new_sent : new_slirp.sent ≡ sent_after (offered answer) (frame ∷ rest) (identification past) =
     counted ∙ ap (λ r. sent_after r slirp.pending slirp.sent) was ∙ ap (λ p. sent_after (offered answer) p slirp.sent) is_pending ∙ ap (sent_after (offered answer) (frame ∷ rest)) (sym holds.answers.sent) in
     subst Goal (sym is)
     (subst (λ p. AfterPump p config at new_slirp f new (LinkWrite (spelling frame) answer ∷ past)) (sym (comes ∙ ap (λ r. pumped_of r new.blocked) was))
     (after_write config at slirp new_slirp f old new past (spelling frame) answer new.blocked holds (in_turn holds.stands (λ u. cc (sym is_pending ∙ u.nothing))) k (subst AreAllowed is allowed).0
-    (ap (λ t. may_begin config past t (spelling frame)) tail_is ∙ or_first (is_first (drop 4 (spelling frame)) (left config past)) (is_out (left config past) && is_beside config past (drop 4 (spelling frame))) first)
-    (answer_goes config f slirp.moment past holds.lawful holds.allowed holds.flows frame rest only (spelling frame) (spelt frame))
-    (λ a. flows_answered config f slirp.moment past holds.lawful holds.allowed holds.flows holds.clock.moment frame rest only (spelling frame) a (spelt frame))
-    (remains answer only first tail_is new_pending new_sent) same))
+    (ap (λ t. may_begin config past t (spelling frame)) tail_is ∙ (offers holds.answers.owed).explained) (offers holds.answers.owed).goes (offers holds.answers.owed).flows
+    (record {
+      sent = ap (λ t. with_datagrams (opens (LinkWrite (spelling frame) answer) t) (datagrams_out past) % 2 ^ 16) tail_is ∙ sent_by answer ∙ sym new_sent;
+      owed = (offers holds.answers.owed).owed answer new_slirp tail_is new_pending (ap (λ (s : SlirpState). s.transfers) changed);
+    }) same))
   where
     sent_by : (a : Io) → with_datagrams (opens (LinkWrite (spelling frame) a) []) (datagrams_out past) % 2 ^ 16 ≡ sent_after (offered a) (frame ∷ rest) (identification past)
     sent_by (Done n) = ap (λ f. (datagrams_in f + datagrams_out past) % 2 ^ 16) (spelt frame) ∙ counts_on (datagrams_in frame) (datagrams_out past)
@@ -192,13 +198,45 @@ after_offer config at slirp new_slirp f old new made past frame rest result pump
     left_by NotYet before again only = only
     left_by Failed before again only = only
 
-    remains : (a : Io) → left config past ≡ frame ∷ rest → is_first (drop 4 (spelling frame)) (left config past) ≡ true → tail past ≡ []
-        → new_slirp.pending ≡ keep (offered a) (frame ∷ rest) → new_slirp.sent ≡ sent_after (offered a) (frame ∷ rest) (identification past) → Left config past (spelling frame) a new_slirp
-    remains a only first tail_is new_pending new_sent = record {
-      sent = ap (λ t. with_datagrams (opens (LinkWrite (spelling frame) a) t) (datagrams_out past) % 2 ^ 16) tail_is ∙ sent_by a ∙ sym new_sent;
-      pending = ap (λ t. taken (opens (LinkWrite (spelling frame) a) t) (again_frames config (identification past) (serving config past)) (left config past)) tail_is
-          ∙ left_by a (left config past) (again_frames config (identification past) (serving config past)) only ∙ sym new_pending;
-    }
+    -- of an answer
+    offers_left : OfLeft config f.aged slirp past → Offers config f slirp past frame rest
+    offers_left l =
+        let only : left config past ≡ frame ∷ rest = l.left ∙ is_pending in
+        record {
+          explained = or_first (is_first (drop 4 (spelling frame)) (left config past)) (is_out (left config past) && is_beside config past (drop 4 (spelling frame))) (ap (is_first (drop 4 (spelling frame))) only ∙ is_the_first frame rest);
+          goes = answer_goes config f slirp.moment past holds.lawful holds.allowed holds.flows frame rest only (spelling frame) (spelt frame);
+          flows = λ a. flows_answered config f slirp.moment past holds.lawful holds.allowed holds.flows holds.clock.moment frame rest only (spelling frame) a (spelt frame);
+          owed = λ a next tail_is pending transfers. inl (left_then config f.aged slirp next (LinkWrite (spelling frame) a) past (files_stay config (spelling frame) a past frame rest only) (again_stays config (spelling frame) a past frame rest only) refl transfers
+          (ap (λ t. taken (opens (LinkWrite (spelling frame) a) t) (again_frames config (identification past) (serving config past)) (left config past)) tail_is
+          ∙ left_by a (left config past) (again_frames config (identification past) (serving config past)) only ∙ sym pending) l);
+        }
+
+    -- of a packet of a file that goes again
+    offers_file : OfFile config f.aged slirp past → Offers config f slirp past frame rest
+    offers_file file =
+        let m : MayGoAgain config past file.said frame rest = record { nothing = file.left; may = file.may; frames = sym file.pending ∙ is_pending } in
+        record {
+          explained = ap (is_explained config past) (spelt frame) ∙ is_explained_again config past file.said frame rest holds.flows.unit m;
+          goes = may_write_again config past file.said frame rest holds.flows.unit m (spelling frame) (spelt frame);
+          flows = λ a. flows_stay config f slirp.moment (LinkWrite (spelling frame) a) past (nothing_to_flows config past file.said frame rest holds.flows.unit m (spelling frame) (spelt frame) a) (asks_nobody config past file.said frame rest holds.flows.unit m (spelling frame) (spelt frame) a) (omega arith) refl holds.flows;
+          owed = λ a next tail_is pending transfers. by m a next tail_is pending transfers;
+        }
+      where
+        unless_out : (a : Io) (next : SlirpState) → goes_out (LinkWrite (spelling frame) a) past ≡ None → next.pending ≡ frame ∷ rest → next.transfers ≡ slirp.transfers → IsOwed config f.aged next (LinkWrite (spelling frame) a ∷ past)
+        unless_out a next none pending transfers =
+            owed_as config f.aged slirp next (LinkWrite (spelling frame) a ∷ past) (pending ∙ sym is_pending) transfers
+            (owed_on config f.aged slirp past (LinkWrite (spelling frame) a ∷ past) (unbegun config (spelling frame) a past none) (inr file))
+
+        by : MayGoAgain config past file.said frame rest → (a : Io) (next : SlirpState) → tail past ≡ [] → next.pending ≡ keep (offered a) (frame ∷ rest) → next.transfers ≡ slirp.transfers → IsOwed config f.aged next (LinkWrite (spelling frame) a ∷ past)
+        by m (Done n) next tail_is pending transfers =
+            inl (again_gone config past file.said frame rest holds.flows.unit m (spelling frame) (Done n) holds.lawful (ap (opens (LinkWrite (spelling frame) (Done n))) tail_is ∙ ap Some (spelt frame)) f.aged next pending file.on_its_way (transfers ∙ file.files))
+        by m End next tail_is pending transfers = unless_out End next (ap (opens (LinkWrite (spelling frame) End)) tail_is) pending transfers
+        by m NotYet next tail_is pending transfers = unless_out NotYet next (ap (opens (LinkWrite (spelling frame) NotYet)) tail_is) pending transfers
+        by m Failed next tail_is pending transfers = unless_out Failed next (ap (opens (LinkWrite (spelling frame) Failed)) tail_is) pending transfers
+
+    offers : IsOwed config f.aged slirp past → Offers config f slirp past frame rest
+    offers (inl l) = offers_left l
+    offers (inr file) = offers_file file
 
 pub leaves_rest : (new : LinkState) (result : Offered) → Settles result new → LeavesRest (pumped_of result new.blocked) new
 leaves_rest new Taken settles = elim new.blocked as (λ b. (b ≡ false → new.tail ≡ []) → new.blocked ≡ b → LeavesRest (pumped_of Taken b) new) [ true ↦ λ s is. is | false ↦ λ s is. (is, s refl) ] settles refl

@@ -19,16 +19,17 @@ use Rattle.run_laws.specs.Guests.{known, with_arrival}
 use Rattle.run_laws.specs.Happenings.{arrival_of, happens}
 use Rattle.run_laws.specs.Fragments.{fragment_in, sets, waiting, with_fragment, with_frame as waits_with}
 use Rattle.run_laws.specs.Moments.{moment, waits}
-use Rattle.run_laws.specs.Packets.{Packet, Unheard, ArpPacket, Message, DatagramPacket, Segment, packet_in}
+use Rattle.run_laws.specs.Packets.{Packet, Unheard, ArpPacket, Message, DatagramPacket, Segment, Datagram, packet_in}
 use Rattle.run_laws.specs.Shape.{Phase, Working, Over, By, phase, phase_after, is_working}
 use Rattle.slirp_laws.specs.Agenda.{agenda, all_wanted, behind, from, is_to_read, reads_on as goes_on_reading, wanted_of}
 use Rattle.dhcp_server.specs.declared.leases.Lease.{Lease}
 use Rattle.ipv4_reasm.specs.Areas.{Gathered}
-use Rattle.slirp_laws.specs.Answers.{Serving, frames_of, identification, is_out, ledger, left, left_after, owed_for_packet, serving, strays}
+use Rattle.slirp_laws.specs.Answers.{Serving, files_after, files_by_fate, files_by_packet, frames_of, identification, is_out, ledger, left, left_after, owed_for_fate, owed_for_packet, serving, strays}
 use Rattle.slirp_laws.specs.Leasing.{leases, leases_by, leases_by_packet}
 use Rattle.slirp_laws.specs.Asking.{step_of}
 use Rattle.slirp_laws.specs.Errands.{errand_after, errand_left}
-use Rattle.slirp_laws.specs.Datagrams.{Settled, errand_by_packet}
+use Rattle.slirp_laws.specs.Datagrams.{Fate, Ignored, Refused, ForLeases, ForFiles, GoesTo, Settled, errand_by, errand_by_packet, fate}
+use Rattle.tftp_server.specs.Transfers.{Files, settled}
 use Rattle.slirp_laws.specs.Laws.{Lawful, May, is_closing, is_nothing, joins}
 use Rattle.run_laws.specs.Sockets.{next_number}
 use Rattle.spliced_flows.specs.Stands.{InWork}
@@ -40,8 +41,8 @@ use Rattle.stream_netdev.specs.State.{LinkState}
 use Rattle.stream_netdev.specs.declared.Arrived.{Arrived}
 use Rattle.slirp_core.specs.Fragments.{IsHeld}
 use Rattle.slirp_core.specs.Forwards.{forward_sockets}
-use Rattle.slirp_core.specs.Holds.{AreOpenWith, carriers, holders_with, asked_by, InTurn, IsLast, standing, Comes, Ended, Holds, HoldsAt, OfFlows, OfSockets, Turns, flowing}
-use Rattle.slirp_core.specs.Packets.{with_frame}
+use Rattle.slirp_core.specs.Holds.{AreOpenWith, AsksFile, carriers, holders_with, asked_by, InTurn, IsLast, standing, Comes, Ended, Holds, HoldsAt, OfFlows, OfSockets, Turns, flowing}
+use Rattle.slirp_core.specs.Packets.{errand_in, file_in, owed_at_once_by, owed_with, request_by, request_by_packet, with_frame}
 use Rattle.slirp_core.specs.Services.{OfServices}
 use Rattle.slirp_core.specs.State.{SlirpState, serving_of}
 use Rattle.slirp_core.specs.Waiting.{OfFragments}
@@ -55,6 +56,7 @@ use Rattle.slirp_core.proofs.Parts.{behind_of, errand_for, from_of, reads_of, sk
 use Rattle.slirp_core.proofs.Waitings.{fragments_stay, fragments_take}
 use Rattle.tcp_flows.specs.Kept.{Kept}
 use Rattle.slirp_core.proofs.Flows.{flows_stay}
+use Rattle.slirp_core.proofs.Owing.{nothing_left, of_left, owed_at}
 use Rattle.slirp_core.proofs.Services.{none_due_for_services, serving_is}
 use Rattle.slirp_laws.specs.Names.{answered, questions}
 use Rattle.slirp_core.proofs.Given.{all_given}
@@ -78,6 +80,8 @@ record Quiet (config : Config) (count : ℕ) (wants : List Want) (item : Want) (
   fragments : OfFragments config slirp past
   waits : waiting config past ≡ wait
   serves : OfServices config slirp past
+  idle : (serving config past).again ≡ None
+  files : slirp.transfers ≡ (serving config past).files.transfers
   flows : OfFlows config (flowing false kept) slirp.moment past
   sockets : OfSockets slirp.number past
 
@@ -85,7 +89,7 @@ module _ (config : Config) (count : ℕ) (wants : List Want) (item : Want) (item
   -- a read may come, that asks for what is missing
   may_read : (asked : ℕ) (past : List Entry) → MayFrame past (CallLinkRead asked) → Quiet config count wants item items slirp kept wait past → May config past (CallLinkRead asked)
   may_read asked past framed q =
-      reads_on config past asked framed (due_is config past Settled q.turn.working (none_due_for_services config past q.heard) q.flows.holds.asked (ap (step_of config past) q.unasked)) (ap is_working q.turn.working)
+      reads_on config past asked framed (due_is config past Settled q.turn.working (none_due_for_services config past q.heard q.serves.quest) q.flows.holds.asked (ap (step_of config past) q.unasked)) (ap is_working q.turn.working)
       (reads_of TheLink (wanted_of wants item) (all_wanted wants items) (agenda past) reads_it q.reported)
       (ap (λ t. is_nothing t && is_out (left config past)) q.out ∙ ap is_out q.none) q.open_yet
 
@@ -99,7 +103,9 @@ module _ (config : Config) (count : ℕ) (wants : List Want) (item : Want) (item
   quiet (LinkRead asked (Done n) octets ∷ made) past pieces framed q lawful =
       let (before, so_far) = quiet made past pieces.3 framed.1 q lawful in
       let e = LinkRead asked (Done n) octets in
-      let frame = pieces.1 in (
+      let frame = pieces.1 in
+      let unsought : (serving config (e ∷ made ++ past)).files ≡ (serving config (made ++ past)).files =
+      ap (λ o. files_after config (made ++ past) (happens config (made ++ past) e) (option_map (arrival_of config (moment (made ++ past)) (waiting config (made ++ past))) o) (ledger config (made ++ past))) frame in (
         record {
           turn = record { working = ap (λ o. phase_after e o (phase config (made ++ past))) pieces.2 ∙ before.turn.working; waited = before.turn.waited };
           reported = subst (λ (b : Bool). IsLast (all_wanted wants (item ∷ items)) (if not b then from TheLink (agenda (made ++ past)) else behind TheLink (agenda (made ++ past))))
@@ -118,7 +124,10 @@ module _ (config : Config) (count : ℕ) (wants : List Want) (item : Want) (item
           fragments = fragments_stay config slirp slirp e (made ++ past) frame refl before.fragments;
           serves = record {
             leases = ap (λ o. leases_by config (moment (made ++ past)) (option_map (arrival_of config (moment (made ++ past)) (waiting config (made ++ past))) o) (leases config (made ++ past))) frame ∙ before.serves.leases;
+            quest = ap (λ (k : Files). k.quest) unsought ∙ before.serves.quest;
           };
+          idle = before.idle;
+          files = before.files ∙ sym (ap (λ (k : Files). k.transfers) unsought);
           waits = ap (λ o. young (moment (made ++ past)) (waits_with config (moment (made ++ past)) o (sets config (made ++ past)))) frame ∙ before.waits;
           flows = flows_stay config (flowing false kept) slirp.moment e (made ++ past) (ap (λ o. doing_by (option_map (arrival_of config (moment (made ++ past)) (waiting config (made ++ past))) o) None e) frame) refl (omega arith) refl before.flows;
           sockets = record { number = before.sockets.number; kinds = before.sockets.kinds };
@@ -143,19 +152,77 @@ packet_of config now wait (Some frame) = packet_in config now wait frame
 -- the network once that packet is taken in, with these areas of fragments; a segment is answered when it is heard
 abbrev pub after_packet : Config → SlirpState → Packet → Option (List ℕ) → List Gathered → SlirpState
 after_packet config s packet frame parts = record s {
-  pending = frames_of config s.sent (owed_for_packet config (serving_of s) false packet);
+  pending = frames_of config s.sent (owed_with config (serving_of s) packet);
   known = with_frame config frame s.known;
   parts = parts;
   leases = leases_by_packet config s.moment packet s.leases;
 }
 
--- where it is no segment, nothing of it strays
-pub strays_none : (config : Config) (s : Serving) (b : Bool) (p : Packet) → segment_by p ≡ None → owed_for_packet config s b p ≡ owed_for_packet config s false p
-strays_none config s b Unheard none = refl
-strays_none config s b (ArpPacket arp) none = refl
-strays_none config s b (Message mac ip message) none = refl
-strays_none config s b (DatagramPacket d) none = refl
-strays_none config s b (Segment mac ip tcp) none = cc
+-- where it is no segment, and no datagram for the server of files, it is answered at once, and nothing is sought
+once_by : (config : Config) (s : Serving) (d : Datagram) (f : Fate) → file_in (request_by d f) ≡ None → owed_for_fate config s d f ≡ owed_at_once_by config s d f
+once_by config s d Ignored none = refl
+once_by config s d Refused none = refl
+once_by config s d ForLeases none = refl
+once_by config s d ForFiles none = cc
+once_by config s d (GoesTo to) none = refl
+
+pub owed_once : (config : Config) (s : Serving) (b : Bool) (p : Packet) → segment_by p ≡ None → file_in (request_by_packet config p) ≡ None → owed_for_packet config s b p ≡ owed_with config s p
+owed_once config s b Unheard none unserved = refl
+owed_once config s b (ArpPacket arp) none unserved = refl
+owed_once config s b (Message mac ip message) none unserved = refl
+owed_once config s b (DatagramPacket d) none unserved = once_by config s d (fate config d) unserved
+owed_once config s b (Segment mac ip tcp) none unserved = cc
+
+unsought_by : (config : Config) (s : Serving) (d : Datagram) (f : Fate) → file_in (request_by d f) ≡ None → files_by_fate config s d f ≡ s.files
+unsought_by config s d Ignored none = refl
+unsought_by config s d Refused none = refl
+unsought_by config s d ForLeases none = refl
+unsought_by config s d ForFiles none = cc
+unsought_by config s d (GoesTo to) none = refl
+
+pub seeks_nothing : (config : Config) (s : Serving) (p : Packet) → file_in (request_by_packet config p) ≡ None → files_by_packet config s p ≡ s.files
+seeks_nothing config s Unheard none = refl
+seeks_nothing config s (ArpPacket arp) none = refl
+seeks_nothing config s (Message mac ip message) none = refl
+seeks_nothing config s (DatagramPacket d) none = unsought_by config s d (fate config d) none
+seeks_nothing config s (Segment mac ip tcp) none = refl
+
+-- what goes out of what a packet asks for
+errand_by_fate : (d : Datagram) (f : Fate) → errand_by d f ≡ errand_in (request_by d f)
+errand_by_fate d Ignored = refl
+errand_by_fate d Refused = refl
+errand_by_fate d ForLeases = refl
+errand_by_fate d ForFiles = refl
+errand_by_fate d (GoesTo to) = refl
+
+pub errand_is_in : (config : Config) (p : Packet) → errand_by_packet config p ≡ errand_in (request_by_packet config p)
+errand_is_in config Unheard = refl
+errand_is_in config (ArpPacket arp) = refl
+errand_is_in config (Message mac ip message) = refl
+errand_is_in config (DatagramPacket d) = errand_by_fate d (fate config d)
+errand_is_in config (Segment mac ip tcp) = refl
+
+-- a packet is this datagram, which is for the server of files
+pub record IsForFiles (config : Config) (d : Datagram) (p : Packet) : Type 0 where
+  pub packet : p ≡ DatagramPacket d
+  pub fate : fate config d ≡ ForFiles
+
+for_files_by : (config : Config) (d e : Datagram) (f : Fate) → fate config e ≡ f → file_in (request_by e f) ≡ Some d → IsForFiles config d (DatagramPacket e)
+for_files_by config d e Ignored is file = cc
+for_files_by config d e Refused is file = cc
+for_files_by config d e ForLeases is file = cc
+for_files_by config d e (GoesTo to) is file = cc
+for_files_by config d e ForFiles is file = let same : e ≡ d = the_same file in record { packet = ap DatagramPacket same; fate = sym (ap (fate config) same) ∙ is }
+  where
+    the_same : Some e ≡ Some d → e ≡ d
+    the_same is = cc
+
+pub for_files : (config : Config) (d : Datagram) (p : Packet) → file_in (request_by_packet config p) ≡ Some d → IsForFiles config d p
+for_files config d Unheard is = cc
+for_files config d (ArpPacket arp) is = cc
+for_files config d (Message mac ip message) is = cc
+for_files config d (DatagramPacket e) is = for_files_by config d e (fate config e) refl is
+for_files config d (Segment mac ip tcp) is = cc
 
 -- and which fragments wait
 abbrev pub KeepsParts : Config → SlirpState → SlirpState → Option (List ℕ) → Type 0
@@ -176,6 +243,8 @@ record Newest (config : Config) (count : ℕ) (wants : List Want) (item : Want) 
   open_yet : is_closing config all ≡ false
   sent_is : identification all ≡ slirp.sent
   left_is : left config all ≡ frames_of config slirp.sent (owed_for_packet config (serving_of slirp) (strays config (book config all) (packet_of config slirp.moment wait (arrived all))) (packet_of config slirp.moment wait (arrived all)))
+  files_is : (serving config all).files ≡ files_by_packet config (serving_of slirp) (packet_of config slirp.moment wait (arrived all))
+  idle : (serving config all).again ≡ None
   lent : leases config all ≡ leases_by_packet config slirp.moment (packet_of config slirp.moment wait (arrived all)) slirp.leases
   known_is : known config all ≡ with_frame config (arrived all) slirp.known
   counted : waits all ≡ count
@@ -209,8 +278,11 @@ newest config count wants item items slirp kept wait reads_it (LinkRead asked an
       open_yet = quiet_before.open_yet;
       sent_is = quiet_before.sent_is;
       left_is = owes (arrives (LinkRead asked answer octets) (made ++ past)) quiet_before.none
-          ∙ (λ i. frames_of config (quiet_before.sent_is i) (owed_for_packet config (serving_is config slirp (made ++ past) quiet_before.clock quiet_before.serves i) (strays config (book config ((LinkRead asked answer octets) ∷ (made ++ past))) (packet_of config (quiet_before.clock i) (quiet_before.waits i) (arrives (LinkRead asked answer octets) (made ++ past))))
+          ∙ (λ i. frames_of config (quiet_before.sent_is i) (owed_for_packet config (serving_is config slirp (made ++ past) quiet_before.clock quiet_before.serves quiet_before.idle quiet_before.files i) (strays config (book config ((LinkRead asked answer octets) ∷ (made ++ past))) (packet_of config (quiet_before.clock i) (quiet_before.waits i) (arrives (LinkRead asked answer octets) (made ++ past))))
           (packet_of config (quiet_before.clock i) (quiet_before.waits i) (arrives (LinkRead asked answer octets) (made ++ past)))));
+      files_is = seeks (arrives (LinkRead asked answer octets) (made ++ past))
+          ∙ (λ i. files_by_packet config (serving_is config slirp (made ++ past) quiet_before.clock quiet_before.serves quiet_before.idle quiet_before.files i) (packet_of config (quiet_before.clock i) (quiet_before.waits i) (arrives (LinkRead asked answer octets) (made ++ past))));
+      idle = quiet_before.idle;
       lent = lends (arrives (LinkRead asked answer octets) (made ++ past)) (leases config (made ++ past))
           ∙ (λ i. leases_by_packet config (quiet_before.clock i) (packet_of config (quiet_before.clock i) (quiet_before.waits i) (arrives (LinkRead asked answer octets) (made ++ past))) (quiet_before.serves.leases i));
       known_is = teaches (arrives (LinkRead asked answer octets) (made ++ past)) (known config (made ++ past)) ∙ ap (with_frame config (arrives (LinkRead asked answer octets) (made ++ past))) quiet_before.known_is;
@@ -250,6 +322,11 @@ newest config count wants item items slirp kept wait reads_it (LinkRead asked an
         ≡ frames_of config (identification (made ++ past)) (owed_for_packet config (serving config (made ++ past)) (strays config (book config ((LinkRead asked answer octets) ∷ (made ++ past))) (packet_of config (moment (made ++ past)) (waiting config (made ++ past)) o)) (packet_of config (moment (made ++ past)) (waiting config (made ++ past)) o))
     owes None is = is
     owes (Some frame) is = refl
+
+    seeks : (o : Option (List ℕ)) → files_after config (made ++ past) (happens config (made ++ past) (LinkRead asked answer octets)) (option_map (arrival_of config (moment (made ++ past)) (waiting config (made ++ past))) o) (ledger config (made ++ past))
+        ≡ files_by_packet config (serving config (made ++ past)) (packet_of config (moment (made ++ past)) (waiting config (made ++ past)) o)
+    seeks None = refl
+    seeks (Some frame) = refl
 
     lends : (o : Option (List ℕ)) (l : List Lease) → leases_by config (moment (made ++ past)) (option_map (arrival_of config (moment (made ++ past)) (waiting config (made ++ past))) o) l
         ≡ leases_by_packet config (moment (made ++ past)) (packet_of config (moment (made ++ past)) (waiting config (made ++ past)) o) l
@@ -297,7 +374,7 @@ module _ (config : Config) (count : ℕ) (wants : List Want) (item : Want) (item
         reported = holds.agenda;
         open_yet = holds.open_yet;
         sent_is = holds.answers.sent;
-        none = holds.answers.pending ∙ no_packet;
+        none = nothing_left config false slirp past no_packet holds.answers.owed;
         out = holds.keeps.rest ∙ out;
         known_is = holds.guests.known;
         counted = holds.clock.counted;
@@ -309,6 +386,8 @@ module _ (config : Config) (count : ℕ) (wants : List Want) (item : Want) (item
         fragments = holds.guests.fragments;
         waits = refl;
         serves = holds.services;
+        idle = (of_left config false slirp past no_packet holds.answers.owed).again;
+        files = (of_left config false slirp past no_packet holds.answers.owed).files;
         flows = holds.flows;
         sockets = holds.sockets;
       }) holds.lawful
@@ -320,27 +399,32 @@ module _ (config : Config) (count : ℕ) (wants : List Want) (item : Want) (item
   arrived_is : packet_of config slirp.moment wait (arrived (made ++ past)) ≡ packet
   arrived_is = ap (packet_of config slirp.moment wait) (read past holds.keeps).1.frame
 
-  -- no segment of TCP: what it owes is owed from now on
-  pub read_on : (new_slirp : SlirpState) → ending_of answer ≡ None → KeepsParts config slirp new_slirp (hands answer new) → segment_by packet ≡ None
+  -- no segment of TCP, and nothing for the server of files: what it owes is owed from now on
+  pub read_on : (new_slirp : SlirpState) → ending_of answer ≡ None → KeepsParts config slirp new_slirp (hands answer new) → segment_by packet ≡ None → file_in (request_by_packet config packet) ≡ None
       → new_slirp ≡ after_packet config slirp packet (hands answer new) new_slirp.parts
       → HoldsAt config (standing count wants items) (asked_by config slirp (errand_by_packet config packet)) new_slirp (flowing false kept) new (made ++ past)
-  read_on new_slirp goes_on keeps none is =
+  read_on new_slirp goes_on keeps none unserved is =
       let r = read past holds.keeps in
       let then_is = after_packet config slirp packet (hands answer new) new_slirp.parts in
       let was = all.quiet_flows (ap segment_by arrived_is ∙ none) in
+      let unsought : (serving config (made ++ past)).files ≡ settled slirp.transfers = all.files_is ∙ ap (files_by_packet config (serving_of slirp)) arrived_is ∙ seeks_nothing config (serving_of slirp) packet unserved in
       subst (λ (s : SlirpState). HoldsAt config (standing count wants items) (asked_by config slirp (errand_by_packet config packet)) s (flowing false kept) new (made ++ past)) (sym is) (record {
         lawful = all.lawful;
         allowed = allowed_then made past allowed holds.allowed;
         keeps = r.0;
         answers = record {
           sent = all.sent_is;
-          pending = all.left_is ∙ ap (λ p. frames_of config slirp.sent (owed_for_packet config (serving_of slirp) (strays config (book config (made ++ past)) p) p)) arrived_is
-              ∙ ap (frames_of config slirp.sent) (strays_none config (serving_of slirp) (strays config (book config (made ++ past)) packet) packet none);
+          owed = owed_at (asked_by config slirp (errand_by_packet config packet)) config false then_is (made ++ past) (record {
+            left = all.left_is ∙ ap (λ p. frames_of config slirp.sent (owed_for_packet config (serving_of slirp) (strays config (book config (made ++ past)) p) p)) arrived_is
+                ∙ ap (frames_of config slirp.sent) (owed_once config (serving_of slirp) (strays config (book config (made ++ past)) packet) packet none unserved);
+            again = all.idle;
+            files = sym (ap (λ (k : Files). k.transfers) unsought);
+          });
         };
         guests = guests_learn config slirp then_is (hands answer new) (made ++ past) holds.guests.settings
             (all.known_is ∙ ap (λ o. with_frame config o slirp.known) r.1.frame) refl refl (all.fragments then_is (subst (λ o. KeepsParts config slirp then_is o) (sym r.1.frame) (kept_as (hands answer new) new_slirp keeps)));
         relayed = record { list = all.list; questions = all.named; asks = ap (asked_by config slirp) (all.asks ∙ ap (errand_by_packet config) arrived_is); heard = all.heard };
-        services = record { leases = all.lent ∙ ap (λ p. leases_by_packet config slirp.moment p slirp.leases) arrived_is };
+        services = record { leases = all.lent ∙ ap (λ p. leases_by_packet config slirp.moment p slirp.leases) arrived_is; quest = ap (λ (k : Files). k.quest) unsought };
         forwards = holds.forwards;
         flows = record { holds = was.holds; asked = was.asked; settings = was.settings; unit = was.unit };
         sockets = all.sockets;
@@ -367,6 +451,7 @@ module _ (config : Config) (count : ℕ) (wants : List Want) (item : Want) (item
       let lawful_then = subst (Lawful config) all.is all.lawful in
       let work : phase config (made ++ past) ≡ Working = all.phase_is ∙ ap over_by (r.1.last ∙ goes_on) in
       let unasked : errand_left config (made ++ past) ≡ None = all.asks ∙ ap (errand_by_packet config) (arrived_is ∙ seg) in
+      let unsought : (serving config (made ++ past)).files ≡ settled slirp.transfers = all.files_is ∙ ap (files_by_packet config (serving_of slirp)) (arrived_is ∙ seg) in
       subst (λ (s : SlirpState). Comes config (standing count wants items) s kept new (coming mac ip tcp) (made ++ past)) (sym is) (record {
         newest = all.e;
         before = all.before;
@@ -377,7 +462,7 @@ module _ (config : Config) (count : ℕ) (wants : List Want) (item : Want) (item
           settings = q.flows.settings;
           lawful_before = all.lawful_before;
           lawful = lawful_then;
-          work = subst (InWork config) all.is (record { working = work; errand = unasked; services = none_due_for_services config (made ++ past) all.heard; open_yet = all.open_yet });
+          work = subst (InWork config) all.is (record { working = work; errand = unasked; services = none_due_for_services config (made ++ past) all.heard (ap (λ (k : Files). k.quest) unsought); open_yet = all.open_yet });
           at_before = q.clock;
           at = subst (λ l. moment l ≡ slirp.moment) all.is all.clock;
           comes = all.comes on (ap segment_by (arrived_is ∙ seg));
@@ -391,10 +476,12 @@ module _ (config : Config) (count : ℕ) (wants : List Want) (item : Want) (item
         sent = all.sent_is;
         owed = all.left_is ∙ ap (λ p. frames_of config slirp.sent (owed_for_packet config (serving_of slirp) (strays config (book config (made ++ past)) p) p)) (arrived_is ∙ seg);
         none = no_packet;
+        again = all.idle;
+        files = sym (ap (λ (k : Files). k.transfers) unsought);
         guests = guests_learn config slirp then_is (hands answer new) (made ++ past) holds.guests.settings
             (all.known_is ∙ ap (λ o. with_frame config o slirp.known) r.1.frame) refl refl (all.fragments then_is (subst (λ o. KeepsParts config slirp then_is o) (sym r.1.frame) (kept_as (hands answer new) new_slirp keeps)));
         relayed = record { list = all.list; questions = all.named; asks = ap (asked_by config slirp) unasked; heard = all.heard };
-        services = record { leases = all.lent ∙ ap (λ p. leases_by_packet config slirp.moment p slirp.leases) (arrived_is ∙ seg) };
+        services = record { leases = all.lent ∙ ap (λ p. leases_by_packet config slirp.moment p slirp.leases) (arrived_is ∙ seg); quest = ap (λ (k : Files). k.quest) unsought };
         forwards = holds.forwards;
         learnt = all.taught_it mac ip tcp (arrived_is ∙ seg);
         unit = holds.flows.unit;
@@ -409,6 +496,44 @@ module _ (config : Config) (count : ℕ) (wants : List Want) (item : Want) (item
       kept_as None other keeps = keeps
       kept_as (Some frame) other keeps = keeps
 
+  -- a datagram for the server of files, which is still to be served
+  pub read_file : (new_slirp : SlirpState) (d : Datagram) → ending_of answer ≡ None → KeepsParts config slirp new_slirp (hands answer new) → file_in (request_by_packet config packet) ≡ Some d
+      → new_slirp ≡ after_packet config slirp packet (hands answer new) new_slirp.parts
+      → AsksFile config (standing count wants items) new_slirp kept new d (made ++ past)
+  read_file new_slirp d goes_on keeps file is =
+      let r = read past holds.keeps in
+      let then_is = after_packet config slirp packet (hands answer new) new_slirp.parts in
+      let its = for_files config d packet file in
+      let was = all.quiet_flows (ap segment_by (arrived_is ∙ its.packet)) in
+      let unasked : errand_left config (made ++ past) ≡ None = all.asks ∙ ap (errand_by_packet config) (arrived_is ∙ its.packet) ∙ ap (errand_by d) its.fate in
+      subst (λ (s : SlirpState). AsksFile config (standing count wants items) s kept new d (made ++ past)) (sym is) (record {
+        lawful = all.lawful;
+        allowed = allowed_then made past allowed holds.allowed;
+        keeps = r.0;
+        sent = all.sent_is;
+        outcome = all.files_is ∙ ap (files_by_packet config (serving_of slirp)) (arrived_is ∙ its.packet) ∙ ap (files_by_fate config (serving_of slirp) d) its.fate;
+        owed = all.left_is ∙ ap (λ p. frames_of config slirp.sent (owed_for_packet config (serving_of slirp) (strays config (book config (made ++ past)) p) p)) (arrived_is ∙ its.packet)
+            ∙ ap (λ f. frames_of config slirp.sent (owed_for_fate config (serving_of slirp) d f)) its.fate;
+        none = ap (λ p. frames_of config slirp.sent (owed_with config (serving_of slirp) p)) its.packet ∙ ap (λ f. frames_of config slirp.sent (owed_at_once_by config (serving_of slirp) d f)) its.fate;
+        again = all.idle;
+        guests = guests_learn config slirp then_is (hands answer new) (made ++ past) holds.guests.settings
+            (all.known_is ∙ ap (λ o. with_frame config o slirp.known) r.1.frame) refl refl (all.fragments then_is (subst (λ o. KeepsParts config slirp then_is o) (sym r.1.frame) (kept_as (hands answer new) new_slirp keeps)));
+        relayed = record { list = all.list; questions = all.named; asks = ap (asked_by config slirp) unasked; heard = all.heard };
+        leases = all.lent ∙ ap (λ p. leases_by_packet config slirp.moment p slirp.leases) arrived_is;
+        forwards = holds.forwards;
+        flows = record { holds = was.holds; asked = was.asked; settings = was.settings; unit = was.unit };
+        sockets = all.sockets;
+        clock = record { moment = all.clock; counted = all.counted };
+        turn = record { working = all.phase_is ∙ ap over_by (r.1.last ∙ goes_on); waited = all.waited };
+        agenda = all.reported;
+        open_yet = all.open_yet;
+      })
+    where
+      kept_as : (o : Option (List ℕ)) (other : SlirpState) → KeepsParts config slirp other o
+          → KeepsParts config slirp (after_packet config slirp packet (hands answer new) other.parts) o
+      kept_as None other keeps = keeps
+      kept_as (Some frame) other keeps = keeps
+
   -- the run has ended
   pub read_ends_it : (why : Ending) → ending_of answer ≡ Some why → hands answer new ≡ None → Ended config why slirp.forwards (holders_with slirp kept) (made ++ past)
   read_ends_it why is none =
@@ -419,7 +544,7 @@ module _ (config : Config) (count : ℕ) (wants : List Want) (item : Want) (item
         lawful = all.lawful;
         over = all.phase_is ∙ ap over_by (r.1.last ∙ is);
         errand = all.asks ∙ ap (errand_by_packet config) nothing;
-        served = none_due_for_services config (made ++ past) all.heard;
+        served = none_due_for_services config (made ++ past) all.heard (ap (λ (k : Files). k.quest) (all.files_is ∙ ap (files_by_packet config (serving_of slirp)) nothing));
         idle = flows.holds.asked;
         sockets = subst (λ l. AreOpenWith (forward_sockets l) (carriers (holders_with slirp kept)) kept.flows.parts (made ++ past)) (sym holds.forwards)
             (open_by config slirp (flowing false kept) slirp.moment (made ++ past) all.lawful all.list all.named flows.holds all.sockets.kinds

@@ -1,5 +1,5 @@
 -- Calls on the sockets of datagrams: those of associations, of questions, and of ports of the host that are given to guests.
-use Rattle.std.proofs.Common.{◌≡◌, ℕ, ◌+◌, ◌<◌, ◌==◌, ◌&&◌, ◌||◌, not, Bool, true, false, nat_le, nat_lt, zero, suc, List, [], ◌∷◌, ◌++◌, length, find, slice_get, Option, Some, None, option_map, unwrap_or, if◌then◌else◌, refl, sym, ◌∙◌, ap, arith}
+use Rattle.std.proofs.Common.{◌≡◌, ℕ, ◌+◌, ◌<◌, ◌==◌, ◌&&◌, ◌||◌, not, Bool, true, false, nat_le, nat_lt, zero, suc, List, [], ◌∷◌, ◌++◌, length, find, slice_get, Option, Some, None, option_map, unwrap_or, if◌then◌else◌, inl, refl, sym, ◌∙◌, ap, arith}
 use Rattle.std.proofs.lemmas.Bool.Decides.{nat_tests}
 use Rattle.poll_list.specs.declared.Want.{Want}
 use Rattle.poll_list.specs.declared.Who.TheVariants.{Udp as UdpAt}
@@ -32,7 +32,7 @@ use Rattle.flow_book.specs.Lots.{due_for_flows}
 use Rattle.run_laws.specs.Shape.{due_in, phase, is_ended, is_over as is_run_over, is_working}
 use Rattle.run_laws.specs.Sockets.{Association as OfAssociation, DnsSocket, Flow as OfFlow, Forward, Kind, Listener, datagram_kind, is_among, is_association, is_forward, kind_of, next_number, open_sockets, with_made}
 use Rattle.slirp_laws.specs.Agenda.{agenda, all_wanted, is_to_read, wanted_of}
-use Rattle.slirp_laws.specs.Answers.{frames_of, identification, is_out, left, name_answer, told_about, no_network, unsent, unless_sent, reply_at, reply_for, reply_on}
+use Rattle.slirp_laws.specs.Answers.{frames_of, identification, is_out, left, name_answer, serving, told_about, no_network, unsent, unless_sent, reply_at, reply_for, reply_on}
 use Rattle.slirp_laws.specs.Asking.{step as asked}
 use Rattle.slirp_laws.specs.Errands.{errand_left}
 use Rattle.slirp_laws.specs.Names.{answered, answered_on, has_waited, question, questions, step_to_names, with_opened as name_opened, with_sent as name_sent, with_socket as with_question, without_socket as without_question}
@@ -55,6 +55,9 @@ use Rattle.slirp_core.specs.State.{SlirpState}
 use Rattle.slirp_core.proofs.Given.{leads_at}
 use Rattle.slirp_core.proofs.Names.{association_unmoved, carried as carried_names, kind_carried, kind_named, named_apart, neither, none_moved, none_numbered, none_without, one_numbered, two_apart}
 use Rattle.slirp_core.proofs.Parts.{asks_nothing, behind_of, errand_for, forward_in, given_in, or_first, or_second, reads_of, still_open, after_socket, asked_for, due_is, in_turn}
+use Rattle.slirp_core.specs.Owed.{IsOwedAt}
+use Rattle.tftp_server.specs.Transfers.{Settled as QuestSettled}
+use Rattle.slirp_core.proofs.Owing.{left_stays, left_then, nothing_left as none_left, of_left, owed_stays}
 use Rattle.slirp_core.proofs.Services.{asks_resolver, close_due, none_due_for_services, opened_for_name, opened_for_other}
 use Rattle.slirp_core.proofs.Sockets.{numbered_among, idle_among}
 use Rattle.slirp_core.proofs.Flows.{closes_freely, no_flow}
@@ -184,11 +187,11 @@ unclosed n (a ∷ list) none = by (a.number == n) (turned n a.number false (none
     by false is rest = ap (λ l. a ∷ l) rest
 
 -- the close of the socket is due
-close_is_due : (config : Config) (past : List Entry) (socket : ℕ) → InTurn config past → asked config past ≡ Settled → answered config past ≡ Some socket → due config past ≡ Some (CallClose socket)
-close_is_due config past socket turn settled heard =
+close_is_due : (config : Config) (past : List Entry) (socket : ℕ) → InTurn config past → asked config past ≡ Settled → answered config past ≡ Some socket → (serving config past).files.quest ≡ QuestSettled → due config past ≡ Some (CallClose socket)
+close_is_due config past socket turn settled heard unsought =
     ap (λ q. unless_due (due_in q past) (unless_due (due_for config (asked config past) (next_number past)) (unless_due (due_for_services config past) (due_for_flows config (book config past) (next_number past))))) turn.working
     ∙ ap (λ t. unless_due (due_for config t (next_number past)) (unless_due (due_for_services config past) (due_for_flows config (book config past) (next_number past)))) settled
-    ∙ ap (λ o. unless_due o (due_for_flows config (book config past) (next_number past))) (close_due config past socket heard)
+    ∙ ap (λ o. unless_due o (due_for_flows config (book config past) (next_number past))) (close_due config past socket heard unsought)
 
 module _ (config : Config) (at : Standing) (slirp : SlirpState) (f : Flowing) (link : LinkState) (past : List Entry) where
   module _ (step : Step) (heard : Option ℕ) (holds : HoldsOn config at step heard slirp f link past) where
@@ -255,7 +258,7 @@ module _ (config : Config) (at : Standing) (slirp : SlirpState) (f : Flowing) (l
     module _ (port : Endpoint) (is_port : opened_at config errand ≡ port) where
       open_due : due config past ≡ Some (CallUdpOpen slirp.number port)
       open_due =
-          due_is config past (NeedsSocket errand) turn.working (none_due_for_services config past holds.relayed.heard) holds.flows.holds.asked (asks (NeedsSocket errand) None holds)
+          due_is config past (NeedsSocket errand) turn.working (none_due_for_services config past holds.relayed.heard holds.services.quest) holds.flows.holds.asked (asks (NeedsSocket errand) None holds)
           ∙ (λ i. Some (CallUdpOpen (holds.sockets.number i) (is_port i)))
 
       may_open : May config past (CallUdpOpen slirp.number port)
@@ -270,7 +273,10 @@ module _ (config : Config) (at : Standing) (slirp : SlirpState) (f : Flowing) (l
             may = may_open;
             allowed = allowed;
             own = tt;
-            answers = record { sent = holds.answers.sent; pending = holds.answers.pending };
+            answers = record {
+              sent = holds.answers.sent;
+              owed = left_stays config f.aged slirp (record slirp { number = slirp.number + 1; associations = list; questions = named }) (UdpOpen slirp.number port MadeDone) past refl refl refl refl refl refl holds.answers.owed;
+            };
             relayed = relayed;
             sockets = record { number = ap (λ n. n + 1) holds.sockets.number; kinds = kinds_open slirp.number port MadeDone past turn.waited holds.sockets.kinds };
             agenda = holds.agenda;
@@ -286,9 +292,11 @@ module _ (config : Config) (at : Standing) (slirp : SlirpState) (f : Flowing) (l
             own = tt;
             answers = record {
               sent = holds.answers.sent;
-              pending = ap (λ s. unsent config (identification past) s (left config past)) (asks (NeedsSocket errand) None holds)
+              owed = inl (left_then config f.aged slirp (record slirp { number = slirp.number + 1; pending = frames_of slirp.config slirp.sent (told_about slirp.config no_network errand.datagram) })
+                  (UdpOpen slirp.number port MadeFailed) past refl refl refl refl
+                  (ap (λ s. unsent config (identification past) s (left config past)) (asks (NeedsSocket errand) None holds)
                   ∙ ap (λ i. frames_of config i (told_about config no_network errand.datagram)) holds.answers.sent
-                  ∙ sym (ap (λ k. frames_of k slirp.sent (told_about k no_network errand.datagram)) holds.guests.settings);
+                  ∙ sym (ap (λ k. frames_of k slirp.sent (told_about k no_network errand.datagram)) holds.guests.settings)) holds.answers.owed);
             };
             relayed = record { list = holds.relayed.list; questions = holds.relayed.questions; asks = refl; heard = refl };
             sockets = record { number = ap (λ n. n + 1) holds.sockets.number; kinds = kinds_open slirp.number port MadeFailed past turn.waited holds.sockets.kinds };
@@ -361,7 +369,7 @@ module _ (config : Config) (at : Standing) (slirp : SlirpState) (f : Flowing) (l
     send_turn = in_turn holds.stands (λ u. cc (u.unasked))
 
     send_due : due config past ≡ Some (CallUdpSend socket errand.to errand.datagram.body)
-    send_due = due_is config past (NeedsSending socket errand) send_turn.working (none_due_for_services config past holds.relayed.heard) holds.flows.holds.asked (asks (NeedsSending socket errand) None holds)
+    send_due = due_is config past (NeedsSending socket errand) send_turn.working (none_due_for_services config past holds.relayed.heard holds.services.quest) holds.flows.holds.asked (asks (NeedsSending socket errand) None holds)
 
     may_send : May config past (CallUdpSend socket errand.to errand.datagram.body)
     may_send = sends config past socket errand.to errand.datagram.body send_due on holds.flows.holds.asked holds.open_yet
@@ -377,7 +385,8 @@ module _ (config : Config) (at : Standing) (slirp : SlirpState) (f : Flowing) (l
           own = tt;
           answers = record {
             sent = holds.answers.sent;
-            pending = ap (λ s. unless_sent answer (unsent config (identification past) s (left config past)) (left config past)) (asks (NeedsSending socket errand) None holds) ∙ owes;
+            owed = inl (left_then config f.aged slirp (record slirp { associations = list; questions = named; pending = pending }) e past refl refl refl refl
+                (ap (λ s. unless_sent answer (unsent config (identification past) s (left config past)) (left config past)) (asks (NeedsSending socket errand) None holds) ∙ owes) holds.answers.owed);
           };
           relayed = record {
             list = ap (λ o. with_sent socket (moment past) o (associations config past)) (errand_is (NeedsSending socket errand) None holds)
@@ -395,10 +404,10 @@ module _ (config : Config) (at : Standing) (slirp : SlirpState) (f : Flowing) (l
         })
 
     pub after_sent : Allowed (UdpSend socket errand.to errand.datagram.body SentDone) → Holds config at (record slirp { associations = list; questions = named }) f link (UdpSend socket errand.to errand.datagram.body SentDone ∷ past)
-    after_sent allowed = after_sending SentDone slirp.pending allowed holds.answers.pending
+    after_sent allowed = after_sending SentDone slirp.pending allowed holds.answers.owed.left
 
     pub after_not_sent : Allowed (UdpSend socket errand.to errand.datagram.body SentNotYet) → Holds config at (record slirp { associations = list; questions = named }) f link (UdpSend socket errand.to errand.datagram.body SentNotYet ∷ past)
-    after_not_sent allowed = after_sending SentNotYet slirp.pending allowed holds.answers.pending
+    after_not_sent allowed = after_sending SentNotYet slirp.pending allowed holds.answers.owed.left
 
     pub after_failure : Allowed (UdpSend socket errand.to errand.datagram.body SentFailed)
         → Holds config at (record slirp { associations = list; questions = named; pending = frames_of slirp.config slirp.sent (told_about slirp.config no_network errand.datagram) }) f link (UdpSend socket errand.to errand.datagram.body SentFailed ∷ past)
@@ -413,9 +422,10 @@ module _ (config : Config) (at : Standing) (slirp : SlirpState) (f : Flowing) (l
     here : is_among socket (open_sockets past) ≡ true
     here = first_of (is_among socket (open_sockets past)) (is_association (kind_of socket past)) own
 
-    parted_from : MayDue config past (CallClose socket) → parts config past socket ≡ true → asked_by config (record slirp { associations = list; questions = named }) (errand_left config past) ≡ new_step
+    parted_from : (IsOwedAt step config f.aged slirp past → IsOwedAt new_step config f.aged (record slirp { associations = list; questions = named }) (Close socket ∷ past))
+        → MayDue config past (CallClose socket) → parts config past socket ≡ true → asked_by config (record slirp { associations = list; questions = named }) (errand_left config past) ≡ new_step
         → HoldsAt config at new_step (record slirp { associations = list; questions = named }) f link (Close socket ∷ past)
-    parted_from may_due why comes = after_socket config at at step new_step heard None slirp (record slirp { associations = list; questions = named }) f link (Close socket) past tt refl refl refl refl refl turn holds (record {
+    parted_from owed may_due why comes = after_socket config at at step new_step heard None slirp (record slirp { associations = list; questions = named }) f link (Close socket) past tt refl refl refl refl refl turn holds (record {
       may = closes config past socket may_due (or_first (is_working (phase config past)) (is_run_over (phase config past)) (ap is_working turn.working))
           (and_both (is_among socket (open_sockets past)) _ here
           (ap (λ (b : Bool). if b then is_least socket (open_sockets past) else parts config past socket || (is_ended config past && is_least socket (open_sockets past))) holds.open_yet
@@ -423,7 +433,7 @@ module _ (config : Config) (at : Standing) (slirp : SlirpState) (f : Flowing) (l
           (closes_freely config past socket (no_flow config past socket holds.lawful own) holds.flows.holds.asked);
       allowed = allowed;
       own = own;
-      answers = record { sent = holds.answers.sent; pending = holds.answers.pending };
+      answers = record { sent = holds.answers.sent; owed = owed holds.answers.owed };
       relayed = record { list = ap (without socket) holds.relayed.list ∙ list_is; questions = ap (question_without socket) holds.relayed.questions ∙ named_is; asks = comes; heard = refl };
       sockets = record { number = holds.sockets.number; kinds = λ n among. holds.sockets.kinds n (second_of (not (n == socket)) (is_among n (open_sockets past)) (sym (among_without n socket (open_sockets past)) ∙ among)) };
       agenda = holds.agenda;
@@ -446,7 +456,8 @@ module _ (config : Config) (at : Standing) (slirp : SlirpState) (f : Flowing) (l
       let none = none_of_room (socket_of errand.datagram.from slirp.associations) slirp.associations socket errand (sym (ap (λ o. with_forward o slirp.associations errand) no_forward) ∙ by_port) in
       let then_state : SlirpState = record slirp { associations = without socket slirp.associations } in
       parted_from socket step (NeedsSocket errand) None (without socket slirp.associations) slirp.questions refl (none_without socket slirp.questions (no_name step None holds socket among)) holds turn (carried step None holds socket among) allowed
-      (this_one config past (CallClose socket) (due_is config past step turn.working (none_due_for_services config past holds.relayed.heard) holds.flows.holds.asked (asks step None holds)))
+      (left_stays config f.aged slirp then_state (Close socket) past refl refl refl refl refl refl)
+      (this_one config past (CallClose socket) (due_is config past step turn.working (none_due_for_services config past holds.relayed.heard holds.services.quest) holds.flows.holds.asked (asks step None holds)))
       (parted step None holds socket among (or_first (gives_way config socket (asked config past)) (is_unused socket past) (ap (gives_way config socket) (asks step None holds) ∙ (λ i. same socket i && not (other i)))))
       (ap (asked_by config then_state) left ∙ asks_by_port config then_state errand other
       ∙ ap (λ o. with_forward o (without socket slirp.associations) errand) no_forward
@@ -467,7 +478,8 @@ module _ (config : Config) (at : Standing) (slirp : SlirpState) (f : Flowing) (l
       let none = question_none_of_room (question_socket errand.datagram.from (ident_in errand.datagram.body) slirp.questions) slirp.questions socket errand by_name in
       let then_state : SlirpState = record slirp { questions = question_without socket slirp.questions } in
       parted_from socket step (NeedsSocket errand) None slirp.associations (question_without socket slirp.questions) (unclosed socket slirp.associations (no_port step None holds socket among)) refl holds turn (named step None holds socket among) allowed
-      (this_one config past (CallClose socket) (due_is config past step turn.working (none_due_for_services config past holds.relayed.heard) holds.flows.holds.asked (asks step None holds)))
+      (left_stays config f.aged slirp then_state (Close socket) past refl refl refl refl refl refl)
+      (this_one config past (CallClose socket) (due_is config past step turn.working (none_due_for_services config past holds.relayed.heard holds.services.quest) holds.flows.holds.asked (asks step None holds)))
       (name_parted step None holds socket among (or_first (name_gives_way config socket (asked config past) || is_just_answered config past socket) (has_waited config past socket) (or_first (name_gives_way config socket (asked config past)) (is_just_answered config past socket) (ap (name_gives_way config socket) (asks step None holds) ∙ (λ i. same socket i && name i)))))
       (ap (asked_by config then_state) left ∙ asks_by_name config then_state errand name
       ∙ ap (λ o. with_question o (question_without socket slirp.questions) errand) (question_still_none errand.datagram.from (ident_in errand.datagram.body) socket slirp.questions none)
@@ -482,7 +494,8 @@ module _ (config : Config) (at : Standing) (slirp : SlirpState) (f : Flowing) (l
       let over : is_idle socket (moment past) (associations config past) ≡ true = ap (is_idle socket (moment past)) holds.relayed.list ∙ ap (λ m. is_idle socket m slirp.associations) holds.clock.moment ∙ idle in
       let long = idle_is config past socket (moment past) (associations config past) (joined config past holds.lawful).kept over in
       parted_from socket Settled Settled None (without socket slirp.associations) slirp.questions refl (none_without socket slirp.questions (no_name Settled None holds socket among)) holds turn (carried Settled None holds socket among) allowed
-      (any_one config past (CallClose socket) (due_is config past Settled turn.working (none_due_for_services config past holds.relayed.heard) holds.flows.holds.asked (asks Settled None holds)))
+      (owed_stays config f.aged slirp (record slirp { associations = without socket slirp.associations }) (Close socket) past refl refl refl refl refl refl refl)
+      (any_one config past (CallClose socket) (due_is config past Settled turn.working (none_due_for_services config past holds.relayed.heard holds.services.quest) holds.flows.holds.asked (asks Settled None holds)))
       (parted Settled None holds socket among (or_second (gives_way config socket (asked config past)) (is_unused socket past) (grind (arith, nat_tests, long))))
       (asks_nothing config (record slirp { associations = without socket slirp.associations }) (errand_left config past) (errand_is Settled None holds))
 
@@ -493,7 +506,8 @@ module _ (config : Config) (at : Standing) (slirp : SlirpState) (f : Flowing) (l
       let turn : InTurn config past = in_turn holds.stands (λ u. cc (sym (ap (λ l. is_among socket (question_numbers l)) u.unnamed) ∙ among)) in
       let over : has_waited config past socket ≡ true = ap (is_over socket (moment past)) holds.relayed.questions ∙ ap (λ m. is_over socket m slirp.questions) holds.clock.moment ∙ waited in
       parted_from socket Settled Settled None slirp.associations (question_without socket slirp.questions) (unclosed socket slirp.associations (no_port Settled None holds socket among)) refl holds turn (named Settled None holds socket among) allowed
-      (any_one config past (CallClose socket) (due_is config past Settled turn.working (none_due_for_services config past holds.relayed.heard) holds.flows.holds.asked (asks Settled None holds)))
+      (owed_stays config f.aged slirp (record slirp { questions = question_without socket slirp.questions }) (Close socket) past refl refl refl refl refl refl refl)
+      (any_one config past (CallClose socket) (due_is config past Settled turn.working (none_due_for_services config past holds.relayed.heard holds.services.quest) holds.flows.holds.asked (asks Settled None holds)))
       (name_parted Settled None holds socket among (or_second (name_gives_way config socket (asked config past) || is_just_answered config past socket) (has_waited config past socket) over))
       (asks_nothing config (record slirp { questions = question_without socket slirp.questions }) (errand_left config past) (errand_is Settled None holds))
 
@@ -502,14 +516,15 @@ module _ (config : Config) (at : Standing) (slirp : SlirpState) (f : Flowing) (l
       → Holds config at (record slirp { questions = question_without socket slirp.questions }) f link (Close socket ∷ past)
   after_answered socket allowed among in_one holds =
       parted_from socket Settled Settled (Some socket) slirp.associations (question_without socket slirp.questions) (unclosed socket slirp.associations (no_port Settled (Some socket) holds socket among)) refl holds in_one (named Settled (Some socket) holds socket among) allowed
-      (this_one config past (CallClose socket) (close_is_due config past socket in_one (asks Settled (Some socket) holds) holds.relayed.heard))
+      (owed_stays config f.aged slirp (record slirp { questions = question_without socket slirp.questions }) (Close socket) past refl refl refl refl refl refl refl)
+      (this_one config past (CallClose socket) (close_is_due config past socket in_one (asks Settled (Some socket) holds) holds.relayed.heard holds.services.quest))
       (name_parted Settled (Some socket) holds socket among (or_first (name_gives_way config socket (asked config past) || is_just_answered config past socket) (has_waited config past socket)
       (or_second (name_gives_way config socket (asked config past)) (is_just_answered config past socket) (ap (is_it socket) holds.relayed.heard ∙ same socket))))
       (asks_nothing config (record slirp { questions = question_without socket slirp.questions }) (errand_left config past) (errand_is Settled (Some socket) holds))
 
   -- nothing is left to be sent
   pub all_out : slirp.pending ≡ [] → link.tail ≡ [] → Holds config at slirp f link past → is_all_out config past ≡ true
-  all_out none out holds = ap (λ t. is_nothing t && is_out (left config past)) (holds.keeps.rest ∙ out) ∙ ap is_out (holds.answers.pending ∙ none)
+  all_out none out holds = ap (λ t. is_nothing t && is_out (left config past)) (holds.keeps.rest ∙ out) ∙ ap is_out (none_left config f.aged slirp past none holds.answers.owed)
 
 -- the first port of the host that is given to a port of a guest is open for datagrams, and no one else's
 pub record IsForward (past : List Entry) (slirp : SlirpState) (socket : ℕ) : Type 0 where
@@ -566,7 +581,7 @@ module _ (config : Config) (count : ℕ) (wants : List Want) (item : Want) (item
       none_reported x rest (y ∷ front) is = cc
 
   may_hear : relays past socket ≡ true → May config past (CallUdpRecv socket size)
-  may_hear on = hears config past socket size (due_is config past Settled hear_turn.working (none_due_for_services config past holds.relayed.heard) holds.flows.holds.asked (asks config before slirp f link past Settled None holds)) (ap is_working hear_turn.working)
+  may_hear on = hears config past socket size (due_is config past Settled hear_turn.working (none_due_for_services config past holds.relayed.heard holds.services.quest) holds.flows.holds.asked (asks config before slirp f link past Settled None holds)) (ap is_working hear_turn.working)
       on whole (reads_of (UdpAt socket) (wanted_of wants item) (all_wanted wants items) (agenda past) reported holds.agenda) (all_out config before slirp f link past none out holds) holds.open_yet
 
   agenda_behind : (answer : Got) (octets : List ℕ) → IsLast (all_wanted wants items) (agenda (UdpRecv socket size answer octets ∷ past))
@@ -585,7 +600,7 @@ module _ (config : Config) (count : ℕ) (wants : List Want) (item : Want) (item
           may = may_hear on;
           allowed = allowed;
           own = tt;
-          answers = record { sent = holds.answers.sent; pending = owes };
+          answers = record { sent = holds.answers.sent; owed = inl (left_then config f.aged slirp slirp (UdpRecv socket size answer octets) past refl refl refl refl owes (of_left config f.aged slirp past none holds.answers.owed)) };
           relayed = record { list = same_list ∙ holds.relayed.list; questions = same_names ∙ holds.relayed.questions; asks = holds.relayed.asks; heard = unheard };
           sockets = record { number = holds.sockets.number; kinds = holds.sockets.kinds };
           agenda = agenda_behind answer octets;
@@ -593,10 +608,10 @@ module _ (config : Config) (count : ℕ) (wants : List Want) (item : Want) (item
         })
 
     pub after_not_yet : (octets : List ℕ) → Allowed (UdpRecv socket size GotNotYet octets) → Holds config behind_it slirp f link (UdpRecv socket size GotNotYet octets ∷ past)
-    after_not_yet octets allowed = heard_nothing GotNotYet octets allowed holds.answers.pending refl refl refl
+    after_not_yet octets allowed = heard_nothing GotNotYet octets allowed (of_left config f.aged slirp past none holds.answers.owed).left refl refl refl
 
     pub after_no_hearing : (octets : List ℕ) → Allowed (UdpRecv socket size GotFailed octets) → Holds config behind_it slirp f link (UdpRecv socket size GotFailed octets ∷ past)
-    after_no_hearing octets allowed = heard_nothing GotFailed octets allowed holds.answers.pending refl refl refl
+    after_no_hearing octets allowed = heard_nothing GotFailed octets allowed (of_left config f.aged slirp past none holds.answers.owed).left refl refl refl
 
     -- one came: with these lists then, and this is owed for it
     module _ (peer : Endpoint) (count_of : ℕ) (octets : List ℕ) (allowed : Allowed (UdpRecv socket size (From peer count_of) octets)) where
@@ -613,8 +628,9 @@ module _ (config : Config) (count : ℕ) (wants : List Want) (item : Want) (item
             own = tt;
             answers = record {
               sent = holds.answers.sent;
-              pending = ap (λ q. frames_of config (identification past) (reply_on config past socket peer octets (question_numbered socket q))) holds.relayed.questions
-                  ∙ ap (λ i. frames_of config i (reply_on config past socket peer octets (question_numbered socket slirp.questions))) holds.answers.sent ∙ owes;
+              owed = inl (left_then config f.aged slirp (record slirp { associations = list; questions = named; pending = pending }) e past refl refl refl refl
+                  (ap (λ q. frames_of config (identification past) (reply_on config past socket peer octets (question_numbered socket q))) holds.relayed.questions
+                  ∙ ap (λ i. frames_of config i (reply_on config past socket peer octets (question_numbered socket slirp.questions))) holds.answers.sent ∙ owes) (of_left config f.aged slirp past none holds.answers.owed));
             };
             relayed = record {
               list = ap (moved_last (heard_at (moment past)) socket) holds.relayed.list ∙ ap (λ m. moved_last (heard_at m) socket slirp.associations) holds.clock.moment ∙ list_is;

@@ -25,7 +25,8 @@ use Rattle.flow_book.specs.Book.{book}
 use Rattle.flow_book.specs.Doings.{Nothing, doing}
 use Rattle.flow_book.specs.Lots.{due_for_flows}
 use Rattle.slirp_laws.specs.Agenda.{agenda}
-use Rattle.slirp_laws.specs.Answers.{identification, left}
+use Rattle.slirp_laws.specs.Answers.{identification, left, serving}
+use Rattle.tftp_server.specs.Transfers.{Files}
 use Rattle.slirp_laws.specs.Asking.{step}
 use Rattle.slirp_laws.specs.Errands.{errand_left}
 use Rattle.slirp_laws.specs.Sending.{requests}
@@ -44,7 +45,8 @@ use Rattle.slirp_core.specs.State.{SlirpState}
 use Rattle.slirp_core.proofs.Guests.{guests_forget, guests_stay}
 use Rattle.dhcp_server.specs.declared.leases.Lease.TheVariants.{Free as LeaseFree}
 use Rattle.slirp_core.proofs.Parts.{errand_for, two_in}
-use Rattle.slirp_core.proofs.Services.{none_due_for_services, services_stay}
+use Rattle.slirp_core.proofs.Owing.{owed_as, owed_stays, owed_told}
+use Rattle.slirp_core.proofs.Services.{none_due_for_services, services_as, services_stay}
 use Rattle.slirp_core.proofs.Waitings.{fragments_dropped}
 use Rattle.flow_table.specs.Slots.{all_free}
 use Rattle.flow_table.specs.declared.Slot.TheVariants.{Free}
@@ -65,7 +67,7 @@ use Rattle.slirp_core.proofs.Open.{are_open}
 stands_so : (config : Config) (slirp : SlirpState) (parts : List Gathered) (kept : Kept) (link : LinkState) (past : List Entry) → Stands config Settled slirp kept link past → Stands config Settled (record slirp { parts = parts }) kept link past
 stands_so config slirp parts kept link past (Turns turn) = Turns turn
 stands_so config slirp parts kept link past (Begins u free unrested) =
-    Begins (record { started = u.started; unwaited = u.unwaited; unreported = u.unreported; unasked = u.unasked; alone = u.alone; unnamed = u.unnamed; nothing = u.nothing; empty = u.empty }) free unrested
+    Begins (record { started = u.started; unwaited = u.unwaited; unreported = u.unreported; unasked = u.unasked; alone = u.alone; unnamed = u.unnamed; nothing = u.nothing; unserved = u.unserved; empty = u.empty }) free unrested
 
 pub forgets : (config : Config) (at : Standing) (slirp new : SlirpState) (f : Flowing) (link : LinkState) (past : List Entry) → new ≡ record slirp { parts = new.parts }
     → ((held : List PartSet) → IsHeld slirp.parts held → IsHeld new.parts (young slirp.moment held)) → Holds config at slirp f link past → Holds config at new f link past
@@ -74,10 +76,10 @@ forgets config at slirp new f link past same drops holds =
       lawful = holds.lawful;
       allowed = holds.allowed;
       keeps = holds.keeps;
-      answers = record { sent = holds.answers.sent; pending = holds.answers.pending };
+      answers = record { sent = holds.answers.sent; owed = owed_as config f.aged slirp (record slirp { parts = new.parts }) past refl refl holds.answers.owed };
       guests = guests_forget config slirp (record slirp { parts = new.parts }) past refl refl (fragments_dropped config slirp (record slirp { parts = new.parts }) past (sym holds.clock.moment) holds.guests.fragments (drops holds.guests.fragments.held holds.guests.fragments.is_held)) holds.guests;
       relayed = record { list = holds.relayed.list; questions = holds.relayed.questions; asks = holds.relayed.asks; heard = holds.relayed.heard };
-      services = record { leases = holds.services.leases };
+      services = services_as config slirp (record slirp { parts = new.parts }) past refl holds.services;
       forwards = holds.forwards;
       flows = holds.flows;
       sockets = holds.sockets;
@@ -109,6 +111,7 @@ pub record IsUnbegun (config : Config) (slirp : SlirpState) (link : LinkState) :
   pub questions : slirp.questions ≡ []
   pub parts : slirp.parts ≡ []
   pub leases : slirp.leases ≡ replicate 16 LeaseFree
+  pub transfers : slirp.transfers ≡ []
   pub input : under_way link ≡ []
   pub output : link.tail ≡ []
   pub free : link.blocked ≡ false
@@ -144,14 +147,14 @@ begun config slirp link new = record {
   lawful = tt;
   allowed = tt;
   keeps = record { framed = tt; partly = sym new.input; rest = sym new.output; blocked = sym new.free };
-  answers = record { sent = sym new.sent; pending = sym new.pending };
+  answers = record { sent = sym new.sent; owed = inl (record { left = sym new.pending; again = refl; files = new.transfers }) };
   guests = record {
     settings = new.settings;
     known = sym new.known;
     fragments = record { held = []; is_held = subst (λ (areas : List Gathered). IsHeld areas []) (sym new.parts) (record { stand = tt; carry = tt }); wait = refl };
   };
   relayed = record { list = sym new.associations; questions = sym new.questions; asks = refl; heard = refl };
-  services = record { leases = sym new.leases };
+  services = record { leases = sym new.leases; quest = refl };
   done = [];
   left = config.forwards;
   all = refl;
@@ -169,6 +172,7 @@ begun config slirp link new = record {
   alone = new.associations;
   unnamed = new.questions;
   nothing = new.pending;
+  unserved = new.transfers;
   empty = new.output;
   open_yet = refl;
 }
@@ -243,10 +247,12 @@ record Quiet (config : Config) (e : Entry) (past : List Entry) : Type 0 where
   moment : moment (e ∷ past) ≡ moment past
   unreported : agenda (e ∷ past) ≡ agenda past
   unrested : (book config (e ∷ past)).rests ≡ (book config past).rests
+  files : (serving config (e ∷ past)).files ≡ (serving config past).files
+  again : (serving config (e ∷ past)).again ≡ (serving config past).again
 
 opens_quietly : (config : Config) (p : Proto) (number : ℕ) (at : Endpoint) (answer : Made) (past : List Entry) → Quiet config (port_opening p number at answer) past
-opens_quietly config Tcp number at answer past = record { framed = tt; partly = refl; rest = refl; blocked = refl; sent = refl; came = refl; unheard = refl; silent = refl; unasked = refl; moment = refl; unreported = refl; unrested = refl }
-opens_quietly config Udp number at answer past = record { framed = tt; partly = refl; rest = refl; blocked = refl; sent = refl; came = refl; unheard = refl; silent = refl; unasked = refl; moment = refl; unreported = refl; unrested = refl }
+opens_quietly config Tcp number at answer past = record { framed = tt; partly = refl; rest = refl; blocked = refl; sent = refl; came = refl; unheard = refl; silent = refl; unasked = refl; moment = refl; unreported = refl; unrested = refl; files = refl; again = refl }
+opens_quietly config Udp number at answer past = record { framed = tt; partly = refl; rest = refl; blocked = refl; sent = refl; came = refl; unheard = refl; silent = refl; unasked = refl; moment = refl; unreported = refl; unrested = refl; files = refl; again = refl }
 
 module _ (config : Config) (slirp : SlirpState) (link : LinkState) (past : List Entry) (opens : Opens config slirp.number slirp link past) (f : Forward) (rest : List Forward) (next : opens.left ≡ f ∷ rest) where
   open_due : due config past ≡ Some (opening_call f.proto slirp.number f)
@@ -306,7 +312,7 @@ module _ (config : Config) (slirp : SlirpState) (link : LinkState) (past : List 
       lawful = (may_open_it Done, opens.lawful);
       allowed = (fine, opens.allowed);
       keeps = record { framed = (q.framed, opens.keeps.framed); partly = q.partly ∙ opens.keeps.partly; rest = q.rest ∙ opens.keeps.rest; blocked = q.blocked ∙ opens.keeps.blocked };
-      answers = record { sent = q.sent ∙ opens.answers.sent; pending = left_then f.proto ∙ opens.answers.pending };
+      answers = record { sent = q.sent ∙ opens.answers.sent; owed = owed_stays config false slirp with_one (opened_port Done) past q.files q.again q.moment refl (left_then f.proto) q.sent refl opens.answers.owed };
       guests = guests_stay config slirp with_one (opened_port Done) past q.came refl opens.guests;
       relayed = record {
         list = list_then f.proto ∙ opens.relayed.list;
@@ -314,7 +320,7 @@ module _ (config : Config) (slirp : SlirpState) (link : LinkState) (past : List 
         asks = ap (asked_by config with_one) (errand_then f.proto Done);
         heard = q.unheard;
       };
-      services = services_stay config slirp with_one (opened_port Done) past q.came refl opens.services;
+      services = services_stay config slirp with_one (opened_port Done) past q.came q.files refl opens.services;
       done = opens.done ++ f ∷ [];
       left = rest;
       all = opens.all ∙ ap (λ l. opens.done ++ l) next ∙ one_of opens.done f rest;
@@ -332,6 +338,7 @@ module _ (config : Config) (slirp : SlirpState) (link : LinkState) (past : List 
       alone = opens.alone;
       unnamed = opens.unnamed;
       nothing = opens.nothing;
+      unserved = opens.unserved;
       empty = opens.empty;
       open_yet = opening_open config f.proto slirp.number f.host Done past ∙ opens.open_yet;
     }
@@ -344,7 +351,7 @@ module _ (config : Config) (slirp : SlirpState) (link : LinkState) (past : List 
     is = sym phase_is;
     rests = OverFor (Refused slirp.number) phase_is;
     errand = errand_then f.proto Failed;
-    served = none_due_for_services config (opened_port Failed ∷ past) q.unheard;
+    served = none_due_for_services config (opened_port Failed ∷ past) q.unheard (ap (λ (k : Files). k.quest) q.files ∙ opens.services.quest);
     idle = (flows_stay config (flowing false slirp.flows) slirp.moment (opened_port Failed) past q.silent q.unasked (let up = opening_next config f.proto slirp.number f.host Failed past in omega (arith, up)) q.moment opens.flows).holds.asked;
     sockets = record {
       each = λ n among. inl (sym (ap (is_among n) (are_same n)) ∙ among);
@@ -385,15 +392,15 @@ started config slirp link told past fine opens = record {
   lawful = (asks config past asks_due opens.flows.holds.asked opens.open_yet, opens.lawful);
   allowed = (fine, opens.allowed);
   keeps = record { framed = (tt, opens.keeps.framed); partly = opens.keeps.partly; rest = opens.keeps.rest; blocked = opens.keeps.blocked };
-  answers = record { sent = opens.answers.sent; pending = opens.answers.pending };
+  answers = record { sent = opens.answers.sent; owed = owed_told config slirp (record slirp { moment = max (min told (2 ^ 62)) slirp.moment }) past (Now told ∷ past) refl refl refl refl refl refl opens.answers.owed };
   guests = guests_stay config slirp (record slirp { moment = max (min told (2 ^ 62)) slirp.moment }) (Now told) past refl refl opens.guests;
   relayed = record { list = opens.relayed.list; questions = opens.relayed.questions; asks = opens.relayed.asks; heard = refl };
-  services = services_stay config slirp (record slirp { moment = max (min told (2 ^ 62)) slirp.moment }) (Now told) past refl refl opens.services;
+  services = services_stay config slirp (record slirp { moment = max (min told (2 ^ 62)) slirp.moment }) (Now told) past refl refl refl opens.services;
   forwards = opens.forwards ∙ ap (with_numbers 0) (sym all_open);
   flows = flows_told config slirp.flows slirp.moment (max (min told (2 ^ 62)) slirp.moment) told past (omega arith) opens.flows;
   sockets = record { number = opens.sockets.number; kinds = opens.sockets.kinds };
   clock = record { moment = ap (max (min told (2 ^ 62))) opens.clock.moment; counted = opens.clock.counted };
-  stands = Begins (record { started = phase_is; unwaited = opens.clock.counted; unreported = opens.unreported; unasked = refl; alone = opens.alone; unnamed = opens.unnamed; nothing = opens.nothing; empty = opens.empty }) opens.none opens.unrested;
+  stands = Begins (record { started = phase_is; unwaited = opens.clock.counted; unreported = opens.unreported; unasked = refl; alone = opens.alone; unnamed = opens.unnamed; nothing = opens.nothing; unserved = opens.unserved; empty = opens.empty }) opens.none opens.unrested;
   agenda = ([], opens.unreported);
   open_yet = opens.open_yet;
 }
@@ -455,7 +462,7 @@ spent config count slirp f link made some all holds = record {
   is = refl;
   rests = rests holds.stands;
   errand = errand_for config Settled None slirp made holds.relayed;
-  served = none_due_for_services config made holds.relayed.heard;
+  served = none_due_for_services config made holds.relayed.heard holds.services.quest;
   idle = holds.flows.holds.asked;
   sockets = are_open config (after count) Settled None slirp f link made holds;
   two = two_in config slirp made holds.lawful holds.relayed.list holds.relayed.questions;

@@ -24,7 +24,7 @@ use Rattle.dhcp_server.specs.Serving.{served}
 use Rattle.host_policy.specs.declared.Reply.{Reply}
 use Rattle.host_policy.specs.declared.Reply.TheVariants.{Nothing as ReplyNothing, Datagram as ADatagram, Unreachable as ReplyUnreachable}
 use Rattle.slirp_laws.specs.Leasing.{sending_of}
-use Rattle.slirp_laws.specs.Answers.{IpAnswer, answer_of, answers_of, our_mac, datagram_frames, fits_datagram, is_untold, told_about, reply_at, frames_of, owed_for_arp, owed_for_icmp, owed_for_datagram, reset_for}
+use Rattle.slirp_laws.specs.Answers.{IpAnswer, answer_of, answers_of, our_mac, datagram_frames, fits_datagram, is_untold, told_about, reply_at, frames_of, owed_for_arp, owed_for_icmp, reset_for}
 use Rattle.tcp_segment.specs.Tcp.{Tcp, read_tcp, tcp_length, tcp_octets}
 use Rattle.flow_table.specs.declared.Tuple.{Tuple}
 use Rattle.flow_laws.specs.Event.{Segment}
@@ -32,10 +32,9 @@ use Rattle.flow_book.specs.Lots.{reset_to}
 use Rattle.flow_book.specs.Segments.{OnTuple}
 use Rattle.slirp_core.specs.Segments.{Coming, coming, segment_in, segment_of_arrived, segment_of_ether, segment_of_ip}
 use Rattle.slirp_core.specs.Fragments.{after_frame, after_ip, after_octets}
-use Rattle.slirp_core.specs.Packets.{errand_for_udp, is_message_to_us, is_segment, leases_with, owed_for, owed_for_arrived, owed_for_ether, reply_to, udp_in, udp_of, udp_of_arrived, udp_of_ether, with_arp, with_ip, with_ether}
+use Rattle.slirp_core.specs.Packets.{Request, owed_at_once, request_for_udp, is_message_to_us, is_segment, leases_with, owed_for, owed_for_arrived, owed_for_ether, reply_to, udp_in, udp_of, udp_of_arrived, udp_of_ether, with_arp, with_ip, with_ether}
 use Rattle.run_laws.specs.Fragments.{fragment_by, fragment_in, fragment_of}
 use Rattle.run_laws.specs.Packets.{Datagram}
-use Rattle.slirp_laws.specs.Datagrams.{Errand}
 use Rattle.slirp_core.specs.Outgoing.{segment_octets}
 use Rattle.slirp_core.specs.State.{SlirpState, serving_of}
 use Rattle.slirp_core.specs.declared.outgoing.Course.{Course}
@@ -70,8 +69,8 @@ module _ (s : SlirpState) (parts : List Gathered) (waiting : List PartSet) (fram
   frame_of_packet kind = sym (ap after_read read ∙ ap (after_kind s parts waiting ether) kind)
 
 module _ (s : SlirpState) (parts : List Gathered) (waiting : List PartSet) (frame : List ℕ) (ether : Ether) (read : read_ether frame ≡ Some ether) (kind : ether.kind ≡ ipv4_kind) where
-  pub errand_of_packet : errand_for_udp s.config (option_and_then (udp_of_arrived s.config s.moment waiting ether.from ether.body) (read_ip ether.body)) ≡ errand_for_udp s.config (udp_in s.config s.moment waiting frame)
-  errand_of_packet = ap (errand_for_udp s.config) (sym (
+  pub request_of_packet : request_for_udp s.config (option_and_then (udp_of_arrived s.config s.moment waiting ether.from ether.body) (read_ip ether.body)) ≡ request_for_udp s.config (udp_in s.config s.moment waiting frame)
+  request_of_packet = ap (request_for_udp s.config) (sym (
       ap (option_and_then (udp_of_ether s.config s.moment waiting)) read
       ∙ ap (λ (k : ℕ). if k == ipv4_kind then option_and_then (udp_of_arrived s.config s.moment waiting ether.from ether.body) (read_ip ether.body) else None) kind))
 
@@ -117,7 +116,7 @@ module _ (s : SlirpState) (mac : List ℕ) (ip : Ip) where
   by_tests message segment udp = record s {
     pending = frames_of s.config s.sent
         (if message then owed_for (owed_for_icmp mac ip) (read_icmp ip.body)
-        else (if segment then [] else owed_for (owed_for_datagram s.config (serving_of s)) udp));
+        else (if segment then [] else owed_for (owed_at_once s.config (serving_of s)) udp));
     leases = leases_with s.config s.moment udp s.leases;
   }
 
@@ -157,11 +156,11 @@ module _ (s : SlirpState) (mac : List ℕ) (ip : Ip) where
   pub one_segment : is_segment s.config ip ≡ true → option_map (coming mac ip) (read_tcp ip.from ip.to ip.body) ≡ segment_of_ip s.config mac ip
   one_segment carries = sym (ap (λ (b : Bool). if b then option_map (coming mac ip) (read_tcp ip.from ip.to ip.body) else None) carries)
 
-  pub no_errand : is_message_to_us s.config ip ≡ true → ◌≡◌ {A = Option Errand} None (errand_for_udp s.config (udp_of s.config mac ip))
-  no_errand asked = ap (errand_for_udp s.config) (none_of_others s.config mac ip (no_udp s.config ip asked))
+  pub no_request : is_message_to_us s.config ip ≡ true → ◌≡◌ {A = Option Request} None (request_for_udp s.config (udp_of s.config mac ip))
+  no_request asked = ap (request_for_udp s.config) (none_of_others s.config mac ip (no_udp s.config ip asked))
 
-  pub no_errand_of_segment : is_segment s.config ip ≡ true → ◌≡◌ {A = Option Errand} None (errand_for_udp s.config (udp_of s.config mac ip))
-  no_errand_of_segment carries = ap (errand_for_udp s.config) (none_of_others s.config mac ip (no_udp_in_segment s.config ip carries))
+  pub no_request_of_segment : is_segment s.config ip ≡ true → ◌≡◌ {A = Option Request} None (request_for_udp s.config (udp_of s.config mac ip))
+  no_request_of_segment carries = ap (request_for_udp s.config) (none_of_others s.config mac ip (no_udp_in_segment s.config ip carries))
 
 -- the frames of an answer that a datagram can carry
 pub frames_whole : (config : Config) (ident : ℕ) (to : List ℕ) (proto from guest : ℕ) (body : List ℕ) → length body ≤ 65515

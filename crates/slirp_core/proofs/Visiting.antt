@@ -55,6 +55,7 @@ use Rattle.slirp_core.proofs.Guests.{guests_stay}
 use Rattle.slirp_core.proofs.Names.{none_without}
 use Rattle.slirp_core.proofs.Parts.{asks_nothing, asked_for, behind_of, due_is, errand_for, given_in, keeps_by, reads_of, still_open}
 use Rattle.slirp_core.proofs.Relaying.{not_carried, unclosed}
+use Rattle.slirp_core.proofs.Owing.{owed_stays}
 use Rattle.slirp_core.proofs.Services.{none_due_for_services, services_stay}
 
 -- the kinds of sockets, where a peer came or none
@@ -103,7 +104,7 @@ module _ (config : Config) (count : ℕ) (wants : List Want) (item : Want) (item
 
   may_accept : May config past (CallAccept listener slirp.number)
   may_accept = accepts config past listener slirp.number
-      (due_is config past Settled turn.working (none_due_for_services config past holds.relayed.heard) holds.flows.holds.asked (asked_for config (standing count wants (item ∷ items)) Settled None slirp (flowing false slirp.flows) link past holds))
+      (due_is config past Settled turn.working (none_due_for_services config past holds.relayed.heard holds.services.quest) holds.flows.holds.asked (asked_for config (standing count wants (item ∷ items)) Settled None slirp (flowing false slirp.flows) link past holds))
       (ap is_working turn.working) takes (ap (λ n. slirp.number == n) holds.sockets.number ∙ same slirp.number)
       (reads_of (AListener listener) (wanted_of wants item) (all_wanted wants items) (agenda past) reads_it holds.agenda) holds.open_yet
 
@@ -119,10 +120,10 @@ module _ (config : Config) (count : ℕ) (wants : List Want) (item : Want) (item
       lawful = then_is.lawful;
       allowed = (fine, holds.allowed);
       keeps = keeps_by link e past tt refl refl refl holds.keeps;
-      answers = record { sent = holds.answers.sent; pending = holds.answers.pending };
+      answers = record { sent = holds.answers.sent; owed = owed_stays config false slirp (record slirp { number = number }) e past refl refl refl refl refl refl refl holds.answers.owed };
       guests = guests_stay config slirp (record slirp { number = number }) e past refl refl holds.guests;
       relayed = record { list = holds.relayed.list; questions = holds.relayed.questions; asks = asks_nothing config slirp (errand_left config (e ∷ past)) then_is.work.errand; heard = refl };
-      services = services_stay config slirp (record slirp { number = number }) e past refl refl holds.services;
+      services = services_stay config slirp (record slirp { number = number }) e past refl refl refl holds.services;
       forwards = holds.forwards;
       flows = record { holds = then_is.holds; settings = then_is.settings; asked = then_is.asked; unit = holds.flows.unit };
       sockets = record { number = next; kinds = kinds };
@@ -148,7 +149,7 @@ module _ (config : Config) (count : ℕ) (wants : List Want) (item : Want) (item
       asked = quiet_flows.asked;
       settings = quiet_flows.settings;
       lawful = (may_accept, holds.lawful);
-      work = record { working = turn.working; errand = errand_for config Settled None slirp past holds.relayed; services = none_due_for_services config (none_at ∷ past) refl; open_yet = holds.open_yet };
+      work = record { working = turn.working; errand = errand_for config Settled None slirp past holds.relayed; services = none_due_for_services config (none_at ∷ past) refl holds.services.quest; open_yet = holds.open_yet };
       at = holds.clock.moment;
     }) (next ∙ holds.sockets.number) (λ n among. kinds_visited listener slirp.number answer past holds.sockets.kinds n among)
 
@@ -171,7 +172,7 @@ module _ (config : Config) (count : ℕ) (wants : List Want) (item : Want) (item
           welcome = welcome;
           learnt = λ m is. known_was_taught config past guest.addr m (ap (learnt_for guest.addr) holds.guests.known ∙ sym found ∙ is);
           lawful = (may_accept, holds.lawful);
-          work = record { working = turn.working; errand = errand_for config Settled None slirp past holds.relayed; services = none_due_for_services config (visit ∷ past) refl; open_yet = holds.open_yet };
+          work = record { working = turn.working; errand = errand_for config Settled None slirp past holds.relayed; services = none_due_for_services config (visit ∷ past) refl holds.services.quest; open_yet = holds.open_yet };
         }))
         (ap (λ n. n + 1) holds.sockets.number) (λ n among. kinds_visited listener slirp.number (From peer) past holds.sockets.kinds n among)
 
@@ -195,7 +196,7 @@ module _ (config : Config) (count : ℕ) (wants : List Want) (item : Want) (item
       close_is_due = ap (λ b. due_for_flows config b (next_number (visit ∷ past))) doomed_is
 
       work_then : InWork config (visit ∷ past)
-      work_then = record { working = turn.working; errand = errand_for config Settled None slirp past holds.relayed; services = none_due_for_services config (visit ∷ past) refl; open_yet = holds.open_yet }
+      work_then = record { working = turn.working; errand = errand_for config Settled None slirp past holds.relayed; services = none_due_for_services config (visit ∷ past) refl holds.services.quest; open_yet = holds.open_yet }
 
       its_kind : kind_for config slirp.number (visit ∷ past) ≡ Some OfFlow
       its_kind = ap (λ b. if b then Some OfFlow else kind_for config slirp.number past) (same slirp.number)
@@ -242,11 +243,15 @@ module _ (config : Config) (count : ℕ) (wants : List Want) (item : Want) (item
         lawful = (may_shut, (may_accept, holds.lawful));
         allowed = (closed_fine, (fine, holds.allowed));
         keeps = keeps_by link (Close slirp.number) (visit ∷ past) tt refl refl refl (keeps_by link visit past tt refl refl refl holds.keeps);
-        answers = record { sent = holds.answers.sent; pending = holds.answers.pending };
+        answers = record {
+          sent = holds.answers.sent;
+          owed = owed_stays config false (record slirp { number = slirp.number + 1 }) (record slirp { number = slirp.number + 1 }) (Close slirp.number) (visit ∷ past) refl refl refl refl refl refl refl
+              (owed_stays config false slirp (record slirp { number = slirp.number + 1 }) visit past refl refl refl refl refl refl refl holds.answers.owed);
+        };
         guests = guests_stay config (record slirp { number = slirp.number + 1 }) (record slirp { number = slirp.number + 1 }) (Close slirp.number) (visit ∷ past) refl refl (guests_stay config slirp (record slirp { number = slirp.number + 1 }) visit past refl refl holds.guests);
         relayed = record { list = ap (without slirp.number) holds.relayed.list ∙ unclosed slirp.number slirp.associations unlisted.0; questions = ap (question_without slirp.number) holds.relayed.questions ∙ none_without slirp.number slirp.questions unlisted.1; asks = holds.relayed.asks; heard = refl };
-        services = services_stay config (record slirp { number = slirp.number + 1 }) (record slirp { number = slirp.number + 1 }) (Close slirp.number) (visit ∷ past) refl refl
-            (services_stay config slirp (record slirp { number = slirp.number + 1 }) visit past refl refl holds.services);
+        services = services_stay config (record slirp { number = slirp.number + 1 }) (record slirp { number = slirp.number + 1 }) (Close slirp.number) (visit ∷ past) refl refl refl
+            (services_stay config slirp (record slirp { number = slirp.number + 1 }) visit past refl refl refl holds.services);
         forwards = holds.forwards;
         flows = flows_then;
         sockets = record { number = ap (λ n. n + 1) holds.sockets.number; kinds = kinds_then };

@@ -21,7 +21,9 @@ use Rattle.slirp_core.specs.Holds.{after, standing, AreOpenWith, carriers, holde
 use Rattle.slirp_core.specs.State.{SlirpState}
 use Rattle.slirp_core.proofs.Guests.{guests_stay}
 use Rattle.slirp_core.proofs.Parts.{errand_for, asked_for, due_in_phase, due_is, two_in}
+use Rattle.slirp_core.proofs.Owing.{owed_told, owed_waited}
 use Rattle.slirp_core.proofs.Services.{none_due_for_services}
+use Rattle.tftp_server.specs.Transfers.{next_again}
 use Rattle.tcp_flows.specs.Kept.{Kept}
 use Rattle.slirp_core.proofs.Flows.{flows_paused, flows_told}
 use Rattle.slirp_core.proofs.Open.{are_open}
@@ -30,12 +32,12 @@ not_before : (told now : ℕ) → now ≤ max (min told (2 ^ 62)) now
 not_before told now = omega arith
 
 module _ (config : Config) (count : ℕ) (slirp : SlirpState) (kept : Kept) (old : LinkState) (past : List Entry) (wants : List Want) (timeout : Option ℕ)
-    (few : count < config.turns) (holds : Holds config (after count) slirp (flowing true kept) old past) where
+    (few : count < config.turns) (none_again : slirp.pending ≡ [] → next_again slirp.moment slirp.transfers ≡ None) (holds : Holds config (after count) slirp (flowing true kept) old past) where
   -- a wait may begin a turn, the first or a later one
   none_due : Stands config Settled slirp kept old past → due config past ≡ None
-  none_due (Turns turn) = due_is config past Settled turn.working (none_due_for_services config past holds.relayed.heard) holds.flows.holds.asked (asked_for config (after count) Settled None slirp (flowing true kept) old past holds)
+  none_due (Turns turn) = due_is config past Settled turn.working (none_due_for_services config past holds.relayed.heard holds.services.quest) holds.flows.holds.asked (asked_for config (after count) Settled None slirp (flowing true kept) old past holds)
   none_due (Begins unbegun free unrested) =
-      due_in_phase config past Started unbegun.started (none_due_for_services config past holds.relayed.heard) holds.flows.holds.asked
+      due_in_phase config past Started unbegun.started (none_due_for_services config past holds.relayed.heard holds.services.quest) holds.flows.holds.asked
       ∙ ap (λ (t : Step). due_for config t (next_number past)) (asked_for config (after count) Settled None slirp (flowing true kept) old past holds)
 
   turns_on : Stands config Settled slirp kept old past → may_turn (phase config past) ≡ true
@@ -66,7 +68,7 @@ module _ (config : Config) (count : ℕ) (slirp : SlirpState) (kept : Kept) (old
     lawful = waited answer ready;
     over = ap (λ o. phase_after (Wait wants timeout answer ready) o (phase config past)) is ∙ ends why holds.stands;
     errand = errand_for config Settled None slirp past holds.relayed;
-    served = none_due_for_services config (Wait wants timeout answer ready ∷ past) refl;
+    served = none_due_for_services config (Wait wants timeout answer ready ∷ past) refl holds.services.quest;
     idle = (flows_then answer ready).holds.asked;
     sockets = record { each = now_open.each; forward = now_open.forward; carry = now_open.carry; flow = now_open.flow; apart = now_open.apart; rising = now_open.rising; first = now_open.first };
     two = two_in config slirp past holds.lawful holds.relayed.list holds.relayed.questions;
@@ -84,10 +86,14 @@ module _ (config : Config) (count : ℕ) (slirp : SlirpState) (kept : Kept) (old
       rest = holds.keeps.rest ∙ sym same_out;
       blocked = ap (λ b. if writes TheLink ready then false else b) holds.keeps.blocked ∙ sym free;
     };
-    answers = record { sent = holds.answers.sent; pending = holds.answers.pending };
+    answers = record {
+      sent = holds.answers.sent;
+      owed = owed_told config slirp (record slirp { moment = max (min told (2 ^ 62)) slirp.moment }) (Wait wants timeout Ready ready ∷ past) (Now told ∷ Wait wants timeout Ready ready ∷ past) refl refl refl refl refl refl
+          (owed_waited config slirp past wants timeout Ready ready holds.clock.moment none_again holds.answers.owed);
+    };
     guests = guests_stay config slirp (record slirp { moment = max (min told (2 ^ 62)) slirp.moment }) (Now told) (Wait wants timeout Ready ready ∷ past) refl refl (guests_stay config slirp slirp (Wait wants timeout Ready ready) past refl refl holds.guests);
     relayed = record { list = holds.relayed.list; questions = holds.relayed.questions; asks = holds.relayed.asks; heard = refl };
-    services = record { leases = holds.services.leases };
+    services = record { leases = holds.services.leases; quest = holds.services.quest };
     forwards = holds.forwards;
     flows = flows_told config kept slirp.moment (max (min told (2 ^ 62)) slirp.moment) told (Wait wants timeout Ready ready ∷ past) (not_before told slirp.moment) (flows_then Ready ready);
     sockets = record { number = holds.sockets.number; kinds = holds.sockets.kinds };

@@ -3,11 +3,11 @@ use Rattle.std.specs.Prelude.{◌≡◌, ℕ, ◌≤◌, ◌++◌, true, List, l
 use Rattle.host_policy.specs.Addresses.{Config}
 use Rattle.dns_relay.specs.Questions.{is_question}
 use Rattle.run_laws.specs.Packets.{Datagram}
-use Rattle.slirp_laws.specs.Datagrams.{Errand, Fate, Ignored, Refused, ForLeases, GoesTo, asks_a_name}
+use Rattle.slirp_laws.specs.Datagrams.{Errand, Fate, Ignored, Refused, ForLeases, ForFiles, GoesTo, asks_a_name}
 use Rattle.slirp_core.specs.declared.datagrams.DatagramView.{DatagramView}
 use Rattle.slirp_core.specs.declared.datagrams.ErrandView.{ErrandView}
 use Rattle.slirp_core.specs.declared.datagrams.Outcome.{Outcome}
-use Rattle.slirp_core.specs.declared.datagrams.Outcome.TheVariants.{Ignored as SeenIgnored, Refused as SeenRefused, ForLeases as SeenForLeases, GoesTo as SeenGoesTo}
+use Rattle.slirp_core.specs.declared.datagrams.Outcome.TheVariants.{Ignored as SeenIgnored, Refused as SeenRefused, ForLeases as SeenForLeases, ForFiles as SeenForFiles, GoesTo as SeenGoesTo}
 
 abbrev pub datagram_of : DatagramView → Datagram
 datagram_of d = record { mac = d.mac.0; from = d.from; to = d.to; body = d.body.now; quote = d.quote.now }
@@ -19,6 +19,7 @@ abbrev pub fate_of : Outcome → Fate
 fate_of SeenIgnored = Ignored
 fate_of SeenRefused = Refused
 fate_of SeenForLeases = ForLeases
+fate_of SeenForFiles = ForFiles
 fate_of (SeenGoesTo to) = GoesTo to
 
 -- its payload fits a datagram, what is quoted of it an answer, and to the name server it is a question

@@ -9,10 +9,9 @@ use Rattle.ipv4_head.specs.Sets.{Carrying, Key, OfSets, Part, PartSet, sets_left
 use Rattle.ipv4_reasm.specs.Areas.{Gathered, StandFor}
 use Rattle.run_laws.specs.Fragments.{fragment_by, key_by, with_fragment}
 use Rattle.slirp_laws.specs.Answers.{frames_of}
-use Rattle.slirp_laws.specs.Datagrams.{Errand}
-use Rattle.slirp_core.specs.Segments.{Coming, FitsTask, errand_for, segment_for, segment_of_arrived, segment_of_ip}
+use Rattle.slirp_core.specs.Segments.{Coming, FitsTask, request_for, segment_for, segment_of_arrived, segment_of_ip}
 use Rattle.slirp_core.specs.declared.tcp.Task.{Task}
-use Rattle.slirp_core.specs.Packets.{errand_for_udp, leases_with, owed_for, owed_for_arrived, owed_for_frame, owed_for_ip, udp_in, udp_of, udp_of_arrived, with_ether, with_ip}
+use Rattle.slirp_core.specs.Packets.{Request, request_for_udp, leases_with, owed_for, owed_for_arrived, owed_for_frame, owed_for_ip, udp_in, udp_of, udp_of_arrived, with_ether, with_ip}
 use Rattle.slirp_core.specs.State.{SlirpState, serving_of}
 use Rattle.slirp_core.specs.declared.fragments.Assembled.{Assembled}
 use Rattle.slirp_core.specs.declared.fragments.Brought.{Brought}
@@ -50,10 +49,10 @@ abbrev pub Gathers : SlirpState → List PartSet → List ℕ → Ip → Part �
 Gathers slirp held mac ip p areas assembled octets = GathersIf (is_guest slirp.config ip.from) slirp held mac ip p areas assembled octets
 
 -- what is sent on of what a frame brought, and what the network is once that is taken in
-abbrev pub brought_errand : Config → Brought → List ℕ → Option Errand
-brought_errand config Nothing octets = None
-brought_errand config (ATask t) octets = errand_for t
-brought_errand config (Datagram a) octets = errand_for_udp config (udp_of config a.mac.0 (assembled_ip a octets))
+abbrev pub brought_request : Config → Brought → List ℕ → Option Request
+brought_request config Nothing octets = None
+brought_request config (ATask t) octets = request_for t
+brought_request config (Datagram a) octets = request_for_udp config (udp_of config a.mac.0 (assembled_ip a octets))
 
 -- and the segment that is to be heard
 abbrev pub brought_segment : Config → Brought → List ℕ → Option Coming
@@ -93,7 +92,7 @@ after_frame config s waiting parts frame = record s {
 
 -- what octets of IPv4 brought that came from this hardware address: what is sent on, heard and owed for it, whom it makes known, and which fragments wait then
 pub record Arrives (old : SlirpState) (held : List PartSet) (mac octets : List ℕ) (new : SlirpState) (brought : Brought) (room : List ℕ) : Type 0 where
-  pub errand : brought_errand old.config brought room ≡ errand_for_udp old.config (option_and_then (udp_of_arrived old.config old.moment (young old.moment held) mac octets) (read_ip octets))
+  pub request : brought_request old.config brought room ≡ request_for_udp old.config (option_and_then (udp_of_arrived old.config old.moment (young old.moment held) mac octets) (read_ip octets))
   pub segment : brought_segment old.config brought room ≡ option_and_then (segment_of_arrived old.config old.moment (young old.moment held) mac octets) (read_ip octets)
   pub changes : taken_on new brought room ≡ after_octets old (young old.moment held) mac octets new.parts (read_ip octets)
   pub parts : IsHeld new.parts (with_fragment old.moment (option_and_then (fragment_by old.config octets) (read_ip octets)) held)

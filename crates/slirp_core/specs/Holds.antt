@@ -16,10 +16,12 @@ use Rattle.flow_splice.specs.Splice.{Splice}
 use Rattle.run_laws.specs.Guests.{known}
 use Rattle.run_laws.specs.Moments.{moment, waits}
 use Rattle.port_forward.specs.Opened.{Opened, socket_for}
+use Rattle.run_laws.specs.Packets.{Datagram}
+use Rattle.slirp_laws.specs.Leasing.{leases}
 use Rattle.run_laws.specs.Shape.{Cause, Refused, Phase, Opening, Started, Working, By, Over, phase, is_ended}
 use Rattle.run_laws.specs.Sockets.{Kind, is_among, is_association, is_flow, is_forward, is_listener, kind_of, next_number, open_sockets}
 use Rattle.slirp_laws.specs.Agenda.{agenda, all_wanted}
-use Rattle.slirp_laws.specs.Answers.{frames_of, identification, left, owed_for_segment}
+use Rattle.slirp_laws.specs.Answers.{frames_of, identification, left, owed_for_segment, serving, served_file, told_of_files}
 use Rattle.slirp_laws.specs.Errands.{errand_left}
 use Rattle.slirp_laws.specs.Datagrams.{Errand, Step, Settled}
 use Rattle.slirp_laws.specs.Relayed.{associations, step_for}
@@ -28,10 +30,11 @@ use Rattle.slirp_laws.specs.Names.{answered, questions}
 use Rattle.stream_netdev.specs.Keeps.{Keeps}
 use Rattle.stream_netdev.specs.State.{LinkState}
 use Rattle.slirp_core.specs.Forwards.{forward_sockets, given, with_numbers}
+use Rattle.slirp_core.specs.Owed.{IsOwedAt}
 use Rattle.slirp_core.specs.Segments.{Coming}
 use Rattle.slirp_core.specs.Services.{OfServices}
 use Rattle.slirp_core.specs.Sockets.{IsRising}
-use Rattle.slirp_core.specs.State.{SlirpState}
+use Rattle.slirp_core.specs.State.{SlirpState, serving_of}
 use Rattle.slirp_core.specs.Waiting.{OfFragments}
 use Rattle.slirp_core.specs.declared.sending.Pumped.{Pumped}
 use Rattle.slirp_core.specs.declared.sending.Pumped.TheVariants.{Clear, Blocked, Failed}
@@ -63,7 +66,7 @@ pub record InTurn (config : Config) (past : List Entry) : Type 0 where
   pub working : phase config past ≡ Working
   pub waited : 0 < waits past
 
--- before the first wait nothing was reported, no socket is open but those of forwards, and nothing is to be sent
+-- before the first wait nothing was reported, no socket is open but those of forwards, nothing is to be sent, and no guest gets a file
 pub record Unbegun (config : Config) (step : Step) (slirp : SlirpState) (link : LinkState) (past : List Entry) : Type 0 where
   pub started : phase config past ≡ Started
   pub unwaited : waits past ≡ 0
@@ -72,12 +75,13 @@ pub record Unbegun (config : Config) (step : Step) (slirp : SlirpState) (link : 
   pub alone : slirp.associations ≡ []
   pub unnamed : slirp.questions ≡ []
   pub nothing : slirp.pending ≡ []
+  pub unserved : slirp.transfers ≡ []
   pub empty : link.tail ≡ []
 
--- what the core has, part by part: the frames that are owed and how many datagrams went out
-pub record OfAnswers (config : Config) (slirp : SlirpState) (past : List Entry) : Type 0 where
+-- what the core has, part by part: how many datagrams went out, the frames that are owed, and the transfers of files
+pub record OfAnswers (config : Config) (step : Step) (aged : Bool) (slirp : SlirpState) (past : List Entry) : Type 0 where
   pub sent : identification past ≡ slirp.sent
-  pub pending : left config past ≡ slirp.pending
+  pub owed : IsOwedAt step config aged slirp past
 
 -- the clock and the waits
 pub record OfClock (at : Standing) (slirp : SlirpState) (past : List Entry) : Type 0 where
@@ -137,7 +141,7 @@ pub record Opens (config : Config) (count : ℕ) (slirp : SlirpState) (link : Li
   pub lawful : Lawful config past
   pub allowed : AreAllowed past
   pub keeps : Keeps link past
-  pub answers : OfAnswers config slirp past
+  pub answers : OfAnswers config Settled false slirp past
   pub guests : OfGuests config slirp past
   pub relayed : OfRelay config Settled None slirp past
   pub services : OfServices config slirp past
@@ -158,6 +162,7 @@ pub record Opens (config : Config) (count : ℕ) (slirp : SlirpState) (link : Li
   pub alone : slirp.associations ≡ []
   pub unnamed : slirp.questions ≡ []
   pub nothing : slirp.pending ≡ []
+  pub unserved : slirp.transfers ≡ []
   pub empty : link.tail ≡ []
   pub open_yet : is_closing config past ≡ false
 
@@ -167,7 +172,7 @@ pub record HoldsOn (config : Config) (at : Standing) (step : Step) (heard : Opti
   pub lawful : Lawful config past
   pub allowed : AreAllowed past
   pub keeps : Keeps link past
-  pub answers : OfAnswers config slirp past
+  pub answers : OfAnswers config step f.aged slirp past
   pub guests : OfGuests config slirp past
   pub relayed : OfRelay config step heard slirp past
   pub services : OfServices config slirp past
@@ -199,6 +204,8 @@ pub record Comes (config : Config) (at : Standing) (slirp : SlirpState) (kept : 
   pub sent : identification past ≡ slirp.sent
   pub owed : left config past ≡ frames_of config slirp.sent (owed_for_segment (is_reset config (book config past) c.on) c.on)
   pub none : slirp.pending ≡ []
+  pub again : (serving config past).again ≡ None
+  pub files : slirp.transfers ≡ (serving config past).files.transfers
   pub guests : OfGuests config slirp past
   pub relayed : OfRelay config Settled None slirp past
   pub services : OfServices config slirp past
@@ -209,6 +216,29 @@ pub record Comes (config : Config) (at : Standing) (slirp : SlirpState) (kept : 
   pub clock : OfClock at slirp past
   pub turn : InTurn config past
   pub agenda : IsLast (all_wanted at.wants at.left) (agenda past)
+
+-- ---- a datagram for the server of files came
+
+-- It is still to be served: the calls on files that it asks for come next, and what the guest is told is owed once none is asked for.
+pub record AsksFile (config : Config) (at : Standing) (slirp : SlirpState) (kept : Kept) (link : LinkState) (d : Datagram) (past : List Entry) : Type 0 where
+  pub lawful : Lawful config past
+  pub allowed : AreAllowed past
+  pub keeps : Keeps link past
+  pub sent : identification past ≡ slirp.sent
+  pub outcome : (serving config past).files ≡ (served_file config (serving_of slirp) d).files
+  pub owed : left config past ≡ frames_of config slirp.sent (told_of_files config (served_file config (serving_of slirp) d).told)
+  pub none : slirp.pending ≡ []
+  pub again : (serving config past).again ≡ None
+  pub guests : OfGuests config slirp past
+  pub relayed : OfRelay config Settled None slirp past
+  pub leases : leases config past ≡ slirp.leases
+  pub forwards : slirp.forwards ≡ given config
+  pub flows : OfFlows config (flowing false kept) slirp.moment past
+  pub sockets : OfSockets slirp.number past
+  pub clock : OfClock at slirp past
+  pub turn : InTurn config past
+  pub agenda : IsLast (all_wanted at.wants at.left) (agenda past)
+  pub open_yet : is_closing config past ≡ false
 
 -- ---- the end
 

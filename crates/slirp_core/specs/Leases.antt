@@ -2,9 +2,10 @@
 use Rattle.std.specs.Prelude.{}
 use Rattle.dhcp_server.specs.Serving.{leases_after}
 use Rattle.run_laws.specs.Packets.{Datagram}
-use Rattle.slirp_laws.specs.Answers.{answers_of, frames_of, owed_for_datagram}
+use Rattle.slirp_laws.specs.Answers.{answers_of, frames_of}
 use Rattle.slirp_laws.specs.Datagrams.{fate}
 use Rattle.slirp_laws.specs.Leasing.{lease_reply, leases_by_fate}
+use Rattle.slirp_core.specs.Packets.{owed_at_once}
 use Rattle.slirp_core.specs.State.{SlirpState, serving_of}
 
 -- the network once a message of a client is taken in
@@ -17,6 +18,6 @@ after_message s d = record s {
 -- and once any datagram of UDP is
 abbrev pub after_udp : SlirpState → Datagram → SlirpState
 after_udp s d = record s {
-  pending = frames_of s.config s.sent (owed_for_datagram s.config (serving_of s) d);
+  pending = frames_of s.config s.sent (owed_at_once s.config (serving_of s) d);
   leases = leases_by_fate s.config s.moment d (fate s.config d) s.leases;
 }

@@ -1,6 +1,7 @@
 pub mod Carrying
 pub mod Counts
 pub mod Datagrams
+pub mod Files
 pub mod Firsts
 pub mod Forwards
 pub mod Fragments
@@ -9,6 +10,7 @@ pub mod Holds
 pub mod Leases
 pub mod Numbers
 pub mod Outgoing
+pub mod Owed
 pub mod Packets
 pub mod Pumps
 pub mod Replies

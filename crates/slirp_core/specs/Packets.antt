@@ -11,15 +11,15 @@ use Rattle.ipv4_head.specs.Sets.{PartSet}
 use Rattle.icmp_echo.specs.Icmp.{read_icmp}
 use Rattle.udp_assoc.specs.Udp.{read_udp}
 use Rattle.run_laws.specs.Fragments.{arrived}
-use Rattle.run_laws.specs.Packets.{Datagram, datagram_of, may_come}
+use Rattle.run_laws.specs.Packets.{Packet, Unheard, ArpPacket, Message, DatagramPacket, Segment, Datagram, datagram_of, may_come}
 use Rattle.dhcp_server.specs.declared.leases.Lease.{Lease}
-use Rattle.slirp_laws.specs.Datagrams.{Errand, errand_of, fate}
+use Rattle.slirp_laws.specs.Datagrams.{Errand, Fate, Ignored, Refused, ForLeases, ForFiles, GoesTo, fate}
 use Rattle.slirp_laws.specs.Leasing.{leases_by_fate}
 use Rattle.arp_table.specs.declared.ArpView.{ArpView}
 use Rattle.arp_table.specs.Arp.{Arp, arp_of, read_arp}
 use Rattle.icmp_echo.specs.declared.IcmpView.{IcmpView}
 use Rattle.icmp_echo.specs.declared.IcmpView.TheVariants.{Echo, Unreachable, Other}
-use Rattle.slirp_laws.specs.Answers.{Answer, ArpAnswer, Serving, owed_for_arp, owed_for_icmp, owed_for_datagram}
+use Rattle.slirp_laws.specs.Answers.{Answer, ArpAnswer, Serving, owed_for_arp, owed_for_fate, owed_for_icmp, owed_for_message}
 
 abbrev pub packet_of : ArpView → Answer
 packet_of view = ArpAnswer view.target_mac.0 (arp_of view)
@@ -54,12 +54,20 @@ udp_of config mac ip =
     then option_and_then (λ udp. if may_come config ip udp then Some (datagram_of mac ip udp) else None) (read_udp ip.from ip.to ip.body)
     else None
 
+-- a datagram for the server of files is answered, if at all, when it is served
+abbrev pub owed_at_once_by : Config → Serving → Datagram → Fate → List Answer
+owed_at_once_by config serving d ForFiles = []
+owed_at_once_by config serving d f = owed_for_fate config serving d f
+
+abbrev pub owed_at_once : Config → Serving → Datagram → List Answer
+owed_at_once config serving d = owed_at_once_by config serving d (fate config d)
+
 -- a segment is answered, if at all, when it is heard
 abbrev pub owed_for_ip : Config → Serving → List ℕ → Ip → List Answer
 owed_for_ip config serving mac ip =
     if is_message_to_us config ip then owed_for (owed_for_icmp mac ip) (read_icmp ip.body)
     else (if is_segment config ip then []
-    else owed_for (owed_for_datagram config serving) (udp_of config mac ip))
+    else owed_for (owed_at_once config serving) (udp_of config mac ip))
 
 -- the same of what arrives by a frame at the moment in force, while these sets wait
 abbrev pub owed_for_arrived : Config → Serving → List PartSet → List ℕ → List ℕ → Ip → List Answer
@@ -83,9 +91,48 @@ udp_of_ether config now waiting ether = if ether.kind == ipv4_kind then option_a
 abbrev pub udp_in : Config → ℕ → List PartSet → List ℕ → Option Datagram
 udp_in config now waiting frame = option_and_then (udp_of_ether config now waiting) (read_ether frame)
 
--- what a datagram, if one came, asks for: that it goes out, or of the leases
-abbrev pub errand_for_udp : Config → Option Datagram → Option Errand
-errand_for_udp config d = option_and_then (errand_of config) d
+-- what a datagram asks for beyond an answer: that it goes out, or that the server of files serves it
+pub data Request : Type 0 where
+  ToSend : Errand → Request
+  ToServe : Datagram → Request
+
+abbrev pub request_by : Datagram → Fate → Option Request
+request_by d Ignored = None
+request_by d Refused = None
+request_by d ForLeases = None
+request_by d ForFiles = Some (ToServe d)
+request_by d (GoesTo to) = Some (ToSend (record { datagram = d; to = to }))
+
+abbrev pub request_of : Config → Datagram → Option Request
+request_of config d = request_by d (fate config d)
+
+abbrev pub request_for_udp : Config → Option Datagram → Option Request
+request_for_udp config d = option_and_then (request_of config) d
+
+-- the errand of a request, and the datagram that is to be served
+abbrev pub errand_in : Option Request → Option Errand
+errand_in None = None
+errand_in (Some (ToSend errand)) = Some errand
+errand_in (Some (ToServe d)) = None
+
+abbrev pub file_in : Option Request → Option Datagram
+file_in None = None
+file_in (Some (ToSend errand)) = None
+file_in (Some (ToServe d)) = Some d
+
+-- the same of a packet: what it owes at once, and what else it asks for
+abbrev pub owed_with : Config → Serving → Packet → List Answer
+owed_with config serving Unheard = []
+owed_with config serving (ArpPacket arp) = owed_for_arp config arp
+owed_with config serving (Message mac ip message) = owed_for_message config mac ip message
+owed_with config serving (DatagramPacket d) = owed_at_once config serving d
+owed_with config serving (Segment mac ip tcp) = []
+
+abbrev pub request_by_packet : Config → Packet → Option Request
+request_by_packet config (DatagramPacket d) = request_of config d
+request_by_packet config _ = None
+
+-- what a datagram, if one came, makes of the leases
 
 abbrev pub leases_with : Config → ℕ → Option Datagram → List Lease → List Lease
 leases_with config now None leases = leases

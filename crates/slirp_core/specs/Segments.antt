@@ -11,14 +11,13 @@ use Rattle.flow_book.specs.Lots.{Lot, Dropped, AsksFor, Strange}
 use Rattle.flow_book.specs.Segments.{OnTuple, from_guest, segment_of}
 use Rattle.run_laws.specs.Fragments.{arrived}
 use Rattle.run_laws.specs.Packets.{Packet, Segment}
-use Rattle.slirp_laws.specs.Datagrams.{Errand}
-use Rattle.slirp_core.specs.Datagrams.{FitsErrand, errand_of}
-use Rattle.slirp_core.specs.Packets.{is_segment}
+use Rattle.slirp_core.specs.Datagrams.{FitsErrand, datagram_of, errand_of}
+use Rattle.slirp_core.specs.Packets.{Request, ToSend, ToServe, is_segment}
 use Rattle.slirp_core.specs.declared.tcp.SegmentView.{SegmentView}
 use Rattle.slirp_core.specs.declared.tcp.StrayLot.{StrayLot}
 use Rattle.slirp_core.specs.declared.tcp.StrayLot.TheVariants.{Dropped as SeenDropped, Reset, Connects}
 use Rattle.slirp_core.specs.declared.tcp.Task.{Task}
-use Rattle.slirp_core.specs.declared.tcp.Task.TheVariants.{Errand as AnErrand, Segment as ASegment}
+use Rattle.slirp_core.specs.declared.tcp.Task.TheVariants.{Errand as AnErrand, File as AFile, Segment as ASegment}
 
 -- a guest's segment: between which ends it goes, from which hardware address its frame came, and what it holds
 pub record Coming : Type 0 where
@@ -49,17 +48,20 @@ segment_of_ether config now waiting ether = if ether.kind == ipv4_kind then opti
 abbrev pub segment_in : Config → ℕ → List PartSet → List ℕ → Option Coming
 segment_in config now waiting frame = option_and_then (segment_of_ether config now waiting) (read_ether frame)
 
--- what a frame asks for beyond its answers: that a datagram goes out, or that a segment is heard
-abbrev pub errand_for : Task → Option Errand
-errand_for (AnErrand e) = Some (errand_of e)
-errand_for (ASegment s) = None
+-- what a frame asks for beyond its answers: that a datagram goes out or is served, or that a segment is heard
+abbrev pub request_for : Task → Option Request
+request_for (AnErrand e) = Some (ToSend (errand_of e))
+request_for (AFile d) = Some (ToServe (datagram_of d))
+request_for (ASegment s) = None
 
 abbrev pub segment_for : Task → Option Coming
 segment_for (AnErrand e) = None
+segment_for (AFile d) = None
 segment_for (ASegment s) = Some (coming_of s)
 
 abbrev pub FitsTask : Config → Task → Type 0
 FitsTask config (AnErrand e) = FitsErrand config e
+FitsTask config (AFile d) = Unit {0}
 FitsTask config (ASegment s) = length s.segment.body.now ≤ 65515
 
 -- what becomes of a segment without a flow

@@ -8,11 +8,11 @@ use Rattle.dns_relay.specs.declared.Question.{Question}
 use Rattle.udp_assoc.specs.declared.assocs.Association.{Association}
 use Rattle.ipv4_reasm.specs.Areas.{Gathered}
 use Rattle.port_forward.specs.Opened.{Opened}
-use Rattle.tftp_server.specs.Transfers.{no_files}
+use Rattle.tftp_server.specs.Transfers.{Transfer, settled}
 use Rattle.slirp_laws.specs.Answers.{Serving}
 use Rattle.tcp_flows.specs.Kept.{Kept}
 
--- its settings, the guests that are known, the identification of the next datagram, the frames that are owed and aren't out yet, the moment in force, the number of the next socket, the associations, the questions that wait for an answer, what is in the areas of fragments, the flows of TCP, who has which address, and the open ports of the host that are given to guests
+-- its settings, the guests that are known, the identification of the next datagram, the frames that are owed and aren't out yet, the moment in force, the number of the next socket, the associations, the questions that wait for an answer, what is in the areas of fragments, the flows of TCP, who has which address, the open ports of the host that are given to guests, and the transfers of files
 pub record SlirpState : Type 0 where
   pub config : Config
   pub known : List (Ip4 × Mac)
@@ -26,7 +26,8 @@ pub record SlirpState : Type 0 where
   pub flows : Kept
   pub leases : List Lease
   pub forwards : List Opened
+  pub transfers : List Transfer
 
--- what its services keep: the leases alone, since no files are served
+-- what its services keep, where no packet of a file is on its way again: the leases and the transfers
 abbrev pub serving_of : SlirpState → Serving
-serving_of slirp = record { now = slirp.moment; leases = slirp.leases; files = no_files; again = None }
+serving_of slirp = record { now = slirp.moment; leases = slirp.leases; files = settled slirp.transfers; again = None }

@@ -53,6 +53,8 @@ pub enum Outcome {
     Refused,
     /// It is a message for the server of leases.
     ForLeases,
+    /// It is a packet for the server of files.
+    ForFiles,
     GoesTo(Endpoint),
 }
 
@@ -108,7 +110,7 @@ fn may_come(policy: &Policy, from: Ip4, to_port: u16) -> bool
     policy.is_guest(from) || from == Ip4(0) && to_port == DHCP_PORT
 }
 
-/// What becomes of a datagram: nothing of one from port 0, nor of one to a service of ours that isn't there yet or isn't wanted; nor of one to the name server that is no question.
+/// What becomes of a datagram: nothing of one from port 0, nor of one to the server of leases where it isn't wanted; nor of one to the name server that is no question.
 pub fn fate(policy: &Policy, datagram: &DatagramView<'_>) -> Outcome
     ensures { fate_of result ≡ fate policy.now (datagram_of datagram.now) }
 {
@@ -123,7 +125,7 @@ pub fn fate(policy: &Policy, datagram: &DatagramView<'_>) -> Outcome
             Outcome::Ignored
         }
     } else if to.port == TFTP_PORT && ours {
-        Outcome::Ignored
+        Outcome::ForFiles
     } else {
         fate_by(policy, datagram, policy.target(Proto::Udp, to))
     }

@@ -4,6 +4,7 @@
 mod arp;
 mod cutting;
 mod datagrams;
+mod files;
 mod forwards;
 mod fragments;
 mod hosts;

@@ -22,16 +22,17 @@ use port_forward::Forwards;
 use std::alloc::Global;
 use std::marker::Model;
 use tcp_flows::{Sizes, TcpFlows};
+use tftp_server::Tftp;
 use udp_assoc::Assocs;
 use world_face::World;
 
 /// The greatest moment, in milliseconds.
 const LAST_MOMENT: u64 = 1 << 62;
 
-/// The room for a reply to a client of DHCP, in octets.
-const MESSAGE_ROOM: usize = 1024;
+/// The room for what a server of ours answers, in octets: a reply to a client of DHCP has at most 790, a packet of a file 1,472.
+const MESSAGE_ROOM: usize = 1472;
 
-/// The virtual network: who its guests are, which sockets are open for their datagrams and their questions, how many datagrams went out, the frames that are owed to a guest and aren't out yet, the fragments that wait to be joined, the flows of TCP, who has which address, and the ports of the host that are given to guests.
+/// The virtual network: who its guests are, which sockets are open for their datagrams and their questions, how many datagrams went out, the frames that are owed to a guest and aren't out yet, the fragments that wait to be joined, the flows of TCP, who has which address, the ports of the host that are given to guests, and the files that guests get.
 #[derive(Drop)]
 pub struct Slirp {
     pub(crate) policy: Policy,
@@ -46,7 +47,8 @@ pub struct Slirp {
     pub(crate) flows: TcpFlows,
     pub(crate) leases: Leases,
     pub(crate) forwards: Forwards,
-    /// Room for the reply to a client of DHCP.
+    pub(crate) files: Tftp,
+    /// Room for what a server of ours answers.
     pub(crate) message: Vec<u8>,
 }
 
@@ -55,14 +57,14 @@ impl Model for Slirp {
     ghost use Rattle.udp_assoc.specs.Associations.{numbers};
     ghost use Rattle.slirp_core.specs.State.{SlirpState};
     ghost use Rattle.slirp_core.specs.Numbers.{AreDrawn};
-    ghost use Rattle.slirp_core.specs.Services.{AreAsked};
+    ghost use Rattle.slirp_core.specs.Services.{AreAsked, IsServer};
 
     ghost Value = { SlirpState };
 
-    ghost view = { λ s. record { config = s.policy; known = s.guests; sent = s.sent; pending = s.outgoing; moment = s.moment; number = s.number; associations = s.associations.list; questions = s.questions.list; parts = s.reasm; flows = s.flows; leases = s.leases.leases; forwards = s.forwards } };
+    ghost view = { λ s. record { config = s.policy; known = s.guests; sent = s.sent; pending = s.outgoing; moment = s.moment; number = s.number; associations = s.associations.list; questions = s.questions.list; parts = s.reasm; flows = s.flows; leases = s.leases.leases; forwards = s.forwards; transfers = s.files.transfers } };
 
-    // each socket has a number under that of the next one, those of questions and of flows too, of which there are at most 4,096; sockets are opened at the address of the settings, or at 0.0.0.0, every address of the host; and the server of leases and the relay of questions have the settings, and there is room for a reply
-    ghost invariant = { λ s. All (λ n. n < s.number) (numbers s.associations.list) × (s.moment ≤ 2 ^ 62) × (s.associations.bind ≡ unwrap_or s.policy.outbound 0) × AreDrawn s.number s.flows × (s.leases.config ≡ s.policy) × (length s.message.items ≡ 1024) × AreAsked s.number s.policy s.questions };
+    // each socket has a number under that of the next one, those of questions and of flows too, of which there are at most 4,096; sockets are opened at the address of the settings, or at 0.0.0.0, every address of the host; and the servers of leases and of files and the relay of questions have the settings, and there is room for a reply
+    ghost invariant = { λ s. All (λ n. n < s.number) (numbers s.associations.list) × (s.moment ≤ 2 ^ 62) × (s.associations.bind ≡ unwrap_or s.policy.outbound 0) × AreDrawn s.number s.flows × (s.leases.config ≡ s.policy) × (length s.message.items ≡ 1472) × AreAsked s.number s.policy s.questions × IsServer s.policy s.files };
 }
 
 impl Slirp {
@@ -75,13 +77,13 @@ impl Slirp {
     ghost use Rattle.udp_assoc.specs.Associations.{is_over};
     ghost use Rattle.dns_relay.specs.Questions.{is_over as is_over_question, numbers as question_numbers};
     ghost use Rattle.slirp_core.specs.Packets.{with_address};
-    ghost use Rattle.slirp_core.specs.Segments.{FitsTask, errand_for, segment_for, segment_in, segment_of_ip};
+    ghost use Rattle.slirp_core.specs.Segments.{FitsTask, request_for, segment_for, segment_in, segment_of_ip};
     ghost use Rattle.std.specs.Option.{option_and_then};
     ghost use Rattle.slirp_core.specs.Numbers.{flows_for};
-    ghost use Rattle.slirp_core.specs.Packets.{errand_for_udp, udp_in, udp_of};
+    ghost use Rattle.slirp_core.specs.Packets.{request_for_udp, udp_in, udp_of};
     ghost use Rattle.ipv4_head.specs.Sets.{PartSet, young};
     ghost use Rattle.run_laws.specs.Fragments.{fragment_in, with_fragment};
-    ghost use Rattle.slirp_core.specs.Fragments.{Arrives, FitsBrought, IsHeld, after_frame, after_ip, brought_errand, brought_segment, taken_on};
+    ghost use Rattle.slirp_core.specs.Fragments.{Arrives, FitsBrought, IsHeld, after_frame, after_ip, brought_request, brought_segment, taken_on};
     ghost use Rattle.world_face.specs.Tells.{Brings, Makes};
     ghost use Rattle.slirp_core.specs.Hearing.{ClosesByKind, WhereItTicks};
     ghost use Rattle.tcp_flows.specs.Runs.{ClosesRising};
@@ -98,6 +100,7 @@ impl Slirp {
     ghost use Rattle.slirp_core.specs.Firsts.{IsFlowFirst, IsQuestionFirst, NoFlowFirst, NoQuestionFirst, open_count};
     ghost use Rattle.stream_netdev.specs.State.{LinkState};
     ghost use Rattle.slirp_core.specs.Datagrams.{errand_of, FitsErrand, Lies};
+    ghost use Rattle.tftp_server.specs.Transfers.{are_left};
     ghost use Rattle.slirp_core.specs.Holds.{Standing, after, carriers, flowing, Holds, holders_of, ClosesAll, ClosesNext};
 
     /// A network in which no guest is known, no socket is open and nothing is owed, with room for as many flows of TCP as the settings say. It takes all the memory that it will ever need.
@@ -115,6 +118,7 @@ impl Slirp {
         ensures flows { IfOk result (λ slirp. slirp.flows ≡ flows_for (settings c.now)) }
         ensures leases { IfOk result (λ slirp. slirp.leases ≡ replicate 16 Free) }
         ensures forwards { IfOk result (λ slirp. slirp.forwards ≡ []) }
+        ensures transfers { IfOk result (λ slirp. slirp.transfers ≡ []) }
     {
         let Ok(message) = vec![in alloc; 0; MESSAGE_ROOM] else {
             return Err(NoMemory);
@@ -123,6 +127,7 @@ impl Slirp {
         let reasm = Reasm::open(alloc)?;
         let flows = TcpFlows::open(alloc, &sizes_of(c))?;
         let forwards = Forwards::open(alloc)?;
+        let files = Tftp::open(alloc, c)?;
         Ok(Slirp {
             policy: Policy::new(c),
             guests: ArpTable::new(),
@@ -136,6 +141,7 @@ impl Slirp {
             flows,
             leases: Leases::new(c),
             forwards,
+            files,
             message,
         })
     }
@@ -147,11 +153,11 @@ impl Slirp {
         self.moment = told.min(LAST_MOMENT).max(self.moment);
     }
 
-    /// Takes in a frame: its sender is learnt, what it asks for is owed from now on, and a datagram that goes out is answered, to be sent by `relay`, or a segment, to be heard by `take_segment`. A part of a datagram is kept until all have come; with the last of them the datagram is copied to `room`, 65,575 octets, and `complete` takes it in.
+    /// Takes in a frame: its sender is learnt, what it asks for is owed from now on, and a datagram that goes out is answered, to be sent by `relay`, one for the server of files, to be served by `take_file`, or a segment, to be heard by `take_segment`. A part of a datagram is kept until all have come; with the last of them the datagram is copied to `room`, 65,575 octets, and `complete` takes it in.
     pub fn input<'a>(&mut self, frame: &'a [u8], room: &mut [u8]) -> Brought<'a>
         requires { length room.old ≡ 65575 }
-        ensures errand { (held : List PartSet) → IsHeld self.old.parts held
-            → brought_errand self.old.config result room.new ≡ errand_for_udp self.old.config (udp_in self.old.config self.old.moment (young self.old.moment held) frame.now) }
+        ensures request { (held : List PartSet) → IsHeld self.old.parts held
+            → brought_request self.old.config result room.new ≡ request_for_udp self.old.config (udp_in self.old.config self.old.moment (young self.old.moment held) frame.now) }
         ensures segment { (held : List PartSet) → IsHeld self.old.parts held
             → brought_segment self.old.config result room.new ≡ segment_in self.old.config self.old.moment (young self.old.moment held) frame.now }
         ensures changes { (held : List PartSet) → IsHeld self.old.parts held
@@ -176,10 +182,10 @@ impl Slirp {
         }
     }
 
-    /// Takes in what a frame brought, where it made a datagram whole: `octets` are those to which that was copied. A datagram that goes out is answered, or a segment that is to be heard.
+    /// Takes in what a frame brought, where it made a datagram whole: `octets` are those to which that was copied. A datagram that goes out is answered, one that is to be served, or a segment that is to be heard.
     pub fn complete<'a>(&mut self, brought: Brought<'a>, octets: &'a [u8]) -> Option<Task<'a>>
         requires { FitsBrought self.old.config brought self.old.pending (length octets.now) }
-        ensures errand { option_and_then errand_for result ≡ brought_errand self.old.config brought.entry octets.now }
+        ensures request { option_and_then request_for result ≡ brought_request self.old.config brought.entry octets.now }
         ensures segment { option_and_then segment_for result ≡ brought_segment self.old.config brought.entry octets.now }
         ensures changes { self.new ≡ taken_on self.old brought.entry octets.now }
         ensures others { self.new ≡ record self.old { pending = self.new.pending; leases = self.new.leases } }
@@ -226,7 +232,7 @@ impl Slirp {
     ) -> Option<Task<'a>>
         requires none { self.old.pending ≡ [] }
         requires lies { Lies octets.now datagram.now.head.now datagram.now.body.now }
-        ensures errand { option_and_then errand_for result ≡ errand_for_udp self.old.config (udp_of self.old.config mac.0 (ip_of datagram.now)) }
+        ensures request { option_and_then request_for result ≡ request_for_udp self.old.config (udp_of self.old.config mac.0 (ip_of datagram.now)) }
         ensures segment { option_and_then segment_for result ≡ segment_of_ip self.old.config mac.0 (ip_of datagram.now) }
         ensures fits { IfSome result (FitsTask self.old.config) }
         ensures none { IfSome result (λ t. self.new.pending ≡ []) }
@@ -240,8 +246,7 @@ impl Slirp {
             return segment_in(mac, datagram);
         }
         let datagram = datagram_in(&self.policy, mac, octets, datagram)?;
-        let errand = self.take_udp(&datagram)?;
-        Some(Task::Errand(errand))
+        self.take_udp(&datagram)
     }
 
     // The guest's address is known from now on.
@@ -253,7 +258,7 @@ impl Slirp {
         }
     }
 
-    /// Begins a turn after which another wait may come: the flows are told their guests' hardware addresses and the time, the fragments that have waited for 60,000 milliseconds are dropped, and the
+    /// Begins a turn after which another wait may come: the flows are told their guests' hardware addresses and the time, the transfers of files that are over are gone, the fragments that have waited for 60,000 milliseconds are dropped, and the
     /// sockets of datagrams whose idle life is over are closed, and those of questions that have waited for 10,000 milliseconds. Of each kind sockets are closed by rising number. There are at most 2^45 turns.
     /// A flow that owed no acknowledgement is in time then: its timer isn't due.
     pub fn tick<W: World>(&mut self, world: &mut W)
@@ -270,11 +275,12 @@ impl Slirp {
         // No socket was served in the turn that begins.
         ensures unserved { (k : ℕ) → slice_get self.new.flows.served k ≡ Some self.new.flows.turn → ⊥ }
         ensures unasked { All (λ q. is_over_question self.new.moment q ≡ false) self.new.questions }
-        ensures same { self.new ≡ record self.old { associations = self.new.associations; questions = self.new.questions; parts = self.new.parts; flows = self.new.flows } }
+        ensures over { self.new.transfers ≡ are_left self.old.moment self.old.transfers }
+        ensures same { self.new ≡ record self.old { associations = self.new.associations; questions = self.new.questions; parts = self.new.parts; flows = self.new.flows; transfers = self.new.transfers } }
     {
         self.flows.begin_turn();
         self.tell_addresses();
-        self.tell_flows(world);
+        self.tell_time(world);
         self.drop_parts();
         self.close_unused(world);
         self.close_unanswered(world);
@@ -294,8 +300,8 @@ impl Slirp {
         self.flows.learn(&self.guests);
     }
 
-    // Tells the flows the time.
-    fn tell_flows<W: World>(&mut self, world: &mut W)
+    // Tells the flows the time, and lets the transfers go that are over.
+    fn tell_time<W: World>(&mut self, world: &mut W)
         requires told { AreTold self.old.known self.old.flows.flows.parts }
         ensures makes { (config : Config) (count : ℕ) (link : LinkState) → count < config.turns → Brings (W.tells world.old) (W.tells world.new)
             (Holds config (after count) self.old (flowing false self.old.flows) link) (Holds config (after count) self.new (flowing true self.new.flows) link) }
@@ -305,9 +311,11 @@ impl Slirp {
             → IsInTime self.new.moment self.new.flows.flows.parts n }
         ensures turn { self.new.flows.turn ≡ self.old.flows.turn }
         ensures served { self.new.flows.served ≡ self.old.flows.served }
-        ensures same { self.new ≡ record self.old { flows = self.new.flows } }
+        ensures over { self.new.transfers ≡ are_left self.old.moment self.old.transfers }
+        ensures same { self.new ≡ record self.old { flows = self.new.flows; transfers = self.new.transfers } }
     {
         self.flows.tick(world, self.moment);
+        self.files.end_over(self.moment);
     }
 
     // Drops the fragments that have waited for 60,000 milliseconds.

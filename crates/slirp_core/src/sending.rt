@@ -7,6 +7,7 @@ use crate::arp::our_mac;
 use crate::network::Slirp;
 use crate::outgoing::{Course, datagrams_in};
 use flow_splice::Pumped as PumpedFlows;
+use host_policy::Policy;
 use net_octets::{Ip4, Mac};
 use stream_netdev::{Link, Offered};
 use world_face::World;
@@ -190,14 +191,22 @@ impl Slirp {
         ensures course { result ≡ record { to_mac = to_mac; from_mac = record { 0 = our_mac self.now.config.vhost }; ident = self.now.sent; from = from; to = to; mtu = self.now.config.mtu } }
         ensures mtu { (576 ≤ result.mtu) × (result.mtu ≤ 1500) }
     {
-        Course {
-            to_mac,
-            from_mac: our_mac(self.policy.vhost()),
-            ident: self.sent,
-            from,
-            to,
-            mtu: self.policy.mtu(),
-        }
+        course(&self.policy, self.sent, to_mac, from, to)
+    }
+}
+
+// The course of a datagram with this identification.
+pub(crate) fn course(policy: &Policy, ident: u16, to_mac: Mac, from: Ip4, to: Ip4) -> Course
+    ensures course { result ≡ record { to_mac = to_mac; from_mac = record { 0 = our_mac policy.now.vhost }; ident = ident; from = from; to = to; mtu = policy.now.mtu } }
+    ensures mtu { (576 ≤ result.mtu) × (result.mtu ≤ 1500) }
+{
+    Course {
+        to_mac,
+        from_mac: our_mac(policy.vhost()),
+        ident,
+        from,
+        to,
+        mtu: policy.mtu(),
     }
 }
 

@@ -11,9 +11,9 @@ ghost use Rattle.host_policy.specs.Addresses.{Config};
 ghost use Rattle.host_policy.specs.Targets.{target};
 ghost use Rattle.spliced_flows.specs.Stands.{lot_without};
 ghost use Rattle.slirp_core.specs.Packets.{is_segment};
-ghost use Rattle.slirp_core.specs.Segments.{FitsTask, coming, coming_of, errand_for, lot_of, segment_for};
+ghost use Rattle.slirp_core.specs.Segments.{FitsTask, coming, coming_of, request_for, lot_of, segment_for};
 
-use crate::datagrams::ErrandView;
+use crate::datagrams::{DatagramView, ErrandView};
 use crate::network::Slirp;
 use flow_table::Tuple;
 use host_policy::{Policy, Proto, Verdict};
@@ -40,6 +40,8 @@ pub struct SegmentView<'a> {
 pub enum Task<'a> {
     /// A datagram goes out.
     Errand(ErrandView<'a>),
+    /// A datagram is for the server of files.
+    File(DatagramView<'a>),
     /// A segment is to be heard.
     Segment(SegmentView<'a>),
 }
@@ -145,7 +147,7 @@ pub(crate) fn is_segment(policy: &Policy, datagram: &IpView<'_>) -> bool
 pub(crate) fn segment_in<'a>(mac: Mac, datagram: &IpView<'a>) -> Option<Task<'a>>
     requires size { length datagram.now.body.now ≤ 65515 }
     ensures segment { option_and_then segment_for result ≡ option_map (coming mac.0 (ip_of datagram.now)) (read_tcp datagram.now.from.0 datagram.now.to.0 datagram.now.body.now) }
-    ensures errand { option_and_then errand_for result ≡ None }
+    ensures request { option_and_then request_for result ≡ None }
     ensures fits { (config : Config) → IfSome result (FitsTask config) }
 {
     let Ok(segment) = tcp_segment::decode(datagram.body, datagram.from, datagram.to) else {

@@ -3,7 +3,7 @@ ghost use Rattle.std.specs.Prelude.{◌≡◌, List};
 ghost use Rattle.ipv4_head.specs.Sets.{PartSet};
 ghost use Rattle.slirp_core.specs.Fragments.{IsHeld};
 ghost use Rattle.slirp_core.specs.Pumps.{question_left, time_left};
-ghost use Rattle.slirp_core.specs.Timeouts.{IsFlowTime, IsPartTime, sooner};
+ghost use Rattle.slirp_core.specs.Timeouts.{IsFileTime, IsFlowTime, IsPartTime, sooner};
 
 use crate::network::Slirp;
 use dns_relay::QUESTION_LIFE;
@@ -31,6 +31,14 @@ impl Slirp {
         ensures { (held : List PartSet) → IsHeld self.now.parts held → IsPartTime self.now.moment held result }
     {
         let due = self.reasm.next_due()?;
+        Some(due.saturating_sub(self.moment))
+    }
+
+    // How long it is until a packet of a file is due to go again. What is due already waits for the link, and isn't counted.
+    pub(crate) fn time_of_files(&self) -> Option<u64>
+        ensures { IsFileTime self.now.moment self.now.transfers result }
+    {
+        let due = self.files.next_due(self.moment)?;
         Some(due.saturating_sub(self.moment))
     }
 

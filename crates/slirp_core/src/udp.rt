@@ -4,6 +4,7 @@ ghost use Rattle.std.specs.Prelude.{[], ◌≡◌, ℕ, ◌+◌, ◌^◌, ◌<�
 use crate::datagrams::{DatagramView, ErrandView, Outcome, fate};
 use crate::icmp::PROHIBITED;
 use crate::network::Slirp;
+use crate::tcp::Task;
 use host_policy::{Proto, Reply};
 use net_octets::{Endpoint, Mac};
 use udp_assoc::UdpView;
@@ -13,13 +14,15 @@ impl Slirp {
     ghost use Rattle.poll_list.specs.declared.Want.{Want as AnItem};
     ghost use Rattle.poll_list.specs.declared.Who.TheVariants.{Udp};
     ghost use Rattle.slirp_laws.specs.Agenda.{is_to_read, wanted_of};
-    ghost use Rattle.std.specs.Prelude.{List, ◌∷◌, Some, IfSome};
-    ghost use Rattle.std.specs.Option.{option_map};
+    ghost use Rattle.std.specs.Prelude.{List, ◌∷◌, Some, None, IfSome};
+    ghost use Rattle.std.specs.Option.{option_and_then};
+    ghost use Rattle.slirp_core.specs.Packets.{request_of};
+    ghost use Rattle.slirp_core.specs.Segments.{FitsTask, request_for, segment_for};
     ghost use Rattle.host_policy.specs.Addresses.{Config};
     ghost use Rattle.dns_relay.specs.Questions.{numbered as question_numbered};
     ghost use Rattle.slirp_laws.specs.Answers.{answer_of, asks_for, frames_of, reply_at};
     ghost use Rattle.slirp_core.specs.Leases.{after_message, after_udp};
-    ghost use Rattle.slirp_laws.specs.Datagrams.{asks_a_name, errand_of as errand_by_law};
+    ghost use Rattle.slirp_laws.specs.Datagrams.{asks_a_name};
     ghost use Rattle.slirp_core.specs.Forwards.{guest_on};
     ghost use Rattle.slirp_core.specs.Replies.{answered_by, told_by, or_learnt, owed_by};
     ghost use Rattle.udp_assoc.specs.Relays.{FitsRoom};
@@ -31,13 +34,15 @@ impl Slirp {
     ghost use Rattle.std.specs.Prelude.{Bool};
     ghost use Rattle.slirp_core.specs.Counts.{AreGrown};
 
-    // Takes in a datagram of UDP.
-    pub(crate) fn take_udp<'a>(&mut self, datagram: &DatagramView<'a>) -> Option<ErrandView<'a>>
+    // Takes in a datagram of UDP: one that goes out, or that is for the server of files, is answered.
+    pub(crate) fn take_udp<'a>(&mut self, datagram: &DatagramView<'a>) -> Option<Task<'a>>
         requires none { self.old.pending ≡ [] }
+        requires body { length datagram.now.body.now ≤ 65507 }
         requires quote { length datagram.now.quote.now ≤ 68 }
-        ensures errand { option_map errand_of result ≡ errand_by_law self.old.config (datagram_of datagram.now) }
-        ensures same { IfSome result (λ e. e.datagram ≡ datagram.now) }
-        ensures none { IfSome result (λ e. self.new.pending ≡ []) }
+        ensures request { option_and_then request_for result ≡ request_of self.old.config (datagram_of datagram.now) }
+        ensures segment { option_and_then segment_for result ≡ None }
+        ensures fits { IfSome result (FitsTask self.old.config) }
+        ensures none { IfSome result (λ t. self.new.pending ≡ []) }
         ensures changes { self.new ≡ after_udp self.old (datagram_of datagram.now) }
     {
         match fate(&self.policy, datagram) {
@@ -50,10 +55,11 @@ impl Slirp {
                 self.take_message(datagram);
                 None
             }
-            Outcome::GoesTo(to) => Some(ErrandView {
+            Outcome::ForFiles => Some(Task::File(*datagram)),
+            Outcome::GoesTo(to) => Some(Task::Errand(ErrandView {
                 datagram: *datagram,
                 to,
-            }),
+            })),
         }
     }
 

@@ -238,7 +238,7 @@ impl Slirp {
     ghost use Rattle.slirp_core.specs.Pumps.{WantsOf, listeners_of};
     ghost use Rattle.slirp_core.specs.Timeouts.{IsTimeout};
 
-    /// What the network waits for, and how long at most: the link for reading, and each open socket of datagrams, where nothing is left to be sent: those of ports of the host, then those of associations and questions, by rising number; the link for writing where it is blocked; each port of the host to which peers connect exactly where there is room for a flow more; what flows wait for, by rising number; until the idle life of the longest unused socket is over, the longest unused question has waited for long enough, the first fragments are dropped, or a flow is to be told the time.
+    /// What the network waits for, and how long at most: the link for reading, and each open socket of datagrams, where nothing is left to be sent: those of ports of the host, then those of associations and questions, by rising number; the link for writing where it is blocked; each port of the host to which peers connect exactly where there is room for a flow more; what flows wait for, by rising number; until the idle life of the longest unused socket is over, the longest unused question has waited for long enough, the first fragments are dropped, a flow is to be told the time, or a packet of a file is due to go again.
     pub fn pollfds_fill(&self, link: &Link, wants: &mut TurnWants) -> Option<u64>
         requires { 5153 ≤ wants.old.capacity }
         ensures timeout { (held : List PartSet) → IsHeld self.now.parts held → IsTimeout self.now link.now.blocked held result }
@@ -265,7 +265,8 @@ impl Slirp {
         );
         let datagrams = sooner(self.time_of_sockets(), self.time_of_questions());
         let datagrams = sooner(datagrams, self.time_of_parts());
-        sooner(datagrams, self.time_of_flows(link.blocked()))
+        let unless_files = sooner(datagrams, self.time_of_flows(link.blocked()));
+        sooner(unless_files, self.time_of_files())
     }
 
     // The ports of the host for which peers are waited for: all to which they connect where there is room for a flow more, else none.

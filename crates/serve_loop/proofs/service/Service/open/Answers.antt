@@ -45,6 +45,7 @@ returns-clause-new c =
       questions = fresh.questions;
       parts = fresh.parts;
       leases = fresh.leases;
+      transfers = fresh.transfers;
       input = link.0;
       output = link.1;
       free = link.2;

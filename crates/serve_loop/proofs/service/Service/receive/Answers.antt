@@ -5,10 +5,10 @@ use Rattle.world_face.specs.Frames.{LinkEnded, LinkCut, LongFrame, LinkFailed}
 use Rattle.world_face.specs.Tells.{Brings}
 use Rattle.world_face.proofs.Telling.{brings_none, brings_then}
 use Rattle.stream_netdev.specs.declared.Arrived.TheVariants.{Frame, NotYet, End, Cut, TooLong, Failed}
-use Rattle.slirp_core.specs.Datagrams.{errand_of}
+use Rattle.slirp_core.specs.Datagrams.{datagram_of, errand_of}
 use Rattle.slirp_core.specs.Holds.{flowing, standing, holders_of}
-use Rattle.slirp_core.specs.Fragments.{brought_errand, brought_segment}
-use Rattle.slirp_core.specs.Segments.{coming_of, errand_for, segment_for}
+use Rattle.slirp_core.specs.Fragments.{brought_request, brought_segment}
+use Rattle.slirp_core.specs.Segments.{coming_of, request_for, segment_for}
 use Rattle.slirp_core.specs.declared.tcp.Task.{Task}
 use Rattle.serve_loop.specs.Turns.{AfterTurn, HoldsNow}
 use Rattle.slirp_core.specs.Pumps.{is_settled}
@@ -18,8 +18,9 @@ use Rattle.serve_loop.specs.declared.service.Turn.TheVariants.{Again, Ended as T
 use Rattle.serve_loop.specs.declared.service.End.TheVariants.{Done, Cut as EndCut, TooLong as EndLong, LinkFault}
 use Rattle.slirp_core.proofs.Associating.{passes_over}
 use Rattle.slirp_core.proofs.Telling.{brings_allowed}
-use Rattle.serve_loop.proofs.Completing.{segment_then, owes_then, sends_then, waits_then}
-use Rattle.serve_loop.proofs.Taking.{nothing_came, read_ended, segment_came, taken_in}
+use Rattle.serve_loop.proofs.Completing.{asks_then, segment_then, owes_then, waits_then}
+use Rattle.slirp_core.specs.Packets.{ToSend, ToServe}
+use Rattle.serve_loop.proofs.Taking.{file_came, nothing_came, read_ended, segment_came, taken_in}
 use Rattle.serve_loop.proofs.Turning.{ended_as, settled}
 use Rattle.slirp_core.proofs.Counted.{grown}
 use Rattle.serve_loop.proofs.Counted.{grown_then}
@@ -52,11 +53,11 @@ returns-in-Some-Errand-clause-makes g c config count wants item items reads_it =
     let owes = owes_then slirp mid done frame brought room octets same c.in-Some-Errand.ensures.changes parts c.input-brought.ensures.changes in
     let waits = waits_then slirp mid done frame brought room octets same parts c.input-brought.ensures.parts in
     let errand = errand_of c.in-Some-Errand.errand in
-    let sent = subst (λ (t : Task). option_and_then errand_for (Some t) ≡ brought_errand mid.config brought octets) c.in-Some-Errand.field-0-is c.in-Some-Errand.ensures.errand in
+    let sent = subst (λ (t : Task). option_and_then request_for (Some t) ≡ brought_request mid.config brought octets) c.in-Some-Errand.field-0-is c.in-Some-Errand.ensures.request in
     let none = subst (λ (t : Task). option_and_then segment_for (Some t) ≡ brought_segment mid.config brought octets) c.in-Some-Errand.field-0-is c.in-Some-Errand.ensures.segment in
     let took = brings_allowed c.in-Frame.ensures.makes (λ made read allowed past holds.
-    taken_in config count wants item items reads_it slirp link new.self Frame before.1 before.0 made past allowed read.1 holds done frame (ap Some (sym c.frame.ensures)) refl owes waits (Some errand)
-    (sends_then slirp mid done frame brought room octets same (Some errand) settings sent c.input-brought.ensures.errand)
+    taken_in config count wants item items reads_it slirp link new.self Frame before.1 before.0 made past allowed read.1 holds done frame (ap Some (sym c.frame.ensures)) refl owes waits (Some (ToSend errand)) refl
+    (asks_then slirp mid done frame brought room octets same (Some (ToSend errand)) settings sent c.input-brought.ensures.request)
     (segment_then slirp mid done frame brought room octets same None settings none c.input-brought.ensures.segment)) in
     subst (λ (s : ServiceState). Brings (g.W.World.tells c.args.world.now) (g.W.World.tells c.relay.new.world) (HoldsNow config (standing count wants (item ∷ items)) false s.slirp s.link) (AfterTurn Again config (standing count wants items) false c.relay.new.self new.self)) c.self.view_is
     (brings_then took (c.relay.ensures.makes config (standing count wants items) false new.self))
@@ -86,6 +87,38 @@ returns-in-Some-Segment-clause-makes g c config count wants item items reads_it 
     subst (λ (s : ServiceState). Brings (g.W.World.tells c.args.world.now) (g.W.World.tells c.take_segment.new.world) (HoldsNow config (standing count wants (item ∷ items)) false s.slirp s.link) (AfterTurn Again config (standing count wants items) false c.take_segment.new.self new.self)) c.self.view_is
     (brings_then took (c.take_segment.ensures.makes config (standing count wants items) new.self))
 
+pub returns-in-Some-File-clause-makes : goal.returns-in-Some-File-clause-makes
+returns-in-Some-File-clause-makes g c config count wants item items reads_it =
+    let slirp = c.self.inside.slirp in
+    let link = c.self.inside.link in
+    let new = c.read_frame.new in
+    let before = settled slirp link (ap (λ (s : ServiceState). is_settled s.slirp s.link) c.self.view_is ∙ sym c.is_settled.ensures ∙ c.if-not-is_settled.false) in
+    let frame = c.frame.result.now in
+    let mid = c.input-brought.new.self in
+    let done = c.complete.new.self in
+    let brought = c.input-brought.result in
+    let room = c.input-brought.new.room in
+    let octets = c.deref.result.now in
+    let same : octets ≡ room = c.deref.ensures.value ∙ take_at room (drop (length room) c.self.inside.joined.items) c.self.inside.joined.len (omega (arith, c.input-brought.ensures.room)) in
+    let settings : mid.config ≡ slirp.config = ap (λ (s : SlirpState). s.config) c.input-brought.ensures.others in
+    let parts : done.parts ≡ mid.parts = ap (λ (s : SlirpState). s.parts) c.in-Some-File.ensures.others in
+    let owes = owes_then slirp mid done frame brought room octets same c.in-Some-File.ensures.changes parts c.input-brought.ensures.changes in
+    let waits = waits_then slirp mid done frame brought room octets same parts c.input-brought.ensures.parts in
+    let d = datagram_of c.in-Some-File.datagram in
+    let asks = subst (λ (t : Task). option_and_then request_for (Some t) ≡ brought_request mid.config brought octets) c.in-Some-File.field-0-is c.in-Some-File.ensures.request in
+    let took = brings_allowed c.in-Frame.ensures.makes (λ made read allowed past holds.
+    file_came config count wants item items reads_it slirp link new.self Frame before.1 before.0 made past allowed read.1 holds done frame (ap Some (sym c.frame.ensures)) refl owes waits d
+    (asks_then slirp mid done frame brought room octets same (Some (ToServe d)) settings asks c.input-brought.ensures.request)) in
+    subst (λ (s : ServiceState). Brings (g.W.World.tells c.args.world.now) (g.W.World.tells c.take_file.new.world) (HoldsNow config (standing count wants (item ∷ items)) false s.slirp s.link) (AfterTurn Again config (standing count wants items) false c.take_file.new.self new.self)) c.self.view_is
+    (brings_then took (c.take_file.ensures.makes config (standing count wants items) new.self))
+
+pub take_file-requires-clause-none : goal.take_file-requires-clause-none
+take_file-requires-clause-none g c = c.in-Some-File.ensures.none
+
+pub returns-in-Some-File-clause-faults : goal.returns-in-Some-File-clause-faults
+returns-in-Some-File-clause-faults g c =
+    grown_then (g.W.World.tells c.args.world.now).faults (g.W.World.tells c.read_frame.new.world).faults (g.W.World.tells c.take_file.new.world).faults (grown _ _ _ c.in-Frame.ensures.makes.counted) c.take_file.ensures.counts
+
 pub returns-in-None-clause-makes : goal.returns-in-None-clause-makes
 returns-in-None-clause-makes g c config count wants item items reads_it =
     let slirp = c.self.inside.slirp in
@@ -105,8 +138,8 @@ returns-in-None-clause-makes g c config count wants item items reads_it =
     let waits = waits_then slirp mid done frame brought room octets same parts c.input-brought.ensures.parts in
     subst (λ (s : ServiceState). Brings (g.W.World.tells c.args.world.now) (g.W.World.tells new.world) (HoldsNow config (standing count wants (item ∷ items)) false s.slirp s.link) (AfterTurn Again config (standing count wants items) false done new.self)) c.self.view_is
     (brings_allowed c.in-Frame.ensures.makes (λ made read allowed past holds.
-    taken_in config count wants item items reads_it slirp link new.self Frame before.1 before.0 made past allowed read.1 holds done frame (ap Some (sym c.frame.ensures)) refl owes waits None
-    (sends_then slirp mid done frame brought room octets same None settings c.in-None.ensures.errand c.input-brought.ensures.errand)
+    taken_in config count wants item items reads_it slirp link new.self Frame before.1 before.0 made past allowed read.1 holds done frame (ap Some (sym c.frame.ensures)) refl owes waits None refl
+    (asks_then slirp mid done frame brought room octets same None settings c.in-None.ensures.request c.input-brought.ensures.request)
     (segment_then slirp mid done frame brought room octets same None settings c.in-None.ensures.segment c.input-brought.ensures.segment)))
 
 pub returns-in-NotYet-clause-makes : goal.returns-in-NotYet-clause-makes

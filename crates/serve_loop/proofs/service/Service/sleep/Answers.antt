@@ -11,7 +11,7 @@ use Rattle.world_face.proofs.Counting.{some_failed, wait_rose}
 use Rattle.world_face.proofs.Telling.{brings_one, makes_one, makes_next}
 use Rattle.slirp_core.proofs.Telling.{brings_allowed}
 use Rattle.slirp_core.specs.Holds.{after, standing}
-use Rattle.serve_loop.specs.Turns.{AfterSleep, HoldsNow}
+use Rattle.serve_loop.specs.Turns.{AfterSleep, HoldsNow, NoneGoesAgain}
 use Rattle.serve_loop.specs.Served.{ServiceState}
 use Rattle.slirp_core.specs.State.{SlirpState}
 use Rattle.serve_loop.specs.declared.service.Slept.TheVariants.{Ready as SleptReady, Stopped as SleptStopped, Failed as SleepFailed}
@@ -23,20 +23,23 @@ pub returns-in-Stop-clause-makes : goal.returns-in-Stop-clause-makes
 returns-in-Stop-clause-makes g c config count few =
     let slirp = c.self.inside.slirp in
     let link = c.self.inside.link in
+    let none_again : NoneGoesAgain slirp = subst (λ (s : ServiceState). NoneGoesAgain s.slirp) (sym c.self.view_is) c.requires in
     subst (λ (s : ServiceState). Brings (g.W.World.tells c.args.world.now) (g.W.World.tells c.wait.new.self) (HoldsNow config (after count) true s.slirp s.link) (AfterSleep SleptStopped config (count + 1) c.pollfds_fill-timeout.new.wants.items c.wait.new.ready.items slirp link)) c.self.view_is
-    (brings_one (subst (λ (l : Listing). Answers (g.W.World.tells c.args.world.now) (g.W.World.tells c.wait.new.self) (Wait l.items c.pollfds_fill-timeout.result Stop c.wait.new.ready.items)) c.list.ensures c.in-Stop.ensures.answers) (λ allowed past holds. wait_ends_it config count slirp slirp.flows link past c.pollfds_fill-timeout.new.wants.items c.pollfds_fill-timeout.result few holds Stop c.wait.new.ready.items Stopped refl))
+    (brings_one (subst (λ (l : Listing). Answers (g.W.World.tells c.args.world.now) (g.W.World.tells c.wait.new.self) (Wait l.items c.pollfds_fill-timeout.result Stop c.wait.new.ready.items)) c.list.ensures c.in-Stop.ensures.answers) (λ allowed past holds. wait_ends_it config count slirp slirp.flows link past c.pollfds_fill-timeout.new.wants.items c.pollfds_fill-timeout.result few none_again holds Stop c.wait.new.ready.items Stopped refl))
 
 pub returns-in-Failed-clause-makes : goal.returns-in-Failed-clause-makes
 returns-in-Failed-clause-makes g c config count few =
     let slirp = c.self.inside.slirp in
     let link = c.self.inside.link in
+    let none_again : NoneGoesAgain slirp = subst (λ (s : ServiceState). NoneGoesAgain s.slirp) (sym c.self.view_is) c.requires in
     subst (λ (s : ServiceState). Brings (g.W.World.tells c.args.world.now) (g.W.World.tells c.wait.new.self) (HoldsNow config (after count) true s.slirp s.link) (AfterSleep SleepFailed config (count + 1) c.pollfds_fill-timeout.new.wants.items c.wait.new.ready.items slirp link)) c.self.view_is
-    (brings_one (subst (λ (l : Listing). Answers (g.W.World.tells c.args.world.now) (g.W.World.tells c.wait.new.self) (Wait l.items c.pollfds_fill-timeout.result Failed c.wait.new.ready.items)) c.list.ensures c.in-Failed.ensures.answers) (λ allowed past holds. wait_ends_it config count slirp slirp.flows link past c.pollfds_fill-timeout.new.wants.items c.pollfds_fill-timeout.result few holds Failed c.wait.new.ready.items WaitFailed refl))
+    (brings_one (subst (λ (l : Listing). Answers (g.W.World.tells c.args.world.now) (g.W.World.tells c.wait.new.self) (Wait l.items c.pollfds_fill-timeout.result Failed c.wait.new.ready.items)) c.list.ensures c.in-Failed.ensures.answers) (λ allowed past holds. wait_ends_it config count slirp slirp.flows link past c.pollfds_fill-timeout.new.wants.items c.pollfds_fill-timeout.result few none_again holds Failed c.wait.new.ready.items WaitFailed refl))
 
 pub returns-in-Ready-clause-makes : goal.returns-in-Ready-clause-makes
 returns-in-Ready-clause-makes g c config count few =
     let slirp = c.self.inside.slirp in
     let link = c.self.inside.link in
+    let none_again : NoneGoesAgain slirp = subst (λ (s : ServiceState). NoneGoesAgain s.slirp) (sym c.self.view_is) c.requires in
     let new = c.report.new.link in
     let wants = c.pollfds_fill-timeout.new.wants.items in
     let timeout = c.pollfds_fill-timeout.result in
@@ -51,7 +54,7 @@ returns-in-Ready-clause-makes g c config count few =
     let fine = subst AreAllowed is allowed in
     subst (λ (m : List Entry). AfterSleep SleptReady config (count + 1) wants ready c.tell_moment.new.self new (m ++ past)) (sym is)
     (subst (λ (s : SlirpState). HoldsNow config (standing (count + 1) wants ready) false s new (Now told ∷ Wait wants timeout Ready ready ∷ past)) (sym c.tell_moment.ensures)
-    (wait_wakes config count slirp slirp.flows link past wants timeout few holds ready told new fine.1.0 fine.0 (same_under_way link new same.0 same.1) same.2 free))))
+    (wait_wakes config count slirp slirp.flows link past wants timeout few none_again holds ready told new fine.1.0 fine.0 (same_under_way link new same.0 same.1) same.2 free))))
 
 pub returns-in-Failed-clause-failed : goal.returns-in-Failed-clause-failed
 returns-in-Failed-clause-failed g c is = wait_rose _ _ _ (subst (λ (l : Listing). Answers (g.W.World.tells c.args.world.now) (g.W.World.tells c.wait.new.self) (Wait l.items c.pollfds_fill-timeout.result Failed c.wait.new.ready.items)) c.list.ensures c.in-Failed.ensures.answers).counted (some_failed wait_failed (Wait c.pollfds_fill-timeout.new.wants.items c.pollfds_fill-timeout.result Failed c.wait.new.ready.items) [] refl)

@@ -96,7 +96,7 @@ invariant_of-self-then-question_is_first g c =
       below = below_closed i.number (λ q. true) closing.result i.questions.list closing.new.self.list makes.made makes.holds asked.below;
       is = closing.ensures.rest ∙ ap (λ (r : RelayState). record r { list = closing.new.self.list }) asked.is;
     } in
-    (c.self.invariant.0, c.self.invariant.1, c.self.invariant.2, c.self.invariant.3, c.self.invariant.4, c.self.invariant.5, now_asked)
+    (c.self.invariant.0, c.self.invariant.1, c.self.invariant.2, c.self.invariant.3, c.self.invariant.4, c.self.invariant.5, now_asked, c.self.invariant.7)
 
 -- ---- an association's
 
@@ -143,4 +143,5 @@ invariant_of-self-else-question_is_first g c =
       c.self.invariant.4,
       c.self.invariant.5,
       c.self.invariant.6,
+      c.self.invariant.7,
     )

@@ -22,7 +22,7 @@ returns-clause-receives g c =
 pub returns-clause-makes : goal.returns-clause-makes
 returns-clause-makes g c config count wants item items aged link reported out =
     let i = c.self.inside in
-    let slirp : SlirpState = record { config = i.policy; known = i.guests; sent = i.sent; pending = i.outgoing; moment = i.moment; number = i.number; associations = i.associations.list; questions = i.questions.list; parts = i.reasm; flows = i.flows; leases = i.leases.leases; forwards = i.forwards } in
+    let slirp : SlirpState = record { config = i.policy; known = i.guests; sent = i.sent; pending = i.outgoing; moment = i.moment; number = i.number; associations = i.associations.list; questions = i.questions.list; parts = i.reasm; flows = i.flows; leases = i.leases.leases; forwards = i.forwards; transfers = i.files.transfers } in
     let none = ap (λ (s : SlirpState). s.pending) c.self.view_is ∙ c.requires.none in
     subst (λ (s : SlirpState). Brings (g.W.World.tells c.args.world.now) (g.W.World.tells c.answer-reply.new.world) (Holds config (standing count wants (item ∷ items)) s (flowing aged s.flows) link) (Holds config (standing count wants items) c.answer_asker.new.self (flowing aged c.answer_asker.new.self.flows) link)) c.self.view_is
     (brings_allowed c.answer-reply.ensures.hears (λ made hears allowed past holds.
@@ -47,4 +47,5 @@ invariant_of-self g c =
       c.self.invariant.5,
       asked_on i.number i.policy i.questions c.answer-reply.new.self c.answer-reply.ensures.rest
           (below_heard i.number i.questions i.moment c.args.number (length c.args.into.now) c.answer-reply.new.into c.answer-reply.new.self.list c.answer-reply.result makes.made makes.holds c.self.invariant.6.below) c.self.invariant.6.is,
+      c.self.invariant.7,
     )

@@ -18,7 +18,7 @@ use Rattle.slirp_core.proofs.network.Slirp.hear_peer.Goals as goal
 pub returns-clause-receives : goal.returns-clause-receives
 returns-clause-receives g c open_one =
     let i = c.self.inside in
-    let slirp : SlirpState = record { config = i.policy; known = i.guests; sent = i.sent; pending = i.outgoing; moment = i.moment; number = i.number; associations = i.associations.list; questions = i.questions.list; parts = i.reasm; flows = i.flows; leases = i.leases.leases; forwards = i.forwards } in
+    let slirp : SlirpState = record { config = i.policy; known = i.guests; sent = i.sent; pending = i.outgoing; moment = i.moment; number = i.number; associations = i.associations.list; questions = i.questions.list; parts = i.reasm; flows = i.flows; leases = i.leases.leases; forwards = i.forwards; transfers = i.files.transfers } in
     let open_here : is_heard c.args.number slirp ≡ true = ap (is_heard c.args.number) c.self.view_is ∙ open_one in
     let unasked : is_some (numbered c.args.number i.questions.list) ≡ false = ap (λ (s : SlirpState). is_some (numbered c.args.number s.questions)) c.self.view_is ∙ c.requires.unasked in
     let guest : c.guest_on-guest.result ≡ guest_on i.forwards c.args.number = c.guest_on-guest.ensures ∙ sym (ap (λ (s : SlirpState). guest_on s.forwards c.args.number) c.self.view_is) in
@@ -29,7 +29,7 @@ returns-clause-receives g c open_one =
 pub returns-clause-makes : goal.returns-clause-makes
 returns-clause-makes g c config count wants item items aged link reported out =
     let i = c.self.inside in
-    let slirp : SlirpState = record { config = i.policy; known = i.guests; sent = i.sent; pending = i.outgoing; moment = i.moment; number = i.number; associations = i.associations.list; questions = i.questions.list; parts = i.reasm; flows = i.flows; leases = i.leases.leases; forwards = i.forwards } in
+    let slirp : SlirpState = record { config = i.policy; known = i.guests; sent = i.sent; pending = i.outgoing; moment = i.moment; number = i.number; associations = i.associations.list; questions = i.questions.list; parts = i.reasm; flows = i.flows; leases = i.leases.leases; forwards = i.forwards; transfers = i.files.transfers } in
     let none = ap (λ (s : SlirpState). s.pending) c.self.view_is ∙ c.requires.none in
     let guest : c.guest_on-guest.result ≡ guest_on i.forwards c.args.number = c.guest_on-guest.ensures ∙ sym (ap (λ (s : SlirpState). guest_on s.forwards c.args.number) c.self.view_is) in
     subst (λ (s : SlirpState). Brings (g.W.World.tells c.args.world.now) (g.W.World.tells c.host-reply.new.world) (Holds config (standing count wants (item ∷ items)) s (flowing aged s.flows) link) (Holds config (standing count wants items) c.answer_peer.new.self (flowing aged c.answer_peer.new.self.flows) link)) c.self.view_is
@@ -45,4 +45,4 @@ pub invariant_of-self : goal.invariant_of-self
 invariant_of-self g c =
     let i = c.self.inside in
     let makes = c.host-reply.ensures.hears in
-    (below_heard i.number c.guest_on-guest.result i.moment c.args.number (length c.args.into.now) c.host-reply.new.into i.associations.list c.host-reply.new.self.list c.host-reply.result makes.made makes.holds c.self.invariant.0, c.self.invariant.1, c.host-reply.ensures.bind ∙ c.self.invariant.2, c.self.invariant.3, c.self.invariant.4, c.self.invariant.5, c.self.invariant.6)
+    (below_heard i.number c.guest_on-guest.result i.moment c.args.number (length c.args.into.now) c.host-reply.new.into i.associations.list c.host-reply.new.self.list c.host-reply.result makes.made makes.holds c.self.invariant.0, c.self.invariant.1, c.host-reply.ensures.bind ∙ c.self.invariant.2, c.self.invariant.3, c.self.invariant.4, c.self.invariant.5, c.self.invariant.6, c.self.invariant.7)

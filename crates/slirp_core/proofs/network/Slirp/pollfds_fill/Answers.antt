@@ -20,10 +20,13 @@ returns-clause-timeout c held is =
       of_parts = c.time_of_parts.ensures held is;
       flows = c.time_of_flows.result;
       of_flows = subst (λ (b : Bool). IsFlowTime b now.moment now.flows.flows.parts c.time_of_flows.result) c.blocked-2.ensures c.time_of_flows.ensures;
+      files = c.time_of_files.result;
+      of_files = c.time_of_files.ensures;
       is =
           c.sooner.ensures
+          ∙ ap (λ (o : Option ℕ). sooner o c.time_of_files.result) (c.sooner-unless_files.ensures
           ∙ ap (λ (o : Option ℕ). sooner o c.time_of_flows.result) (c.sooner-datagrams-2.ensures
-          ∙ ap (λ (o : Option ℕ). sooner o c.time_of_parts.result) (c.sooner-datagrams.ensures ∙ ap (λ (o : Option ℕ). sooner o c.time_of_questions.result) c.time_of_sockets.ensures ∙ ap (sooner (time_left now.moment now.associations)) c.time_of_questions.ensures));
+          ∙ ap (λ (o : Option ℕ). sooner o c.time_of_parts.result) (c.sooner-datagrams.ensures ∙ ap (λ (o : Option ℕ). sooner o c.time_of_questions.result) c.time_of_sockets.ensures ∙ ap (sooner (time_left now.moment now.associations)) c.time_of_questions.ensures)));
     }
 
 pub returns-clause-items : goal.returns-clause-items

@@ -14,7 +14,7 @@ use Rattle.slirp_core.proofs.network.Slirp.pump_flows.Goals as goal
 pub returns-clause-makes : goal.returns-clause-makes
 returns-clause-makes g c config at aged =
     let i = c.self.inside in
-    let slirp : SlirpState = record { config = i.policy; known = i.guests; sent = i.sent; pending = i.outgoing; moment = i.moment; number = i.number; associations = i.associations.list; questions = i.questions.list; parts = i.reasm; flows = i.flows; leases = i.leases.leases; forwards = i.forwards } in
+    let slirp : SlirpState = record { config = i.policy; known = i.guests; sent = i.sent; pending = i.outgoing; moment = i.moment; number = i.number; associations = i.associations.list; questions = i.questions.list; parts = i.reasm; flows = i.flows; leases = i.leases.leases; forwards = i.forwards; transfers = i.files.transfers } in
     let new = c.pump-pumped.new.self in
     let none = ap (λ (s : SlirpState). s.pending) c.self.view_is ∙ c.requires.out in
     let result = c.pump-pumped.result in
@@ -37,4 +37,4 @@ returns-clause-told g c = c.pump-pumped.ensures.told (subst (λ (s : SlirpState)
 pub invariant_of-self : goal.invariant_of-self
 invariant_of-self g c =
     let i = c.self.inside in
-    (c.self.invariant.0, c.self.invariant.1, c.self.invariant.2, drawn_stay i.number i.flows c.pump-pumped.new.self c.pump-pumped.ensures.stays c.self.invariant.3, c.self.invariant.4, c.self.invariant.5, c.self.invariant.6)
+    (c.self.invariant.0, c.self.invariant.1, c.self.invariant.2, drawn_stay i.number i.flows c.pump-pumped.new.self c.pump-pumped.ensures.stays c.self.invariant.3, c.self.invariant.4, c.self.invariant.5, c.self.invariant.6, c.self.invariant.7)

@@ -15,7 +15,7 @@ use Rattle.slirp_core.proofs.network.Slirp.send.Goals as goal
 pub returns-clause-makes : goal.returns-clause-makes
 returns-clause-makes g c config at aged link =
     let i = c.self.inside in
-    let slirp : SlirpState = record { config = i.policy; known = i.guests; sent = i.sent; pending = i.outgoing; moment = i.moment; number = i.number; associations = i.associations.list; questions = i.questions.list; parts = i.reasm; flows = i.flows; leases = i.leases.leases; forwards = i.forwards } in
+    let slirp : SlirpState = record { config = i.policy; known = i.guests; sent = i.sent; pending = i.outgoing; moment = i.moment; number = i.number; associations = i.associations.list; questions = i.questions.list; parts = i.reasm; flows = i.flows; leases = i.leases.leases; forwards = i.forwards; transfers = i.files.transfers } in
     let errand = errand_of c.args.errand.now in
     subst (λ (s : SlirpState). Brings (g.W.World.tells c.args.world.now) (g.W.World.tells c.guest-reply.new.world) (HoldsAt config at (asked_by config s (Some errand)) s (flowing aged s.flows) link) (Holds config at c.tell.new.self (flowing aged c.tell.new.self.flows) link)) c.self.view_is
     (brings_allowed c.guest-reply.ensures.relays (λ made relays allowed past holds.
@@ -48,4 +48,5 @@ invariant_of-self g c =
       c.self.invariant.4,
       c.self.invariant.5,
       asked_up i.number c.guest-reply.new.number i.policy i.questions up c.self.invariant.6,
+      c.self.invariant.7,
     )

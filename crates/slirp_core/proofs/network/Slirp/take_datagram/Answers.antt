@@ -6,15 +6,15 @@ use Rattle.slirp_core.specs.Datagrams.{datagram_of, errand_of}
 use Rattle.slirp_core.specs.declared.datagrams.DatagramView.{DatagramView}
 use Rattle.slirp_core.proofs.Services.{goes_as_question}
 use Rattle.slirp_core.specs.State.{SlirpState}
-use Rattle.slirp_core.proofs.Taking.{message_to_us, no_message, no_errand, no_errand_of_segment, no_segment_of_message, one_segment, segment_came}
+use Rattle.slirp_core.proofs.Taking.{message_to_us, no_message, no_request, no_request_of_segment, no_segment_of_message, one_segment, segment_came}
 use Rattle.slirp_core.proofs.network.Slirp.take_datagram.Goals as goal
 
-pub returns-then-is_message_to_us-clause-errand : goal.returns-then-is_message_to_us-clause-errand
-returns-then-is_message_to_us-clause-errand c =
+pub returns-then-is_message_to_us-clause-request : goal.returns-then-is_message_to_us-clause-request
+returns-then-is_message_to_us-clause-request c =
     let ip = ip_of c.args.datagram.now in
     let policy = ap (λ (s : SlirpState). s.config) c.self.view_is in
     let asked : is_message_to_us c.args.self.now.config ip ≡ true = ap (λ (k : Config). is_message_to_us k ip) (sym policy) ∙ sym c.is_message_to_us.ensures ∙ c.if-is_message_to_us.true in
-    no_errand c.args.self.now c.args.mac.0 ip asked
+    no_request c.args.self.now c.args.mac.0 ip asked
 
 pub returns-then-is_message_to_us-clause-segment : goal.returns-then-is_message_to_us-clause-segment
 returns-then-is_message_to_us-clause-segment c =
@@ -40,12 +40,12 @@ returns-clause-changes c =
     let carries : is_segment c.args.self.now.config ip ≡ false = ap (λ (k : Config). is_segment k ip) (sym policy) ∙ sym c.is_segment.ensures ∙ c.if-is_segment.false in
     c.take_udp.ensures.changes ∙ no_message c.args.self.now c.args.mac.0 ip asked carries (Some d) udp
 
-pub returns-then-is_segment-clause-errand : goal.returns-then-is_segment-clause-errand
-returns-then-is_segment-clause-errand c =
+pub returns-then-is_segment-clause-request : goal.returns-then-is_segment-clause-request
+returns-then-is_segment-clause-request c =
     let ip = ip_of c.args.datagram.now in
     let policy = ap (λ (s : SlirpState). s.config) c.self.view_is in
     let carries : is_segment c.args.self.now.config ip ≡ true = ap (λ (k : Config). is_segment k ip) (sym policy) ∙ sym c.is_segment.ensures ∙ c.if-is_segment.true in
-    c.segment_in.ensures.errand ∙ no_errand_of_segment c.args.self.now c.args.mac.0 ip carries
+    c.segment_in.ensures.request ∙ no_request_of_segment c.args.self.now c.args.mac.0 ip carries
 
 pub returns-then-is_segment-clause-segment : goal.returns-then-is_segment-clause-segment
 returns-then-is_segment-clause-segment c =
@@ -64,13 +64,3 @@ returns-then-is_segment-clause-changes c =
 
 pub returns-then-is_segment-clause-fits : goal.returns-then-is_segment-clause-fits
 returns-then-is_segment-clause-fits c = c.segment_in.ensures.fits c.args.self.now.config
-
-pub returns-clause-fits : goal.returns-clause-fits
-returns-clause-fits c =
-    let d = c.in_ok-datagram in
-    let errand = c.in_ok-errand.errand in
-    let same = c.in_ok-errand.ensures.same in (
-      subst (λ (v : DatagramView). length v.body.now ≤ 65507) (sym same) d.ensures.body,
-      subst (λ (v : DatagramView). length v.quote.now ≤ 68) (sym same) d.ensures.quote,
-      λ name. goes_as_question c.args.self.now.config (datagram_of d.datagram) (errand_of errand) (sym c.in_ok-errand.ensures.errand) name,
-    )

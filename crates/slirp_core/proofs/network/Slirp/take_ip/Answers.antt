@@ -3,7 +3,7 @@ use Rattle.ipv4_head.specs.Ip.{ip_of, is_unbroken}
 use Rattle.ipv4_head.specs.Sets.{part_of}
 use Rattle.run_laws.specs.Fragments.{part_by}
 use Rattle.slirp_core.specs.Fragments.{Arrives, Gathers, IsHeld, after_ip}
-use Rattle.slirp_core.specs.Packets.{errand_for_udp, udp_of}
+use Rattle.slirp_core.specs.Packets.{request_for_udp, udp_of}
 use Rattle.slirp_core.specs.Segments.{segment_of_ip}
 use Rattle.slirp_core.specs.State.{SlirpState}
 use Rattle.slirp_core.specs.declared.fragments.Brought.{Brought}
@@ -45,6 +45,6 @@ returns-clause-arrives c = λ held h.
     let whole : is_unbroken ip ≡ true = not_false (is_unbroken ip) (sym c.is_part.ensures ∙ c.if-is_part.false) in
     subst (λ (b : Brought). Arrives old held mac body new b c.args.room.now) (sym c.task_or_none.ensures)
     (whole_arrives old held mac body ip c.args.room.now c.in-Ok.ensures.fields h new c.take_datagram-task.result whole
-    (c.take_datagram-task.ensures.errand ∙ ap (λ (s : SlirpState). errand_for_udp s.config (udp_of s.config mac ip)) c.learn.ensures)
+    (c.take_datagram-task.ensures.request ∙ ap (λ (s : SlirpState). request_for_udp s.config (udp_of s.config mac ip)) c.learn.ensures)
     (c.take_datagram-task.ensures.segment ∙ ap (λ (s : SlirpState). segment_of_ip s.config mac ip) c.learn.ensures)
     (c.take_datagram-task.ensures.changes ∙ ap (λ (s : SlirpState). after_ip s mac ip) c.learn.ensures))

@@ -23,7 +23,7 @@ use Rattle.slirp_core.proofs.network.Slirp.take_segment.Goals as goal
 pub returns-in-Taken-clause-makes : goal.returns-in-Taken-clause-makes
 returns-in-Taken-clause-makes g c config at link =
     let i = c.self.inside in
-    let slirp : SlirpState = record { config = i.policy; known = i.guests; sent = i.sent; pending = i.outgoing; moment = i.moment; number = i.number; associations = i.associations.list; questions = i.questions.list; parts = i.reasm; flows = i.flows; leases = i.leases.leases; forwards = i.forwards } in
+    let slirp : SlirpState = record { config = i.policy; known = i.guests; sent = i.sent; pending = i.outgoing; moment = i.moment; number = i.number; associations = i.associations.list; questions = i.questions.list; parts = i.reasm; flows = i.flows; leases = i.leases.leases; forwards = i.forwards; transfers = i.files.transfers } in
     let coming = coming_of c.args.came.now in
     let new = c.segment.new.self in
     subst (λ (s : SlirpState). Brings (g.W.World.tells c.args.world.now) (g.W.World.tells c.segment.new.world) (Comes config at s s.flows link coming) (Holds config at (record slirp { flows = new }) (flowing false new) link)) c.self.view_is
@@ -34,7 +34,7 @@ returns-in-Taken-clause-makes g c config at link =
 pub returns-in-Strange-clause-makes : goal.returns-in-Strange-clause-makes
 returns-in-Strange-clause-makes g c config at link =
     let i = c.self.inside in
-    let slirp : SlirpState = record { config = i.policy; known = i.guests; sent = i.sent; pending = i.outgoing; moment = i.moment; number = i.number; associations = i.associations.list; questions = i.questions.list; parts = i.reasm; flows = i.flows; leases = i.leases.leases; forwards = i.forwards } in
+    let slirp : SlirpState = record { config = i.policy; known = i.guests; sent = i.sent; pending = i.outgoing; moment = i.moment; number = i.number; associations = i.associations.list; questions = i.questions.list; parts = i.reasm; flows = i.flows; leases = i.leases.leases; forwards = i.forwards; transfers = i.files.transfers } in
     let coming = coming_of c.args.came.now in
     let new = c.segment.new.self in
     subst (λ (s : SlirpState). Brings (g.W.World.tells c.args.world.now) (g.W.World.tells c.segment.new.world) (Comes config at s s.flows link coming) (Holds config at c.turn_away.new.self (flowing false c.turn_away.new.self.flows) link)) c.self.view_is
@@ -46,7 +46,7 @@ returns-in-Strange-clause-makes g c config at link =
 pub returns-in-Dropped-clause-makes : goal.returns-in-Dropped-clause-makes
 returns-in-Dropped-clause-makes g c config at link =
     let i = c.self.inside in
-    let slirp : SlirpState = record { config = i.policy; known = i.guests; sent = i.sent; pending = i.outgoing; moment = i.moment; number = i.number; associations = i.associations.list; questions = i.questions.list; parts = i.reasm; flows = i.flows; leases = i.leases.leases; forwards = i.forwards } in
+    let slirp : SlirpState = record { config = i.policy; known = i.guests; sent = i.sent; pending = i.outgoing; moment = i.moment; number = i.number; associations = i.associations.list; questions = i.questions.list; parts = i.reasm; flows = i.flows; leases = i.leases.leases; forwards = i.forwards; transfers = i.files.transfers } in
     let coming = coming_of c.args.came.now in
     let new = c.segment.new.self in
     subst (λ (s : SlirpState). Brings (g.W.World.tells c.args.world.now) (g.W.World.tells c.segment.new.world) (Comes config at s s.flows link coming) (Holds config at (record slirp { flows = new }) (flowing false new) link)) c.self.view_is
@@ -58,7 +58,7 @@ returns-in-Dropped-clause-makes g c config at link =
 pub returns-in-Reset-clause-makes : goal.returns-in-Reset-clause-makes
 returns-in-Reset-clause-makes g c config at link =
     let i = c.self.inside in
-    let slirp : SlirpState = record { config = i.policy; known = i.guests; sent = i.sent; pending = i.outgoing; moment = i.moment; number = i.number; associations = i.associations.list; questions = i.questions.list; parts = i.reasm; flows = i.flows; leases = i.leases.leases; forwards = i.forwards } in
+    let slirp : SlirpState = record { config = i.policy; known = i.guests; sent = i.sent; pending = i.outgoing; moment = i.moment; number = i.number; associations = i.associations.list; questions = i.questions.list; parts = i.reasm; flows = i.flows; leases = i.leases.leases; forwards = i.forwards; transfers = i.files.transfers } in
     let coming = coming_of c.args.came.now in
     let new = c.segment.new.self in
     subst (λ (s : SlirpState). Brings (g.W.World.tells c.args.world.now) (g.W.World.tells c.segment.new.world) (Comes config at s s.flows link coming) (Holds config at c.turn_away-in-Reset.new.self (flowing false c.turn_away-in-Reset.new.self.flows) link)) c.self.view_is
@@ -75,7 +75,7 @@ IsConnect e P made = (before : List Entry) × (made ≡ e ∷ before) × P befor
 pub returns-in-Done-clause-makes : goal.returns-in-Done-clause-makes
 returns-in-Done-clause-makes g c config at link =
     let i = c.self.inside in
-    let slirp : SlirpState = record { config = i.policy; known = i.guests; sent = i.sent; pending = i.outgoing; moment = i.moment; number = i.number; associations = i.associations.list; questions = i.questions.list; parts = i.reasm; flows = i.flows; leases = i.leases.leases; forwards = i.forwards } in
+    let slirp : SlirpState = record { config = i.policy; known = i.guests; sent = i.sent; pending = i.outgoing; moment = i.moment; number = i.number; associations = i.associations.list; questions = i.questions.list; parts = i.reasm; flows = i.flows; leases = i.leases.leases; forwards = i.forwards; transfers = i.files.transfers } in
     let coming = coming_of c.args.came.now in
     let new = c.segment.new.self in
     let to = c.in-Connects.to in
@@ -96,7 +96,7 @@ returns-in-Done-clause-makes g c config at link =
 pub returns-in-Failed-clause-makes : goal.returns-in-Failed-clause-makes
 returns-in-Failed-clause-makes g c config at link =
     let i = c.self.inside in
-    let slirp : SlirpState = record { config = i.policy; known = i.guests; sent = i.sent; pending = i.outgoing; moment = i.moment; number = i.number; associations = i.associations.list; questions = i.questions.list; parts = i.reasm; flows = i.flows; leases = i.leases.leases; forwards = i.forwards } in
+    let slirp : SlirpState = record { config = i.policy; known = i.guests; sent = i.sent; pending = i.outgoing; moment = i.moment; number = i.number; associations = i.associations.list; questions = i.questions.list; parts = i.reasm; flows = i.flows; leases = i.leases.leases; forwards = i.forwards; transfers = i.files.transfers } in
     let coming = coming_of c.args.came.now in
     let new = c.segment.new.self in
     let to = c.in-Connects.to in
@@ -131,7 +131,7 @@ begin-requires-clause-above g c = (drawn_stay c.self.inside.number c.self.inside
 pub invariant_of-self-in-Reset : goal.invariant_of-self-in-Reset
 invariant_of-self-in-Reset g c =
     let i = c.self.inside in
-    (c.self.invariant.0, c.self.invariant.1, c.self.invariant.2, drawn_stay i.number i.flows c.segment.new.self c.in-Alone.ensures.stays c.self.invariant.3, c.self.invariant.4, c.self.invariant.5, c.self.invariant.6)
+    (c.self.invariant.0, c.self.invariant.1, c.self.invariant.2, drawn_stay i.number i.flows c.segment.new.self c.in-Alone.ensures.stays c.self.invariant.3, c.self.invariant.4, c.self.invariant.5, c.self.invariant.6, c.self.invariant.7)
 
 pub invariant_of-self-in-Failed : goal.invariant_of-self-in-Failed
 invariant_of-self-in-Failed g c =
@@ -143,6 +143,7 @@ invariant_of-self-in-Failed g c =
       c.self.invariant.4,
       c.self.invariant.5,
       asked_up i.number (i.number + 1) i.policy i.questions (omega arith) c.self.invariant.6,
+      c.self.invariant.7,
     )
 
 pub invariant_of-self-in-Done : goal.invariant_of-self-in-Done
@@ -155,4 +156,5 @@ invariant_of-self-in-Done g c =
       c.self.invariant.4,
       c.self.invariant.5,
       asked_up i.number (i.number + 1) i.policy i.questions (omega arith) c.self.invariant.6,
+      c.self.invariant.7,
     )

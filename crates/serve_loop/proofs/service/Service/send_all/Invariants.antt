@@ -1,0 +1,23 @@
+use Rattle.std.proofs.Common.{◌≡◌, true}
+use Rattle.world_face.specs.Tells.{Brings}
+use Rattle.host_policy.specs.Addresses.{Config}
+use Rattle.stream_netdev.specs.Keeps.{ReadsOn}
+use Rattle.stream_netdev.specs.State.{under_way}
+use Rattle.tftp_server.proofs.Turning.{due_count}
+use Rattle.slirp_core.specs.Counts.{AreGrown}
+use Rattle.slirp_core.specs.Holds.{Standing}
+use Rattle.serve_loop.specs.Turns.{HoldsNow}
+use Rattle.serve_loop.proofs.service.Service.send_all.Given as goal
+
+abbrev pub invariant-loop : goal.invariant-loop
+invariant-loop g l = record {
+  makes : (config : Config) (at : Standing) → Brings (g.W.World.tells l.fn.world) (g.W.World.tells l.world) (HoldsNow config at true l.fn.self.slirp l.fn.self.link) (HoldsNow config at true l.self.slirp l.self.link);
+  counts : AreGrown (g.W.World.tells l.fn.world).faults (g.W.World.tells l.world).faults;
+  on : ReadsOn (under_way l.self.link);
+  config : l.self.slirp.config ≡ l.fn.self.slirp.config;
+  number : l.self.slirp.number ≡ l.fn.self.slirp.number;
+  turns : l.self.slirp.flows.turn ≡ l.fn.self.slirp.flows.turn;
+}
+
+abbrev pub decreases-loop : goal.decreases-loop
+decreases-loop g l = due_count l.self.slirp.moment l.self.slirp.transfers

@@ -1,0 +1,14 @@
+-- What the server of files makes of a packet.
+use Rattle.std.specs.Prelude.{◌≡◌, List, Option, Some}
+use Rattle.world_face.specs.Journal.{Entry}
+use Rattle.tftp_server.specs.Asking.{IsServed}
+use Rattle.tftp_server.specs.Transfers.{Said, came, settled}
+use Rattle.run_laws.specs.Packets.{Datagram}
+use Rattle.slirp_laws.specs.Answers.{frames_of, told_of_files}
+use Rattle.slirp_core.specs.State.{SlirpState}
+
+-- these calls were made for it, and what they left is kept, and told
+pub record ServesFile (old : SlirpState) (d : Datagram) (new : SlirpState) (made : List Entry) : Type 0 where
+  pub told : Option Said
+  pub served : IsServed old.moment (came old.config.tftp_path old.moment d.mac d.from d.body (settled old.transfers)) new.transfers told made
+  pub pending : new.pending ≡ frames_of old.config old.sent (told_of_files old.config told)
