@@ -112,9 +112,6 @@ returns-in-Some-File-clause-makes g c config count wants item items reads_it =
     subst (λ (s : ServiceState). Brings (g.W.World.tells c.args.world.now) (g.W.World.tells c.take_file.new.world) (HoldsNow config (standing count wants (item ∷ items)) false s.slirp s.link) (AfterTurn Again config (standing count wants items) false c.take_file.new.self new.self)) c.self.view_is
     (brings_then took (c.take_file.ensures.makes config (standing count wants items) new.self))
 
-pub take_file-requires-clause-none : goal.take_file-requires-clause-none
-take_file-requires-clause-none g c = c.in-Some-File.ensures.none
-
 pub returns-in-Some-File-clause-faults : goal.returns-in-Some-File-clause-faults
 returns-in-Some-File-clause-faults g c =
     grown_then (g.W.World.tells c.args.world.now).faults (g.W.World.tells c.read_frame.new.world).faults (g.W.World.tells c.take_file.new.world).faults (grown _ _ _ c.in-Frame.ensures.makes.counted) c.take_file.ensures.counts

@@ -9,8 +9,8 @@ use Rattle.slirp_core.specs.Holds.{Standing}
 use Rattle.serve_loop.specs.Turns.{HoldsNow}
 use Rattle.serve_loop.proofs.service.Service.send_all.Given as goal
 
-abbrev pub invariant-loop : goal.invariant-loop
-invariant-loop g l = record {
+abbrev pub invariant-loop-self : goal.invariant-loop-self
+invariant-loop-self g l = record {
   makes : (config : Config) (at : Standing) → Brings (g.W.World.tells l.fn.world) (g.W.World.tells l.world) (HoldsNow config at true l.fn.self.slirp l.fn.self.link) (HoldsNow config at true l.self.slirp l.self.link);
   counts : AreGrown (g.W.World.tells l.fn.world).faults (g.W.World.tells l.world).faults;
   on : ReadsOn (under_way l.self.link);
@@ -19,5 +19,5 @@ invariant-loop g l = record {
   turns : l.self.slirp.flows.turn ≡ l.fn.self.slirp.flows.turn;
 }
 
-abbrev pub decreases-loop : goal.decreases-loop
-decreases-loop g l = due_count l.self.slirp.moment l.self.slirp.transfers
+abbrev pub decreases-loop-self : goal.decreases-loop-self
+decreases-loop-self g l = due_count l.self.slirp.moment l.self.slirp.transfers

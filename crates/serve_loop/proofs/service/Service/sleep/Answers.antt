@@ -23,7 +23,7 @@ pub returns-in-Stop-clause-makes : goal.returns-in-Stop-clause-makes
 returns-in-Stop-clause-makes g c config count few =
     let slirp = c.self.inside.slirp in
     let link = c.self.inside.link in
-    let none_again : NoneGoesAgain slirp = subst (λ (s : ServiceState). NoneGoesAgain s.slirp) (sym c.self.view_is) c.requires in
+    let none_again : NoneGoesAgain slirp = subst (λ (s : ServiceState). NoneGoesAgain s.slirp) (sym c.self.view_is) c.requires.none in
     subst (λ (s : ServiceState). Brings (g.W.World.tells c.args.world.now) (g.W.World.tells c.wait.new.self) (HoldsNow config (after count) true s.slirp s.link) (AfterSleep SleptStopped config (count + 1) c.pollfds_fill-timeout.new.wants.items c.wait.new.ready.items slirp link)) c.self.view_is
     (brings_one (subst (λ (l : Listing). Answers (g.W.World.tells c.args.world.now) (g.W.World.tells c.wait.new.self) (Wait l.items c.pollfds_fill-timeout.result Stop c.wait.new.ready.items)) c.list.ensures c.in-Stop.ensures.answers) (λ allowed past holds. wait_ends_it config count slirp slirp.flows link past c.pollfds_fill-timeout.new.wants.items c.pollfds_fill-timeout.result few none_again holds Stop c.wait.new.ready.items Stopped refl))
 
@@ -31,7 +31,7 @@ pub returns-in-Failed-clause-makes : goal.returns-in-Failed-clause-makes
 returns-in-Failed-clause-makes g c config count few =
     let slirp = c.self.inside.slirp in
     let link = c.self.inside.link in
-    let none_again : NoneGoesAgain slirp = subst (λ (s : ServiceState). NoneGoesAgain s.slirp) (sym c.self.view_is) c.requires in
+    let none_again : NoneGoesAgain slirp = subst (λ (s : ServiceState). NoneGoesAgain s.slirp) (sym c.self.view_is) c.requires.none in
     subst (λ (s : ServiceState). Brings (g.W.World.tells c.args.world.now) (g.W.World.tells c.wait.new.self) (HoldsNow config (after count) true s.slirp s.link) (AfterSleep SleepFailed config (count + 1) c.pollfds_fill-timeout.new.wants.items c.wait.new.ready.items slirp link)) c.self.view_is
     (brings_one (subst (λ (l : Listing). Answers (g.W.World.tells c.args.world.now) (g.W.World.tells c.wait.new.self) (Wait l.items c.pollfds_fill-timeout.result Failed c.wait.new.ready.items)) c.list.ensures c.in-Failed.ensures.answers) (λ allowed past holds. wait_ends_it config count slirp slirp.flows link past c.pollfds_fill-timeout.new.wants.items c.pollfds_fill-timeout.result few none_again holds Failed c.wait.new.ready.items WaitFailed refl))
 
@@ -39,7 +39,7 @@ pub returns-in-Ready-clause-makes : goal.returns-in-Ready-clause-makes
 returns-in-Ready-clause-makes g c config count few =
     let slirp = c.self.inside.slirp in
     let link = c.self.inside.link in
-    let none_again : NoneGoesAgain slirp = subst (λ (s : ServiceState). NoneGoesAgain s.slirp) (sym c.self.view_is) c.requires in
+    let none_again : NoneGoesAgain slirp = subst (λ (s : ServiceState). NoneGoesAgain s.slirp) (sym c.self.view_is) c.requires.none in
     let new = c.report.new.link in
     let wants = c.pollfds_fill-timeout.new.wants.items in
     let timeout = c.pollfds_fill-timeout.result in
