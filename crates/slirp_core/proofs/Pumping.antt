@@ -207,8 +207,8 @@ after_offer config at slirp new_slirp f old new made past frame rest result pump
           goes = answer_goes config f slirp.moment past holds.lawful holds.allowed holds.flows frame rest only (spelling frame) (spelt frame);
           flows = λ a. flows_answered config f slirp.moment past holds.lawful holds.allowed holds.flows holds.clock.moment frame rest only (spelling frame) a (spelt frame);
           owed = λ a next tail_is pending transfers. inl (left_then config f.aged slirp next (LinkWrite (spelling frame) a) past (files_stay config (spelling frame) a past frame rest only) (again_stays config (spelling frame) a past frame rest only) refl transfers
-          (ap (λ t. taken (opens (LinkWrite (spelling frame) a) t) (again_frames config (identification past) (serving config past)) (left config past)) tail_is
-          ∙ left_by a (left config past) (again_frames config (identification past) (serving config past)) only ∙ sym pending) l);
+              (ap (λ t. taken (opens (LinkWrite (spelling frame) a) t) (again_frames config (identification past) (serving config past)) (left config past)) tail_is
+              ∙ left_by a (left config past) (again_frames config (identification past) (serving config past)) only ∙ sym pending) l);
         }
 
     -- of a packet of a file that goes again
