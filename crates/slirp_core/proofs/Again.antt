@@ -3,7 +3,7 @@ use Rattle.std.proofs.Common.{◌≡◌, ℕ, ◌+◌, ◌<◌, ◌≤◌, not, 
 use Rattle.std.proofs.lemmas.List.{length-take}
 use Rattle.net_octets.specs.Kinds.{udp_proto}
 use Rattle.world_face.specs.Journal.{Entry, LinkWrite}
-use Rattle.world_face.specs.Frames.{goes_out, opens, spelling, tail}
+use Rattle.world_face.specs.Frames.{goes_out, opens, tail}
 use Rattle.world_face.specs.declared.Io.{Io}
 use Rattle.world_face.specs.declared.Io.TheVariants.{Done, End, NotYet, Failed}
 use Rattle.host_policy.specs.Addresses.{Config, address, endpoint}

@@ -71,6 +71,15 @@ few_read wants listeners forwards some others is few one two =
     let before = length-map listeners listener_want in
     omega (arith, long, all, given, behind, both, before)
 
+-- the same listeners and sockets, all for reading
+pub same_rows : (listeners forwards some others their_listeners their_forwards their_some their_others : List ℕ) → listeners ≡ their_listeners → forwards ≡ their_forwards → some ≡ their_some → others ≡ their_others
+    → (link_want true false ++ map listener_want listeners) ++ map udp_want (forwards ++ merged some others) ≡ (link_want true false ++ map listener_want their_listeners) ++ map udp_want (their_forwards ++ merged their_some their_others)
+same_rows listeners forwards some others their_listeners their_forwards their_some their_others one two three four =
+    ap (λ l. (link_want true false ++ map listener_want l) ++ map udp_want (forwards ++ merged some others)) one
+    ∙ ap (λ l. (link_want true false ++ map listener_want their_listeners) ++ map udp_want (l ++ merged some others)) two
+    ∙ ap (λ l. (link_want true false ++ map listener_want their_listeners) ++ map udp_want (their_forwards ++ merged l others)) three
+    ∙ ap (λ l. (link_want true false ++ map listener_want their_listeners) ++ map udp_want (their_forwards ++ merged their_some l)) four
+
 more_of : (wants : List Want) (w : Want) → (w.read || w.write) ≡ true → is_who w.of ≡ true → AreWants wants → AreWants (wants ++ (w ∷ []))
 more_of [] w some who are = both (w.read || w.write) (is_who w.of) some who
   where
@@ -117,6 +126,17 @@ are_each (x ∷ added) each =
     all true true c one two rest = rest
     all true false c one two rest = cc
     all false b c one two rest = cc
+
+-- what stands in front of others has directions, too
+pub are_front : (before added : List Want) → AreWants (before ++ added) → AreWants before
+are_front [] added are = refl
+are_front (x ∷ before) added are = both (x.read || x.write) (is_who x.of) (are_wants before) (are_wants (before ++ added)) are (λ rest. are_front before added rest)
+  where
+    both : (a b c d : Bool) → (a && b && d) ≡ true → (d ≡ true → c ≡ true) → (a && b && c) ≡ true
+    both true true c true is goes = goes refl
+    both true true c false is goes = cc
+    both true false c d is goes = cc
+    both false b c d is goes = cc
 
 pub are_with : (before added wants : List Want) (parts : List (Option Splice)) → wants ≡ before ++ added → AreWants before → AreWantsOf parts added
     → ((k : ℕ) (p : Splice) → slice_get parts k ≡ Some (Some p) → number_of p < 2 ^ 64) → AreWants wants

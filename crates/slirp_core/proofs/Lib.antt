@@ -8,7 +8,7 @@ pub mod Bridging
 pub mod Closing
 pub mod Counted
 pub mod Datagramming
-pub mod Owing
+pub mod Dividing
 pub mod Filling
 pub mod Given
 pub mod Listening
@@ -29,6 +29,7 @@ pub mod Ticking
 pub mod Waitings
 pub mod Flows
 pub mod Open
+pub mod Owing
 pub mod Waiting
 pub mod Reading
 pub mod Called

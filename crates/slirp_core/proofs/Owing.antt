@@ -1,5 +1,5 @@
 -- Which frames are pending and which transfers of files are kept, entry by entry.
-use Rattle.std.proofs.Common.{◌≡◌, ℕ, ◌<◌, ◌≤◌, ◌%◌, ◌^◌, ◌&&◌, not, Bool, true, false, is_some, List, [], ◌∷◌, ◌++◌, drop, length, Option, Some, None, option_map, inl, inr, if◌then◌else◌, refl, sym, ◌∙◌, ap, subst, arith}
+use Rattle.std.proofs.Common.{◌≡◌, ℕ, ◌<◌, ◌≤◌, ◌%◌, ◌^◌, ◌&&◌, not, Bool, true, false, is_some, List, [], ◌∷◌, ◌++◌, length, Option, Some, None, option_map, inl, inr, if◌then◌else◌, refl, sym, ◌∙◌, ap, subst, arith}
 use Rattle.poll_list.specs.declared.Want.{Want}
 use Rattle.world_face.specs.Journal.{Entry, LinkWrite, Wait}
 use Rattle.world_face.specs.Frames.{goes_out}
@@ -9,7 +9,7 @@ use Rattle.host_policy.specs.Addresses.{Config}
 use Rattle.run_laws.specs.Moments.{moment}
 use Rattle.tftp_server.specs.Transfers.{Files, Said, Settled, Transfer, are_left, begun, next_again, said_again, ticked}
 use Rattle.tftp_server.proofs.Turning.{next_left, ticked_none}
-use Rattle.slirp_laws.specs.Answers.{Ledger, Serving, again_frames, begins_again, begun_by, datagrams_out, files_begun, files_sent, frames_of, identification, is_free, is_out, ledger, left, may_go_again, or_begun, serving, starts, taken, told_of_files, unless_begun, with_datagrams}
+use Rattle.slirp_laws.specs.Answers.{Serving, again_frames, begins_again, begun_by, datagrams_out, files_begun, files_sent, frames_of, identification, is_free, is_out, ledger, left, or_begun, serving, starts, taken, told_of_files, unless_begun, with_datagrams}
 use Rattle.slirp_laws.proofs.KeptFiles.{now_is}
 use Rattle.tcp_flows.specs.Runs.{LeavesOthers}
 use Rattle.slirp_laws.specs.Datagrams.{Step, Settled as SettledStep, NeedsRoom, NeedsSocket, NeedsSending}

@@ -1,5 +1,5 @@
 -- A datagram for the server of files is served: its calls on files leave all else, and what comes of them is kept and told.
-use Rattle.std.proofs.Common.{◌≡◌, ℕ, ◌+◌, ◌-◌, ◌≤◌, length, false, List, [], ◌∷◌, ◌++◌, take, Option, Some, None, inl, refl, sym, ◌∙◌, ap, subst, arith}
+use Rattle.std.proofs.Common.{◌≡◌, ℕ, ◌+◌, ◌-◌, ◌≤◌, length, false, List, [], ◌∷◌, ◌++◌, Option, Some, None, inl, refl, sym, ◌∙◌, ap, subst, arith}
 use Rattle.world_face.specs.Journal.{AreAllowed, Call, CallFileLen, CallFileRead, Entry, FileLen, FileRead, call_of}
 use Rattle.world_face.proofs.Telling.{allowed_then}
 use Rattle.host_policy.specs.Addresses.{Config}
@@ -8,7 +8,7 @@ use Rattle.tftp_server.specs.Asking.{AreAskedFor, IsServed, after_calls, call_fo
 use Rattle.tftp_server.specs.Packets.{packet_in}
 use Rattle.tftp_server.specs.Transfers.{Files, Outcome, Quest, Said, SeeksLength, SeeksOctets, Settled as QuestSettled, Transfer, came, octets_of, place_of, settled}
 use Rattle.slirp_laws.specs.Agenda.{agenda, all_wanted}
-use Rattle.slirp_laws.specs.Answers.{frames_of, identification, serving, served_file, told_of_files}
+use Rattle.slirp_laws.specs.Answers.{frames_of, serving, told_of_files}
 use Rattle.slirp_laws.specs.Datagrams.{Settled}
 use Rattle.slirp_laws.specs.Errands.{errand_left}
 use Rattle.slirp_laws.specs.Leasing.{leases}
@@ -20,7 +20,7 @@ use Rattle.stream_netdev.specs.Keeps.{Keeps}
 use Rattle.stream_netdev.specs.State.{LinkState}
 use Rattle.tcp_flows.specs.Kept.{Kept}
 use Rattle.slirp_core.specs.Holds.{AsksFile, Holds, InTurn, IsLast, OfClock, OfFlows, OfGuests, OfSockets, Standing, Turns, flowing}
-use Rattle.slirp_core.specs.State.{SlirpState, serving_of}
+use Rattle.slirp_core.specs.State.{SlirpState}
 use Rattle.slirp_core.proofs.Flows.{flows_stay}
 use Rattle.slirp_core.proofs.Guests.{guests_stay}
 use Rattle.slirp_core.proofs.Parts.{asks_nothing, errand_for, keeps_by}

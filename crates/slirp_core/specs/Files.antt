@@ -1,5 +1,5 @@
 -- What the server of files makes of a packet.
-use Rattle.std.specs.Prelude.{◌≡◌, List, Option, Some}
+use Rattle.std.specs.Prelude.{◌≡◌, List, Option}
 use Rattle.world_face.specs.Journal.{Entry}
 use Rattle.tftp_server.specs.Asking.{IsServed}
 use Rattle.tftp_server.specs.Transfers.{Said, came, settled}

@@ -7,6 +7,7 @@ pub mod Forwards
 pub mod Fragments
 pub mod Hearing
 pub mod Holds
+pub mod Kinds
 pub mod Leases
 pub mod Numbers
 pub mod Outgoing

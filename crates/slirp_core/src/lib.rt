@@ -11,6 +11,7 @@ mod hosts;
 mod icmp;
 mod network;
 mod outgoing;
+mod ports;
 mod sending;
 mod tcp;
 mod timeouts;

@@ -10,6 +10,7 @@ use crate::datagrams::datagram_in;
 use crate::fragments::{Assembled, Brought, datagram_at};
 use crate::icmp::is_message_to_us;
 use crate::outgoing::{ARP, IPV4, Outgoing};
+use crate::ports::Ports;
 use crate::tcp::{Task, is_segment, segment_in};
 use arp_table::ArpTable;
 use dhcp_server::Leases;
@@ -18,7 +19,6 @@ use host_policy::{Policy, SlirpConfig};
 use ipv4_head::IpView;
 use ipv4_reasm::Reasm;
 use net_octets::{Ip4, Mac, NoMemory};
-use port_forward::Forwards;
 use std::alloc::Global;
 use std::marker::Model;
 use tcp_flows::{Sizes, TcpFlows};
@@ -46,7 +46,7 @@ pub struct Slirp {
     pub(crate) reasm: Reasm,
     pub(crate) flows: TcpFlows,
     pub(crate) leases: Leases,
-    pub(crate) forwards: Forwards,
+    pub(crate) forwards: Ports,
     pub(crate) files: Tftp,
     /// Room for what a server of ours answers.
     pub(crate) message: Vec<u8>,
@@ -126,7 +126,7 @@ impl Slirp {
         let outgoing = Outgoing::open(alloc)?;
         let reasm = Reasm::open(alloc)?;
         let flows = TcpFlows::open(alloc, &sizes_of(c))?;
-        let forwards = Forwards::open(alloc)?;
+        let forwards = Ports::open(alloc)?;
         let files = Tftp::open(alloc, c)?;
         Ok(Slirp {
             policy: Policy::new(c),

@@ -1,18 +1,18 @@
 // What the network waits for, and how long.
-ghost use Rattle.std.specs.Prelude.{[], ◌∷◌, ◌≡◌, ◌+◌, ◌≤◌, ◌<◌, ◌^◌, ◌++◌, true, false, List, ℕ, Some, slice_get, map, length, IfOk};
+ghost use Rattle.std.specs.Prelude.{[], ◌∷◌, ◌≡◌, ◌+◌, ◌≤◌, ◌<◌, ◌^◌, ◌++◌, true, false, List, ℕ, Some, filter, slice_get, map, length, IfOk};
 ghost use Rattle.flow_splice.specs.Splice.{Splice};
-ghost use Rattle.host_policy.specs.Ranges.{same_proto};
 ghost use Rattle.spliced_flows.specs.Core.{number_of};
 ghost use Rattle.poll_list.specs.declared.Want.{Want as AWant};
 ghost use Rattle.tcp_flows.specs.Reading.{AreWantsOf};
 ghost use Rattle.poll_list.specs.Listing.{AreWants};
 ghost use Rattle.slirp_core.specs.Pumps.{TcpOnce, into, link_want, listener_want, merged, socket_wants, udp_want};
 ghost use Rattle.slirp_core.specs.Carrying.{HasRoom, sockets_of};
+ghost use Rattle.slirp_core.specs.Kinds.{is_of_datagrams, is_of_flow, is_of_link_or_listener};
 
 use crate::network::Slirp;
 use crate::timeouts::sooner;
 use arrayvec::ArrayVec;
-use host_policy::{Forward, Proto};
+use host_policy::Proto;
 use net_octets::NoMemory;
 use poll_list::{Want, Wants, Who};
 use std::alloc::Global;
@@ -22,8 +22,8 @@ use tcp_flows::TcpFlows;
 
 /// What a turn waits for: a list with room for a fixed number of wants, all of it taken at opening.
 ///
-/// Most turns without flows wait for what the turn before waited for: the link, and the same listeners and sockets, for reading. So the numbers of the sockets
-/// of such a list are kept, and it stands where the sockets are the same.
+/// Most turns wait for what the turn before waited for, up to the sockets of flows: the link, and the same listeners and sockets of datagrams, for reading. So
+/// the numbers of these are kept, and where they are the same that part of the list stands, and only what flows wait for is put behind it anew.
 #[derive(Drop)]
 pub struct TurnWants {
     list: Wants,
@@ -31,7 +31,7 @@ pub struct TurnWants {
     forwards: ArrayVec<u64, 32>,
     associations: ArrayVec<u64, 512>,
     questions: ArrayVec<u64, 512>,
-    // whether the list has the link, these listeners and these sockets, all for reading
+    // whether the list begins with the link, these listeners and these sockets, all for reading
     reads: bool,
     // how many stand before the sockets of datagrams
     front: usize,
@@ -48,8 +48,9 @@ pub(crate) struct Carriers<'a> {
 }
 
 impl Model for TurnWants {
-    ghost use Rattle.std.specs.Prelude.{◌≡◌, ◌≤◌, true, false, ◌++◌, length, map};
+    ghost use Rattle.std.specs.Prelude.{◌≡◌, ◌≤◌, true, false, ◌++◌, length, map, take};
     ghost use Rattle.poll_list.specs.Listing.{AreWants, Listing};
+    ghost use Rattle.slirp_core.specs.Kinds.{InThreeParts};
     ghost use Rattle.slirp_core.specs.Pumps.{link_want, listener_want, merged, udp_want};
 
     ghost Value = { Listing };
@@ -57,7 +58,8 @@ impl Model for TurnWants {
     ghost view = { λ w. w.list };
 
     ghost invariant = { λ w. AreWants w.list.items × (w.front ≤ w.before) × (w.before ≤ length w.list.items)
-        × (w.reads ≡ true → w.list.items ≡ (link_want true false ++ map listener_want w.listeners.items) ++ map udp_want (w.forwards.items ++ merged w.associations.items w.questions.items)) };
+        × (w.reads ≡ true → take w.before w.list.items ≡ (link_want true false ++ map listener_want w.listeners.items) ++ map udp_want (w.forwards.items ++ merged w.associations.items w.questions.items))
+        × InThreeParts w.front w.before w.list.items };
 }
 
 impl TurnWants {
@@ -95,23 +97,26 @@ impl TurnWants {
         self.list.items()
     }
 
-    /// Of these the link and the listeners, the listeners by rising number.
+    /// Of these the link and the listeners, the listeners by rising number: they stand first.
     pub fn of_listeners(&self) -> &[Want]
-        ensures { (behind : List AWant) × (self.now.items ≡ result.now ++ behind) }
+        ensures part { (behind : List AWant) × (self.now.items ≡ result.now ++ behind) }
+        ensures all { result.now ≡ filter is_of_link_or_listener self.now.items }
     {
         &self.list.items()[..self.front]
     }
 
-    /// Of these the sockets of datagrams, by rising number.
+    /// Of these the sockets of datagrams, by rising number: they stand in the middle.
     pub fn of_datagrams(&self) -> &[Want]
-        ensures { (front flows : List AWant) × (self.now.items ≡ (front ++ result.now) ++ flows) }
+        ensures part { (front flows : List AWant) × (self.now.items ≡ (front ++ result.now) ++ flows) }
+        ensures all { result.now ≡ filter is_of_datagrams self.now.items }
     {
         &self.list.items()[self.front..self.before]
     }
 
-    /// Of these what flows wait for, by rising number of the socket.
+    /// Of these what flows wait for, by rising number of the socket: it stands last.
     pub fn of_flows(&self) -> &[Want]
-        ensures { (before : List AWant) × (self.now.items ≡ before ++ result.now) }
+        ensures part { (before : List AWant) × (self.now.items ≡ before ++ result.now) }
+        ensures all { result.now ≡ filter is_of_flow self.now.items }
     {
         &self.list.items()[self.before..]
     }
@@ -152,11 +157,7 @@ impl TurnWants {
         ensures wants { AreWants self.new.items }
         ensures capacity { self.new.capacity ≡ self.old.capacity }
     {
-        self.before = self.list.items().len();
-        self.front = self.front.min(self.before);
         put_flows(flows, below, &mut self.list);
-        // where a flow waits the list isn't the link and the sockets alone any more
-        self.reads = self.reads && self.list.items().len() == self.before;
     }
 
     // From now on the link is waited for in these directions, these listeners, and these sockets where it is read.
@@ -172,8 +173,10 @@ impl TurnWants {
         if read && !write {
             self.read_all(listeners, carriers);
         } else {
-            self.begin(read, write, listeners);
+            self.reads = false;
+            self.front = begin(read, write, listeners, &mut self.list);
             add_wanted(read, carriers, &mut self.list);
+            self.before = self.list.items().len();
         }
     }
 
@@ -193,40 +196,17 @@ impl TurnWants {
             && are_same(self.associations.as_slice(), carriers.associations)
             && are_same(self.questions.as_slice(), carriers.questions)
         {
+            self.list.truncate(self.before);
             return;
         }
-        self.begin(true, false, listeners);
+        self.front = begin(true, false, listeners, &mut self.list);
         add_carriers(carriers, &mut self.list);
-        self.listeners.clear();
-        let _ = self.listeners.try_extend_from_slice(listeners);
-        self.forwards.clear();
-        let _ = self.forwards.try_extend_from_slice(carriers.forwards);
-        self.associations.clear();
-        let _ = self
-            .associations
-            .try_extend_from_slice(carriers.associations);
-        self.questions.clear();
-        let _ = self.questions.try_extend_from_slice(carriers.questions);
-        self.reads = true;
-    }
-
-    // The list begins with the link, in these directions, and these listeners.
-    fn begin(&mut self, read: bool, write: bool, listeners: &[u64])
-        requires room { 33 ≤ self.old.capacity }
-        requires few { length listeners.now ≤ 32 }
-        ensures items { self.new.items ≡ link_want read write ++ map listener_want listeners.now }
-        ensures wants { AreWants self.new.items }
-        ensures few { length self.new.items ≤ 1 + length listeners.now }
-        ensures capacity { self.new.capacity ≡ self.old.capacity }
-    {
-        self.reads = false;
-        self.front = 0;
-        self.before = 0;
-        self.list.clear();
-        add_link(read, write, &mut self.list);
-        add_listeners(listeners, &mut self.list);
         self.before = self.list.items().len();
-        self.front = self.before;
+        keep(&mut self.listeners, listeners);
+        keep(&mut self.forwards, carriers.forwards);
+        keep(&mut self.associations, carriers.associations);
+        keep(&mut self.questions, carriers.questions);
+        self.reads = true;
     }
 }
 
@@ -248,17 +228,15 @@ impl Slirp {
         ensures few { length wants.new.items ≤ 5153 }
         ensures capacity { wants.new.capacity ≡ wants.old.capacity }
     {
-        let listeners = self.listeners();
-        let forwards = self.ports_over(Proto::Udp);
         let carriers = Carriers {
-            forwards: forwards.as_slice(),
+            forwards: self.ports_over(Proto::Udp),
             associations: self.associations.rising(),
             questions: self.questions.rising(),
         };
         wants.fill(
             self.is_settled(link),
             link.blocked(),
-            listeners.as_slice(),
+            self.listeners(),
             carriers,
             &self.flows,
             self.number,
@@ -270,39 +248,24 @@ impl Slirp {
     }
 
     // The ports of the host for which peers are waited for: all to which they connect where there is room for a flow more, else none.
-    fn listeners(&self) -> ArrayVec<u64, 32>
-        ensures items { result.items ≡ listeners_of self.now }
-        ensures few { length result.items ≤ length (sockets_over Tcp self.now.forwards) }
+    fn listeners(&self) -> &[u64]
+        ensures items { result.now ≡ listeners_of self.now }
+        ensures few { length result.now ≤ length (sockets_over Tcp self.now.forwards) }
     {
         if self.flows.has_room() {
             self.ports_over(Proto::Tcp)
         } else {
-            ArrayVec::new()
+            &[]
         }
     }
 
     // The sockets of the ports of the host that are open with this protocol, by rising number.
-    fn ports_over(&self, proto: Proto) -> ArrayVec<u64, 32>
-        ensures items { result.items ≡ sockets_over proto self.now.forwards }
+    fn ports_over(&self, proto: Proto) -> &[u64]
+        ensures items { result.now ≡ sockets_over proto self.now.forwards }
         ensures few { length self.now.forwards ≤ 32 }
     {
-        let mut numbers = ArrayVec::new();
-        for place in 0..self.forwards.len() {
-            if let Some((forward, number)) = self.forwards.at(place) {
-                if is_over(proto, &forward) {
-                    let _ = numbers.try_push(number);
-                }
-            }
-        }
-        numbers
+        self.forwards.over(proto)
     }
-}
-
-// Whether a forward is for this protocol.
-fn is_over(proto: Proto, forward: &Forward) -> bool
-    ensures { result ≡ same_proto proto forward.now.proto }
-{
-    proto == forward.proto
 }
 
 // Whether two lists of numbers are the same.
@@ -319,6 +282,15 @@ fn are_same(some: &[u64], others: &[u64]) -> bool
     same
 }
 
+// The row has these numbers from now on.
+fn keep<const N: usize>(row: &mut ArrayVec<u64, N>, numbers: &[u64])
+    requires { length numbers.now ≤ N }
+    ensures { row.new.items ≡ numbers.now }
+{
+    row.clear();
+    let _ = row.try_extend_from_slice(numbers);
+}
+
 // Puts what flows wait for at the end. Their numbers are under `below`.
 fn put_flows(flows: &TcpFlows, below: u64, wants: &mut Wants)
     requires wants { AreWants wants.old.items }
@@ -329,6 +301,22 @@ fn put_flows(flows: &TcpFlows, below: u64, wants: &mut Wants)
     ensures capacity { wants.new.capacity ≡ wants.old.capacity }
 {
     flows.put_wants(wants);
+}
+
+// The list begins anew, with the link in these directions and these listeners. Answers how many they are.
+fn begin(read: bool, write: bool, listeners: &[u64], wants: &mut Wants) -> usize
+    requires room { 33 ≤ wants.old.capacity }
+    requires few { length listeners.now ≤ 32 }
+    ensures items { wants.new.items ≡ link_want read write ++ map listener_want listeners.now }
+    ensures count { result ≡ length wants.new.items }
+    ensures wants { AreWants wants.new.items }
+    ensures few { length wants.new.items ≤ 1 + length listeners.now }
+    ensures capacity { wants.new.capacity ≡ wants.old.capacity }
+{
+    wants.clear();
+    add_link(read, write, wants);
+    add_listeners(listeners, wants);
+    wants.items().len()
 }
 
 // Puts the link at the end, in the directions in which it is wanted.

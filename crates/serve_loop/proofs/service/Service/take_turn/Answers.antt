@@ -1,4 +1,4 @@
-use Rattle.std.proofs.Common.{◌+◌, false, true, subst}
+use Rattle.std.proofs.Common.{◌+◌, false, subst}
 use Rattle.world_face.specs.Tells.{Brings}
 use Rattle.world_face.proofs.Telling.{brings_then}
 use Rattle.slirp_core.specs.Holds.{after}

@@ -35,8 +35,8 @@ returns-clause-items c =
     let added = c.fill.ensures.items in
     let some = c.rising.result.now in
     let others = c.rising-2.result.now in
-    wants_of c.args.self.now c.args.link.now c.fill.new.self.items added.0 c.is_settled.result c.blocked.result c.as_slice-2.result.now c.as_slice.result.now (merged some others) c.is_settled.ensures c.blocked.ensures
-    (c.as_slice-2.ensures.value ∙ c.listeners-listeners.ensures.items) (c.as_slice.ensures.value ∙ c.ports_over-forwards.ensures.items)
+    wants_of c.args.self.now c.args.link.now c.fill.new.self.items added.0 c.is_settled.result c.blocked.result c.listeners.result.now c.ports_over.result.now (merged some others) c.is_settled.ensures c.blocked.ensures
+    c.listeners.ensures.items c.ports_over.ensures.items
     (subst (λ (s : SlirpState). IsPermutation (carriers (holders_of s)) (merged some others)) c.self.view_is
     (merged_all (numbers i.associations.list) (question_numbers i.questions.list) some others c.rising.ensures.all c.rising-2.ensures.all)) (merged_rises some others c.rising.ensures.rising c.rising-2.ensures.rising)
     (subst (λ (s : SlirpState). AreWantsOf s.flows.flows.parts added.0) c.self.view_is added.2) added.1
@@ -48,8 +48,7 @@ fill-requires-clause-numbers c = c.self.invariant.3.below
 pub fill-requires-clause-few : goal.fill-requires-clause-few
 fill-requires-clause-few c =
     let all = both_over c.args.self.now.forwards in
-    let most = c.ports_over-forwards.ensures.few in
-    let few = c.listeners-listeners.ensures.few in
-    let one = ap length c.as_slice-2.ensures.value in
-    let two = ap length (c.as_slice.ensures.value ∙ c.ports_over-forwards.ensures.items) in
-    omega (arith, all, most, few, one, two)
+    let most = c.ports_over.ensures.few in
+    let few = c.listeners.ensures.few in
+    let over = ap length c.ports_over.ensures.items in
+    omega (arith, all, most, few, over)

@@ -1,42 +1,10 @@
-use Rattle.std.proofs.Common.{◌+◌, ◌++◌, ◌∷◌, [], Bool, List, length, take, sym, ◌∙◌, ap, arith, if◌then◌else◌}
-use Rattle.std.proofs.lemmas.List.{append-nil}
-use Rattle.port_forward.specs.Opened.{Opened}
+use Rattle.std.proofs.Common.{◌≤◌, length, ◌∙◌, ap, subst}
 use Rattle.slirp_core.specs.Forwards.{sockets_over}
-use Rattle.slirp_core.proofs.Forwarding.{all_taken, at_ok, few_taken, none_further, over_taken}
-use Rattle.slirp_core.proofs.network.Slirp.ports_over.Goals.{in-Some+then-is_over, in-Some+else-is_over, in_default}
+use Rattle.slirp_core.specs.State.{SlirpState}
 use Rattle.slirp_core.proofs.network.Slirp.ports_over.Goals as goal
 
-pub loop-place-init : goal.loop-place-init
-loop-place-init c = c.new-numbers.ensures
-
-pub loop-place-preserved : goal.loop-place-preserved
-loop-place-preserved c =
-    let i = c.self.inside in
-    let place = c.loop-place.place in
-    let less = c.loop-place-test.true in
-    let count = c.len-place-end.ensures.count in
-    let few = c.len-place-end.ensures.few in
-    let long = ap length c.loop-place.invariant in
-    let taken = few_taken c.args.proto i.forwards place in
-    let before = sockets_over c.args.proto (take place i.forwards) in
-    elim c.match-at.branch [
-      | in-Some+then-is_over w ↦
-          let n = w.in-Some.number in
-          let pushed = at_ok w.try_push.result (w.try_push.ensures.variant.1 (omega (arith, long, taken, less, count, few))) w.try_push.ensures.ok in
-          let over = sym w.is_over.ensures ∙ w.if-is_over.true in
-          ap (λ l. l.items) w.numbers-is ∙ pushed ∙ ap (λ l. l ++ n ∷ []) c.loop-place.invariant
-          ∙ sym (over_taken c.args.proto i.forwards place w.in-Some.forward n (sym c.at.ensures ∙ w.in-Some.is) ∙ ap (λ (b : Bool). before ++ (if b then n ∷ [] else [])) over)
-      | in-Some+else-is_over w ↦
-          let n = w.in-Some.number in
-          let other = sym w.is_over.ensures ∙ w.if-is_over.false in
-          ap (λ l. l.items) w.numbers-is ∙ c.loop-place.invariant
-          ∙ sym (over_taken c.args.proto i.forwards place w.in-Some.forward n (sym c.at.ensures ∙ w.in-Some.is) ∙ ap (λ (b : Bool). before ++ (if b then n ∷ [] else [])) other ∙ append-nil before)
-      | in_default w ↦ let all = none_further i.forwards place (sym c.at.ensures ∙ w.in_default.is) in absurd (omega (arith, all, less, count))
-    ]
-
 pub returns-clause-items : goal.returns-clause-items
-returns-clause-items c =
-    let i = c.self.inside in
-    let all = c.loop-place-test.false in
-    let count = c.len-place-end.ensures.count in
-    c.loop-place.invariant ∙ ap (λ (l : List Opened). sockets_over c.args.proto l) (all_taken i.forwards c.loop-place.place (omega (arith, all, count)) ∙ ap (λ s. s.forwards) c.self.view_is)
+returns-clause-items c = c.over.ensures.sockets ∙ ap (λ (s : SlirpState). sockets_over c.args.proto s.forwards) c.self.view_is
+
+pub returns-clause-few : goal.returns-clause-few
+returns-clause-few c = subst (λ (s : SlirpState). length s.forwards ≤ 32) c.self.view_is c.over.ensures.few

@@ -1,4 +1,4 @@
-use Rattle.std.proofs.Common.{◌≡◌, ℕ, ◌≤◌, ◌<◌, ◌+◌, List, [], ◌∷◌, drop, length, nat_lt, Bool, true, false, Option, Some, None, option_map, refl, sym, ◌∙◌, ap, subst, arith}
+use Rattle.std.proofs.Common.{◌≡◌, ℕ, ◌≤◌, ◌<◌, ◌+◌, List, [], ◌∷◌, drop, length, nat_lt, true, false, Option, Some, None, option_map, refl, sym, ◌∙◌, ap, subst, arith}
 use Rattle.std.proofs.lemmas.Bool.Decides.{nat_tests}
 use Rattle.std.proofs.lemmas.List.{take_at}
 use Rattle.tftp_server.specs.Rows.{AreSound}
@@ -10,7 +10,6 @@ use Rattle.slirp_laws.specs.Answers.{frames_of, told_of_files}
 use Rattle.slirp_core.specs.Holds.{Holds, flowing}
 use Rattle.slirp_core.specs.State.{SlirpState}
 use Rattle.slirp_core.proofs.Again.{frames_some, said_fits, sends_it}
-use Rattle.slirp_core.proofs.Services.{server_on}
 use Rattle.slirp_core.proofs.network.Slirp.send_again.Goals as goal
 
 none_of : (frames : List (List ℕ)) → nat_lt 0 (length frames) ≡ false → frames ≡ []

@@ -1,10 +1,8 @@
-use Rattle.std.proofs.Common.{◌≡◌, ◌≤◌, length, true, false, Some, sym, ◌∙◌, ap, subst}
+use Rattle.std.proofs.Common.{◌≡◌, ◌≤◌, true, false, Some, sym, ◌∙◌, ap}
 use Rattle.ipv4_head.specs.Ip.{ip_of}
 use Rattle.host_policy.specs.Addresses.{Config}
 use Rattle.slirp_core.specs.Packets.{is_message_to_us, is_segment, udp_of}
-use Rattle.slirp_core.specs.Datagrams.{datagram_of, errand_of}
-use Rattle.slirp_core.specs.declared.datagrams.DatagramView.{DatagramView}
-use Rattle.slirp_core.proofs.Services.{goes_as_question}
+use Rattle.slirp_core.specs.Datagrams.{datagram_of}
 use Rattle.slirp_core.specs.State.{SlirpState}
 use Rattle.slirp_core.proofs.Taking.{message_to_us, no_message, no_request, no_request_of_segment, no_segment_of_message, one_segment, segment_came}
 use Rattle.slirp_core.proofs.network.Slirp.take_datagram.Goals as goal

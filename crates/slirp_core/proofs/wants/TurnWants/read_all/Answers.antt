@@ -1,15 +1,64 @@
-use Rattle.std.proofs.Common.{◌+◌, ◌≤◌, length, sym, ◌∙◌, ap, subst}
-use Rattle.poll_list.specs.Listing.{Listing}
-use Rattle.slirp_core.proofs.Filling.{few_read}
+use Rattle.std.proofs.Common.{◌++◌, true, false, List, length, map, take, drop, sym, ◌∙◌, ap, subst, arith, length-append, take-append-drop}
+use Rattle.std.proofs.lemmas.List.{length-take-le, take_all}
+use Rattle.poll_list.specs.Listing.{AreWants}
+use Rattle.poll_list.specs.declared.Want.{Want}
+use Rattle.slirp_core.specs.Carrying.{sockets_of}
+use Rattle.slirp_core.specs.Pumps.{udp_want}
+use Rattle.slirp_core.proofs.Dividing.{begun_in_parts, cut_in_parts}
+use Rattle.slirp_core.proofs.Filling.{are_front, few_read, same_rows}
 use Rattle.slirp_core.proofs.wants.TurnWants.read_all.Goals as goal
+
+-- the list stands, up to what flows waited for
+
+pub returns-then-are_same-4-clause-wants : goal.returns-then-are_same-4-clause-wants
+returns-then-are_same-4-clause-wants c =
+    let i = c.self.inside in
+    let items = i.list.items in
+    subst AreWants (sym c.truncate.ensures.items) (are_front (take i.before items) (drop i.before items) (subst AreWants (sym (take-append-drop i.before items)) c.self.invariant.0))
 
 pub returns-then-are_same-4-clause-few : goal.returns-then-are_same-4-clause-few
 returns-then-are_same-4-clause-few c =
     let i = c.self.inside in
-    let listeners = ap length (sym c.as_slice.ensures.value ∙ c.are_same.ensures c.if-are_same.true) in
-    let forwards = ap length (sym c.as_slice-then-are_same.ensures.value ∙ c.are_same-then-are_same.ensures c.if-are_same-2.true) in
-    let some = ap length (sym c.as_slice-then-are_same-2.ensures.value ∙ c.are_same-then-are_same-2.ensures c.if-are_same-3.true) in
-    let others = ap length (sym c.as_slice-then-are_same-3.ensures.value ∙ c.are_same-then-are_same-3.ensures c.if-are_same-4.true) in
-    few_read c.args.self.now.items i.listeners.items i.forwards.items i.associations.items i.questions.items (sym (ap (λ (l : Listing). l.items) c.self.view_is) ∙ c.self.invariant.3 c.if-self.true)
-    (subst (λ n. n + length i.forwards.items ≤ 32) (sym listeners) (subst (λ n. length c.args.listeners.now + n ≤ 32) (sym forwards) c.requires.few))
-    (subst (λ n. n ≤ 512) (sym some) c.requires.most.0) (subst (λ n. n ≤ 512) (sym others) c.requires.most.1)
+    let carriers = c.args.carriers in
+    let listeners = sym c.as_slice.ensures.value ∙ c.are_same.ensures c.if-are_same.true in
+    let forwards = sym c.as_slice-then-are_same.ensures.value ∙ c.are_same-then-are_same.ensures c.if-are_same-2.true in
+    let some = sym c.as_slice-then-are_same-2.ensures.value ∙ c.are_same-then-are_same-2.ensures c.if-are_same-3.true in
+    let others = sym c.as_slice-then-are_same-3.ensures.value ∙ c.are_same-then-are_same-3.ensures c.if-are_same-4.true in
+    let same = same_rows i.listeners.items i.forwards.items i.associations.items i.questions.items c.args.listeners.now carriers.forwards.now carriers.associations.now carriers.questions.now listeners forwards some others in
+    few_read c.truncate.new.self.items c.args.listeners.now carriers.forwards.now carriers.associations.now carriers.questions.now (c.truncate.ensures.items ∙ c.self.invariant.3 c.if-self.true ∙ same) c.requires.few c.requires.most.0 c.requires.most.1
+
+pub invariant_of-self : goal.invariant_of-self
+invariant_of-self c =
+    let i = c.self.inside in
+    let items = i.list.items in
+    let cut = c.truncate.ensures.items in
+    let long = length-take-le i.before items c.self.invariant.2 in
+    let whole = ap length cut in (
+      subst AreWants (sym cut) (are_front (take i.before items) (drop i.before items) (subst AreWants (sym (take-append-drop i.before items)) c.self.invariant.0)),
+      c.self.invariant.1,
+      omega (arith, long, whole),
+      λ is. ap (take i.before) cut ∙ take_all i.before (take i.before items) (omega (arith, long)) ∙ c.self.invariant.3 is,
+      cut_in_parts i.front i.before items c.truncate.new.self.items c.self.invariant.4 cut,
+    )
+
+-- or it is filled anew
+
+pub invariant_of-self-2 : goal.invariant_of-self-2
+invariant_of-self-2 c =
+    let carriers = c.args.carriers in
+    let begun = c.begin-self-inside.new.wants.items in
+    let items = c.add_carriers.new.wants.items in
+    let before = length c.items.result.now in
+    let all = c.add_carriers.ensures.items in
+    let count = c.begin-self-inside.ensures.count in
+    let long = ap length c.items.ensures in
+    let whole = ap length all in
+    let sum = length-append begun (map udp_want (sockets_of carriers)) in (
+      c.add_carriers.ensures.wants,
+      omega (arith, count, long, whole, sum),
+      omega (arith, long),
+      λ is.
+          take_all before items (omega (arith, long)) ∙ all ∙ ap (λ (l : List Want). l ++ map udp_want (sockets_of carriers)) c.begin-self-inside.ensures.items
+          ∙ sym (same_rows _ _ _ _ c.args.listeners.now carriers.forwards.now carriers.associations.now carriers.questions.now c.keep.ensures c.keep-2.ensures c.keep-3.ensures c.keep-4.ensures),
+      begun_in_parts true false c.args.listeners.now (sockets_of carriers) c.begin-self-inside.result before begun items c.begin-self-inside.ensures.items all count long,
+    )

@@ -1,6 +1,0 @@
-use Rattle.std.proofs.Common.{◌≡◌, take}
-use Rattle.slirp_core.specs.Forwards.{sockets_over}
-use Rattle.slirp_core.proofs.network.Slirp.ports_over.Given as goal
-
-abbrev pub invariant-loop-place : goal.invariant-loop-place
-invariant-loop-place l = l.numbers.items ≡ sockets_over l.proto (take l.place l.self-inside.forwards)
