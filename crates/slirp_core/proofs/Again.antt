@@ -1,5 +1,5 @@
 -- A frame of a packet of a file that goes again goes out, and a packet is sent on its way.
-use Rattle.std.proofs.Common.{◌≡◌, ℕ, ◌+◌, ◌<◌, ◌≤◌, not, Bool, true, false, is_some, List, [], ◌∷◌, drop, take, length, map, Option, Some, None, option_map, inl, inr, refl, sym, ◌∙◌, ap, subst, arith}
+use Rattle.std.proofs.Common.{◌≡◌, ℕ, ◌<◌, ◌≤◌, not, Bool, true, false, is_some, List, [], ◌∷◌, drop, take, length, map, Option, Some, None, option_map, inl, inr, refl, sym, ◌∙◌, ap, subst, arith}
 use Rattle.std.proofs.lemmas.List.{length-take}
 use Rattle.net_octets.specs.Kinds.{udp_proto}
 use Rattle.world_face.specs.Journal.{Entry, LinkWrite}

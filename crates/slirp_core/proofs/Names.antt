@@ -1,6 +1,5 @@
 -- The sockets of questions: which are open, and that they are no others'.
-use Rattle.std.proofs.Common.{◌≡◌, ℕ, ◌==◌, ◌&&◌, ◌||◌, ◌⊎◌, not, nat_lt, Bool, true, false, cond, List, [], ◌∷◌, ◌++◌, find, is_some, Option, Some, None, option_map, if◌then◌else◌, inl, inr, refl, sym, ◌∙◌, ap, subst, arith}
-use Rattle.std.proofs.lemmas.Bool.Decides.{nat_tests}
+use Rattle.std.proofs.Common.{◌≡◌, ℕ, ◌==◌, ◌&&◌, ◌||◌, ◌⊎◌, not, nat_lt, Bool, true, false, cond, List, [], ◌∷◌, ◌++◌, find, is_some, Option, Some, None, option_map, if◌then◌else◌, inl, inr, refl, sym, ◌∙◌, ap, subst}
 use Rattle.net_octets.specs.declared.Endpoint.{Endpoint}
 use Rattle.world_face.specs.Journal.{Entry, Accept, Connect, Listen, UdpOpen}
 use Rattle.host_policy.specs.Addresses.{Config}
@@ -13,7 +12,7 @@ use Rattle.run_laws.specs.Sockets.{Kind, Association as OfAssociation, DnsSocket
 use Rattle.slirp_laws.specs.Datagrams.{Errand, asks_a_name}
 use Rattle.slirp_laws.specs.Errands.{errand_left}
 use Rattle.slirp_laws.specs.Laws.{Lawful, carries}
-use Rattle.slirp_laws.specs.Names.{datagram_kind_for, kind_for, question, questions}
+use Rattle.slirp_laws.specs.Names.{datagram_kind_for, kind_for, questions}
 use Rattle.slirp_laws.specs.Questions.{is_for_question}
 use Rattle.slirp_laws.specs.Relayed.{associations}
 use Rattle.slirp_laws.proofs.Bools.{equal, or_assoc, or_false, or_second, same, second_of, turned}

@@ -24,7 +24,6 @@ use Rattle.dns_relay.specs.Questions.{asked_from, heard_at as heard_on, ident_in
 use Rattle.dns_relay.specs.declared.Question.{Question}
 use Rattle.udp_assoc.proofs.Yielding.{still_none}
 use Rattle.port_forward.specs.Opened.{socket_for as port_for}
-use Rattle.run_laws.specs.Guests.{known}
 use Rattle.run_laws.specs.Moments.{moment, waits}
 use Rattle.flow_book.specs.Book.{book}
 use Rattle.flow_book.specs.Flows.{is_it}

@@ -1,5 +1,5 @@
 -- A datagram for the server of files is served: its calls on files leave all else, and what comes of them is kept and told.
-use Rattle.std.proofs.Common.{◌≡◌, ℕ, ◌+◌, ◌-◌, ◌≤◌, length, false, List, [], ◌∷◌, ◌++◌, Option, Some, None, inl, refl, sym, ◌∙◌, ap, subst, arith}
+use Rattle.std.proofs.Common.{◌≡◌, ℕ, ◌+◌, ◌-◌, length, false, List, [], ◌∷◌, ◌++◌, Option, Some, None, inl, refl, sym, ◌∙◌, ap, subst, arith}
 use Rattle.world_face.specs.Journal.{AreAllowed, Call, CallFileLen, CallFileRead, Entry, FileLen, FileRead, call_of}
 use Rattle.world_face.proofs.Telling.{allowed_then}
 use Rattle.host_policy.specs.Addresses.{Config}

@@ -32,7 +32,7 @@ use Rattle.slirp_laws.specs.Agenda.{agenda, all_wanted, is_to_read, wanted_of}
 use Rattle.slirp_laws.specs.Errands.{errand_left}
 use Rattle.slirp_laws.specs.Laws.{May, carries, is_least, may_leave, may_part, parts, takes_peers}
 use Rattle.slirp_laws.specs.Names.{kind_for}
-use Rattle.slirp_laws.proofs.Bools.{among_last, among_without, and_both, or_second, same, second_of, turned}
+use Rattle.slirp_laws.proofs.Bools.{among_last, among_without, and_both, or_second, same, second_of}
 use Rattle.slirp_laws.proofs.Deeds.{accepts, closes, this_one}
 use Rattle.stream_netdev.specs.State.{LinkState}
 use Rattle.spliced_flows.specs.Stands.{InWork}

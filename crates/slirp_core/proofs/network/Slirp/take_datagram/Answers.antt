@@ -1,4 +1,4 @@
-use Rattle.std.proofs.Common.{◌≡◌, ◌≤◌, true, false, Some, sym, ◌∙◌, ap}
+use Rattle.std.proofs.Common.{◌≡◌, true, false, Some, sym, ◌∙◌, ap}
 use Rattle.ipv4_head.specs.Ip.{ip_of}
 use Rattle.host_policy.specs.Addresses.{Config}
 use Rattle.slirp_core.specs.Packets.{is_message_to_us, is_segment, udp_of}

@@ -1,4 +1,4 @@
-use Rattle.std.proofs.Common.{◌≡◌, ℕ, ◌≤◌, rules, Option, List, ◌++◌, drop, length, false, sym, ◌∙◌, ap, subst}
+use Rattle.std.proofs.Common.{◌≡◌, ℕ, rules, Option, List, ◌++◌, drop, length, false, sym, ◌∙◌, ap, subst}
 use Rattle.std.proofs.lemmas.List.{take_at}
 use Rattle.world_face.specs.Tells.{Brings, Makes}
 use Rattle.world_face.proofs.Telling.{makes_as}
