@@ -44,6 +44,16 @@ impl Asker {
         Ok(Asker { wants, ready })
     }
 
+    /// Whether one wait for this tells that part of it.
+    pub fn tells<W: World>(&mut self, world: &mut W, want: Want, told: Want) -> bool
+        requires { AreWants (want ∷ []) }
+    {
+        self.wants.clear();
+        self.wants.add(want);
+        world.wait(&self.wants, Some(1000), &mut self.ready) == Waited::Ready
+            && self.ready.items() == [told].as_slice()
+    }
+
     /// Whether one wait for this, of so many milliseconds, tells it.
     pub fn is_ready<W: World>(&mut self, world: &mut W, want: Want, limit: u64) -> bool
         requires { AreWants (want ∷ []) }

@@ -8,6 +8,10 @@ mod files;
 #[cfg(test)]
 mod links;
 #[cfg(test)]
+mod short_frames;
+#[cfg(test)]
 mod sockets;
 #[cfg(test)]
 mod tests;
+#[cfg(test)]
+mod turns;

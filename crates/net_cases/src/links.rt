@@ -1,5 +1,6 @@
 // The link: who is taken, how octets come and go, and what becomes of its file.
 use crate::asker::{Asker, LINK, free_port, here, is_answered};
+use crate::short_frames;
 use arrayvec::ArrayString;
 use mio::net::UnixStream;
 use net_world::NetWorld;
@@ -23,7 +24,7 @@ const DATAGRAMS: Want = Want {
 };
 
 /// Opens the link at a path.
-fn open_at<W: World>(world: &mut W, path: &str) -> Option<Made> {
+pub fn open_at<W: World>(world: &mut W, path: &str) -> Option<Made> {
     match ArrayString::from(path) {
         Ok(path) if !path.is_empty() => Some(world.link_open(&LinkAt::Unix(path))),
         _ => None,
@@ -107,7 +108,7 @@ fn is_read_by_octets<W: World, P: Write>(asker: &mut Asker, world: &mut W, peer:
 }
 
 /// How many thousands of octets a link takes until it is full, which is told by NotYet: a thousand of each number.
-fn thousands_taken<W: World>(world: &mut W) -> Option<u64> {
+pub fn thousands_taken<W: World>(world: &mut W) -> Option<u64> {
     let mut sent = 0u64;
     for _ in 0..20_000u32 {
         let piece = [(sent % 251) as u8; 1000];
@@ -121,7 +122,7 @@ fn thousands_taken<W: World>(world: &mut W) -> Option<u64> {
 }
 
 /// How many octets have come to the peer once it has read all that is there, where so many had come before. None where one isn't in its order.
-fn octets_come<P: Read>(peer: &mut P, before: u64) -> Option<u64> {
+pub fn octets_come<P: Read>(peer: &mut P, before: u64) -> Option<u64> {
     let mut came = before;
     let mut into = [0u8; 1000];
     for _ in 0..20_000u32 {
@@ -204,6 +205,8 @@ fn is_taken_at_a_path<R: Net + Files, W: World>(
         && lets_nobody_in(rt, world, &mut second)?
         && comes_by_octets(asker, world, &mut peer)
         && is_read_by_octets(asker, world, &mut peer)
+        && short_frames::wait(asker, world, &mut peer)
+        && short_frames::wait_after_much(asker, world, &mut peer)
         && backs_up(asker, world, &mut peer);
     drop(peer);
     Ok(served && ends(asker, world))
@@ -229,7 +232,8 @@ fn is_taken_at_an_endpoint<R: Net<Listener = TcpListener, Stream = TcpStream>, W
     }
     let mut peer = TcpStream::connect(rt, SocketAddr::from(([127, 0, 0, 1], port)))?;
     peer.set_nonblocking(true)?;
-    let served = serves_a_peer(asker, world, &mut peer);
+    let served = serves_a_peer(asker, world, &mut peer)
+        && short_frames::wait(asker, world, &mut peer);
     drop(peer);
     Ok(served && ends(asker, world))
 }

@@ -1,6 +1,6 @@
 //! Tests over the system's sockets, files and clock.
 use crate::asker::Asker;
-use crate::{files, links, sockets};
+use crate::{files, links, sockets, turns};
 use net_world::NetWorld;
 use std::test::Fail;
 
@@ -15,6 +15,7 @@ fn the_link(rt: HostRuntime) -> Result<(), Fail> {
         links::takes_what_was_left_over(&rt, &mut asker)?,
         "what was left over"
     );
+    assert!(rt; turns::are_taken(&rt, &mut asker)?, "turns");
     Ok(())
 }
 

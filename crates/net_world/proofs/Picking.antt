@@ -5,7 +5,7 @@ use Rattle.std.proofs.lemmas.Bool.{and_parts, and_from, or_parts, or_from, not-t
 use Rattle.std.specs.List.{list_any}
 use Rattle.poll_list.specs.declared.Want.{Want}
 use Rattle.poll_list.specs.Listing.{are_wants, is_who, differ, number_of, same_number}
-use Rattle.net_world.specs.Picks.{IsPickedFrom, GoesOn, Adds}
+use Rattle.net_world.specs.Picks.{IsPickedFrom, GoesOn, Adds, Begins}
 
 picked_skip : (want : Want) (wants parts : List Want) → IsPickedFrom wants parts → IsPickedFrom (want ∷ wants) parts
 picked_skip want wants [] p = tt
@@ -112,3 +112,10 @@ goes_on_from wants items rest old new same none goes =
 pub adds_one : (want : Want) (old new : List Want) → Adds want old new → length new ≤ length old + 1
 adds_one want old new (inl same) = rw same (omega arith)
 adds_one want old new (inr (part, is, same)) = rw same (grind (arith, length-append))
+
+-- what a list begins with stays where one item more is added
+pub begins_added : (want : Want) (old new first : List Want) → Adds want old new → Begins first old → Begins first new
+begins_added want old new first (inl same) b = rw same b
+begins_added want old new first (inr (part, is, same)) (more, begins) =
+    let joined : (first ++ more) ++ part ∷ [] ≡ first ++ (more ++ part ∷ []) = append_assoc first more (part ∷ []) in
+    (more ++ part ∷ [], rw same (rw begins joined))

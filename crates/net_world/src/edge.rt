@@ -1,5 +1,5 @@
 // The sockets of a World, the clock, and what the system tells of them.
-ghost use Rattle.std.specs.Prelude.{◌≡◌, ◌≤◌, ◌<◌, [], length};
+ghost use Rattle.std.specs.Prelude.{◌≡◌, ◌≤◌, ◌<◌, false, [], length};
 ghost use Rattle.std.specs.Bool.{OnFalse};
 ghost use Rattle.poll_list.specs.Listing.{AreWants};
 ghost use Rattle.net_world.specs.Picks.{IsPickedFrom};
@@ -11,7 +11,7 @@ use crate::link::{LINK, Link};
 use crate::sockets::{Known, MOST, Sockets};
 use mio::{Events, Poll};
 use net_octets::NoMemory;
-use poll_list::{ReadyList, Wants};
+use poll_list::{ReadyList, Want, Wants, Who};
 use std::alloc::Global;
 use std::fs::Files;
 use std::net::Net;
@@ -21,7 +21,7 @@ use world_face::{Accepted, Endpoint, Io, LinkAt, Waited};
 /// A moment is at most this.
 const LAST_MOMENT: u64 = 1 << 62;
 
-/// How many waits in a row are answered from what is known, before the system is asked.
+/// How many waits in a row are answered from what is known, before the system is asked; one more where short frames wait then.
 const MOST_KNOWN: u32 = 64;
 
 /// How often the system is asked at most in one wait, where what it tells isn't wanted.
@@ -136,11 +136,28 @@ impl Edge {
         ensures picked { IsPickedFrom wants.now.items ready.new.items }
         ensures capacity { ready.new.capacity ≡ ready.old.capacity }
     {
-        ready.clear();
-        self.offer_known(wants, ready);
-        let known = !ready.items().is_empty();
-        if known && self.answered < MOST_KNOWN {
-            self.answered += 1;
+        self.link.turn(is_link_read(wants.items()));
+        let waited = self.answer(rt, wants, timeout, ready);
+        self.sockets.go_on(ready.items());
+        waited
+    }
+
+    // The same, where it was settled whether short frames wait, but for whose turn it is next.
+    fn answer<R: Net + Files + Clock>(
+        &mut self,
+        rt: &R,
+        wants: &Wants,
+        timeout: Option<u64>,
+        ready: &mut ReadyList,
+    ) -> Waited
+        requires some { AreWants wants.now.items }
+        requires few { length wants.now.items ≤ most_wants }
+        requires room { most_ready ≤ ready.old.capacity }
+        ensures answer { MayWait wants.now.items result ready.new.items }
+        ensures picked { IsPickedFrom wants.now.items ready.new.items }
+        ensures capacity { ready.new.capacity ≡ ready.old.capacity }
+    {
+        if self.offer_first(wants, ready) {
             return Waited::Ready;
         }
         self.answered = 0;
@@ -151,7 +168,31 @@ impl Edge {
         }
     }
 
-    // What is known to be ready. Where octets of the link were read ahead it is the link alone; where none were, a link that may have some waits until the system is asked.
+    // What is told before the system is asked, and whether something is: what is known to be ready, a fixed number of times. Where nothing is, or it was told that often, no short frame waits any longer: if one does, what is known is told once more, with the link for writing, so that the frame goes out by the write that comes before the system is asked.
+    fn offer_first(&mut self, wants: &Wants, ready: &mut ReadyList) -> bool
+        requires room { length wants.now.items ≤ ready.old.capacity }
+        ensures picked { IsPickedFrom wants.now.items ready.new.items }
+        ensures few { length ready.new.items ≤ length wants.now.items }
+        ensures out { OnFalse result (self.new.link.pace.holds ≡ false) }
+        ensures capacity { ready.new.capacity ≡ ready.old.capacity }
+    {
+        ready.clear();
+        self.offer_known(wants, ready);
+        if !ready.items().is_empty() && self.answered < MOST_KNOWN {
+            self.answered += 1;
+            return true;
+        }
+        if !self.link.holds() {
+            return false;
+        }
+        self.link.let_out();
+        self.answered = self.answered.saturating_add(1);
+        ready.clear();
+        self.offer_known(wants, ready);
+        !ready.items().is_empty()
+    }
+
+    // What is known to be ready. Where octets of the link were read ahead and it is wanted it is the link alone; where none were, a link that may have some waits until the system is asked.
     fn offer_known(&self, wants: &Wants, ready: &mut ReadyList)
         requires none { ready.old.items ≡ [] }
         requires room { length wants.now.items ≤ ready.old.capacity }
@@ -160,7 +201,7 @@ impl Edge {
         ensures capacity { ready.new.capacity ≡ ready.old.capacity }
     {
         if self.link.is_ahead() {
-            gather_link(wants, ready);
+            gather_link(wants, self.link.is_writable(), ready);
             if !ready.items().is_empty() {
                 return;
             }
@@ -169,10 +210,10 @@ impl Edge {
             read: false,
             write: self.link.is_writable(),
         };
-        gather(wants, link, &self.sockets, ready);
+        gather(wants, link, &self.sockets, self.link.bears(), ready);
     }
 
-    // Asks the system until something that is wanted is ready, or the time is over.
+    // Asks the system until something that is wanted is ready, or the time is over. What was gathered is written before it is told what is ready, since sockets wait for the room that this makes.
     fn ask_until_ready<R: Net + Files + Clock>(
         &mut self,
         rt: &R,
@@ -180,6 +221,7 @@ impl Edge {
         timeout: Option<u64>,
         ready: &mut ReadyList,
     ) -> bool
+        requires out { self.old.link.pace.holds ≡ false }
         requires room { length wants.now.items ≤ ready.old.capacity }
         ensures picked { IsPickedFrom wants.now.items ready.new.items }
         ensures none { OnFalse result (ready.new.items ≡ []) }
@@ -188,6 +230,7 @@ impl Edge {
     {
         let until = timeout.map(|limit| self.moment.saturating_add(limit));
         for _ in 0..MOST_ASKED {
+            self.flush();
             ready.clear();
             self.offer_all(wants, ready);
             let limit = if ready.items().is_empty() {
@@ -222,15 +265,21 @@ impl Edge {
             read: self.link.is_readable(),
             write: self.link.is_writable(),
         };
-        gather(wants, link, &self.sockets, ready);
+        gather(wants, link, &self.sockets, self.link.bears(), ready);
     }
 
-    // Writes what was gathered, and asks the system what is ready, for at most so many milliseconds.
+    // Writes what was gathered, as much as is taken at once.
+    fn flush(&mut self) {
+        if let Some(poll) = &self.poll {
+            self.link.flush(poll.registry());
+        }
+    }
+
+    // Asks the system what is ready, for at most so many milliseconds.
     fn ask<R: Net + Files + Clock>(&mut self, rt: &R, limit: Option<u64>) -> bool {
         let Some(poll) = &mut self.poll else {
             return false;
         };
-        self.link.flush(poll.registry());
         if poll
             .poll(&mut self.events, limit.map(Duration::from_millis))
             .is_err()
@@ -255,6 +304,11 @@ impl Edge {
     pub fn shut<R: Net + Files>(&mut self, rt: &R) {
         self.link.shut(rt);
     }
+}
+
+// Whether the link, which stands first where it is wanted, is wanted for reading.
+fn is_link_read(wants: &[Want]) -> bool {
+    matches!(wants.first(), Some(want) if want.of == Who::Link && want.read)
 }
 
 // Notes what the system told.

@@ -1,7 +1,9 @@
 // The stream to the guest.
-ghost use Rattle.std.specs.Prelude.{◌<◌, length};
+ghost use Rattle.std.specs.Prelude.{◌≡◌, ◌<◌, length};
 ghost use Rattle.world_face.specs.Journal.{MayRead, MayWrite};
+ghost use Rattle.net_world.specs.Paces.{let_out};
 
+use crate::pace::Pace;
 use crate::socket_file;
 use crate::sockets::{address, is_not_yet, send_at_once};
 use arrayvec::ArrayString;
@@ -19,11 +21,17 @@ use world_face::{Io, LinkAt};
 /// The token of the link.
 pub(crate) const LINK: Token = Token(usize::MAX);
 
-/// How many octets are read ahead, and how many are gathered before they are written.
-const ROOM: usize = 65_536;
+/// How many octets are read ahead.
+const AHEAD: usize = 131_072;
+
+/// How many octets are gathered before they are written.
+const ROOM: usize = 262_144;
 
 /// The greatest frame out, with its length.
 const LONGEST: usize = 1518;
+
+/// The room that 16,384 octets take, the most that is read from a connection at once, in frames of 536 octets of them and 58 of headers and length. A guest may ask for shorter ones (RFC 9293, 3.7.1): then some of them find no room, and are made once there is.
+const FRAMED: usize = 18_432;
 
 /// Where the link stands: a listener becomes its first peer.
 #[derive(Drop)]
@@ -53,12 +61,14 @@ pub(crate) struct Link {
     watched: bool,
     /// A write failed.
     broken: bool,
+    /// Whether short frames wait.
+    pace: Pace,
 }
 
 impl Link {
     /// A closed link.
     pub fn open(alloc: Global) -> Result<Link, NoMemory> {
-        let inbox = Buffer::open(alloc, ROOM)?;
+        let inbox = Buffer::open(alloc, AHEAD)?;
         let outbox = Buffer::open(alloc, ROOM)?;
         Ok(Link {
             place: Place::Closed,
@@ -70,6 +80,7 @@ impl Link {
             ended: false,
             watched: false,
             broken: false,
+            pace: Pace::new(),
         })
     }
 
@@ -169,7 +180,35 @@ impl Link {
 
     /// Whether a write would be taken.
     pub fn is_writable(&self) -> bool {
-        self.broken || self.outbox.room() >= LONGEST
+        self.broken || (self.outbox.room() >= LONGEST && !self.pace.holds())
+    }
+
+    /// How many sockets may be read before what was gathered is written, so that the frames of what comes from a connection find room. A broken link holds none back: what comes then finds the fault.
+    pub fn bears(&self) -> usize {
+        if self.broken {
+            usize::MAX
+        } else {
+            self.outbox.room() / FRAMED
+        }
+    }
+
+    /// A wait begins, in which the link is wanted for reading, or not.
+    pub fn turn(&mut self, reads: bool) {
+        self.pace.turn(reads);
+    }
+
+    /// Whether a short frame waits.
+    pub fn holds(&self) -> bool
+        ensures { result ≡ self.now.pace.holds }
+    {
+        self.pace.holds()
+    }
+
+    /// Until the next wait no short frame waits.
+    pub fn let_out(&mut self)
+        ensures { self.new.pace ≡ let_out }
+    {
+        self.pace.let_out();
     }
 
     /// Reads octets that came.
@@ -187,7 +226,10 @@ impl Link {
         }
         match self.inbox.take(into) {
             0 => Io::NotYet,
-            count => Io::Done(count),
+            count => {
+                self.pace.read_on(count);
+                Io::Done(count)
+            }
         }
     }
 
@@ -210,7 +252,7 @@ impl Link {
         read
     }
 
-    /// Gathers octets that go out. Where there is no room the link is flushed before, and none is taken where that makes no room.
+    /// Gathers octets that go out. A short frame may wait. Where there is no room the link is flushed before, and none is taken where that makes no room.
     pub fn write(&mut self, registry: &Registry, from: &[u8]) -> Io
         requires { 0 < length from.now }
         ensures { MayWrite (length from.now) result }
@@ -219,6 +261,10 @@ impl Link {
             Place::Unix(_) | Place::Tcp(_) => {}
             Place::ListensUnix(_) | Place::ListensTcp(_) => return Io::NotYet,
             Place::Closed => return Io::Failed,
+        }
+        let ahead = self.is_ahead();
+        if !self.broken && self.pace.keeps(from.len(), ahead) {
+            return Io::NotYet;
         }
         if self.outbox.room() < from.len() {
             self.flush(registry);

@@ -137,7 +137,7 @@ impl<'a, R: Net + Wait + Files + Clock> World for NetWorld<'a, R> {
         read
     }
 
-    /// All of it is taken, or none.
+    /// All of it is taken, or none. A frame of at most 58 octets with its length, such as an acknowledgement alone, isn't taken while other octets that came are to be read, or other sockets to be served, before the system is asked again.
     fn link_write(&mut self, from: &[u8]) -> Io
         requires some { 0 < length from.now }
         requires fits { length from.now ≤ most_to_link }

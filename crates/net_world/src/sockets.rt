@@ -11,7 +11,7 @@ use mio::net::{TcpListener, TcpStream, UdpSocket};
 use mio::{Interest, Registry, Token};
 use net_octets::NoMemory;
 use octet_buffer::again;
-use poll_list::Who;
+use poll_list::{Want, Who};
 use slab::Slab;
 use std::alloc::Global;
 use std::io;
@@ -78,6 +78,8 @@ pub(crate) struct Sockets {
     readable: Vec<Listed>,
     /// A listener waits for a descriptor.
     starved: bool,
+    /// What was told last for reading.
+    last: Who,
     ghost room: { (MOST ≤ slots.capacity) × (MOST ≤ vec_capacity places) × (MOST ≤ vec_capacity readable) },
 }
 
@@ -96,12 +98,30 @@ impl Sockets {
             places,
             readable,
             starved: false,
+            last: Who::Link,
         })
     }
 
     /// Those that are ready for reading, in the order of wants.
     pub fn readable(&self) -> &[Listed] {
         self.readable.as_slice()
+    }
+
+    /// The place in that list past the socket that was told last for reading.
+    pub fn next(&self) -> usize {
+        match find_listed(&self.readable, self.last) {
+            Ok(at) => at.saturating_add(1),
+            Err(at) => at,
+        }
+    }
+
+    /// These were told: the next that are told for reading come past them.
+    pub fn go_on(&mut self, told: &[Want]) {
+        for want in told {
+            if want.read && want.of != Who::Link {
+                self.last = want.of;
+            }
+        }
     }
 
     /// In which directions a socket of that list is ready.
