@@ -1,5 +1,7 @@
 -- Areas stand for sets, step by step.
-use Rattle.std.proofs.Common.{◌≡◌, ◌+◌, ◌-◌, List, ℕ, Bool, not, true, false, cond, zero, suc, [], ◌∷◌, ◌++◌, length, drop, filter, set, ltb, leb, Some, refl, ap, ◌∙◌, subst}
+use Rattle.std.proofs.Common.{◌≡◌, ◌+◌, ◌-◌, ◌<◌, All, arith, List, ℕ, Bool, not, true, false, cond, zero, suc, [], ◌∷◌, ◌++◌, length, drop, filter, set, ltb, leb, Some, refl, ap, ◌∙◌, subst}
+use Rattle.std.proofs.lemmas.Bool.Decides.{nat_tests}
+use Rattle.std.proofs.lemmas.List.Elements.{All-cons, All-nil}
 use Rattle.std.specs.Prelude.{slice_get}
 use Rattle.std.specs.List.{remove}
 use Rattle.ipv4_head.specs.Sets.{Key, PartSet, is_same_key, is_young, place_of, with_room}
@@ -17,6 +19,21 @@ stand_young now (g ∷ held) (s ∷ sets) stand = by_age (is_young now s) (is_re
     by_age true false e rest = cc
     by_age false true e rest = cc
     by_age false false e rest = rest
+
+-- and of the others none stays
+pub stand_fresh : (now : ℕ) (held : List Gathered) (sets : List PartSet) → StandFor (filter (is_recent now) held) sets → All (λ (s : PartSet). now < s.since + 60000) sets
+stand_fresh now [] [] stand = All-nil (λ (s : PartSet). now < s.since + 60000)
+stand_fresh now [] (s ∷ sets) stand = absurd stand
+stand_fresh now (g ∷ held) sets stand = by_age (is_recent now g) refl sets stand (stand_fresh now held)
+  where
+    early : (s : PartSet) → StandsFor g s → is_recent now g ≡ true → now < s.since + 60000
+    early s stands recent = let since = stands.since in let few : now - g.since < 60000 = grind (arith, nat_tests, recent) in omega (arith, since, few)
+
+    by_age : (b : Bool) → is_recent now g ≡ b → (sets : List PartSet) → StandFor (cond b (g ∷ filter (is_recent now) held) (filter (is_recent now) held)) sets
+        → ((sets : List PartSet) → StandFor (filter (is_recent now) held) sets → All (λ (s : PartSet). now < s.since + 60000) sets) → All (λ (s : PartSet). now < s.since + 60000) sets
+    by_age false is sets stand rest = rest sets stand
+    by_age true is [] stand rest = absurd stand
+    by_age true is (s ∷ sets) stand rest = All-cons (λ (x : PartSet). now < x.since + 60000) s sets (early s stand.0 is) (rest sets stand.1)
 
 pub stand_length : (held : List Gathered) (sets : List PartSet) → StandFor held sets → length held ≡ length sets
 stand_length [] [] stand = refl

@@ -1,4 +1,4 @@
-ghost use Rattle.std.specs.Prelude.{◌≡◌, ℕ, ◌+◌, ◌^◌, ◌≤◌, ◌<◌, ◌++◌, List, [], ◌∷◌, true, false, filter, length, IfOk, IfSome, IfNone, Some, slice_get, slice_set, take, ◌↔◌, if◌then◌else◌};
+ghost use Rattle.std.specs.Prelude.{◌≡◌, ℕ, ◌+◌, ◌^◌, ◌≤◌, ◌<◌, ◌++◌, List, [], ◌∷◌, true, false, All, filter, length, IfOk, IfSome, IfNone, Some, slice_get, slice_set, take, ◌↔◌, if◌then◌else◌};
 ghost use Rattle.std.specs.List.{position, remove};
 ghost use Rattle.ipv4_head.specs.Ip.{ip_of};
 ghost use Rattle.ipv4_head.specs.Sets.{IsJoined, Joined, Joins, Key, Part, PartSet, end_of, is_same_key, is_too_long, is_uneven, is_whole, key_of, outcome, part_of, sets_after, sets_left, young};
@@ -126,7 +126,9 @@ impl Reasm {
 
     /// Drops each datagram whose first part is 60,000 ms old or older.
     pub fn tick(&mut self, now: u64)
-        ensures { (sets : List PartSet) → StandFor self.old sets → StandFor self.new (young now sets) }
+        ensures sets { (sets : List PartSet) → StandFor self.old sets → StandFor self.new (young now sets) }
+        // None of those that are left is to be dropped yet.
+        ensures fresh { (sets : List PartSet) → StandFor self.new sets → All (λ (s : PartSet). now < s.since + 60000) sets }
     {
         self.drop_old(now);
     }

@@ -42,7 +42,7 @@ impl Model for Wants {
 }
 
 impl Wants {
-    ghost use Rattle.std.specs.Prelude.{◌≡◌, ◌<◌, [], ◌∷◌, ◌++◌, IfOk, length, take};
+    ghost use Rattle.std.specs.Prelude.{◌≡◌, ◌+◌, ◌<◌, ◌≤◌, [], ◌∷◌, ◌++◌, IfOk, length, take};
 
     /// An empty list with room for `capacity` wants.
     pub fn open(alloc: Global, capacity: usize) -> Result<Wants, AllocError>
@@ -70,6 +70,20 @@ impl Wants {
         ensures capacity { self.new.capacity ≡ self.old.capacity }
     {
         self.list.push_reserved(w);
+    }
+
+    /// Puts all of a list at the end, in its order.
+    pub fn add_all(&mut self, wants: &[Want])
+        requires { length self.old.items + length wants.now ≤ self.old.capacity }
+        ensures items { self.new.items ≡ self.old.items ++ wants.now }
+        ensures capacity { self.new.capacity ≡ self.old.capacity }
+    {
+        if wants.is_empty() {
+            return;
+        }
+        if self.list.extend_from_slice(wants).is_err() {
+            unreachable!();
+        }
     }
 
     /// Takes away all but the first `len`; nothing where there are no more.

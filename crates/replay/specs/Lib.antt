@@ -10,3 +10,4 @@ pub mod Script
 pub mod Spelling
 pub mod Text
 pub mod Unread
+pub mod Views

@@ -9,11 +9,14 @@ mod reading;
 mod reported;
 mod row;
 mod tokens;
+mod view;
 mod world;
 
 ghost use Rattle.std.specs.Prelude.{◌≡◌};
 ghost use Rattle.replay.specs.Names.{name_text};
 
+pub use printing::put_line;
+pub use view::LineView;
 pub use world::ScriptWorld;
 
 /// The names of the calls, as they stand in a line.

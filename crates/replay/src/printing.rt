@@ -9,11 +9,12 @@ ghost use Rattle.replay.specs.Pieces.{lines_text, more_text};
 ghost use Rattle.hex.specs.Hex.{encode_lower};
 ghost use Rattle.world_face.specs.Puts.{Puts};
 ghost use Rattle.world_face.specs.Journal.{call_of};
-ghost use Rattle.replay.specs.Lines.{entry_of, rows_of, place_at};
+ghost use Rattle.replay.specs.Lines.{entry_of, rows_of, place_of_two};
+ghost use Rattle.replay.specs.Views.{viewed};
 ghost use Rattle.replay.specs.Text.{hexadecimal, endpoint_text, who_text, direction_text, want_text, joined_text, wants_text, timeout_text, place_text, made_text, read_text, written_text, joined_answer, accepted_text, sent_text, got_text, size_text, ready_text, waited_text, call_text, answer_text, line_text};
 
-use crate::line::{Line, Seat};
 use crate::row::Row;
+use crate::view::LineView;
 use arrayvec::ArrayString;
 use itoa::Buffer;
 use world_face::{
@@ -28,13 +29,20 @@ pub fn put_rows<K: Sink>(rows: &[Row], out: &mut K) -> Result<(), Failed>
     ensures { Puts (K.holds out.old) (K.holds out.new) (K.faults out.old) (K.faults out.new) (lines_text (entries_of (rows_of rows.now))) result }
 {
     for row in rows {
-        put_line(&row.line, out)?;
+        put_row(row, out)?;
     }
     Ok(())
 }
 
-fn put_line<K: Sink>(line: &Line, out: &mut K) -> Result<(), Failed>
-    ensures { Puts (K.holds out.old) (K.holds out.new) (K.faults out.old) (K.faults out.new) (line_text (entry_of line.now)) result }
+fn put_row<K: Sink>(row: &Row, out: &mut K) -> Result<(), Failed>
+    ensures { Puts (K.holds out.old) (K.holds out.new) (K.faults out.old) (K.faults out.new) (line_text (entry_of row.now.line)) result }
+{
+    put_line(&row.line.view(), out)
+}
+
+/// Puts a line: the call with its arguments, its answer, and a line feed.
+pub fn put_line<K: Sink>(line: &LineView<'_>, out: &mut K) -> Result<(), Failed>
+    ensures { Puts (K.holds out.old) (K.holds out.new) (K.faults out.old) (K.faults out.new) (line_text (viewed line.now)) result }
 {
     put_call(line, out)?;
     out.put(b" = ")?;
@@ -42,59 +50,61 @@ fn put_line<K: Sink>(line: &Line, out: &mut K) -> Result<(), Failed>
     out.put(b"\n")
 }
 
-fn put_call<K: Sink>(line: &Line, out: &mut K) -> Result<(), Failed>
-    ensures { Puts (K.holds out.old) (K.holds out.new) (K.faults out.old) (K.faults out.new) (call_text (call_of (entry_of line.now))) result }
+fn put_call<K: Sink>(line: &LineView<'_>, out: &mut K) -> Result<(), Failed>
+    ensures { Puts (K.holds out.old) (K.holds out.new) (K.faults out.old) (K.faults out.new) (call_text (call_of (viewed line.now))) result }
 {
     match line {
-        Line::Now(_) => out.put(b"now"),
-        Line::Wait(wants, timeout, _, _) => put_wait(wants, *timeout, out),
-        Line::LinkOpen(seat, _) => put_link_open(seat, out),
-        Line::LinkRead(asked, _, _) => put_numbered(b"lread ", *asked as u64, out),
-        Line::LinkWrite(octets, _) => put_with_octets(b"lwrite ", octets, out),
-        Line::Connect(socket, to, _) => put_socket_at(b"connect ", *socket, *to, out),
-        Line::Connected(socket, _) => put_numbered(b"connected ", *socket, out),
-        Line::Listen(socket, at, _) => put_socket_at(b"listen ", *socket, *at, out),
-        Line::Accept(listener, socket, _) => put_two_numbers(b"accept ", *listener, *socket, out),
-        Line::TcpRead(socket, asked, _, _) => {
+        LineView::Now(_) => out.put(b"now"),
+        LineView::Wait(wants, timeout, _, _) => put_wait(wants, *timeout, out),
+        LineView::LinkOpen(path, at, _) => put_link_open(path, *at, out),
+        LineView::LinkRead(asked, _, _) => put_numbered(b"lread ", *asked as u64, out),
+        LineView::LinkWrite(octets, _) => put_with_octets(b"lwrite ", octets, out),
+        LineView::Connect(socket, to, _) => put_socket_at(b"connect ", *socket, *to, out),
+        LineView::Connected(socket, _) => put_numbered(b"connected ", *socket, out),
+        LineView::Listen(socket, at, _) => put_socket_at(b"listen ", *socket, *at, out),
+        LineView::Accept(listener, socket, _) => {
+            put_two_numbers(b"accept ", *listener, *socket, out)
+        }
+        LineView::TcpRead(socket, asked, _, _) => {
             put_two_numbers(b"tread ", *socket, *asked as u64, out)
         }
-        Line::TcpWrite(socket, octets, _) => put_tcp_write(*socket, octets, out),
-        Line::TcpEnd(socket, _) => put_numbered(b"tend ", *socket, out),
-        Line::Close(socket) => put_numbered(b"close ", *socket, out),
-        Line::UdpOpen(socket, at, _) => put_socket_at(b"uopen ", *socket, *at, out),
-        Line::UdpSend(socket, to, octets, _) => put_udp_send(*socket, *to, octets, out),
-        Line::UdpRecv(socket, asked, _, _) => {
+        LineView::TcpWrite(socket, octets, _) => put_tcp_write(*socket, octets, out),
+        LineView::TcpEnd(socket, _) => put_numbered(b"tend ", *socket, out),
+        LineView::Close(socket) => put_numbered(b"close ", *socket, out),
+        LineView::UdpOpen(socket, at, _) => put_socket_at(b"uopen ", *socket, *at, out),
+        LineView::UdpSend(socket, to, octets, _) => put_udp_send(*socket, *to, octets, out),
+        LineView::UdpRecv(socket, asked, _, _) => {
             put_two_numbers(b"urecv ", *socket, *asked as u64, out)
         }
-        Line::FileLen(name, _) => put_with_octets(b"flen ", name, out),
-        Line::FileRead(name, place, asked, _, _) => {
+        LineView::FileLen(name, _) => put_with_octets(b"flen ", name, out),
+        LineView::FileRead(name, place, asked, _, _) => {
             put_file_read(name, *place, *asked as u64, out)
         }
     }
 }
 
-fn put_answer<K: Sink>(line: &Line, out: &mut K) -> Result<(), Failed>
-    ensures { Puts (K.holds out.old) (K.holds out.new) (K.faults out.old) (K.faults out.new) (answer_text (entry_of line.now)) result }
+fn put_answer<K: Sink>(line: &LineView<'_>, out: &mut K) -> Result<(), Failed>
+    ensures { Puts (K.holds out.old) (K.holds out.new) (K.faults out.old) (K.faults out.new) (answer_text (viewed line.now)) result }
 {
     match line {
-        Line::Now(moment) => put_number(*moment, out),
-        Line::Wait(_, _, answer, ready) => put_waited(*answer, ready.items(), out),
-        Line::LinkOpen(_, answer) => put_made(*answer, out),
-        Line::LinkRead(_, answer, octets) => put_read(*answer, octets, out),
-        Line::LinkWrite(_, answer) => put_written(*answer, out),
-        Line::Connect(_, _, answer) => put_made(*answer, out),
-        Line::Connected(_, answer) => put_joined(*answer, out),
-        Line::Listen(_, _, answer) => put_made(*answer, out),
-        Line::Accept(_, _, answer) => put_accepted(*answer, out),
-        Line::TcpRead(_, _, answer, octets) => put_read(*answer, octets, out),
-        Line::TcpWrite(_, _, answer) => put_written(*answer, out),
-        Line::TcpEnd(_, answer) => put_made(*answer, out),
-        Line::Close(_) => out.put(b"done"),
-        Line::UdpOpen(_, _, answer) => put_made(*answer, out),
-        Line::UdpSend(_, _, _, answer) => put_sent(*answer, out),
-        Line::UdpRecv(_, _, answer, octets) => put_got(*answer, octets, out),
-        Line::FileLen(_, answer) => put_size(*answer, out),
-        Line::FileRead(_, _, _, answer, octets) => put_read(*answer, octets, out),
+        LineView::Now(moment) => put_number(*moment, out),
+        LineView::Wait(_, _, answer, ready) => put_waited(*answer, ready, out),
+        LineView::LinkOpen(_, _, answer) => put_made(*answer, out),
+        LineView::LinkRead(_, answer, octets) => put_read(*answer, octets, out),
+        LineView::LinkWrite(_, answer) => put_written(*answer, out),
+        LineView::Connect(_, _, answer) => put_made(*answer, out),
+        LineView::Connected(_, answer) => put_joined(*answer, out),
+        LineView::Listen(_, _, answer) => put_made(*answer, out),
+        LineView::Accept(_, _, answer) => put_accepted(*answer, out),
+        LineView::TcpRead(_, _, answer, octets) => put_read(*answer, octets, out),
+        LineView::TcpWrite(_, _, answer) => put_written(*answer, out),
+        LineView::TcpEnd(_, answer) => put_made(*answer, out),
+        LineView::Close(_) => out.put(b"done"),
+        LineView::UdpOpen(_, _, answer) => put_made(*answer, out),
+        LineView::UdpSend(_, _, _, answer) => put_sent(*answer, out),
+        LineView::UdpRecv(_, _, answer, octets) => put_got(*answer, octets, out),
+        LineView::FileLen(_, answer) => put_size(*answer, out),
+        LineView::FileRead(_, _, _, answer, octets) => put_read(*answer, octets, out),
     }
 }
 
@@ -116,12 +126,12 @@ fn put_timeout<K: Sink>(timeout: Option<u64>, out: &mut K) -> Result<(), Failed>
     }
 }
 
-fn put_link_open<K: Sink>(seat: &Seat, out: &mut K) -> Result<(), Failed>
-    ensures { Puts (K.holds out.old) (K.holds out.new) (K.faults out.old) (K.faults out.new) (codes "lopen " ++ hexadecimal (place_text (place_at seat.now))) result }
+fn put_link_open<K: Sink>(path: &[u8], at: Option<Endpoint>, out: &mut K) -> Result<(), Failed>
+    ensures { Puts (K.holds out.old) (K.holds out.new) (K.faults out.old) (K.faults out.new) (codes "lopen " ++ hexadecimal (place_text (place_of_two at path.now))) result }
 {
     out.put(b"lopen ")?;
-    match seat.at {
-        None => put_place(b"unix:", &seat.path, out),
+    match at {
+        None => put_place(b"unix:", path, out),
         Some(at) => put_place(b"tcp:", endpoint_string(at).as_str().as_bytes(), out),
     }
 }

@@ -69,7 +69,7 @@ impl TcpFlows {
         ensures stays { Stays self.old self.new }
         ensures same { self.new ≡ with_flows self.new.flows self.new.owing self.old }
     {
-        let seeks = self.rows.waits[slot].mac;
+        let seeks = self.rows.waits.at(slot).mac;
         if !seeks {
             return;
         }

@@ -200,6 +200,7 @@ impl Associations {
     pub fn rising(&self) -> &[u64]
         ensures all { IsPermutation (numbers self.now) result.now }
         ensures rising { IsNonDecreasing result.now }
+        ensures strict { Rise result.now }
         ensures most { length result.now ≤ most_associations }
     {
         self.rising.as_slice()

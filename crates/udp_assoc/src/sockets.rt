@@ -6,6 +6,7 @@ ghost use Rattle.world_face.specs.Limits.{most_to_udp};
 ghost use Rattle.world_face.specs.Tells.{Makes};
 ghost use Rattle.udp_assoc.specs.Associations.{idle_life, is_over, most_associations, numbers, socket_of};
 ghost use Rattle.udp_assoc.specs.Relays.{FitsRoom, Receives, SendsOn};
+ghost use Rattle.udp_assoc.specs.Rows.{Rise};
 ghost use Rattle.udp_assoc.specs.Sending.{outbound_of};
 
 use crate::assocs::{Association, Associations, IDLE_LIFE};
@@ -249,6 +250,8 @@ impl Assocs {
     pub fn rising(&self) -> &[u64]
         ensures all { IsPermutation (numbers self.now.list) result.now }
         ensures rising { IsNonDecreasing result.now }
+        // No number stands twice.
+        ensures strict { Rise result.now }
         ensures most { length result.now ≤ most_associations }
     {
         self.list.rising()

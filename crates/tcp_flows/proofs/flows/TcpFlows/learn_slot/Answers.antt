@@ -18,12 +18,11 @@ use Rattle.tcp_flows.proofs.Seated.{part_is}
 use Rattle.tcp_flows.proofs.Staying.{stays_same, stays_set}
 use Rattle.tcp_flows.proofs.flows.TcpFlows.learn_slot.Goals as goal
 
-pub index-requires : goal.index-requires
-index-requires c =
+pub at-seeks-requires : goal.at-seeks-requires
+at-seeks-requires c =
     let parts = c.self.inside.parts.items in
     let at = slot_part parts _ (ap (λ (s : Kept). s.flows.parts) c.self.view_is) c.args.slot c.requires.slot in
-    let within = in_waits parts _ _ _ _ _ _ _ _ c.self.invariant.0 c.args.slot at.0 at.1 in
-    omega (arith, within, c.self.inside.rows.waits.ok.0)
+    in_waits parts _ _ _ _ _ _ _ _ c.self.invariant.0 c.args.slot at.0 at.1
 
 pub returns-then-not-seeks-clause-learns : goal.returns-then-not-seeks-clause-learns
 returns-then-not-seeks-clause-learns c config now aged past is between = between
@@ -33,7 +32,7 @@ returns-then-not-seeks-clause-parts c x here =
     let parts = c.self.inside.parts.items in
     let view = ap (λ (s : Kept). s.flows.parts) c.self.view_is in
     let at = slot_part parts _ view c.args.slot c.requires.slot in
-    let seen = waits_seen _ c.args.slot at.0 c.index.result.now (waits_here parts _ _ _ _ _ _ _ _ c.self.invariant.0 c.args.slot at.0 at.1) c.index.ensures in
+    let seen = waits_seen _ c.args.slot at.0 c.at-seeks.result (waits_here parts _ _ _ _ _ _ _ _ c.self.invariant.0 c.args.slot at.0 at.1) c.at-seeks.ensures.value in
     let none = sym (ap (λ (w : Waits). w.mac) seen) ∙ c.if-not-seeks.true in
     let x_is = some_same x (part_of at.0) (sym here ∙ sym (ap (λ (l : List (Option Splice)). slice_get l c.args.slot) view) ∙ get_map part_of parts c.args.slot at.0 at.1) in
     sym (set_same c.args.self.now.flows.parts c.args.slot (option_map (learnt_from c.args.guests.now) x) (here ∙ ap Some (x_is ∙ sym (unsought c.args.guests.now at.0 none) ∙ ap (option_map (learnt_from c.args.guests.now)) (sym x_is))))
@@ -53,7 +52,7 @@ follow-requires-clause-some c =
     let parts = c.self.inside.parts.items in
     let view = ap (λ (s : Kept). s.flows.parts) c.self.view_is in
     let is =
-    told_at c.args.guests.now parts _ view c.self.inside.rows.waits.items c.self.invariant.0.waits_are c.args.slot c.requires.slot c.index.result.now c.index.ensures c.if-not-seeks.false c.index_mut-part.result.now c.learn.new.self
+    told_at c.args.guests.now parts _ view c.self.inside.rows.waits.each c.self.invariant.0.waits_are c.args.slot c.requires.slot c.at-seeks.result c.at-seeks.ensures.value c.if-not-seeks.false c.index_mut-part.result.now c.learn.new.self
     c.index_mut-part.ensures.value c.of-before.result.place c.of-before.ensures.place c.of-before.result.is_open c.of-before.ensures.open c.guest.result c.guest.ensures c.find-mac.result c.find-mac.ensures c.learn.ensures in
     λ empty. is.some (sym is.place_is ∙ empty)
 
@@ -62,7 +61,7 @@ follow-requires-clause-rows c =
     let parts = c.self.inside.parts.items in
     let view = ap (λ (s : Kept). s.flows.parts) c.self.view_is in
     let is =
-    told_at c.args.guests.now parts _ view c.self.inside.rows.waits.items c.self.invariant.0.waits_are c.args.slot c.requires.slot c.index.result.now c.index.ensures c.if-not-seeks.false c.index_mut-part.result.now c.learn.new.self
+    told_at c.args.guests.now parts _ view c.self.inside.rows.waits.each c.self.invariant.0.waits_are c.args.slot c.requires.slot c.at-seeks.result c.at-seeks.ensures.value c.if-not-seeks.false c.index_mut-part.result.now c.learn.new.self
     c.index_mut-part.ensures.value c.of-before.result.place c.of-before.ensures.place c.of-before.result.is_open c.of-before.ensures.open c.guest.result c.guest.ensures c.find-mac.result c.find-mac.ensures c.learn.ensures in
     (parts, is.part, is.at, is.place_is, is.open_is, is.moves, c.self.invariant.0)
 
@@ -71,7 +70,7 @@ invariant_of-self c =
     let parts = c.self.inside.parts.items in
     let view = ap (λ (s : Kept). s.flows.parts) c.self.view_is in
     let is =
-    told_at c.args.guests.now parts _ view c.self.inside.rows.waits.items c.self.invariant.0.waits_are c.args.slot c.requires.slot c.index.result.now c.index.ensures c.if-not-seeks.false c.index_mut-part.result.now c.learn.new.self
+    told_at c.args.guests.now parts _ view c.self.inside.rows.waits.each c.self.invariant.0.waits_are c.args.slot c.requires.slot c.at-seeks.result c.at-seeks.ensures.value c.if-not-seeks.false c.index_mut-part.result.now c.learn.new.self
     c.index_mut-part.ensures.value c.of-before.result.place c.of-before.ensures.place c.of-before.result.is_open c.of-before.ensures.open c.guest.result c.guest.ensures c.find-mac.result c.find-mac.ensures c.learn.ensures in
     let q : Splice = c.learn.new.self in (
       c.follow.ensures.rows parts is.part is.at is.place_is is.open_is is.moves c.self.invariant.0,
@@ -88,7 +87,7 @@ returns-clause-learns c =
     let parts = c.self.inside.parts.items in
     let view = ap (λ (s : Kept). s.flows.parts) c.self.view_is in
     let is =
-    told_at c.args.guests.now parts _ view c.self.inside.rows.waits.items c.self.invariant.0.waits_are c.args.slot c.requires.slot c.index.result.now c.index.ensures c.if-not-seeks.false c.index_mut-part.result.now c.learn.new.self
+    told_at c.args.guests.now parts _ view c.self.inside.rows.waits.each c.self.invariant.0.waits_are c.args.slot c.requires.slot c.at-seeks.result c.at-seeks.ensures.value c.if-not-seeks.false c.index_mut-part.result.now c.learn.new.self
     c.index_mut-part.ensures.value c.of-before.result.place c.of-before.ensures.place c.of-before.result.is_open c.of-before.ensures.open c.guest.result c.guest.ensures c.find-mac.result c.find-mac.ensures c.learn.ensures in
     let q : Splice = c.learn.new.self in
     let table = c.self.inside.rows.table in
@@ -104,7 +103,7 @@ returns-clause-parts c x here =
     let parts = c.self.inside.parts.items in
     let view = ap (λ (s : Kept). s.flows.parts) c.self.view_is in
     let is =
-    told_at c.args.guests.now parts _ view c.self.inside.rows.waits.items c.self.invariant.0.waits_are c.args.slot c.requires.slot c.index.result.now c.index.ensures c.if-not-seeks.false c.index_mut-part.result.now c.learn.new.self
+    told_at c.args.guests.now parts _ view c.self.inside.rows.waits.each c.self.invariant.0.waits_are c.args.slot c.requires.slot c.at-seeks.result c.at-seeks.ensures.value c.if-not-seeks.false c.index_mut-part.result.now c.learn.new.self
     c.index_mut-part.ensures.value c.of-before.result.place c.of-before.ensures.place c.of-before.result.is_open c.of-before.ensures.open c.guest.result c.guest.ensures c.find-mac.result c.find-mac.ensures c.learn.ensures in
     let p : Splice = is.part in
     let q : Splice = c.learn.new.self in
@@ -119,6 +118,6 @@ returns-clause-stays c =
     let parts = c.self.inside.parts.items in
     let view = ap (λ (s : Kept). s.flows.parts) c.self.view_is in
     let is =
-    told_at c.args.guests.now parts _ view c.self.inside.rows.waits.items c.self.invariant.0.waits_are c.args.slot c.requires.slot c.index.result.now c.index.ensures c.if-not-seeks.false c.index_mut-part.result.now c.learn.new.self
+    told_at c.args.guests.now parts _ view c.self.inside.rows.waits.each c.self.invariant.0.waits_are c.args.slot c.requires.slot c.at-seeks.result c.at-seeks.ensures.value c.if-not-seeks.false c.index_mut-part.result.now c.learn.new.self
     c.index_mut-part.ensures.value c.of-before.result.place c.of-before.ensures.place c.of-before.result.is_open c.of-before.ensures.open c.guest.result c.guest.ensures c.find-mac.result c.find-mac.ensures c.learn.ensures in
     stays_set c.args.self.now _ parts c.args.slot is.part c.learn.new.self view is.at is.some (ap (λ (x : Splice). x.face) is.q_is) refl (ap (λ (s : Kept). s.flows.opened) c.self.view_is)

@@ -1,6 +1,7 @@
 use Rattle.std.proofs.Common.{List, ℕ, sym, ◌∙◌, ap, subst}
 use Rattle.std.specs.List.Sorted.{IsPermutation, IsNonDecreasing}
 use Rattle.udp_assoc.specs.Associations.{numbers}
+use Rattle.udp_assoc.specs.Rows.{Rise}
 use Rattle.udp_assoc.proofs.Keeping.{numbers_in_order}
 use Rattle.udp_assoc.proofs.Ordering.{as_often, never_falls}
 use Rattle.udp_assoc.proofs.assocs.Associations.rising.Goals as goal
@@ -14,3 +15,6 @@ returns-clause-all c =
 
 pub returns-clause-rising : goal.returns-clause-rising
 returns-clause-rising c = subst IsNonDecreasing (sym c.as_slice.ensures.value) (never_falls c.self.inside.rising.items c.self.invariant.0.rise)
+
+pub returns-clause-strict : goal.returns-clause-strict
+returns-clause-strict c = subst Rise (sym c.as_slice.ensures.value) c.self.invariant.0.rise
