@@ -19,12 +19,11 @@ use Rattle.flow_steps.specs.Bounds.{IsBy, IsFrom}
 use Rattle.flow_book.specs.Book.{book, scene}
 use Rattle.flow_book.specs.Flows.{Flow, flow_of, guest_is_known, is_numbered}
 use Rattle.flow_book.specs.Laws.{flow_settings}
-use Rattle.slirp_laws.specs.Laws.{is_all_out}
 use Rattle.slirp_laws.proofs.Bools.{equal, first_of, second_of}
 use Rattle.run_duties.specs.Check.{all_flows, all_may, flows_are, implies, is_by, is_dutiful, is_from, is_must, is_settled_now, is_wanted, may_be_wanted, may_be_written, may_write_flow, must_wait, sockets_are, waits_as_it_must, waits_for}
 use Rattle.run_duties.specs.Duties.{Dutiful, Must as MustCome, MustWait, WaitsAsItMust, is_at_rest}
 use Rattle.run_duties.specs.Times.{alarms, deadlines, lives, wait_end}
-use Rattle.run_duties.specs.Waiting.{MayBeWritten, MayWriteFlow, WaitsFor, are_in_order, is_read, is_written, reads_flow, writes_flow}
+use Rattle.run_duties.specs.Waiting.{is_all_sent, MayBeWritten, MayWriteFlow, WaitsFor, are_in_order, is_read, is_written, reads_flow, writes_flow}
 
 -- ---- tests
 
@@ -227,20 +226,18 @@ module _ (config : Config) (past : List Entry) where
 
   wait_is : (wants : List Want) (timeout : Option ℕ) → must_wait config past wants timeout ≡ true → MustWait config past wants timeout
   wait_is wants timeout is =
-      let p = three (waits_for config past wants && (is_blocked past || is_all_out config past))
+      let p = three (waits_for config past wants && (is_blocked past || is_all_sent config past))
       ((is_blocked past || all_flows (is_settled_now config past) (book config past).flows) && all_flows (λ f. may_wait f.story (moment past)) (book config past).flows && all_ahead (moment past) (lives config past))
       (is_by (wait_end (moment past) timeout) (deadlines config past) && is_from (wait_end (moment past) timeout) (alarms config past)) is in
-      let listed = first_of (waits_for config past wants) (is_blocked past || is_all_out config past) p.0 in
-      let out = second_of (waits_for config past wants) (is_blocked past || is_all_out config past) p.0 in
+      let listed = first_of (waits_for config past wants) (is_blocked past || is_all_sent config past) p.0 in
+      let out = second_of (waits_for config past wants) (is_blocked past || is_all_sent config past) p.0 in
       let r = three (is_blocked past || all_flows (is_settled_now config past) (book config past).flows) (all_flows (λ f. may_wait f.story (moment past)) (book config past).flows) (all_ahead (moment past) (lives config past)) p.1 in
       record {
-        waits_for = waits_for_is wants listed;
-        out = either (is_blocked past) (is_all_out config past) out;
+        attends = record { waits_for = waits_for_is wants listed; out = either (is_blocked past) (is_all_sent config past) out; unused = ahead_is (moment past) (lives config past) r.2 };
         settled = λ free number f found.
             settled (flow_settings config) f.story (guest_is_known (scene config past) f) (is_at_rest config past f) (moment past)
             (found_passes (is_settled_now config past) number (book config past).flows f (either (is_blocked past) (all_flows (is_settled_now config past) (book config past).flows) r.0 free) found);
         closed = λ number f found. waits f.story (moment past) (found_passes (λ g. may_wait g.story (moment past)) number (book config past).flows f r.1 found);
-        unused = ahead_is (moment past) (lives config past) r.2;
         until = by_is (wait_end (moment past) timeout) (deadlines config past) (first_of (is_by (wait_end (moment past) timeout) (deadlines config past)) (is_from (wait_end (moment past) timeout) (alarms config past)) p.2);
         from = from_is (wait_end (moment past) timeout) (alarms config past) (second_of (is_by (wait_end (moment past) timeout) (deadlines config past)) (is_from (wait_end (moment past) timeout) (alarms config past)) p.2);
       }

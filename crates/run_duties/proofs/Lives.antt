@@ -42,7 +42,7 @@ use_stands socket (e ∷ past) = by (use_stands socket past) (is_used_by socket 
     by low false = omega (arith, low)
 
 -- one that was used before another was used no later
-used_before : (one other : ℕ) (past : List Entry) → last_use one past < last_use other past → used_at one past ≤ used_at other past
+pub used_before : (one other : ℕ) (past : List Entry) → last_use one past < last_use other past → used_at one past ≤ used_at other past
 used_before one other [] low = absurd (omega (arith, low))
 used_before one other (e ∷ past) low = by (is_used_by one e) (is_used_by other e) (used_before one other past) (use_stands other past) (used_by_now one past) low
   where
@@ -66,24 +66,33 @@ behind P n ns each m among = each m (by (m == n) among)
     by true is = refl
     by false is = is
 
-at_front : (n : ℕ) (ns : List ℕ) → is_among n (n ∷ ns) ≡ true
+pub at_front : (n : ℕ) (ns : List ℕ) → is_among n (n ∷ ns) ≡ true
 at_front n ns = ap (λ b. b || is_among n ns) (same n)
 
-ahead_each : (now : ℕ) (f : ℕ → ℕ) (ns : List ℕ) → ((n : ℕ) → is_among n ns ≡ true → now < f n) → AreAhead now (map f ns)
+pub ahead_each : (now : ℕ) (f : ℕ → ℕ) (ns : List ℕ) → ((n : ℕ) → is_among n ns ≡ true → now < f n) → AreAhead now (map f ns)
 ahead_each now f [] each = tt
 ahead_each now f (n ∷ ns) each = (each n (at_front n ns), ahead_each now f ns (behind (λ m. now < f m) n ns each))
 
-by_each : (at : ℕ) (f : ℕ → ℕ) (ns : List ℕ) → ((n : ℕ) → is_among n ns ≡ true → at ≤ f n) → IsBy (Some at) (map f ns)
+pub by_each : (at : ℕ) (f : ℕ → ℕ) (ns : List ℕ) → ((n : ℕ) → is_among n ns ≡ true → at ≤ f n) → IsBy (Some at) (map f ns)
 by_each at f [] each = tt
 by_each at f (n ∷ ns) each = (each n (at_front n ns), by_each at f ns (behind (λ m. at ≤ f m) n ns each))
 
-from_each : (at : ℕ) (f : ℕ → ℕ) (ns : List ℕ) (n : ℕ) → is_among n ns ≡ true → f n ≤ at → IsFrom (Some at) (map f ns)
+pub from_each : (at : ℕ) (f : ℕ → ℕ) (ns : List ℕ) (n : ℕ) → is_among n ns ≡ true → f n ≤ at → IsFrom (Some at) (map f ns)
 from_each at f [] n among low = absurd cc
 from_each at f (m ∷ ns) n among low = by (n == m) refl among (from_each at f ns n)
   where
     by : (b : Bool) → (n == m) ≡ b → (b || is_among n ns) ≡ true → (is_among n ns ≡ true → f n ≤ at → IsFrom (Some at) (map f ns)) → (f m ≤ at) ⊎ IsFrom (Some at) (map f ns)
     by true is one rest = inl (subst (λ k. f k ≤ at) (equal n m is) low)
     by false is one rest = inr (rest one low)
+
+-- those that stand behind another in the order of use were used no sooner
+pub used_last : (past : List Entry) (n o : ℕ) (ns : List ℕ) → AreByLastUse past (o ∷ ns) → is_among n ns ≡ true → used_at o past ≤ used_at n past
+used_last past n o [] order among = absurd cc
+used_last past n o (m ∷ ns) order among = by (n == m) refl among (used_last past n o ns (order.0.1, order.1.1))
+  where
+    by : (b : Bool) → (n == m) ≡ b → (b || is_among n ns) ≡ true → (is_among n ns ≡ true → used_at o past ≤ used_at n past) → used_at o past ≤ used_at n past
+    by true is one rest = subst (λ k. used_at o past ≤ used_at k past) (sym (equal n m is)) (used_before o m past order.0.0)
+    by false is one rest = rest one
 
 -- the first of the sets that wait is dropped first
 pub drops_from : (at : ℕ) (sets : List PartSet) (i : ℕ) (s : PartSet) → slice_get sets i ≡ Some s → s.since + 60000 ≤ at → IsFrom (Some at) (map (λ (x : PartSet). x.since + 60000) sets)
@@ -122,15 +131,6 @@ module _ (config : Config) (past : List Entry) (lawful : Lawful config past) (no
   pub lives_ahead : AreAhead now (association_lives config past)
   lives_ahead = ahead_each now (λ n. used_at n past + idle_life) (associations_open config past) of_socket
 
-  -- the one that is the longest unused is over first
-  used_last : (n : ℕ) (list : List Association) (o : Association) → AreByLastUse past (o.number ∷ numbers list) → is_among n (numbers list) ≡ true → used_at o.number past ≤ used_at n past
-  used_last n [] o order among = absurd cc
-  used_last n (x ∷ list) o order among = by (n == x.number) refl among (used_last n list o (order.0.1, order.1.1))
-    where
-      by : (b : Bool) → (n == x.number) ≡ b → (b || is_among n (numbers list)) ≡ true → (is_among n (numbers list) ≡ true → used_at o.number past ≤ used_at n past) → used_at o.number past ≤ used_at n past
-      by true is one rest = subst (λ m. used_at o.number past ≤ used_at m past) (sym (equal n x.number is)) (used_before o.number x.number past order.0.0)
-      by false is one rest = rest one
-
   oldest_young : (o : Association) (rest : List Association) → associations config past ≡ o ∷ rest → now < o.used + idle_life
   oldest_young o rest is =
       let all = subst (λ l. All (λ a. is_over now a ≡ false) l) is young in
@@ -156,7 +156,7 @@ module _ (config : Config) (past : List Entry) (lawful : Lawful config past) (no
               let later = oldest_young o rest is in
               omega (arith, here, later, soon)
           by false at one =
-              let low = used_last n rest o order one in
+              let low = used_last past n o.number (numbers rest) order one in
               let mine = first in
               let later = oldest_young o rest is in
               omega (arith, low, mine, later, soon)

@@ -13,10 +13,9 @@ use Rattle.flow_laws.specs.CheckDuty.{all_ahead, is_settled, may_wait, may_wait_
 use Rattle.flow_book.specs.Book.{book, scene}
 use Rattle.flow_book.specs.Flows.{Flow, flow_of, guest_is_known}
 use Rattle.flow_book.specs.Laws.{flow_settings}
-use Rattle.slirp_laws.specs.Laws.{is_all_out}
 use Rattle.run_duties.specs.Duties.{is_at_rest}
 use Rattle.run_duties.specs.Times.{alarms, deadlines, lives, wait_end}
-use Rattle.run_duties.specs.Waiting.{are_in_order, is_read, is_written}
+use Rattle.run_duties.specs.Waiting.{are_in_order, is_all_sent, is_read, is_written}
 
 abbrev pub same : Bool → Bool → Bool
 same true b = b
@@ -87,7 +86,7 @@ is_from (Some at) (m ∷ ms) = nat_le m at || is_from (Some at) ms
 
 abbrev pub must_wait : Config → List Entry → List Want → Option ℕ → Bool
 must_wait config past wants timeout =
-    (waits_for config past wants && (is_blocked past || is_all_out config past))
+    (waits_for config past wants && (is_blocked past || is_all_sent config past))
     && ((is_blocked past || all_flows (is_settled_now config past) (book config past).flows) && all_flows (λ f. may_wait f.story (moment past)) (book config past).flows
     && all_ahead (moment past) (lives config past))
     && (is_by (wait_end (moment past) timeout) (deadlines config past) && is_from (wait_end (moment past) timeout) (alarms config past))

@@ -3,6 +3,8 @@ use Rattle.std.specs.Prelude.{◌≡◌, ℕ, Bool, true, false, List, filter, O
 use Rattle.poll_list.specs.declared.Want.{Want}
 use Rattle.world_face.specs.Journal.{Entry, Call, CallWait, Follows}
 use Rattle.world_face.specs.Frames.{is_blocked}
+use Rattle.world_face.specs.Heard.{Heard}
+use Rattle.world_face.specs.Tells.{Telling}
 use Rattle.host_policy.specs.Addresses.{Config}
 use Rattle.run_laws.specs.Moments.{moment}
 use Rattle.flow_laws.specs.Dutiful.{AreAhead, IsSettled, MayWait}
@@ -10,9 +12,8 @@ use Rattle.flow_steps.specs.Bounds.{IsBy, IsFrom}
 use Rattle.flow_book.specs.Book.{book, is_young, scene}
 use Rattle.flow_book.specs.Flows.{Flow, flow_of, guest_is_known, rests_among}
 use Rattle.flow_book.specs.Laws.{flow_settings}
-use Rattle.slirp_laws.specs.Laws.{is_all_out}
 use Rattle.run_duties.specs.Times.{alarms, deadlines, lives, wait_end}
-use Rattle.run_duties.specs.Waiting.{WaitsFor}
+use Rattle.run_duties.specs.Waiting.{WaitsFor, is_all_sent}
 
 -- this holds of each flow of the record
 abbrev pub EachFlow : Config → List Entry → (Flow → Type 0) → Type 0
@@ -26,16 +27,21 @@ is_at_rest config past f = rests_among (filter (is_young (moment past)) (book co
 abbrev pub IsSettledNow : Config → List Entry → Flow → Type 0
 IsSettledNow config past f = IsSettled (flow_settings config) f.story (guest_is_known (scene config past) f) (is_at_rest config past f) (moment past)
 
+-- A wait for these: they are all that can be taken, and nothing else; unless the link is blocked all that is owed is out, of the answer to what came last and of
+-- a packet of a file that goes again; and no socket for datagrams is open whose idle life is over.
+pub record MustAttend (config : Config) (past : List Entry) (wants : List Want) : Type 0 where
+  pub waits_for : WaitsFor config past wants
+  pub out : is_blocked past ≡ false → is_all_sent config past ≡ true
+  pub unused : AreAhead (moment past) (lives config past)
+
 -- A wait: for these, no longer than this.
 pub record MustWait (config : Config) (past : List Entry) (wants : List Want) (timeout : Option ℕ) : Type 0 where
-  -- what is waited for
-  pub waits_for : WaitsFor config past wants
-  -- unless the link is blocked the answer to what came last is out, and each flow is settled
-  pub out : is_blocked past ≡ false → is_all_out config past ≡ true
+  -- what is waited for, with the answer out, and no socket idle for long
+  pub attends : MustAttend config past wants
+  -- unless the link is blocked each flow is settled
   pub settled : is_blocked past ≡ false → EachFlow config past (IsSettledNow config past)
-  -- flows of which both ends passed are closed, and those whose host had its time to connect; so are sockets whose idle life is over
+  -- flows of which both ends passed are closed, and those whose host had its time to connect
   pub closed : EachFlow config past (λ f. MayWait f.story (moment past))
-  pub unused : AreAhead (moment past) (lives config past)
   -- it lasts no longer than to what has to be done at a time, and at least to the first of them
   pub until : IsBy (wait_end (moment past) timeout) (deadlines config past)
   pub from : IsFrom (wait_end (moment past) timeout) (alarms config past)
@@ -51,3 +57,16 @@ pub record Must (config : Config) (past : List Entry) (call : Call) : Type 0 whe
 -- each call was as it must be
 abbrev pub Dutiful : Config → List Entry → Type 0
 Dutiful config past = Follows (Must config) past
+
+-- ---- the duty that is proved of the runs of the network: each wait attends to all that can be taken
+
+abbrev pub AttendsAsItMust : Config → List Entry → Call → Type 0
+AttendsAsItMust config past (CallWait wants timeout) = MustAttend config past wants
+AttendsAsItMust config past _ = Unit {0}
+
+abbrev pub Attentive : Config → List Entry → Type 0
+Attentive config past = Follows (AttendsAsItMust config) past
+
+-- what a World that was live tells of such a run, with the call at which it ceased
+abbrev pub Attended : Config → Telling → Telling → Type 0
+Attended config old new = old.live ≡ true → Heard (AttendsAsItMust config) (λ made. Unit {0}) old new

@@ -1,8 +1,9 @@
 -- A run from its first call to its last.
-use Rattle.std.proofs.Common.{◌≡◌, ℕ, ◌≤◌, false, List, [], ◌++◌, Some, refl, sym, ◌∙◌, ap, subst}
+use Rattle.std.proofs.Common.{◌≡◌, Bool, ℕ, ◌≤◌, false, List, [], ◌++◌, Some, refl, sym, ◌∙◌, ap, subst}
 use Rattle.world_face.specs.Journal.{Entry}
 use Rattle.world_face.specs.Tells.{Telling, Makes}
 use Rattle.world_face.proofs.Telling.{makes_as, makes_then}
+use Rattle.world_face.proofs.Following.{heard}
 use Rattle.host_policy.specs.Addresses.{Config}
 use Rattle.run_laws.specs.Shape.{phase}
 use Rattle.slirp_laws.specs.Datagrams.{Settled}
@@ -18,9 +19,11 @@ use Rattle.slirp_core.specs.Forwards.{forward_sockets}
 use Rattle.slirp_core.specs.Holds.{AfterListening, after, flowing, Begins, ClosesAll, ClosingWith, Opens, Stands, Turns, Holders, holders_of}
 use Rattle.slirp_core.specs.Numbers.{flows_for}
 use Rattle.slirp_core.specs.State.{SlirpState}
+use Rattle.run_duties.specs.Duties.{Attended, Attentive, AttendsAsItMust}
+use Rattle.run_duties.proofs.Ended.{attends_to_the_end, attends_unwaited, refused_unwaited}
 use Rattle.slirp_core.proofs.Starting.{IsUnbegun, begun, ran as ran_by, spent as spent_by}
 use Rattle.serve_loop.specs.Ends.{end_of}
-use Rattle.serve_loop.specs.Turns.{Closes, EndedAs, HoldsNow, RanTo}
+use Rattle.serve_loop.specs.Turns.{AttendsTo, Closes, EndedAs, HoldsNow, RanTo}
 use Rattle.serve_loop.specs.Served.{IsNew, ServiceState}
 use Rattle.serve_loop.specs.declared.service.End.{End}
 use Rattle.serve_loop.specs.declared.service.End.TheVariants.{ListenRefused, TurnsSpent}
@@ -65,9 +68,9 @@ pub reads_new : (service : ServiceState) → IsNew service → ReadsOn (under_wa
 reads_new service new = subst ReadsOn (sym new.input) reads_first
 
 -- a run that an entry ended
-pub ran : (config : Config) (end : End) (forwards : List Opened) (o : Holders) (made : List Entry) → EndedAs config end forwards o made
+pub ran : (config : Config) (count : ℕ) (end : End) (forwards : List Opened) (o : Holders) (made : List Entry) → EndedAs config count end forwards o made
     → Closes config end forwards o made
-ran config end forwards o made ended = record { closing = ran_by config ended.why forwards o made ended.ended; is = ended.is ∙ sym (ap (end_of config) ended.ended.over) }
+ran config count end forwards o made ended = record { closing = ran_by config count ended.why forwards o made ended.ended; is = ended.is ∙ sym (ap (end_of config) ended.ended.over) }
 
 -- after as many waits as there may be
 pub spent : (config : Config) (count turns : ℕ) (service : ServiceState) (made : List Entry) → 1 ≤ config.turns → config.turns ≤ count → turns ≡ config.turns → HoldsNow config (after count) false service.slirp service.link made
@@ -87,9 +90,35 @@ pub ran_to : (config : Config) (end : End) (forwards : List Opened) (o : Holders
 ran_to config end forwards o more past closes all =
     let over = all config (phase config past) past closes.closing in (over.0, over.1, closes.is ∙ ap (end_of config) over.2)
 
-pub finishes : (config : Config) (end : End) (forwards : List Opened) (o : Holders) (a b c : Telling) → Makes a b (Closes config end forwards o)
-    → Makes b c (ClosesAll forwards o) → Makes a c (RanTo config end)
-finishes config end forwards o a b c ran closed = makes_then a b c _ _ (RanTo config end) ran closed (λ made more closes all. ran_to config end forwards o more made closes all)
+-- and what attended so far attends to the end
+pub attends_to : (config : Config) (end : End) (forwards : List Opened) (o : Holders) (more past : List Entry) → Closes config end forwards o past → Attentive config past
+    → ClosesAll forwards o more → AttendsTo config end (more ++ past)
+attends_to config end forwards o more past closes attentive all = (
+  ran_to config end forwards o more past closes all,
+  attends_to_the_end config more past (all config (phase config past) past closes.closing).0 closes.closing.ended attentive,
+)
 
-pub told : (config : Config) (end : End) (old new : Telling) → Makes old new (RanTo config end) → Served config old new
-told config end old new makes = served config old new (makes_as old new (RanTo config end) (λ made. Lawful config made × Finished config made) makes (λ made run. (run.0, run.1)))
+pub finishes : (config : Config) (end : End) (forwards : List Opened) (o : Holders) (a b c : Telling) → Makes a b (λ past. Closes config end forwards o past × Attentive config past)
+    → Makes b c (ClosesAll forwards o) → Makes a c (AttendsTo config end)
+finishes config end forwards o a b c ran closed = makes_then a b c _ _ (AttendsTo config end) ran closed (λ made more closes all. attends_to config end forwards o more made closes.0 closes.1 all)
+
+-- a run whose first wait hasn't been attends
+pub none_waited : (config : Config) (count : ℕ) (aged : Bool) (slirp : SlirpState) (link : LinkState) (made : List Entry) → count ≡ 0 → HoldsNow config (after count) aged slirp link made → Attentive config made
+none_waited config count aged slirp link made none holds = attends_unwaited config made (holds.clock.counted ∙ none)
+
+pub none_refused : (config : Config) (place : ℕ) (slirp : SlirpState) (link : LinkState) (made : List Entry) → AfterListening (Some place) config slirp link made → Attentive config made
+none_refused config place slirp link made closing = attends_unwaited config made (refused_unwaited config made place closing.lawful (sym closing.is))
+
+-- what a run made
+abbrev pub Made : Config → End → List Entry → Type 0
+Made config end made = Lawful config made × Attentive config made × Finished config made × (end ≡ end_of config (phase config made))
+
+pub made_so : (config : Config) (end : End) (made : List Entry) → AttendsTo config end made → Made config end made
+made_so config end made run = (run.0.0, run.1, run.0.1, run.0.2)
+
+pub told : (config : Config) (end : End) (old new : Telling) → Makes old new (Made config end) → Served config old new
+told config end old new makes = served config old new (makes_as old new (Made config end) (λ made. Lawful config made × Finished config made) makes (λ made run. (run.0, run.2)))
+
+pub attended : (config : Config) (end : End) (old new : Telling) → Makes old new (Made config end) → Attended config old new
+attended config end old new makes live =
+    heard {May = AttendsAsItMust config} {Finished = λ made. Unit {0}} (makes_as old new (Made config end) (λ made. Attentive config made × Unit {0}) makes (λ made run. (run.1, tt))) live

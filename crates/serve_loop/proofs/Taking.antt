@@ -153,5 +153,5 @@ module _ (config : Config) (count : ℕ) (wants : List Want) (item : Want) (item
       subst (λ (t : Step). HoldsAt config (standing count wants items) t slirp (flowing false slirp.flows) new (made ++ past)) (ap (λ p. asked_by config slirp (errand_by_packet config p)) packet_is) h
 
   -- the run has ended
-  pub read_ended : (why : Ending) → ending_of answer ≡ Some why → hands answer new ≡ None → Ended config why slirp.forwards (holders_of slirp) (made ++ past)
+  pub read_ended : (why : Ending) → ending_of answer ≡ Some why → hands answer new ≡ None → Ended config count why slirp.forwards (holders_of slirp) (made ++ past)
   read_ended why is none = read_ends_it config count wants item items reads_it slirp slirp.flows old new answer no_packet out made past allowed read holds why is none

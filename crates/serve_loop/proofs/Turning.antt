@@ -7,11 +7,14 @@ use Rattle.poll_list.specs.declared.Who.{Who}
 use Rattle.poll_list.specs.declared.Who.TheVariants.{Link as TheLink, Listener, Udp}
 use Rattle.world_face.specs.Journal.{Entry}
 use Rattle.world_face.specs.Frames.{Ending, LinkFailed}
+use Rattle.world_face.specs.Tells.{Brings, Telling}
 use Rattle.host_policy.specs.Addresses.{Config}
 use Rattle.port_forward.specs.Opened.{Opened}
+use Rattle.run_laws.specs.Moments.{waits}
+use Rattle.run_duties.proofs.Going.{brings_attention}
 use Rattle.slirp_laws.specs.Agenda.{agenda, is_to_read, wanted_of}
 use Rattle.stream_netdev.specs.State.{LinkState, under_way}
-use Rattle.slirp_core.specs.Holds.{Standing, after, standing, flowing, Ended, AfterPump, Holders, holders_of}
+use Rattle.slirp_core.specs.Holds.{Standing, after, standing, flowing, Ended, AfterPump, Holders, Leaves, holders_of}
 use Rattle.slirp_core.specs.Pumps.{is_settled}
 use Rattle.slirp_core.specs.State.{SlirpState}
 use Rattle.slirp_core.specs.declared.sending.Pumped.{Pumped}
@@ -20,9 +23,10 @@ use Rattle.slirp_core.proofs.Associating.{with_agenda}
 use Rattle.slirp_core.proofs.Parts.{or_second}
 use Rattle.slirp_core.proofs.Sockets.{same}
 use Rattle.serve_loop.specs.Ends.{end_by, turn_of}
-use Rattle.serve_loop.specs.Turns.{all_passed_over, is_passed_over, is_read_now, still, AfterTurn, EndedAs, HoldsNow}
+use Rattle.serve_loop.specs.Turns.{all_passed_over, is_passed_over, is_read_now, still, AfterTurn, AllSent, AttendsAfterTaking, AttendsAfterTurn, AttendsNow, EndedAs, HoldsNow}
 use Rattle.serve_loop.specs.declared.service.End.{End}
-use Rattle.serve_loop.specs.declared.service.Turn.TheVariants.{Ended as TurnEnded}
+use Rattle.serve_loop.specs.declared.service.Turn.{Turn}
+use Rattle.serve_loop.specs.declared.service.Turn.TheVariants.{Again, Ended as TurnEnded}
 
 none : {A : Type 0} (xs : List A) → nat_lt 0 (length xs) ≡ false → xs ≡ []
 none [] is = refl
@@ -48,16 +52,16 @@ settled slirp link is =
     (none_at link.tail both.0, none slirp.pending (not_true (nat_lt 0 (length slirp.pending)) both.1))
 
 -- the run has ended
-pub ended_as : (config : Config) (why : Ending) (forwards : List Opened) (o : Holders) (past : List Entry) → Ended config why forwards o past
-    → EndedAs config (end_by why) forwards o past
-ended_as config why forwards o past ended = record { why = why; ended = ended; is = refl }
+pub ended_as : (config : Config) (count : ℕ) (why : Ending) (forwards : List Opened) (o : Holders) (past : List Entry) → Ended config count why forwards o past
+    → EndedAs config count (end_by why) forwards o past
+ended_as config count why forwards o past ended = record { why = why; ended = ended; is = refl }
 
 -- a pump is a part of a turn
 pub pumped : (answer : Pumped) (config : Config) (at : Standing) (aged : Bool) (slirp : SlirpState) (link : LinkState) (past : List Entry) → AfterPump answer config at slirp (flowing aged slirp.flows) link past
     → AfterTurn (turn_of answer) config at aged slirp link past
 pumped Clear config at aged slirp link past holds = holds
 pumped Blocked config at aged slirp link past holds = holds
-pumped PumpFailed config at aged slirp link past ended = ended_as config LinkFailed slirp.forwards (holders_of slirp) past ended
+pumped PumpFailed config at aged slirp link past ended = ended_as config at.count LinkFailed slirp.forwards (holders_of slirp) past ended
 
 -- the same octets are under way
 pub same_under_way : (old new : LinkState) → new.octets ≡ old.octets → new.whole ≡ old.whole → under_way new ≡ under_way old
@@ -119,9 +123,37 @@ still_reads true item is = refl
 still_reads false item is = is
 
 -- an ended run has no reports left
-pub ended_left : (end : End) (config : Config) (at other : Standing) (aged later : Bool) (slirp : SlirpState) (link : LinkState) (past : List Entry) → AfterTurn (TurnEnded end) config at aged slirp link past
-    → AfterTurn (TurnEnded end) config other later slirp link past
-ended_left end config at other aged later slirp link past ended = ended
+pub ended_left : (end : End) (config : Config) (count : ℕ) (wants items : List Want) (aged later : Bool) (slirp : SlirpState) (link : LinkState) (past : List Entry) → AfterTurn (TurnEnded end) config (standing count wants items) aged slirp link past
+    → AfterTurn (TurnEnded end) config (after count) later slirp link past
+ended_left end config count wants items aged later slirp link past ended = ended
+
+-- so often the run waited
+waited_so : (turn : Turn) (config : Config) (at : Standing) (aged : Bool) (slirp : SlirpState) (link : LinkState) (past : List Entry) → AfterTurn turn config at aged slirp link past → waits past ≡ at.count
+waited_so Again config at aged slirp link past holds = holds.clock.counted
+waited_so (TurnEnded end) config at aged slirp link past ended = ended.ended.waited
+
+-- a part of a turn that doesn't wait attends on
+pub attends_on : (turn : Turn) (config : Config) (at later : Standing) (aged then_aged : Bool) (slirp new : SlirpState) (link next : LinkState) (a b : Telling) → at.count ≡ later.count
+    → Brings a b (HoldsNow config at aged slirp link) (AfterTurn turn config later then_aged new next) → Brings a b (AttendsNow config at aged slirp link) (AttendsAfterTurn turn config later then_aged new next)
+attends_on turn config at later aged then_aged slirp new link next a b same brings =
+    brings_attention config a b (HoldsNow config at aged slirp link) (AfterTurn turn config later then_aged new next)
+    (λ past made before now. waited_so turn config later then_aged new next (made ++ past) now ∙ sym same ∙ sym before.clock.counted) brings
+
+-- a whole turn, where its wait was made
+pub taken : (turn : Turn) (config : Config) (count : ℕ) (slirp : SlirpState) (link : LinkState) (past : List Entry) → AttendsAfterTurn turn config (after (count + 1)) false slirp link past → AttendsAfterTaking turn config count slirp link past
+taken Again config count slirp link past now = now
+taken (TurnEnded end) config count slirp link past now = ((count + 1, now.0), now.1)
+
+-- nothing is left to be sent after a pump that found the link free
+pub sent_by : (answer : Pumped) (slirp : SlirpState) (link : LinkState) → Leaves answer slirp link → turn_of answer ≡ Again → AllSent slirp link
+sent_by Clear slirp link left again free =
+    let none : nat_lt 0 (length slirp.pending) ≡ false = ap (λ (frames : List (List ℕ)). nat_lt 0 (length frames)) left.2 in
+    (λ i. (length (left.1 i) == 0) && not (none i))
+sent_by Blocked slirp link left again free = absurd (let never : true ≡ false = sym left ∙ free in cc)
+sent_by PumpFailed slirp link left again free = cc
+
+pub still_sent : (slirp new : SlirpState) (link : LinkState) → new.pending ≡ slirp.pending → AllSent slirp link → AllSent new link
+still_sent slirp new link same sent free = ap (λ (frames : List (List ℕ)). (length link.tail == 0) && not (nat_lt 0 (length frames))) same ∙ sent free
 
 -- no report is left any more
 pub weaker : (config : Config) (count : ℕ) (wants items : List Want) (aged : Bool) (slirp : SlirpState) (link : LinkState) (past : List Entry) → HoldsNow config (standing count wants items) aged slirp link past

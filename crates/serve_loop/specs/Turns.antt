@@ -1,5 +1,5 @@
 -- What a turn, and each part of it, comes to.
-use Rattle.std.specs.Prelude.{◌≡◌, ℕ, ◌&&◌, not, Bool, true, false, List, [], ◌∷◌, None}
+use Rattle.std.specs.Prelude.{◌≡◌, ℕ, ◌+◌, ◌&&◌, not, Bool, true, false, List, [], ◌∷◌, All, None}
 use Rattle.poll_list.specs.Listing.{same_who}
 use Rattle.poll_list.specs.declared.Want.{Want}
 use Rattle.poll_list.specs.declared.Who.TheVariants.{Link}
@@ -9,13 +9,17 @@ use Rattle.host_policy.specs.Addresses.{Config}
 use Rattle.run_laws.specs.Shape.{phase}
 use Rattle.slirp_laws.specs.Agenda.{wanted_of}
 use Rattle.slirp_laws.specs.Laws.{Finished, Lawful}
+use Rattle.udp_assoc.specs.Associations.{is_over as is_idle_association}
+use Rattle.dns_relay.specs.Questions.{is_over as is_idle_question}
 use Rattle.tftp_server.specs.Transfers.{next_again}
 use Rattle.stream_netdev.specs.Keeps.{ReadsOn}
 use Rattle.stream_netdev.specs.State.{LinkState, under_way}
 use Rattle.port_forward.specs.Opened.{Opened}
 use Rattle.slirp_core.specs.Forwards.{forward_sockets}
-use Rattle.slirp_core.specs.Holds.{Standing, standing, flowing, Holders, holders_of, Holds, Ended, ClosingWith}
+use Rattle.slirp_core.specs.Holds.{Standing, after, standing, flowing, Holders, holders_of, Holds, Ended, ClosingWith}
+use Rattle.slirp_core.specs.Pumps.{is_settled}
 use Rattle.slirp_core.specs.State.{SlirpState}
+use Rattle.run_duties.specs.Duties.{Attentive}
 use Rattle.serve_loop.specs.Ends.{end_by, end_of}
 use Rattle.serve_loop.specs.declared.service.End.{End}
 use Rattle.serve_loop.specs.declared.service.Turn.{Turn}
@@ -38,21 +42,34 @@ HoldsNow config at aged slirp link past = Holds config at slirp (flowing aged sl
 abbrev pub NoneGoesAgain : SlirpState → Type 0
 NoneGoesAgain slirp = slirp.pending ≡ [] → next_again slirp.moment slirp.transfers ≡ None
 
+-- all that is owed is out, unless the link is blocked
+abbrev pub AllSent : SlirpState → LinkState → Type 0
+AllSent slirp link = link.blocked ≡ false → is_settled slirp link ≡ true
+
+-- no socket of a guest's port is idle for long, and none of a question
+abbrev pub AreYoung : SlirpState → Type 0
+AreYoung slirp = All (λ a. is_idle_association slirp.moment a ≡ false) slirp.associations × All (λ q. is_idle_question slirp.moment q ≡ false) slirp.questions
+
 -- after a wait with these wants, and the call of the clock that follows it
 abbrev pub AfterSleep : Slept → Config → ℕ → List Want → List Want → SlirpState → LinkState → List Entry → Type 0
 AfterSleep Ready config count wants ready slirp link past = HoldsNow config (standing count wants ready) false slirp link past
-AfterSleep SleptStopped config count wants ready slirp link past = Ended config Stopped slirp.forwards (holders_of slirp) past
-AfterSleep SleepFailed config count wants ready slirp link past = Ended config WaitFailed slirp.forwards (holders_of slirp) past
+AfterSleep SleptStopped config count wants ready slirp link past = Ended config count Stopped slirp.forwards (holders_of slirp) past
+AfterSleep SleepFailed config count wants ready slirp link past = Ended config count WaitFailed slirp.forwards (holders_of slirp) past
 
 -- after a turn, or a part of one
-pub record EndedAs (config : Config) (end : End) (forwards : List Opened) (o : Holders) (past : List Entry) : Type 0 where
+pub record EndedAs (config : Config) (count : ℕ) (end : End) (forwards : List Opened) (o : Holders) (past : List Entry) : Type 0 where
   pub why : Ending
-  pub ended : Ended config why forwards o past
+  pub ended : Ended config count why forwards o past
   pub is : end ≡ end_by why
 
 abbrev pub AfterTurn : Turn → Config → Standing → Bool → SlirpState → LinkState → List Entry → Type 0
 AfterTurn Again config at aged slirp link past = HoldsNow config at aged slirp link past
-AfterTurn (TurnEnded end) config at aged slirp link past = EndedAs config end slirp.forwards (holders_of slirp) past
+AfterTurn (TurnEnded end) config at aged slirp link past = EndedAs config at.count end slirp.forwards (holders_of slirp) past
+
+-- after a turn, whose sockets are left open where it ended the run: that may have been before its wait
+abbrev pub AfterTaking : Turn → Config → ℕ → SlirpState → LinkState → List Entry → Type 0
+AfterTaking Again config count slirp link past = HoldsNow config (after (count + 1)) false slirp link past
+AfterTaking (TurnEnded end) config count slirp link past = (waited : ℕ) × EndedAs config waited end slirp.forwards (holders_of slirp) past
 
 -- and then the link can be read
 abbrev pub GoesOnAfter : Turn → LinkState → Type 0
@@ -72,6 +89,28 @@ RanTo config end made = Lawful config made × Finished config made × (end ≡ e
 abbrev pub AfterWholeTurn : Turn → Config → Standing → SlirpState → LinkState → List Entry → Type 0
 AfterWholeTurn Again config at slirp link past = HoldsNow config at false slirp link past
 AfterWholeTurn (TurnEnded end) config at slirp link past = RanTo config end past
+
+-- ---- the same, where each wait so far attended to all that could be taken
+
+abbrev pub AttendsNow : Config → Standing → Bool → SlirpState → LinkState → List Entry → Type 0
+AttendsNow config at aged slirp link past = HoldsNow config at aged slirp link past × Attentive config past
+
+abbrev pub AttendsAfterSleep : Slept → Config → ℕ → List Want → List Want → SlirpState → LinkState → List Entry → Type 0
+AttendsAfterSleep slept config count wants ready slirp link past = AfterSleep slept config count wants ready slirp link past × Attentive config past
+
+abbrev pub AttendsAfterTurn : Turn → Config → Standing → Bool → SlirpState → LinkState → List Entry → Type 0
+AttendsAfterTurn turn config at aged slirp link past = AfterTurn turn config at aged slirp link past × Attentive config past
+
+abbrev pub AttendsAfterTaking : Turn → Config → ℕ → SlirpState → LinkState → List Entry → Type 0
+AttendsAfterTaking turn config count slirp link past = AfterTaking turn config count slirp link past × Attentive config past
+
+abbrev pub AttendsAfterWholeTurn : Turn → Config → Standing → SlirpState → LinkState → List Entry → Type 0
+AttendsAfterWholeTurn turn config at slirp link past = AfterWholeTurn turn config at slirp link past × Attentive config past
+
+abbrev pub AttendsTo : Config → End → List Entry → Type 0
+AttendsTo config end made = RanTo config end made × Attentive config made
+
+-- ---- items
 
 -- nothing of what was reported of an item was waited for
 abbrev pub is_passed_over : List Want → Want → Bool

@@ -106,7 +106,8 @@ impl Service {
     ghost use Rattle.serve_loop.specs.Ends.{end_of, IsCounted};
     ghost use Rattle.slirp_core.specs.Counts.{AreGrown};
     ghost use Rattle.slirp_core.specs.Holds.{AfterListening, after, standing};
-    ghost use Rattle.serve_loop.specs.Turns.{AfterSleep, AfterTurn, AfterWholeTurn, GoesOnAfter, HoldsNow, NoneGoesAgain, all_passed_over, is_passed_over};
+    ghost use Rattle.serve_loop.specs.Turns.{AfterTurn, AllSent, AreYoung, AttendsAfterSleep, AttendsAfterTaking, AttendsAfterTurn, AttendsAfterWholeTurn, AttendsNow, GoesOnAfter, HoldsNow, NoneGoesAgain, all_passed_over, is_passed_over};
+    ghost use Rattle.run_duties.specs.Duties.{Attended, Attentive};
     ghost use Rattle.slirp_core.specs.Pumps.{is_settled};
     ghost use Rattle.serve_loop.specs.Served.{IsBuilt, IsNew};
     ghost use Rattle.slirp_core.specs.Hearing.{Receives, is_heard};
@@ -146,13 +147,14 @@ impl Service {
     /// closed. Where the host refuses a port the run ends before its first turn.
     pub fn serve<W: World>(&mut self, world: &mut W) -> End
         requires { IsNew self.old }
-        // The calls that it makes are lawful, nothing more is to be done, and the end is the one that they tell.
+        // The calls that it makes are lawful, each wait attends to all that can be taken, nothing more is to be done, and the end is the one that the calls tell.
         ensures makes { let config = self.old.slirp.config in
-            Makes (W.tells world.old) (W.tells world.new) (λ made. Lawful config made × Finished config made × (result ≡ end_of config (phase config made))) }
+            Makes (W.tells world.old) (W.tells world.new) (λ made. Lawful config made × Attentive config made × Finished config made × (result ≡ end_of config (phase config made))) }
         // Where it ended by a fault the count of the link's, of the waits' or of the sockets' rose.
         ensures faults { IsCounted (Turn.Ended result) (W.tells world.old).faults (W.tells world.new).faults }
         // What a World that was live tells of them.
         ensures served { Served self.old.slirp.config (W.tells world.old) (W.tells world.new) }
+        ensures attended { Attended self.old.slirp.config (W.tells world.old) (W.tells world.new) }
     {
         if let Turn::Ended(end) = self.start(world) {
             return end;
@@ -172,7 +174,7 @@ impl Service {
     /// moment is asked for. Where the host refuses a port the run ends, and those that were opened are closed.
     pub fn start<W: World>(&mut self, world: &mut W) -> Turn
         requires { IsNew self.old }
-        ensures makes { Makes (W.tells world.old) (W.tells world.new) (AfterWholeTurn result self.old.slirp.config (after 0) self.new.slirp self.new.link) }
+        ensures makes { Makes (W.tells world.old) (W.tells world.new) (AttendsAfterWholeTurn result self.old.slirp.config (after 0) self.new.slirp self.new.link) }
         ensures faults { IsCounted result (W.tells world.old).faults (W.tells world.new).faults }
         ensures on { GoesOnAfter result self.new.link }
         ensures config { self.new.slirp.config ≡ self.old.slirp.config }
@@ -206,7 +208,7 @@ impl Service {
         requires number { self.old.slirp.number + 5155 < 2 ^ 64 }
         requires turns { self.old.slirp.flows.turn < 2 ^ 45 }
         ensures makes { (config : Config) (count : ℕ) → count < config.turns → Brings (W.tells world.old) (W.tells world.new)
-            (HoldsNow config (after count) false self.old.slirp self.old.link) (AfterWholeTurn result config (after (count + 1)) self.new.slirp self.new.link) }
+            (AttendsNow config (after count) false self.old.slirp self.old.link) (AttendsAfterWholeTurn result config (after (count + 1)) self.new.slirp self.new.link) }
         // Where it ended by a fault the count of the link's, or of the waits', rose.
         ensures faults { IsCounted result (W.tells world.old).faults (W.tells world.new).faults }
         ensures on { GoesOnAfter result self.new.link }
@@ -229,7 +231,7 @@ impl Service {
         requires number { self.old.slirp.number + 5155 < 2 ^ 64 }
         requires turns { self.old.slirp.flows.turn < 2 ^ 45 }
         ensures makes { (config : Config) (count : ℕ) → count < config.turns → Brings (W.tells world.old) (W.tells world.new)
-            (HoldsNow config (after count) false self.old.slirp self.old.link) (AfterTurn result config (after (count + 1)) false self.new.slirp self.new.link) }
+            (AttendsNow config (after count) false self.old.slirp self.old.link) (AttendsAfterTaking result config count self.new.slirp self.new.link) }
         ensures faults { IsCounted result (W.tells world.old).faults (W.tells world.new).faults }
         ensures on { GoesOnAfter result self.new.link }
         ensures config { self.new.slirp.config ≡ self.old.slirp.config }
@@ -250,6 +252,9 @@ impl Service {
         ensures makes { (config : Config) (at : Standing) → Brings (W.tells world.old) (W.tells world.new)
             (HoldsNow config at true self.old.slirp self.old.link) (AfterTurn result config at true self.new.slirp self.new.link) }
         // Where the turn goes on and nothing is left to be sent, no packet is due.
+        // Where the turn goes on all that is owed is out, unless the link is blocked.
+        ensures sent { result ≡ Turn.Again → AllSent self.new.slirp self.new.link }
+        ensures young { AreYoung self.old.slirp → AreYoung self.new.slirp }
         ensures none { result ≡ Turn.Again → NoneGoesAgain self.new.slirp }
         ensures faults { IsCounted result (W.tells world.old).faults (W.tells world.new).faults }
         ensures on { GoesOnAfter result self.new.link }
@@ -275,8 +280,10 @@ impl Service {
         requires on { ReadsOn (under_way self.old.link) }
         requires number { self.old.slirp.number + 5155 < 2 ^ 64 }
         requires none { NoneGoesAgain self.old.slirp }
+        requires sent { AllSent self.old.slirp self.old.link }
+        requires young { AreYoung self.old.slirp }
         ensures makes { (config : Config) (count : ℕ) → count < config.turns → Brings (W.tells world.old) (W.tells world.new)
-            (HoldsNow config (after count) true self.old.slirp self.old.link) (AfterTurn result config (after (count + 1)) false self.new.slirp self.new.link) }
+            (AttendsNow config (after count) true self.old.slirp self.old.link) (AttendsAfterTurn result config (after (count + 1)) false self.new.slirp self.new.link) }
         ensures faults { IsCounted result (W.tells world.old).faults (W.tells world.new).faults }
         ensures on { GoesOnAfter result self.new.link }
         ensures config { self.new.slirp.config ≡ self.old.slirp.config }
@@ -293,8 +300,10 @@ impl Service {
     // Waits, and asks for the moment where it was woken.
     fn sleep<W: World>(&mut self, world: &mut W) -> Slept
         requires none { NoneGoesAgain self.old.slirp }
+        requires sent { AllSent self.old.slirp self.old.link }
+        requires young { AreYoung self.old.slirp }
         ensures makes { (config : Config) (count : ℕ) → count < config.turns → Brings (W.tells world.old) (W.tells world.new)
-            (HoldsNow config (after count) true self.old.slirp self.old.link) (AfterSleep result config (count + 1) self.new.wants self.new.ready self.new.slirp self.new.link) }
+            (AttendsNow config (after count) true self.old.slirp self.old.link) (AttendsAfterSleep result config (count + 1) self.new.wants self.new.ready self.new.slirp self.new.link) }
         ensures counts { AreGrown (W.tells world.old).faults (W.tells world.new).faults }
         ensures failed { result ≡ Slept.Failed → Rose (W.tells world.old).faults.wait (W.tells world.new).faults.wait }
         ensures on { under_way self.new.link ≡ under_way self.old.link }
@@ -576,6 +585,9 @@ impl Service {
         requires { ReadsOn (under_way self.old.link) }
         ensures makes { (config : Config) (at : Standing) (aged : Bool) → Brings (W.tells world.old) (W.tells world.new)
             (HoldsNow config at aged self.old.slirp self.old.link) (AfterTurn result config at aged self.new.slirp self.new.link) }
+        // Where the turn goes on all that is owed is out, unless the link is blocked.
+        ensures sent { result ≡ Turn.Again → AllSent self.new.slirp self.new.link }
+        ensures young { AreYoung self.old.slirp → AreYoung self.new.slirp }
         ensures faults { IsCounted result (W.tells world.old).faults (W.tells world.new).faults }
         ensures on { GoesOnAfter result self.new.link }
         ensures config { self.new.slirp.config ≡ self.old.slirp.config }

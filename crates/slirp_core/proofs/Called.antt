@@ -324,10 +324,11 @@ module _ (config : Config) (at : Standing) (slirp : SlirpState) (f : Flowing) (l
       }
 
   -- the link failed
-  broke : Broken config slirp.moment f.aged new (made ++ past) → LeavesOthers config past made → Ended config LinkFailed slirp.forwards (holders_with slirp new) (made ++ past)
+  broke : Broken config slirp.moment f.aged new (made ++ past) → LeavesOthers config past made → Ended config at.count LinkFailed slirp.forwards (holders_with slirp new) (made ++ past)
   broke then_is others = record {
     lawful = then_is.lawful;
     over = then_is.over;
+    waited = others.waits ∙ holds.clock.counted;
     errand = others.errand ∙ errand_for config Settled None slirp past holds.relayed;
     served = then_is.served;
     idle = then_is.asks;

@@ -41,4 +41,5 @@ pub mod Least
 pub mod Sizes
 pub mod Learning
 pub mod Settling
+pub mod Awaiting
 pub mod Visiting

@@ -24,11 +24,11 @@ merged_all xs ys some others one two = IsPermutation-trans (xs ++ ys) (some ++ o
 
 -- ---- and rises as they do
 
-abbrev AtLeast : ℕ → List ℕ → Type 0
+abbrev pub AtLeast : ℕ → List ℕ → Type 0
 AtLeast low [] = Unit {0}
 AtLeast low (n ∷ ns) = (low ≤ n) × AtLeast low ns
 
-abbrev Climbs : List ℕ → Type 0
+abbrev pub Climbs : List ℕ → Type 0
 Climbs [] = Unit {0}
 Climbs (n ∷ ns) = AtLeast n ns × Climbs ns
 
@@ -41,7 +41,7 @@ least_at low [] least k d few = absurd (omega (arith, few))
 least_at low (n ∷ ns) least zero d few = least.0
 least_at low (n ∷ ns) least (suc k) d few = least_at low ns least.1 k d (omega (arith, few))
 
-climbs : (ns : List ℕ) → IsNonDecreasing ns → Climbs ns
+pub climbs : (ns : List ℕ) → IsNonDecreasing ns → Climbs ns
 climbs [] rise = tt
 climbs (n ∷ ns) rise = (at_least n ns (λ k d few. rise 0 (suc k) d (omega arith) (omega (arith, few))), climbs ns (λ i j d up few. rise (suc i) (suc j) d (omega (arith, up)) (omega (arith, few))))
 

@@ -94,6 +94,7 @@ after_write config at slirp new_slirp f old new past octets answer blocked holds
     by_answer Failed b k fine l = record {
       lawful = lawful Failed k;
       over = ap (λ p. unless_over p LinkFailed) turn.working;
+      waited = holds.clock.counted;
       errand = errand_for config Settled None slirp past holds.relayed;
       served = none_due_for_services config (LinkWrite octets Failed ∷ past) refl (quest_written config octets Failed past holds.services.quest);
       idle = (flows Failed).holds.asked;

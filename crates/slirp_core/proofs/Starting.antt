@@ -436,8 +436,8 @@ started config slirp link told past fine opens = record {
 -- ---- the end of the turns
 
 -- a run that an entry ended
-pub ran : (config : Config) (why : Ending) (forwards : List Opened) (o : Holders) (made : List Entry) → Ended config why forwards o made → ClosingWith config (phase config made) (forward_sockets forwards) o made
-ran config why forwards o made ended = record {
+pub ran : (config : Config) (count : ℕ) (why : Ending) (forwards : List Opened) (o : Holders) (made : List Entry) → Ended config count why forwards o made → ClosingWith config (phase config made) (forward_sockets forwards) o made
+ran config count why forwards o made ended = record {
   lawful = ended.lawful;
   ended = ap (λ p. is_over p || nat_le config.turns (waits made)) ended.over;
   is = refl;

@@ -63,10 +63,11 @@ module _ (config : Config) (count : ℕ) (slirp : SlirpState) (kept : Kept) (old
   now_open : AreOpenWith (forward_sockets slirp.forwards) (carriers (holders_with slirp kept)) kept.flows.parts past
   now_open = are_open config (after count) Settled None slirp (flowing true kept) old past holds
 
-  pub wait_ends_it : (answer : Waited) (ready : List Want) (why : Ending) → wait_ending answer ≡ Some why → Ended config why slirp.forwards (holders_with slirp kept) (Wait wants timeout answer ready ∷ past)
+  pub wait_ends_it : (answer : Waited) (ready : List Want) (why : Ending) → wait_ending answer ≡ Some why → Ended config (count + 1) why slirp.forwards (holders_with slirp kept) (Wait wants timeout answer ready ∷ past)
   wait_ends_it answer ready why is = record {
     lawful = waited answer ready;
     over = ap (λ o. phase_after (Wait wants timeout answer ready) o (phase config past)) is ∙ ends why holds.stands;
+    waited = ap (λ n. n + 1) holds.clock.counted;
     errand = errand_for config Settled None slirp past holds.relayed;
     served = none_due_for_services config (Wait wants timeout answer ready ∷ past) refl holds.services.quest;
     idle = (flows_then answer ready).holds.asked;

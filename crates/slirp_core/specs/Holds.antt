@@ -282,10 +282,11 @@ pub record AreOpen (carriers : List ℕ) (parts : List (Option Splice)) (past : 
   pub flow : (k : ℕ) (p : Splice) → IsOpenAt parts k p → is_among (number_of p) (open_sockets past) ≡ true
   pub apart : (k : ℕ) (p : Splice) → IsOpenAt parts k p → is_among (number_of p) carriers ≡ false
 
--- after an entry that ended the run in this way
-pub record Ended (config : Config) (why : Ending) (forwards : List Opened) (o : Holders) (past : List Entry) : Type 0 where
+-- after an entry that ended the run in this way, after so many waits
+pub record Ended (config : Config) (count : ℕ) (why : Ending) (forwards : List Opened) (o : Holders) (past : List Entry) : Type 0 where
   pub lawful : Lawful config past
   pub over : phase config past ≡ Over (By why)
+  pub waited : waits past ≡ count
   pub errand : errand_left config past ≡ None
   pub served : due_for_services config past ≡ None
   pub idle : due_for_flows config (book config past) (next_number past) ≡ None
@@ -296,7 +297,7 @@ pub record Ended (config : Config) (why : Ending) (forwards : List Opened) (o : 
 abbrev pub AfterPump : Pumped → Config → Standing → SlirpState → Flowing → LinkState → List Entry → Type 0
 AfterPump Clear config at slirp f link past = Holds config at slirp f link past
 AfterPump Blocked config at slirp f link past = Holds config at slirp f link past
-AfterPump Failed config at slirp f link past = Ended config LinkFailed slirp.forwards (holders_with slirp f.kept) past
+AfterPump Failed config at slirp f link past = Ended config at.count LinkFailed slirp.forwards (holders_with slirp f.kept) past
 
 -- what is left after a pump
 abbrev pub Leaves : Pumped → SlirpState → LinkState → Type 0

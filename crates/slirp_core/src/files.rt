@@ -59,6 +59,8 @@ impl Slirp {
         // One is due fewer.
         ensures fewer { result ≡ true → due_count self.new.moment self.new.transfers < due_count self.old.moment self.old.transfers }
         ensures none { result ≡ false → self.new.pending ≡ [] → next_again self.new.moment self.new.transfers ≡ None }
+        // And what was left to be sent is as before.
+        ensures still { result ≡ false → self.new.pending ≡ self.old.pending }
         ensures others { self.new ≡ record self.old { pending = self.new.pending; transfers = self.new.transfers } }
     {
         if self.pending() {

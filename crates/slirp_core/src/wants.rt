@@ -1,9 +1,12 @@
 // What the network waits for, and how long.
-ghost use Rattle.std.specs.Prelude.{[], ◌∷◌, ◌≡◌, ◌+◌, ◌≤◌, ◌<◌, ◌^◌, ◌++◌, true, false, List, ℕ, Some, filter, slice_get, map, length, IfOk};
+ghost use Rattle.std.specs.Prelude.{[], ◌∷◌, ◌≡◌, ◌+◌, ◌≤◌, ◌<◌, ◌^◌, ◌++◌, true, false, Bool, List, ℕ, None, Some, filter, slice_get, map, length, IfOk};
 ghost use Rattle.flow_splice.specs.Splice.{Splice};
-ghost use Rattle.spliced_flows.specs.Core.{number_of};
 ghost use Rattle.poll_list.specs.declared.Want.{Want as AWant};
 ghost use Rattle.tcp_flows.specs.Reading.{AreWantsOf};
+ghost use Rattle.tcp_flows.specs.Waits.{AreWaitedFor};
+ghost use Rattle.host_policy.specs.Addresses.{Config};
+ghost use Rattle.world_face.specs.Journal.{Entry};
+ghost use Rattle.spliced_flows.specs.Core.{CoreHolds, number_of};
 ghost use Rattle.poll_list.specs.Listing.{AreWants};
 ghost use Rattle.slirp_core.specs.Pumps.{TcpOnce, into, link_want, listener_want, merged, socket_wants, udp_want};
 ghost use Rattle.slirp_core.specs.Carrying.{HasRoom, sockets_of};
@@ -139,6 +142,8 @@ impl TurnWants {
         requires most { HasRoom carriers }
         ensures items { (added : List AWant) × (self.new.items ≡ ((link_want read write ++ map listener_want listeners.now) ++ socket_wants read (sockets_of carriers.entry)) ++ added)
             × AreWantsOf flows.now.flows.parts added }
+        // By the record, what flows wait for is what a run waits for of its flows.
+        ensures waited_for { (config : Config) (before : ℕ) (aged : Bool) (past : List Entry) (added : List AWant) → CoreHolds config before aged None flows.now.flows past → AreWantsOf flows.now.flows.parts added → AreWaitedFor config past added }
         ensures once { TcpOnce self.new.items }
         ensures wants { AreWants self.new.items }
         ensures few { length self.new.items ≤ 5153 }
@@ -154,6 +159,8 @@ impl TurnWants {
         requires flows { length flows.now.flows.parts ≤ 4096 }
         requires numbers { (k : ℕ) (p : Splice) → slice_get flows.now.flows.parts k ≡ Some (Some p) → number_of p < below }
         ensures items { (added : List AWant) × (self.new.items ≡ self.old.items ++ added) × AreWantsOf flows.now.flows.parts added × (length added ≤ 4096) }
+        // By the record, what flows wait for is what a run waits for of its flows.
+        ensures waited_for { (config : Config) (before : ℕ) (aged : Bool) (past : List Entry) (added : List AWant) → CoreHolds config before aged None flows.now.flows past → AreWantsOf flows.now.flows.parts added → AreWaitedFor config past added }
         ensures wants { AreWants self.new.items }
         ensures capacity { self.new.capacity ≡ self.old.capacity }
     {
@@ -223,6 +230,8 @@ impl Slirp {
         requires { 5153 ≤ wants.old.capacity }
         ensures timeout { (held : List PartSet) → IsHeld self.now.parts held → IsTimeout self.now link.now.blocked held result }
         ensures items { WantsOf self.now link.now wants.new.items }
+        // By the record, what flows wait for is what a run waits for of its flows.
+        ensures waited_for { (config : Config) (before : ℕ) (aged : Bool) (past : List Entry) (added : List AWant) → CoreHolds config before aged None self.now.flows.flows past → AreWantsOf self.now.flows.flows.parts added → AreWaitedFor config past added }
         ensures once { TcpOnce wants.new.items }
         ensures wants { AreWants wants.new.items }
         ensures few { length wants.new.items ≤ 5153 }
@@ -297,6 +306,8 @@ fn put_flows(flows: &TcpFlows, below: u64, wants: &mut Wants)
     requires room { length wants.old.items + length flows.now.flows.parts ≤ wants.old.capacity }
     requires numbers { (k : ℕ) (p : Splice) → slice_get flows.now.flows.parts k ≡ Some (Some p) → number_of p < below }
     ensures items { (added : List AWant) × (wants.new.items ≡ wants.old.items ++ added) × AreWantsOf flows.now.flows.parts added × (length added ≤ length flows.now.flows.parts) }
+    // By the record, what flows wait for is what a run waits for of its flows.
+    ensures waited_for { (config : Config) (before : ℕ) (aged : Bool) (past : List Entry) (added : List AWant) → CoreHolds config before aged None flows.now.flows past → AreWantsOf flows.now.flows.parts added → AreWaitedFor config past added }
     ensures wants { AreWants wants.new.items }
     ensures capacity { wants.new.capacity ≡ wants.old.capacity }
 {

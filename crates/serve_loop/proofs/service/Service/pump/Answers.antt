@@ -1,11 +1,11 @@
-use Rattle.std.proofs.Common.{false, sym, subst}
+use Rattle.std.proofs.Common.{false, sym, ◌∙◌, subst}
 use Rattle.world_face.specs.Tells.{Brings}
 use Rattle.world_face.proofs.Telling.{brings_as}
 use Rattle.serve_loop.specs.Ends.{IsCounted}
 use Rattle.slirp_core.specs.Holds.{after}
-use Rattle.serve_loop.specs.Turns.{AfterTurn, HoldsNow}
+use Rattle.serve_loop.specs.Turns.{AfterTurn, AreYoung, HoldsNow}
 use Rattle.serve_loop.specs.Served.{ServiceState}
-use Rattle.serve_loop.proofs.Turning.{pumped}
+use Rattle.serve_loop.proofs.Turning.{pumped, sent_by}
 use Rattle.slirp_core.proofs.Counted.{grown}
 use Rattle.serve_loop.proofs.Counted.{pump_counted}
 use Rattle.serve_loop.proofs.service.Service.pump.Goals as goal
@@ -21,3 +21,9 @@ pub returns-clause-faults : goal.returns-clause-faults
 returns-clause-faults g c =
     let more = grown _ _ _ (c.pump-pumped.ensures.makes c.args.self.now.slirp.config (after 0) false).counted in
     subst (λ t. IsCounted t (g.W.World.tells c.args.world.now).faults (g.W.World.tells c.pump-pumped.new.world).faults) (sym c.turn_of.ensures) (pump_counted c.pump-pumped.result _ _ more c.pump-pumped.ensures.failed)
+
+pub returns-clause-sent : goal.returns-clause-sent
+returns-clause-sent g c again = sent_by c.pump-pumped.result c.pump-pumped.new.self c.pump-pumped.new.link c.pump-pumped.ensures.leaves (sym c.turn_of.ensures ∙ again)
+
+pub returns-clause-young : goal.returns-clause-young
+returns-clause-young g c young = subst AreYoung (sym c.pump-pumped.ensures.others) (subst (λ (s : ServiceState). AreYoung s.slirp) (sym c.self.view_is) young)

@@ -155,7 +155,7 @@ returns-in-End-clause-makes g c config count wants item items reads_it =
     let new = c.read_frame.new in
     let before = settled slirp link (ap (λ (s : ServiceState). is_settled s.slirp s.link) c.self.view_is ∙ sym c.is_settled.ensures ∙ c.if-not-is_settled.false) in
     subst (λ (s : ServiceState). Brings (g.W.World.tells c.args.world.now) (g.W.World.tells new.world) (HoldsNow config (standing count wants (item ∷ items)) false s.slirp s.link) (AfterTurn (TurnEnded (Done)) config (standing count wants items) false slirp new.self)) c.self.view_is
-    (brings_allowed c.in-End.ensures.makes (λ made read allowed past holds. ended_as config (LinkEnded) slirp.forwards (holders_of slirp) _ (read_ended config count wants item items reads_it slirp link new.self (End) before.1 before.0 made past allowed read.1 holds (LinkEnded) refl refl)))
+    (brings_allowed c.in-End.ensures.makes (λ made read allowed past holds. ended_as config count (LinkEnded) slirp.forwards (holders_of slirp) _ (read_ended config count wants item items reads_it slirp link new.self (End) before.1 before.0 made past allowed read.1 holds (LinkEnded) refl refl)))
 
 pub returns-in-Cut-clause-makes : goal.returns-in-Cut-clause-makes
 returns-in-Cut-clause-makes g c config count wants item items reads_it =
@@ -164,7 +164,7 @@ returns-in-Cut-clause-makes g c config count wants item items reads_it =
     let new = c.read_frame.new in
     let before = settled slirp link (ap (λ (s : ServiceState). is_settled s.slirp s.link) c.self.view_is ∙ sym c.is_settled.ensures ∙ c.if-not-is_settled.false) in
     subst (λ (s : ServiceState). Brings (g.W.World.tells c.args.world.now) (g.W.World.tells new.world) (HoldsNow config (standing count wants (item ∷ items)) false s.slirp s.link) (AfterTurn (TurnEnded (EndCut c.in-Cut.n)) config (standing count wants items) false slirp new.self)) c.self.view_is
-    (brings_allowed c.in-Cut.ensures.makes (λ made read allowed past holds. ended_as config (LinkCut c.in-Cut.n) slirp.forwards (holders_of slirp) _ (read_ended config count wants item items reads_it slirp link new.self (Cut c.in-Cut.n) before.1 before.0 made past allowed read.1 holds (LinkCut c.in-Cut.n) refl refl)))
+    (brings_allowed c.in-Cut.ensures.makes (λ made read allowed past holds. ended_as config count (LinkCut c.in-Cut.n) slirp.forwards (holders_of slirp) _ (read_ended config count wants item items reads_it slirp link new.self (Cut c.in-Cut.n) before.1 before.0 made past allowed read.1 holds (LinkCut c.in-Cut.n) refl refl)))
 
 pub returns-in-TooLong-clause-makes : goal.returns-in-TooLong-clause-makes
 returns-in-TooLong-clause-makes g c config count wants item items reads_it =
@@ -173,7 +173,7 @@ returns-in-TooLong-clause-makes g c config count wants item items reads_it =
     let new = c.read_frame.new in
     let before = settled slirp link (ap (λ (s : ServiceState). is_settled s.slirp s.link) c.self.view_is ∙ sym c.is_settled.ensures ∙ c.if-not-is_settled.false) in
     subst (λ (s : ServiceState). Brings (g.W.World.tells c.args.world.now) (g.W.World.tells new.world) (HoldsNow config (standing count wants (item ∷ items)) false s.slirp s.link) (AfterTurn (TurnEnded (EndLong c.in-TooLong.n)) config (standing count wants items) false slirp new.self)) c.self.view_is
-    (brings_allowed c.in-TooLong.ensures.makes (λ made read allowed past holds. ended_as config (LongFrame c.in-TooLong.n) slirp.forwards (holders_of slirp) _ (read_ended config count wants item items reads_it slirp link new.self (TooLong c.in-TooLong.n) before.1 before.0 made past allowed read.1 holds (LongFrame c.in-TooLong.n) refl refl)))
+    (brings_allowed c.in-TooLong.ensures.makes (λ made read allowed past holds. ended_as config count (LongFrame c.in-TooLong.n) slirp.forwards (holders_of slirp) _ (read_ended config count wants item items reads_it slirp link new.self (TooLong c.in-TooLong.n) before.1 before.0 made past allowed read.1 holds (LongFrame c.in-TooLong.n) refl refl)))
 
 pub returns-in-Failed-clause-makes : goal.returns-in-Failed-clause-makes
 returns-in-Failed-clause-makes g c config count wants item items reads_it =
@@ -182,7 +182,7 @@ returns-in-Failed-clause-makes g c config count wants item items reads_it =
     let new = c.read_frame.new in
     let before = settled slirp link (ap (λ (s : ServiceState). is_settled s.slirp s.link) c.self.view_is ∙ sym c.is_settled.ensures ∙ c.if-not-is_settled.false) in
     subst (λ (s : ServiceState). Brings (g.W.World.tells c.args.world.now) (g.W.World.tells new.world) (HoldsNow config (standing count wants (item ∷ items)) false s.slirp s.link) (AfterTurn (TurnEnded (LinkFault)) config (standing count wants items) false slirp new.self)) c.self.view_is
-    (brings_allowed c.in-Failed.ensures.makes (λ made read allowed past holds. ended_as config (LinkFailed) slirp.forwards (holders_of slirp) _ (read_ended config count wants item items reads_it slirp link new.self (Failed) before.1 before.0 made past allowed read.1 holds (LinkFailed) refl refl)))
+    (brings_allowed c.in-Failed.ensures.makes (λ made read allowed past holds. ended_as config count (LinkFailed) slirp.forwards (holders_of slirp) _ (read_ended config count wants item items reads_it slirp link new.self (Failed) before.1 before.0 made past allowed read.1 holds (LinkFailed) refl refl)))
 
 pub returns-in-Failed-clause-faults : goal.returns-in-Failed-clause-faults
 returns-in-Failed-clause-faults g c = c.in-Failed.ensures.failed refl

@@ -6,13 +6,15 @@ use Rattle.stream_netdev.specs.State.{under_way}
 use Rattle.tftp_server.proofs.Turning.{due_count}
 use Rattle.slirp_core.specs.Counts.{AreGrown}
 use Rattle.slirp_core.specs.Holds.{Standing}
-use Rattle.serve_loop.specs.Turns.{HoldsNow}
+use Rattle.serve_loop.specs.Turns.{AllSent, AreYoung, HoldsNow}
 use Rattle.serve_loop.proofs.service.Service.send_all.Given as goal
 
 abbrev pub invariant-loop-self : goal.invariant-loop-self
 invariant-loop-self g l = record {
   makes : (config : Config) (at : Standing) → Brings (g.W.World.tells l.fn.world) (g.W.World.tells l.world) (HoldsNow config at true l.fn.self.slirp l.fn.self.link) (HoldsNow config at true l.self.slirp l.self.link);
   counts : AreGrown (g.W.World.tells l.fn.world).faults (g.W.World.tells l.world).faults;
+  sent : AllSent l.self.slirp l.self.link;
+  young : AreYoung l.fn.self.slirp → AreYoung l.self.slirp;
   on : ReadsOn (under_way l.self.link);
   config : l.self.slirp.config ≡ l.fn.self.slirp.config;
   number : l.self.slirp.number ≡ l.fn.self.slirp.number;

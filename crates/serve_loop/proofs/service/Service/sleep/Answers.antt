@@ -1,4 +1,4 @@
-use Rattle.std.proofs.Common.{◌≡◌, ◌+◌, [], ◌∷◌, ◌++◌, List, if◌then◌else◌, true, false, refl, sym, ◌∙◌, ap, subst}
+use Rattle.std.proofs.Common.{◌≡◌, ℕ, ◌+◌, [], ◌∷◌, ◌++◌, List, if◌then◌else◌, true, false, refl, sym, ◌∙◌, ap, subst}
 use Rattle.poll_list.specs.Listing.{Listing, writes}
 use Rattle.poll_list.specs.declared.Want.{Want}
 use Rattle.poll_list.specs.declared.Who.TheVariants.{Link as TheLink}
@@ -11,10 +11,12 @@ use Rattle.world_face.proofs.Counting.{some_failed, wait_rose}
 use Rattle.world_face.proofs.Telling.{brings_one, makes_one, makes_next}
 use Rattle.slirp_core.proofs.Telling.{brings_allowed}
 use Rattle.slirp_core.specs.Holds.{after, standing}
-use Rattle.serve_loop.specs.Turns.{AfterSleep, HoldsNow, NoneGoesAgain}
+use Rattle.serve_loop.specs.Turns.{AllSent, AreYoung, AttendsAfterSleep, AttendsNow, HoldsNow, NoneGoesAgain}
 use Rattle.serve_loop.specs.Served.{ServiceState}
 use Rattle.slirp_core.specs.State.{SlirpState}
 use Rattle.serve_loop.specs.declared.service.Slept.TheVariants.{Ready as SleptReady, Stopped as SleptStopped, Failed as SleepFailed}
+use Rattle.host_policy.specs.Addresses.{Config}
+use Rattle.slirp_core.proofs.Awaiting.{attends}
 use Rattle.slirp_core.proofs.Waiting.{wait_ends_it, wait_wakes}
 use Rattle.serve_loop.proofs.Turning.{same_under_way}
 use Rattle.serve_loop.proofs.service.Service.sleep.Goals as goal
@@ -24,22 +26,40 @@ returns-in-Stop-clause-makes g c config count few =
     let slirp = c.self.inside.slirp in
     let link = c.self.inside.link in
     let none_again : NoneGoesAgain slirp = subst (λ (s : ServiceState). NoneGoesAgain s.slirp) (sym c.self.view_is) c.requires.none in
-    subst (λ (s : ServiceState). Brings (g.W.World.tells c.args.world.now) (g.W.World.tells c.wait.new.self) (HoldsNow config (after count) true s.slirp s.link) (AfterSleep SleptStopped config (count + 1) c.pollfds_fill-timeout.new.wants.items c.wait.new.ready.items slirp link)) c.self.view_is
-    (brings_one (subst (λ (l : Listing). Answers (g.W.World.tells c.args.world.now) (g.W.World.tells c.wait.new.self) (Wait l.items c.pollfds_fill-timeout.result Stop c.wait.new.ready.items)) c.list.ensures c.in-Stop.ensures.answers) (λ allowed past holds. wait_ends_it config count slirp slirp.flows link past c.pollfds_fill-timeout.new.wants.items c.pollfds_fill-timeout.result few none_again holds Stop c.wait.new.ready.items Stopped refl))
+    let young_now : AreYoung slirp = subst (λ (s : ServiceState). AreYoung s.slirp) (sym c.self.view_is) c.requires.young in
+    let attended_now = λ (config : Config) (count : ℕ) (past : List Entry) (holds : HoldsNow config (after count) true slirp link past).
+    attends config (after count) slirp link past c.pollfds_fill-timeout.new.wants.items holds none_again (subst (λ (s : ServiceState). AllSent s.slirp s.link) (sym c.self.view_is) c.requires.sent) (young_now.0) (young_now.1) c.pollfds_fill-timeout.ensures.items
+    (c.pollfds_fill-timeout.ensures.waited_for config slirp.moment true past c.pollfds_fill-timeout.ensures.items.flows holds.flows.holds c.pollfds_fill-timeout.ensures.items.of_flows) in
+    subst (λ (s : ServiceState). Brings (g.W.World.tells c.args.world.now) (g.W.World.tells c.wait.new.self) (AttendsNow config (after count) true s.slirp s.link) (AttendsAfterSleep SleptStopped config (count + 1) c.pollfds_fill-timeout.new.wants.items c.wait.new.ready.items slirp link)) c.self.view_is
+    (brings_one (subst (λ (l : Listing). Answers (g.W.World.tells c.args.world.now) (g.W.World.tells c.wait.new.self) (Wait l.items c.pollfds_fill-timeout.result Stop c.wait.new.ready.items)) c.list.ensures c.in-Stop.ensures.answers) (λ allowed past now. (
+      wait_ends_it config count slirp slirp.flows link past c.pollfds_fill-timeout.new.wants.items c.pollfds_fill-timeout.result few none_again now.0 Stop c.wait.new.ready.items Stopped refl,
+      (attended_now config count past now.0, now.1),
+    )))
 
 pub returns-in-Failed-clause-makes : goal.returns-in-Failed-clause-makes
 returns-in-Failed-clause-makes g c config count few =
     let slirp = c.self.inside.slirp in
     let link = c.self.inside.link in
     let none_again : NoneGoesAgain slirp = subst (λ (s : ServiceState). NoneGoesAgain s.slirp) (sym c.self.view_is) c.requires.none in
-    subst (λ (s : ServiceState). Brings (g.W.World.tells c.args.world.now) (g.W.World.tells c.wait.new.self) (HoldsNow config (after count) true s.slirp s.link) (AfterSleep SleepFailed config (count + 1) c.pollfds_fill-timeout.new.wants.items c.wait.new.ready.items slirp link)) c.self.view_is
-    (brings_one (subst (λ (l : Listing). Answers (g.W.World.tells c.args.world.now) (g.W.World.tells c.wait.new.self) (Wait l.items c.pollfds_fill-timeout.result Failed c.wait.new.ready.items)) c.list.ensures c.in-Failed.ensures.answers) (λ allowed past holds. wait_ends_it config count slirp slirp.flows link past c.pollfds_fill-timeout.new.wants.items c.pollfds_fill-timeout.result few none_again holds Failed c.wait.new.ready.items WaitFailed refl))
+    let young_now : AreYoung slirp = subst (λ (s : ServiceState). AreYoung s.slirp) (sym c.self.view_is) c.requires.young in
+    let attended_now = λ (config : Config) (count : ℕ) (past : List Entry) (holds : HoldsNow config (after count) true slirp link past).
+    attends config (after count) slirp link past c.pollfds_fill-timeout.new.wants.items holds none_again (subst (λ (s : ServiceState). AllSent s.slirp s.link) (sym c.self.view_is) c.requires.sent) (young_now.0) (young_now.1) c.pollfds_fill-timeout.ensures.items
+    (c.pollfds_fill-timeout.ensures.waited_for config slirp.moment true past c.pollfds_fill-timeout.ensures.items.flows holds.flows.holds c.pollfds_fill-timeout.ensures.items.of_flows) in
+    subst (λ (s : ServiceState). Brings (g.W.World.tells c.args.world.now) (g.W.World.tells c.wait.new.self) (AttendsNow config (after count) true s.slirp s.link) (AttendsAfterSleep SleepFailed config (count + 1) c.pollfds_fill-timeout.new.wants.items c.wait.new.ready.items slirp link)) c.self.view_is
+    (brings_one (subst (λ (l : Listing). Answers (g.W.World.tells c.args.world.now) (g.W.World.tells c.wait.new.self) (Wait l.items c.pollfds_fill-timeout.result Failed c.wait.new.ready.items)) c.list.ensures c.in-Failed.ensures.answers) (λ allowed past now. (
+      wait_ends_it config count slirp slirp.flows link past c.pollfds_fill-timeout.new.wants.items c.pollfds_fill-timeout.result few none_again now.0 Failed c.wait.new.ready.items WaitFailed refl,
+      (attended_now config count past now.0, now.1),
+    )))
 
 pub returns-in-Ready-clause-makes : goal.returns-in-Ready-clause-makes
 returns-in-Ready-clause-makes g c config count few =
     let slirp = c.self.inside.slirp in
     let link = c.self.inside.link in
     let none_again : NoneGoesAgain slirp = subst (λ (s : ServiceState). NoneGoesAgain s.slirp) (sym c.self.view_is) c.requires.none in
+    let young_now : AreYoung slirp = subst (λ (s : ServiceState). AreYoung s.slirp) (sym c.self.view_is) c.requires.young in
+    let attended_now = λ (config : Config) (count : ℕ) (past : List Entry) (holds : HoldsNow config (after count) true slirp link past).
+    attends config (after count) slirp link past c.pollfds_fill-timeout.new.wants.items holds none_again (subst (λ (s : ServiceState). AllSent s.slirp s.link) (sym c.self.view_is) c.requires.sent) (young_now.0) (young_now.1) c.pollfds_fill-timeout.ensures.items
+    (c.pollfds_fill-timeout.ensures.waited_for config slirp.moment true past c.pollfds_fill-timeout.ensures.items.flows holds.flows.holds c.pollfds_fill-timeout.ensures.items.of_flows) in
     let new = c.report.new.link in
     let wants = c.pollfds_fill-timeout.new.wants.items in
     let timeout = c.pollfds_fill-timeout.result in
@@ -49,12 +69,14 @@ returns-in-Ready-clause-makes g c config count few =
     let free = c.report.ensures.free ∙ ap (λ (l : List Want). if writes TheLink l then false else link.blocked) c.items.ensures in
     let waits = makes_one _ _ (Wait wants timeout Ready ready) (λ made. made ≡ Wait wants timeout Ready ready ∷ []) (subst (λ (l : Listing). Answers (g.W.World.tells c.args.world.now) (g.W.World.tells c.wait.new.self) (Wait l.items c.pollfds_fill-timeout.result Ready c.wait.new.ready.items)) c.list.ensures c.in-Ready.ensures.answers) (λ allowed. refl) in
     let both = makes_next _ _ _ (Now told) (λ made. made ≡ Wait wants timeout Ready ready ∷ []) (λ made. made ≡ Now told ∷ Wait wants timeout Ready ready ∷ []) waits c.now-told.ensures (λ made is allowed. ap (λ (l : List Entry). Now told ∷ l) is) in
-    subst (λ (s : ServiceState). Brings (g.W.World.tells c.args.world.now) (g.W.World.tells c.now-told.new.self) (HoldsNow config (after count) true s.slirp s.link) (AfterSleep SleptReady config (count + 1) wants ready c.tell_moment.new.self new)) c.self.view_is
-    (brings_allowed both (λ made is allowed past holds.
+    subst (λ (s : ServiceState). Brings (g.W.World.tells c.args.world.now) (g.W.World.tells c.now-told.new.self) (AttendsNow config (after count) true s.slirp s.link) (AttendsAfterSleep SleptReady config (count + 1) wants ready c.tell_moment.new.self new)) c.self.view_is
+    (brings_allowed both (λ made is allowed past now.
     let fine = subst AreAllowed is allowed in
-    subst (λ (m : List Entry). AfterSleep SleptReady config (count + 1) wants ready c.tell_moment.new.self new (m ++ past)) (sym is)
-    (subst (λ (s : SlirpState). HoldsNow config (standing (count + 1) wants ready) false s new (Now told ∷ Wait wants timeout Ready ready ∷ past)) (sym c.tell_moment.ensures)
-    (wait_wakes config count slirp slirp.flows link past wants timeout few none_again holds ready told new fine.1.0 fine.0 (same_under_way link new same.0 same.1) same.2 free))))
+    subst (λ (m : List Entry). AttendsAfterSleep SleptReady config (count + 1) wants ready c.tell_moment.new.self new (m ++ past)) (sym is) (
+      subst (λ (s : SlirpState). HoldsNow config (standing (count + 1) wants ready) false s new (Now told ∷ Wait wants timeout Ready ready ∷ past)) (sym c.tell_moment.ensures)
+          (wait_wakes config count slirp slirp.flows link past wants timeout few none_again now.0 ready told new fine.1.0 fine.0 (same_under_way link new same.0 same.1) same.2 free),
+      (tt, (attended_now config count past now.0, now.1)),
+    )))
 
 pub returns-in-Failed-clause-failed : goal.returns-in-Failed-clause-failed
 returns-in-Failed-clause-failed g c is = wait_rose _ _ _ (subst (λ (l : Listing). Answers (g.W.World.tells c.args.world.now) (g.W.World.tells c.wait.new.self) (Wait l.items c.pollfds_fill-timeout.result Failed c.wait.new.ready.items)) c.list.ensures c.in-Failed.ensures.answers).counted (some_failed wait_failed (Wait c.pollfds_fill-timeout.new.wants.items c.pollfds_fill-timeout.result Failed c.wait.new.ready.items) [] refl)

@@ -1,4 +1,4 @@
-use Rattle.std.proofs.Common.{◌∷◌, false, length, sym, ◌∙◌, ap, subst}
+use Rattle.std.proofs.Common.{◌∷◌, false, length, refl, sym, ◌∙◌, ap, subst}
 use Rattle.world_face.specs.Journal.{Now}
 use Rattle.world_face.specs.Tells.{Makes}
 use Rattle.world_face.proofs.Telling.{makes_as, makes_next}
@@ -8,9 +8,10 @@ use Rattle.slirp_core.specs.Holds.{after, Opens, holders_of}
 use Rattle.slirp_core.specs.State.{SlirpState}
 use Rattle.slirp_core.proofs.Starting.{started}
 use Rattle.serve_loop.specs.Served.{ServiceState}
+use Rattle.run_duties.specs.Duties.{Attentive}
 use Rattle.serve_loop.specs.Turns.{Closes, HoldsNow}
 use Rattle.serve_loop.specs.declared.service.End.TheVariants.{ListenRefused}
-use Rattle.serve_loop.proofs.Serving.{finishes, refused, reads_new}
+use Rattle.serve_loop.proofs.Serving.{finishes, none_refused, none_waited, refused, reads_new}
 use Rattle.serve_loop.proofs.service.Service.start.Goals as goal
 
 pub returns-in-Some-clause-makes : goal.returns-in-Some-clause-makes
@@ -20,8 +21,8 @@ returns-in-Some-clause-makes g c =
     let config = c.args.self.now.slirp.config in
     let place = c.in-Some.place in
     finishes config (ListenRefused place) i.slirp.forwards (holders_of i.slirp) _ _ _
-    (subst (λ (s : ServiceState). Makes (g.W.World.tells c.args.world.now) (g.W.World.tells c.listen.new.world) (Closes config (ListenRefused place) s.slirp.forwards (holders_of s.slirp))) (sym c.self.view_is)
-    (makes_as _ _ _ _ c.in-Some.ensures.makes (λ made closing. refused config place new.slirp new.link made closing)))
+    (subst (λ (s : ServiceState). Makes (g.W.World.tells c.args.world.now) (g.W.World.tells c.listen.new.world) (λ made. Closes config (ListenRefused place) s.slirp.forwards (holders_of s.slirp) made × Attentive config made)) (sym c.self.view_is)
+    (makes_as _ _ _ _ c.in-Some.ensures.makes (λ made closing. (refused config place new.slirp new.link made closing, none_refused config place new.slirp new.link made closing))))
     c.close_all.ensures.makes
 
 pub returns-clause-makes : goal.returns-clause-makes
@@ -29,10 +30,11 @@ returns-clause-makes g c =
     let i = c.self.inside in
     let config = c.args.self.now.slirp.config in
     let told = c.now-told.result in
-    makes_next _ _ _ _ _ _
+    makes_as _ _ _ _ (makes_next _ _ _ _ _ _
     (subst (λ (s : ServiceState). Makes (g.W.World.tells c.args.world.now) (g.W.World.tells c.listen.new.world) (Opens config (length config.forwards) s.slirp s.link)) (sym c.self.view_is) c.in_default.ensures.makes)
     c.now-told.ensures
-    (λ made opens allowed. subst (λ (s : SlirpState). HoldsNow config (after 0) false s i.link (Now told ∷ made)) (sym c.tell_moment.ensures) (started config i.slirp i.link told made allowed opens))
+    (λ made opens allowed. subst (λ (s : SlirpState). HoldsNow config (after 0) false s i.link (Now told ∷ made)) (sym c.tell_moment.ensures) (started config i.slirp i.link told made allowed opens)))
+    (λ made holds. (holds, none_waited config 0 false c.tell_moment.new.self i.link made refl holds))
 
 pub returns-clause-on : goal.returns-clause-on
 returns-clause-on g c = subst (λ (l : LinkState). ReadsOn (under_way l)) (sym c.in_default.ensures.link ∙ sym (ap (λ (s : ServiceState). s.link) c.self.view_is)) (reads_new c.args.self.now c.requires)

@@ -1,25 +1,26 @@
-use Rattle.std.proofs.Common.{◌+◌, false, subst}
+use Rattle.std.proofs.Common.{◌+◌, false, true, refl, subst}
 use Rattle.world_face.specs.Tells.{Brings}
-use Rattle.world_face.proofs.Telling.{brings_then}
+use Rattle.world_face.proofs.Telling.{brings_as, brings_then}
 use Rattle.slirp_core.specs.Holds.{after}
-use Rattle.serve_loop.specs.Turns.{AfterTurn, HoldsNow}
+use Rattle.serve_loop.specs.Turns.{AttendsAfterTaking, AttendsNow}
 use Rattle.serve_loop.specs.Served.{ServiceState}
-use Rattle.serve_loop.specs.declared.service.Turn.TheVariants.{Ended as TurnEnded}
+use Rattle.serve_loop.specs.declared.service.Turn.TheVariants.{Again, Ended as TurnEnded}
 use Rattle.slirp_core.proofs.Counted.{grown}
+use Rattle.serve_loop.proofs.Turning.{attends_on, taken}
 use Rattle.serve_loop.proofs.Counted.{counted_after, end_after}
 use Rattle.serve_loop.proofs.service.Service.take_turn.Goals as goal
 
 pub returns-in-Again-clause-makes : goal.returns-in-Again-clause-makes
 returns-in-Again-clause-makes g c config count few =
     let new = c.wake.new in
-    subst (λ (s : ServiceState). Brings (g.W.World.tells c.args.world.now) (g.W.World.tells new.world) (HoldsNow config (after count) false s.slirp s.link) (AfterTurn c.wake.result config (after (count + 1)) false new.self.slirp new.self.link)) c.self.view_is
-    (brings_then (c.tick.ensures.makes config count c.self.inside.link few) (brings_then (c.in-Again.ensures.makes config (after count)) (c.wake.ensures.makes config count few)))
+    subst (λ (s : ServiceState). Brings (g.W.World.tells c.args.world.now) (g.W.World.tells new.world) (AttendsNow config (after count) false s.slirp s.link) (AttendsAfterTaking c.wake.result config count new.self.slirp new.self.link)) c.self.view_is
+    (brings_then (attends_on Again config (after count) (after count) false true c.self.inside.slirp c.tick.new.self c.self.inside.link c.self.inside.link (g.W.World.tells c.args.world.now) (g.W.World.tells c.tick.new.world) refl (c.tick.ensures.makes config count c.self.inside.link few)) (brings_then (attends_on Again config (after count) (after count) true true c.tick.new.self c.send_all.new.self.slirp c.self.inside.link c.send_all.new.self.link (g.W.World.tells c.tick.new.world) (g.W.World.tells c.send_all.new.world) refl (c.in-Again.ensures.makes config (after count))) (brings_as (c.wake.ensures.makes config count few) (λ past now. taken c.wake.result config count new.self.slirp new.self.link past now))))
 
 pub returns-in-Ended-clause-makes : goal.returns-in-Ended-clause-makes
 returns-in-Ended-clause-makes g c config count few =
     let new = c.send_all.new in
-    subst (λ (s : ServiceState). Brings (g.W.World.tells c.args.world.now) (g.W.World.tells new.world) (HoldsNow config (after count) false s.slirp s.link) (AfterTurn (TurnEnded c.in-Ended.end) config (after (count + 1)) false new.self.slirp new.self.link)) c.self.view_is
-    (brings_then (c.tick.ensures.makes config count c.self.inside.link few) (c.in-Ended.ensures.makes config (after count)))
+    subst (λ (s : ServiceState). Brings (g.W.World.tells c.args.world.now) (g.W.World.tells new.world) (AttendsNow config (after count) false s.slirp s.link) (AttendsAfterTaking (TurnEnded c.in-Ended.end) config count new.self.slirp new.self.link)) c.self.view_is
+    (brings_then (attends_on Again config (after count) (after count) false true c.self.inside.slirp c.tick.new.self c.self.inside.link c.self.inside.link (g.W.World.tells c.args.world.now) (g.W.World.tells c.tick.new.world) refl (c.tick.ensures.makes config count c.self.inside.link few)) (brings_as (attends_on (TurnEnded c.in-Ended.end) config (after count) (after count) true true c.tick.new.self c.send_all.new.self.slirp c.self.inside.link c.send_all.new.self.link (g.W.World.tells c.tick.new.world) (g.W.World.tells c.send_all.new.world) refl (c.in-Ended.ensures.makes config (after count))) (λ past ended. ((count, ended.0), ended.1))))
 
 pub returns-in-Again-clause-faults : goal.returns-in-Again-clause-faults
 returns-in-Again-clause-faults g c =
@@ -31,3 +32,6 @@ pub returns-in-Ended-clause-faults : goal.returns-in-Ended-clause-faults
 returns-in-Ended-clause-faults g c =
     let ticked = grown _ _ _ c.tick.ensures.rising.counted in
     end_after c.in-Ended.end (g.W.World.tells c.args.world.now).faults (g.W.World.tells c.tick.new.world).faults (g.W.World.tells c.send_all.new.world).faults ticked c.in-Ended.ensures.faults
+
+pub wake-requires-clause-young : goal.wake-requires-clause-young
+wake-requires-clause-young g c = c.in-Again.ensures.young (c.tick.ensures.none, c.tick.ensures.unasked)

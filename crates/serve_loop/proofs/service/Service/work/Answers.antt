@@ -40,7 +40,7 @@ returns-in-Ended-clause-makes g c config count =
     let served = subst (λ (w : List Want). Brings (g.W.World.tells old.world) (g.W.World.tells c.attend.new.world) (HoldsNow config (standing count w (c.item-item.result ∷ rest)) false old.self.slirp old.self.link) (AfterTurn (Ended c.in-Ended.end) config (standing count w rest) false c.attend.new.self.slirp c.attend.new.self.link)) old.invariant.reports.0
     (c.in-Ended.ensures.makes config count rest (λ is. subst (λ (w : List Want). reads TheLink w ≡ true) (sym old.invariant.reports.0) (old.invariant.reads is))) in
     let before = subst (λ (l : List Want). Brings (g.W.World.tells c.args.world.now) (g.W.World.tells old.world) (HoldsNow config (standing count wants c.args.self.now.ready) false c.args.self.now.slirp c.args.self.now.link) (HoldsNow config (standing count wants l) false old.self.slirp old.self.link)) next (old.invariant.makes config count) in
-    brings_as (brings_then before served) (λ past ended. ended_left (c.in-Ended.end) config (standing count wants rest) (after count) false false c.attend.new.self.slirp c.attend.new.self.link past ended)
+    brings_as (brings_then before served) (λ past ended. ended_left (c.in-Ended.end) config count wants rest false false c.attend.new.self.slirp c.attend.new.self.link past ended)
 
 pub returns-in-Ended-clause-faults : goal.returns-in-Ended-clause-faults
 returns-in-Ended-clause-faults g c =

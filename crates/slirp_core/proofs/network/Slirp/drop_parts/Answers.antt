@@ -4,4 +4,4 @@ use Rattle.slirp_core.specs.State.{SlirpState}
 use Rattle.slirp_core.proofs.network.Slirp.drop_parts.Goals as goal
 
 pub returns-clause-parts : goal.returns-clause-parts
-returns-clause-parts c = drops_old c.self.inside.moment c.self.inside.reasm c.tick.new.self c.args.self.now (ap (λ (s : SlirpState). s.moment) c.self.view_is) (ap (λ (s : SlirpState). s.parts) c.self.view_is) c.tick.ensures
+returns-clause-parts c = drops_old c.self.inside.moment c.self.inside.reasm c.tick.new.self c.args.self.now (ap (λ (s : SlirpState). s.moment) c.self.view_is) (ap (λ (s : SlirpState). s.parts) c.self.view_is) c.tick.ensures.sets

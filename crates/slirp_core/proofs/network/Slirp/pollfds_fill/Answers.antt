@@ -1,7 +1,12 @@
-use Rattle.std.proofs.Common.{Bool, Option, ℕ, length, ◌∙◌, ap, subst, arith}
+use Rattle.std.proofs.Common.{Bool, List, None, Option, ℕ, length, ◌∙◌, ap, subst, arith}
 use Rattle.std.specs.List.Sorted.{IsPermutation}
 use Rattle.dns_relay.specs.Questions.{numbers as question_numbers}
+use Rattle.poll_list.specs.declared.Want.{Want}
+use Rattle.world_face.specs.Journal.{Entry}
+use Rattle.host_policy.specs.Addresses.{Config}
+use Rattle.spliced_flows.specs.Core.{CoreHolds}
 use Rattle.tcp_flows.specs.Reading.{AreWantsOf}
+use Rattle.tcp_flows.specs.Waits.{AreWaitedFor}
 use Rattle.udp_assoc.specs.Associations.{numbers}
 use Rattle.slirp_core.specs.Holds.{carriers, holders_of}
 use Rattle.slirp_core.specs.Pumps.{merged, time_left}
@@ -52,3 +57,8 @@ fill-requires-clause-few c =
     let few = c.listeners.ensures.few in
     let over = ap length c.ports_over.ensures.items in
     omega (arith, all, most, few, over)
+
+pub returns-clause-waited_for : goal.returns-clause-waited_for
+returns-clause-waited_for c =
+    subst (λ (s : SlirpState). (config : Config) (before : ℕ) (aged : Bool) (past : List Entry) (added : List Want) → CoreHolds config before aged None s.flows.flows past → AreWantsOf s.flows.flows.parts added → AreWaitedFor config past added) c.self.view_is
+    c.fill.ensures.waited_for

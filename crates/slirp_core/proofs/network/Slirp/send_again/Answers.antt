@@ -89,3 +89,6 @@ returns-clause-none c ended none =
     ap (next_again i.moment) transfers
     ∙ none_by i.policy i.sent i.moment i.files.transfers (next_again i.moment i.files.transfers) pending
     (λ said is. said_fits i.files.vhost c.next_again-reply.result room said c.next_again-reply.ensures.from (c.next_again-reply.ensures.says ∙ is)) refl owed none
+
+pub returns-clause-still : goal.returns-clause-still
+returns-clause-still c is = none_of c.put_packet.new.outgoing (sym c.pending-2.ensures ∙ is) ∙ sym (none_of c.args.self.now.pending (sym c.pending.ensures ∙ c.if-pending.false))

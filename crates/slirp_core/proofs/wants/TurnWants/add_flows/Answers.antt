@@ -17,3 +17,6 @@ invariant_of-self c =
       λ is. ap (take i.before) added.1 ∙ take-append-le i.before items added.0 most ∙ c.self.invariant.3 is,
       more_in_parts i.front i.before items added.0 c.put_flows.new.wants.items c.args.flows.now.flows.parts c.self.invariant.4 added.1 added.2,
     )
+
+pub returns-clause-waited_for : goal.returns-clause-waited_for
+returns-clause-waited_for c = c.put_flows.ensures.waited_for

@@ -8,3 +8,6 @@ pub returns-clause-once : goal.returns-clause-once
 returns-clause-once c =
     let added = c.add_flows.ensures.items in
     subst TcpOnce (sym (added.1 ∙ ap (λ l. l ++ added.0) c.fill_before.ensures.items)) (all_once c.args.read c.args.write c.args.listeners.now (sockets_of c.args.carriers) added.0 added.2.rising)
+
+pub returns-clause-waited_for : goal.returns-clause-waited_for
+returns-clause-waited_for c = c.add_flows.ensures.waited_for

@@ -1,0 +1,414 @@
+-- What the core waits for is all that can be taken, and where the link isn't blocked all that is owed is out.
+use Rattle.std.proofs.Common.{◌≡◌, ◌≢◌, ℕ, zero, suc, ◌+◌, ◌<◌, ◌≤◌, ◌==◌, ◌&&◌, ◌||◌, not, nat_lt, Bool, true, false, is_some, List, [], ◌∷◌, ◌++◌, All, filter, length, map, slice_get, IsPermutation, Option, None, Some, option_map, inl, inr, ◌⊎◌, refl, sym, ap, ◌∙◌, subst, arith, if◌then◌else◌}
+use Rattle.std.proofs.lemmas.Bool.Decides.{nat_tests}
+use Rattle.std.proofs.lemmas.List.Sorted.{list_any-IsPermutation}
+use Rattle.std.proofs.lemmas.Map.Keys.{IsDistinct-IsPermutation}
+use Rattle.std.specs.List.{AllByRecursion, IsDistinct, list_any}
+use Rattle.std.specs.List.Sorted.{IsNonDecreasing}
+use Rattle.poll_list.specs.declared.Want.{Want}
+use Rattle.world_face.specs.Journal.{Entry}
+use Rattle.host_policy.specs.Addresses.{Config}
+use Rattle.host_policy.specs.Ranges.{same_proto}
+use Rattle.host_policy.specs.declared.Forward.{Forward}
+use Rattle.host_policy.specs.declared.Proto.{Proto}
+use Rattle.host_policy.specs.declared.Proto.TheVariants.{Tcp, Udp}
+use Rattle.port_forward.specs.Opened.{Opened}
+use Rattle.udp_assoc.specs.Associations.{is_over as is_idle_association, numbers}
+use Rattle.dns_relay.specs.Questions.{is_over as is_idle_question, numbers as question_numbers}
+use Rattle.tftp_server.specs.Transfers.{Said, Transfer, next_again, said_again}
+use Rattle.tftp_server.proofs.Turning.{next_left}
+use Rattle.flow_book.specs.Book.{book}
+use Rattle.flow_book.specs.Flows.{used}
+use Rattle.core_flows.specs.Seats.{in_use_slots}
+use Rattle.run_laws.specs.Sockets.{Kind, Association, DnsSocket, Forward as OfForward, Listener, Flow, is_among, is_association, is_forward, is_listener, kind_of, open_sockets}
+use Rattle.slirp_laws.specs.Answers.{is_out, left, may_go_again, or_begun, serving}
+use Rattle.slirp_laws.specs.Datagrams.{Settled}
+use Rattle.slirp_laws.specs.Laws.{carries, is_all_out, is_nothing, takes_peers}
+use Rattle.slirp_laws.specs.Names.{questions}
+use Rattle.slirp_laws.specs.Ports.{last_use}
+use Rattle.slirp_laws.specs.Questions.{is_for_question}
+use Rattle.slirp_laws.specs.Relayed.{associations}
+use Rattle.slirp_laws.specs.Said.{AllUsedAfter, AreByLastUse}
+use Rattle.slirp_laws.proofs.Bools.{equal, same}
+use Rattle.slirp_laws.proofs.Finding.{rising as rising_use}
+use Rattle.slirp_laws.proofs.Joining.{joined}
+use Rattle.slirp_laws.proofs.KeptFiles.{now_is}
+use Rattle.slirp_laws.proofs.Waiting.{are_waiting}
+use Rattle.stream_netdev.specs.State.{LinkState}
+use Rattle.spliced_flows.specs.Core.{number_of}
+use Rattle.spliced_flows.proofs.Options.{true_false}
+use Rattle.tcp_flows.specs.Kept.{Kept}
+use Rattle.tcp_flows.specs.Reading.{AreAbove, AreRising, AreWantsOf}
+use Rattle.tcp_flows.specs.Waits.{AreWaitedFor}
+use Rattle.flow_splice.specs.Splice.{Splice}
+use Rattle.flow_laws.specs.Dutiful.{AreAhead}
+use Rattle.run_duties.proofs.Lives.{lives_ahead}
+use Rattle.run_duties.proofs.Waited.{all_ahead}
+use Rattle.run_duties.specs.Duties.{MustAttend}
+use Rattle.run_duties.specs.Times.{lives}
+use Rattle.run_duties.specs.Waiting.{WaitsFor, is_all_sent, is_for_datagrams, takes_datagrams}
+use Rattle.waiting_flows.proofs.Listing.{AreOfFlows, AreOver, AreOverBy, DoRise, DoRiseBy, all_waited_for, of_flows}
+use Rattle.slirp_core.specs.Forwards.{forward_sockets, given, is_over, sockets_over, with_numbers}
+use Rattle.slirp_core.specs.Holds.{Flowing, Holds, Standing, carriers, flowing, holders_of}
+use Rattle.slirp_core.specs.Owed.{IsOwed, OfFile, OfLeft}
+use Rattle.slirp_core.specs.Pumps.{WantsOf, is_settled, listeners_of}
+use Rattle.slirp_core.specs.State.{SlirpState}
+use Rattle.slirp_core.proofs.Given.{HasGiven, among_given, given_kind}
+use Rattle.slirp_core.proofs.Merging.{AtLeast, Climbs, climbs}
+use Rattle.slirp_core.proofs.Names.{IsKnown, among_both, known_of, two_apart}
+use Rattle.slirp_core.proofs.Open.{are_open}
+use Rattle.slirp_core.proofs.Parts.{carried_by, given_in}
+
+-- ---- what is left
+
+nothing_is : (octets : List ℕ) → is_nothing octets ≡ (length octets == 0)
+nothing_is [] = refl
+nothing_is (x ∷ octets) = grind (arith, nat_tests)
+
+none_and : (a : Bool) → (a && false) ≡ false
+none_and true = refl
+none_and false = refl
+
+all_and : (a : Bool) → ((a && true) && true) ≡ (a && true)
+all_and true = refl
+all_and false = refl
+
+cut : (a b : Bool) → ((a && false) && b) ≡ (a && false)
+cut true b = refl
+cut false b = refl
+
+module _ (config : Config) (slirp : SlirpState) (link : LinkState) (past : List Entry) (at : (serving config past).now ≡ slirp.moment) (none_again : slirp.pending ≡ [] → next_again slirp.moment slirp.transfers ≡ None) where
+  abbrev more : Option Said
+  more = may_go_again (serving config past)
+
+  abbrev tail_is : Bool
+  tail_is = length link.tail == 0
+
+  by_left : (frames : List (List ℕ)) → slirp.pending ≡ frames → OfLeft config true slirp past → (tail_is && is_out (left config past)) && not (is_some more) ≡ (tail_is && not (nat_lt 0 (length slirp.pending)))
+  by_left [] is l =
+      let nothing : next_again (serving config past).now (serving config past).files.transfers ≡ None =
+      sym (next_left (serving config past).now (serving config past).files.transfers) ∙ (λ i. next_again (at i) (sym l.files i)) ∙ none_again is in
+      let none : more ≡ None = (λ i. or_begun (l.again i) (option_map said_again (nothing i))) in
+      (λ i. (tail_is && is_out ((l.left ∙ is) i)) && not (is_some (none i))) ∙ all_and tail_is ∙ ap (λ (frames : List (List ℕ)). tail_is && not (nat_lt 0 (length frames))) (sym is)
+  by_left (frame ∷ frames) is l =
+      let some : not (nat_lt 0 (length (frame ∷ frames))) ≡ false = grind (arith, nat_tests) in
+      ap (λ (fs : List (List ℕ)). (tail_is && is_out fs) && not (is_some more)) (l.left ∙ is) ∙ cut tail_is (not (is_some more)) ∙ sym (ap (λ (fs : List (List ℕ)). tail_is && not (nat_lt 0 (length fs))) is ∙ ap (λ b. tail_is && b) some)
+
+  by_file : OfFile config true slirp past → (tail_is && is_out (left config past)) && not (is_some more) ≡ (tail_is && not (nat_lt 0 (length slirp.pending)))
+  by_file f =
+      let few : not (nat_lt 0 (length slirp.pending)) ≡ false = let some = f.some in grind (arith, nat_tests, some) in
+      ap (λ o. (tail_is && is_out (left config past)) && not (is_some o)) f.may ∙ none_and (tail_is && is_out (left config past)) ∙ sym (none_and tail_is) ∙ sym (ap (λ b. tail_is && b) few)
+
+  by_owed : IsOwed config true slirp past → (tail_is && is_out (left config past)) && not (is_some more) ≡ (tail_is && not (nat_lt 0 (length slirp.pending)))
+  by_owed (inl l) = by_left slirp.pending refl l
+  by_owed (inr f) = by_file f
+
+-- ---- numbers that differ, and rise
+
+abbrev same_number : ℕ → ℕ → Bool
+same_number a b = a == b
+
+used_apart : (past : List Entry) (n : ℕ) (ns : List ℕ) → AllUsedAfter past n ns → AllByRecursion (λ m. same_number n m ≡ false) ns
+used_apart past n [] is = tt
+used_apart past n (m ∷ ns) is = (by (n == m) refl, used_apart past n ns is.1)
+  where
+    by : (b : Bool) → (n == m) ≡ b → b ≡ false
+    by true here = let one = ap (λ k. last_use k past) (equal n m here) in let later = is.0 in absurd (omega (arith, one, later))
+    by false other = refl
+
+used_differ : (past : List Entry) (ns : List ℕ) → AreByLastUse past ns → IsDistinct same_number ns
+unfolding IsDistinct
+used_differ past [] is = tt
+used_differ past (n ∷ ns) is = (used_apart past n ns is.0, used_differ past ns is.1)
+
+none_of : (n : ℕ) (ns : List ℕ) → is_among n ns ≡ false → AllByRecursion (λ m. same_number n m ≡ false) ns
+none_of n [] is = tt
+none_of n (m ∷ ns) is = by (n == m) refl is (none_of n ns)
+  where
+    by : (b : Bool) → (n == m) ≡ b → (b || is_among n ns) ≡ false → (is_among n ns ≡ false → AllByRecursion (λ k. same_number n k ≡ false) ns) → (same_number n m ≡ false) × AllByRecursion (λ k. same_number n k ≡ false) ns
+    by true here one rest = cc
+    by false other one rest = (other, rest one)
+
+all_of_both : (P : ℕ → Type 0) (xs ys : List ℕ) → AllByRecursion P xs → AllByRecursion P ys → AllByRecursion P (xs ++ ys)
+all_of_both P [] ys one two = two
+all_of_both P (x ∷ xs) ys one two = (one.0, all_of_both P xs ys one.1 two)
+
+at_front : (n : ℕ) (ns : List ℕ) → is_among n (n ∷ ns) ≡ true
+at_front n ns = ap (λ b. b || is_among n ns) (same n)
+
+behind_it : (n m : ℕ) (ns : List ℕ) → is_among n ns ≡ true → is_among n (m ∷ ns) ≡ true
+behind_it n m ns is = by (n == m)
+  where
+    by : (b : Bool) → (b || is_among n ns) ≡ true
+    by true = refl
+    by false = is
+
+differ_both : (xs ys : List ℕ) → IsDistinct same_number xs → IsDistinct same_number ys → ((n : ℕ) → is_among n xs ≡ true → is_among n ys ≡ false) → IsDistinct same_number (xs ++ ys)
+unfolding IsDistinct
+differ_both [] ys one two apart = two
+differ_both (x ∷ xs) ys one two apart = (
+  all_of_both (λ m. same_number x m ≡ false) xs ys one.0 (none_of x ys (apart x (at_front x xs))),
+  differ_both xs ys one.1 two (λ n among. apart n (behind_it n x xs among)),
+)
+
+flips : (a b : ℕ) → same_number a b ≡ same_number b a
+flips a b = by (a == b) (b == a) refl refl
+  where
+    by : (s t : Bool) → (a == b) ≡ s → (b == a) ≡ t → s ≡ t
+    by true true one two = refl
+    by false false one two = refl
+    by true false one two = absurd (true_false (sym (ap (λ x. x == a) (sym (equal a b one)) ∙ same a) ∙ two))
+    by false true one two = absurd (true_false (sym (ap (λ x. x == b) (sym (equal b a two)) ∙ same b) ∙ one))
+
+over_all : (n : ℕ) (ns : List ℕ) → AtLeast n ns → AllByRecursion (λ m. same_number n m ≡ false) ns → AreOver n ns
+over_all n [] least apart = tt
+over_all n (m ∷ ns) least apart = ((let low = least.0 in let other = apart.0 in grind (arith, nat_tests, low, other)), over_all n ns least.1 apart.1)
+
+rise_of : (ns : List ℕ) → Climbs ns → IsDistinct same_number ns → DoRise ns
+unfolding IsDistinct
+rise_of [] climb apart = tt
+rise_of (n ∷ ns) climb apart = (over_all n ns climb.0 apart.0, rise_of ns climb.1 apart.1)
+
+over_by : (n : ℕ) (ns : List ℕ) → ((m : ℕ) → is_among m ns ≡ true → n < m) → AreOver n ns
+over_by n [] each = tt
+over_by n (m ∷ ns) each = (each m (at_front m ns), over_by n ns (λ k among. each k (behind_it k m ns among)))
+
+over_both : (n : ℕ) (xs ys : List ℕ) → AreOver n xs → AreOver n ys → AreOver n (xs ++ ys)
+over_both n [] ys one two = two
+over_both n (x ∷ xs) ys one two = (one.0, over_both n xs ys one.1 two)
+
+rise_both : (xs ys : List ℕ) → DoRise xs → DoRise ys → ((n m : ℕ) → is_among n xs ≡ true → is_among m ys ≡ true → n < m) → DoRise (xs ++ ys)
+rise_both [] ys one two first = two
+rise_both (x ∷ xs) ys one two first = (
+  over_both x xs ys one.0 (over_by x ys (λ m among. first x m (at_front x xs) among)),
+  rise_both xs ys one.1 two (λ n m among. first n m (behind_it n x xs among)),
+)
+
+any_is : (n : ℕ) (ns : List ℕ) → is_among n ns ≡ list_any (λ m. n == m) ns
+any_is n [] = refl
+any_is n (m ∷ ns) = ap (λ b. (n == m) || b) (any_is n ns)
+
+among_moved : (n : ℕ) (xs ys : List ℕ) → IsPermutation xs ys → is_among n xs ≡ is_among n ys
+among_moved n xs ys moved = any_is n xs ∙ list_any-IsPermutation (λ m. n == m) xs ys moved ∙ sym (any_is n ys)
+
+-- ---- ports of the host that are given to guests
+
+over_given : (p : Proto) (fs : List Forward) (n k : ℕ) → n < k → AreOver n (sockets_over p (with_numbers k fs))
+over_given p [] n k less = tt
+over_given p (f ∷ fs) n k less = by (same_proto p f.proto) (over_given p fs n (k + 1) (omega (arith, less)))
+  where
+    by : (b : Bool) → AreOver n (sockets_over p (with_numbers (k + 1) fs)) → AreOver n (forward_sockets (if b then (f, k) ∷ filter (is_over p) (with_numbers (k + 1) fs) else filter (is_over p) (with_numbers (k + 1) fs)))
+    by true rest = (less, rest)
+    by false rest = rest
+
+rise_given : (p : Proto) (fs : List Forward) (k : ℕ) → DoRise (sockets_over p (with_numbers k fs))
+rise_given p [] k = tt
+rise_given p (f ∷ fs) k = by (same_proto p f.proto) (rise_given p fs (k + 1))
+  where
+    by : (b : Bool) → DoRise (sockets_over p (with_numbers (k + 1) fs)) → DoRise (forward_sockets (if b then (f, k) ∷ filter (is_over p) (with_numbers (k + 1) fs) else filter (is_over p) (with_numbers (k + 1) fs)))
+    by true rest = (over_given p fs k (k + 1) (omega arith), rest)
+    by false rest = rest
+
+-- the number of a place is among those of a protocol where the forward at that place is of it
+abbrev is_at : Proto → Option Forward → Bool
+is_at p None = false
+is_at p (Some f) = same_proto p f.proto
+
+not_over : (n : ℕ) (ns : List ℕ) → AreOver n ns → is_among n ns ≡ false
+not_over n [] over = refl
+not_over n (m ∷ ns) over = by (n == m) refl (not_over n ns over.1)
+  where
+    by : (b : Bool) → (n == m) ≡ b → is_among n ns ≡ false → (b || is_among n ns) ≡ false
+    by true here rest = let it = equal n m here in let less = over.0 in absurd (omega (arith, it, less))
+    by false other rest = rest
+
+among_over : (p : Proto) (fs : List Forward) (n k : ℕ) → is_among (k + n) (sockets_over p (with_numbers k fs)) ≡ is_at p (slice_get fs n)
+among_over p [] n k = refl
+among_over p (f ∷ fs) zero k = by (same_proto p f.proto)
+  where
+    here : k + 0 ≡ k
+    here = omega arith
+
+    by : (b : Bool) → is_among (k + 0) (forward_sockets (if b then (f, k) ∷ filter (is_over p) (with_numbers (k + 1) fs) else filter (is_over p) (with_numbers (k + 1) fs))) ≡ b
+    by true = ap (λ b. b || is_among (k + 0) (sockets_over p (with_numbers (k + 1) fs))) (ap (λ x. x == k) here ∙ same k)
+    by false = not_over (k + 0) (sockets_over p (with_numbers (k + 1) fs)) (over_given p fs (k + 0) (k + 1) (omega arith))
+among_over p (f ∷ fs) (suc n) k = by (same_proto p f.proto) ∙ subst (λ m. is_among m (sockets_over p (with_numbers (k + 1) fs)) ≡ is_at p (slice_get fs n)) next (among_over p fs n (k + 1))
+  where
+    next : (k + 1) + n ≡ k + suc n
+    next = omega arith
+
+    by : (b : Bool) → is_among (k + suc n) (forward_sockets (if b then (f, k) ∷ filter (is_over p) (with_numbers (k + 1) fs) else filter (is_over p) (with_numbers (k + 1) fs))) ≡ is_among (k + suc n) (sockets_over p (with_numbers (k + 1) fs))
+    by true = let other : ((k + suc n) == k) ≡ false = grind (arith, nat_tests) in ap (λ b. b || is_among (k + suc n) (sockets_over p (with_numbers (k + 1) fs))) other
+    by false = refl
+
+among_given_over : (p : Proto) (fs : List Forward) (n : ℕ) → is_among n (sockets_over p (with_numbers 0 fs)) ≡ is_at p (slice_get fs n)
+among_given_over p fs n = let it : 0 + n ≡ n = omega arith in subst (λ m. is_among m (sockets_over p (with_numbers 0 fs)) ≡ is_at p (slice_get fs n)) it (among_over p fs n 0)
+
+-- those of a protocol are among all
+among_all : (p : Proto) (os : List Opened) (n : ℕ) → is_among n (sockets_over p os) ≡ true → is_among n (forward_sockets os) ≡ true
+among_all p [] n is = cc
+among_all p ((f, k) ∷ os) n is = by (same_proto p f.proto) is (among_all p os n)
+  where
+    by : (b : Bool) → is_among n (forward_sockets (if b then (f, k) ∷ filter (is_over p) os else filter (is_over p) os)) ≡ true → (is_among n (sockets_over p os) ≡ true → is_among n (forward_sockets os) ≡ true)
+        → ((n == k) || is_among n (forward_sockets os)) ≡ true
+    by false one rest = behind_it n k (forward_sockets os) (rest one)
+    by true one rest = head (n == k) one rest
+      where
+        head : (t : Bool) → (t || is_among n (sockets_over p os)) ≡ true → (is_among n (sockets_over p os) ≡ true → is_among n (forward_sockets os) ≡ true) → (t || is_among n (forward_sockets os)) ≡ true
+        head true two others = refl
+        head false two others = others two
+
+within : (fs : List Forward) (n : ℕ) (f : Forward) → slice_get fs n ≡ Some f → n < length fs
+within [] n f at = cc
+within (x ∷ fs) zero f at = omega arith
+within (x ∷ fs) (suc n) f at = let less = within fs n f at in omega (arith, less)
+
+beyond : (fs : List Forward) (n : ℕ) → slice_get fs n ≡ None → length fs ≤ n
+beyond [] n at = omega arith
+beyond (x ∷ fs) zero at = cc
+beyond (x ∷ fs) (suc n) at = let more = beyond fs n at in omega (arith, more)
+
+-- ---- what flows wait for
+
+above_by : (n : ℕ) (wants : List Want) → AreAbove n wants → AreOverBy n wants
+above_by n [] are = tt
+above_by n (w ∷ wants) are = (are.0, above_by n wants are.1)
+
+rise_by : (wants : List Want) → AreRising wants → DoRiseBy wants
+rise_by [] are = tt
+rise_by (w ∷ wants) are = ((λ m is. above_by m wants (are.0 m is)), rise_by wants are.1)
+
+each_of_flows : (parts : List (Option Splice)) (wants : List Want) → AreWantsOf parts wants → AreOfFlows wants
+each_of_flows parts wants are = of_flows wants (λ w has. let one = are.only w has in (number_of one.1, ap (λ (v : Want). v.of) one.4))
+
+-- ---- all together
+
+is_given_kind : (k : Option Kind) → is_forward k ≡ true → (is_listener k || is_forward k) ≡ true
+is_given_kind None is = cc
+is_given_kind (Some Association) is = cc
+is_given_kind (Some DnsSocket) is = cc
+is_given_kind (Some OfForward) is = refl
+is_given_kind (Some Listener) is = cc
+is_given_kind (Some Flow) is = cc
+
+is_listening_kind : (k : Option Kind) → is_listener k ≡ true → (is_listener k || is_forward k) ≡ true
+is_listening_kind k is = ap (λ b. b || is_forward k) is
+
+two_kinds : (a : Bool) (k : Option Kind) → is_for_question k ≡ false → (a && is_for_datagrams k) ≡ ((a && is_forward k) || (a && is_association k))
+two_kinds false k other = refl
+two_kinds true None other = refl
+two_kinds true (Some Association) other = refl
+two_kinds true (Some DnsSocket) other = cc
+two_kinds true (Some OfForward) other = refl
+two_kinds true (Some Listener) other = refl
+two_kinds true (Some Flow) other = refl
+
+-- the number of a socket doesn't tell that it is a question's
+unquestioned : (config : Config) (n : ℕ) (past : List Entry) → IsKnown config n past → is_for_question (kind_of n past) ≡ false
+unquestioned config n past (inl (is, none)) = none
+unquestioned config n past (inr (is, was)) = ap is_for_question was
+
+module _ (config : Config) (at : Standing) (slirp : SlirpState) (f : Flowing) (link : LinkState) (past : List Entry) (holds : Holds config at slirp f link past) where
+  abbrev has : HasGiven config (length config.forwards) past
+  has = given_in config at Settled None slirp f link past holds
+
+  -- a port of the host with this protocol is open where the settings have it
+  module _ (p : Proto) (test : Option Kind → Bool) (tells : (q : Proto) → test (Some (given_kind q)) ≡ same_proto p q) (only : (k : Option Kind) → test k ≡ true → (is_listener k || is_forward k) ≡ true) where
+    at_place : (n : ℕ) (o : Option Forward) → slice_get config.forwards n ≡ o → (is_among n (open_sockets past) && test (kind_of n past)) ≡ is_at p o
+    at_place n None none = by (is_among n (open_sockets past)) (test (kind_of n past)) refl refl
+      where
+        by : (a b : Bool) → is_among n (open_sockets past) ≡ a → test (kind_of n past) ≡ b → (a && b) ≡ false
+        by true true open_yet listens =
+            let less = has.others n open_yet (only (kind_of n past) listens) in let most = beyond config.forwards n none in absurd (omega (arith, less, most))
+        by true false open_yet listens = refl
+        by false b open_yet listens = refl
+    at_place n (Some g) here =
+        let less = within config.forwards n g here in
+        ap (λ b. b && test (kind_of n past)) (has.stay holds.open_yet n less) ∙ ap test (has.kinds n g less here) ∙ tells g.proto
+
+    port_open : (n : ℕ) → (is_among n (open_sockets past) && test (kind_of n past)) ≡ is_among n (sockets_over p slirp.forwards)
+    port_open n = at_place n (slice_get config.forwards n) refl ∙ sym (among_given_over p config.forwards n) ∙ ap (λ l. is_among n (sockets_over p l)) (sym holds.forwards)
+
+  for_datagrams : (n : ℕ) → (is_among n (open_sockets past) && is_forward (kind_of n past)) ≡ is_among n (sockets_over Udp slirp.forwards)
+  for_datagrams = port_open Udp is_forward tells is_given_kind
+    where
+      tells : (q : Proto) → is_forward (Some (given_kind q)) ≡ same_proto Udp q
+      tells Tcp = refl
+      tells Udp = refl
+
+  for_peers : (n : ℕ) → (is_among n (open_sockets past) && is_listener (kind_of n past)) ≡ is_among n (sockets_over Tcp slirp.forwards)
+  for_peers = port_open Tcp is_listener tells is_listening_kind
+    where
+      tells : (q : Proto) → is_listener (Some (given_kind q)) ≡ same_proto Tcp q
+      tells Tcp = refl
+      tells Udp = refl
+
+  sockets_are : (sockets : List ℕ) → IsPermutation (carriers (holders_of slirp)) sockets → (n : ℕ) → takes_datagrams past n ≡ is_among n (sockets_over Udp slirp.forwards ++ sockets)
+  sockets_are sockets moved n =
+      two_kinds (is_among n (open_sockets past)) (kind_of n past) (unquestioned config n past (known_of config past holds.lawful n))
+      ∙ (λ i. for_datagrams n i || (carried_by config at Settled None slirp f link past holds n ∙ among_moved n (carriers (holders_of slirp)) sockets moved) i)
+      ∙ sym (among_both n (sockets_over Udp slirp.forwards) sockets)
+
+  room_is : nat_lt (used (book config past).flows) config.flows ≡ nat_lt (in_use_slots f.kept.flows.table.slots) (length f.kept.flows.table.slots)
+  room_is = λ i. nat_lt (holds.flows.holds.seats.counted i) (sym holds.flows.holds.slots i)
+
+  listeners_are : f.kept ≡ slirp.flows → (n : ℕ) → takes_peers config past n ≡ is_among n (listeners_of slirp)
+  listeners_are same_flows n =
+      and_assoc_by (is_among n (open_sockets past)) (is_listener (kind_of n past)) (nat_lt (used (book config past).flows) config.flows)
+      ∙ (λ i. for_peers n i && (room_is ∙ ap (λ (k : Kept). nat_lt (in_use_slots k.flows.table.slots) (length k.flows.table.slots)) same_flows) i)
+      ∙ by (nat_lt (in_use_slots slirp.flows.flows.table.slots) (length slirp.flows.flows.table.slots))
+    where
+      and_assoc_by : (a b c : Bool) → (a && b && c) ≡ ((a && b) && c)
+      and_assoc_by true b c = refl
+      and_assoc_by false b c = refl
+
+      by : (b : Bool) → (is_among n (sockets_over Tcp slirp.forwards) && b) ≡ is_among n (if b then sockets_over Tcp slirp.forwards else [])
+      by true = all_true (is_among n (sockets_over Tcp slirp.forwards))
+        where
+          all_true : (c : Bool) → (c && true) ≡ c
+          all_true true = refl
+          all_true false = refl
+      by false = none_and (is_among n (sockets_over Tcp slirp.forwards))
+
+  -- each row of sockets rises
+  rise_sockets : (sockets : List ℕ) → IsPermutation (carriers (holders_of slirp)) sockets → IsNonDecreasing sockets → DoRise (sockets_over Udp slirp.forwards ++ sockets)
+  rise_sockets sockets moved rising =
+      rise_both (sockets_over Udp slirp.forwards) sockets
+      (subst (λ l. DoRise (sockets_over Udp l)) (sym holds.forwards) (rise_given Udp config.forwards 0))
+      (rise_of sockets (climbs sockets rising) (IsDistinct-IsPermutation same_number flips (carriers (holders_of slirp)) sockets moved all_differ))
+      (λ n m one other. (are_open config at Settled None slirp f link past holds).first n m (among_all Udp slirp.forwards n one) (inl (among_moved m (carriers (holders_of slirp)) sockets moved ∙ other)))
+    where
+      all_differ : IsDistinct same_number (carriers (holders_of slirp))
+      all_differ =
+          subst (λ l. IsDistinct same_number (l ++ question_numbers slirp.questions)) (ap numbers holds.relayed.list)
+          (subst (λ l. IsDistinct same_number (numbers (associations config past) ++ question_numbers l)) holds.relayed.questions
+          (differ_both (numbers (associations config past)) (question_numbers (questions config past)) (used_differ past (numbers (associations config past)) (rising_use past (associations config past) (joined config past holds.lawful).order))
+          (used_differ past (question_numbers (questions config past)) (are_waiting config past holds.lawful).order) (two_apart config past holds.lawful)))
+
+  rise_listeners : DoRise (listeners_of slirp)
+  rise_listeners = by (nat_lt (in_use_slots slirp.flows.flows.table.slots) (length slirp.flows.flows.table.slots))
+    where
+      by : (b : Bool) → DoRise (if b then sockets_over Tcp slirp.forwards else [])
+      by true = subst (λ l. DoRise (sockets_over Tcp l)) (sym holds.forwards) (rise_given Tcp config.forwards 0)
+      by false = tt
+
+-- A wait for what the core waits for attends to all that can be taken, where all that is owed is out unless the link is blocked, and no socket for datagrams is idle for long.
+pub attends : (config : Config) (at : Standing) (slirp : SlirpState) (link : LinkState) (past : List Entry) (wants : List Want) → Holds config at slirp (flowing true slirp.flows) link past → (slirp.pending ≡ [] → next_again slirp.moment slirp.transfers ≡ None)
+    → (link.blocked ≡ false → is_settled slirp link ≡ true) → All (λ a. is_idle_association slirp.moment a ≡ false) slirp.associations → All (λ q. is_idle_question slirp.moment q ≡ false) slirp.questions → (of : WantsOf slirp link wants) → AreWaitedFor config past of.flows → MustAttend config past wants
+attends config at slirp link past wants holds none_again quiet young recent of are = record {
+  waits_for = subst (λ (ws : List Want). WaitsFor config past ws) (sym of.is)
+      (all_waited_for config past (is_settled slirp link) link.blocked (listeners_of slirp) (sockets_over Udp slirp.forwards ++ of.sockets) of.flows holds.keeps.blocked sent_is quiet
+      (listeners_are config at slirp (flowing true slirp.flows) link past holds refl) (sockets_are config at slirp (flowing true slirp.flows) link past holds of.sockets of.all)
+      (each_of_flows slirp.flows.flows.parts of.flows of.of_flows) are.to_read are.to_write are.only_to_write (rise_listeners config at slirp (flowing true slirp.flows) link past holds)
+      (rise_sockets config at slirp (flowing true slirp.flows) link past holds of.sockets of.all of.rising) (rise_by of.flows of.of_flows.rising));
+  out = λ free. sent_is ∙ quiet (sym holds.keeps.blocked ∙ free);
+  unused = subst (λ (now : ℕ). AreAhead now (lives config past)) (sym holds.clock.moment)
+      (all_ahead config past holds.lawful slirp.moment (subst (λ l. All (λ q. is_idle_question slirp.moment q ≡ false) l) (sym holds.relayed.questions) recent)
+      (lives_ahead config past holds.lawful slirp.moment (subst (λ l. All (λ a. is_idle_association slirp.moment a ≡ false) l) (sym holds.relayed.list) young)));
+}
+  where
+    sent_is : is_all_sent config past ≡ is_settled slirp link
+    sent_is =
+        ap (λ octets. (is_nothing octets && is_out (left config past)) && not (is_some (may_go_again (serving config past)))) holds.keeps.rest
+        ∙ ap (λ b. (b && is_out (left config past)) && not (is_some (may_go_again (serving config past)))) (nothing_is link.tail)
+        ∙ by_owed config slirp link past (now_is config past ∙ holds.clock.moment) none_again holds.answers.owed
