@@ -2,6 +2,8 @@
 #![tactic(auto)]
 
 #[cfg(test)]
+mod drills;
+#[cfg(test)]
 mod files;
 #[cfg(test)]
 mod ports;

@@ -24,6 +24,11 @@ fn empty_words_and_blanks_have_no_reading(rt: HostRuntime) -> Result<(), Fail> {
         &["replay", "F", "--mtu", "576 "][..],
         &["replay", "F", "--host", "10.0.2.9 "][..],
         &["serve", "--link", "unix:s", ""][..],
+        &["drive", "7", ""][..],
+        &["drive", "", "7"][..],
+        &["drive", "7", " 7"][..],
+        &["drive", "7 ", "7"][..],
+        &["drive", "7 7"][..],
     ] {
         assert!(rt; unread(rt.alloc(), words)?);
     }
@@ -46,6 +51,7 @@ fn a_word_of_a_megabyte_has_no_reading(rt: HostRuntime) -> Result<(), Fail> {
         &["replay", "F", "--mtu", word][..],
         &["replay", "F", joined.as_str()][..],
         &["serve", link.as_str()][..],
+        &["drive", "7", word][..],
     ] {
         assert!(rt; unread(rt.alloc(), words)?);
     }

@@ -1,3 +1,4 @@
+mod Faulting
 mod Picking
 mod Putting
 mod Sizes

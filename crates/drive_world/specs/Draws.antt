@@ -1,5 +1,5 @@
 -- What becomes of frames, drawn from a number.
-use Rattle.std.specs.Prelude.{ℕ, ◌+◌, ◌*◌, ◌/◌, ◌%◌, ◌^◌, ◌==◌, ◌&&◌, nat_lt, if◌then◌else◌}
+use Rattle.std.specs.Prelude.{◌≡◌, ◌≤◌, ℕ, ◌+◌, ◌*◌, ◌/◌, ◌%◌, ◌^◌, ◌==◌, ◌&&◌, min, nat_lt, if◌then◌else◌}
 use Rattle.drive_world.specs.declared.draws.Fate.{Fate}
 use Rattle.drive_world.specs.declared.draws.Fate.TheVariants.{Lost, Twice, Late, Once}
 
@@ -18,3 +18,17 @@ fate_of draw lost =
     else if (draw == 1) then Twice
     else if (draw == 2) then Late
     else Once
+
+-- how often a frame comes now; one that is late may come at once where no more can be held back
+abbrev pub Comes : Fate → (times : ℕ) → Type 0
+Comes Lost times = times ≡ 0
+Comes Twice times = times ≡ 2
+Comes Late times = times ≤ 1
+Comes Once times = times ≡ 1
+
+-- how many in a row are lost then
+abbrev pub lost_after : Fate → (lost : ℕ) → ℕ
+lost_after Lost lost = min 255 (lost + 1)
+lost_after Twice lost = 0
+lost_after Late lost = 0
+lost_after Once lost = 0

@@ -1,3 +1,4 @@
 pub mod Draws
+pub mod Faults
 pub mod Picks
 pub mod Runs

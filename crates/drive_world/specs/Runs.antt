@@ -1,5 +1,5 @@
 -- What a run came to, and its text.
-use Rattle.std.specs.Prelude.{◌≡◌, ℕ, List, [], ◌++◌, None, false, codes, decimal}
+use Rattle.std.specs.Prelude.{◌≡◌, ℕ, List, [], ◌∷◌, ◌++◌, None, false, codes, decimal}
 use Rattle.world_face.specs.Tells.{Telling}
 use Rattle.drive_world.specs.declared.run.Run.{Run as ARun}
 
@@ -31,9 +31,9 @@ summary_text run =
 abbrev pub last_wait : ℕ
 last_wait = 20000000
 
--- it tells nothing but that no call has failed
-abbrev pub tells_nothing : Telling
-tells_nothing = record { source = []; kept = []; live = false; stop = None; faults = record { link = 0; wait = 0; socket = 0; file = 0 } }
+-- it tells the number by which it answers, and that no call has failed; no call
+abbrev pub tells_of : ℕ → Telling
+tells_of number = record { source = number ∷ []; kept = []; live = false; stop = None; faults = record { link = 0; wait = 0; socket = 0; file = 0 } }
 
 -- only octets that the guest took were counted, and wrong ones
 abbrev pub CountsDown : (old new : ARun) → Type 0

@@ -54,14 +54,24 @@ impl Frame {
         }
     }
 
-    /// The octets that the link carries, where there are at most 1,518.
-    pub fn of(octets: &[u8]) -> Frame {
-        let mut frame = Frame::empty();
-        if octets.len() <= MOST {
-            frame.octets[..octets.len()].copy_from_slice(octets);
-            frame.count = octets.len();
+    /// Adds octets that the link carries next. Of more than 1,518 in all none is kept.
+    pub fn add(&mut self, octets: &[u8]) {
+        let place = self.count;
+        let end = place.saturating_add(octets.len());
+        if end > MOST {
+            self.count = 0;
+            return;
         }
-        frame
+        self.octets[place..end].copy_from_slice(octets);
+        self.count = end;
+    }
+
+    /// Whether the length came, and as many octets as it says.
+    pub fn is_whole(&self) -> bool {
+        let [one, two, three, four, came @ ..] = self.carried() else {
+            return false;
+        };
+        came.len() >= u32::from_be_bytes([*one, *two, *three, *four]) as usize
     }
 
     /// What the link carries of it.

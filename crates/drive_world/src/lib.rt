@@ -2,6 +2,7 @@
 #![tactic(auto)]
 
 mod draws;
+mod fault;
 mod flow;
 mod frames;
 mod guest;
@@ -12,4 +13,5 @@ mod road;
 mod run;
 mod world;
 
+pub use fault::{FaultWorld, How, Kind};
 pub use world::DriveWorld;

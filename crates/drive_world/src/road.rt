@@ -1,4 +1,7 @@
 // The road between guest and network, on which frames are lost, come twice, or come late.
+ghost use Rattle.std.specs.Prelude.{◌≡◌};
+ghost use Rattle.drive_world.specs.Draws.{Comes, drawn, fate_of, lost_after, next_seed};
+
 use crate::draws::{Draws, Fate, fate_by};
 use crate::frames::{Frame, Frames};
 use net_octets::NoMemory;
@@ -23,7 +26,12 @@ impl Way {
     }
 
     /// How often a frame that is sent comes now: twice, once, or not, because it is lost or held back. Where no more can be held back it comes once.
-    pub fn send(&mut self, frame: &Frame, draws: &mut Draws) -> u8 {
+    pub fn send(&mut self, frame: &Frame, draws: &mut Draws) -> u8
+        // One draw is made, and says what becomes of the frame.
+        ensures draw { draws.new.seed ≡ next_seed draws.old.seed }
+        ensures comes { Comes (fate_of (drawn draws.new.seed) self.old.lost) result }
+        ensures lost { self.new.lost ≡ lost_after (fate_of (drawn draws.new.seed) self.old.lost) self.old.lost }
+    {
         match fate_by(draws.draw(), self.lost) {
             Fate::Lost => {
                 self.lost = self.lost.saturating_add(1);
@@ -88,7 +96,10 @@ impl Road {
     }
 
     /// How often a frame to the guest comes now.
-    pub fn bring(&mut self, frame: &Frame) -> u8 {
+    pub fn bring(&mut self, frame: &Frame) -> u8
+        ensures draw { self.new.draws.seed ≡ next_seed self.old.draws.seed }
+        ensures comes { Comes (fate_of (drawn self.new.draws.seed) self.old.to_guest.lost) result }
+    {
         self.to_guest.send(frame, &mut self.draws)
     }
 

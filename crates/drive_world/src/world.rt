@@ -51,6 +51,8 @@ struct Outside {
     road: Road,
     /// How many octets of the first waiting frame were read.
     read: usize,
+    /// What came of the frame to the guest that isn't whole yet.
+    coming: Frame,
     /// Whose the frame is that was read last.
     speaker: usize,
 }
@@ -83,6 +85,7 @@ impl DriveWorld {
                 host,
                 road,
                 read: 0,
+                coming: Frame::empty(),
                 speaker: 0,
             },
         })
@@ -135,13 +138,25 @@ impl Outside {
         }
     }
 
-    // A frame goes to the guest.
-    fn bring(&mut self, carried: &[u8], run: &mut Run)
+    // Octets go to the guest: a frame as soon as it is whole. No write goes on behind the end of a frame.
+    fn carry(&mut self, octets: &[u8], run: &mut Run)
         ensures { CountsDown run.old run.new }
     {
-        let times = self.road.bring(&Frame::of(carried));
+        self.coming.add(octets);
+        if self.coming.is_whole() {
+            let frame = self.coming;
+            self.coming.count = 0;
+            self.bring(&frame, run);
+        }
+    }
+
+    // A frame goes to the guest.
+    fn bring(&mut self, frame: &Frame, run: &mut Run)
+        ensures { CountsDown run.old run.new }
+    {
+        let times = self.road.bring(frame);
         for _ in 0..times {
-            self.hear(carried, run);
+            self.hear(frame.carried(), run);
         }
         if times > 0 {
             self.hear_late(run);
@@ -244,13 +259,13 @@ impl World for DriveWorld {
     ghost use Rattle.world_face.specs.Tells.{Answers};
     ghost use Rattle.world_face.specs.declared.Waited.TheVariants.{Stop};
     ghost use Rattle.world_face.specs.declared.Io.TheVariants.{Done};
-    ghost use Rattle.drive_world.specs.Runs.{last_wait, tells_nothing};
+    ghost use Rattle.drive_world.specs.Runs.{last_wait, tells_of};
 
-    ghost tells = { λ w. tells_nothing };
+    ghost tells = { λ w. tells_of w.number };
 
     /// The moment, which only a wait moves.
     fn now(&mut self) -> u64
-        ensures answers { Answers tells_nothing tells_nothing (Now result) }
+        ensures answers { Answers (tells_of self.old.number) (tells_of self.new.number) (Now result) }
         ensures same { self.new ≡ self.old }
     {
         self.outside.moment()
@@ -260,7 +275,7 @@ impl World for DriveWorld {
         requires some { AreWants wants.now.items }
         requires few { length wants.now.items ≤ most_wants }
         requires room { most_ready ≤ ready.old.capacity }
-        ensures answers { Answers tells_nothing tells_nothing (Wait wants.now.items timeout result ready.new.items) }
+        ensures answers { Answers (tells_of self.old.number) (tells_of self.new.number) (Wait wants.now.items timeout result ready.new.items) }
         ensures capacity { ready.new.capacity ≡ ready.old.capacity }
         ensures counted { self.new.waits ≡ min last_count (self.old.waits + 1) }
         ensures last { last_wait ≤ self.new.waits → result ≡ Stop }
@@ -276,7 +291,7 @@ impl World for DriveWorld {
 
     fn link_open(&mut self, _at: &LinkAt) -> Made
         requires { IsPlace (place_of _at.now) }
-        ensures answers { Answers tells_nothing tells_nothing (LinkOpen (place_of _at.now) result) }
+        ensures answers { Answers (tells_of self.old.number) (tells_of self.new.number) (LinkOpen (place_of _at.now) result) }
         ensures same { self.new ≡ self.old }
     {
         Made::Done
@@ -284,7 +299,7 @@ impl World for DriveWorld {
 
     fn link_read(&mut self, into: &mut [u8]) -> Io
         requires { 0 < length into.old }
-        ensures answers { Answers tells_nothing tells_nothing (LinkRead (length into.old) result (filled result into.new)) }
+        ensures answers { Answers (tells_of self.old.number) (tells_of self.new.number) (LinkRead (length into.old) result (filled result into.new)) }
         ensures same { self.new ≡ self.old }
     {
         self.outside.link_read(into)
@@ -294,17 +309,17 @@ impl World for DriveWorld {
     fn link_write(&mut self, from: &[u8]) -> Io
         requires some { 0 < length from.now }
         requires fits { length from.now ≤ most_to_link }
-        ensures answers { Answers tells_nothing tells_nothing (LinkWrite from.now result) }
+        ensures answers { Answers (tells_of self.old.number) (tells_of self.new.number) (LinkWrite from.now result) }
         ensures all { result ≡ Done (length from.now) }
         ensures same { (self.new.number ≡ self.old.number) × (self.new.up ≡ self.old.up) × (self.new.waits ≡ self.old.waits) }
     {
-        self.outside.bring(from, &mut self.run);
+        self.outside.carry(from, &mut self.run);
         Io::Done(from.len())
     }
 
     /// It is connected at once, and belongs to the flow whose frame was read last.
     fn connect(&mut self, c: u64, _to: Endpoint) -> Made
-        ensures answers { Answers tells_nothing tells_nothing (Connect c _to result) }
+        ensures answers { Answers (tells_of self.old.number) (tells_of self.new.number) (Connect c _to result) }
         ensures same { self.new ≡ self.old }
     {
         self.outside.host.connect(c, self.outside.speaker);
@@ -312,14 +327,14 @@ impl World for DriveWorld {
     }
 
     fn connected(&mut self, _c: u64) -> Joined
-        ensures answers { Answers tells_nothing tells_nothing (Connected _c result) }
+        ensures answers { Answers (tells_of self.old.number) (tells_of self.new.number) (Connected _c result) }
         ensures same { self.new ≡ self.old }
     {
         Joined::Yes
     }
 
     fn listen(&mut self, _l: u64, _at: Endpoint) -> Made
-        ensures answers { Answers tells_nothing tells_nothing (Listen _l _at result) }
+        ensures answers { Answers (tells_of self.old.number) (tells_of self.new.number) (Listen _l _at result) }
         ensures same { self.new ≡ self.old }
     {
         Made::Done
@@ -327,7 +342,7 @@ impl World for DriveWorld {
 
     /// Nobody comes.
     fn accept(&mut self, _l: u64, _c: u64) -> Accepted
-        ensures answers { Answers tells_nothing tells_nothing (Accept _l _c result) }
+        ensures answers { Answers (tells_of self.old.number) (tells_of self.new.number) (Accept _l _c result) }
         ensures same { self.new ≡ self.old }
     {
         Accepted::NotYet
@@ -336,7 +351,7 @@ impl World for DriveWorld {
     /// What was written comes back, and its end after the guest's.
     fn tcp_read(&mut self, c: u64, into: &mut [u8]) -> Io
         requires { 0 < length into.old }
-        ensures answers { Answers tells_nothing tells_nothing (TcpRead c (length into.old) result (filled result into.new)) }
+        ensures answers { Answers (tells_of self.old.number) (tells_of self.new.number) (TcpRead c (length into.old) result (filled result into.new)) }
         ensures same { self.new ≡ self.old }
     {
         self.outside.host.read(c, into)
@@ -346,7 +361,7 @@ impl World for DriveWorld {
     fn tcp_write(&mut self, c: u64, from: &[u8]) -> Io
         requires some { 0 < length from.now }
         requires fits { length from.now ≤ most_to_flow }
-        ensures answers { Answers tells_nothing tells_nothing (TcpWrite c from.now result) }
+        ensures answers { Answers (tells_of self.old.number) (tells_of self.new.number) (TcpWrite c from.now result) }
         ensures all { result ≡ Done (length from.now) }
         ensures up { self.new.up ≡ min last_count (self.old.up + length from.now) }
         ensures same { (self.new.number ≡ self.old.number) × (self.new.down ≡ self.old.down) × (self.new.waits ≡ self.old.waits) }
@@ -358,7 +373,7 @@ impl World for DriveWorld {
     }
 
     fn tcp_end(&mut self, c: u64) -> Made
-        ensures answers { Answers tells_nothing tells_nothing (TcpEnd c result) }
+        ensures answers { Answers (tells_of self.old.number) (tells_of self.new.number) (TcpEnd c result) }
         ensures same { self.new ≡ self.old }
     {
         self.outside.host.end(c);
@@ -366,14 +381,14 @@ impl World for DriveWorld {
     }
 
     fn close(&mut self, s: u64)
-        ensures answers { Answers tells_nothing tells_nothing (Close s) }
+        ensures answers { Answers (tells_of self.old.number) (tells_of self.new.number) (Close s) }
         ensures same { self.new ≡ self.old }
     {
         self.outside.host.close(s);
     }
 
     fn udp_open(&mut self, _s: u64, _at: Endpoint) -> Made
-        ensures answers { Answers tells_nothing tells_nothing (UdpOpen _s _at result) }
+        ensures answers { Answers (tells_of self.old.number) (tells_of self.new.number) (UdpOpen _s _at result) }
         ensures same { self.new ≡ self.old }
     {
         Made::Done
@@ -381,7 +396,7 @@ impl World for DriveWorld {
 
     fn udp_send(&mut self, _s: u64, _to: Endpoint, _from: &[u8]) -> Sent
         requires { length _from.now ≤ most_to_udp }
-        ensures answers { Answers tells_nothing tells_nothing (UdpSend _s _to _from.now result) }
+        ensures answers { Answers (tells_of self.old.number) (tells_of self.new.number) (UdpSend _s _to _from.now result) }
         ensures same { self.new ≡ self.old }
     {
         Sent::Done
@@ -389,7 +404,7 @@ impl World for DriveWorld {
 
     fn udp_recv(&mut self, _s: u64, _into: &mut [u8]) -> Got
         requires { 0 < length _into.old }
-        ensures answers { Answers tells_nothing tells_nothing (UdpRecv _s (length _into.old) result (filled_got result _into.new)) }
+        ensures answers { Answers (tells_of self.old.number) (tells_of self.new.number) (UdpRecv _s (length _into.old) result (filled_got result _into.new)) }
         ensures same { self.new ≡ self.old }
     {
         Got::NotYet
@@ -398,7 +413,7 @@ impl World for DriveWorld {
     fn file_len(&mut self, _name: &str) -> FileSize
         requires some { 0 < length _name.now }
         requires fits { length _name.now ≤ most_name }
-        ensures answers { Answers tells_nothing tells_nothing (FileLen _name.now result) }
+        ensures answers { Answers (tells_of self.old.number) (tells_of self.new.number) (FileLen _name.now result) }
         ensures same { self.new ≡ self.old }
     {
         FileSize::Missing
@@ -408,7 +423,7 @@ impl World for DriveWorld {
         requires some { 0 < length _name.now }
         requires fits { length _name.now ≤ most_name }
         requires room { 0 < length _into.old }
-        ensures answers { Answers tells_nothing tells_nothing (FileRead _name.now _at (length _into.old) result (filled result _into.new)) }
+        ensures answers { Answers (tells_of self.old.number) (tells_of self.new.number) (FileRead _name.now _at (length _into.old) result (filled result _into.new)) }
         ensures same { self.new ≡ self.old }
     {
         Io::End

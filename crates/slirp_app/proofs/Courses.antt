@@ -1,11 +1,12 @@
 -- What is done by what the words mean, and the status of it.
-use Rattle.std.proofs.Common.{◌≡◌, ◌≢◌, ◌↔◌, ◌⊎◌, inl, inr, ℕ, ◌<◌, ◌≤◌, length, List, [], Option, Some, None, Result, Ok, Err, MatchOption, refl, sym, ◌∙◌, ap, subst, arith}
+use Rattle.std.proofs.Common.{◌≡◌, ◌≢◌, ◌↔◌, ◌⊎◌, inl, inr, ℕ, ◌<◌, ◌≤◌, ltb, Bool, true, false, cond, length, List, [], Option, Some, None, Result, Ok, Err, MatchOption, refl, sym, ◌∙◌, ap, subst, arith}
+use Rattle.std.proofs.lemmas.Bool.Decides.{nat_tests}
 use Rattle.world_face.specs.Journal.{Entry, Place}
 use Rattle.world_face.specs.Tells.{Telling, Makes}
 use Rattle.host_policy.specs.Addresses.{Config}
-use Rattle.host_policy.specs.Ranges.{first_broken}
 use Rattle.host_policy.specs.declared.config.Field.{Field}
-use Rattle.slirp_config.specs.Meaning.{AnswersBy, AreSettings, HasPlace, Meaning, Means, MeansReplay, MeansServe, Replays, Serves, config_of, said}
+use Rattle.host_policy.specs.declared.config.Field.TheVariants.{Octets}
+use Rattle.slirp_config.specs.Meaning.{AnswersBy, AreSettings, Drives, HasPlace, Meaning, Means, MeansReplay, MeansServe, Replays, Serves, broken_in, config_of, said}
 use Rattle.slirp_config.specs.Options.{Word, value_of}
 use Rattle.slirp_config.specs.declared.Command.{Command}
 use Rattle.slirp_config.specs.declared.WordFault.{WordFault}
@@ -37,13 +38,23 @@ built_serve config behind at (line, same, all, link, are, set) = is_built config
 pub built : (words : List Word) (meaning : Meaning) → Means words meaning → IsBuilt (config_of meaning)
 built words (Replays file config) (behind, is, meant) = built_replay config behind file meant
 built words (Serves config at) (behind, is, meant) = built_serve config behind at meant
+built words (Drives number octets) means = record { guest_forwards = refl; control = refl }
 
 named : (behind : List Word) (file : Word) (config : Config) → MeansReplay behind file config → (0 < length file) × (length file ≤ 1280)
 named behind file config (line, rules, same, all, alone, some, few, are, set) = (some, few)
 
-pub can_be_done : (words : List Word) (meaning : Meaning) → Means words meaning → HasPlace meaning → CanBeDone meaning
-can_be_done words (Replays file config) (behind, is, meant) place = named behind file config meant
-can_be_done words (Serves config at) means place = place
+-- as many octets as a drill may have
+few : (octets : ℕ) (over : Bool) → ltb 10000000 octets ≡ over → cond over (Some Octets) None ≡ None → octets ≤ 10000000
+few octets true is none = absurd (cc none)
+few octets false is none = grind (arith, nat_tests, is)
+
+pub in_range : (number octets : ℕ) → octets ≤ 10000000 → broken_in (Drives number octets) ≡ None
+in_range number octets small = let is : ltb 10000000 octets ≡ false = grind (arith, nat_tests, small) in rw is refl
+
+pub can_be_done : (words : List Word) (meaning : Meaning) → Means words meaning → HasPlace meaning → broken_in meaning ≡ None → CanBeDone meaning
+can_be_done words (Replays file config) (behind, is, meant) place none = named behind file config meant
+can_be_done words (Serves config at) means place none = place
+can_be_done words (Drives number octets) means place none = few octets (ltb 10000000 octets) refl none
 
 -- what is answered is the one meaning of the words
 other_by : (other : Meaning) (o : Option Field) (result : Result Command WordFault) (command : Command) → result ≡ Ok command
@@ -52,7 +63,7 @@ other_by other None result command is (c, that, says) = (let same : command ≡ 
 other_by other (Some field) result command is that = cc
 
 pub one_meaning : (result : Result Command WordFault) (command : Command) (other : Meaning) → result ≡ Ok command → AnswersBy result other → other ≡ said command
-one_meaning result command other is answers = other_by other (first_broken (config_of other)) result command is answers
+one_meaning result command other is answers = other_by other (broken_in other) result command is answers
 
 -- a field that is named is the first that breaks its range, whatever the words mean
 field_by : (other : Meaning) (o : Option Field) (result : Result Command WordFault) (field : Field) → result ≡ Err (BadField field)
@@ -60,8 +71,8 @@ field_by : (other : Meaning) (o : Option Field) (result : Result Command WordFau
 field_by other None result field is (c, that, says) = cc
 field_by other (Some f) result field is that = (let same : field ≡ f = cc in ap Some (sym same))
 
-pub one_field : (result : Result Command WordFault) (field : Field) (other : Meaning) → result ≡ Err (BadField field) → AnswersBy result other → first_broken (config_of other) ≡ Some field
-one_field result field other is answers = field_by other (first_broken (config_of other)) result field is answers
+pub one_field : (result : Result Command WordFault) (field : Field) (other : Meaning) → result ≡ Err (BadField field) → AnswersBy result other → broken_in other ≡ Some field
+one_field result field other is answers = field_by other (broken_in other) result field is answers
 
 -- settings that are answered are in their ranges
 unbroken : (other : Meaning) (o : Option Field) (result : Result Command WordFault) (command : Command) → result ≡ Ok command
@@ -69,8 +80,8 @@ unbroken : (other : Meaning) (o : Option Field) (result : Result Command WordFau
 unbroken other None result command is that = refl
 unbroken other (Some field) result command is that = cc
 
-pub none_broken : (result : Result Command WordFault) (command : Command) → result ≡ Ok command → AnswersBy result (said command) → first_broken (config_of (said command)) ≡ None
-none_broken result command is answers = unbroken (said command) (first_broken (config_of (said command))) result command is answers
+pub none_broken : (result : Result Command WordFault) (command : Command) → result ≡ Ok command → AnswersBy result (said command) → broken_in (said command) ≡ None
+none_broken result command is answers = unbroken (said command) (broken_in (said command)) result command is answers
 
 -- what serves comes to neither status of the words
 end_code : (end : End) → (code_of (outcome_of end) ≢ 1) × (code_of (outcome_of end) ≢ 2)
@@ -96,13 +107,13 @@ module _ (words : List Word) (outcome : Outcome) (world world_new : Telling) (ol
   usage (Misset m field means all is makes) = (λ code. (let two : code_of outcome ≡ 2 = ap code_of is in absurd (omega (arith, two, code))), λ none. absurd (none m means))
   usage (Misused none is makes) = (λ code. none, λ n. ap code_of is)
 
-  pub bad_config : Course words outcome world world_new old new → (meaning : Meaning) (field : Field) → Means words meaning → first_broken (config_of meaning) ≡ Some field → outcome ≡ BadConfig field
+  pub bad_config : Course words outcome world world_new old new → (meaning : Meaning) (field : Field) → Means words meaning → broken_in meaning ≡ Some field → outcome ≡ BadConfig field
   bad_config (Meant m means one sound not_usage not_config does) meaning field this broken =
-      absurd (one_none (first_broken (config_of meaning)) field broken (ap (λ k. first_broken (config_of k)) (one meaning this) ∙ sound))
+      absurd (one_none (broken_in meaning) field broken (ap broken_in (one meaning this) ∙ sound))
   bad_config (Misset m f means all is makes) meaning field this broken = (let same : Some f ≡ Some field = sym (all meaning this) ∙ broken in let that : f ≡ field = cc in is ∙ ap BadConfig that)
   bad_config (Misused none is makes) meaning field this broken = absurd (none meaning this)
 
-  pub only_config : Course words outcome world world_new old new → code_of outcome ≡ 2 → (meaning : Meaning) × (field : Field) × Means words meaning × (first_broken (config_of meaning) ≡ Some field)
+  pub only_config : Course words outcome world world_new old new → code_of outcome ≡ 2 → (meaning : Meaning) × (field : Field) × Means words meaning × (broken_in meaning ≡ Some field)
   only_config (Meant m means one sound not_usage not_config does) code = absurd (not_config code)
   only_config (Misset m field means all is makes) code = (m, field, means, all m means)
   only_config (Misused none is makes) code = (let one : code_of outcome ≡ 1 = ap code_of is in absurd (omega (arith, code, one)))
@@ -113,14 +124,14 @@ module _ (words : List Word) (outcome : Outcome) (world world_new : Telling) (ol
   untouched (Misset m field means all is makes) code = makes
   untouched (Misused none is makes) code = makes
 
-  pub does : Course words outcome world world_new old new → (meaning : Meaning) → Means words meaning → first_broken (config_of meaning) ≡ None → Does meaning outcome world world_new old new
+  pub does : Course words outcome world world_new old new → (meaning : Meaning) → Means words meaning → broken_in meaning ≡ None → Does meaning outcome world world_new old new
   does (Meant m means one sound not_usage not_config done) meaning this sound_too = subst (λ k. Does k outcome world world_new old new) (sym (one meaning this)) done
-  does (Misset m field means all is makes) meaning this sound_too = absurd (one_none (first_broken (config_of meaning)) field (all meaning this) sound_too)
+  does (Misset m field means all is makes) meaning this sound_too = absurd (one_none (broken_in meaning) field (all meaning this) sound_too)
   does (Misused none is makes) meaning this sound_too = absurd (none meaning this)
 
 -- words that aren't followed
 pub refused_course : (words : List Word) (result : Result Command WordFault) (fault : WordFault) (world : Telling) (old : Option (List ℕ)) → result ≡ Err fault
-    → ((field : Field) → result ≡ Err (BadField field) → (meaning : Meaning) × Means words meaning × (first_broken (config_of meaning) ≡ Some field))
+    → ((field : Field) → result ≡ Err (BadField field) → (meaning : Meaning) × Means words meaning × (broken_in meaning ≡ Some field))
     → (result ≡ Err Misread → (meaning : Meaning) → ¬ Means words meaning) → ((meaning : Meaning) → Means words meaning → AnswersBy result meaning)
     → Makes world world (λ made. made ≡ []) → Course words (refusal_of fault) world world old old
 refused_course words result Misread world old is bad none only makes = Misused (none is) refl makes

@@ -2,15 +2,16 @@
 use Rattle.std.specs.Prelude.{◌≡◌, ◌≢◌, ◌⊎◌, ◌↔◌, ℕ, ◌<◌, ◌≤◌, List, [], length, Option, Some, None, IsTrue}
 use Rattle.world_face.specs.Frames.{LinkCut, LinkEnded, LinkFailed, LongFrame, Stopped, WaitFailed}
 use Rattle.world_face.specs.Journal.{Follows, IsPlace, Place}
+use Rattle.world_face.specs.Puts.{added}
 use Rattle.world_face.specs.Tells.{Telling, Makes}
 use Rattle.host_policy.specs.Addresses.{Config}
-use Rattle.host_policy.specs.Ranges.{first_broken}
 use Rattle.host_policy.specs.declared.config.Field.{Field}
+use Rattle.drive_world.specs.Runs.{Run, summary_text}
 use Rattle.replay.specs.Unread.{IsFirstUnread}
 use Rattle.replay.specs.declared.Divergence.{Divergence}
 use Rattle.run_laws.specs.Moments.{waits}
 use Rattle.run_laws.specs.Shape.{Over, Refused, phase}
-use Rattle.slirp_config.specs.Meaning.{Meaning, Means, Replays, Serves, config_of}
+use Rattle.slirp_config.specs.Meaning.{Meaning, Means, Replays, Serves, Drives, broken_in}
 use Rattle.slirp_config.specs.Options.{Word}
 use Rattle.slirp_config.specs.declared.WordFault.{WordFault}
 use Rattle.slirp_config.specs.declared.WordFault.TheVariants.{Usage as Misread, BadConfig as BadField}
@@ -61,25 +62,36 @@ pub record ServesLink (config : Config) (at : Place) (status : ℕ) (world world
   pub makes : Makes world world_new (ServesAt config at outcome)
   pub nothing : new ≡ old
 
+-- What `drive NUMBER OCTETS` does: the network runs on a World that is made from NUMBER, whose guest sends OCTETS octets.
+pub record DrivesRun (number octets : ℕ) (status : ℕ) (world world_new : Telling) (old new : Option (List ℕ)) : Type 0 where
+  -- no call is made on the outer World
+  pub untouched : Makes world world_new (λ made. made ≡ [])
+  -- the status is that of a run that was made, of one whose summary wasn't taken, or of no memory
+  pub ends : (status ≡ 0) ⊎ (status ≡ 12) ⊎ (status ≡ 13)
+  -- with 0 the summary of a run from this number was put, and nothing else
+  pub summary : status ≡ 0 → (run : Run) × (run.number ≡ number) × (new ≡ added (summary_text run) old)
+
 -- what comes of the outcome alone; the settings of a run are those of the words as far as they are built
 abbrev pub Does : Meaning → Outcome → (world world_new : Telling) → (old new : Option (List ℕ)) → Type 0
 Does (Replays file config) outcome world world_new old new = Makes world world_new (λ made. Follows (MayFetch file) made × Caused config outcome made old new)
 Does (Serves config at) outcome world world_new old new = Makes world world_new (ServesAt config at outcome) × (new ≡ old)
+Does (Drives number octets) outcome world world_new old new = DrivesRun number octets (code_of outcome) world world_new old new
 
--- a file has a name that can be asked for, a link a place at which it can be opened
+-- a file has a name that can be asked for, a link a place at which it can be opened, a drill as many octets as it may have
 abbrev pub CanBeDone : Meaning → Type 0
 CanBeDone (Replays file config) = (0 < length file) × (length file ≤ 1280)
 CanBeDone (Serves config at) = IsPlace at
+CanBeDone (Drives number octets) = octets ≤ 10000000
 
 -- what comes of words that aren't followed
 abbrev pub refusal_of : WordFault → Outcome
 refusal_of Misread = Usage
 refusal_of (BadField field) = BadConfig field
 
--- The words mean one thing, and it is done; or they mean settings that aren't sound; or nothing.
+-- The words mean one thing, and it is done; or they mean one of which a field isn't in its range; or nothing.
 pub data Course (words : List Word) (outcome : Outcome) (world world_new : Telling) (old new : Option (List ℕ)) : Type 0 where
-  Meant : (meaning : Meaning) → Means words meaning → ((other : Meaning) → Means words other → other ≡ meaning) → first_broken (config_of meaning) ≡ None → code_of outcome ≢ 1 → code_of outcome ≢ 2
+  Meant : (meaning : Meaning) → Means words meaning → ((other : Meaning) → Means words other → other ≡ meaning) → broken_in meaning ≡ None → code_of outcome ≢ 1 → code_of outcome ≢ 2
       → Does meaning outcome world world_new old new → Course words outcome world world_new old new
-  Misset : (meaning : Meaning) (field : Field) → Means words meaning → ((other : Meaning) → Means words other → first_broken (config_of other) ≡ Some field) → outcome ≡ BadConfig field
+  Misset : (meaning : Meaning) (field : Field) → Means words meaning → ((other : Meaning) → Means words other → broken_in other ≡ Some field) → outcome ≡ BadConfig field
       → Makes world world_new (λ made. made ≡ []) → Course words outcome world world_new old new
   Misused : ((meaning : Meaning) → ¬ Means words meaning) → outcome ≡ Usage → Makes world world_new (λ made. made ≡ []) → Course words outcome world world_new old new

@@ -7,6 +7,7 @@ use Rattle.host_policy.specs.Addresses.{Config}
 use Rattle.slirp_laws.specs.Laws.{May, Lawful}
 use Rattle.slirp_laws.specs.Laws.{Finished}
 use Rattle.run_laws.specs.Shape.{phase}
+use Rattle.run_duties.specs.Duties.{Attentive, AttendsAsItMust}
 use Rattle.serve_loop.specs.Ends.{end_of}
 use Rattle.replay.specs.Fitting.{FitsNone}
 use Rattle.replay.specs.Names.{name_of}
@@ -21,26 +22,28 @@ abbrev pub end_line : ℕ → List ℕ
 end_line status = codes "end " ++ decimal status ++ 10 ∷ []
 
 -- There is one record of calls: it was put, and then the status; it fits the schedule's lines from the first; each answer is one that a World may give;
--- each call was lawful for these settings. P holds of it.
+-- each call was lawful for these settings, and each wait attended to all that could be taken. P holds of it.
 pub record Replayed (config : Config) (status : ℕ) (schedule : List ℕ) (old new : Option (List ℕ)) (P : List Entry → Type 0) : Type 0 where
   pub journal : List Entry
   pub put : new ≡ added (text journal ++ end_line status) old
   pub fits : Fits journal schedule
   pub allowed : AreAllowed journal
   pub lawful : Lawful config journal
+  pub attentive : Attentive config journal
   pub holds : P journal
 
 -- The schedule was followed to the end of the run: nothing more is to be done, and the outcome is that of the end which the record tells.
 abbrev pub IsAtEnd : Config → Outcome → List Entry → Type 0
 IsAtEnd config outcome journal = Finished config journal × (outcome ≡ outcome_of (end_of config (phase config journal)))
 
--- The run ceased at a call that may come next and that fits no line: of the lines that are left the first isn't of this call, or its answer isn't one that a World may give.
+-- The run ceased at a call that may come next, as it must where it is a wait, and that fits no line: of the lines that are left the first isn't of this call, or its answer isn't one that a World may give.
 pub record Ceased (config : Config) (schedule : List ℕ) (divergence : Divergence) (journal : List Entry) : Type 0 where
   pub left : List Row
   pub readable : AreReadable left
   pub before : FitsBefore journal schedule (schedule_text left)
   pub call : Call
   pub may : May config journal call
+  pub attends : AttendsAsItMust config journal call
   pub fits_none : FitsNone left 0 call
   pub line : divergence.line ≡ length journal + 1
   pub made : divergence.made ≡ name_of call

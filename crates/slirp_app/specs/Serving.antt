@@ -5,16 +5,18 @@ use Rattle.world_face.specs.declared.Made.TheVariants.{Done, Failed}
 use Rattle.host_policy.specs.Addresses.{Config}
 use Rattle.run_laws.specs.Shape.{phase}
 use Rattle.slirp_laws.specs.Laws.{Finished, Lawful}
+use Rattle.run_duties.specs.Duties.{Attentive}
 use Rattle.serve_loop.specs.Ends.{end_of}
 use Rattle.slirp_app.specs.Statuses.{outcome_of}
 use Rattle.slirp_app.specs.declared.status.Outcome.{Outcome}
 use Rattle.slirp_app.specs.declared.status.Outcome.TheVariants.{LinkFault, NoMemory}
 
--- After the link was opened the calls are those of a lawful run; nothing more is to be done, and the outcome is that of the end which the record tells.
+-- After the link was opened the calls are those of a lawful run, each of whose waits attends to all that can be taken; nothing more is to be done, and the outcome is that of the end which the record tells.
 pub record RunsAt (config : Config) (at : Place) (outcome : Outcome) (made : List Entry) : Type 0 where
   pub run : List Entry
   pub is : made ≡ run ++ LinkOpen at Done ∷ []
   pub lawful : Lawful config run
+  pub attentive : Attentive config run
   pub finished : Finished config run
   pub ends : outcome ≡ outcome_of (end_of config (phase config run))
 

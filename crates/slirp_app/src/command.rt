@@ -1,11 +1,11 @@
 // The program's main call: what the words of the command line ask for is done.
-ghost use Rattle.std.specs.Prelude.{◌≡◌, ◌≢◌, ◌⊎◌, ℕ, ◌↔◌, List, [], None, Some, IsTrue, map};
+ghost use Rattle.std.specs.Prelude.{◌≡◌, ◌≢◌, ◌⊎◌, ℕ, ◌≤◌, ◌↔◌, List, [], None, Some, IsTrue, map};
 ghost use Rattle.std.specs.String.{string_bytes};
 ghost use Rattle.host_policy.specs.Addresses.{Config};
 ghost use Rattle.host_policy.specs.Ranges.{IsSound, first_broken};
 ghost use Rattle.host_policy.specs.declared.config.Field.{Field as AField};
-ghost use Rattle.slirp_config.specs.Meaning.{Meaning, Means, Replays, Serves, config_of, said};
-ghost use Rattle.slirp_app.specs.Doing.{CanBeDone, Course, Does, ReplaysFile, ServesLink, refusal_of};
+ghost use Rattle.slirp_config.specs.Meaning.{Drives, Meaning, Means, Replays, Serves, broken_in, config_of, said};
+ghost use Rattle.slirp_app.specs.Doing.{CanBeDone, Course, Does, DrivesRun, ReplaysFile, ServesLink, refusal_of};
 ghost use Rattle.slirp_app.specs.Statuses.{code_of, is_unrun};
 ghost use Rattle.slirp_app.specs.Texts.{Got};
 ghost use Rattle.slirp_app.specs.declared.status.Outcome.{Outcome as AnOutcome};
@@ -14,6 +14,7 @@ ghost use Rattle.serve_loop.specs.Served.{IsBuilt};
 ghost use Rattle.world_face.specs.Journal.{Place};
 ghost use Rattle.world_face.specs.Tells.{Makes, Rose};
 
+use crate::driving::drive;
 use crate::replaying::replay_file;
 use crate::serving::serve;
 use crate::status::Outcome;
@@ -24,7 +25,8 @@ use world_face::{Sink, World};
 /// The program. The words of the command line, without the program's name, say what it does and with which settings.
 ///
 /// `replay FILE`: the schedule in FILE is read through `world`, the network runs on it, and what it did goes to `out` as text, last the line
-/// `end S` with the status S. `serve --link AT`: `world` opens the link at AT, and the network runs on `world` itself. The text of a status other than
+/// `end S` with the status S. `serve --link AT`: `world` opens the link at AT, and the network runs on `world` itself. `drive NUMBER OCTETS`: it runs with the usual
+/// settings on a World that is made from NUMBER, whose guest sends OCTETS octets, and what that came to goes to `out`. The text of a status other than
 /// 0 and 12 goes to `err`.
 pub fn slirp_main<W: World, K: Sink, E: Sink>(
     alloc: Global,
@@ -35,10 +37,10 @@ pub fn slirp_main<W: World, K: Sink, E: Sink>(
 ) -> u8
     // The status is 1 exactly where the words mean nothing.
     ensures usage { (result ≡ 1) ↔ ((meaning : Meaning) → ¬ Means (map string_bytes words.now.items) meaning) }
-    // It is 2 exactly where they mean settings of which one isn't in its range, and the text names the first such field.
-    ensures bad_config { (meaning : Meaning) (field : AField) → Means (map string_bytes words.now.items) meaning → first_broken (config_of meaning) ≡ Some field
+    // It is 2 exactly where they mean something of which a field isn't in its range, and the text names the first such field.
+    ensures bad_config { (meaning : Meaning) (field : AField) → Means (map string_bytes words.now.items) meaning → broken_in meaning ≡ Some field
         → (result ≡ 2) × Got (E.holds err.old) (E.holds err.new) (E.faults err.old) (E.faults err.new) (BadConfig field) }
-    ensures only_config { result ≡ 2 → (meaning : Meaning) × (field : AField) × Means (map string_bytes words.now.items) meaning × (first_broken (config_of meaning) ≡ Some field) }
+    ensures only_config { result ≡ 2 → (meaning : Meaning) × (field : AField) × Means (map string_bytes words.now.items) meaning × (broken_in meaning ≡ Some field) }
     // With either no call is made.
     ensures untouched { (result ≡ 1) ⊎ (result ≡ 2) → Makes (W.tells world.old) (W.tells world.new) (λ made. made ≡ []) }
     // With `replay FILE` a run is made on what FILE says, with the settings of the words.
@@ -47,6 +49,9 @@ pub fn slirp_main<W: World, K: Sink, E: Sink>(
     // With `serve --link AT` one is made on `world` itself.
     ensures serves { (config : Config) (at : Place) → Means (map string_bytes words.now.items) (Serves config at) → first_broken config ≡ None
         → ServesLink config at result (W.tells world.old) (W.tells world.new) (K.holds out.old) (K.holds out.new) (Got (E.holds err.old) (E.holds err.new) (E.faults err.old) (E.faults err.new)) }
+    // With `drive NUMBER OCTETS` one is made on a World of its own, and `world` is left alone.
+    ensures drives { (number octets : ℕ) → Means (map string_bytes words.now.items) (Drives number octets) → octets ≤ 10000000
+        → DrivesRun number octets result (W.tells world.old) (W.tells world.new) (K.holds out.old) (K.holds out.new) }
     // Where nothing was run nothing was put.
     ensures nothing { IsTrue (is_unrun result) → K.holds out.new ≡ K.holds out.old }
     // `err` got the text of the outcome and a line feed, unless its count of faults rose.
@@ -106,6 +111,7 @@ fn follow<W: World, K: Sink>(
     match command {
         Command::Replay(file, config) => replay_file(alloc, file.as_str(), config, world, out),
         Command::Serve(config, at) => serve(alloc, config, at, world),
+        Command::Drive(number, octets) => drive(alloc, *number, *octets, out),
     }
 }
 

@@ -1,56 +1,58 @@
 -- What is answered to words by what they mean, and by the command that was read of them.
 use Rattle.std.proofs.Common.{◌≡◌, Option, Some, None, Result, Ok, Err, IfOk, IfErr, MatchOption, refl, sym, ◌∙◌, ap, subst}
 use Rattle.host_policy.specs.Addresses.{Config}
-use Rattle.host_policy.specs.Ranges.{IsSound, first_broken}
+use Rattle.host_policy.specs.Ranges.{IsSound}
 use Rattle.host_policy.specs.declared.config.Field.{Field}
 use Rattle.slirp_config.specs.declared.Command.{Command}
 use Rattle.slirp_config.specs.declared.WordFault.{WordFault}
 use Rattle.slirp_config.specs.declared.WordFault.TheVariants.{Usage, BadConfig}
-use Rattle.slirp_config.specs.Meaning.{Meaning, Replays, Serves, AnswersBy, config_of, said}
+use Rattle.slirp_config.specs.Meaning.{Meaning, Replays, Serves, Drives, AnswersBy, broken_in, config_of, said}
 use Rattle.slirp_config.specs.Narrowing.{narrowed_meaning}
 use Rattle.slirp_config.proofs.Narrow.{same_broken, same_settings}
 
 pub record IsAnswer (Of : Meaning → Type 0) (result : Result Command WordFault) : Type 0 where
   pub meant : IfOk result (λ command. Of (said command))
-  pub bad_config : (field : Field) → result ≡ Err (BadConfig field) → (meaning : Meaning) × Of meaning × (first_broken (config_of meaning) ≡ Some field)
+  pub bad_config : (field : Field) → result ≡ Err (BadConfig field) → (meaning : Meaning) × Of meaning × (broken_in meaning ≡ Some field)
   pub usage : result ≡ Err Usage → (meaning : Meaning) → ¬ Of meaning
   pub only : (meaning : Meaning) → Of meaning → AnswersBy result meaning
 
-broken_still : (meaning : Meaning) → first_broken (config_of (narrowed_meaning meaning)) ≡ first_broken (config_of meaning)
+broken_still : (meaning : Meaning) → broken_in (narrowed_meaning meaning) ≡ broken_in meaning
 broken_still (Replays file config) = same_broken config
 broken_still (Serves config at) = same_broken config
+broken_still (Drives number octets) = refl
 
 nothing_narrowed : (meaning : Meaning) → IsSound (config_of (narrowed_meaning meaning)) → narrowed_meaning meaning ≡ meaning
 nothing_narrowed (Replays file config) sound = ap (Replays file) (same_settings config sound)
 nothing_narrowed (Serves config at) sound = ap (λ (c : Config). Serves c at) (same_settings config sound)
+nothing_narrowed (Drives number octets) sound = refl
 
 module _ (Of : Meaning → Type 0) (one : (m n : Meaning) → Of m → Of n → m ≡ n) where
   -- of a command whose settings are checked
   pub answered : (command : Command) (meaning : Meaning) → Of meaning → said command ≡ narrowed_meaning meaning → (result : Result Command WordFault)
       → IfOk result (λ c. said c ≡ said command) → IfOk result (λ c. IsSound (config_of (said c)))
-      → IfOk result (λ c. first_broken (config_of (said command)) ≡ None)
-      → IfErr result (λ fault. (field : Field) × (fault ≡ BadConfig field) × (first_broken (config_of (said command)) ≡ Some field))
+      → IfOk result (λ c. broken_in (said command) ≡ None)
+      → IfErr result (λ fault. (field : Field) × (fault ≡ BadConfig field) × (broken_in (said command) ≡ Some field))
       → IsAnswer Of result
   answered command meaning of is (Ok c) same sound whole broken =
       let meant : said c ≡ meaning = same ∙ is ∙ nothing_narrowed meaning (subst (λ (m : Meaning). IsSound (config_of m)) (same ∙ is) sound) in
-      let none : first_broken (config_of meaning) ≡ None = sym (broken_still meaning) ∙ ap (λ (m : Meaning). first_broken (config_of m)) (sym is) ∙ whole in
+      let none : broken_in meaning ≡ None = sym (broken_still meaning) ∙ ap broken_in (sym is) ∙ whole in
       record {
         meant = subst Of (sym meant) of;
         bad_config = λ field h. absurd (cc h);
         usage = λ h. absurd (cc h);
         only = λ m h. let e : m ≡ meaning = one m meaning h of in
-            let quiet : first_broken (config_of m) ≡ None = ap (λ (n : Meaning). first_broken (config_of n)) e ∙ none in
+            let quiet : broken_in m ≡ None = ap broken_in e ∙ none in
             subst (λ (o : Option Field). MatchOption o ((command : Command) × (◌≡◌ {A = Result Command WordFault} (Ok c) (Ok command)) × (said command ≡ m)) (λ field. ◌≡◌ {A = Result Command WordFault} (Ok c) (Err (BadConfig field)))) (sym quiet) (c, refl, meant ∙ sym e);
       }
   answered command meaning of is (Err fault) same sound whole broken =
       let field = broken.0 in
-      let named : first_broken (config_of meaning) ≡ Some field = sym (broken_still meaning) ∙ ap (λ (m : Meaning). first_broken (config_of m)) (sym is) ∙ broken.2 in
+      let named : broken_in meaning ≡ Some field = sym (broken_still meaning) ∙ ap broken_in (sym is) ∙ broken.2 in
       let fault_is : ◌≡◌ {A = Result Command WordFault} (Err fault) (Err (BadConfig field)) = ap (λ (f : WordFault). Err f) broken.1 in
       record {
         meant = tt;
         bad_config = λ other h. (meaning, of, named ∙ (let same_fault : ◌≡◌ {A = Result Command WordFault} (Err (BadConfig field)) (Err (BadConfig other)) = sym fault_is ∙ h in let e : field ≡ other = cc in ap (λ (f : Field). Some f) e));
         usage = λ h. let clash : ◌≡◌ {A = Result Command WordFault} (Err (BadConfig field)) (Err Usage) = sym fault_is ∙ h in absurd (cc clash);
         only = λ m h. let e : m ≡ meaning = one m meaning h of in
-            let there : first_broken (config_of m) ≡ Some field = ap (λ (n : Meaning). first_broken (config_of n)) e ∙ named in
+            let there : broken_in m ≡ Some field = ap broken_in e ∙ named in
             subst (λ (o : Option Field). MatchOption o ((command : Command) × (◌≡◌ {A = Result Command WordFault} (Err fault) (Ok command)) × (said command ≡ m)) (λ field. ◌≡◌ {A = Result Command WordFault} (Err fault) (Err (BadConfig field)))) (sym there) fault_is;
       }

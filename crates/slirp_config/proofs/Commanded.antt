@@ -1,11 +1,12 @@
 -- The first word is the command; words mean one thing.
-use Rattle.std.proofs.Common.{◌≡◌, ℕ, List, ◌∷◌, codes, Result, Ok, Err, IfOk, OnErr, sym, ◌∙◌, ap, subst}
+use Rattle.std.proofs.Common.{◌≡◌, ℕ, List, [], ◌∷◌, codes, Result, Ok, Err, IfOk, OnErr, sym, ◌∙◌, ap, subst, arith}
 use Rattle.host_policy.specs.Addresses.{Config}
 use Rattle.world_face.specs.Journal.{Place}
 use Rattle.slirp_config.specs.declared.Command.{Command}
-use Rattle.slirp_config.specs.Meaning.{Meaning, Replays, Serves, Means, MeansReplay, MeansServe, said}
+use Rattle.slirp_config.specs.Meaning.{Meaning, Replays, Serves, Drives, Means, MeansReplay, MeansServe, MeansDrive, said}
 use Rattle.slirp_config.specs.Narrowing.{narrowed_settings, narrowed_meaning}
 use Rattle.slirp_config.specs.Options.{Word}
+use Rattle.slirp_config.proofs.Driven.{one_drive}
 use Rattle.slirp_config.proofs.Finding.{on_err}
 use Rattle.slirp_config.proofs.Only.{one_replay, one_serve}
 
@@ -14,6 +15,16 @@ same_behind command b d is = cc
 
 other_command : (b d : List Word) → ◌≡◌ {A = List Word} (codes "replay" ∷ b) (codes "serve" ∷ d) → ⊥
 other_command b d is = let names : ◌≡◌ {A = Word} (codes "replay") (codes "serve") = cc in cc names
+
+abbrev head_of : Word → ℕ
+head_of [] = 0
+head_of (octet ∷ word) = octet
+
+replay_no_drive : (b d : List Word) → ◌≡◌ {A = List Word} (codes "replay" ∷ b) (codes "drive" ∷ d) → ⊥
+replay_no_drive b d is = let names : ◌≡◌ {A = Word} (codes "replay") (codes "drive") = cc in cc names
+
+serve_no_drive : (b d : List Word) → ◌≡◌ {A = List Word} (codes "serve" ∷ b) (codes "drive" ∷ d) → ⊥
+serve_no_drive b d is = let names : ◌≡◌ {A = Word} (codes "serve") (codes "drive") = cc in let heads : 115 ≡ 100 = ap head_of names in omega (arith, heads)
 
 module _ {E : Type 0} (words behind : List Word) (r : Result Command E) where
   pub replay_command : words ≡ codes "replay" ∷ behind
@@ -32,13 +43,28 @@ module _ {E : Type 0} (words behind : List Word) (r : Result Command E) where
     | Err e ↦ λ m. tt
   ] h
 
+  pub drive_command : words ≡ codes "drive" ∷ behind
+      → IfOk r (λ c. (number : ℕ) × (octets : ℕ) × MeansDrive behind number octets × (said c ≡ Drives number octets))
+      → IfOk r (λ c. (meaning : Meaning) × Means words meaning × (said c ≡ narrowed_meaning meaning))
+  drive_command is h = elim r as (λ x. IfOk x (λ c. (number : ℕ) × (octets : ℕ) × MeansDrive behind number octets × (said c ≡ Drives number octets)) → IfOk x (λ c. (meaning : Meaning) × Means words meaning × (said c ≡ narrowed_meaning meaning))) [
+    | Ok c ↦ λ m. (Drives m.0 m.1, (behind, is, m.2), m.3)
+    | Err e ↦ λ m. tt
+  ] h
+
 no_replay : (words behind : List Word) → words ≡ codes "replay" ∷ behind → ((file : List ℕ) (config : Config) → ¬ MeansReplay behind file config) → (meaning : Meaning) → ¬ Means words meaning
 no_replay words behind is none (Replays file config) m = none file config (subst (λ (b : List Word). MeansReplay b file config) (same_behind (codes "replay") m.0 behind (sym m.1 ∙ is)) m.2)
 no_replay words behind is none (Serves config at) m = other_command behind m.0 (sym is ∙ m.1)
+no_replay words behind is none (Drives number octets) m = replay_no_drive behind m.0 (sym is ∙ m.1)
 
 no_serve : (words behind : List Word) → words ≡ codes "serve" ∷ behind → ((config : Config) (at : Place) → ¬ MeansServe behind config at) → (meaning : Meaning) → ¬ Means words meaning
 no_serve words behind is none (Replays file config) m = other_command m.0 behind (sym m.1 ∙ is)
 no_serve words behind is none (Serves config at) m = none config at (subst (λ (b : List Word). MeansServe b config at) (same_behind (codes "serve") m.0 behind (sym m.1 ∙ is)) m.2)
+no_serve words behind is none (Drives number octets) m = serve_no_drive behind m.0 (sym is ∙ m.1)
+
+no_drive : (words behind : List Word) → words ≡ codes "drive" ∷ behind → ((number octets : ℕ) → ¬ MeansDrive behind number octets) → (meaning : Meaning) → ¬ Means words meaning
+no_drive words behind is none (Replays file config) m = replay_no_drive m.0 behind (sym m.1 ∙ is)
+no_drive words behind is none (Serves config at) m = serve_no_drive m.0 behind (sym m.1 ∙ is)
+no_drive words behind is none (Drives number octets) m = none number octets (subst (λ (b : List Word). MeansDrive b number octets) (same_behind (codes "drive") m.0 behind (sym m.1 ∙ is)) m.2)
 
 module _ {E : Type 0} (words behind : List Word) (r : Result Command E) where
   pub replay_refused : words ≡ codes "replay" ∷ behind → OnErr r ((file : List ℕ) (config : Config) → ¬ MeansReplay behind file config) → OnErr r ((meaning : Meaning) → ¬ Means words meaning)
@@ -46,6 +72,9 @@ module _ {E : Type 0} (words behind : List Word) (r : Result Command E) where
 
   pub serve_refused : words ≡ codes "serve" ∷ behind → OnErr r ((config : Config) (at : Place) → ¬ MeansServe behind config at) → OnErr r ((meaning : Meaning) → ¬ Means words meaning)
   serve_refused is h = on_err r ((config : Config) (at : Place) → ¬ MeansServe behind config at) ((meaning : Meaning) → ¬ Means words meaning) (no_serve words behind is) h
+
+  pub drive_refused : words ≡ codes "drive" ∷ behind → OnErr r ((number octets : ℕ) → ¬ MeansDrive behind number octets) → OnErr r ((meaning : Meaning) → ¬ Means words meaning)
+  drive_refused is h = on_err r ((number octets : ℕ) → ¬ MeansDrive behind number octets) ((meaning : Meaning) → ¬ Means words meaning) (no_drive words behind is) h
 
 pub one_meaning : (words : List Word) (m n : Meaning) → Means words m → Means words n → m ≡ n
 one_meaning words (Replays f c) (Replays e d) h g =
@@ -56,3 +85,10 @@ one_meaning words (Serves c p) (Serves d q) h g =
     ap (λ (x : Config). Serves x p) s.0 ∙ ap (Serves d) s.1
 one_meaning words (Replays f c) (Serves d q) h g = absurd (other_command h.0 g.0 (sym h.1 ∙ g.1))
 one_meaning words (Serves c p) (Replays e d) h g = absurd (other_command g.0 h.0 (sym g.1 ∙ h.1))
+one_meaning words (Drives n o) (Drives m p) h g =
+    let s = one_drive g.0 n m o p (subst (λ (b : List Word). MeansDrive b n o) (same_behind (codes "drive") h.0 g.0 (sym h.1 ∙ g.1)) h.2) g.2 in
+    ap (λ (x : ℕ). Drives x o) s.0 ∙ ap (Drives m) s.1
+one_meaning words (Replays f c) (Drives m p) h g = absurd (replay_no_drive h.0 g.0 (sym h.1 ∙ g.1))
+one_meaning words (Serves c p) (Drives m o) h g = absurd (serve_no_drive h.0 g.0 (sym h.1 ∙ g.1))
+one_meaning words (Drives n o) (Replays e d) h g = absurd (replay_no_drive g.0 h.0 (sym g.1 ∙ h.1))
+one_meaning words (Drives n o) (Serves d q) h g = absurd (serve_no_drive g.0 h.0 (sym g.1 ∙ h.1))

@@ -7,7 +7,7 @@ use Rattle.host_policy.specs.declared.Proto.TheVariants.{Tcp, Udp}
 use Rattle.std.specs.Fmt.{digits}
 use Rattle.slirp_config.specs.Options.{Apart, Joined, Plain}
 use Rattle.slirp_config.specs.Texts.{address_text}
-use Rattle.slirp_config.specs.Meaning.{Means, Replays, Serves}
+use Rattle.slirp_config.specs.Meaning.{Means, Drives, Replays, Serves}
 use Rattle.world_face.specs.Journal.{AtPath}
 
 -- another network: what isn't given lies behind its first address
@@ -172,3 +172,8 @@ datagrams = (
     },
   ),
 )
+
+-- a drill of a million octets from the number 7
+a_drill : Means (codes "drive" ∷ codes "7" ∷ codes "1000000" ∷ []) (Drives 7 1000000)
+unfolding digits
+a_drill = (codes "7" ∷ codes "1000000" ∷ [], refl, (codes "7", codes "1000000", refl, (refl, omega arith), (refl, omega arith)))

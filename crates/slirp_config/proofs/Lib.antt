@@ -13,6 +13,7 @@ pub mod Meant
 pub mod Ruled
 pub mod Putting
 pub mod Only
+pub mod Driven
 pub mod Narrow
 pub mod Answered
 pub mod Commanded

@@ -1,13 +1,15 @@
 -- What the words of a command line mean.
-use Rattle.std.specs.Prelude.{◌≡◌, ℕ, ◌+◌, ◌%◌, ◌^◌, ◌<◌, ◌≤◌, ◌||◌, List, [], ◌∷◌, length, codes, Option, Some, None, is_some, Result, Ok, Err, MatchOption, if◌then◌else◌}
+use Rattle.std.specs.Prelude.{◌≡◌, ℕ, ◌+◌, ◌%◌, ◌^◌, ◌<◌, ◌≤◌, ◌||◌, nat_lt, List, [], ◌∷◌, length, codes, Option, Some, None, is_some, Result, Ok, Err, MatchOption, if◌then◌else◌}
 use Rattle.std.specs.Option.{option_map, option_map_or}
 use Rattle.net_octets.specs.declared.Endpoint.{Endpoint}
 use Rattle.host_policy.specs.Addresses.{Config}
 use Rattle.host_policy.specs.Settings.{settings, usual}
 use Rattle.host_policy.specs.Ranges.{first_broken}
+use Rattle.host_policy.specs.declared.config.Field.{Field}
+use Rattle.host_policy.specs.declared.config.Field.TheVariants.{Octets}
 use Rattle.world_face.specs.Journal.{IsPlace, Place, place_of}
 use Rattle.slirp_config.specs.declared.Command.{Command}
-use Rattle.slirp_config.specs.declared.Command.TheVariants.{Replay as ReplayOf, Serve as ServeOf}
+use Rattle.slirp_config.specs.declared.Command.TheVariants.{Drive as DriveOf, Replay as ReplayOf, Serve as ServeOf}
 use Rattle.slirp_config.specs.declared.WordFault.{WordFault}
 use Rattle.slirp_config.specs.declared.WordFault.TheVariants.{BadConfig}
 use Rattle.slirp_config.specs.declared.options.Verb.TheVariants.{Replay, Serve}
@@ -15,14 +17,23 @@ use Rattle.slirp_config.specs.Options.{Word, Line, IsLine, line_words, words_alo
 use Rattle.slirp_config.specs.Rules.{AreRules}
 use Rattle.slirp_config.specs.Texts.{IsNumber, IsAddress, IsNetwork, IsEndpointText, IsLink, held_folder, held_text}
 
--- A schedule in a file is replayed, or the link at a place is served, with these settings.
+-- A schedule in a file is replayed, or the link at a place is served, with these settings; or a drill of so many octets is run, on a World that is made from a number.
 pub data Meaning : Type 0 where
   Replays : (file : Word) (config : Config) → Meaning
   Serves : (config : Config) (at : Place) → Meaning
+  Drives : (number octets : ℕ) → Meaning
 
+-- those of a drill are the usual ones
 abbrev pub config_of : Meaning → Config
 config_of (Replays file config) = config
 config_of (Serves config at) = config
+config_of (Drives number octets) = usual
+
+-- The first field that isn't in its range. A drill has up to 10,000,000 octets; they are checked as a field of their own, which no settings have.
+abbrev pub broken_in : Meaning → Option Field
+broken_in (Replays file config) = first_broken config
+broken_in (Serves config at) = first_broken config
+broken_in (Drives number octets) = if nat_lt 10000000 octets then Some Octets else None
 
 -- a command with an option that only version 2 of the settings has is of that version
 abbrev pub version_of : (given : Word → Option Word) → ℕ
@@ -92,23 +103,30 @@ MeansServe words config at =
     (line : Line) × (words ≡ line_words line) × IsLine Serve line × MatchOption (value_of line (codes "--link")) ⊥ (λ text. IsLink text at)
     × AreRules (words_alone line) config.dhcp_start config.forwards × AreSettings (value_of line) config
 
+-- the words behind `drive` are two numbers
+abbrev pub MeansDrive : List Word → (number octets : ℕ) → Type 0
+MeansDrive words number octets = (one : Word) × (two : Word) × (words ≡ one ∷ two ∷ []) × IsNumber 64 one number × IsNumber 64 two octets
+
 -- The first word is the command. Words of another command mean nothing.
 abbrev pub Means : List Word → Meaning → Type 0
 Means words (Replays file config) = (behind : List Word) × (words ≡ codes "replay" ∷ behind) × MeansReplay behind file config
 Means words (Serves config at) = (behind : List Word) × (words ≡ codes "serve" ∷ behind) × MeansServe behind config at
+Means words (Drives number octets) = (behind : List Word) × (words ≡ codes "drive" ∷ behind) × MeansDrive behind number octets
 
 -- what a command says
 abbrev pub said : Command → Meaning
 said (ReplayOf file config) = Replays file.bytes (settings config)
 said (ServeOf config at) = Serves (settings config) (place_of at)
+said (DriveOf number octets) = Drives number octets
 
 -- the link can be opened there
 abbrev pub HasPlace : Meaning → Type 0
 HasPlace (Replays file config) = Unit {0}
 HasPlace (Serves config at) = IsPlace at
+HasPlace (Drives number octets) = Unit {0}
 
--- Words of this meaning are answered by it where each setting is in its range, else by the first field that isn't.
+-- Words of this meaning are answered by it where each field is in its range, else by the first that isn't.
 abbrev pub AnswersBy : Result Command WordFault → Meaning → Type 0
-AnswersBy result meaning = MatchOption (first_broken (config_of meaning))
+AnswersBy result meaning = MatchOption (broken_in meaning)
     ((command : Command) × (result ≡ Ok command) × (said command ≡ meaning))
     (λ field. result ≡ Err (BadConfig field))

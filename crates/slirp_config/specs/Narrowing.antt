@@ -4,7 +4,7 @@ use Rattle.host_policy.specs.Addresses.{Config}
 use Rattle.host_policy.specs.Targets.{anywhere}
 use Rattle.host_policy.specs.declared.Forward.{Forward}
 use Rattle.host_policy.specs.declared.Proto.TheVariants.{Tcp}
-use Rattle.slirp_config.specs.Meaning.{Meaning, Replays, Serves}
+use Rattle.slirp_config.specs.Meaning.{Meaning, Replays, Serves, Drives}
 
 -- a number that 32 bits don't hold is the greatest that they hold
 abbrev pub narrowed : ℕ → ℕ
@@ -24,3 +24,4 @@ narrowed_settings config = record config { flows = narrowed config.flows; ring =
 abbrev pub narrowed_meaning : Meaning → Meaning
 narrowed_meaning (Replays file config) = Replays file (narrowed_settings config)
 narrowed_meaning (Serves config at) = Serves (narrowed_settings config) at
+narrowed_meaning (Drives number octets) = Drives number octets

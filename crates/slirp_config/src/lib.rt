@@ -1,6 +1,6 @@
 //! The words of the command line, and the settings that they give. Nothing is allocated.
 //!
-//! `replay FILE [OPTIONS] [RULE]...` and `serve --link AT [OPTIONS] [RULE]...` have a reading; FILE has 1 to 1,280 octets. An option is written
+//! `replay FILE [OPTIONS] [RULE]...`, `serve --link AT [OPTIONS] [RULE]...` and `drive NUMBER OCTETS` have a reading; FILE has 1 to 1,280 octets. An option is written
 //! `--name value` or `--name=value`, a flag `--name`, each once and anywhere behind the command. Behind the word `--` no word is an option. No name is
 //! shortened and no value is empty; numbers are decimal digits without a needless zero in front. At most 34 words stand by themselves: the first of
 //! `replay` is FILE, and each other is a RULE.
@@ -22,6 +22,8 @@
 //! of a guest, of TCP where no type is said. Without an address it is every one of the host's, 0.0.0.0, and the first that is lent to guests, whether
 //! `--dhcpstart` stands before the RULE or behind it.
 //!
+//! `drive` has neither options nor RULEs: NUMBER and OCTETS are numbers up to 2^64 - 1, and its settings are the usual ones. OCTETS over 10,000,000 is out of its range.
+//!
 //! A setting out of its range is named, the first in the order of `host_policy`: a text of over 127 octets too, a folder of over 1,024, and more than 32 RULEs. With `--no-dhcp`, `--no-dns` or `--outbound` the settings are of version 2.
 #![tactic(auto)]
 
@@ -31,20 +33,24 @@ mod rules;
 mod settings;
 mod values;
 
-ghost use Rattle.std.specs.Prelude.{◌≡◌, ℕ, List, Err, IfErr, IfOk, OnErr, None, Some, map, ◌∷◌, ◌<◌, ◌≤◌, length};
+ghost use Rattle.std.specs.Prelude.{◌≡◌, ℕ, List, Err, IfErr, IfOk, OnErr, OnOk, None, Some, map, nat_lt, ◌∷◌, ◌<◌, ◌≤◌, length, if◌then◌else◌};
 ghost use Rattle.std.specs.String.{string_bytes};
+ghost use Rattle.std.specs.Result.{result_err};
 ghost use Rattle.host_policy.specs.Addresses.{Config};
-ghost use Rattle.host_policy.specs.Ranges.{IsSound, first_broken};
+ghost use Rattle.host_policy.specs.Ranges.{IsSound};
+ghost use Rattle.host_policy.specs.Settings.{usual};
 ghost use Rattle.host_policy.specs.declared.config.Field.{Field as AField};
+ghost use Rattle.host_policy.specs.declared.config.Field.TheVariants.{Octets};
 ghost use Rattle.world_face.specs.Journal.{Place};
-ghost use Rattle.slirp_config.specs.Meaning.{AnswersBy, HasPlace, Meaning, Means, MeansReplay, MeansServe, Replays, Serves, config_of, said};
+ghost use Rattle.slirp_config.specs.Meaning.{AnswersBy, Drives, HasPlace, Meaning, Means, MeansDrive, MeansReplay, MeansServe, Replays, Serves, broken_in, config_of, said};
 ghost use Rattle.slirp_config.specs.Narrowing.{narrowed_meaning, narrowed_settings};
 ghost use Rattle.slirp_config.specs.Options.{Word};
+ghost use Rattle.slirp_config.specs.Texts.{IsNumber};
 ghost use Rattle.slirp_config.specs.declared.WordFault.TheVariants.{BadConfig, Usage};
 
 use crate::line::{Line, NoReading};
 use crate::options::Verb;
-use crate::values::read_link;
+use crate::values::{read_link, read_number};
 use arrayvec::ArrayString;
 use host_policy::{Field, SlirpConfig};
 use world_face::LinkAt;
@@ -56,20 +62,36 @@ pub enum Command {
     Replay(ArrayString<1280>, SlirpConfig),
     /// The network is served with these settings, on the link at this place.
     Serve(SlirpConfig, LinkAt),
+    /// A drill is run with the usual settings: from this number, of so many octets.
+    Drive(u64, u64),
 }
 
-impl Command {
-    ghost use Rattle.host_policy.specs.Settings.{settings};
-    ghost use Rattle.slirp_config.specs.Meaning.{config_of, said};
+/// The most octets of a drill.
+const MOST_DRIVEN: u64 = 10_000_000;
 
-    /// The settings.
-    pub fn config(&self) -> &SlirpConfig
-        ensures { settings result.now ≡ config_of (said self.now) }
+impl Command {
+    // Ok exactly where each field is in its range, else the first field that isn't.
+    fn check(&self) -> Result<(), Field>
+        ensures sound { OnOk result (IsSound (config_of (said self.now))) }
+        ensures first { result_err result ≡ broken_in (said self.now) }
     {
         match self {
-            Command::Replay(_, config) => config,
-            Command::Serve(config, _) => config,
+            Command::Replay(_, config) => config.check(),
+            Command::Serve(config, _) => config.check(),
+            Command::Drive(_, octets) => check_driven(*octets),
         }
+    }
+}
+
+// The octets of a drill are checked as a field that no settings have.
+fn check_driven(octets: u64) -> Result<(), Field>
+    ensures sound { OnOk result (IsSound usual) }
+    ensures first { result_err result ≡ (if nat_lt 10000000 octets then Some Octets else None) }
+{
+    if octets > MOST_DRIVEN {
+        Err(Field::Octets)
+    } else {
+        Ok(())
     }
 }
 
@@ -82,16 +104,16 @@ pub enum WordFault {
     BadConfig(Field),
 }
 
-/// Reads the words of the command line, without the program's name. Of `replay` and `serve` they say what is asked for and with which settings, which are then
-/// checked; all other words have no reading.
+/// Reads the words of the command line, without the program's name. Of `replay`, `serve` and `drive` they say what is asked for and with which settings, which are
+/// then checked; all other words have no reading.
 pub fn read_words(words: &Vec<String>) -> Result<Command, WordFault>
-    // A command is what the words mean, with settings in their ranges.
+    // A command is what the words mean, with each field in its range.
     ensures meant { IfOk result (λ command. Means (map string_bytes words.now.items) (said command)) }
     ensures sound { IfOk result (λ command. IsSound (config_of (said command))) }
     // The link can be opened at the place that is told.
     ensures place { IfOk result (λ command. HasPlace (said command)) }
-    // A field is named where the words mean settings of which it is the first that isn't in its range.
-    ensures bad_config { (field : AField) → result ≡ Err (BadConfig field) → (meaning : Meaning) × Means (map string_bytes words.now.items) meaning × (first_broken (config_of meaning) ≡ Some field) }
+    // A field is named where the words mean something of which it is the first that isn't in its range.
+    ensures bad_config { (field : AField) → result ≡ Err (BadConfig field) → (meaning : Meaning) × Means (map string_bytes words.now.items) meaning × (broken_in meaning ≡ Some field) }
     // Words are refused where they mean nothing.
     ensures usage { result ≡ Err Usage → (meaning : Meaning) → ¬ Means (map string_bytes words.now.items) meaning }
     // Whatever the words mean is answered: so each of the above comes exactly there.
@@ -108,16 +130,16 @@ pub fn words_mean_one_thing()
     ensures { (words : List Word) (one other : Meaning) → Means words one → Means words other → one ≡ other }
 {}
 
-// The command, where its settings are in their ranges.
+// The command, where each field is in its range.
 fn checked(command: Command) -> Result<Command, WordFault>
     requires { HasPlace (said command) }
     ensures same { IfOk result (λ c. said c ≡ said command) }
     ensures place { IfOk result (λ c. HasPlace (said c)) }
     ensures sound { IfOk result (λ c. IsSound (config_of (said c))) }
-    ensures whole { IfOk result (λ c. first_broken (config_of (said command)) ≡ None) }
-    ensures broken { IfErr result (λ fault. (field : AField) × (fault ≡ BadConfig field) × (first_broken (config_of (said command)) ≡ Some field)) }
+    ensures whole { IfOk result (λ c. broken_in (said command) ≡ None) }
+    ensures broken { IfErr result (λ fault. (field : AField) × (fault ≡ BadConfig field) × (broken_in (said command) ≡ Some field)) }
 {
-    match command.config().check() {
+    match command.check() {
         Ok(()) => Ok(command),
         Err(field) => Err(WordFault::BadConfig(field)),
     }
@@ -137,6 +159,9 @@ fn command_of(words: &[String]) -> Result<Command, NoReading>
     }
     if command.as_str() == "serve" {
         return serve_of(behind);
+    }
+    if command.as_str() == "drive" {
+        return drive_of(behind);
     }
     Err(NoReading)
 }
@@ -183,4 +208,26 @@ fn serve_of(words: &[String]) -> Result<Command, NoReading>
     let at = read_link(link)?;
     let config = line.settings(line.alone())?;
     Ok(Command::Serve(config, at))
+}
+
+// What the words behind `drive` ask for.
+fn drive_of(words: &[String]) -> Result<Command, NoReading>
+    ensures meant { IfOk result (λ command. (number : ℕ) × (octets : ℕ) × MeansDrive (map string_bytes words.now) number octets × (said command ≡ Drives number octets)) }
+    ensures place { IfOk result (λ command. HasPlace (said command)) }
+    ensures refused { OnErr result ((number octets : ℕ) → ¬ MeansDrive (map string_bytes words.now) number octets) }
+{
+    let [number, octets] = words else {
+        return Err(NoReading);
+    };
+    let number = number_of(number)?;
+    let octets = number_of(octets)?;
+    Ok(Command::Drive(number, octets))
+}
+
+// A number of 64 bits.
+fn number_of(word: &String) -> Result<u64, NoReading>
+    ensures number { IfOk result (λ n. IsNumber 64 (string_bytes word.now) n) }
+    ensures refused { OnErr result ((n : ℕ) → ¬ IsNumber 64 (string_bytes word.now) n) }
+{
+    read_number(word.as_str().as_bytes())
 }

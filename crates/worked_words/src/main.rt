@@ -1,5 +1,5 @@
 //! What words of the command line mean. Each word names a file in the folder where this runs, each line of which has the words of a command line; for each what they
-//! mean is printed, with all settings that an option or a RULE can name. A line that begins with `#` is a remark, an empty one nothing.
+//! mean is printed, with all settings that an option or a RULE can name; a drill has none. A line that begins with `#` is a remark, an empty one nothing.
 #![tactic(auto)]
 
 use host_policy::{Forward, Proto, SlirpConfig};
@@ -39,6 +39,7 @@ fn meaning_of(alloc: Global, line: &str) -> Result<String, AllocError> {
             let link = link_of(alloc, at)?;
             format!(in alloc; "serve {link}: {settings}")
         }
+        Ok(Command::Drive(number, octets)) => format!(in alloc; "drive {number} {octets}"),
         Err(WordFault::Usage) => "no reading".to_string(alloc),
         Err(WordFault::BadConfig(field)) => {
             format!(in alloc; "{} is out of its range", field.name())

@@ -1,7 +1,8 @@
-use Rattle.std.proofs.Common.{ℕ, List, sym, subst}
+use Rattle.std.proofs.Common.{ℕ, List, refl, sym, subst}
 use Rattle.host_policy.specs.Settings.{settings}
 use Rattle.world_face.specs.Journal.{Follows}
 use Rattle.world_face.specs.Tells.{Makes}
+use Rattle.world_face.proofs.Telling.{makes_none}
 use Rattle.slirp_config.specs.Meaning.{said}
 use Rattle.slirp_config.specs.declared.Command.{Command}
 use Rattle.slirp_app.specs.Causes.{Caused}
@@ -15,3 +16,8 @@ returns-in-Replay-clause-does g c =
     (subst (λ (name : List ℕ). Makes (g.W.World.tells c.args.world.now) (g.W.World.tells c.replay_file.new.world)
     (λ made. Follows (MayFetch name) made × Caused (settings c.in-Replay.config) c.replay_file.result made (g.K.Sink.holds c.args.out.now) (g.K.Sink.holds c.replay_file.new.out)))
     c.as_str.ensures.value c.replay_file.ensures.calls)
+
+pub returns-in-Drive-clause-does : goal.returns-in-Drive-clause-does
+returns-in-Drive-clause-does g c =
+    subst (λ (k : Command). Does (said k) c.drive.result (g.W.World.tells c.args.world.now) (g.W.World.tells c.args.world.now) (g.K.Sink.holds c.args.out.now) (g.K.Sink.holds c.drive.new.out)) (sym c.in-Drive.is)
+    (record { untouched = makes_none _ _ refl; ends = c.drive.ensures.ends; summary = c.drive.ensures.summary })

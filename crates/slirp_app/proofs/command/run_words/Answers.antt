@@ -17,8 +17,12 @@ follow-requires-clause-built g c =
 pub follow-requires-clause-meant : goal.follow-requires-clause-meant
 follow-requires-clause-meant g c =
     let words = map string_bytes c.args.words.now.items in
-    can_be_done words (said c.in-Ok.command) (subst (λ (r : Result Command WordFault). IfOk r (λ (k : Command). Means words (said k))) c.in-Ok.is c.read_words-read.ensures.meant)
-    (subst (λ (r : Result Command WordFault). IfOk r (λ (k : Command). HasPlace (said k))) c.in-Ok.is c.read_words-read.ensures.place)
+    let read = c.read_words-read in
+    let command = c.in-Ok.command in
+    let means : Means words (said command) = subst (λ (r : Result Command WordFault). IfOk r (λ (k : Command). Means words (said k))) c.in-Ok.is read.ensures.meant in
+    can_be_done words (said command) means
+    (subst (λ (r : Result Command WordFault). IfOk r (λ (k : Command). HasPlace (said k))) c.in-Ok.is read.ensures.place)
+    (none_broken read.result command c.in-Ok.is (read.ensures.only (said command) means))
 
 pub returns-in-Ok-clause-course : goal.returns-in-Ok-clause-course
 returns-in-Ok-clause-course g c =

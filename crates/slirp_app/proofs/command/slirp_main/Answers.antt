@@ -1,7 +1,7 @@
 use Rattle.std.proofs.Common.{◌≡◌, ◌↔◌, ◌⊎◌, IsTrue, map, sym, ◌∙◌, ap, subst}
 use Rattle.std.specs.String.{string_bytes}
-use Rattle.slirp_config.specs.Meaning.{Meaning, Means, Replays, Serves}
-use Rattle.slirp_app.specs.Doing.{ReplaysFile}
+use Rattle.slirp_config.specs.Meaning.{Drives, Meaning, Means, Replays, Serves}
+use Rattle.slirp_app.specs.Doing.{DrivesRun, ReplaysFile}
 use Rattle.slirp_app.specs.Statuses.{code_of, is_unrun}
 use Rattle.slirp_app.specs.Texts.{Got, told_text}
 use Rattle.slirp_app.proofs.Causing as causing
@@ -40,6 +40,12 @@ returns-clause-serves g c config at means sound =
     let outcome = c.run_words-outcome.result in
     let done = courses.does _ _ _ _ _ _ c.run_words-outcome.ensures.course (Serves config at) means sound in
     record { outcome = outcome; is = c.code.ensures; told = causing.got _ _ _ _ (told_text outcome) c.tell-told.result c.tell-told.ensures.text; makes = done.0; nothing = done.1 }
+
+pub returns-clause-drives : goal.returns-clause-drives
+returns-clause-drives g c number octets means small =
+    let new = c.run_words-outcome.new in
+    subst (λ n. DrivesRun number octets n (g.W.World.tells c.args.world.now) (g.W.World.tells new.world) (g.K.Sink.holds c.args.out.now) (g.K.Sink.holds new.out)) (sym c.code.ensures)
+    (courses.does _ _ _ _ _ _ c.run_words-outcome.ensures.course (Drives number octets) means (courses.in_range number octets small))
 
 pub returns-clause-nothing : goal.returns-clause-nothing
 returns-clause-nothing g c is = c.run_words-outcome.ensures.nothing (subst (λ n. IsTrue (is_unrun n)) c.code.ensures is)

@@ -1,0 +1,27 @@
+//! Runs of the network on a World that is made from a number. Each word names a file of cases in the folder where this runs, each a line; a line that begins with `#` is a
+//! remark, an empty one nothing.
+//!
+//! `drill NUMBER OCTETS`: the guest sends OCTETS octets. What the World counted is printed, before the run and behind it.
+//!
+//! `fail NUMBER OCTETS = KIND END UP DOWN, ..`: the same, once for each call of the run that can fail, which then does; likewise `short` and `not_yet`. KIND is `link`,
+//! `wait`, `socket` or `file`: where a call of this kind got the fault the run has to end so, UP octets at least have to come to the host and DOWN to the guest, and none
+//! may be wrong. A line tells whether each run came to that.
+#![tactic(auto)]
+
+mod case;
+mod run;
+
+use std::{env, fs, io};
+
+fn main(rt: HostRuntime) -> io::Result<()> {
+    for name in env::args(&rt)?.skip(1) {
+        let text = fs::read_to_string(&rt, name.as_str())?;
+        for line in text.lines() {
+            if !line.is_empty() && !line.starts_with('#') {
+                let verdict = case::verdict(rt.alloc(), line)?;
+                println!(rt; "{name}: {line}: {verdict}")?;
+            }
+        }
+    }
+    Ok(())
+}
