@@ -1,0 +1,5 @@
+use Rattle.taps.proofs.Passing.{passed_on}
+use Rattle.taps.proofs.tap.TapWorld.connected.Goals as goal
+
+pub invariant_of-self : goal.invariant_of-self
+invariant_of-self g c = passed_on _ _ _ _ _ _ c.self.invariant c.connected-answer.ensures c.note.ensures.made

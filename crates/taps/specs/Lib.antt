@@ -1,0 +1,2 @@
+pub mod Capturing
+pub mod Recording

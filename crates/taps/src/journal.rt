@@ -1,0 +1,34 @@
+// The calls so far. They exist only in proofs.
+ghost use Rattle.std.specs.Prelude.{◌≡◌, List, [], ◌∷◌};
+ghost use Rattle.std.specs.Borrow.{ftrue};
+ghost use Rattle.world_face.specs.Journal.{Entry};
+ghost use Rattle.replay.specs.Views.{viewed};
+
+use replay::LineView;
+use std::marker::Model;
+
+// A list of calls with their answers, newest first, which only clauses read: it has no octets. What it says is tied to the World by `Record` and to the sink by `Book`.
+#[derive(Drop)]
+pub(crate) struct Journal {
+    pub ghost entries: { List Entry },
+}
+
+impl Model for Journal {
+    ghost also_owns = { λ _. ftrue };
+}
+
+impl Journal {
+    // No call yet.
+    pub(crate) fn new() -> Journal
+        ensures { result.entries ≡ [] }
+    {
+        Journal {}
+    }
+
+    // One call more.
+    pub(crate) fn then(&self, _line: &LineView<'_>) -> Journal
+        ensures { result.entries ≡ viewed _line.now ∷ self.now.entries }
+    {
+        Journal {}
+    }
+}
