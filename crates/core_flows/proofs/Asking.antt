@@ -7,8 +7,8 @@ use Rattle.flow_table.specs.declared.Slot.TheVariants.{Free, InUse, Resting}
 use Rattle.flow_laws.specs.Event.{AsksAddress, At, Story}
 use Rattle.flow_laws.specs.Flow.{is_accepted}
 use Rattle.flow_laws.specs.Close.{is_in_use}
-use Rattle.flow_book.specs.Flows.{Flow, Rest, flow_of, uses, used, with_event, seeks_for}
-use Rattle.flow_book.proofs.Apart.{seeks_number, map_found}
+use Rattle.record_flows.specs.Flows.{Flow, Rest, flow_of, uses, used, with_event, seeks_for}
+use Rattle.record_flows.proofs.Apart.{seeks_number, map_found}
 use Rattle.core_flows.specs.Only.{ids}
 use Rattle.core_flows.specs.Seats.{IsSlotOf, Seats}
 use Rattle.core_flows.proofs.Only.{differ_same}

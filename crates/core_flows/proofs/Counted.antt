@@ -8,7 +8,7 @@ use Rattle.flow_table.specs.declared.Slot.{Slot}
 use Rattle.flow_table.specs.declared.Slot.TheVariants.{Free, InUse, Resting}
 use Rattle.flow_laws.specs.Event.{Story}
 use Rattle.run_laws.specs.Sockets.{is_among}
-use Rattle.flow_book.specs.Flows.{Flow, Rest, used}
+use Rattle.record_flows.specs.Flows.{Flow, Rest, used}
 use Rattle.core_flows.specs.Seats.{count_used, in_use_slots, number_in, number_at, rests_at, Once, Seats}
 use Rattle.core_flows.proofs.Seats.{same_or_not}
 use Rattle.core_flows.proofs.Turning.{without_one, without_head, without_tail, gone}

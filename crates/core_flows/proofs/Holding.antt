@@ -9,10 +9,10 @@ use Rattle.host_policy.specs.Addresses.{Config}
 use Rattle.flow_table.specs.declared.Tuple.{Tuple}
 use Rattle.flow_laws.specs.Event.{Story}
 use Rattle.flow_laws.specs.Close.{is_in_use}
-use Rattle.flow_book.specs.Lots.{due_for_flows}
-use Rattle.flow_book.specs.Book.{book}
-use Rattle.flow_book.specs.Flows.{Flow, Rest, flow_of, rests_among}
-use Rattle.flow_book.specs.Taught.{taught, taught_by, taught_pair}
+use Rattle.record_flows.specs.Lots.{due_for_flows}
+use Rattle.record_flows.specs.Book.{book}
+use Rattle.record_flows.specs.Flows.{Flow, Rest, flow_of, rests_among}
+use Rattle.record_flows.specs.Taught.{taught, taught_by, taught_pair}
 use Rattle.run_laws.specs.Happenings.{Arrival, happens}
 use Rattle.run_laws.specs.Packets.{Pair}
 use Rattle.run_laws.specs.Sockets.{next_number}

@@ -8,8 +8,8 @@ use Rattle.flow_table.specs.declared.Slot.TheVariants.{Free, InUse, Resting}
 use Rattle.flow_table.specs.declared.Tuple.{Tuple}
 use Rattle.flow_laws.specs.Event.{Event, At, Story}
 use Rattle.flow_laws.specs.Close.{is_in_use}
-use Rattle.flow_book.specs.Book.{make_room, opens, without}
-use Rattle.flow_book.specs.Flows.{Flow, Rest, Book, owner, flow_of, rests_among}
+use Rattle.record_flows.specs.Book.{make_room, opens, without}
+use Rattle.record_flows.specs.Flows.{Flow, Rest, Book, owner, flow_of, rests_among}
 use Rattle.core_flows.specs.Seats.{IsSlotOf, number_in, number_at, Rise, Seats}
 use Rattle.core_flows.proofs.Opening.{none_some, seats_opened, some_same}
 use Rattle.core_flows.proofs.Taking.{room_else, room_free, room_full, room_own, seats_taken_longest, seats_taken_own}

@@ -8,8 +8,8 @@ use Rattle.flow_table.specs.declared.Slot.TheVariants.{Free, Resting}
 use Rattle.flow_table.specs.declared.Tuple.{Tuple}
 use Rattle.flow_laws.specs.Event.{Story}
 use Rattle.flow_laws.specs.Close.{is_in_use}
-use Rattle.flow_book.specs.Book.{rest, without}
-use Rattle.flow_book.specs.Flows.{Flow, Rest, owner, flow_of, uses}
+use Rattle.record_flows.specs.Book.{rest, without}
+use Rattle.record_flows.specs.Flows.{Flow, Rest, owner, flow_of, uses}
 use Rattle.core_flows.specs.Only.{Only}
 use Rattle.core_flows.specs.Seats.{IsSlotOf, number_in, number_at, rests_at, count_used, in_use_slots, Once, Seats}
 use Rattle.core_flows.proofs.Only.{number_of_found}

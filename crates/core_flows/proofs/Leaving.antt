@@ -3,9 +3,9 @@ use Rattle.std.proofs.Common.{◌≡◌, ℕ, ◌==◌, true, false, List, [], �
 use Rattle.world_face.specs.Journal.{Entry}
 use Rattle.host_policy.specs.Addresses.{Config}
 use Rattle.flow_laws.specs.Close.{rests_since}
-use Rattle.flow_book.specs.Book.{after_close, rest, turned, scene, book}
-use Rattle.flow_book.specs.Doings.{Shuts, doing}
-use Rattle.flow_book.specs.Flows.{Flow, Rest, flow_of, rests_among}
+use Rattle.record_flows.specs.Book.{after_close, rest, turned, scene, book}
+use Rattle.record_flows.specs.Doings.{Shuts, doing}
+use Rattle.record_flows.specs.Flows.{Flow, Rest, flow_of, rests_among}
 use Rattle.core_flows.specs.Only.{IsOf, AreOf, StaysInUse}
 use Rattle.core_flows.proofs.Resting.{rests_apart, stays_out}
 

@@ -6,13 +6,13 @@ use Rattle.host_policy.specs.Addresses.{Config}
 use Rattle.flow_table.specs.declared.Tuple.{Tuple}
 use Rattle.flow_laws.specs.Event.{Segment, Arrives, Departs}
 use Rattle.flow_laws.specs.Close.{is_in_use, owes_reset, is_owed_reset}
-use Rattle.flow_book.specs.Book.{turned, scene, book}
-use Rattle.flow_book.specs.Flows.{Flow, Book, Scene, is_on, is_numbered, owner, flow_of, uses, used, tell, with_event, sends, shuts}
-use Rattle.flow_book.specs.Doings.{Doing, Nothing, Comes, Goes, Seeks, Pauses, Joins, Visits, Calls, Shuts, doing}
-use Rattle.flow_book.specs.Touching.{has_number}
-use Rattle.flow_book.proofs.Apart.{tell_apart, sends_number, found_told, own_told}
+use Rattle.record_flows.specs.Book.{turned, scene, book}
+use Rattle.record_flows.specs.Flows.{Flow, Book, Scene, is_on, is_numbered, owner, flow_of, uses, used, tell, with_event, sends, shuts}
+use Rattle.record_flows.specs.Doings.{Doing, Nothing, Comes, Goes, Seeks, Pauses, Joins, Visits, Calls, Shuts, doing}
+use Rattle.record_flows.specs.Touching.{has_number}
+use Rattle.record_flows.proofs.Apart.{tell_apart, sends_number, found_told, own_told}
 use Rattle.core_flows.specs.Only.{IsOf, AreOf, ids, one_if, Only}
-use Rattle.flow_book.specs.Said.{Differ}
+use Rattle.record_flows.specs.Said.{Differ}
 
 same_number : (n : ℕ) → (n == n) ≡ true
 same_number n = grind (arith, nat_tests)

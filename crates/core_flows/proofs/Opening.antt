@@ -10,8 +10,8 @@ use Rattle.flow_table.specs.declared.Tuple.{Tuple}
 use Rattle.flow_laws.specs.Event.{Story}
 use Rattle.flow_laws.specs.Close.{is_in_use}
 use Rattle.host_policy.specs.Targets.{same_endpoint}
-use Rattle.flow_book.specs.Segments.{same_tuple}
-use Rattle.flow_book.specs.Flows.{Flow, Rest, owner, flow_of, uses}
+use Rattle.record_flows.specs.Segments.{same_tuple}
+use Rattle.record_flows.specs.Flows.{Flow, Rest, owner, flow_of, uses}
 use Rattle.core_flows.specs.Seats.{number_in, number_at, rests_at, count_used, in_use_slots, Seats}
 use Rattle.core_flows.proofs.Seats.{same_or_not, differ}
 use Rattle.core_flows.proofs.Tables.{get_set_same, get_set_at, get_set_other}

@@ -5,10 +5,10 @@ use Rattle.host_policy.specs.Addresses.{Config}
 use Rattle.flow_laws.specs.Event.{Segment, Connects, Accepts, Arrives, Departs, Closes, At, Story}
 use Rattle.flow_laws.specs.Flow.{is_accepted, is_closed, syn_is_out}
 use Rattle.flow_laws.specs.Close.{is_done, follows_reset, host_failed, gives_up, connects_too_long, owes_reset, is_owed_reset, is_in_use, ended_first, ends_rest, renews, renewed, rests_since}
-use Rattle.flow_book.specs.Book.{after_segment, after_close, without, rest, turned, scene, book}
-use Rattle.flow_book.specs.Flows.{Flow, Rest, Book, Scene, owner, flow_of, uses, rests_among}
-use Rattle.flow_book.specs.Doings.{Doing, Nothing, Comes, Goes, Seeks, Pauses, Joins, Visits, Calls, Shuts, doing}
-use Rattle.flow_book.specs.Touching.{has_number}
+use Rattle.record_flows.specs.Book.{after_segment, after_close, without, rest, turned, scene, book}
+use Rattle.record_flows.specs.Flows.{Flow, Rest, Book, Scene, owner, flow_of, uses, rests_among}
+use Rattle.record_flows.specs.Doings.{Doing, Nothing, Comes, Goes, Seeks, Pauses, Joins, Visits, Calls, Shuts, doing}
+use Rattle.record_flows.specs.Touching.{has_number}
 use Rattle.core_flows.specs.Only.{IsOf, AreOf, StaysInUse}
 
 -- a segment of a flow that doesn't rest

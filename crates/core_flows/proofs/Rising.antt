@@ -8,10 +8,10 @@ use Rattle.flow_laws.specs.Event.{Segment, Accepts}
 use Rattle.flow_laws.specs.Flow.{first_number}
 use Rattle.flow_laws.specs.Close.{ends_rest, renews, rests_since}
 use Rattle.run_laws.specs.Moments.{moment, moment_after}
-use Rattle.flow_book.specs.Book.{after_close, after_segment, book, doom, is_refused, is_young, joins_for, make_room, opens, port_of, rest, scene, tuple_for, turned, visits_for, with_room, without}
-use Rattle.flow_book.specs.Doings.{Doing, Nothing, Comes, Goes, Seeks, Pauses, Joins, Visits, Calls, Shuts, doing}
-use Rattle.flow_book.specs.Flows.{Flow, Rest, Book, Scene, owner, flow_of, rests_among, used}
-use Rattle.flow_book.specs.Segments.{OnTuple}
+use Rattle.record_flows.specs.Book.{after_close, after_segment, book, doom, is_refused, is_young, joins_for, make_room, opens, port_of, rest, scene, tuple_for, turned, visits_for, with_room, without}
+use Rattle.record_flows.specs.Doings.{Doing, Nothing, Comes, Goes, Seeks, Pauses, Joins, Visits, Calls, Shuts, doing}
+use Rattle.record_flows.specs.Flows.{Flow, Rest, Book, Scene, owner, flow_of, rests_among, used}
+use Rattle.record_flows.specs.Segments.{OnTuple}
 use Rattle.core_flows.specs.Seats.{AreFrom, Rise}
 
 -- each rests since this moment or an earlier one

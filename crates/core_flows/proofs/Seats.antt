@@ -8,8 +8,8 @@ use Rattle.flow_table.specs.declared.Slot.TheVariants.{Free, InUse, Resting}
 use Rattle.flow_table.specs.declared.Tuple.{Tuple}
 use Rattle.flow_laws.specs.Event.{Story}
 use Rattle.flow_laws.specs.Close.{is_in_use}
-use Rattle.flow_book.specs.Segments.{same_tuple}
-use Rattle.flow_book.specs.Flows.{Flow, Rest, owner, flow_of, uses, used}
+use Rattle.record_flows.specs.Segments.{same_tuple}
+use Rattle.record_flows.specs.Flows.{Flow, Rest, owner, flow_of, uses, used}
 use Rattle.core_flows.specs.Only.{ids, one_if, Only}
 use Rattle.core_flows.specs.Seats.{IsSlotOf, number_in, number_at, rests_at, resting_numbers, Seats}
 use Rattle.core_flows.proofs.Only.{number_of_found, head_same}

@@ -7,8 +7,8 @@ use Rattle.flow_table.specs.declared.Slot.{Slot}
 use Rattle.flow_table.specs.declared.Slot.TheVariants.{Free, InUse, Resting}
 use Rattle.flow_laws.specs.Event.{Story}
 use Rattle.flow_laws.specs.Close.{is_in_use}
-use Rattle.flow_book.specs.Book.{make_room, with_room, without}
-use Rattle.flow_book.specs.Flows.{Flow, Rest, Book, owner, flow_of, rests_among, uses, used}
+use Rattle.record_flows.specs.Book.{make_room, with_room, without}
+use Rattle.record_flows.specs.Flows.{Flow, Rest, Book, owner, flow_of, rests_among, uses, used}
 use Rattle.core_flows.specs.Seats.{IsSlotOf, number_in, number_at, Rise, Seats}
 use Rattle.core_flows.proofs.Counted.{full, has_room}
 use Rattle.core_flows.proofs.Laying.{set_twice}

@@ -9,8 +9,8 @@ use Rattle.flow_table.specs.declared.Slot.{Slot}
 use Rattle.flow_table.specs.declared.Slot.TheVariants.{Free, InUse, Resting}
 use Rattle.flow_table.specs.declared.Tuple.{Tuple}
 use Rattle.flow_laws.specs.Event.{Story}
-use Rattle.flow_book.specs.Book.{rest, without}
-use Rattle.flow_book.specs.Flows.{Flow, Rest, flow_of, uses, used}
+use Rattle.record_flows.specs.Book.{rest, without}
+use Rattle.record_flows.specs.Flows.{Flow, Rest, flow_of, uses, used}
 use Rattle.core_flows.specs.Only.{one_if, Only}
 use Rattle.core_flows.specs.Seats.{IsSlotOf, number_in, number_at, rests_at, count_used, in_use_slots, Seats}
 use Rattle.core_flows.proofs.Opening.{none_some, some_same}

@@ -9,8 +9,8 @@ use Rattle.flow_table.specs.declared.Slot.TheVariants.{Free, InUse, Resting}
 use Rattle.flow_table.specs.declared.Tuple.{Tuple}
 use Rattle.flow_laws.specs.Event.{Story}
 use Rattle.run_laws.specs.Sockets.{is_among}
-use Rattle.flow_book.specs.Book.{without}
-use Rattle.flow_book.specs.Flows.{Flow, Rest, flow_of, uses}
+use Rattle.record_flows.specs.Book.{without}
+use Rattle.record_flows.specs.Flows.{Flow, Rest, flow_of, uses}
 use Rattle.core_flows.specs.Seats.{AreFrom, IsSlotOf, number_in, number_at, Once, rests_at, Rise, Seats}
 use Rattle.core_flows.proofs.Counted.{each_once}
 use Rattle.core_flows.proofs.Only.{only_none}

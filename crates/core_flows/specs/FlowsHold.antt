@@ -5,10 +5,10 @@ use Rattle.world_face.specs.Journal.{Entry, Call}
 use Rattle.host_policy.specs.Addresses.{Config}
 use Rattle.flow_table.specs.Slots.{Flows}
 use Rattle.flow_laws.specs.Event.{Story}
-use Rattle.flow_book.specs.Lots.{due_for_flows}
-use Rattle.flow_book.specs.Book.{book, is_young}
-use Rattle.flow_book.specs.Flows.{Flow, Rest, flow_of}
-use Rattle.flow_book.specs.Taught.{taught}
+use Rattle.record_flows.specs.Lots.{due_for_flows}
+use Rattle.record_flows.specs.Book.{book, is_young}
+use Rattle.record_flows.specs.Flows.{Flow, Rest, flow_of}
+use Rattle.record_flows.specs.Taught.{taught}
 use Rattle.run_laws.specs.Moments.{moment}
 use Rattle.run_laws.specs.Sockets.{next_number}
 use Rattle.core_flows.specs.Seats.{Seats}

@@ -3,11 +3,11 @@ use Rattle.std.specs.Prelude.{◌≡◌, ℕ, ◌+◌, ◌==◌, Bool, true, fal
 use Rattle.world_face.specs.Journal.{Entry}
 use Rattle.host_policy.specs.Addresses.{Config}
 use Rattle.flow_table.specs.declared.Tuple.{Tuple}
-use Rattle.flow_book.specs.Book.{book}
-use Rattle.flow_book.specs.Flows.{Flow, Book, owner, flow_of, uses, used}
-use Rattle.flow_book.specs.Doings.{Doing, Nothing, Comes, Goes, Calls, Shuts, doing}
-use Rattle.flow_book.specs.Said.{Differ}
-use Rattle.flow_book.specs.Touching.{has_number}
+use Rattle.record_flows.specs.Book.{book}
+use Rattle.record_flows.specs.Flows.{Flow, Book, owner, flow_of, uses, used}
+use Rattle.record_flows.specs.Doings.{Doing, Nothing, Comes, Goes, Calls, Shuts, doing}
+use Rattle.record_flows.specs.Said.{Differ}
+use Rattle.record_flows.specs.Touching.{has_number}
 
 -- it is nothing to flows, or about this one, which it doesn't open
 abbrev pub IsOf : ℕ → Book → Doing → Type 0

@@ -6,9 +6,9 @@ use Rattle.flow_table.specs.declared.Slot.TheVariants.{Free, InUse, Resting}
 use Rattle.flow_table.specs.declared.Tuple.{Tuple}
 use Rattle.flow_laws.specs.Event.{Story}
 use Rattle.flow_laws.specs.Close.{is_in_use}
-use Rattle.flow_book.specs.Flows.{Flow, Rest, owner, flow_of, uses, used}
+use Rattle.record_flows.specs.Flows.{Flow, Rest, owner, flow_of, uses, used}
 use Rattle.run_laws.specs.Sockets.{is_among}
-use Rattle.flow_book.specs.Said.{Differ}
+use Rattle.record_flows.specs.Said.{Differ}
 
 -- a slot and the flow that has it: in use, or resting since the moment of the book
 abbrev pub IsSlotOf : List Rest → Flow → Slot → Type 0

@@ -25,10 +25,10 @@ use Rattle.world_face.specs.Journal.{Entry}
 use Rattle.stream_netdev.specs.declared.Offered.{Offered}
 use Rattle.stream_netdev.specs.declared.Offered.TheVariants.{Taken, Blocked, Failed}
 use Rattle.flow_laws.specs.Settings.{Settings}
-use Rattle.flow_steps.proofs.Timers.{wait_low}
+use Rattle.halves_follow.proofs.Timers.{wait_low}
 use Rattle.flow_laws.specs.Event.{Story}
-use Rattle.connection_steps.specs.Holding.{is_calls, is_connects, is_live}
-use Rattle.connection_steps.specs.Sending.{is_rst}
+use Rattle.connection_follows.specs.Holding.{is_calls, is_connects, is_live}
+use Rattle.connection_follows.specs.Sending.{is_rst}
 use Rattle.flow_splice.specs.Ahead.{IsAhead, IsEarly, Waits}
 use Rattle.flow_splice.specs.Follows.{Follows, FollowsAt, IsOpen}
 use Rattle.flow_splice.specs.Hosts.{Sees, ends}

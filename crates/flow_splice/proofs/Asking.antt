@@ -13,9 +13,9 @@ use Rattle.stream_netdev.specs.declared.Offered.TheVariants.{Taken}
 use Rattle.flow_laws.specs.Settings.{Settings}
 use Rattle.flow_laws.specs.Event.{Accepts, AsksAddress, At, Connects, IsStory, Story, newest_moment}
 use Rattle.flow_laws.specs.Flow.{opened_at}
-use Rattle.flow_steps.specs.Resends.{Seeks, least_wait}
-use Rattle.flow_steps.proofs.InTime.{asks_again, asks_first}
-use Rattle.connection_steps.proofs.Asking.{asks_address}
+use Rattle.halves_follow.specs.Resends.{Seeks, least_wait}
+use Rattle.halves_follow.proofs.InTime.{asks_again, asks_first}
+use Rattle.connection_follows.proofs.Asking.{asks_address}
 use Rattle.flow_splice.specs.Asks.{AsksOnce}
 use Rattle.flow_splice.specs.Entries.{AreEvents, ident_after}
 use Rattle.flow_splice.specs.Follows.{Follows, FollowsAt, IsOpen}

@@ -14,12 +14,12 @@ use Rattle.flow_laws.specs.Settings.{Settings}
 use Rattle.flow_laws.specs.Event.{Story}
 use Rattle.flow_laws.specs.Flow.{has_connected, is_accepted, is_closed, is_connecting, is_under_way, opened_at, syn_is_out}
 use Rattle.flow_laws.specs.Dutiful.{connect_deadline, moment_if, resend_deadline, waits_since, wakes}
-use Rattle.flow_steps.specs.Bounds.{IsBy, IsFrom}
-use Rattle.flow_steps.proofs.InTime.{not_before}
-use Rattle.connection_steps.specs.Holding.{is_calls, is_connects, is_live}
-use Rattle.connection_steps.proofs.Bounds.{from_first, from_if, from_second, opening_by, opening_from, synchronized_by, synchronized_from}
-use Rattle.connection_steps.proofs.Settling.{not_expired}
-use Rattle.connection_steps.proofs.Watching.{syn_under_way}
+use Rattle.halves_follow.specs.Bounds.{IsBy, IsFrom}
+use Rattle.halves_follow.proofs.InTime.{not_before}
+use Rattle.connection_follows.specs.Holding.{is_calls, is_connects, is_live}
+use Rattle.connection_follows.proofs.Bounds.{from_first, from_if, from_second, opening_by, opening_from, synchronized_by, synchronized_from}
+use Rattle.connection_follows.proofs.Settling.{not_expired}
+use Rattle.connection_follows.proofs.Watching.{syn_under_way}
 use Rattle.flow_splice.specs.Follows.{Follows, FollowsAt, IsOpen}
 use Rattle.flow_splice.specs.Sends.{IsClear, IsClearBy, takes_part_at}
 use Rattle.flow_splice.specs.Splice.{Splice, is_in_use, is_open}

@@ -19,9 +19,9 @@ use Rattle.flow_laws.specs.Guest.{ack_is_due, ackd}
 use Rattle.flow_laws.specs.Flow.{guest, next_number as number_after, our_number, their_number}
 use Rattle.flow_laws.specs.Close.{follows_reset, some_fatal}
 use Rattle.flow_laws.proofs.Sides.{their_first}
-use Rattle.flow_steps.proofs.Due.{none_due}
-use Rattle.flow_steps.proofs.Owing.{not_fatal}
-use Rattle.connection_steps.specs.Holding.{Holds, is_calls}
+use Rattle.halves_follow.proofs.Due.{none_due}
+use Rattle.halves_follow.proofs.Owing.{not_fatal}
+use Rattle.connection_follows.specs.Holding.{Holds, is_calls}
 
 -- a close that comes next doesn't follow a fatal reset, whether it comes directly or not
 pub calm_either : (past : Story) (directly : Bool) → follows_reset true past ≡ false → follows_reset directly past ≡ false

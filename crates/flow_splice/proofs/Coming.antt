@@ -11,8 +11,8 @@ use Rattle.tcp_guest.specs.Segments.{after_segment, arrived, change_at, change_b
 use Rattle.tcp_guest.specs.declared.Change.TheVariants.{Nothing}
 use Rattle.tcp_guest.specs.declared.Verdict.{Verdict}
 use Rattle.tcp_guest.specs.declared.Verdict.TheVariants.{Ignored, Resets, Unacceptable, Repeats, Challenged, Greets, Heeded}
-use Rattle.connection_steps.specs.Holding.{is_live}
-use Rattle.connection_steps.proofs.Coming.{sized}
+use Rattle.connection_follows.specs.Holding.{is_live}
+use Rattle.connection_follows.proofs.Coming.{sized}
 use Rattle.flow_splice.specs.Guests.{heard}
 use Rattle.flow_splice.specs.Hosts.{IsAsOld, Sees, ends}
 use Rattle.flow_splice.specs.Splice.{Splice}

@@ -27,12 +27,12 @@ use Rattle.flow_laws.specs.Settings.{Settings}
 use Rattle.flow_laws.specs.Event.{At, Closes, Departs, Segment, Story}
 use Rattle.flow_laws.specs.Lawful.{HasCause, IsLawful}
 use Rattle.flow_laws.specs.Dutiful.{IsDutiful}
-use Rattle.connection_steps.specs.Holding.{Holds, is_live}
-use Rattle.connection_steps.specs.Over.{IsOver, IsResting, is_resets}
-use Rattle.connection_steps.specs.Sending.{is_rst, segment_out}
-use Rattle.connection_steps.proofs.Departing.{departs}
-use Rattle.connection_steps.proofs.Owing.{reset_goes}
-use Rattle.connection_steps.proofs.Resting.{ack_goes}
+use Rattle.connection_follows.specs.Holding.{Holds, is_live}
+use Rattle.connection_follows.specs.Over.{IsOver, IsResting, is_resets}
+use Rattle.connection_follows.specs.Sending.{is_rst, segment_out}
+use Rattle.connection_follows.proofs.Departing.{departs}
+use Rattle.connection_follows.proofs.Owing.{reset_goes}
+use Rattle.connection_follows.proofs.Resting.{ack_goes}
 use Rattle.flow_splice.specs.Entries.{AreEvents, ident_after, went}
 use Rattle.flow_splice.specs.Follows.{Follows, FollowsAt, IsAtRest, IsOpen, IsOwing}
 use Rattle.flow_splice.specs.Frames.{IsSized, segment_frame}

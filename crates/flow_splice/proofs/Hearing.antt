@@ -27,18 +27,18 @@ use Rattle.flow_laws.specs.Event.{Arrives, At, Closes, Segment, Story}
 use Rattle.flow_laws.specs.Close.{follows_reset}
 use Rattle.flow_laws.specs.Flow.{greets, host}
 use Rattle.flow_laws.specs.Host.{our_place}
-use Rattle.flow_steps.specs.Sends.{Keeps}
-use Rattle.flow_steps.proofs.SendSteps.{place_of_number}
-use Rattle.connection_steps.specs.Holding.{Holds, is_calls}
-use Rattle.connection_steps.specs.Seen.{outward_of, segment_of}
-use Rattle.connection_steps.proofs.Arriving.{Means, is_greeted, is_heard, is_opened, means, resets, rests, rests_holds, turns_away, waits}
-use Rattle.connection_steps.proofs.Causes.{called_reset_cause, called_reset_closes, next_reset_cause, next_reset_closes}
-use Rattle.connection_steps.proofs.Confirming.{place_same}
-use Rattle.connection_steps.proofs.Departing.{unsettled}
-use Rattle.connection_steps.proofs.Greeting.{waits_on}
-use Rattle.connection_steps.proofs.Hearing.{seen_as}
-use Rattle.connection_steps.proofs.Heeding.{congested_feeds, congested_same, heeds_none, heeds_now, opens_now}
-use Rattle.connection_steps.proofs.Welcoming.{greets_alone, greets_and_opens}
+use Rattle.halves_follow.specs.Sends.{Keeps}
+use Rattle.halves_follow.proofs.SendSteps.{place_of_number}
+use Rattle.connection_follows.specs.Holding.{Holds, is_calls}
+use Rattle.connection_follows.specs.Seen.{outward_of, segment_of}
+use Rattle.connection_follows.proofs.Arriving.{Means, is_greeted, is_heard, is_opened, means, resets, rests, rests_holds, turns_away, waits}
+use Rattle.connection_follows.proofs.Causes.{called_reset_cause, called_reset_closes, next_reset_cause, next_reset_closes}
+use Rattle.connection_follows.proofs.Confirming.{place_same}
+use Rattle.connection_follows.proofs.Departing.{unsettled}
+use Rattle.connection_follows.proofs.Greeting.{waits_on}
+use Rattle.connection_follows.proofs.Hearing.{seen_as}
+use Rattle.connection_follows.proofs.Heeding.{congested_feeds, congested_same, heeds_none, heeds_now, opens_now}
+use Rattle.connection_follows.proofs.Welcoming.{greets_alone, greets_and_opens}
 use Rattle.flow_splice.specs.Entries.{AreEvents}
 use Rattle.flow_splice.specs.Follows.{Follows, IsOpen}
 use Rattle.flow_splice.specs.Guests.{Hears, heard}

@@ -13,7 +13,7 @@ use Rattle.tcp_guest.specs.Connection.{Connection, HasBuffers}
 use Rattle.tcp_guest.specs.Owing.{after_gone, change_gone, owed_of}
 use Rattle.tcp_guest.specs.declared.Owed.{Owed}
 use Rattle.flow_laws.specs.Event.{Story}
-use Rattle.connection_steps.specs.Sending.{is_rst}
+use Rattle.connection_follows.specs.Sending.{is_rst}
 use Rattle.flow_splice.specs.Entries.{AreEvents, ident_after}
 use Rattle.flow_splice.specs.Follows.{Follows}
 use Rattle.flow_splice.specs.Hosts.{IsAsOld, Sees, ends}

@@ -8,10 +8,10 @@ use Rattle.flow_laws.specs.Settings.{Settings}
 use Rattle.flow_laws.specs.Event.{Accepts, At, Connects, Event, Opens, Story}
 use Rattle.flow_laws.specs.Flow.{opened_at}
 use Rattle.flow_laws.specs.Close.{follows_reset, host_was_ended}
-use Rattle.connection_steps.specs.Holding.{Holds, is_calls}
-use Rattle.connection_steps.specs.Over.{IsOver, IsResting, Runs}
-use Rattle.connection_steps.proofs.Quiet.{holds_later}
-use Rattle.connection_steps.proofs.Seeking.{seeks_on}
+use Rattle.connection_follows.specs.Holding.{Holds, is_calls}
+use Rattle.connection_follows.specs.Over.{IsOver, IsResting, Runs}
+use Rattle.connection_follows.proofs.Quiet.{holds_later}
+use Rattle.connection_follows.proofs.Seeking.{seeks_on}
 use Rattle.flow_splice.specs.Follows.{Follows, FollowsAt, IsOpen}
 use Rattle.flow_splice.specs.Splice.{Splice, is_in_use, is_open}
 use Rattle.flow_splice.specs.declared.Place.{Place}

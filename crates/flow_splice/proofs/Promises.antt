@@ -21,14 +21,14 @@ use Rattle.flow_laws.specs.Flow.{guest, has_connected, host, is_accepted, is_clo
 use Rattle.flow_laws.specs.Close.{host_was_ended, is_in_use as is_in_use_by_law, our_fin_is_acked, fin_was_acknowledged, owes_reset, rests_since}
 use Rattle.flow_laws.specs.Lawful.{IsLawful, IsPrefixOf}
 use Rattle.flow_laws.specs.Dutiful.{AreAhead, IsDutiful, MayWait, MayWaitToWrite, fin_is_answered, moment_if, must_wait_to_write, waits_since, waits_to_read}
-use Rattle.flow_steps.specs.Settled.{IsSettledIf}
-use Rattle.flow_steps.proofs.Wanting.{acknowledged_few, begins_front}
-use Rattle.connection_steps.specs.Holding.{Holds, is_calls, is_connects, is_live}
-use Rattle.connection_steps.specs.Over.{is_resets}
-use Rattle.connection_steps.specs.Seen.{part_of}
-use Rattle.connection_steps.proofs.Seeking.{seeking_settled}
-use Rattle.connection_steps.proofs.Settling.{opening_settled, synchronized_settled}
-use Rattle.connection_steps.proofs.Wanting.{may_wait, may_write as may_write_by, must_write, reads_where_room}
+use Rattle.halves_follow.specs.Settled.{IsSettledIf}
+use Rattle.halves_follow.proofs.Wanting.{acknowledged_few, begins_front}
+use Rattle.connection_follows.specs.Holding.{Holds, is_calls, is_connects, is_live}
+use Rattle.connection_follows.specs.Over.{is_resets}
+use Rattle.connection_follows.specs.Seen.{part_of}
+use Rattle.connection_follows.proofs.Seeking.{seeking_settled}
+use Rattle.connection_follows.proofs.Settling.{opening_settled, synchronized_settled}
+use Rattle.connection_follows.proofs.Wanting.{may_wait, may_write as may_write_by, must_write, reads_where_room}
 use Rattle.flow_splice.specs.Ahead.{IsAhead}
 use Rattle.flow_splice.specs.Follows.{Follows, FollowsAt, IsOpen}
 use Rattle.flow_splice.specs.Sends.{IsClear, IsClearBy, takes_part_at}

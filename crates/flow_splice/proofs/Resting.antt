@@ -18,11 +18,11 @@ use Rattle.flow_laws.specs.Flow.{guest}
 use Rattle.flow_laws.specs.Close.{ends_rest as ends_rest_of, is_owed_reset}
 use Rattle.flow_laws.specs.Flow.{next_number as number_after}
 use Rattle.flow_laws.specs.Dutiful.{MustClose}
-use Rattle.flow_steps.proofs.Rests.{rest_next}
-use Rattle.connection_steps.specs.Over.{IsOver, IsResting, is_resets}
-use Rattle.connection_steps.specs.Seen.{part_of, segment_of}
-use Rattle.connection_steps.proofs.Going.{longer}
-use Rattle.connection_steps.proofs.Resting.{rest_arrives}
+use Rattle.halves_follow.proofs.Rests.{rest_next}
+use Rattle.connection_follows.specs.Over.{IsOver, IsResting, is_resets}
+use Rattle.connection_follows.specs.Seen.{part_of, segment_of}
+use Rattle.connection_follows.proofs.Going.{longer}
+use Rattle.connection_follows.proofs.Resting.{rest_arrives}
 use Rattle.flow_splice.specs.Follows.{Follows, FollowsAt, IsAtRest}
 use Rattle.flow_splice.specs.Guests.{Hears, ends_rest, heard, heard_at_rest, renews}
 use Rattle.flow_splice.specs.Hosts.{IsAsOld}

@@ -9,10 +9,10 @@ use Rattle.flow_laws.specs.Settings.{Settings}
 use Rattle.flow_laws.specs.Event.{Arrives, At, Closes, Departs, Segment, Story}
 use Rattle.flow_laws.specs.Flow.{is_accepted, is_closed, next_number as number_after, our_number, syn_is_out}
 use Rattle.flow_laws.specs.Close.{connects_too_long, ends_rest, follows_reset, gives_up, host_failed, is_done, is_owed_reset, owes_reset, renewed, renews, rests_since}
-use Rattle.flow_steps.proofs.Resets.{reset_is_fatal, turning_away_is_fatal}
-use Rattle.flow_steps.proofs.Rests.{closes_for_good}
-use Rattle.connection_steps.specs.Holding.{Holds, is_calls}
-use Rattle.connection_steps.specs.Seen.{part_of}
+use Rattle.halves_follow.proofs.Resets.{reset_is_fatal, turning_away_is_fatal}
+use Rattle.halves_follow.proofs.Rests.{closes_for_good}
+use Rattle.connection_follows.specs.Holding.{Holds, is_calls}
+use Rattle.connection_follows.specs.Seen.{part_of}
 
 -- ---- a segment arrives
 

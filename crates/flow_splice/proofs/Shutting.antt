@@ -15,12 +15,12 @@ use Rattle.flow_laws.specs.Host.{answered}
 use Rattle.flow_laws.specs.Flow.{host}
 use Rattle.flow_laws.specs.Lawful.{HasCause}
 use Rattle.flow_laws.specs.Close.{is_done as is_done_by, newest_rst, rests_since}
-use Rattle.flow_steps.proofs.Owing.{no_reset, unanswered_not_done}
-use Rattle.flow_steps.proofs.Rests.{closes_to_rest}
-use Rattle.connection_steps.specs.Holding.{Holds, is_calls, is_live}
-use Rattle.connection_steps.specs.Over.{IsOver, IsResting, is_resets}
-use Rattle.connection_steps.specs.Seen.{part_of}
-use Rattle.connection_steps.proofs.Causes.{done_cause, done_goes, done_rests, settled_is}
+use Rattle.halves_follow.proofs.Owing.{no_reset, unanswered_not_done}
+use Rattle.halves_follow.proofs.Rests.{closes_to_rest}
+use Rattle.connection_follows.specs.Holding.{Holds, is_calls, is_live}
+use Rattle.connection_follows.specs.Over.{IsOver, IsResting, is_resets}
+use Rattle.connection_follows.specs.Seen.{part_of}
+use Rattle.connection_follows.proofs.Causes.{done_cause, done_goes, done_rests, settled_is}
 use Rattle.flow_splice.specs.Hosts.{ends}
 use Rattle.flow_splice.specs.Follows.{Follows, FollowsAt, IsOpen}
 use Rattle.flow_splice.specs.Splice.{Splice, closed, is_in_use, is_open, place_after}

@@ -4,7 +4,7 @@ use Rattle.std.proofs.lemmas.Bool.Decides.{nat_tests}
 use Rattle.retransmit.specs.Resending.{after_expired as resend_expired, due_of as resend_due, is_given_up}
 use Rattle.net_octets.specs.declared.Mac.{Mac}
 use Rattle.tcp_transmit.specs.Timing.{after_expired as transmission_expired}
-use Rattle.flow_steps.specs.Resends.{Seeks}
+use Rattle.halves_follow.specs.Resends.{Seeks}
 use Rattle.tcp_guest.specs.Connection.{Connection, HasBuffers, has_gone, is_opening}
 use Rattle.tcp_guest.specs.Hosts.{reset}
 use Rattle.tcp_guest.specs.Segments.{is_done}
@@ -18,10 +18,10 @@ use Rattle.flow_laws.specs.Lawful.{HasCause}
 use Rattle.flow_laws.specs.Event.{At, Closes, Story}
 use Rattle.flow_laws.specs.Flow.{is_accepted, is_connecting, opened_at, syn_is_out}
 use Rattle.flow_laws.specs.Close.{connects_too_long, finds_no_guest, follows_reset, gives_up}
-use Rattle.flow_steps.proofs.InTime.{not_found}
-use Rattle.connection_steps.specs.Holding.{Holds, is_calls, is_connects, is_live}
-use Rattle.connection_steps.proofs.Causes.{gives_up_closes, late_cause, late_closes, unfound_cause, unfound_closes}
-use Rattle.connection_steps.proofs.Ticking.{piece_expires, piece_spent, syn_expires, syn_spent}
+use Rattle.halves_follow.proofs.InTime.{not_found}
+use Rattle.connection_follows.specs.Holding.{Holds, is_calls, is_connects, is_live}
+use Rattle.connection_follows.proofs.Causes.{gives_up_closes, late_cause, late_closes, unfound_cause, unfound_closes}
+use Rattle.connection_follows.proofs.Ticking.{piece_expires, piece_spent, syn_expires, syn_spent}
 use Rattle.flow_splice.specs.Entries.{AreEvents}
 use Rattle.flow_splice.specs.Follows.{Follows, IsOpen}
 use Rattle.flow_splice.specs.Hosts.{Sees, ends}

@@ -6,9 +6,9 @@ use Rattle.flow_laws.specs.Settings.{Settings}
 use Rattle.flow_laws.specs.Event.{Story}
 use Rattle.flow_laws.specs.Flow.{opened_at}
 use Rattle.flow_laws.specs.Close.{follows_reset, host_was_ended, rests_since}
-use Rattle.flow_steps.specs.Resends.{Seeks}
-use Rattle.connection_steps.specs.Holding.{Holds, is_calls}
-use Rattle.connection_steps.specs.Over.{IsOver, IsResting, is_resets}
+use Rattle.halves_follow.specs.Resends.{Seeks}
+use Rattle.connection_follows.specs.Holding.{Holds, is_calls}
+use Rattle.connection_follows.specs.Over.{IsOver, IsResting, is_resets}
 use Rattle.flow_splice.specs.Splice.{Splice}
 use Rattle.flow_splice.specs.declared.Place.{Place}
 use Rattle.flow_splice.specs.declared.Place.TheVariants.{Empty, InUse, Resting}

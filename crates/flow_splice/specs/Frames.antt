@@ -13,7 +13,7 @@ use Rattle.tcp_guest.specs.declared.Owed.{Owed}
 use Rattle.tcp_guest.specs.declared.Owed.TheVariants.{Syn, SynAck, Data, Ack, Reset}
 use Rattle.flow_laws.specs.Event.{Segment}
 use Rattle.flow_laws.specs.Guest.{is_empty}
-use Rattle.connection_steps.specs.Sending.{carried, mss_in}
+use Rattle.connection_follows.specs.Sending.{carried, mss_in}
 use Rattle.flow_splice.specs.Splice.{Face}
 
 -- our hardware address: 52:55, and then the octets of an address of ours

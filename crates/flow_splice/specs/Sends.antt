@@ -10,11 +10,11 @@ use Rattle.tcp_guest.specs.Owing.{after_gone, change_gone, owed_of}
 use Rattle.tcp_guest.specs.declared.Owed.{Owed}
 use Rattle.flow_laws.specs.Settings.{Settings}
 use Rattle.flow_laws.specs.Event.{Story}
-use Rattle.connection_steps.specs.Sending.{is_rst}
+use Rattle.connection_follows.specs.Sending.{is_rst}
 use Rattle.flow_splice.specs.Hosts.{Sees, ends}
 use Rattle.flow_splice.specs.declared.Place.{Place}
 use Rattle.flow_splice.specs.declared.Place.TheVariants.{Empty, InUse, Resting}
-use Rattle.flow_steps.specs.Resends.{least_wait}
+use Rattle.halves_follow.specs.Resends.{least_wait}
 use Rattle.flow_splice.specs.Entries.{ident_after}
 use Rattle.flow_splice.specs.Follows.{Follows}
 use Rattle.flow_splice.specs.Serves.{Serves}

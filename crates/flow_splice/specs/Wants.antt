@@ -2,7 +2,7 @@
 use Rattle.std.specs.Prelude.{ℕ, ◌+◌, ◌-◌, Bool, ◌&&◌, ◌||◌, not, nat_lt, length, Option, None, Some, is_some, if◌then◌else◌}
 use Rattle.tcp_guest.specs.Hosts.{is_open as host_is_open}
 use Rattle.tcp_guest.specs.Timing.{due_of as conn_due}
-use Rattle.connection_steps.specs.Holding.{is_connects}
+use Rattle.connection_follows.specs.Holding.{is_connects}
 use Rattle.flow_splice.specs.Splice.{Splice, is_open}
 
 -- a socket may connect for 75,000 milliseconds

@@ -9,7 +9,7 @@ ghost use Rattle.ipv4_head.specs.Ip.{head_with, summed_head};
 ghost use Rattle.sock_buffers.specs.Downward.{Downward};
 ghost use Rattle.tcp_guest.specs.declared.Head.{Head as Header};
 ghost use Rattle.tcp_segment.specs.Tcp.{head_octets, mss_octets, scale_octets, tcp_length, tcp_octets, tcp_of, words_of as words_by};
-ghost use Rattle.connection_steps.specs.Sending.{carried, mss_in, with_head};
+ghost use Rattle.connection_follows.specs.Sending.{carried, mss_in, with_head};
 ghost use Rattle.flow_splice.specs.Frames.{IsHeld, IsSized, bit_if, flags_of, frame_length, our_mac as our_mac_by, request_frame, segment_frame, tcp_out};
 ghost use Rattle.net_octets.specs.declared.Endpoint.{Endpoint as AnEndpoint};
 

@@ -8,7 +8,7 @@ ghost use Rattle.tcp_guest.specs.declared.Change.{Change as Changes};
 ghost use Rattle.tcp_transmit.specs.Transmission.{octets_read};
 ghost use Rattle.world_face.specs.Journal.{Connected, TcpRead, TcpWrite, TcpEnd, Close, count_of};
 ghost use Rattle.world_face.specs.Tells.{Answers, Makes};
-ghost use Rattle.connection_steps.specs.Holding.{is_connects, without};
+ghost use Rattle.connection_follows.specs.Holding.{is_connects, without};
 ghost use Rattle.flow_splice.specs.Hosts.{IsRead, gives_octets};
 
 use crate::{MOST, Spliced};

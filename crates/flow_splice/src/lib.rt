@@ -25,8 +25,8 @@ ghost use Rattle.tcp_segment.specs.Tcp.{Tcp};
 ghost use Rattle.flow_laws.specs.Settings.{Settings};
 ghost use Rattle.flow_laws.specs.Event.{Story, Connects, Accepts, At};
 ghost use Rattle.flow_laws.specs.Windows.{mss};
-ghost use Rattle.connection_steps.specs.Holding.{is_connects, is_live};
-ghost use Rattle.connection_steps.specs.Seen.{segment_of};
+ghost use Rattle.connection_follows.specs.Holding.{is_connects, is_live};
+ghost use Rattle.connection_follows.specs.Seen.{segment_of};
 
 use net_octets::{Endpoint, Ip4, Mac, NoMemory};
 use poll_list::{Want, Who};
@@ -123,7 +123,7 @@ impl Spliced {
     ghost use Rattle.flow_splice.specs.declared.Place.TheVariants.{Empty};
     ghost use Rattle.poll_list.specs.declared.Who.TheVariants.{Tcp as OnTcp};
     ghost use Rattle.flow_laws.specs.Dutiful.{MayWaitToWrite, connect_deadline, must_wait_to_write, resend_deadline, waits_to_read, wakes};
-    ghost use Rattle.flow_steps.specs.Bounds.{IsBy, IsFrom};
+    ghost use Rattle.halves_follow.specs.Bounds.{IsBy, IsFrom};
     ghost use Rattle.flow_splice.specs.Sends.{IsClear};
     ghost use Rattle.flow_splice.specs.Held.{IsFront};
     ghost use Rattle.flow_laws.specs.Flow.{guest};

@@ -7,12 +7,12 @@ ghost use Rattle.stream_netdev.specs.Keeps.{Keeps, Settles, Writes};
 ghost use Rattle.stream_netdev.specs.State.{under_way};
 ghost use Rattle.tcp_guest.specs.Connection.{HasBuffers};
 ghost use Rattle.tcp_guest.specs.Owing.{change_gone, owed_of};
-ghost use Rattle.connection_steps.specs.Sending.{is_rst, segment_out, with_head};
+ghost use Rattle.connection_follows.specs.Sending.{is_rst, segment_out, with_head};
 ghost use Rattle.flow_splice.specs.Sends.{pumped_of};
 ghost use Rattle.flow_splice.specs.Frames.{IsHeld, IsSized, frame_length, request_frame, segment_frame};
 ghost use Rattle.flow_laws.specs.Settings.{Settings};
 ghost use Rattle.flow_laws.specs.Event.{Story};
-ghost use Rattle.flow_steps.specs.Resends.{least_wait};
+ghost use Rattle.halves_follow.specs.Resends.{least_wait};
 ghost use Rattle.net_octets.specs.declared.Endpoint.{Endpoint};
 
 use crate::frames::{Route, write_frame, write_request};

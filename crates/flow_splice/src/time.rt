@@ -6,7 +6,7 @@ ghost use Rattle.tcp_guest.specs.Timing.{after_tick, change_at_tick};
 ghost use Rattle.world_face.specs.Tells.{Makes};
 ghost use Rattle.flow_laws.specs.Settings.{Settings};
 ghost use Rattle.flow_laws.specs.Event.{Story};
-ghost use Rattle.connection_steps.specs.Holding.{is_connects};
+ghost use Rattle.connection_follows.specs.Holding.{is_connects};
 
 use crate::Spliced;
 use tcp_guest::Change;

@@ -1,5 +1,5 @@
 -- What the test passes is dutiful: sentence by sentence.
-use Rattle.std.proofs.Common.{◌≡◌, ℕ, ◌≤◌, ◌==◌, ◌&&◌, ◌||◌, nat_le, Bool, true, false, List, [], ◌∷◌, Option, Some, None, ◌⊎◌, inl, inr, refl, sym, ap, ◌∙◌, subst, if◌then◌else◌}
+use Rattle.std.proofs.Common.{◌≡◌, ℕ, ◌≤◌, ◌==◌, ◌&&◌, ◌||◌, nat_le, Bool, true, false, List, [], ◌∷◌, Option, Some, None, ◌⊎◌, inl, inr, refl, sym, ap, subst, if◌then◌else◌}
 use Rattle.poll_list.specs.Listing.{reads, same_who, writes}
 use Rattle.poll_list.specs.declared.Want.{Want}
 use Rattle.poll_list.specs.declared.Who.{Who}
@@ -15,13 +15,13 @@ use Rattle.flow_laws.proofs.Answering.{nat_less}
 use Rattle.flow_laws.proofs.Computing.{nat_within}
 use Rattle.flow_laws.proofs.Duties.{may_wait_to_write_is}
 use Rattle.flow_laws.proofs.Settled.{settled, waits}
-use Rattle.flow_steps.specs.Bounds.{IsBy, IsFrom}
-use Rattle.flow_book.specs.Book.{book, scene}
-use Rattle.flow_book.specs.Flows.{Flow, flow_of, guest_is_known, is_numbered}
-use Rattle.flow_book.specs.Laws.{flow_settings}
+use Rattle.halves_follow.specs.Bounds.{IsBy, IsFrom}
+use Rattle.record_flows.specs.Book.{book, scene}
+use Rattle.record_flows.specs.Flows.{Flow, flow_of, guest_is_known, is_numbered}
+use Rattle.record_flows.specs.Laws.{flow_settings}
 use Rattle.slirp_laws.proofs.Bools.{equal, first_of, second_of}
-use Rattle.run_duties.specs.Check.{all_flows, all_may, flows_are, implies, is_by, is_dutiful, is_from, is_must, is_settled_now, is_wanted, may_be_wanted, may_be_written, may_write_flow, must_wait, sockets_are, waits_as_it_must, waits_for}
-use Rattle.run_duties.specs.Duties.{Dutiful, Must as MustCome, MustWait, WaitsAsItMust, is_at_rest}
+use Rattle.run_duties.specs.Check.{all_flows, all_may, flows_are, implies, is_by, is_dutiful, is_from, is_must, is_settled_now, is_wanted, may_be_wanted, may_be_written, may_write_flow, must_wait, sockets_are, waits_for}
+use Rattle.run_duties.specs.Duties.{Dutiful, Must as MustCome, MustWait, is_at_rest}
 use Rattle.run_duties.specs.Times.{alarms, deadlines, lives, wait_end}
 use Rattle.run_duties.specs.Waiting.{is_all_sent, MayBeWritten, MayWriteFlow, WaitsFor, are_in_order, is_read, is_written, reads_flow, writes_flow}
 
@@ -233,23 +233,22 @@ module _ (config : Config) (past : List Entry) where
       let out = second_of (waits_for config past wants) (is_blocked past || is_all_sent config past) p.0 in
       let r = three (is_blocked past || all_flows (is_settled_now config past) (book config past).flows) (all_flows (λ f. may_wait f.story (moment past)) (book config past).flows) (all_ahead (moment past) (lives config past)) p.1 in
       record {
-        attends = record { waits_for = waits_for_is wants listed; out = either (is_blocked past) (is_all_sent config past) out; unused = ahead_is (moment past) (lives config past) r.2 };
+        waits_for = waits_for_is wants listed;
+        out = either (is_blocked past) (is_all_sent config past) out;
         settled = λ free number f found.
             settled (flow_settings config) f.story (guest_is_known (scene config past) f) (is_at_rest config past f) (moment past)
             (found_passes (is_settled_now config past) number (book config past).flows f (either (is_blocked past) (all_flows (is_settled_now config past) (book config past).flows) r.0 free) found);
+        unused = ahead_is (moment past) (lives config past) r.2;
         closed = λ number f found. waits f.story (moment past) (found_passes (λ g. may_wait g.story (moment past)) number (book config past).flows f r.1 found);
         until = by_is (wait_end (moment past) timeout) (deadlines config past) (first_of (is_by (wait_end (moment past) timeout) (deadlines config past)) (is_from (wait_end (moment past) timeout) (alarms config past)) p.2);
         from = from_is (wait_end (moment past) timeout) (alarms config past) (second_of (is_by (wait_end (moment past) timeout) (deadlines config past)) (is_from (wait_end (moment past) timeout) (alarms config past)) p.2);
       }
 
-  waits_is : (call : Call) → waits_as_it_must config past call ≡ true → WaitsAsItMust config past call
-  waits_is (CallWait wants timeout) is = wait_is wants timeout is
-  waits_is _ is = tt
+  pub must_come : (call : Call) → is_must config past call ≡ true → MustCome config past call
+  must_come (CallWait wants timeout) is = wait_is wants timeout is
+  must_come _ is = tt
 
 -- ---- a record
-
-pub must_come : (config : Config) (past : List Entry) (call : Call) → is_must config past call ≡ true → MustCome config past call
-must_come config past call is = record { waits = waits_is config past call is }
 
 -- a record that passes is dutiful
 pub is_sound : (config : Config) (past : List Entry) → is_dutiful config past ≡ true → Dutiful config past

@@ -1,17 +1,17 @@
 -- A run that has ended waits no more, and one whose port the host refused never waited.
-use Rattle.std.proofs.Common.{◌≡◌, ℕ, ◌≤◌, ◌&&◌, ◌||◌, nat_le, nat_lt, Bool, true, false, List, [], ◌∷◌, ◌++◌, Option, Some, None, refl, sym, ◌∙◌, ap, subst, arith}
+use Rattle.std.proofs.Common.{◌≡◌, ℕ, ◌&&◌, ◌||◌, nat_le, nat_lt, Bool, true, false, List, [], ◌∷◌, ◌++◌, Option, Some, None, refl, sym, ◌∙◌, ap, subst, arith}
 use Rattle.std.proofs.lemmas.Bool.Decides.{nat_tests}
 use Rattle.world_face.specs.Journal.{Entry, call_of, Now, Wait, LinkOpen, LinkRead, LinkWrite, Connect, Connected, Listen, Accept, TcpRead, TcpWrite, TcpEnd, Close, UdpOpen, UdpSend, UdpRecv, FileLen, FileRead}
 use Rattle.world_face.specs.Frames.{Ending, ending, partial}
 use Rattle.world_face.specs.declared.Made.TheVariants.{Done, Failed}
 use Rattle.host_policy.specs.Addresses.{Config}
 use Rattle.run_laws.specs.Moments.{waits, waits_after}
-use Rattle.run_laws.specs.Shape.{Cause, Refused, By, Phase, Opening, Started, Woken, Working, Over, is_ended, is_over, may_turn, phase, phase_after}
+use Rattle.run_laws.specs.Shape.{Cause, Refused, Phase, Opening, Started, Woken, Working, Over, is_ended, is_over, may_turn, phase, phase_after}
 use Rattle.flow_laws.proofs.Refuting.{never_false}
 use Rattle.slirp_laws.specs.Laws.{Lawful, May}
 use Rattle.slirp_laws.proofs.Bools.{first_of, second_of}
-use Rattle.run_duties.specs.Duties.{Attentive}
-use Rattle.run_duties.proofs.Going.{attends_on, is_wait}
+use Rattle.run_duties.specs.Duties.{Dutiful}
+use Rattle.run_duties.proofs.Going.{goes_on, is_wait}
 
 -- ---- a wait has its place in a turn
 
@@ -88,9 +88,9 @@ ended_yet config (e ∷ made) past lawful ended =
     let never = no_wait config (made ++ past) e lawful.0 before.0 in
     (ended_on config (made ++ past) e never before.0, same_many e (waits (made ++ past)) never ∙ before.1)
 
--- so what attended attends once its sockets are closed
-pub attends_to_the_end : (config : Config) (made past : List Entry) → Lawful config (made ++ past) → is_ended config past ≡ true → Attentive config past → Attentive config (made ++ past)
-attends_to_the_end config made past lawful ended attentive = attends_on config made past (ended_yet config made past lawful ended).1 attentive
+-- so what was dutiful is so once its sockets are closed
+pub dutiful_to_the_end : (config : Config) (made past : List Entry) → Lawful config (made ++ past) → is_ended config past ≡ true → Dutiful config past → Dutiful config (made ++ past)
+dutiful_to_the_end config made past lawful ended dutiful = goes_on config made past (ended_yet config made past lawful ended).1 dutiful
 
 -- ---- a port of the host was refused
 
@@ -159,9 +159,9 @@ early_is config (e ∷ past) lawful = by (is_wait e) refl (early_is config past 
 pub refused_unwaited : (config : Config) (past : List Entry) (forward : ℕ) → Lawful config past → phase config past ≡ Over (Refused forward) → waits past ≡ 0
 refused_unwaited config past forward lawful is = subst (λ p. Early p (waits past)) is (early_is config past lawful)
 
--- a run that never waited attends
-pub attends_unwaited : (config : Config) (past : List Entry) → waits past ≡ 0 → Attentive config past
-attends_unwaited config past none = subst (Attentive config) (whole past) (attends_on config past [] (ap waits (whole past) ∙ none) tt)
+-- a run that never waited is dutiful
+pub dutiful_unwaited : (config : Config) (past : List Entry) → waits past ≡ 0 → Dutiful config past
+dutiful_unwaited config past none = subst (Dutiful config) (whole past) (goes_on config past [] (ap waits (whole past) ∙ none) tt)
   where
     whole : (xs : List Entry) → xs ++ [] ≡ xs
     whole [] = refl

@@ -9,7 +9,7 @@ use Rattle.udp_assoc.specs.declared.assocs.Association.{Association}
 use Rattle.run_laws.specs.Moments.{moment, moment_after}
 use Rattle.run_laws.specs.Sockets.{is_among}
 use Rattle.flow_laws.specs.Dutiful.{AreAhead}
-use Rattle.flow_steps.specs.Bounds.{IsBy, IsFrom}
+use Rattle.halves_follow.specs.Bounds.{IsBy, IsFrom}
 use Rattle.slirp_laws.specs.Laws.{Lawful}
 use Rattle.slirp_laws.specs.Ports.{associations_open, is_used_by, last_use, used_at}
 use Rattle.slirp_laws.specs.Relayed.{associations}
@@ -25,7 +25,7 @@ moment_rises : (e : Entry) (m : ℕ) → m ≤ moment_after e m
 moment_rises (Now told) m = omega arith
 moment_rises _ m = omega arith
 
-used_by_now : (socket : ℕ) (past : List Entry) → used_at socket past ≤ moment past
+pub used_by_now : (socket : ℕ) (past : List Entry) → used_at socket past ≤ moment past
 used_by_now socket [] = omega arith
 used_by_now socket (e ∷ past) = by (used_by_now socket past) (moment_rises e (moment past)) (is_used_by socket e)
   where

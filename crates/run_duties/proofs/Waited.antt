@@ -7,7 +7,7 @@ use Rattle.dns_relay.specs.Questions.{is_over, numbers, question_life}
 use Rattle.dns_relay.specs.declared.Question.{Question}
 use Rattle.run_laws.specs.Sockets.{is_among}
 use Rattle.flow_laws.specs.Dutiful.{AreAhead}
-use Rattle.flow_steps.specs.Bounds.{IsBy, IsFrom}
+use Rattle.halves_follow.specs.Bounds.{IsBy, IsFrom}
 use Rattle.slirp_laws.specs.Laws.{Lawful}
 use Rattle.slirp_laws.specs.Names.{questions}
 use Rattle.slirp_laws.specs.Ports.{used_at}

@@ -10,9 +10,9 @@ use Rattle.host_policy.specs.Addresses.{Config}
 use Rattle.run_laws.specs.Moments.{moment}
 use Rattle.run_laws.specs.Sockets.{open_sockets}
 use Rattle.flow_laws.specs.CheckDuty.{all_ahead, is_settled, may_wait, may_wait_to_write}
-use Rattle.flow_book.specs.Book.{book, scene}
-use Rattle.flow_book.specs.Flows.{Flow, flow_of, guest_is_known}
-use Rattle.flow_book.specs.Laws.{flow_settings}
+use Rattle.record_flows.specs.Book.{book, scene}
+use Rattle.record_flows.specs.Flows.{Flow, flow_of, guest_is_known}
+use Rattle.record_flows.specs.Laws.{flow_settings}
 use Rattle.run_duties.specs.Duties.{is_at_rest}
 use Rattle.run_duties.specs.Times.{alarms, deadlines, lives, wait_end}
 use Rattle.run_duties.specs.Waiting.{are_in_order, is_all_sent, is_read, is_written}
@@ -91,14 +91,11 @@ must_wait config past wants timeout =
     && all_ahead (moment past) (lives config past))
     && (is_by (wait_end (moment past) timeout) (deadlines config past) && is_from (wait_end (moment past) timeout) (alarms config past))
 
-abbrev pub waits_as_it_must : Config → List Entry → Call → Bool
-waits_as_it_must config past (CallWait wants timeout) = must_wait config past wants timeout
-waits_as_it_must config past _ = true
+abbrev pub is_must : Config → List Entry → Call → Bool
+is_must config past (CallWait wants timeout) = must_wait config past wants timeout
+is_must config past _ = true
 
 -- ---- a record
-
-abbrev pub is_must : Config → List Entry → Call → Bool
-is_must config past call = waits_as_it_must config past call
 
 abbrev pub is_dutiful : Config → List Entry → Bool
 is_dutiful config [] = true

@@ -8,10 +8,10 @@ use Rattle.world_face.specs.Tells.{Telling}
 use Rattle.host_policy.specs.Addresses.{Config}
 use Rattle.run_laws.specs.Moments.{moment}
 use Rattle.flow_laws.specs.Dutiful.{AreAhead, IsSettled, MayWait}
-use Rattle.flow_steps.specs.Bounds.{IsBy, IsFrom}
-use Rattle.flow_book.specs.Book.{book, is_young, scene}
-use Rattle.flow_book.specs.Flows.{Flow, flow_of, guest_is_known, rests_among}
-use Rattle.flow_book.specs.Laws.{flow_settings}
+use Rattle.halves_follow.specs.Bounds.{IsBy, IsFrom}
+use Rattle.record_flows.specs.Book.{book, is_young, scene}
+use Rattle.record_flows.specs.Flows.{Flow, flow_of, guest_is_known, rests_among}
+use Rattle.record_flows.specs.Laws.{flow_settings}
 use Rattle.run_duties.specs.Times.{alarms, deadlines, lives, wait_end}
 use Rattle.run_duties.specs.Waiting.{WaitsFor, is_all_sent}
 
@@ -27,46 +27,30 @@ is_at_rest config past f = rests_among (filter (is_young (moment past)) (book co
 abbrev pub IsSettledNow : Config → List Entry → Flow → Type 0
 IsSettledNow config past f = IsSettled (flow_settings config) f.story (guest_is_known (scene config past) f) (is_at_rest config past f) (moment past)
 
--- A wait for these: they are all that can be taken, and nothing else; unless the link is blocked all that is owed is out, of the answer to what came last and of
--- a packet of a file that goes again; and no socket for datagrams is open whose idle life is over.
-pub record MustAttend (config : Config) (past : List Entry) (wants : List Want) : Type 0 where
-  pub waits_for : WaitsFor config past wants
-  pub out : is_blocked past ≡ false → is_all_sent config past ≡ true
-  pub unused : AreAhead (moment past) (lives config past)
-
--- A wait: for these, no longer than this.
+-- A wait for these, no longer than this.
 pub record MustWait (config : Config) (past : List Entry) (wants : List Want) (timeout : Option ℕ) : Type 0 where
-  -- what is waited for, with the answer out, and no socket idle for long
-  pub attends : MustAttend config past wants
-  -- unless the link is blocked each flow is settled
+  -- they are all that can be taken, and nothing else
+  pub waits_for : WaitsFor config past wants
+  -- unless the link is blocked all that is owed is out, of the answer to what came last and of a packet of a file that goes again, and each flow is settled
+  pub out : is_blocked past ≡ false → is_all_sent config past ≡ true
   pub settled : is_blocked past ≡ false → EachFlow config past (IsSettledNow config past)
+  -- no socket for datagrams is open whose idle life is over
+  pub unused : AreAhead (moment past) (lives config past)
   -- flows of which both ends passed are closed, and those whose host had its time to connect
   pub closed : EachFlow config past (λ f. MayWait f.story (moment past))
   -- it lasts no longer than to what has to be done at a time, and at least to the first of them
   pub until : IsBy (wait_end (moment past) timeout) (deadlines config past)
   pub from : IsFrom (wait_end (moment past) timeout) (alarms config past)
 
-abbrev pub WaitsAsItMust : Config → List Entry → Call → Type 0
-WaitsAsItMust config past (CallWait wants timeout) = MustWait config past wants timeout
-WaitsAsItMust config past _ = Unit {0}
-
 -- the next call is as it must be
-pub record Must (config : Config) (past : List Entry) (call : Call) : Type 0 where
-  pub waits : WaitsAsItMust config past call
+abbrev pub Must : Config → List Entry → Call → Type 0
+Must config past (CallWait wants timeout) = MustWait config past wants timeout
+Must config past _ = Unit {0}
 
 -- each call was as it must be
 abbrev pub Dutiful : Config → List Entry → Type 0
 Dutiful config past = Follows (Must config) past
 
--- ---- the duty that is proved of the runs of the network: each wait attends to all that can be taken
-
-abbrev pub AttendsAsItMust : Config → List Entry → Call → Type 0
-AttendsAsItMust config past (CallWait wants timeout) = MustAttend config past wants
-AttendsAsItMust config past _ = Unit {0}
-
-abbrev pub Attentive : Config → List Entry → Type 0
-Attentive config past = Follows (AttendsAsItMust config) past
-
 -- what a World that was live tells of such a run, with the call at which it ceased
 abbrev pub Attended : Config → Telling → Telling → Type 0
-Attended config old new = old.live ≡ true → Heard (AttendsAsItMust config) (λ made. Unit {0}) old new
+Attended config old new = old.live ≡ true → Heard (Must config) (λ made. Unit {0}) old new

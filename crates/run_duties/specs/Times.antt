@@ -10,10 +10,12 @@ use Rattle.run_laws.specs.Fragments.{waiting}
 use Rattle.run_laws.specs.Moments.{moment}
 use Rattle.flow_laws.specs.Event.{Story}
 use Rattle.flow_laws.specs.Dutiful.{connect_deadline, resend_deadline, wakes}
-use Rattle.flow_book.specs.Book.{book, is_young, longest_rest}
-use Rattle.flow_book.specs.Flows.{Flow, Rest}
+use Rattle.record_flows.specs.Book.{book, is_young, longest_rest}
+use Rattle.record_flows.specs.Flows.{Flow, Rest}
+use Rattle.slirp_laws.specs.Answers.{serving}
 use Rattle.slirp_laws.specs.Ports.{associations_open, used_at}
 use Rattle.slirp_laws.specs.Questions.{questions_open}
+use Rattle.tftp_server.specs.Transfers.{Transfer}
 
 -- the moments that each flow has
 abbrev pub of_flows : (Story → List ℕ) → List Flow → List ℕ
@@ -47,9 +49,13 @@ drops config past = map (λ (s : PartSet). s.since + 60000) (waiting config past
 abbrev pub rest_ends : Config → List Entry → List ℕ
 rest_ends config past = map (λ (r : Rest). r.since + longest_rest) (filter (is_young (moment past)) (book config past).rests)
 
+-- when the packet that was sent last of each file is due to go again
+abbrev pub file_alarms : Config → List Entry → List ℕ
+file_alarms config past = map (λ (t : Transfer). t.due) (serving config past).files.transfers
+
 -- the moments for which a wait may be cut short
 abbrev pub alarms : Config → List Entry → List ℕ
-alarms config past = of_flows wakes (book config past).flows ++ lives config past ++ drops config past ++ rest_ends config past
+alarms config past = of_flows wakes (book config past).flows ++ lives config past ++ drops config past ++ rest_ends config past ++ file_alarms config past
 
 -- the moment at which a wait that begins now is over
 abbrev pub wait_end : ℕ → Option ℕ → Option ℕ

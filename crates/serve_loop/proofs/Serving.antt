@@ -19,8 +19,8 @@ use Rattle.slirp_core.specs.Forwards.{forward_sockets}
 use Rattle.slirp_core.specs.Holds.{AfterListening, after, flowing, Begins, ClosesAll, ClosingWith, Opens, Stands, Turns, Holders, holders_of}
 use Rattle.slirp_core.specs.Numbers.{flows_for}
 use Rattle.slirp_core.specs.State.{SlirpState}
-use Rattle.run_duties.specs.Duties.{Attended, Attentive, AttendsAsItMust}
-use Rattle.run_duties.proofs.Ended.{attends_to_the_end, attends_unwaited, refused_unwaited}
+use Rattle.run_duties.specs.Duties.{Attended, Dutiful, Must}
+use Rattle.run_duties.proofs.Ended.{dutiful_to_the_end, dutiful_unwaited, refused_unwaited}
 use Rattle.slirp_core.proofs.Starting.{IsUnbegun, begun, ran as ran_by, spent as spent_by}
 use Rattle.serve_loop.specs.Ends.{end_of}
 use Rattle.serve_loop.specs.Turns.{AttendsTo, Closes, EndedAs, HoldsNow, RanTo}
@@ -91,27 +91,27 @@ ran_to config end forwards o more past closes all =
     let over = all config (phase config past) past closes.closing in (over.0, over.1, closes.is ∙ ap (end_of config) over.2)
 
 -- and what attended so far attends to the end
-pub attends_to : (config : Config) (end : End) (forwards : List Opened) (o : Holders) (more past : List Entry) → Closes config end forwards o past → Attentive config past
+pub attends_to : (config : Config) (end : End) (forwards : List Opened) (o : Holders) (more past : List Entry) → Closes config end forwards o past → Dutiful config past
     → ClosesAll forwards o more → AttendsTo config end (more ++ past)
 attends_to config end forwards o more past closes attentive all = (
   ran_to config end forwards o more past closes all,
-  attends_to_the_end config more past (all config (phase config past) past closes.closing).0 closes.closing.ended attentive,
+  dutiful_to_the_end config more past (all config (phase config past) past closes.closing).0 closes.closing.ended attentive,
 )
 
-pub finishes : (config : Config) (end : End) (forwards : List Opened) (o : Holders) (a b c : Telling) → Makes a b (λ past. Closes config end forwards o past × Attentive config past)
+pub finishes : (config : Config) (end : End) (forwards : List Opened) (o : Holders) (a b c : Telling) → Makes a b (λ past. Closes config end forwards o past × Dutiful config past)
     → Makes b c (ClosesAll forwards o) → Makes a c (AttendsTo config end)
 finishes config end forwards o a b c ran closed = makes_then a b c _ _ (AttendsTo config end) ran closed (λ made more closes all. attends_to config end forwards o more made closes.0 closes.1 all)
 
 -- a run whose first wait hasn't been attends
-pub none_waited : (config : Config) (count : ℕ) (aged : Bool) (slirp : SlirpState) (link : LinkState) (made : List Entry) → count ≡ 0 → HoldsNow config (after count) aged slirp link made → Attentive config made
-none_waited config count aged slirp link made none holds = attends_unwaited config made (holds.clock.counted ∙ none)
+pub none_waited : (config : Config) (count : ℕ) (aged : Bool) (slirp : SlirpState) (link : LinkState) (made : List Entry) → count ≡ 0 → HoldsNow config (after count) aged slirp link made → Dutiful config made
+none_waited config count aged slirp link made none holds = dutiful_unwaited config made (holds.clock.counted ∙ none)
 
-pub none_refused : (config : Config) (place : ℕ) (slirp : SlirpState) (link : LinkState) (made : List Entry) → AfterListening (Some place) config slirp link made → Attentive config made
-none_refused config place slirp link made closing = attends_unwaited config made (refused_unwaited config made place closing.lawful (sym closing.is))
+pub none_refused : (config : Config) (place : ℕ) (slirp : SlirpState) (link : LinkState) (made : List Entry) → AfterListening (Some place) config slirp link made → Dutiful config made
+none_refused config place slirp link made closing = dutiful_unwaited config made (refused_unwaited config made place closing.lawful (sym closing.is))
 
 -- what a run made
 abbrev pub Made : Config → End → List Entry → Type 0
-Made config end made = Lawful config made × Attentive config made × Finished config made × (end ≡ end_of config (phase config made))
+Made config end made = Lawful config made × Dutiful config made × Finished config made × (end ≡ end_of config (phase config made))
 
 pub made_so : (config : Config) (end : End) (made : List Entry) → AttendsTo config end made → Made config end made
 made_so config end made run = (run.0.0, run.1, run.0.1, run.0.2)
@@ -121,4 +121,4 @@ told config end old new makes = served config old new (makes_as old new (Made co
 
 pub attended : (config : Config) (end : End) (old new : Telling) → Makes old new (Made config end) → Attended config old new
 attended config end old new makes live =
-    heard {May = AttendsAsItMust config} {Finished = λ made. Unit {0}} (makes_as old new (Made config end) (λ made. Attentive config made × Unit {0}) makes (λ made run. (run.1, tt))) live
+    heard {May = Must config} {Finished = λ made. Unit {0}} (makes_as old new (Made config end) (λ made. Dutiful config made × Unit {0}) makes (λ made run. (run.1, tt))) live

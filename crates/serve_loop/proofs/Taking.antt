@@ -9,7 +9,7 @@ use Rattle.ether_frame.specs.Ether.{read_ether}
 use Rattle.ipv4_head.specs.Ip.{Ip}
 use Rattle.ipv4_head.specs.Sets.{PartSet, young}
 use Rattle.tcp_segment.specs.Tcp.{Tcp}
-use Rattle.flow_book.specs.Segments.{segment_by}
+use Rattle.record_flows.specs.Segments.{segment_by}
 use Rattle.run_laws.specs.Fragments.{fragment_in, waiting, with_fragment}
 use Rattle.run_laws.specs.Packets.{Packet, Unheard, ArpPacket, Message, DatagramPacket, Segment, Datagram, packet_in}
 use Rattle.slirp_laws.specs.Agenda.{is_to_read, wanted_of}

@@ -1,5 +1,5 @@
 -- The parts of a turn, and the items that it serves.
-use Rattle.std.proofs.Common.{◌≡◌, ℕ, zero, suc, ◌+◌, ◌<◌, ◌==◌, ◌&&◌, ◌||◌, not, nat_lt, Bool, true, false, List, [], ◌∷◌, ◌++◌, drop, length, get_or, sym, ◌∙◌, ap, arith, refl, if◌then◌else◌}
+use Rattle.std.proofs.Common.{◌≡◌, ℕ, zero, suc, ◌+◌, ◌<◌, ◌≤◌, ◌==◌, ◌&&◌, ◌||◌, not, nat_lt, Bool, true, false, List, [], ◌∷◌, ◌++◌, drop, length, get_or, inl, inr, map, sym, ◌∙◌, ap, arith, refl, if◌then◌else◌}
 use Rattle.std.proofs.lemmas.Bool.Decides.{nat_tests}
 use Rattle.poll_list.specs.Listing.{same_who, reads, writes}
 use Rattle.poll_list.specs.declared.Want.{Want}
@@ -11,11 +11,16 @@ use Rattle.world_face.specs.Tells.{Brings, Telling}
 use Rattle.host_policy.specs.Addresses.{Config}
 use Rattle.port_forward.specs.Opened.{Opened}
 use Rattle.run_laws.specs.Moments.{waits}
-use Rattle.run_duties.proofs.Going.{brings_attention}
+use Rattle.run_duties.proofs.Going.{brings_on}
 use Rattle.slirp_laws.specs.Agenda.{agenda, is_to_read, wanted_of}
 use Rattle.stream_netdev.specs.State.{LinkState, under_way}
 use Rattle.slirp_core.specs.Holds.{Standing, after, standing, flowing, Ended, AfterPump, Holders, Leaves, holders_of}
-use Rattle.slirp_core.specs.Pumps.{is_settled}
+use Rattle.slirp_core.specs.Calm.{AreClear}
+use Rattle.slirp_core.specs.Forwards.{sockets_over}
+use Rattle.slirp_core.specs.Pumps.{WantsOf, is_settled, listeners_of}
+use Rattle.waiting_flows.specs.Wants.{link_want, listener_want, socket_wants}
+use Rattle.tcp_flows.specs.Reading.{NoneInSlots}
+use Rattle.host_policy.specs.declared.Proto.TheVariants.{Udp as OverUdp}
 use Rattle.slirp_core.specs.State.{SlirpState}
 use Rattle.slirp_core.specs.declared.sending.Pumped.{Pumped}
 use Rattle.slirp_core.specs.declared.sending.Pumped.TheVariants.{Clear, Blocked, Failed as PumpFailed}
@@ -23,7 +28,7 @@ use Rattle.slirp_core.proofs.Associating.{with_agenda}
 use Rattle.slirp_core.proofs.Parts.{or_second}
 use Rattle.slirp_core.proofs.Sockets.{same}
 use Rattle.serve_loop.specs.Ends.{end_by, turn_of}
-use Rattle.serve_loop.specs.Turns.{all_passed_over, is_passed_over, is_read_now, still, AfterTurn, AllSent, AttendsAfterTaking, AttendsAfterTurn, AttendsNow, EndedAs, HoldsNow}
+use Rattle.serve_loop.specs.Turns.{all_passed_over, is_passed_over, is_read_now, still, AfterTurn, AllSent, AttendsAfterTaking, AttendsAfterTurn, AttendsNow, EndedAs, HoldsNow, IsCalm, IsCalmAfter, IsInTime, MayRest}
 use Rattle.serve_loop.specs.declared.service.End.{End}
 use Rattle.serve_loop.specs.declared.service.Turn.{Turn}
 use Rattle.serve_loop.specs.declared.service.Turn.TheVariants.{Again, Ended as TurnEnded}
@@ -106,6 +111,13 @@ reads_there who [] n want other few there is = absurd (omega (arith, few))
 reads_there who (x ∷ wants) zero want other few there is = ap (λ (w : Want). is_to_read who w || reads who wants) (sym there) ∙ ap (λ (b : Bool). b || reads who wants) is
 reads_there who (x ∷ wants) (suc n) want other few there is = or_second (is_to_read who x) (reads who wants) (reads_there who wants n want other (omega (arith, few)) there is)
 
+-- none is left from the end on
+pub drop_all : (items : List Want) (n : ℕ) → length items ≤ n → drop n items ≡ []
+drop_all [] zero all = refl
+drop_all [] (suc n) all = refl
+drop_all (x ∷ items) zero all = absurd (omega (arith, all))
+drop_all (x ∷ items) (suc n) all = drop_all items n (omega (arith, all))
+
 -- the items from a place on
 pub item_at : (items : List Want) (n : ℕ) (other : Want) → n < length items → drop n items ≡ get_or items n other ∷ drop (n + 1) items
 item_at [] n other few = absurd (omega (arith, few))
@@ -136,8 +148,32 @@ waited_so (TurnEnded end) config at aged slirp link past ended = ended.ended.wai
 pub attends_on : (turn : Turn) (config : Config) (at later : Standing) (aged then_aged : Bool) (slirp new : SlirpState) (link next : LinkState) (a b : Telling) → at.count ≡ later.count
     → Brings a b (HoldsNow config at aged slirp link) (AfterTurn turn config later then_aged new next) → Brings a b (AttendsNow config at aged slirp link) (AttendsAfterTurn turn config later then_aged new next)
 attends_on turn config at later aged then_aged slirp new link next a b same brings =
-    brings_attention config a b (HoldsNow config at aged slirp link) (AfterTurn turn config later then_aged new next)
+    brings_on config a b (HoldsNow config at aged slirp link) (AfterTurn turn config later then_aged new next)
     (λ past made before now. waited_so turn config later then_aged new next (made ++ past) now ∙ sym same ∙ sym before.clock.counted) brings
+
+-- a part of a turn after which it may wait, where it did what has a time
+pub rests_after : (config : Config) (at : Standing) (aged : Bool) (slirp new : SlirpState) (link next : LinkState) (a b : Telling) → Brings a b (AttendsNow config at aged slirp link) (AttendsNow config at true new next)
+    → ((past : List Entry) → HoldsNow config at aged slirp link past → IsInTime new next) → Brings a b (AttendsNow config at aged slirp link) (MayRest config at new next)
+rests_after config at aged slirp new link next a b brings early = record {
+  made = brings.made;
+  same = brings.same;
+  allowed = brings.allowed;
+  told = brings.told;
+  counted = brings.counted;
+  brings = λ past now. (brings.brings past now, early past now.0);
+}
+
+-- and one after which it may where it might before
+pub rests_on : (config : Config) (at : Standing) (slirp new : SlirpState) (link next : LinkState) (a b : Telling) → Brings a b (AttendsNow config at true slirp link) (AttendsNow config at true new next)
+    → ((past : List Entry) → HoldsNow config at true slirp link past → IsInTime slirp link → IsInTime new next) → Brings a b (MayRest config at slirp link) (MayRest config at new next)
+rests_on config at slirp new link next a b brings early = record {
+  made = brings.made;
+  same = brings.same;
+  allowed = brings.allowed;
+  told = brings.told;
+  counted = brings.counted;
+  brings = λ past now. (brings.brings past now.0, early past now.0.0 now.1);
+}
 
 -- a whole turn, where its wait was made
 pub taken : (turn : Turn) (config : Config) (count : ℕ) (slirp : SlirpState) (link : LinkState) (past : List Entry) → AttendsAfterTurn turn config (after (count + 1)) false slirp link past → AttendsAfterTaking turn config count slirp link past
@@ -151,6 +187,64 @@ sent_by Clear slirp link left again free =
     (λ i. (length (left.1 i) == 0) && not (none i))
 sent_by Blocked slirp link left again free = absurd (let never : true ≡ false = sym left ∙ free in cc)
 sent_by PumpFailed slirp link left again free = cc
+
+-- no flow owes a frame after a pump that goes on, unless the link is blocked
+pub calm_by : (answer : Pumped) (slirp : SlirpState) (link : LinkState) → Leaves answer slirp link → (answer ≡ Clear → AreClear slirp.known slirp.flows.flows) → turn_of answer ≡ Again → IsCalm slirp link
+calm_by Clear slirp link left clear again free = clear refl
+calm_by Blocked slirp link left clear again free = absurd (let never : true ≡ false = sym left ∙ free in cc)
+calm_by PumpFailed slirp link left clear again free = cc
+
+-- and all is out after one that leaves the link free
+pub clear_by : (answer : Pumped) (slirp : SlirpState) (link : LinkState) → Leaves answer slirp link → turn_of answer ≡ Again → link.blocked ≡ false → answer ≡ Clear
+clear_by Clear slirp link left again free = refl
+clear_by Blocked slirp link left again free = absurd (let never : true ≡ false = sym left ∙ free in cc)
+clear_by PumpFailed slirp link left again free = cc
+
+-- an item that doesn't free the link leaves what is calm, or is once the link is freed
+pub calm_behind : (wants items : List Want) (item : Want) (slirp : SlirpState) (link : LinkState) → (same_who TheLink item.of && item.write) ≡ false → IsCalmAfter wants (item ∷ items) slirp link → IsCalmAfter wants items slirp link
+calm_behind wants items item slirp link other (inl calm) = inl calm
+calm_behind wants items item slirp link other (inr freed) = inr (record { wanted = freed.wanted; reported = ap (λ (b : Bool). b || writes TheLink items) (sym other) ∙ freed.reported })
+
+-- once no item is left it is calm
+pub calm_at_end : (wants : List Want) (slirp : SlirpState) (link : LinkState) → IsCalmAfter wants [] slirp link → IsCalm slirp link
+calm_at_end wants slirp link (inl calm) = calm
+calm_at_end wants slirp link (inr freed) = absurd (let never : false ≡ true = freed.reported in cc)
+
+-- a wait that frees the link was for it
+pub calm_after_wait : (wants items : List Want) (slirp : SlirpState) (link next : LinkState) (frees : Bool) → writes TheLink items ≡ frees → next.blocked ≡ (if frees then false else link.blocked) → (link.blocked ≡ true → writes TheLink wants ≡ true)
+    → IsCalm slirp link → IsCalmAfter wants items slirp next
+calm_after_wait wants items slirp link next false unfreed stays waited calm = inl (λ free. calm (sym stays ∙ free))
+calm_after_wait wants items slirp link next true frees stays waited calm = by link.blocked refl
+  where
+    by : (b : Bool) → link.blocked ≡ b → IsCalmAfter wants items slirp next
+    by true blocked = inr (record { wanted = waited blocked; reported = frees })
+    by false open_yet = inl (λ free. calm open_yet)
+
+-- a link that is blocked is waited for to take more
+front_written : (read : Bool) (wants : List Want) → writes TheLink (link_want read true ++ wants) ≡ true
+front_written true wants = refl
+front_written false wants = refl
+
+pub link_written : (slirp : SlirpState) (link : LinkState) (wants : List Want) → WantsOf slirp link wants → link.blocked ≡ true → writes TheLink wants ≡ true
+link_written slirp link wants of blocked =
+    ap (writes TheLink) of.is
+    ∙ written_behind (link_want (is_settled slirp link) link.blocked ++ map listener_want (listeners_of slirp)) (socket_wants (is_settled slirp link) (sockets_over OverUdp slirp.forwards ++ of.sockets)) of.flows
+    (ap (λ (b : Bool). writes TheLink (link_want (is_settled slirp link) b ++ map listener_want (listeners_of slirp))) blocked ∙ front_written (is_settled slirp link) (map listener_want (listeners_of slirp)))
+  where
+    first_written : (front rest : List Want) → writes TheLink front ≡ true → writes TheLink (front ++ rest) ≡ true
+    first_written [] rest is = absurd cc
+    first_written (w ∷ front) rest is = by (same_who TheLink w.of && w.write) is (first_written front rest)
+      where
+        by : (b : Bool) → (b || writes TheLink front) ≡ true → (writes TheLink front ≡ true → writes TheLink (front ++ rest) ≡ true) → (b || writes TheLink (front ++ rest)) ≡ true
+        by true is more = refl
+        by false is more = more is
+
+    written_behind : (front middle rest : List Want) → writes TheLink front ≡ true → writes TheLink ((front ++ middle) ++ rest) ≡ true
+    written_behind front middle rest is = first_written (front ++ middle) rest (first_written front middle is)
+
+-- no flow stands before the first turn
+pub none_is_calm : (slirp : SlirpState) (link : LinkState) → NoneInSlots slirp.flows.flows.parts → IsCalm slirp link
+none_is_calm slirp link none free = record { clear = λ k p here. absurd (none k p here); slots = λ k p here. absurd (none k p here); told = λ k p here unknown. absurd (none k p here) }
 
 pub still_sent : (slirp new : SlirpState) (link : LinkState) → new.pending ≡ slirp.pending → AllSent slirp link → AllSent new link
 still_sent slirp new link same sent free = ap (λ (frames : List (List ℕ)). (length link.tail == 0) && not (nat_lt 0 (length frames))) same ∙ sent free

@@ -1,6 +1,6 @@
 -- What a turn, and each part of it, comes to.
-use Rattle.std.specs.Prelude.{◌≡◌, ℕ, ◌+◌, ◌&&◌, not, Bool, true, false, List, [], ◌∷◌, All, None}
-use Rattle.poll_list.specs.Listing.{same_who}
+use Rattle.std.specs.Prelude.{◌≡◌, ◌⊎◌, ℕ, ◌+◌, ◌&&◌, not, Bool, true, false, List, [], ◌∷◌, All, None}
+use Rattle.poll_list.specs.Listing.{same_who, writes}
 use Rattle.poll_list.specs.declared.Want.{Want}
 use Rattle.poll_list.specs.declared.Who.TheVariants.{Link}
 use Rattle.world_face.specs.Journal.{Entry}
@@ -17,9 +17,13 @@ use Rattle.stream_netdev.specs.State.{LinkState, under_way}
 use Rattle.port_forward.specs.Opened.{Opened}
 use Rattle.slirp_core.specs.Forwards.{forward_sockets}
 use Rattle.slirp_core.specs.Holds.{Standing, after, standing, flowing, Holders, holders_of, Holds, Ended, ClosingWith}
+use Rattle.slirp_core.specs.Calm.{AreClear}
+use Rattle.slirp_core.specs.Connecting.{AreInTime}
+use Rattle.tcp_flows.specs.Settled.{IsInTime as HasNoneDue}
 use Rattle.slirp_core.specs.Pumps.{is_settled}
 use Rattle.slirp_core.specs.State.{SlirpState}
-use Rattle.run_duties.specs.Duties.{Attentive}
+use Rattle.slirp_core.specs.Waiting.{AreFresh}
+use Rattle.run_duties.specs.Duties.{Dutiful}
 use Rattle.serve_loop.specs.Ends.{end_by, end_of}
 use Rattle.serve_loop.specs.declared.service.End.{End}
 use Rattle.serve_loop.specs.declared.service.Turn.{Turn}
@@ -46,9 +50,26 @@ NoneGoesAgain slirp = slirp.pending ≡ [] → next_again slirp.moment slirp.tra
 abbrev pub AllSent : SlirpState → LinkState → Type 0
 AllSent slirp link = link.blocked ≡ false → is_settled slirp link ≡ true
 
--- no socket of a guest's port is idle for long, and none of a question
+-- no socket of a guest's port is idle for long, and none of a question, and no fragments are to be dropped
 abbrev pub AreYoung : SlirpState → Type 0
-AreYoung slirp = All (λ a. is_idle_association slirp.moment a ≡ false) slirp.associations × All (λ q. is_idle_question slirp.moment q ≡ false) slirp.questions
+AreYoung slirp = All (λ a. is_idle_association slirp.moment a ≡ false) slirp.associations × All (λ q. is_idle_question slirp.moment q ≡ false) slirp.questions × AreFresh slirp.moment slirp.parts
+
+-- unless the link is blocked no flow owes a frame
+abbrev pub IsCalm : SlirpState → LinkState → Type 0
+IsCalm slirp link = link.blocked ≡ false → AreClear slirp.known slirp.flows.flows
+
+-- the link was waited for to be written, and is among these items so: what is owed is sent when it is served
+pub record IsFreed (wants items : List Want) : Type 0 where
+  pub wanted : writes Link wants ≡ true
+  pub reported : writes Link items ≡ true
+
+-- no flow owes a frame, unless the link is blocked or one of these items frees it
+abbrev pub IsCalmAfter : List Want → List Want → SlirpState → LinkState → Type 0
+IsCalmAfter wants items slirp link = IsCalm slirp link ⊎ IsFreed wants items
+
+-- before a wait: the host of no flow had its time to connect, and unless the link is blocked no flow has a timer that is due
+abbrev pub IsInTime : SlirpState → LinkState → Type 0
+IsInTime slirp link = AreInTime slirp.moment slirp.flows.flows.parts × (link.blocked ≡ false → (n : ℕ) → HasNoneDue slirp.moment slirp.flows.flows.parts n)
 
 -- after a wait with these wants, and the call of the clock that follows it
 abbrev pub AfterSleep : Slept → Config → ℕ → List Want → List Want → SlirpState → LinkState → List Entry → Type 0
@@ -90,25 +111,28 @@ abbrev pub AfterWholeTurn : Turn → Config → Standing → SlirpState → Link
 AfterWholeTurn Again config at slirp link past = HoldsNow config at false slirp link past
 AfterWholeTurn (TurnEnded end) config at slirp link past = RanTo config end past
 
--- ---- the same, where each wait so far attended to all that could be taken
+-- ---- the same, where each wait so far was as it must be
 
 abbrev pub AttendsNow : Config → Standing → Bool → SlirpState → LinkState → List Entry → Type 0
-AttendsNow config at aged slirp link past = HoldsNow config at aged slirp link past × Attentive config past
+AttendsNow config at aged slirp link past = HoldsNow config at aged slirp link past × Dutiful config past
+
+abbrev pub MayRest : Config → Standing → SlirpState → LinkState → List Entry → Type 0
+MayRest config at slirp link past = AttendsNow config at true slirp link past × IsInTime slirp link
 
 abbrev pub AttendsAfterSleep : Slept → Config → ℕ → List Want → List Want → SlirpState → LinkState → List Entry → Type 0
-AttendsAfterSleep slept config count wants ready slirp link past = AfterSleep slept config count wants ready slirp link past × Attentive config past
+AttendsAfterSleep slept config count wants ready slirp link past = AfterSleep slept config count wants ready slirp link past × Dutiful config past
 
 abbrev pub AttendsAfterTurn : Turn → Config → Standing → Bool → SlirpState → LinkState → List Entry → Type 0
-AttendsAfterTurn turn config at aged slirp link past = AfterTurn turn config at aged slirp link past × Attentive config past
+AttendsAfterTurn turn config at aged slirp link past = AfterTurn turn config at aged slirp link past × Dutiful config past
 
 abbrev pub AttendsAfterTaking : Turn → Config → ℕ → SlirpState → LinkState → List Entry → Type 0
-AttendsAfterTaking turn config count slirp link past = AfterTaking turn config count slirp link past × Attentive config past
+AttendsAfterTaking turn config count slirp link past = AfterTaking turn config count slirp link past × Dutiful config past
 
 abbrev pub AttendsAfterWholeTurn : Turn → Config → Standing → SlirpState → LinkState → List Entry → Type 0
-AttendsAfterWholeTurn turn config at slirp link past = AfterWholeTurn turn config at slirp link past × Attentive config past
+AttendsAfterWholeTurn turn config at slirp link past = AfterWholeTurn turn config at slirp link past × Dutiful config past
 
 abbrev pub AttendsTo : Config → End → List Entry → Type 0
-AttendsTo config end made = RanTo config end made × Attentive config made
+AttendsTo config end made = RanTo config end made × Dutiful config made
 
 -- ---- items
 

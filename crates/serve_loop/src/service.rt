@@ -94,6 +94,7 @@ impl Model for Service {
 
 impl Service {
     ghost use Rattle.std.specs.Prelude.{ℕ, ◌+◌, ◌<◌, ◌≤◌, ◌^◌, [], ◌∷◌, Bool, drop, length, if◌then◌else◌, IfOk};
+    ghost use Rattle.world_face.specs.Journal.{Entry};
     ghost use Rattle.world_face.specs.Tells.{Makes, Brings, Rose};
     ghost use Rattle.host_policy.specs.Addresses.{Config};
     ghost use Rattle.host_policy.specs.Ranges.{IsSound};
@@ -106,8 +107,8 @@ impl Service {
     ghost use Rattle.serve_loop.specs.Ends.{end_of, IsCounted};
     ghost use Rattle.slirp_core.specs.Counts.{AreGrown};
     ghost use Rattle.slirp_core.specs.Holds.{AfterListening, after, standing};
-    ghost use Rattle.serve_loop.specs.Turns.{AfterTurn, AllSent, AreYoung, AttendsAfterSleep, AttendsAfterTaking, AttendsAfterTurn, AttendsAfterWholeTurn, AttendsNow, GoesOnAfter, HoldsNow, NoneGoesAgain, all_passed_over, is_passed_over};
-    ghost use Rattle.run_duties.specs.Duties.{Attended, Attentive};
+    ghost use Rattle.serve_loop.specs.Turns.{AfterTurn, AllSent, AreYoung, AttendsAfterSleep, AttendsAfterTaking, AttendsAfterTurn, AttendsAfterWholeTurn, AttendsNow, GoesOnAfter, HoldsNow, IsCalm, IsCalmAfter, IsInTime, MayRest, NoneGoesAgain, all_passed_over, is_passed_over};
+    ghost use Rattle.run_duties.specs.Duties.{Attended, Dutiful};
     ghost use Rattle.slirp_core.specs.Pumps.{is_settled};
     ghost use Rattle.serve_loop.specs.Served.{IsBuilt, IsNew};
     ghost use Rattle.slirp_core.specs.Hearing.{Receives, is_heard};
@@ -149,7 +150,7 @@ impl Service {
         requires { IsNew self.old }
         // The calls that it makes are lawful, each wait attends to all that can be taken, nothing more is to be done, and the end is the one that the calls tell.
         ensures makes { let config = self.old.slirp.config in
-            Makes (W.tells world.old) (W.tells world.new) (λ made. Lawful config made × Attentive config made × Finished config made × (result ≡ end_of config (phase config made))) }
+            Makes (W.tells world.old) (W.tells world.new) (λ made. Lawful config made × Dutiful config made × Finished config made × (result ≡ end_of config (phase config made))) }
         // Where it ended by a fault the count of the link's, of the waits' or of the sockets' rose.
         ensures faults { IsCounted (Turn.Ended result) (W.tells world.old).faults (W.tells world.new).faults }
         // What a World that was live tells of them.
@@ -177,6 +178,7 @@ impl Service {
         ensures makes { Makes (W.tells world.old) (W.tells world.new) (AttendsAfterWholeTurn result self.old.slirp.config (after 0) self.new.slirp self.new.link) }
         ensures faults { IsCounted result (W.tells world.old).faults (W.tells world.new).faults }
         ensures on { GoesOnAfter result self.new.link }
+        ensures calm { result ≡ Turn.Again → IsCalm self.new.slirp self.new.link }
         ensures config { self.new.slirp.config ≡ self.old.slirp.config }
         ensures number { self.new.slirp.number ≤ 32 }
         ensures turns { self.new.slirp.flows.turn ≡ 0 }
@@ -202,16 +204,18 @@ impl Service {
         self.slirp.listen_all(world, self.forwards.as_slice())
     }
 
-    /// One turn: the flows are told the time, sockets that were idle for long are closed and what is owed is sent, then it waits, then what the wait reported is served, with what is then owed. Where it ends the run all sockets are closed, by rising number. A turn opens a socket at most for each item that a wait reports, and needs numbers for them under 2^64. There are at most 2^45 turns.
+    /// One turn, before which unless the link is blocked no flow owes a frame: the flows are told the time, sockets that were idle for long are closed and what is owed is sent, then it waits, then what the wait reported is served, with what is then owed. Where it ends the run all sockets are closed, by rising number. A turn opens a socket at most for each item that a wait reports, and needs numbers for them under 2^64. There are at most 2^45 turns.
     pub fn turn<W: World>(&mut self, world: &mut W) -> Turn
         requires on { ReadsOn (under_way self.old.link) }
         requires number { self.old.slirp.number + 5155 < 2 ^ 64 }
         requires turns { self.old.slirp.flows.turn < 2 ^ 45 }
+        requires calm { IsCalm self.old.slirp self.old.link }
         ensures makes { (config : Config) (count : ℕ) → count < config.turns → Brings (W.tells world.old) (W.tells world.new)
             (AttendsNow config (after count) false self.old.slirp self.old.link) (AttendsAfterWholeTurn result config (after (count + 1)) self.new.slirp self.new.link) }
         // Where it ended by a fault the count of the link's, or of the waits', rose.
         ensures faults { IsCounted result (W.tells world.old).faults (W.tells world.new).faults }
         ensures on { GoesOnAfter result self.new.link }
+        ensures calm { result ≡ Turn.Again → IsCalm self.new.slirp self.new.link }
         ensures config { self.new.slirp.config ≡ self.old.slirp.config }
         ensures number { self.new.slirp.number ≤ self.old.slirp.number + 5155 }
         ensures turns { self.new.slirp.flows.turn ≤ self.old.slirp.flows.turn + 1 }
@@ -230,10 +234,12 @@ impl Service {
         requires on { ReadsOn (under_way self.old.link) }
         requires number { self.old.slirp.number + 5155 < 2 ^ 64 }
         requires turns { self.old.slirp.flows.turn < 2 ^ 45 }
+        requires calm { IsCalm self.old.slirp self.old.link }
         ensures makes { (config : Config) (count : ℕ) → count < config.turns → Brings (W.tells world.old) (W.tells world.new)
             (AttendsNow config (after count) false self.old.slirp self.old.link) (AttendsAfterTaking result config count self.new.slirp self.new.link) }
         ensures faults { IsCounted result (W.tells world.old).faults (W.tells world.new).faults }
         ensures on { GoesOnAfter result self.new.link }
+        ensures calm { result ≡ Turn.Again → IsCalm self.new.slirp self.new.link }
         ensures config { self.new.slirp.config ≡ self.old.slirp.config }
         ensures number { self.new.slirp.number ≤ self.old.slirp.number + 5155 }
         ensures turns { self.new.slirp.flows.turn ≤ self.old.slirp.flows.turn + 1 }
@@ -251,10 +257,11 @@ impl Service {
         requires { ReadsOn (under_way self.old.link) }
         ensures makes { (config : Config) (at : Standing) → Brings (W.tells world.old) (W.tells world.new)
             (HoldsNow config at true self.old.slirp self.old.link) (AfterTurn result config at true self.new.slirp self.new.link) }
-        // Where the turn goes on and nothing is left to be sent, no packet is due.
-        // Where the turn goes on all that is owed is out, unless the link is blocked.
+        // Where the turn goes on all that is owed is out, unless the link is blocked, and where nothing is left to be sent no packet is due.
         ensures sent { result ≡ Turn.Again → AllSent self.new.slirp self.new.link }
+        ensures calm { result ≡ Turn.Again → IsCalm self.new.slirp self.new.link }
         ensures young { AreYoung self.old.slirp → AreYoung self.new.slirp }
+        ensures connects { (config : Config) (at : Standing) (past : List Entry) → HoldsNow config at true self.old.slirp self.old.link past → result ≡ Turn.Again → IsInTime self.old.slirp self.old.link → IsInTime self.new.slirp self.new.link }
         ensures none { result ≡ Turn.Again → NoneGoesAgain self.new.slirp }
         ensures faults { IsCounted result (W.tells world.old).faults (W.tells world.new).faults }
         ensures on { GoesOnAfter result self.new.link }
@@ -282,10 +289,12 @@ impl Service {
         requires none { NoneGoesAgain self.old.slirp }
         requires sent { AllSent self.old.slirp self.old.link }
         requires young { AreYoung self.old.slirp }
+        requires calm { IsCalm self.old.slirp self.old.link }
         ensures makes { (config : Config) (count : ℕ) → count < config.turns → Brings (W.tells world.old) (W.tells world.new)
-            (AttendsNow config (after count) true self.old.slirp self.old.link) (AttendsAfterTurn result config (after (count + 1)) false self.new.slirp self.new.link) }
+            (MayRest config (after count) self.old.slirp self.old.link) (AttendsAfterTurn result config (after (count + 1)) false self.new.slirp self.new.link) }
         ensures faults { IsCounted result (W.tells world.old).faults (W.tells world.new).faults }
         ensures on { GoesOnAfter result self.new.link }
+        ensures calm { result ≡ Turn.Again → IsCalm self.new.slirp self.new.link }
         ensures config { self.new.slirp.config ≡ self.old.slirp.config }
         ensures number { self.new.slirp.number ≤ self.old.slirp.number + 5155 }
         ensures turns { self.new.slirp.flows.turn ≡ self.old.slirp.flows.turn }
@@ -302,11 +311,15 @@ impl Service {
         requires none { NoneGoesAgain self.old.slirp }
         requires sent { AllSent self.old.slirp self.old.link }
         requires young { AreYoung self.old.slirp }
+        requires calm { IsCalm self.old.slirp self.old.link }
         ensures makes { (config : Config) (count : ℕ) → count < config.turns → Brings (W.tells world.old) (W.tells world.new)
-            (AttendsNow config (after count) true self.old.slirp self.old.link) (AttendsAfterSleep result config (count + 1) self.new.wants self.new.ready self.new.slirp self.new.link) }
+            (MayRest config (after count) self.old.slirp self.old.link) (AttendsAfterSleep result config (count + 1) self.new.wants self.new.ready self.new.slirp self.new.link) }
         ensures counts { AreGrown (W.tells world.old).faults (W.tells world.new).faults }
         ensures failed { result ≡ Slept.Failed → Rose (W.tells world.old).faults.wait (W.tells world.new).faults.wait }
         ensures on { under_way self.new.link ≡ under_way self.old.link }
+        // Where it was woken no flow owes a frame then either, unless the link is blocked or the report frees it; and what is reported is no more than the list has room for.
+        ensures calm { result ≡ Slept.Ready → IsCalmAfter self.new.wants self.new.ready self.new.slirp self.new.link }
+        ensures few { result ≡ Slept.Ready → length self.new.ready ≤ 5155 }
         ensures config { self.new.slirp.config ≡ self.old.slirp.config }
         ensures number { self.new.slirp.number ≡ self.old.slirp.number }
         ensures turns { self.new.slirp.flows.turn ≡ self.old.slirp.flows.turn }
@@ -328,18 +341,20 @@ impl Service {
     fn work<W: World>(&mut self, world: &mut W) -> Turn
         requires on { ReadsOn (under_way self.old.link) }
         requires number { self.old.slirp.number + 5155 < 2 ^ 64 }
+        requires few { length self.old.ready ≤ 5155 }
+        requires calm { IsCalmAfter self.old.wants self.old.ready self.old.slirp self.old.link }
         ensures makes { (config : Config) (count : ℕ) → Brings (W.tells world.old) (W.tells world.new)
             (HoldsNow config (standing count self.old.wants self.old.ready) false self.old.slirp self.old.link) (AfterTurn result config (after count) false self.new.slirp self.new.link) }
         ensures faults { IsCounted result (W.tells world.old).faults (W.tells world.new).faults }
         ensures on { GoesOnAfter result self.new.link }
+        ensures calm { result ≡ Turn.Again → IsCalm self.new.slirp self.new.link }
         ensures config { self.new.slirp.config ≡ self.old.slirp.config }
         ensures number { self.new.slirp.number ≤ self.old.slirp.number + 5155 }
         ensures turns { self.new.slirp.flows.turn ≡ self.old.slirp.flows.turn }
         ensures passed { all_passed_over self.old.wants self.old.ready ≡ true → (result ≡ Turn.Again) × (self.new ≡ self.old) × (world.new ≡ world.old) }
     {
         let mut to_read = self.may_read();
-        // The list has room for no more.
-        let count = self.ready.items().len().min(MOST_READY);
+        let count = self.ready.items().len();
         for place in 0..count {
             let item = self.item(place);
             match self.attend(world, &item, to_read) {
@@ -373,6 +388,7 @@ impl Service {
             (HoldsNow config (standing count self.old.wants (item.now ∷ items)) false self.old.slirp self.old.link) (AfterTurn result config (standing count self.old.wants items) false self.new.slirp self.new.link) }
         ensures faults { IsCounted result (W.tells world.old).faults (W.tells world.new).faults }
         ensures on { GoesOnAfter result self.new.link }
+        ensures calm { (items : List AnItem) → IsCalmAfter self.old.wants (item.now ∷ items) self.old.slirp self.old.link → result ≡ Turn.Again → IsCalmAfter self.old.wants items self.new.slirp self.new.link }
         ensures config { self.new.slirp.config ≡ self.old.slirp.config }
         ensures number { self.new.slirp.number ≤ self.old.slirp.number + 1 }
         ensures turns { self.new.slirp.flows.turn ≡ self.old.slirp.flows.turn }
@@ -396,6 +412,7 @@ impl Service {
             (HoldsNow config (standing count self.old.wants (item.now ∷ items)) false self.old.slirp self.old.link) (AfterTurn result config (standing count self.old.wants items) false self.new.slirp self.new.link) }
         ensures faults { IsCounted result (W.tells world.old).faults (W.tells world.new).faults }
         ensures on { GoesOnAfter result self.new.link }
+        ensures calm { (items : List AnItem) → IsCalmAfter self.old.wants (item.now ∷ items) self.old.slirp self.old.link → result ≡ Turn.Again → IsCalmAfter self.old.wants items self.new.slirp self.new.link }
         ensures config { self.new.slirp.config ≡ self.old.slirp.config }
         ensures number { self.new.slirp.number ≤ self.old.slirp.number + 1 }
         ensures turns { self.new.slirp.flows.turn ≡ self.old.slirp.flows.turn }
@@ -423,6 +440,7 @@ impl Service {
             (HoldsNow config (standing count self.old.wants (item.now ∷ items)) false self.old.slirp self.old.link) (AfterTurn result config (standing count self.old.wants items) false self.new.slirp self.new.link) }
         ensures faults { IsCounted result (W.tells world.old).faults (W.tells world.new).faults }
         ensures on { GoesOnAfter result self.new.link }
+        ensures calm { (items : List AnItem) → IsCalmAfter self.old.wants (item.now ∷ items) self.old.slirp self.old.link → result ≡ Turn.Again → IsCalmAfter self.old.wants items self.new.slirp self.new.link }
         ensures config { self.new.slirp.config ≡ self.old.slirp.config }
         ensures number { self.new.slirp.number ≤ self.old.slirp.number + 1 }
         ensures turns { self.new.slirp.flows.turn ≡ self.old.slirp.flows.turn }
@@ -444,6 +462,7 @@ impl Service {
             (HoldsNow config (standing count self.old.wants (item.now ∷ items)) false self.old.slirp self.old.link) (AfterTurn result config (standing count self.old.wants items) false self.new.slirp self.new.link) }
         ensures faults { IsCounted result (W.tells world.old).faults (W.tells world.new).faults }
         ensures on { GoesOnAfter result self.new.link }
+        ensures calm { (items : List AnItem) → IsCalmAfter self.old.wants (item.now ∷ items) self.old.slirp self.old.link → result ≡ Turn.Again → IsCalmAfter self.old.wants items self.new.slirp self.new.link }
         ensures config { self.new.slirp.config ≡ self.old.slirp.config }
         ensures number { self.new.slirp.number ≡ self.old.slirp.number }
         ensures turns { self.new.slirp.flows.turn ≡ self.old.slirp.flows.turn }
@@ -465,6 +484,7 @@ impl Service {
             (HoldsNow config (standing count self.old.wants (item.now ∷ items)) false self.old.slirp self.old.link) (AfterTurn result config (standing count self.old.wants items) false self.new.slirp self.new.link) }
         ensures faults { IsCounted result (W.tells world.old).faults (W.tells world.new).faults }
         ensures on { GoesOnAfter result self.new.link }
+        ensures calm { (items : List AnItem) → IsCalmAfter self.old.wants (item.now ∷ items) self.old.slirp self.old.link → result ≡ Turn.Again → IsCalmAfter self.old.wants items self.new.slirp self.new.link }
         ensures config { self.new.slirp.config ≡ self.old.slirp.config }
         ensures number { self.new.slirp.number ≡ self.old.slirp.number }
         ensures turns { self.new.slirp.flows.turn ≡ self.old.slirp.flows.turn }
@@ -587,7 +607,9 @@ impl Service {
             (HoldsNow config at aged self.old.slirp self.old.link) (AfterTurn result config at aged self.new.slirp self.new.link) }
         // Where the turn goes on all that is owed is out, unless the link is blocked.
         ensures sent { result ≡ Turn.Again → AllSent self.new.slirp self.new.link }
+        ensures calm { result ≡ Turn.Again → IsCalm self.new.slirp self.new.link }
         ensures young { AreYoung self.old.slirp → AreYoung self.new.slirp }
+        ensures connects { (config : Config) (at : Standing) (aged : Bool) (past : List Entry) → HoldsNow config at aged self.old.slirp self.old.link past → result ≡ Turn.Again → IsInTime self.old.slirp self.old.link → IsInTime self.new.slirp self.new.link }
         ensures faults { IsCounted result (W.tells world.old).faults (W.tells world.new).faults }
         ensures on { GoesOnAfter result self.new.link }
         ensures config { self.new.slirp.config ≡ self.old.slirp.config }

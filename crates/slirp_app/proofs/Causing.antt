@@ -99,7 +99,7 @@ is_refusal _ is = absurd (omega (arith, is))
 -- the same record, of which more is known
 replayed_as : (config : Config) (status : ℕ) (schedule : List ℕ) (old new : Option (List ℕ)) (P Q : List Entry → Type 0) → Replayed config status schedule old new P → ((journal : List Entry) → Lawful config journal → P journal → Q journal) → Replayed config status schedule old new Q
 replayed_as config status schedule old new P Q ran here =
-    record { journal = ran.journal; put = ran.put; fits = ran.fits; allowed = ran.allowed; lawful = ran.lawful; attentive = ran.attentive; holds = here ran.journal ran.lawful ran.holds }
+    record { journal = ran.journal; put = ran.put; fits = ran.fits; allowed = ran.allowed; lawful = ran.lawful; dutiful = ran.dutiful; holds = here ran.journal ran.lawful ran.holds }
 
 module _ (config : Config) (world world_new : Telling) (file : List ℕ) (old new : Option (List ℕ)) where
   abbrev By_calls : Outcome → Type 0

@@ -11,7 +11,7 @@ use Rattle.host_policy.specs.Addresses.{Config}
 use Rattle.slirp_laws.specs.Laws.{May, Lawful}
 use Rattle.slirp_laws.specs.Laws.{Finished}
 use Rattle.run_laws.specs.Shape.{phase}
-use Rattle.run_duties.specs.Duties.{Attentive, AttendsAsItMust}
+use Rattle.run_duties.specs.Duties.{Dutiful, Must}
 use Rattle.serve_loop.specs.Ends.{end_of}
 use Rattle.serve_loop.specs.declared.service.End.{End}
 use Rattle.serve_loop.specs.declared.service.End.TheVariants.{Done, TooLong, Cut, LinkFault, WaitFault, TurnsSpent, ListenRefused}
@@ -89,7 +89,7 @@ at_end config (ListenRefused n) schedule old new ran = ran
 
 -- a run, lawful and finished, each of whose waits attends to all that can be taken, with the end that its record tells
 abbrev pub Ran : Config → End → List Entry → Type 0
-Ran config end made = Lawful config made × Attentive config made × Finished config made × (end ≡ end_of config (phase config made))
+Ran config end made = Lawful config made × Dutiful config made × Finished config made × (end ≡ end_of config (phase config made))
 
 module _ (config : Config) (script new : Script) (end : End) (outcome : Outcome) (before after : Option (List ℕ)) (fresh : IsFresh script)
     (lives : new.live ≡ true → outcome ≡ outcome_of end)
@@ -115,7 +115,7 @@ module _ (config : Config) (script new : Script) (end : End) (outcome : Outcome)
 
   -- where it ceased
   there : (divergence : Divergence) → divergence_of new ≡ Some divergence → (told : List Entry) (e : Entry) → told ≡ (script_tells new).kept → IfSome new.stop (λ s. s ≡ call_of e)
-      → May config told (call_of e) → AttendsAsItMust config told (call_of e) → schedule_text new.lines ≡ schedule_text script.lines → Ceased config (schedule_text script.lines) divergence (script_tells new).kept
+      → May config told (call_of e) → Must config told (call_of e) → schedule_text new.lines ≡ schedule_text script.lines → Ceased config (schedule_text script.lines) divergence (script_tells new).kept
   there divergence is told e kept stop may attends same =
       let f : Call → Divergence = λ call. record { line = new.used + 1; made = name_of call; wanted = option_map (λ (row : Row). name_of (call_of row.entry)) (slice_get new.lines new.used) } in
       let at = stopped_at new.stop f divergence is in
@@ -126,7 +126,7 @@ module _ (config : Config) (script new : Script) (end : End) (outcome : Outcome)
         before = before_left same;
         call = at.0;
         may = subst (λ k. May config k at.0) kept (subst (May config told) (sym of) may);
-        attends = subst (λ k. AttendsAsItMust config k at.0) kept (subst (AttendsAsItMust config told) (sym of) attends);
+        attends = subst (λ k. Must config k at.0) kept (subst (Must config told) (sym of) attends);
         fits_none = none_left new.lines new.used at.0 (rightly at.0 at.1);
         line = ap (λ (d : Divergence). d.line) at.2 ∙ ap (λ n. n + 1) (sym (omega (arith, kept_count new.used (entries_of new.lines) [] (omega (arith, within, length-map new.lines (λ (row : Row). row.entry))))));
         made = ap (λ (d : Divergence). d.made) at.2;
@@ -142,14 +142,14 @@ module _ (config : Config) (script new : Script) (end : End) (outcome : Outcome)
         fits = fits same;
         allowed = subst AreAllowed is allowed;
         lawful = subst (Lawful config) is run.0;
-        attentive = subst (Attentive config) is run.1;
+        dutiful = subst (Dutiful config) is run.1;
         holds = (subst (Finished config) is run.2, ap outcome_of (run.3 ∙ ap (λ l. end_of config (phase config l)) is));
       }))
   by_told made same allowed run (ceased was now later told e made_is kept stop) =
       let is : told ≡ (script_tells new).kept = sym (kept ∙ ap (λ l. told ++ l) nothing_kept ∙ append-nil told) in
       let lawful = subst (Lawful config) made_is run.0 in
       let next = follows_before (May config) later (e ∷ told) lawful in
-      let duty = follows_before (AttendsAsItMust config) later (e ∷ told) (subst (Attentive config) made_is run.1) in
+      let duty = follows_before (Must config) later (e ∷ told) (subst (Dutiful config) made_is run.1) in
       let left = dead now in
       subst (λ o. Came config o (schedule_text script.lines) before after) (sym left.1) (record {
         journal = (script_tells new).kept;
@@ -157,7 +157,7 @@ module _ (config : Config) (script new : Script) (end : End) (outcome : Outcome)
         fits = fits same;
         allowed = subst AreAllowed is (all_before later (e ∷ told) (subst AreAllowed made_is allowed)).1;
         lawful = subst (Lawful config) is next.1;
-        attentive = subst (Attentive config) is duty.1;
+        dutiful = subst (Dutiful config) is duty.1;
         holds = there left.0 left.2 told e is stop next.0 duty.0 same;
       })
   by_told made same allowed run (silent quiet now kept stop) = cc

@@ -1,6 +1,10 @@
+mod Carried
 mod Causing
+mod Completed
 mod Courses
 mod Ending
 mod Fetched
 mod Followed
+mod Following
+mod Lined
 mod Opened

@@ -5,4 +5,5 @@ pub mod Ran
 pub mod Serving
 pub mod Statuses
 pub mod Texts
+pub mod Untroubled
 pub mod Writers

@@ -7,7 +7,7 @@ use Rattle.host_policy.specs.Addresses.{Config}
 use Rattle.slirp_laws.specs.Laws.{May, Lawful}
 use Rattle.slirp_laws.specs.Laws.{Finished}
 use Rattle.run_laws.specs.Shape.{phase}
-use Rattle.run_duties.specs.Duties.{Attentive, AttendsAsItMust}
+use Rattle.run_duties.specs.Duties.{Dutiful, Must}
 use Rattle.serve_loop.specs.Ends.{end_of}
 use Rattle.replay.specs.Fitting.{FitsNone}
 use Rattle.replay.specs.Names.{name_of}
@@ -29,7 +29,7 @@ pub record Replayed (config : Config) (status : ℕ) (schedule : List ℕ) (old 
   pub fits : Fits journal schedule
   pub allowed : AreAllowed journal
   pub lawful : Lawful config journal
-  pub attentive : Attentive config journal
+  pub dutiful : Dutiful config journal
   pub holds : P journal
 
 -- The schedule was followed to the end of the run: nothing more is to be done, and the outcome is that of the end which the record tells.
@@ -43,7 +43,7 @@ pub record Ceased (config : Config) (schedule : List ℕ) (divergence : Divergen
   pub before : FitsBefore journal schedule (schedule_text left)
   pub call : Call
   pub may : May config journal call
-  pub attends : AttendsAsItMust config journal call
+  pub attends : Must config journal call
   pub fits_none : FitsNone left 0 call
   pub line : divergence.line ≡ length journal + 1
   pub made : divergence.made ≡ name_of call

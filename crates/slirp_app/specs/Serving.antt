@@ -5,7 +5,7 @@ use Rattle.world_face.specs.declared.Made.TheVariants.{Done, Failed}
 use Rattle.host_policy.specs.Addresses.{Config}
 use Rattle.run_laws.specs.Shape.{phase}
 use Rattle.slirp_laws.specs.Laws.{Finished, Lawful}
-use Rattle.run_duties.specs.Duties.{Attentive}
+use Rattle.run_duties.specs.Duties.{Dutiful}
 use Rattle.serve_loop.specs.Ends.{end_of}
 use Rattle.slirp_app.specs.Statuses.{outcome_of}
 use Rattle.slirp_app.specs.declared.status.Outcome.{Outcome}
@@ -16,7 +16,7 @@ pub record RunsAt (config : Config) (at : Place) (outcome : Outcome) (made : Lis
   pub run : List Entry
   pub is : made ≡ run ++ LinkOpen at Done ∷ []
   pub lawful : Lawful config run
-  pub attentive : Attentive config run
+  pub dutiful : Dutiful config run
   pub finished : Finished config run
   pub ends : outcome ≡ outcome_of (end_of config (phase config run))
 

@@ -14,10 +14,10 @@ use Rattle.ipv4_head.specs.Cuts.{cuts}
 use Rattle.ipv4_head.specs.Sets.{Part}
 use Rattle.tftp_server.specs.Serving.{IsFromServer, said_by}
 use Rattle.tftp_server.proofs.Turning.{begun_left, ticked_left, ticked_none}
-use Rattle.flow_book.specs.Book.{book}
-use Rattle.flow_book.specs.Doings.{Nothing, doing, doing_by, goes}
-use Rattle.flow_book.specs.Laws.{MaySendOn, MayWrite, flow_settings}
-use Rattle.flow_book.specs.Segments.{asked_in, segment_in}
+use Rattle.record_flows.specs.Book.{book}
+use Rattle.record_flows.specs.Doings.{Nothing, doing, doing_by, goes}
+use Rattle.record_flows.specs.Laws.{MaySendOn, MayWrite, flow_settings}
+use Rattle.record_flows.specs.Segments.{asked_in, segment_in}
 use Rattle.run_laws.specs.Moments.{moment}
 use Rattle.tftp_server.specs.Transfers.{Files, Said, Transfer, are_left, begun, next_again, said_again, ticked}
 use Rattle.slirp_laws.specs.Answers.{files_begun, frames_of, is_first, left, or_begun, our_mac, part_frame, serving, told_of_files, uncut}

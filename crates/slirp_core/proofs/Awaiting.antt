@@ -1,5 +1,5 @@
 -- What the core waits for is all that can be taken, and where the link isn't blocked all that is owed is out.
-use Rattle.std.proofs.Common.{◌≡◌, ◌≢◌, ℕ, zero, suc, ◌+◌, ◌<◌, ◌≤◌, ◌==◌, ◌&&◌, ◌||◌, not, nat_lt, Bool, true, false, is_some, List, [], ◌∷◌, ◌++◌, All, filter, length, map, slice_get, IsPermutation, Option, None, Some, option_map, inl, inr, ◌⊎◌, refl, sym, ap, ◌∙◌, subst, arith, if◌then◌else◌}
+use Rattle.std.proofs.Common.{◌≡◌, ℕ, zero, suc, ◌+◌, ◌<◌, ◌≤◌, ◌==◌, ◌&&◌, ◌||◌, not, nat_lt, Bool, true, false, is_some, List, [], ◌∷◌, ◌++◌, All, filter, length, slice_get, IsPermutation, Option, None, Some, option_map, inl, inr, refl, sym, ap, ◌∙◌, subst, arith, if◌then◌else◌}
 use Rattle.std.proofs.lemmas.Bool.Decides.{nat_tests}
 use Rattle.std.proofs.lemmas.List.Sorted.{list_any-IsPermutation}
 use Rattle.std.proofs.lemmas.Map.Keys.{IsDistinct-IsPermutation}
@@ -8,6 +8,7 @@ use Rattle.std.specs.List.Sorted.{IsNonDecreasing}
 use Rattle.poll_list.specs.declared.Want.{Want}
 use Rattle.world_face.specs.Journal.{Entry}
 use Rattle.host_policy.specs.Addresses.{Config}
+use Rattle.ipv4_head.specs.Sets.{PartSet}
 use Rattle.host_policy.specs.Ranges.{same_proto}
 use Rattle.host_policy.specs.declared.Forward.{Forward}
 use Rattle.host_policy.specs.declared.Proto.{Proto}
@@ -15,15 +16,15 @@ use Rattle.host_policy.specs.declared.Proto.TheVariants.{Tcp, Udp}
 use Rattle.port_forward.specs.Opened.{Opened}
 use Rattle.udp_assoc.specs.Associations.{is_over as is_idle_association, numbers}
 use Rattle.dns_relay.specs.Questions.{is_over as is_idle_question, numbers as question_numbers}
-use Rattle.tftp_server.specs.Transfers.{Said, Transfer, next_again, said_again}
+use Rattle.tftp_server.specs.Transfers.{Said, next_again, said_again}
 use Rattle.tftp_server.proofs.Turning.{next_left}
-use Rattle.flow_book.specs.Book.{book}
-use Rattle.flow_book.specs.Flows.{used}
+use Rattle.record_flows.specs.Book.{book, is_young, scene}
+use Rattle.record_flows.specs.Flows.{guest_is_known, rests_among, used}
 use Rattle.core_flows.specs.Seats.{in_use_slots}
-use Rattle.run_laws.specs.Sockets.{Kind, Association, DnsSocket, Forward as OfForward, Listener, Flow, is_among, is_association, is_forward, is_listener, kind_of, open_sockets}
+use Rattle.run_laws.specs.Sockets.{Kind, Association, DnsSocket, Forward as OfForward, Listener, Flow, is_among, is_association, is_forward, is_listener, kind_of, next_number, open_sockets}
 use Rattle.slirp_laws.specs.Answers.{is_out, left, may_go_again, or_begun, serving}
 use Rattle.slirp_laws.specs.Datagrams.{Settled}
-use Rattle.slirp_laws.specs.Laws.{carries, is_all_out, is_nothing, takes_peers}
+use Rattle.slirp_laws.specs.Laws.{is_nothing, takes_peers}
 use Rattle.slirp_laws.specs.Names.{questions}
 use Rattle.slirp_laws.specs.Ports.{last_use}
 use Rattle.slirp_laws.specs.Questions.{is_for_question}
@@ -35,25 +36,42 @@ use Rattle.slirp_laws.proofs.Joining.{joined}
 use Rattle.slirp_laws.proofs.KeptFiles.{now_is}
 use Rattle.slirp_laws.proofs.Waiting.{are_waiting}
 use Rattle.stream_netdev.specs.State.{LinkState}
-use Rattle.spliced_flows.specs.Core.{number_of}
+use Rattle.spliced_flows.specs.Core.{Following, number_of}
 use Rattle.spliced_flows.proofs.Options.{true_false}
 use Rattle.tcp_flows.specs.Kept.{Kept}
-use Rattle.tcp_flows.specs.Reading.{AreAbove, AreRising, AreWantsOf}
+use Rattle.tcp_flows.specs.Reading.{AreAbove, AreRising, AreTold, AreWantsOf}
+use Rattle.tcp_flows.specs.Settled.{IsInTime}
+use Rattle.tcp_flows.proofs.Settling.{are_settled}
 use Rattle.tcp_flows.specs.Waits.{AreWaitedFor}
 use Rattle.flow_splice.specs.Splice.{Splice}
-use Rattle.flow_laws.specs.Dutiful.{AreAhead}
+use Rattle.flow_laws.specs.Close.{is_in_use}
+use Rattle.flow_laws.specs.Dutiful.{AreAhead, IsSettled, MayWait, moment_if}
+use Rattle.flow_laws.specs.Event.{Story}
+use Rattle.flow_laws.specs.Flow.{has_connected, is_accepted, is_closed, opened_at}
+use Rattle.record_flows.specs.Laws.{flow_settings}
+use Rattle.flow_splice.proofs.Promises.{waited_is}
+use Rattle.core_flows.specs.FlowsHold.{rests_at}
+use Rattle.run_laws.specs.Moments.{moment}
+use Rattle.halves_follow.proofs.Waiting.{settled_in_time}
+use Rattle.waiting_flows.proofs.Placing.{each, not_in_use}
 use Rattle.run_duties.proofs.Lives.{lives_ahead}
 use Rattle.run_duties.proofs.Waited.{all_ahead}
-use Rattle.run_duties.specs.Duties.{MustAttend}
+use Rattle.run_duties.specs.Duties.{EachFlow, IsSettledNow, MustWait}
 use Rattle.run_duties.specs.Times.{lives}
 use Rattle.run_duties.specs.Waiting.{WaitsFor, is_all_sent, is_for_datagrams, takes_datagrams}
 use Rattle.waiting_flows.proofs.Listing.{AreOfFlows, AreOver, AreOverBy, DoRise, DoRiseBy, all_waited_for, of_flows}
+use Rattle.slirp_core.specs.Calm.{AreClear}
+use Rattle.slirp_core.specs.Connecting.{AreInTime}
 use Rattle.slirp_core.specs.Forwards.{forward_sockets, given, is_over, sockets_over, with_numbers}
 use Rattle.slirp_core.specs.Holds.{Flowing, Holds, Standing, carriers, flowing, holders_of}
 use Rattle.slirp_core.specs.Owed.{IsOwed, OfFile, OfLeft}
+use Rattle.slirp_core.specs.Fragments.{IsHeld}
+use Rattle.slirp_core.specs.Timeouts.{IsTimeout}
+use Rattle.slirp_core.specs.Waiting.{AreFresh}
+use Rattle.slirp_core.proofs.Bounding.{from_is, until_is}
 use Rattle.slirp_core.specs.Pumps.{WantsOf, is_settled, listeners_of}
 use Rattle.slirp_core.specs.State.{SlirpState}
-use Rattle.slirp_core.proofs.Given.{HasGiven, among_given, given_kind}
+use Rattle.slirp_core.proofs.Given.{HasGiven, given_kind}
 use Rattle.slirp_core.proofs.Merging.{AtLeast, Climbs, climbs}
 use Rattle.slirp_core.proofs.Names.{IsKnown, among_both, known_of, two_apart}
 use Rattle.slirp_core.proofs.Open.{are_open}
@@ -392,19 +410,51 @@ module _ (config : Config) (at : Standing) (slirp : SlirpState) (f : Flowing) (l
       by true = subst (λ l. DoRise (sockets_over Tcp l)) (sym holds.forwards) (rise_given Tcp config.forwards 0)
       by false = tt
 
--- A wait for what the core waits for attends to all that can be taken, where all that is owed is out unless the link is blocked, and no socket for datagrams is idle for long.
-pub attends : (config : Config) (at : Standing) (slirp : SlirpState) (link : LinkState) (past : List Entry) (wants : List Want) → Holds config at slirp (flowing true slirp.flows) link past → (slirp.pending ≡ [] → next_again slirp.moment slirp.transfers ≡ None)
-    → (link.blocked ≡ false → is_settled slirp link ≡ true) → All (λ a. is_idle_association slirp.moment a ≡ false) slirp.associations → All (λ q. is_idle_question slirp.moment q ≡ false) slirp.questions → (of : WantsOf slirp link wants) → AreWaitedFor config past of.flows → MustAttend config past wants
-attends config at slirp link past wants holds none_again quiet young recent of are = record {
+-- flows of which both ends passed are closed, and those whose host had its time to connect
+no_connecting : (a b : Bool) → b ≡ true → not (a || b) ≡ false
+no_connecting true b is = refl
+no_connecting false b is = ap not is
+
+closed_waits : (story : Story) (now : ℕ) → is_in_use story ≡ false → MayWait story now
+closed_waits story now unused = record {
+  closes = λ honest done. not_in_use story unused;
+  connects = subst (λ (b : Bool). AreAhead now (moment_if b (opened_at story + 75000))) (sym (no_connecting (is_accepted story || has_connected story) (is_closed story) (not_in_use story unused))) tt;
+}
+
+each_waits : (config : Config) (at : Standing) (slirp : SlirpState) (link : LinkState) (past : List Entry) → Holds config at slirp (flowing true slirp.flows) link past → AreInTime slirp.moment slirp.flows.flows.parts → EachFlow config past (λ f. MayWait f.story (moment past))
+each_waits config at slirp link past holds early =
+    each number_of (Following config slirp.moment) slirp.flows.flows.table slirp.flows.flows.parts (next_number past) (book config past).flows (rests_at true config past) holds.flows.holds.seats
+    (λ story. MayWait story (moment past))
+    (λ k p story here follows. subst (λ (n : ℕ). MayWait story n) (sym holds.clock.moment)
+    (waited_is (flow_settings config) p story slirp.moment follows (λ open_yet connecting. early k p (record { here = here; open_yet = open_yet }) connecting)))
+    (λ story unused. closed_waits story (moment past) unused)
+
+-- each flow is settled, where none owes a frame and none has a timer that is due
+each_settled : (config : Config) (at : Standing) (slirp : SlirpState) (link : LinkState) (past : List Entry) → Holds config at slirp (flowing true slirp.flows) link past → AreClear slirp.known slirp.flows.flows → ((n : ℕ) → IsInTime slirp.moment slirp.flows.flows.parts n) → EachFlow config past (IsSettledNow config past)
+each_settled config at slirp link past holds are early n f found =
+    let known = guest_is_known (scene config past) f in
+    subst (λ (m : ℕ). IsSettled (flow_settings config) f.story known (rests_among (filter (is_young m) (book config past).rests) (Some f)) m) (sym holds.clock.moment)
+    (settled_in_time (IsInTime slirp.moment slirp.flows.flows.parts n) (flow_settings config) f.story known (rests_among (filter (is_young slirp.moment) (book config past).rests) (Some f)) slirp.moment
+    (are_settled config slirp.moment slirp.flows.flows past holds.clock.moment holds.flows.holds are.slots (subst (λ l. AreTold l slirp.flows.flows.parts) (sym holds.guests.known) are.told) are.clear n f found)
+    (early n))
+
+-- A wait for what the core waits for, as long as it waits, is as it must be, where unless the link is blocked all that is owed is out, no flow owes a frame and none has a timer that is due; no socket for datagrams is idle for long, no fragments are to be dropped, and the host of no flow had its time to connect.
+pub must_wait : (config : Config) (at : Standing) (slirp : SlirpState) (link : LinkState) (past : List Entry) (wants : List Want) (timeout : Option ℕ) → Holds config at slirp (flowing true slirp.flows) link past → (slirp.pending ≡ [] → next_again slirp.moment slirp.transfers ≡ None)
+    → (link.blocked ≡ false → is_settled slirp link ≡ true) → All (λ a. is_idle_association slirp.moment a ≡ false) slirp.associations → All (λ q. is_idle_question slirp.moment q ≡ false) slirp.questions → AreFresh slirp.moment slirp.parts → AreInTime slirp.moment slirp.flows.flows.parts → (link.blocked ≡ false → AreClear slirp.known slirp.flows.flows × ((n : ℕ) → IsInTime slirp.moment slirp.flows.flows.parts n)) → ((held : List PartSet) → IsHeld slirp.parts held → IsTimeout slirp link.blocked held timeout) → (of : WantsOf slirp link wants) → AreWaitedFor config past of.flows → MustWait config past wants timeout
+must_wait config at slirp link past wants timeout holds none_again quiet young recent fresh early calm times of are = record {
   waits_for = subst (λ (ws : List Want). WaitsFor config past ws) (sym of.is)
       (all_waited_for config past (is_settled slirp link) link.blocked (listeners_of slirp) (sockets_over Udp slirp.forwards ++ of.sockets) of.flows holds.keeps.blocked sent_is quiet
       (listeners_are config at slirp (flowing true slirp.flows) link past holds refl) (sockets_are config at slirp (flowing true slirp.flows) link past holds of.sockets of.all)
       (each_of_flows slirp.flows.flows.parts of.flows of.of_flows) are.to_read are.to_write are.only_to_write (rise_listeners config at slirp (flowing true slirp.flows) link past holds)
       (rise_sockets config at slirp (flowing true slirp.flows) link past holds of.sockets of.all of.rising) (rise_by of.flows of.of_flows.rising));
   out = λ free. sent_is ∙ quiet (sym holds.keeps.blocked ∙ free);
+  settled = λ free. let now = calm (sym holds.keeps.blocked ∙ free) in each_settled config at slirp link past holds now.0 now.1;
   unused = subst (λ (now : ℕ). AreAhead now (lives config past)) (sym holds.clock.moment)
       (all_ahead config past holds.lawful slirp.moment (subst (λ l. All (λ q. is_idle_question slirp.moment q ≡ false) l) (sym holds.relayed.questions) recent)
       (lives_ahead config past holds.lawful slirp.moment (subst (λ l. All (λ a. is_idle_association slirp.moment a ≡ false) l) (sym holds.relayed.list) young)));
+  closed = each_waits config at slirp link past holds early;
+  until = until_is config at slirp link past holds timeout times early (λ free. let now = calm free in (now.0.clear, now.1)) young recent;
+  from = from_is config at slirp link past holds timeout times fresh young recent;
 }
   where
     sent_is : is_all_sent config past ≡ is_settled slirp link

@@ -34,8 +34,8 @@ use Rattle.tcp_flows.specs.Kept.{Kept}
 use Rattle.tcp_flows.specs.Reading.{AreTold, NoneInSlots}
 use Rattle.spliced_flows.specs.Core.{Following, number_of}
 use Rattle.core_flows.specs.Seats.{Seats}
-use Rattle.flow_book.specs.Book.{book, is_young}
-use Rattle.flow_book.specs.Flows.{Rest}
+use Rattle.record_flows.specs.Book.{book, is_young}
+use Rattle.record_flows.specs.Flows.{Rest}
 use Rattle.tcp_flows.specs.Runs.{Between, Broken, ClosesRising, IsIdle, IsIdlePump, Leaves, Learns, LeavesOthers, Pumps, Reports, Sendable, Ticks}
 use Rattle.slirp_core.proofs.Given.{all_given}
 use Rattle.slirp_core.proofs.Open.{open_by}

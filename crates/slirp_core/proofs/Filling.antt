@@ -18,7 +18,8 @@ use Rattle.host_policy.specs.declared.Proto.TheVariants.{Udp as OverUdp}
 use Rattle.spliced_flows.proofs.Options.{true_false}
 use Rattle.slirp_core.specs.Forwards.{sockets_over}
 use Rattle.slirp_core.specs.Holds.{carriers, holders_of}
-use Rattle.slirp_core.specs.Pumps.{TcpOnce, WantsOf, is_settled, link_want, listener_want, listeners_of, merged, udp_want, socket_wants}
+use Rattle.slirp_core.specs.Pumps.{TcpOnce, WantsOf, is_settled, listeners_of, merged}
+use Rattle.waiting_flows.specs.Wants.{link_want, listener_want, udp_want, socket_wants}
 use Rattle.slirp_core.specs.State.{SlirpState}
 use Rattle.slirp_core.proofs.Merging.{length_merged}
 

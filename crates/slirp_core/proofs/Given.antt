@@ -16,8 +16,8 @@ use Rattle.host_policy.specs.Ranges.{same_proto}
 use Rattle.host_policy.specs.Targets.{same_endpoint}
 use Rattle.port_forward.specs.Opened.{leads_to, socket_for, socket_of}
 use Rattle.host_policy.specs.Addresses.{Config}
-use Rattle.flow_book.specs.Book.{book}
-use Rattle.flow_book.specs.Lots.{due_for_flows}
+use Rattle.record_flows.specs.Book.{book}
+use Rattle.record_flows.specs.Lots.{due_for_flows}
 use Rattle.run_laws.specs.Moments.{waits}
 use Rattle.run_laws.specs.Shape.{Phase, Opening, Started, Woken, Working, Over, By, Refused, due_in, may_turn, opened, opening_of, phase, phase_after, phase_by}
 use Rattle.run_laws.specs.Sockets.{Kind, Association as OfAssociation, DnsSocket, Forward as OfForward, Listener, Flow as OfFlow, datagram_kind, is_among, is_forward, kind_of, next_number, open_sockets, with_made}

@@ -14,12 +14,12 @@ use Rattle.host_policy.specs.Targets.{target}
 use Rattle.host_policy.specs.declared.Proto.TheVariants.{Tcp as OverTcp}
 use Rattle.host_policy.specs.declared.Verdict.{Verdict}
 use Rattle.host_policy.specs.declared.Verdict.TheVariants.{Go, Denied}
-use Rattle.flow_book.specs.Book.{book, scene, turned}
-use Rattle.flow_book.specs.Doings.{Comes as ComesOn}
-use Rattle.flow_book.specs.Flows.{Book, owner}
-use Rattle.flow_book.specs.Lots.{Lot, Dropped, AsksFor, Strange as LotStrange, asked_for, due_by, due_for_flows, is_mistaken, is_opening, is_to_many, lot_by, is_reset, is_reset_by, lot}
-use Rattle.flow_book.specs.Segments.{OnTuple}
-use Rattle.flow_book.specs.Taught.{taught}
+use Rattle.record_flows.specs.Book.{book, scene, turned}
+use Rattle.record_flows.specs.Doings.{Comes as ComesOn}
+use Rattle.record_flows.specs.Flows.{Book, owner}
+use Rattle.record_flows.specs.Lots.{Lot, Dropped, AsksFor, Strange as LotStrange, asked_for, due_by, due_for_flows, is_mistaken, is_opening, is_to_many, lot_by, is_reset, is_reset_by, lot}
+use Rattle.record_flows.specs.Segments.{OnTuple}
+use Rattle.record_flows.specs.Taught.{taught}
 use Rattle.run_laws.specs.Sockets.{Flow as FlowKind, is_among, kind_of, next_number, open_sockets, with_made}
 use Rattle.slirp_laws.specs.Agenda.{agenda, all_wanted}
 use Rattle.slirp_laws.specs.Answers.{frames_of, identification, left, owed_for_segment, reset_for, unconnected}

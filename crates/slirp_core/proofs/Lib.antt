@@ -4,8 +4,10 @@ pub mod Askers
 pub mod Asking
 pub mod Assembling
 pub mod Associating
+pub mod Bounding
 pub mod Bridging
 pub mod Closing
+pub mod Connecting
 pub mod Counted
 pub mod Datagramming
 pub mod Dividing

@@ -4,9 +4,9 @@ use Rattle.std.proofs.lemmas.Bool.Decides.{nat_tests}
 use Rattle.world_face.specs.Journal.{Entry}
 use Rattle.host_policy.specs.Addresses.{Config}
 use Rattle.flow_laws.specs.Flow.{is_closed}
-use Rattle.flow_book.specs.Book.{book}
-use Rattle.flow_book.specs.Flows.{Book, Flow, flow_of}
-use Rattle.flow_book.specs.Lots.{connects_to, due_by, due_for_flows}
+use Rattle.record_flows.specs.Book.{book}
+use Rattle.record_flows.specs.Flows.{Book, Flow, flow_of}
+use Rattle.record_flows.specs.Lots.{connects_to, due_by, due_for_flows}
 use Rattle.run_laws.specs.Sockets.{Kind, Association as OfAssociation, DnsSocket, Flow as OfFlow, Forward as OfForward, Listener, is_among, is_association, is_flow, kind_of, next_number, open_sockets}
 use Rattle.slirp_laws.specs.Datagrams.{Step}
 use Rattle.slirp_laws.specs.Laws.{Lawful, carries, is_closing, joins}

@@ -10,8 +10,8 @@ use Rattle.udp_assoc.specs.declared.assocs.Association.{Association}
 use Rattle.dns_relay.specs.Questions.{ident_in, most_questions, numbers as question_numbers, socket_of as question_socket}
 use Rattle.dns_relay.specs.declared.Question.{Question}
 use Rattle.port_forward.specs.Opened.{socket_for as port_for}
-use Rattle.flow_book.specs.Book.{book}
-use Rattle.flow_book.specs.Lots.{due_for_flows}
+use Rattle.record_flows.specs.Book.{book}
+use Rattle.record_flows.specs.Lots.{due_for_flows}
 use Rattle.run_laws.specs.Happenings.{happens}
 use Rattle.run_laws.specs.Shape.{Phase, Started, Working, phase, due_in, opened}
 use Rattle.run_laws.specs.Sockets.{is_among, next_number}

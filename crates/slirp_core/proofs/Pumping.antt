@@ -8,9 +8,9 @@ use Rattle.world_face.specs.Frames.{LinkFailed, goes_out, tail, spelling, opens}
 use Rattle.host_policy.specs.Addresses.{Config}
 use Rattle.slirp_laws.specs.Sending.{requests, requests_by}
 use Rattle.slirp_laws.specs.Answers.{identification, datagrams_in, datagrams_out, with_datagrams, again_frames, left, serving, taken, is_first, is_out}
-use Rattle.flow_book.specs.Book.{book}
-use Rattle.flow_book.specs.Doings.{doing_by}
-use Rattle.flow_book.specs.Laws.{MayWrite, flow_settings}
+use Rattle.record_flows.specs.Book.{book}
+use Rattle.record_flows.specs.Doings.{doing_by}
+use Rattle.record_flows.specs.Laws.{MayWrite, flow_settings}
 use Rattle.run_laws.specs.Moments.{moment}
 use Rattle.slirp_laws.specs.Datagrams.{Settled}
 use Rattle.slirp_laws.specs.Sending.{is_beside, is_explained}

@@ -12,9 +12,9 @@ use Rattle.host_policy.specs.Addresses.{Config}
 use Rattle.ipv4_head.specs.Ip.{Ip}
 use Rattle.ipv4_head.specs.Sets.{PartSet, young}
 use Rattle.tcp_segment.specs.Tcp.{Tcp}
-use Rattle.flow_book.specs.Book.{book}
-use Rattle.flow_book.specs.Doings.{Nothing, Comes as ComesOn, comes, doing, doing_by}
-use Rattle.flow_book.specs.Segments.{OnTuple, from_guest, segment_by}
+use Rattle.record_flows.specs.Book.{book}
+use Rattle.record_flows.specs.Doings.{Nothing, Comes as ComesOn, comes, doing, doing_by}
+use Rattle.record_flows.specs.Segments.{OnTuple, from_guest, segment_by}
 use Rattle.run_laws.specs.Guests.{known, with_arrival}
 use Rattle.run_laws.specs.Happenings.{arrival_of, happens}
 use Rattle.run_laws.specs.Fragments.{fragment_in, sets, waiting, with_fragment, with_frame as waits_with}
@@ -49,7 +49,7 @@ use Rattle.slirp_core.specs.Waiting.{OfFragments}
 use Rattle.slirp_core.specs.Segments.{coming}
 use Rattle.slirp_core.proofs.Bridging.{teaches_same}
 use Rattle.slirp_core.proofs.Learning.{teaches_sender}
-use Rattle.flow_book.specs.Taught.{taught, taught_by, taught_pair}
+use Rattle.record_flows.specs.Taught.{taught, taught_by, taught_pair}
 use Rattle.std.specs.Prelude.{Contains}
 use Rattle.slirp_core.proofs.Guests.{guests_learn}
 use Rattle.slirp_core.proofs.Parts.{behind_of, errand_for, from_of, reads_of, skipped, due_is, in_turn, two_in}

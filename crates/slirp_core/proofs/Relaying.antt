@@ -25,9 +25,9 @@ use Rattle.dns_relay.specs.declared.Question.{Question}
 use Rattle.udp_assoc.proofs.Yielding.{still_none}
 use Rattle.port_forward.specs.Opened.{socket_for as port_for}
 use Rattle.run_laws.specs.Moments.{moment, waits}
-use Rattle.flow_book.specs.Book.{book}
-use Rattle.flow_book.specs.Flows.{is_it}
-use Rattle.flow_book.specs.Lots.{due_for_flows}
+use Rattle.record_flows.specs.Book.{book}
+use Rattle.record_flows.specs.Flows.{is_it}
+use Rattle.record_flows.specs.Lots.{due_for_flows}
 use Rattle.run_laws.specs.Shape.{due_in, phase, is_ended, is_over as is_run_over, is_working}
 use Rattle.run_laws.specs.Sockets.{Association as OfAssociation, DnsSocket, Flow as OfFlow, Forward, Kind, Listener, datagram_kind, is_among, is_association, is_forward, kind_of, next_number, open_sockets, with_made}
 use Rattle.slirp_laws.specs.Agenda.{agenda, all_wanted, is_to_read, wanted_of}

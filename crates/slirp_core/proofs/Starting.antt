@@ -21,9 +21,9 @@ use Rattle.run_laws.specs.Shape.{By, Opening, Over, Refused, Started, clocked, d
 use Rattle.run_laws.specs.Moments.{moment, waits}
 use Rattle.run_laws.specs.Happenings.{happens}
 use Rattle.run_laws.specs.Sockets.{is_among, kind_of, next_number, open_sockets, with_made}
-use Rattle.flow_book.specs.Book.{book}
-use Rattle.flow_book.specs.Doings.{Nothing, doing}
-use Rattle.flow_book.specs.Lots.{due_for_flows}
+use Rattle.record_flows.specs.Book.{book}
+use Rattle.record_flows.specs.Doings.{Nothing, doing}
+use Rattle.record_flows.specs.Lots.{due_for_flows}
 use Rattle.slirp_laws.specs.Agenda.{agenda}
 use Rattle.slirp_laws.specs.Answers.{identification, left, serving}
 use Rattle.tftp_server.specs.Transfers.{Files}

@@ -28,8 +28,8 @@ use Rattle.slirp_laws.specs.Answers.{IpAnswer, answer_of, answers_of, our_mac, d
 use Rattle.tcp_segment.specs.Tcp.{Tcp, read_tcp, tcp_length, tcp_octets}
 use Rattle.flow_table.specs.declared.Tuple.{Tuple}
 use Rattle.flow_laws.specs.Event.{Segment}
-use Rattle.flow_book.specs.Lots.{reset_to}
-use Rattle.flow_book.specs.Segments.{OnTuple}
+use Rattle.record_flows.specs.Lots.{reset_to}
+use Rattle.record_flows.specs.Segments.{OnTuple}
 use Rattle.slirp_core.specs.Segments.{Coming, coming, segment_in, segment_of_arrived, segment_of_ether, segment_of_ip}
 use Rattle.slirp_core.specs.Fragments.{after_frame, after_ip, after_octets}
 use Rattle.slirp_core.specs.Packets.{Request, owed_at_once, request_for_udp, is_message_to_us, is_segment, leases_with, owed_for, owed_for_arrived, owed_for_ether, reply_to, udp_in, udp_of, udp_of_arrived, udp_of_ether, with_arp, with_ip, with_ether}

@@ -14,14 +14,14 @@ use Rattle.host_policy.specs.declared.Forward.{Forward}
 use Rattle.arp_table.specs.Table.{mac_of as learnt_for}
 use Rattle.flow_laws.specs.Event.{Accepts}
 use Rattle.flow_laws.specs.Flow.{first_number}
-use Rattle.flow_book.specs.Book.{book, doom, is_refused, opens, port_by, port_of, quiet, scene, tuple_for, visits_for}
-use Rattle.flow_book.specs.Doings.{Nothing, doing}
-use Rattle.flow_book.specs.Flows.{Book, flow_of, is_it, is_used, used}
+use Rattle.record_flows.specs.Book.{book, doom, is_refused, opens, port_by, port_of, quiet, scene, tuple_for, visits_for}
+use Rattle.record_flows.specs.Doings.{Nothing, doing}
+use Rattle.record_flows.specs.Flows.{Book, flow_of, is_it, is_used, used}
 use Rattle.host_policy.specs.Targets.{is_hidden, shown}
 use Rattle.world_face.specs.Tells.{Answers, Brings, Telling}
 use Rattle.world_face.proofs.Telling.{brings_one}
-use Rattle.flow_book.specs.Laws.{MayShut, flow_settings}
-use Rattle.flow_book.specs.Lots.{due_for_flows}
+use Rattle.record_flows.specs.Laws.{MayShut, flow_settings}
+use Rattle.record_flows.specs.Lots.{due_for_flows}
 use Rattle.run_laws.specs.Moments.{moment}
 use Rattle.run_laws.specs.Shape.{is_ended, is_over, is_working}
 use Rattle.host_policy.specs.declared.Proto.TheVariants.{Tcp}

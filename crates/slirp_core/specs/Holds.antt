@@ -9,9 +9,9 @@ use Rattle.udp_assoc.specs.Associations.{numbers}
 use Rattle.udp_assoc.specs.declared.assocs.Association.{Association as AnAssociation}
 use Rattle.dns_relay.specs.declared.Question.{Question}
 use Rattle.dns_relay.specs.Questions.{numbers as question_numbers}
-use Rattle.flow_book.specs.Book.{book}
-use Rattle.flow_book.specs.Lots.{due_for_flows, is_reset}
-use Rattle.flow_book.specs.Taught.{taught}
+use Rattle.record_flows.specs.Book.{book}
+use Rattle.record_flows.specs.Lots.{due_for_flows, is_reset}
+use Rattle.record_flows.specs.Taught.{taught}
 use Rattle.flow_splice.specs.Splice.{Splice}
 use Rattle.run_laws.specs.Guests.{known}
 use Rattle.run_laws.specs.Moments.{moment, waits}

@@ -1,4 +1,6 @@
+pub mod Calm
 pub mod Carrying
+pub mod Connecting
 pub mod Counts
 pub mod Datagrams
 pub mod Files

@@ -3,7 +3,7 @@ use Rattle.std.specs.Prelude.{◌≡◌, ℕ, ◌-◌, ◌&&◌, ◌||◌, not, 
 use Rattle.std.specs.List.Sorted.{IsNonDecreasing}
 use Rattle.poll_list.specs.Listing.{names}
 use Rattle.poll_list.specs.declared.Want.{Want}
-use Rattle.poll_list.specs.declared.Who.TheVariants.{Link, Listener, Udp, Tcp}
+use Rattle.poll_list.specs.declared.Who.TheVariants.{Tcp}
 use Rattle.stream_netdev.specs.State.{LinkState}
 use Rattle.udp_assoc.specs.Associations.{idle_life}
 use Rattle.udp_assoc.specs.declared.assocs.Association.{Association}
@@ -16,6 +16,7 @@ use Rattle.flow_splice.specs.declared.Pumped.{Pumped as PumpedFlows}
 use Rattle.flow_splice.specs.declared.Pumped.TheVariants.{Clear as FlowsClear, Blocked as FlowsBlocked, Failed as FlowsFailed}
 use Rattle.core_flows.specs.Seats.{in_use_slots}
 use Rattle.tcp_flows.specs.Reading.{AreWantsOf}
+use Rattle.waiting_flows.specs.Wants.{link_want, listener_want, socket_wants}
 use Rattle.slirp_core.specs.Forwards.{sockets_over}
 use Rattle.slirp_core.specs.Holds.{carriers, holders_of}
 use Rattle.slirp_core.specs.State.{SlirpState}
@@ -43,21 +44,6 @@ keep OfferFailed pending = pending
 -- nothing is left to be sent
 abbrev pub is_settled : SlirpState → LinkState → Bool
 is_settled slirp link = (length link.tail == 0) && not (nat_lt 0 (length slirp.pending))
-
--- the link is wanted for reading where nothing is left to be sent, and for writing where it is blocked
-abbrev pub link_want : Bool → Bool → List Want
-link_want read write = if read || write then record { of = Link; read = read; write = write } ∷ [] else []
-
-abbrev pub udp_want : ℕ → Want
-udp_want number = record { of = Udp number; read = true; write = false }
-
--- then the ports of the host to which peers connect, where there is room for a flow more
-abbrev pub listener_want : ℕ → Want
-listener_want number = record { of = Listener number; read = true; write = false }
-
--- and then the open sockets of datagrams for reading, where nothing is left to be sent
-abbrev pub socket_wants : Bool → List ℕ → List Want
-socket_wants read numbers = if read then map udp_want numbers else []
 
 -- the listeners that are waited for, as there is room for a flow more or not
 abbrev pub listeners_of : SlirpState → List ℕ

@@ -7,8 +7,8 @@ use Rattle.ether_frame.specs.Ether.{Ether, read_ether}
 use Rattle.ipv4_head.specs.Ip.{Ip, read_ip}
 use Rattle.ipv4_head.specs.Sets.{PartSet}
 use Rattle.tcp_segment.specs.Tcp.{Tcp, read_tcp, tcp_of}
-use Rattle.flow_book.specs.Lots.{Lot, Dropped, AsksFor, Strange}
-use Rattle.flow_book.specs.Segments.{OnTuple, from_guest, segment_of}
+use Rattle.record_flows.specs.Lots.{Lot, Dropped, AsksFor, Strange}
+use Rattle.record_flows.specs.Segments.{OnTuple, from_guest, segment_of}
 use Rattle.run_laws.specs.Fragments.{arrived}
 use Rattle.run_laws.specs.Packets.{Packet, Segment}
 use Rattle.slirp_core.specs.Datagrams.{FitsErrand, datagram_of, errand_of}

@@ -1,9 +1,17 @@
 -- How long a wait may last.
-use Rattle.std.specs.Prelude.{◌≡◌, ℕ, ◌-◌, Bool, true, false, min, List, [], Option, Some, None}
+use Rattle.std.specs.Prelude.{◌≡◌, ℕ, ◌-◌, Bool, true, false, min, List, [], Option, Some, None, option_map}
+use Rattle.world_face.specs.Journal.{Entry}
+use Rattle.host_policy.specs.Addresses.{Config}
 use Rattle.ipv4_head.specs.Sets.{PartSet}
 use Rattle.ipv4_reasm.specs.Answers.{IsFirstDue}
+use Rattle.flow_laws.specs.Dutiful.{AreAhead, connect_deadline, resend_deadline}
+use Rattle.halves_follow.specs.Bounds.{IsBy}
+use Rattle.record_flows.specs.Book.{book}
 use Rattle.flow_splice.specs.Splice.{Splice}
-use Rattle.tcp_flows.specs.Reading.{IsDue, IsDueAfter, NoneDue, NoneDueAfter}
+use Rattle.run_duties.specs.Times.{of_flows}
+use Rattle.spliced_flows.specs.Core.{CoreHolds}
+use Rattle.tcp_flows.specs.Reading.{AllClear, IsDue, IsDueAfter, NoneDue, NoneDueAfter}
+use Rattle.tcp_flows.specs.Waits.{IsForSome}
 use Rattle.slirp_core.specs.Pumps.{question_left, time_left}
 use Rattle.slirp_core.specs.State.{SlirpState}
 use Rattle.tftp_server.specs.Serving.{IsNextDue}
@@ -26,6 +34,14 @@ IsFlowTime true now parts (Some left) = (at : ℕ) × (IsDueAfter now parts at �
 IsFlowTime false now parts None = NoneDue parts
 IsFlowTime false now parts (Some left) = (at : ℕ) × (IsDue parts at × (left ≡ at - now))
 
+-- By the record a wait that ends with this time suits the flows. It isn't too long for one that connects, if no host's time to connect is over, nor, where the link isn't blocked and no flow owes a frame, for one that waits for its guest; and it isn't too short: something of a flow is to be done by then, or a rest is over.
+pub record SuitsFlows (config : Config) (now : ℕ) (blocked : Bool) (parts : List (Option Splice)) (past : List Entry) (time : Option ℕ) : Type 0 where
+  pub due : Option ℕ
+  pub left : time ≡ option_map (λ at. at - now) due
+  pub connects : AreAhead now (of_flows connect_deadline (book config past).flows) → IsBy due (of_flows connect_deadline (book config past).flows)
+  pub resends : blocked ≡ false → AllClear parts → IsBy due (of_flows resend_deadline (book config past).flows)
+  pub for_some : IsForSome config past due
+
 -- what is left until the first packet of these transfers is due to go again, of those that aren't due yet
 abbrev pub IsFileTime : ℕ → List Transfer → Option ℕ → Type 0
 IsFileTime now transfers None = IsNextDue now transfers None
@@ -37,6 +53,7 @@ pub record IsTimeout (slirp : SlirpState) (blocked : Bool) (held : List PartSet)
   pub of_parts : IsPartTime slirp.moment held parts
   pub flows : Option ℕ
   pub of_flows : IsFlowTime blocked slirp.moment slirp.flows.flows.parts flows
+  pub suits_flows : (config : Config) (before : ℕ) (past : List Entry) → CoreHolds config before true None slirp.flows.flows past → SuitsFlows config slirp.moment blocked slirp.flows.flows.parts past flows
   pub files : Option ℕ
   pub of_files : IsFileTime slirp.moment slirp.transfers files
   pub is : timeout ≡ sooner (sooner (sooner (sooner (time_left slirp.moment slirp.associations) (question_left slirp.moment slirp.questions)) parts) flows) files

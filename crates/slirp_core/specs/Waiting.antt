@@ -1,8 +1,9 @@
 -- The fragments that wait, as the core keeps them.
-use Rattle.std.specs.Prelude.{◌≡◌, List}
+use Rattle.std.specs.Prelude.{◌≡◌, ℕ, ◌+◌, ◌<◌, All, List}
 use Rattle.world_face.specs.Journal.{Entry}
 use Rattle.host_policy.specs.Addresses.{Config}
 use Rattle.ipv4_head.specs.Sets.{PartSet, young}
+use Rattle.ipv4_reasm.specs.Areas.{Gathered}
 use Rattle.run_laws.specs.Fragments.{waiting}
 use Rattle.run_laws.specs.Moments.{moment}
 use Rattle.slirp_core.specs.Fragments.{IsHeld}
@@ -13,3 +14,7 @@ pub record OfFragments (config : Config) (slirp : SlirpState) (past : List Entry
   pub held : List PartSet
   pub is_held : IsHeld slirp.parts held
   pub wait : young (moment past) held ≡ waiting config past
+
+-- none of the sets for which the areas stand is to be dropped yet
+abbrev pub AreFresh : ℕ → List Gathered → Type 0
+AreFresh now areas = (held : List PartSet) → IsHeld areas held → All (λ (s : PartSet). now < s.since + 60000) held

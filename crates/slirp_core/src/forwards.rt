@@ -23,7 +23,7 @@ impl Slirp {
     ghost use Rattle.slirp_core.specs.Holds.{Holds, flowing, standing};
     ghost use Rattle.port_forward.specs.Adding.{fault_of};
     ghost use Rattle.core_flows.specs.Seats.{in_use_slots};
-    ghost use Rattle.flow_book.specs.Book.{book, is_refused, tuple_for};
+    ghost use Rattle.record_flows.specs.Book.{book, is_refused, tuple_for};
     ghost use Rattle.host_policy.specs.Targets.{is_hidden};
     ghost use Rattle.spliced_flows.specs.Core.{CoreHolds};
     ghost use Rattle.tcp_flows.specs.Reading.{NoneUses};

@@ -85,14 +85,15 @@ impl Slirp {
     ghost use Rattle.run_laws.specs.Fragments.{fragment_in, with_fragment};
     ghost use Rattle.slirp_core.specs.Fragments.{Arrives, FitsBrought, IsHeld, after_frame, after_ip, brought_request, brought_segment, taken_on};
     ghost use Rattle.world_face.specs.Tells.{Brings, Makes};
+    ghost use Rattle.slirp_core.specs.Waiting.{AreFresh};
     ghost use Rattle.slirp_core.specs.Hearing.{ClosesByKind, WhereItTicks};
     ghost use Rattle.tcp_flows.specs.Runs.{ClosesRising};
     ghost use Rattle.tcp_flows.specs.Reading.{AreTold, IsFirst, IsOpenAt, NoneIsAbove};
-    ghost use Rattle.tcp_flows.specs.Settled.{IsInTime, OwesNoAck};
+    ghost use Rattle.tcp_flows.specs.Settled.{ConnectYet, IsInTime, OwesNoAck};
     ghost use Rattle.world_face.specs.Journal.{Entry};
     ghost use Rattle.flow_splice.specs.Splice.{Splice};
     ghost use Rattle.flow_splice.specs.Wants.{connect_end};
-    ghost use Rattle.connection_steps.specs.Holding.{is_connects};
+    ghost use Rattle.connection_follows.specs.Holding.{is_connects};
     ghost use Rattle.spliced_flows.specs.Core.{CoreHolds, number_of};
     ghost use Rattle.udp_assoc.specs.Associations.{IsLeast, numbers};
     ghost use Rattle.dns_relay.specs.Relaying.{IsLeast as IsLeastAsked};
@@ -271,6 +272,8 @@ impl Slirp {
         ensures ahead { (config : Config) (at : Standing) (aged : Bool) (link : LinkState) (past : List Entry) → Holds config at self.old (flowing aged self.old.flows) link past
             → (n : ℕ) → OwesNoAck self.old.flows.flows.parts n → IsInTime self.new.moment self.new.flows.flows.parts n }
         ensures parts { (held : List PartSet) → IsHeld self.old.parts held → IsHeld self.new.parts (young self.old.moment held) }
+        // None of the fragments that are left is to be dropped yet.
+        ensures fresh { AreFresh self.new.moment self.new.parts }
         ensures turn { self.new.flows.turn ≡ self.old.flows.turn + 1 }
         // No socket was served in the turn that begins.
         ensures unserved { (k : ℕ) → slice_get self.new.flows.served k ≡ Some self.new.flows.turn → ⊥ }
@@ -293,6 +296,7 @@ impl Slirp {
         ensures told { AreTold self.new.known self.new.flows.flows.parts }
         ensures ahead { (now n : ℕ) → IsInTime now self.old.flows.flows.parts n → IsInTime now self.new.flows.flows.parts n }
         ensures calm { (n : ℕ) → OwesNoAck self.old.flows.flows.parts n → OwesNoAck self.new.flows.flows.parts n }
+        ensures connects { ConnectYet self.old.flows.flows.parts self.new.flows.flows.parts }
         ensures turn { self.new.flows.turn ≡ self.old.flows.turn }
         ensures served { self.new.flows.served ≡ self.old.flows.served }
         ensures same { self.new ≡ record self.old { flows = self.new.flows } }
@@ -321,6 +325,7 @@ impl Slirp {
     // Drops the fragments that have waited for 60,000 milliseconds.
     fn drop_parts(&mut self)
         ensures parts { (held : List PartSet) → IsHeld self.old.parts held → IsHeld self.new.parts (young self.old.moment held) }
+        ensures fresh { AreFresh self.new.moment self.new.parts }
         ensures same { self.new ≡ record self.old { parts = self.new.parts } }
     {
         self.reasm.tick(self.moment);

@@ -36,7 +36,8 @@ impl Slirp {
     ghost use Rattle.world_face.specs.Journal.{Entry};
     ghost use Rattle.spliced_flows.specs.Core.{CoreHolds};
     ghost use Rattle.tcp_flows.specs.Reading.{AreTold, HaveSlots};
-    ghost use Rattle.tcp_flows.specs.Settled.{AreSettled, IsInTime};
+    ghost use Rattle.tcp_flows.specs.Settled.{AreSettled, ConnectYet, IsInTime};
+    ghost use Rattle.slirp_core.specs.Calm.{AreClear};
 
     /// Whether nothing is left to be sent.
     pub fn is_settled(&self, link: &Link) -> bool
@@ -63,6 +64,14 @@ impl Slirp {
         ensures leaves { Leaves result self.new link.new }
         ensures settled { (config : Config) (at : Standing) → result ≡ Pumped.Clear → Brings (W.tells world.old) (W.tells world.new)
             (Holds config at self.old (flowing true self.old.flows) link.old) (λ past. Holds config at self.new (flowing true self.new.flows) link.new past × AreSettled config self.old.moment self.old.flows.flows.parts past) }
+        // A flow that connects then connected before, and may until the same moment.
+        ensures connects { (config : Config) (at : Standing) (aged : Bool) (past : List Entry) → Holds config at self.old (flowing aged self.old.flows) link.old past → ConnectYet self.old.flows.flows.parts self.new.flows.flows.parts }
+        // Where all of it is out the link was free before, and no flow owes a frame.
+        ensures free { result ≡ Pumped.Clear → link.old.blocked ≡ false }
+        ensures clear { result ≡ Pumped.Clear → AreClear self.new.known self.new.flows.flows }
+        // A flow whose timer wasn't due before has none that is due.
+        ensures ahead { (config : Config) (at : Standing) (aged : Bool) (past : List Entry) → Holds config at self.old (flowing aged self.old.flows) link.old past
+            → (n : ℕ) → IsInTime self.old.moment self.old.flows.flows.parts n → IsInTime self.old.moment self.new.flows.flows.parts n }
         ensures same { under_way link.new ≡ under_way link.old }
         ensures config { self.new.config ≡ self.old.config }
         ensures number { self.new.number ≡ self.old.number }
@@ -91,6 +100,7 @@ impl Slirp {
         ensures leaves { Leaves result self.new link.new }
         ensures ahead { (config : Config) (before : ℕ) (aged : Bool) (past : List Entry) → CoreHolds config before aged None self.old.flows.flows past → (n : ℕ) → IsInTime self.old.moment self.old.flows.flows.parts n
             → IsInTime self.old.moment self.new.flows.flows.parts n }
+        ensures connects { (config : Config) (aged : Bool) (past : List Entry) → CoreHolds config self.old.moment aged None self.old.flows.flows past → ConnectYet self.old.flows.flows.parts self.new.flows.flows.parts }
         ensures same { under_way link.new ≡ under_way link.old }
         ensures turn { self.new.flows.turn ≡ self.old.flows.turn }
         ensures others { self.new ≡ record self.old { sent = self.new.sent; flows = self.new.flows } }
@@ -107,6 +117,7 @@ impl Slirp {
             (Holds config at self.old (flowing aged self.old.flows) link.old) (AfterPump result config at self.new (flowing aged self.new.flows) link.new) }
         ensures failed { result ≡ Pumped.Failed → Rose (W.tells world.old).faults.link (W.tells world.new).faults.link }
         ensures leaves { LeavesNone result self.new link.new }
+        ensures free { result ≡ Pumped.Clear → link.old.blocked ≡ false }
         ensures same { under_way link.new ≡ under_way link.old }
         ensures others { self.new ≡ record self.old { pending = self.new.pending; sent = self.new.sent } }
     {
@@ -123,6 +134,7 @@ impl Slirp {
             (Holds config at self.now (flowing aged self.now.flows) link.old) (AfterPump result config at self.now (flowing aged self.now.flows) link.new) }
         ensures failed { result ≡ Pumped.Failed → Rose (W.tells world.old).faults.link (W.tells world.new).faults.link }
         ensures leaves { LeavesRest result link.new }
+        ensures free { result ≡ Pumped.Clear → link.old.blocked ≡ false }
         ensures same { under_way link.new ≡ under_way link.old }
     {
         if link.blocked() {

@@ -1,9 +1,12 @@
 // How long a wait may last.
-ghost use Rattle.std.specs.Prelude.{◌≡◌, List};
+ghost use Rattle.std.specs.Prelude.{◌≡◌, ℕ, List, None, true};
+ghost use Rattle.host_policy.specs.Addresses.{Config};
 ghost use Rattle.ipv4_head.specs.Sets.{PartSet};
 ghost use Rattle.slirp_core.specs.Fragments.{IsHeld};
 ghost use Rattle.slirp_core.specs.Pumps.{question_left, time_left};
-ghost use Rattle.slirp_core.specs.Timeouts.{IsFileTime, IsFlowTime, IsPartTime, sooner};
+ghost use Rattle.slirp_core.specs.Timeouts.{IsFileTime, IsFlowTime, IsPartTime, SuitsFlows, sooner};
+ghost use Rattle.spliced_flows.specs.Core.{CoreHolds};
+ghost use Rattle.world_face.specs.Journal.{Entry};
 
 use crate::network::Slirp;
 use dns_relay::QUESTION_LIFE;
@@ -44,7 +47,10 @@ impl Slirp {
 
     // How long it is until a flow is to be told the time. What is due already waits where the link is blocked, and isn't counted.
     pub(crate) fn time_of_flows(&self, blocked: bool) -> Option<u64>
-        ensures { IsFlowTime blocked self.now.moment self.now.flows.flows.parts result }
+        ensures time { IsFlowTime blocked self.now.moment self.now.flows.flows.parts result }
+        // By the record, a wait that ends with it suits the flows.
+        ensures suits { (config : Config) (before : ℕ) (past : List Entry) → CoreHolds config before true None self.now.flows.flows past
+            → SuitsFlows config self.now.moment blocked self.now.flows.flows.parts past result }
     {
         let due = self.flows.due()?;
         if blocked && due <= self.moment {

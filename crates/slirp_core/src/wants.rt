@@ -8,7 +8,8 @@ ghost use Rattle.host_policy.specs.Addresses.{Config};
 ghost use Rattle.world_face.specs.Journal.{Entry};
 ghost use Rattle.spliced_flows.specs.Core.{CoreHolds, number_of};
 ghost use Rattle.poll_list.specs.Listing.{AreWants};
-ghost use Rattle.slirp_core.specs.Pumps.{TcpOnce, into, link_want, listener_want, merged, socket_wants, udp_want};
+ghost use Rattle.slirp_core.specs.Pumps.{TcpOnce, into, merged};
+ghost use Rattle.waiting_flows.specs.Wants.{link_want, listener_want, socket_wants, udp_want};
 ghost use Rattle.slirp_core.specs.Carrying.{HasRoom, sockets_of};
 ghost use Rattle.slirp_core.specs.Kinds.{is_of_datagrams, is_of_flow, is_of_link_or_listener};
 
@@ -54,7 +55,8 @@ impl Model for TurnWants {
     ghost use Rattle.std.specs.Prelude.{◌≡◌, ◌≤◌, true, false, ◌++◌, length, map, take};
     ghost use Rattle.poll_list.specs.Listing.{AreWants, Listing};
     ghost use Rattle.slirp_core.specs.Kinds.{InThreeParts};
-    ghost use Rattle.slirp_core.specs.Pumps.{link_want, listener_want, merged, udp_want};
+    ghost use Rattle.slirp_core.specs.Pumps.{merged};
+    ghost use Rattle.waiting_flows.specs.Wants.{link_want, listener_want, udp_want};
 
     ghost Value = { Listing };
 

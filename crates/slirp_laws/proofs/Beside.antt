@@ -12,10 +12,10 @@ use Rattle.ether_frame.specs.Ether.{Ether, read_ether}
 use Rattle.arp_table.specs.Table.{mac_of as learnt_for}
 use Rattle.ipv4_head.specs.Ip.{Ip, is_unbroken, read_ip}
 use Rattle.tcp_segment.specs.Tcp.{Tcp, read_tcp}
-use Rattle.flow_book.specs.Book.{book}
-use Rattle.flow_book.specs.Flows.{Flow, is_strange, owner}
-use Rattle.flow_book.specs.Segments.{OnTuple, asked_in, segment_in, tcp_of, to_guest, went_by, went_of}
-use Rattle.flow_book.specs.Taught.{is_pair, taught}
+use Rattle.record_flows.specs.Book.{book}
+use Rattle.record_flows.specs.Flows.{Flow, is_strange, owner}
+use Rattle.record_flows.specs.Segments.{OnTuple, asked_in, segment_in, tcp_of, to_guest, went_by, went_of}
+use Rattle.record_flows.specs.Taught.{is_pair, taught}
 use Rattle.run_laws.specs.Guests.{known}
 use Rattle.slirp_laws.specs.Answers.{is_flows, again_frames, frames_of, may_go_again, serving, told_of_files, begins_datagram, datagrams_in, identification, is_first, left, our_mac, part_frame, uncut, everyone, request}
 use Rattle.world_face.specs.Frames.{goes_out}

@@ -10,9 +10,9 @@ use Rattle.net_octets.specs.declared.Endpoint.{Endpoint}
 use Rattle.host_policy.specs.Addresses.{Config}
 use Rattle.run_laws.specs.Shape.{due_in, is_over, is_working, may_turn, phase}
 use Rattle.run_laws.specs.Sockets.{next_number}
-use Rattle.flow_book.specs.Book.{book}
-use Rattle.flow_book.specs.Laws.{MayFlow, MayTouch, MayWrite, flow_settings}
-use Rattle.flow_book.specs.Lots.{due_for_flows}
+use Rattle.record_flows.specs.Book.{book}
+use Rattle.record_flows.specs.Laws.{MayFlow, MayTouch, MayWrite, flow_settings}
+use Rattle.record_flows.specs.Lots.{due_for_flows}
 use Rattle.run_laws.specs.Moments.{moment, waits}
 use Rattle.slirp_laws.specs.Agenda.{agenda}
 use Rattle.slirp_laws.specs.Laws.{May, MayDue, deed_of, due, due_for_answer, due_for_services, goes_on, has_place, has_socket, is_all_out, is_answered, is_closing, is_served, may_begin, may_close, unless_due, relays, takes_peers}

@@ -6,8 +6,8 @@ use Rattle.host_policy.specs.Addresses.{Config}
 use Rattle.host_policy.specs.declared.Forward.{Forward}
 use Rattle.host_policy.specs.declared.Proto.{Proto}
 use Rattle.host_policy.specs.declared.Proto.TheVariants.{Tcp, Udp}
-use Rattle.flow_book.specs.Book.{book}
-use Rattle.flow_book.specs.Lots.{connects_to, due_by, due_for_flows}
+use Rattle.record_flows.specs.Book.{book}
+use Rattle.record_flows.specs.Lots.{connects_to, due_by, due_for_flows}
 use Rattle.run_laws.specs.Shape.{Phase, Opening, Started, Woken, Working, Over, due_in, opening_of, phase}
 use Rattle.run_laws.specs.Sockets.{first, next_number, open_sockets}
 use Rattle.tftp_server.specs.Asking.{call_for}

@@ -25,8 +25,8 @@ use Rattle.dhcp_server.specs.declared.leases.Lease.{Lease}
 use Rattle.dhcp_server.specs.declared.message.Message.{Message}
 use Rattle.dns_relay.specs.declared.Question.{Question}
 use Rattle.dns_relay.specs.Questions.{numbered}
-use Rattle.flow_book.specs.Book.{book}
-use Rattle.flow_book.specs.Segments.{OnTuple, asked_in, segment_in}
+use Rattle.record_flows.specs.Book.{book}
+use Rattle.record_flows.specs.Segments.{OnTuple, asked_in, segment_in}
 use Rattle.run_laws.specs.Happenings.{Arrival, happens}
 use Rattle.run_laws.specs.Packets.{Datagram, DatagramPacket, Packet}
 use Rattle.tftp_server.specs.Transfers.{Said}

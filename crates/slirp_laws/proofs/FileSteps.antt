@@ -9,8 +9,8 @@ use Rattle.world_face.specs.declared.Io.TheVariants.{Done, End, NotYet, Failed}
 use Rattle.host_policy.specs.Addresses.{Config}
 use Rattle.host_policy.specs.declared.Reply.{Reply}
 use Rattle.host_policy.specs.declared.Reply.TheVariants.{Nothing, Datagram as ADatagram, Unreachable}
-use Rattle.flow_book.specs.Book.{book}
-use Rattle.flow_book.specs.Lots.{due_for_flows}
+use Rattle.record_flows.specs.Book.{book}
+use Rattle.record_flows.specs.Lots.{due_for_flows}
 use Rattle.run_laws.specs.Shape.{Working, due_in, phase}
 use Rattle.run_laws.specs.Sockets.{next_number}
 use Rattle.tftp_server.specs.Asking.{AreAskedFor, after_calls, by_answer, call_for, or_outcome}

@@ -9,16 +9,16 @@ use Rattle.world_face.specs.Frames.{spelling, missing, is_too_long, spelt_length
 use Rattle.tlv_table.specs.Reading.{read_on}
 use Rattle.host_policy.specs.Addresses.{endpoint}
 use Rattle.host_policy.specs.Settings.{usual}
-use Rattle.flow_book.proofs.Writing.{hex, run}
-use Rattle.flow_book.proofs.TcpFailures.{failed_read}
-use Rattle.flow_book.proofs.TcpForwards.{forwarding, visited, unshown}
-use Rattle.flow_book.proofs.TcpGivesUp.{given_up}
-use Rattle.flow_book.proofs.TcpPairs.{two_flows}
-use Rattle.flow_book.proofs.TcpRefused.{no_syn_ack, no_other_octets, no_other_port, no_wait}
-use Rattle.flow_book.proofs.TcpResets.{reset}
-use Rattle.flow_book.proofs.TcpRows.{late, unconnected}
-use Rattle.flow_book.proofs.TcpWraps.{wrapped}
-use Rattle.flow_book.proofs.TcpWrites.{short_writes}
+use Rattle.record_flows.proofs.Writing.{hex, run}
+use Rattle.record_flows.proofs.TcpFailures.{failed_read}
+use Rattle.record_flows.proofs.TcpForwards.{forwarding, visited, unshown}
+use Rattle.record_flows.proofs.TcpGivesUp.{given_up}
+use Rattle.record_flows.proofs.TcpPairs.{two_flows}
+use Rattle.record_flows.proofs.TcpRefused.{no_syn_ack, no_other_octets, no_other_port, no_wait}
+use Rattle.record_flows.proofs.TcpResets.{reset}
+use Rattle.record_flows.proofs.TcpRows.{late, unconnected}
+use Rattle.record_flows.proofs.TcpWraps.{wrapped}
+use Rattle.record_flows.proofs.TcpWrites.{short_writes}
 use Rattle.slirp_laws.specs.Laws.{Finished, Lawful}
 use Rattle.slirp_laws.proofs.Checks.{is_sound}
 

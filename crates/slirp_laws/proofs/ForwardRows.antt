@@ -15,7 +15,7 @@ use Rattle.host_policy.specs.declared.Proto.TheVariants.{Udp as UdpProto}
 use Rattle.host_policy.specs.Addresses.{Config, endpoint}
 use Rattle.host_policy.specs.Settings.{usual}
 use Rattle.host_policy.specs.Targets.{anywhere}
-use Rattle.flow_book.proofs.TcpForwards.{forwarding, visited, unshown}
+use Rattle.record_flows.proofs.TcpForwards.{forwarding, visited, unshown}
 use Rattle.slirp_laws.specs.Check.{may}
 use Rattle.slirp_laws.specs.Laws.{Finished, Lawful, May}
 use Rattle.slirp_laws.proofs.Checks.{is_sound}

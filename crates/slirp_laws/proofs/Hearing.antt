@@ -11,8 +11,8 @@ use Rattle.net_octets.specs.declared.Endpoint.{Endpoint}
 use Rattle.host_policy.specs.Addresses.{Config}
 use Rattle.dns_relay.specs.declared.Question.{Question}
 use Rattle.dns_relay.specs.Questions.{is_answered, numbered}
-use Rattle.flow_book.specs.Book.{book}
-use Rattle.flow_book.specs.Segments.{OnTuple}
+use Rattle.record_flows.specs.Book.{book}
+use Rattle.record_flows.specs.Segments.{OnTuple}
 use Rattle.run_laws.specs.Happenings.{Arrival, happens}
 use Rattle.run_laws.specs.Packets.{Datagram}
 use Rattle.tftp_server.specs.Asking.{by_answer}

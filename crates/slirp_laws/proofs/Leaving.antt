@@ -16,9 +16,9 @@ use Rattle.run_laws.specs.Moments.{moment}
 use Rattle.run_laws.specs.Packets.{Datagram}
 use Rattle.run_laws.specs.Shape.{Phase, Opening, Started, Woken, Working, Over, due_in, is_ended, is_working, phase}
 use Rattle.run_laws.specs.Sockets.{Kind, Association, DnsSocket, Forward, Listener, Flow, is_among, next_number, open_sockets}
-use Rattle.flow_book.specs.Book.{book}
-use Rattle.flow_book.specs.Flows.{is_it}
-use Rattle.flow_book.specs.Lots.{due_for_flows}
+use Rattle.record_flows.specs.Book.{book}
+use Rattle.record_flows.specs.Flows.{is_it}
+use Rattle.record_flows.specs.Lots.{due_for_flows}
 use Rattle.tftp_server.specs.Asking.{call_for}
 use Rattle.slirp_laws.specs.Answers.{serving}
 use Rattle.slirp_laws.specs.Asking.{step, step_of}

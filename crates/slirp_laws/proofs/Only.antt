@@ -5,7 +5,7 @@ use Rattle.world_face.specs.Frames.{goes_out}
 use Rattle.host_policy.specs.Addresses.{Config}
 use Rattle.ipv4_head.specs.Ip.{Ip}
 use Rattle.tcp_segment.specs.Tcp.{tcp_octets}
-use Rattle.flow_book.specs.Segments.{OnTuple, asked_in, segment_in}
+use Rattle.record_flows.specs.Segments.{OnTuple, asked_in, segment_in}
 use Rattle.slirp_laws.specs.Answers.{again_frames, identification, is_first, is_flows, left, serving}
 use Rattle.slirp_laws.specs.Laws.{Lawful}
 use Rattle.slirp_laws.specs.Said.{Carries, IsOfFlow}

@@ -23,8 +23,8 @@ use Rattle.run_laws.specs.Packets.{Datagram, Packet, Unheard, ArpPacket, Message
 use Rattle.run_laws.specs.Shape.{phase}
 use Rattle.run_laws.specs.Sockets.{next_number, Flow as OfFlow, Kind, Listener as OfListener, datagram_kind, is_forward, kind_of}
 use Rattle.run_laws.specs.Guests.{known, with_arrival}
-use Rattle.flow_book.specs.Book.{book}
-use Rattle.flow_book.specs.Segments.{OnTuple, from_guest}
+use Rattle.record_flows.specs.Book.{book}
+use Rattle.record_flows.specs.Segments.{OnTuple, from_guest}
 use Rattle.slirp_laws.specs.Answers.{is_flows, starts, Answer, ArpAnswer, IpAnswer, Serving, again_frames, answers_of, begins_again, ledger, left_by_file, left_by_outcome, may_go_again, reply_on, served_file, serving, told_of_files, datagrams_in, datagrams_out, with_datagrams, frames_for, frames_of, identification, is_first, is_out, is_untold, left, left_after, no_network, owed_for_fate, owed_for_icmp, owed_for_packet, reply_for, reset_for, taken, told_about, unconnected, unsent}
 use Rattle.slirp_laws.specs.Datagrams.{Errand, Fate, Ignored, Refused, ForLeases, ForFiles, GoesTo, fate, Step, Settled, NeedsSocket, NeedsSending}
 use Rattle.slirp_laws.specs.Asking.{step, step_of}

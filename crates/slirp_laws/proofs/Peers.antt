@@ -18,10 +18,10 @@ use Rattle.world_face.specs.declared.Made.TheVariants.{Done as MadeDone, Failed 
 use Rattle.flow_laws.specs.Event.{Accepts, Event, At, AsksAddress, Departs, Story}
 use Rattle.flow_laws.specs.Flow.{first_number, is_accepted}
 use Rattle.run_laws.specs.Happenings.{Arrival, happens}
-use Rattle.flow_book.specs.Book.{book, doom, is_refused, joins_for, opens, port_by, port_of, scene, tuple_for, turned, visits_for}
-use Rattle.flow_book.specs.Doings.{Doing, Nothing, Comes, Goes, Seeks, Pauses, Joins, Visits, Calls, Shuts, by_call, comes, doing, doing_by, ended_by, goes, joined, joins, read_by, seeks, visits, written_by}
-use Rattle.flow_book.specs.Flows.{Book, Flow, Scene, flow_of, is_numbered, is_on, is_strange, is_used, seeks_for, sends, shuts, tell, with_event}
-use Rattle.flow_book.specs.Segments.{OnTuple, asked_in, segment_came, segment_in}
+use Rattle.record_flows.specs.Book.{book, doom, is_refused, joins_for, opens, port_by, port_of, scene, tuple_for, turned, visits_for}
+use Rattle.record_flows.specs.Doings.{Doing, Nothing, Comes, Goes, Seeks, Pauses, Joins, Visits, Calls, Shuts, by_call, comes, doing, doing_by, ended_by, goes, joined, joins, read_by, seeks, visits, written_by}
+use Rattle.record_flows.specs.Flows.{Book, Flow, Scene, flow_of, is_numbered, is_on, is_strange, is_used, seeks_for, sends, shuts, tell, with_event}
+use Rattle.record_flows.specs.Segments.{OnTuple, asked_in, segment_came, segment_in}
 use Rattle.slirp_laws.specs.Peers.{IsForPeer}
 
 -- one that was accepted is

@@ -30,8 +30,8 @@ use Rattle.udp_assoc.specs.Udp.{Udp, is_udp, read_udp}
 use Rattle.tcp_segment.specs.Tcp.{Tcp, read_tcp}
 use Rattle.run_laws.specs.Fragments.{Fragment, arrived, fragment_by, fragment_in, fragment_of, joined_by, key_by, part_by, sets, waiting, with_fragment, with_frame}
 use Rattle.run_laws.specs.Moments.{moment, waits}
-use Rattle.flow_book.specs.Book.{book}
-use Rattle.flow_book.specs.Segments.{OnTuple}
+use Rattle.record_flows.specs.Book.{book}
+use Rattle.record_flows.specs.Segments.{OnTuple}
 use Rattle.run_laws.specs.Happenings.{Arrival, arrival_of, happens, datagram_by, datagram_came}
 use Rattle.run_laws.specs.Packets.{Datagram, Packet, Unheard, ArpPacket, Message, DatagramPacket, Segment, datagram_in, datagram_of, may_come, packet_in, packet_of, packet_of_ip, unless_unheard, whole_packet}
 use Rattle.slirp_laws.specs.Ports.{last_datagram, last_port, opened_by, opened_for, or_before, given_by, given_port, port_for}

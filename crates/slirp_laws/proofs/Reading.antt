@@ -52,9 +52,9 @@ use Rattle.run_laws.specs.Guests.{known, with_arrival, with_pair}
 use Rattle.run_laws.specs.Moments.{moment}
 use Rattle.run_laws.specs.Sockets.{is_forward, kind_of}
 use Rattle.run_laws.specs.Packets.{Datagram, Packet, Unheard, ArpPacket, Message, DatagramPacket, Segment, Pair, datagram_in, datagram_of, may_come, packet_in, packet_of, packet_of_ip, pair_by, pair_by_arp, pair_by_ip, pair_in, pair_of, unless_unheard, whole_packet}
-use Rattle.flow_book.specs.Book.{book}
-use Rattle.flow_book.specs.Segments.{OnTuple, from_guest, segment_by, segment_came}
-use Rattle.flow_book.proofs.Newest.{is_newest}
+use Rattle.record_flows.specs.Book.{book}
+use Rattle.record_flows.specs.Segments.{OnTuple, from_guest, segment_by, segment_came}
+use Rattle.record_flows.proofs.Newest.{is_newest}
 use Rattle.slirp_laws.specs.Answers.{Answer, ArpAnswer, IpAnswer, Ledger, Serving, again_by_call, answer_of, answers_of, begins_again, begun_by, files_after, files_begun, files_by_call, files_by_fate, files_by_outcome, files_by_packet, files_sent, identification, is_free, ledger, may_go_again, or_begun, served_file, serving, told_of_files, unless_begun, arp_reply, is_untold, no_network, part_frame, our_mac, owed_for_fate, owed_for_icmp, owed_for_packet, reset_for, told_about, reply_for}
 use Rattle.slirp_laws.specs.Datagrams.{Errand, Fate, Ignored, Refused, ForLeases, ForFiles, GoesTo, asks_a_name, fate}
 use Rattle.slirp_laws.specs.Errands.{errand_left}

@@ -11,7 +11,7 @@ use Rattle.world_face.specs.Frames.{spelling, missing, is_too_long, spelt_length
 use Rattle.tlv_table.specs.Reading.{read_on}
 use Rattle.host_policy.specs.Addresses.{Config, endpoint}
 use Rattle.host_policy.specs.Settings.{usual}
-use Rattle.flow_book.proofs.Writing.{hex, want, run}
+use Rattle.record_flows.proofs.Writing.{hex, want, run}
 use Rattle.slirp_laws.specs.Laws.{Finished, Lawful}
 use Rattle.slirp_laws.proofs.Checks.{is_sound}
 

@@ -13,9 +13,9 @@ use Rattle.run_laws.specs.Moments.{moment}
 use Rattle.flow_laws.specs.Event.{Segment, Story}
 use Rattle.flow_laws.specs.Lawful.{IsPiece, May as MayOfOne, Send}
 use Rattle.flow_laws.specs.Windows.{is_scaled, least_shift, mss}
-use Rattle.flow_book.specs.Book.{book}
-use Rattle.flow_book.specs.Laws.{MaySend, MaySendOn, MayWrite, flow_settings}
-use Rattle.flow_book.specs.Segments.{OnTuple, segment_in}
+use Rattle.record_flows.specs.Book.{book}
+use Rattle.record_flows.specs.Laws.{MaySend, MaySendOn, MayWrite, flow_settings}
+use Rattle.record_flows.specs.Segments.{OnTuple, segment_in}
 use Rattle.slirp_laws.specs.Answers.{left}
 use Rattle.slirp_laws.specs.Laws.{Lawful}
 use Rattle.slirp_laws.specs.Said.{Carries, IsOfFlow}

@@ -17,8 +17,8 @@ use Rattle.tcp_segment.specs.declared.TheConstants.{RST}
 use Rattle.tcp_segment.specs.Tcp.{Tcp, fields_of, has, head_reading, options_reading, read_tcp, tcp_octets, ◌>>=◌}
 use Rattle.flow_table.specs.declared.Tuple.{Tuple}
 use Rattle.flow_laws.specs.Event.{Segment}
-use Rattle.flow_book.specs.Lots.{reset_to}
-use Rattle.flow_book.specs.Segments.{OnTuple, from_guest, segment_in, tcp_of, went_by, went_of}
+use Rattle.record_flows.specs.Lots.{reset_to}
+use Rattle.record_flows.specs.Segments.{OnTuple, from_guest, segment_in, tcp_of, went_by, went_of}
 use Rattle.run_laws.specs.Packets.{Datagram, Packet, Unheard, ArpPacket, Message, DatagramPacket, Segment as SegmentPacket}
 use Rattle.slirp_laws.specs.Leasing.{Sending, lease_reply}
 use Rattle.tftp_server.specs.Transfers.{Said}

@@ -21,10 +21,10 @@ use Rattle.ipv4_head.specs.Sets.{Part}
 use Rattle.icmp_echo.specs.Icmp.{Icmp, echo, unreachable, other, echo_octets, unreachable_octets}
 use Rattle.udp_assoc.specs.Udp.{udp_octets}
 use Rattle.tcp_segment.specs.Tcp.{tcp_octets}
-use Rattle.flow_book.specs.Book.{book}
-use Rattle.flow_book.specs.Flows.{Book}
-use Rattle.flow_book.specs.Lots.{is_reset, reset_to}
-use Rattle.flow_book.specs.Segments.{OnTuple, asked_in, from_guest, segment_in}
+use Rattle.record_flows.specs.Book.{book}
+use Rattle.record_flows.specs.Flows.{Book}
+use Rattle.record_flows.specs.Lots.{is_reset, reset_to}
+use Rattle.record_flows.specs.Segments.{OnTuple, asked_in, from_guest, segment_in}
 use Rattle.dhcp_server.specs.declared.leases.Lease.{Lease}
 use Rattle.dns_relay.specs.declared.Question.{Question}
 use Rattle.dns_relay.specs.Questions.{is_answered, numbered}

@@ -11,10 +11,10 @@ use Rattle.run_laws.specs.Moments.{moment, waits}
 use Rattle.run_laws.specs.Shape.{phase, may_turn, is_working, is_over, is_ended, due_in}
 use Rattle.run_laws.specs.Sockets.{Kind, Association, DnsSocket, Forward, Listener, Flow, is_among, is_association, is_flow, is_forward, is_listener, kind_of, next_number, open_sockets}
 use Rattle.flow_laws.specs.Close.{is_done, host_failed, finds_no_guest, follows_reset, gives_up, connects_too_long, newest_rst}
-use Rattle.flow_book.specs.Book.{book, scene}
-use Rattle.flow_book.specs.Flows.{Flow as AFlow, Book, Scene, comes_directly, flow_of, guest_is_known, is_it, used}
-use Rattle.flow_book.specs.Laws.{MayFlow}
-use Rattle.flow_book.specs.Lots.{due_for_flows}
+use Rattle.record_flows.specs.Book.{book, scene}
+use Rattle.record_flows.specs.Flows.{Flow as AFlow, Book, Scene, comes_directly, flow_of, guest_is_known, is_it, used}
+use Rattle.record_flows.specs.Laws.{MayFlow}
+use Rattle.record_flows.specs.Lots.{due_for_flows}
 use Rattle.slirp_laws.specs.Agenda.{agenda}
 use Rattle.slirp_laws.specs.Answers.{is_out, left, serving}
 use Rattle.slirp_laws.specs.Names.{answered, has_waited, kind_for}

@@ -20,9 +20,9 @@ use Rattle.ipv4_head.specs.Ip.{Ip, read_ip}
 use Rattle.udp_assoc.specs.Associations.{idle_life, most_associations}
 use Rattle.udp_assoc.specs.declared.assocs.Association.{Association}
 use Rattle.udp_assoc.specs.Udp.{Udp, udp_octets}
-use Rattle.flow_book.specs.Book.{book}
-use Rattle.flow_book.specs.Flows.{Flow, is_strange, owner}
-use Rattle.flow_book.specs.Segments.{OnTuple, asked_in, segment_in}
+use Rattle.record_flows.specs.Book.{book}
+use Rattle.record_flows.specs.Flows.{Flow, is_strange, owner}
+use Rattle.record_flows.specs.Segments.{OnTuple, asked_in, segment_in}
 use Rattle.dns_relay.specs.declared.Question.{Question}
 use Rattle.dns_relay.specs.Questions.{is_answered, numbered as numbered_question}
 use Rattle.tftp_server.specs.Asking.{by_answer}

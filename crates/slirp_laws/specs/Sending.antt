@@ -14,10 +14,10 @@ use Rattle.tcp_segment.specs.Tcp.{Tcp, tcp_octets}
 use Rattle.flow_laws.specs.Event.{Segment}
 use Rattle.flow_laws.specs.Guest.{is_empty}
 use Rattle.flow_laws.specs.Flow.{is_accepted, is_closed, syn_is_out}
-use Rattle.flow_book.specs.Book.{book}
-use Rattle.flow_book.specs.Flows.{Flow, Rest, is_strange, owner, rests_among}
-use Rattle.flow_book.specs.Segments.{OnTuple, asked_in, segment_in}
-use Rattle.flow_book.specs.Taught.{is_pair, taught}
+use Rattle.record_flows.specs.Book.{book}
+use Rattle.record_flows.specs.Flows.{Flow, Rest, is_strange, owner, rests_among}
+use Rattle.record_flows.specs.Segments.{OnTuple, asked_in, segment_in}
+use Rattle.record_flows.specs.Taught.{is_pair, taught}
 use Rattle.run_laws.specs.Guests.{known}
 use Rattle.slirp_laws.specs.Answers.{again_frames, everyone, identification, is_first, is_out, left, our_mac, part_frame, request, serving, starts, uncut}
 

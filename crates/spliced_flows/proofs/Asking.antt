@@ -14,14 +14,14 @@ use Rattle.run_laws.specs.Sockets.{is_among, next_number}
 use Rattle.flow_laws.specs.Event.{AsksAddress, At}
 use Rattle.flow_laws.specs.Close.{is_in_use}
 use Rattle.flow_laws.specs.Flow.{is_accepted}
-use Rattle.flow_book.specs.Book.{book, scene, turned}
-use Rattle.flow_book.specs.Doings.{Doing, Seeks, doing, doing_by, goes, seeks}
-use Rattle.flow_book.specs.Flows.{Flow, flow_of, seeks_for, with_event}
-use Rattle.flow_book.specs.Laws.{MaySendOn, MayWrite, flow_settings}
-use Rattle.flow_book.specs.Lots.{due_for_flows}
-use Rattle.flow_book.specs.Segments.{asked_in, segment_in}
-use Rattle.flow_book.specs.Taught.{taught}
-use Rattle.flow_book.proofs.Apart.{map_found, seeks_number}
+use Rattle.record_flows.specs.Book.{book, scene, turned}
+use Rattle.record_flows.specs.Doings.{Doing, Seeks, doing, doing_by, goes, seeks}
+use Rattle.record_flows.specs.Flows.{Flow, flow_of, seeks_for, with_event}
+use Rattle.record_flows.specs.Laws.{MaySendOn, MayWrite, flow_settings}
+use Rattle.record_flows.specs.Lots.{due_for_flows}
+use Rattle.record_flows.specs.Segments.{asked_in, segment_in}
+use Rattle.record_flows.specs.Taught.{taught}
+use Rattle.record_flows.proofs.Apart.{map_found, seeks_number}
 use Rattle.core_flows.specs.FlowsHold.{FlowsState, rests_at}
 use Rattle.core_flows.proofs.Seats.{differ, same_or_not, seats_one}
 use Rattle.core_flows.proofs.Tables.{get_set_other, get_set_same}

@@ -20,20 +20,20 @@ use Rattle.flow_laws.specs.Close.{ended_first, follows_reset, host_failed, is_do
 use Rattle.flow_laws.specs.Flow.{is_closed}
 use Rattle.flow_laws.proofs.Grows.{closed_stays}
 use Rattle.flow_laws.specs.Lawful.{HasCause, IsLawful, Send, Close as CloseAct, May as MayOfOne}
-use Rattle.flow_book.specs.Book.{book, scene, turned}
-use Rattle.flow_book.specs.Doings.{doing, doing_by, goes}
-use Rattle.flow_book.specs.Book.{rest as restful}
+use Rattle.record_flows.specs.Book.{book, scene, turned}
+use Rattle.record_flows.specs.Doings.{doing, doing_by, goes}
+use Rattle.record_flows.specs.Book.{rest as restful}
 use Rattle.core_flows.proofs.Only.{number_of_found}
-use Rattle.flow_book.specs.Flows.{Flow, Rest, rests_among, closing, came_on, comes_directly, comes_last, guest_is_known, shuts, with_event}
-use Rattle.flow_book.specs.Laws.{flow_settings}
-use Rattle.flow_book.specs.Said.{Differ}
-use Rattle.flow_book.specs.Segments.{OnTuple, asked_in, segment_came, segment_in}
-use Rattle.flow_book.specs.Taught.{is_pair, taught}
-use Rattle.flow_book.proofs.Keeping.{are_kept}
-use Rattle.flow_book.proofs.Newest.{is_newest}
+use Rattle.record_flows.specs.Flows.{Flow, Rest, rests_among, closing, came_on, comes_directly, comes_last, guest_is_known, shuts, with_event}
+use Rattle.record_flows.specs.Laws.{flow_settings}
+use Rattle.record_flows.specs.Said.{Differ}
+use Rattle.record_flows.specs.Segments.{OnTuple, asked_in, segment_came, segment_in}
+use Rattle.record_flows.specs.Taught.{is_pair, taught}
+use Rattle.record_flows.proofs.Keeping.{are_kept}
+use Rattle.record_flows.proofs.Newest.{is_newest}
 use Rattle.core_flows.specs.Only.{AreOf, IsOf}
 use Rattle.flow_splice.proofs.Restless.{open_none}
-use Rattle.flow_book.specs.Segments.{asked_in}
+use Rattle.record_flows.specs.Segments.{asked_in}
 use Rattle.slirp_laws.specs.Answers.{again_frames, is_first, serving, datagrams_in, datagrams_out, identification, left, taken, with_datagrams}
 use Rattle.slirp_laws.specs.Laws.{Lawful, May, is_closing}
 use Rattle.slirp_laws.specs.Sending.{ip_in, is_latest, is_written, speaks_yet}

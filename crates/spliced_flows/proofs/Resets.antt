@@ -16,8 +16,8 @@ use Rattle.tcp_segment.specs.declared.TheConstants.{ACK}
 use Rattle.tcp_segment.specs.Tcp.{Tcp, has, read_tcp, tcp_octets}
 use Rattle.flow_table.specs.declared.Tuple.{Tuple}
 use Rattle.flow_laws.specs.Event.{Segment}
-use Rattle.flow_book.specs.Lots.{reset_to}
-use Rattle.flow_book.specs.Segments.{OnTuple, from_guest, segment_by, segment_in, tcp_of, to_guest, went_by, went_of}
+use Rattle.record_flows.specs.Lots.{reset_to}
+use Rattle.record_flows.specs.Segments.{OnTuple, from_guest, segment_by, segment_in, tcp_of, to_guest, went_by, went_of}
 use Rattle.run_laws.specs.Packets.{Datagram, Packet, Unheard, ArpPacket, Message, DatagramPacket, Segment as SegmentPacket}
 use Rattle.slirp_laws.specs.Answers.{Serving, answers_of, served_file, told_of_files, Answer, ArpAnswer, IpAnswer, arp_reply, frames_for, is_untold, left, no_network, our_mac, owed_for_fate, owed_for_icmp, owed_for_packet, owed_for_segment, part_frame, reply_for, told_about, uncut}
 use Rattle.slirp_laws.specs.Datagrams.{Fate, Ignored, Refused, ForLeases, ForFiles, GoesTo, fate}

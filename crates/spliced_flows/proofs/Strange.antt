@@ -28,15 +28,15 @@ use Rattle.flow_laws.specs.Close.{is_owed_reset, owes_reset}
 use Rattle.flow_laws.specs.Lawful.{Send, May as MayFor}
 use Rattle.flow_laws.specs.Flow.{host, is_accepted, is_closed, next_number, our_number, syn_is_out, their_number}
 use Rattle.flow_laws.specs.Host.{answered as answered_yet, sent}
-use Rattle.flow_book.specs.Book.{book, is_young, quiet, scene, turned}
-use Rattle.flow_book.specs.Doings.{Doing, Seeks, comes, doing, doing_by, ended_by, goes, joined, read_by, seeks, visits, written_by}
-use Rattle.flow_book.specs.Flows.{Flow, Book, Rest, Scene, flow_of, is_on, is_resting, is_strange, is_used, owner, sends, used}
-use Rattle.flow_book.specs.Laws.{MaySend, MaySendOn, MayShut, MayWrite, flow_settings}
-use Rattle.flow_book.specs.Lots.{Lot, OfFlow, Dropped, Strange, due_for_flows, is_mistaken, is_opening, is_reset, is_reset_by, is_to_many, lot_by}
-use Rattle.flow_book.specs.Said.{ConnectsAsAsked}
-use Rattle.flow_book.specs.Segments.{OnTuple, asked_in, from_guest, segment_by, segment_came, segment_in}
-use Rattle.flow_book.proofs.Laws.{connects_as_asked}
-use Rattle.flow_book.proofs.Newest.{is_newest}
+use Rattle.record_flows.specs.Book.{book, is_young, quiet, scene, turned}
+use Rattle.record_flows.specs.Doings.{Doing, Seeks, comes, doing, doing_by, ended_by, goes, joined, read_by, seeks, visits, written_by}
+use Rattle.record_flows.specs.Flows.{Flow, Book, Rest, Scene, flow_of, is_on, is_resting, is_strange, is_used, owner, sends, used}
+use Rattle.record_flows.specs.Laws.{MaySend, MaySendOn, MayShut, MayWrite, flow_settings}
+use Rattle.record_flows.specs.Lots.{Lot, OfFlow, Dropped, Strange, due_for_flows, is_mistaken, is_opening, is_reset, is_reset_by, is_to_many, lot_by}
+use Rattle.record_flows.specs.Said.{ConnectsAsAsked}
+use Rattle.record_flows.specs.Segments.{OnTuple, asked_in, from_guest, segment_by, segment_came, segment_in}
+use Rattle.record_flows.proofs.Laws.{connects_as_asked}
+use Rattle.record_flows.proofs.Newest.{is_newest}
 use Rattle.run_laws.specs.Happenings.{Arrival, happens}
 use Rattle.run_laws.specs.Moments.{moment}
 use Rattle.run_laws.specs.Packets.{Datagram, Packet, Unheard, ArpPacket, Message, DatagramPacket, Segment as SegmentPacket}

@@ -15,16 +15,16 @@ use Rattle.run_laws.specs.Sockets.{next_number}
 use Rattle.flow_laws.specs.Event.{Segment, Departs}
 use Rattle.flow_laws.specs.Close.{host_failed, is_owed_reset, owes_reset}
 use Rattle.flow_laws.specs.Lawful.{Send, May as MayOfOne}
-use Rattle.flow_book.specs.Book.{book, quiet, scene, turned}
-use Rattle.flow_book.specs.Doings.{Nothing, Goes, doing, doing_by, goes}
-use Rattle.flow_book.specs.Flows.{Flow, flow_of, is_on, is_strange, owner, sends, with_event}
-use Rattle.flow_book.specs.Laws.{MaySend, MaySendOn, MayWrite, flow_settings}
-use Rattle.flow_book.specs.Lots.{due_for_flows}
-use Rattle.flow_book.specs.Said.{Differ}
-use Rattle.flow_book.specs.Segments.{OnTuple, asked_in, segment_in}
-use Rattle.flow_book.specs.Taught.{is_pair, taught}
-use Rattle.flow_book.specs.Touching.{has_number}
-use Rattle.flow_book.proofs.Apart.{own_departure}
+use Rattle.record_flows.specs.Book.{book, quiet, scene, turned}
+use Rattle.record_flows.specs.Doings.{Nothing, Goes, doing, doing_by, goes}
+use Rattle.record_flows.specs.Flows.{Flow, flow_of, is_on, is_strange, owner, sends, with_event}
+use Rattle.record_flows.specs.Laws.{MaySend, MaySendOn, MayWrite, flow_settings}
+use Rattle.record_flows.specs.Lots.{due_for_flows}
+use Rattle.record_flows.specs.Said.{Differ}
+use Rattle.record_flows.specs.Segments.{OnTuple, asked_in, segment_in}
+use Rattle.record_flows.specs.Taught.{is_pair, taught}
+use Rattle.record_flows.specs.Touching.{has_number}
+use Rattle.record_flows.proofs.Apart.{own_departure}
 use Rattle.core_flows.specs.Only.{IsOf}
 use Rattle.core_flows.proofs.Only.{found_by, number_of_found, only_happens}
 use Rattle.core_flows.proofs.Seats.{owner_id}

@@ -15,10 +15,10 @@ use Rattle.run_laws.specs.Happenings.{Arrival, happens}
 use Rattle.run_laws.specs.Sockets.{is_among}
 use Rattle.flow_laws.specs.Event.{Arrives, At, Departs, Segment, Story}
 use Rattle.flow_laws.specs.Flow.{is_accepted}
-use Rattle.flow_book.specs.Book.{book, scene, turned}
-use Rattle.flow_book.specs.Doings.{Doing, Nothing, Comes, Goes, Seeks, Pauses, Joins, Visits, Calls, Shuts, by_call, comes, doing, doing_by, ended_by, goes, joined, joins, read_by, seeks, visits, written_by}
-use Rattle.flow_book.specs.Flows.{Book, Flow, Scene, flow_of, is_on, is_numbered, is_strange, sends, shuts, tell, with_event}
-use Rattle.flow_book.specs.Segments.{OnTuple, asked_in, segment_came, segment_in}
+use Rattle.record_flows.specs.Book.{book, scene, turned}
+use Rattle.record_flows.specs.Doings.{Doing, Nothing, Comes, Goes, Seeks, Pauses, Joins, Visits, Calls, Shuts, by_call, comes, doing, doing_by, ended_by, goes, joined, joins, read_by, seeks, visits, written_by}
+use Rattle.record_flows.specs.Flows.{Book, Flow, Scene, flow_of, is_on, is_numbered, is_strange, sends, shuts, tell, with_event}
+use Rattle.record_flows.specs.Segments.{OnTuple, asked_in, segment_came, segment_in}
 use Rattle.core_flows.specs.Only.{AreOf, IsOf}
 use Rattle.core_flows.proofs.Seats.{differ, same_or_not}
 use Rattle.core_flows.proofs.Tables.{get_set_other, get_set_same}

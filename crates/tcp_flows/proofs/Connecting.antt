@@ -6,8 +6,8 @@ use Rattle.host_policy.specs.Addresses.{Config}
 use Rattle.flow_laws.specs.Event.{Beat, Story}
 use Rattle.flow_laws.specs.Flow.{has_connected, is_accepted, is_closed, is_connecting}
 use Rattle.flow_laws.proofs.Grows.{accepted_stays, closed_stays, connected_stays}
-use Rattle.flow_book.specs.Laws.{flow_settings}
-use Rattle.connection_steps.specs.Holding.{is_connects}
+use Rattle.record_flows.specs.Laws.{flow_settings}
+use Rattle.connection_follows.specs.Holding.{is_connects}
 use Rattle.core_flows.specs.FlowsHold.{FlowsState}
 use Rattle.core_flows.proofs.Seats.{differ, same_or_not}
 use Rattle.core_flows.proofs.Tables.{get_set_other, get_set_same}

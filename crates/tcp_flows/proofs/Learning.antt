@@ -11,8 +11,8 @@ use Rattle.run_laws.specs.Guests.{known}
 use Rattle.flow_table.specs.Slots.{AreKept, Flows}
 use Rattle.flow_table.specs.declared.Tuple.{Tuple}
 use Rattle.flow_laws.specs.Close.{is_in_use}
-use Rattle.flow_book.specs.Flows.{Flow}
-use Rattle.flow_book.specs.Laws.{flow_settings}
+use Rattle.record_flows.specs.Flows.{Flow}
+use Rattle.record_flows.specs.Laws.{flow_settings}
 use Rattle.core_flows.specs.FlowsHold.{FlowsState, rests_at}
 use Rattle.core_flows.specs.Seats.{IsSlotOf}
 use Rattle.core_flows.proofs.Seats.{differ, same_or_not}

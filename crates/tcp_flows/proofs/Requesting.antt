@@ -9,10 +9,10 @@ use Rattle.world_face.specs.declared.Io.TheVariants.{Done, End, NotYet, Failed}
 use Rattle.host_policy.specs.Addresses.{Config}
 use Rattle.flow_laws.specs.Event.{Arrives, Story}
 use Rattle.flow_laws.specs.Settings.{Settings}
-use Rattle.flow_book.specs.Book.{book, scene, turned}
-use Rattle.flow_book.specs.Doings.{Comes, Doing, doing, doing_by, goes}
-use Rattle.flow_book.specs.Flows.{is_on, with_event}
-use Rattle.flow_book.specs.Segments.{OnTuple, asked_in, segment_in}
+use Rattle.record_flows.specs.Book.{book, scene, turned}
+use Rattle.record_flows.specs.Doings.{Comes, Doing, doing, doing_by, goes}
+use Rattle.record_flows.specs.Flows.{is_on, with_event}
+use Rattle.record_flows.specs.Segments.{OnTuple, asked_in, segment_in}
 use Rattle.slirp_laws.specs.Answers.{is_first, left}
 use Rattle.slirp_laws.specs.Sending.{asked_beside, requests, requests_by}
 use Rattle.flow_splice.specs.Entries.{Adds, AreEvents, ident_after}

@@ -7,8 +7,8 @@ use Rattle.flow_table.specs.Slots.{HasTuple, RestsSince, tuple_of}
 use Rattle.flow_table.specs.declared.Slot.{Slot}
 use Rattle.flow_table.specs.declared.Slot.TheVariants.{Free, InUse as SlotInUse, Resting as SlotResting}
 use Rattle.flow_table.specs.declared.Tuple.{Tuple}
-use Rattle.flow_book.specs.Book.{book}
-use Rattle.flow_book.specs.Flows.{is_used, uses}
+use Rattle.record_flows.specs.Book.{book}
+use Rattle.record_flows.specs.Flows.{is_used, uses}
 use Rattle.core_flows.specs.FlowsHold.{FlowsState, rests_at}
 use Rattle.flow_splice.specs.Splice.{Splice, is_in_use}
 use Rattle.flow_splice.specs.declared.Place.{Place}

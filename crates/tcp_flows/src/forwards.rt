@@ -20,8 +20,8 @@ use net_octets::Mac;
 use tcp_guest::Conn;
 
 impl TcpFlows {
-    ghost use Rattle.flow_book.specs.Book.{book};
-    ghost use Rattle.flow_book.specs.Flows.{is_used};
+    ghost use Rattle.record_flows.specs.Book.{book};
+    ghost use Rattle.record_flows.specs.Flows.{is_used};
     ghost use Rattle.host_policy.specs.Addresses.{Config};
     ghost use Rattle.spliced_flows.specs.Core.{CoreHolds, number_of};
     ghost use Rattle.std.specs.Prelude.{Bool, Option};

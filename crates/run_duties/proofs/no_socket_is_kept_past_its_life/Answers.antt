@@ -1,8 +1,8 @@
-use Rattle.run_duties.proofs.Laws.{association_young, attends_at, question_young}
+use Rattle.run_duties.proofs.Laws.{association_young, at_wait, question_young}
 use Rattle.run_duties.proofs.no_socket_is_kept_past_its_life.Goals as goal
 
 pub returns-clause-associations : goal.returns-clause-associations
-returns-clause-associations c = λ config later past wants timeout answer ready socket attends. association_young config past wants socket (attends_at config later past wants timeout answer ready attends)
+returns-clause-associations c = λ config later past wants timeout answer ready socket dutiful. association_young config past wants timeout socket (at_wait config later past wants timeout answer ready dutiful)
 
 pub returns-clause-questions : goal.returns-clause-questions
-returns-clause-questions c = λ config later past wants timeout answer ready socket attends. question_young config past wants socket (attends_at config later past wants timeout answer ready attends)
+returns-clause-questions c = λ config later past wants timeout answer ready socket dutiful. question_young config past wants timeout socket (at_wait config later past wants timeout answer ready dutiful)

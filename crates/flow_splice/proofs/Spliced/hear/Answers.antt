@@ -4,7 +4,7 @@ use Rattle.sock_buffers.specs.Upward.{Upward}
 use Rattle.tcp_receive.specs.Coming.{Comes}
 use Rattle.tcp_segment.specs.Tcp.{Tcp, tcp_of}
 use Rattle.tcp_guest.specs.Connection.{HasBuffers}
-use Rattle.connection_steps.specs.Holding.{is_live}
+use Rattle.connection_follows.specs.Holding.{is_live}
 use Rattle.flow_splice.specs.Guests.{heard}
 use Rattle.flow_splice.specs.Hosts.{IsAsOld, Sees, ends}
 use Rattle.flow_splice.specs.Splice.{Splice}

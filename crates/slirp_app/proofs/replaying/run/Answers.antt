@@ -7,7 +7,7 @@ use Rattle.host_policy.specs.Settings.{settings}
 use Rattle.slirp_laws.specs.Laws.{Lawful}
 use Rattle.slirp_laws.specs.Laws.{Finished}
 use Rattle.run_laws.specs.Shape.{phase}
-use Rattle.run_duties.specs.Duties.{Attentive}
+use Rattle.run_duties.specs.Duties.{Dutiful}
 use Rattle.serve_loop.specs.Ends.{end_of}
 use Rattle.replay.specs.Script.{script_tells}
 use Rattle.replay.specs.Text.{text}
@@ -19,7 +19,7 @@ pub returns-in-Ok-put_record-clause-came : goal.returns-in-Ok-put_record-clause-
 returns-in-Ok-put_record-clause-came g c =
     let new = c.serve-end.new.world in
     let end = c.serve-end.result in
-    let makes = subst (λ (k : Config). Makes (script_tells c.args.script) (script_tells new) (λ made. Lawful k made × Attentive k made × Finished k made × (end ≡ end_of k (phase k made)))) c.in-Ok.ensures.config c.serve-end.ensures.makes in
+    let makes = subst (λ (k : Config). Makes (script_tells c.args.script) (script_tells new) (λ made. Lawful k made × Dutiful k made × Finished k made × (end ≡ end_of k (phase k made)))) c.in-Ok.ensures.config c.serve-end.ensures.makes in
     let put = c.put_record.ensures.ok (ap is_ok c.in-Ok-put_record.is) ∙ ap (λ n. added (text (script_tells new).kept ++ end_line n) (g.K.Sink.holds c.args.out.now)) c.code.ensures in
     let left = c.ended-outcome.ensures in
     replayed (settings c.args.config.now) c.args.script new end c.ended-outcome.result (g.K.Sink.holds c.args.out.now) (g.K.Sink.holds c.put_record.new.out) c.requires.fresh left.lives left.ceased left.fits_none left.within left.readable put makes

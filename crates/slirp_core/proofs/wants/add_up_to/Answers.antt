@@ -1,6 +1,7 @@
 use Rattle.std.proofs.Common.{◌+◌, ◌-◌, ℕ, ◌++◌, ◌∷◌, [], List, get_or, length, map, drop, refl, ◌∙◌, ap, append_assoc, arith}
 use Rattle.std.proofs.lemmas.Grind.{common_steps}
-use Rattle.slirp_core.specs.Pumps.{into, udp_want}
+use Rattle.slirp_core.specs.Pumps.{into}
+use Rattle.waiting_flows.specs.Wants.{udp_want}
 use Rattle.slirp_core.proofs.Merging.{comes_behind, comes_last}
 use Rattle.slirp_core.proofs.wants.add_up_to.Goals as goal
 

@@ -1,6 +1,7 @@
 use Rattle.std.proofs.Common.{◌≡◌, ℕ, ◌+◌, ◌++◌, List, map, drop, length}
 use Rattle.poll_list.specs.Listing.{AreWants}
-use Rattle.slirp_core.specs.Pumps.{into, udp_want}
+use Rattle.slirp_core.specs.Pumps.{into}
+use Rattle.waiting_flows.specs.Wants.{udp_want}
 use Rattle.slirp_core.proofs.wants.add_up_to.Given as goal
 
 abbrev pub invariant-loop-place : goal.invariant-loop-place

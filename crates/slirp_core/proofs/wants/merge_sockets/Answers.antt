@@ -1,6 +1,7 @@
 use Rattle.std.proofs.Common.{◌+◌, ◌++◌, ◌∷◌, [], ℕ, List, drop, get_or, map, refl, ◌∙◌, ap, append_assoc, arith}
 use Rattle.std.proofs.lemmas.Grind.{common_steps}
-use Rattle.slirp_core.specs.Pumps.{merged, udp_want}
+use Rattle.slirp_core.specs.Pumps.{merged}
+use Rattle.waiting_flows.specs.Wants.{udp_want}
 use Rattle.slirp_core.proofs.Merging.{all_came, comes_next}
 use Rattle.slirp_core.proofs.wants.merge_sockets.Goals as goal
 

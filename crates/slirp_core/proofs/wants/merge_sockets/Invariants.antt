@@ -1,6 +1,7 @@
 use Rattle.std.proofs.Common.{◌≡◌, ◌+◌, ◌++◌, map, drop, length}
 use Rattle.poll_list.specs.Listing.{AreWants}
-use Rattle.slirp_core.specs.Pumps.{merged, udp_want}
+use Rattle.slirp_core.specs.Pumps.{merged}
+use Rattle.waiting_flows.specs.Wants.{udp_want}
 use Rattle.slirp_core.proofs.wants.merge_sockets.Given as goal
 
 abbrev pub invariant-loop-number : goal.invariant-loop-number

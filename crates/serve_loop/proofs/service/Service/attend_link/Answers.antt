@@ -1,4 +1,4 @@
-use Rattle.std.proofs.Common.{false, sym, ◌∙◌}
+use Rattle.std.proofs.Common.{false, inl, sym, ◌∙◌}
 use Rattle.poll_list.specs.declared.Who.TheVariants.{Link as TheLink}
 use Rattle.world_face.proofs.Telling.{brings_none, brings_then}
 use Rattle.slirp_core.specs.Holds.{flowing, standing}
@@ -39,3 +39,9 @@ returns-then-writes_link-clause-makes g c config count items wanted =
 pub returns-clause-makes : goal.returns-clause-makes
 returns-clause-makes g c config count items wanted =
     brings_none (λ past holds. passes_over config count c.args.self.now.wants c.args.item.now items c.args.self.now.slirp (flowing false c.args.self.now.slirp.flows) c.args.self.now.link past holds)
+
+pub returns-in-Again-clause-calm : goal.returns-in-Again-clause-calm
+returns-in-Again-clause-calm g c items before again = inl (c.pump.ensures.calm again)
+
+pub returns-then-writes_link-clause-calm : goal.returns-then-writes_link-clause-calm
+returns-then-writes_link-clause-calm g c items before again = inl (c.pump-then-writes_link.ensures.calm again)

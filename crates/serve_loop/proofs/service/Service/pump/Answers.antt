@@ -1,11 +1,15 @@
-use Rattle.std.proofs.Common.{false, sym, ◌∙◌, subst}
+use Rattle.std.proofs.Common.{◌≡◌, ℕ, ap, false, sym, ◌∙◌, subst}
 use Rattle.world_face.specs.Tells.{Brings}
 use Rattle.world_face.proofs.Telling.{brings_as}
 use Rattle.serve_loop.specs.Ends.{IsCounted}
 use Rattle.slirp_core.specs.Holds.{after}
-use Rattle.serve_loop.specs.Turns.{AfterTurn, AreYoung, HoldsNow}
+use Rattle.serve_loop.specs.Turns.{AfterTurn, AreYoung, HoldsNow, IsInTime}
 use Rattle.serve_loop.specs.Served.{ServiceState}
-use Rattle.serve_loop.proofs.Turning.{pumped, sent_by}
+use Rattle.tcp_flows.specs.Settled.{IsInTime as HasNoneDue}
+use Rattle.slirp_core.specs.Connecting.{AreInTime}
+use Rattle.slirp_core.specs.State.{SlirpState}
+use Rattle.slirp_core.proofs.Connecting.{in_time_yet}
+use Rattle.serve_loop.proofs.Turning.{calm_by, clear_by, pumped, sent_by}
 use Rattle.slirp_core.proofs.Counted.{grown}
 use Rattle.serve_loop.proofs.Counted.{pump_counted}
 use Rattle.serve_loop.proofs.service.Service.pump.Goals as goal
@@ -27,3 +31,20 @@ returns-clause-sent g c again = sent_by c.pump-pumped.result c.pump-pumped.new.s
 
 pub returns-clause-young : goal.returns-clause-young
 returns-clause-young g c young = subst AreYoung (sym c.pump-pumped.ensures.others) (subst (λ (s : ServiceState). AreYoung s.slirp) (sym c.self.view_is) young)
+
+pub returns-clause-calm : goal.returns-clause-calm
+returns-clause-calm g c again = calm_by c.pump-pumped.result c.pump-pumped.new.self c.pump-pumped.new.link c.pump-pumped.ensures.leaves c.pump-pumped.ensures.clear (sym c.turn_of.ensures ∙ again)
+
+pub returns-clause-connects : goal.returns-clause-connects
+returns-clause-connects g c config at aged past holds again early =
+    let i = c.self.inside.slirp in
+    let link = c.self.inside.link in
+    let new = c.pump-pumped.new.self in
+    let moment_same : new.moment ≡ i.moment = ap (λ (s : SlirpState). s.moment) c.pump-pumped.ensures.others in
+    let before : HoldsNow config at aged i link past = subst (λ (s : ServiceState). HoldsNow config at aged s.slirp s.link past) (sym c.self.view_is) holds in
+    let early_yet : IsInTime i link = subst (λ (s : ServiceState). IsInTime s.slirp s.link) (sym c.self.view_is) early in (
+      subst (λ (m : ℕ). AreInTime m new.flows.flows.parts) (sym moment_same) (in_time_yet i.moment i.flows.flows.parts new.flows.flows.parts (c.pump-pumped.ensures.connects config at aged past before) early_yet.0),
+      λ free n.
+          let all_out = clear_by c.pump-pumped.result new c.pump-pumped.new.link c.pump-pumped.ensures.leaves (sym c.turn_of.ensures ∙ again) free in
+          subst (λ (m : ℕ). HasNoneDue m new.flows.flows.parts n) (sym moment_same) (c.pump-pumped.ensures.ahead config at aged past before n (early_yet.1 (c.pump-pumped.ensures.free all_out) n)),
+    )

@@ -1,8 +1,9 @@
-use Rattle.std.proofs.Common.{rules, refl, true, subst, sym, ◌∙◌, ap}
+use Rattle.std.proofs.Common.{◌++◌, rules, refl, true, subst, sym}
 use Rattle.world_face.specs.Tells.{Brings}
 use Rattle.world_face.proofs.Telling.{brings_none, brings_then}
 use Rattle.serve_loop.specs.Served.{ServiceState}
-use Rattle.serve_loop.specs.Turns.{AfterTurn, AllSent, AreYoung, HoldsNow}
+use Rattle.slirp_core.specs.State.{SlirpState}
+use Rattle.serve_loop.specs.Turns.{AfterTurn, AllSent, AreYoung, HoldsNow, IsCalm, IsInTime}
 use Rattle.serve_loop.proofs.Turning.{still_sent}
 use Rattle.serve_loop.specs.declared.service.Turn.TheVariants.{Ended as TurnEnded}
 use Rattle.serve_loop.proofs.Counted.{grown_then}
@@ -23,6 +24,11 @@ loop-self-init g c =
       makes = λ config at. subst (λ (s : ServiceState). Brings (g.W.World.tells c.args.world.now) (g.W.World.tells new.world) (HoldsNow config at true s.slirp s.link) (HoldsNow config at true new.self.slirp new.self.link)) c.self.view_is
           (brings_then (brings_none (λ past holds. c.send_again.ensures.holds config at link past holds)) (c.in_default.ensures.makes config at true));
       sent = c.in_default.ensures.sent refl;
+      connects = λ config at past holds early.
+          let before = subst (λ (s : ServiceState). HoldsNow config at true s.slirp s.link past) (sym c.self.view_is) holds in
+          c.in_default.ensures.connects config at true past (c.send_again.ensures.holds config at link past before) refl
+          (subst (λ (x : SlirpState). IsInTime x link) (sym c.send_again.ensures.others) (subst (λ (s : ServiceState). IsInTime s.slirp s.link) (sym c.self.view_is) early));
+      calm = c.in_default.ensures.calm refl;
       young = λ young. c.in_default.ensures.young (subst AreYoung (sym c.send_again.ensures.others) (subst (λ (s : ServiceState). AreYoung s.slirp) (sym c.self.view_is) young));
       counts = c.in_default.ensures.faults;
       on = c.in_default.ensures.on;
@@ -42,6 +48,12 @@ loop-self-preserved g c =
           (brings_then (brings_none (λ past holds. c.send_again-in-loop-self.ensures.holds config at link past holds)) (c.in-Again.ensures.makes config at true)));
       counts = grown_then (g.W.World.tells c.args.world.now).faults (g.W.World.tells before.world).faults (g.W.World.tells new.world).faults before.invariant.counts c.in-Again.ensures.faults;
       sent = c.in-Again.ensures.sent refl;
+      connects = λ config at past holds early.
+          let made = before.invariant.makes config at in
+          let now = subst (λ (s : ServiceState). HoldsNow config at true s.slirp s.link (made.made ++ past)) (sym c.self-in-loop-self.view_is) (made.brings past holds) in
+          c.in-Again.ensures.connects config at true (made.made ++ past) (c.send_again-in-loop-self.ensures.holds config at link (made.made ++ past) now) refl
+          (subst (λ (x : SlirpState). IsInTime x link) (sym c.send_again-in-loop-self.ensures.others) (subst (λ (s : ServiceState). IsInTime s.slirp s.link) (sym c.self-in-loop-self.view_is) (before.invariant.connects config at past holds early)));
+      calm = c.in-Again.ensures.calm refl;
       young = λ young. c.in-Again.ensures.young (subst AreYoung (sym c.send_again-in-loop-self.ensures.others) (subst (λ (s : ServiceState). AreYoung s.slirp) (sym c.self-in-loop-self.view_is) (before.invariant.young young)));
       on = c.in-Again.ensures.on;
       config = search rules;
@@ -76,3 +88,20 @@ returns-clause-sent g c again free =
 pub returns-clause-young : goal.returns-clause-young
 returns-clause-young g c young =
     subst AreYoung (sym c.send_again-in-loop-self.ensures.others) (subst (λ (s : ServiceState). AreYoung s.slirp) (sym c.self-in-loop-self.view_is) (c.loop-self.invariant.young young))
+
+pub returns-clause-connects : goal.returns-clause-connects
+returns-clause-connects g c config at past holds again early =
+    let link = c.self-in-loop-self.inside.link in
+    subst (λ (x : SlirpState). IsInTime x link) (sym c.send_again-in-loop-self.ensures.others) (subst (λ (s : ServiceState). IsInTime s.slirp s.link) (sym c.self-in-loop-self.view_is) (c.loop-self.invariant.connects config at past holds early))
+
+pub returns-clause-calm : goal.returns-clause-calm
+returns-clause-calm g c again =
+    let link = c.self-in-loop-self.inside.link in
+    subst (λ (x : SlirpState). IsCalm x link) (sym c.send_again-in-loop-self.ensures.others) (subst (λ (s : ServiceState). IsCalm s.slirp s.link) (sym c.self-in-loop-self.view_is) c.loop-self.invariant.calm)
+
+pub returns-in-Ended-clause-young : goal.returns-in-Ended-clause-young
+returns-in-Ended-clause-young g c young = c.in-Ended.ensures.young (subst AreYoung (sym c.send_again.ensures.others) (subst (λ (s : ServiceState). AreYoung s.slirp) (sym c.self.view_is) young))
+
+pub returns-in-Ended-pump-clause-young : goal.returns-in-Ended-pump-clause-young
+returns-in-Ended-pump-clause-young g c young =
+    c.in-Ended-pump.ensures.young (subst AreYoung (sym c.send_again-in-loop-self.ensures.others) (subst (λ (s : ServiceState). AreYoung s.slirp) (sym c.self-in-loop-self.view_is) (c.loop-self.invariant.young young)))

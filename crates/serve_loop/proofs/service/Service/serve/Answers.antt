@@ -1,4 +1,4 @@
-use Rattle.std.proofs.Common.{◌<◌, ◌≤◌, ◌∙◌, ap, sym, subst, arith}
+use Rattle.std.proofs.Common.{◌<◌, ◌≤◌, ◌∙◌, ap, refl, sym, subst, arith}
 use Rattle.slirp_core.specs.Holds.{holders_of}
 use Rattle.world_face.proofs.Telling.{makes_as, makes_from}
 use Rattle.host_policy.specs.Addresses.{Config}
@@ -6,7 +6,7 @@ use Rattle.world_face.specs.Tells.{Makes}
 use Rattle.serve_loop.specs.Served.{ServiceState}
 use Rattle.serve_loop.specs.Turns.{Closes}
 use Rattle.serve_loop.specs.declared.service.End.TheVariants.{TurnsSpent}
-use Rattle.run_duties.specs.Duties.{Attentive}
+use Rattle.run_duties.specs.Duties.{Dutiful}
 use Rattle.serve_loop.proofs.Serving.{attended, finishes, made_so, spent, told}
 use Rattle.slirp_core.proofs.Counted.{grown}
 use Rattle.serve_loop.proofs.Counted.{end_after, grown_then}
@@ -15,6 +15,7 @@ use Rattle.serve_loop.proofs.service.Service.serve.Goals as goal
 pub loop-count-init : goal.loop-count-init
 loop-count-init g c = record {
   makes = c.in_default.ensures.makes;
+  calm = c.in_default.ensures.calm refl;
   on = c.in_default.ensures.on;
   config = c.in_default.ensures.config;
   number = omega (arith, c.in_default.ensures.number);
@@ -35,6 +36,7 @@ loop-count-preserved g c =
     let few = subst (λ n. c.loop-count._count < n) turns c.loop-count-test.true in
     record {
       makes = makes_from c.loop-count.invariant.makes (c.in-Again.ensures.makes config c.loop-count._count few);
+      calm = c.in-Again.ensures.calm refl;
       on = c.in-Again.ensures.on;
       config = c.in-Again.ensures.config ∙ c.loop-count.invariant.config;
       number = omega (arith, c.in-Again.ensures.number, c.loop-count.invariant.number);
@@ -78,7 +80,7 @@ returns-clause-makes g c =
     let ran = makes_as _ _ _ _ c.loop-count.invariant.makes (λ made holds. (spent config c.loop-count._count c.self-2.inside.turns c.loop-count.self made c.requires.some_turns all most holds.0, holds.1)) in
     makes_as _ _ _ _
     (finishes config end slirp.forwards (holders_of slirp) _ _ _
-    (subst (λ (s : ServiceState). Makes (g.W.World.tells c.args.world.now) (g.W.World.tells c.loop-count.world) (λ made. Closes config end s.slirp.forwards (holders_of s.slirp) made × Attentive config made)) (sym c.self-2.view_is) ran)
+    (subst (λ (s : ServiceState). Makes (g.W.World.tells c.args.world.now) (g.W.World.tells c.loop-count.world) (λ made. Closes config end s.slirp.forwards (holders_of s.slirp) made × Dutiful config made)) (sym c.self-2.view_is) ran)
     c.close_all.ensures.makes) (made_so config end)
 
 pub returns-clause-served : goal.returns-clause-served

@@ -8,8 +8,9 @@ use Rattle.slirp_core.specs.Holds.{after, Opens, holders_of}
 use Rattle.slirp_core.specs.State.{SlirpState}
 use Rattle.slirp_core.proofs.Starting.{started}
 use Rattle.serve_loop.specs.Served.{ServiceState}
-use Rattle.run_duties.specs.Duties.{Attentive}
-use Rattle.serve_loop.specs.Turns.{Closes, HoldsNow}
+use Rattle.run_duties.specs.Duties.{Dutiful}
+use Rattle.serve_loop.specs.Turns.{Closes, HoldsNow, IsCalm}
+use Rattle.serve_loop.proofs.Turning.{none_is_calm}
 use Rattle.serve_loop.specs.declared.service.End.TheVariants.{ListenRefused}
 use Rattle.serve_loop.proofs.Serving.{finishes, none_refused, none_waited, refused, reads_new}
 use Rattle.serve_loop.proofs.service.Service.start.Goals as goal
@@ -21,7 +22,7 @@ returns-in-Some-clause-makes g c =
     let config = c.args.self.now.slirp.config in
     let place = c.in-Some.place in
     finishes config (ListenRefused place) i.slirp.forwards (holders_of i.slirp) _ _ _
-    (subst (λ (s : ServiceState). Makes (g.W.World.tells c.args.world.now) (g.W.World.tells c.listen.new.world) (λ made. Closes config (ListenRefused place) s.slirp.forwards (holders_of s.slirp) made × Attentive config made)) (sym c.self.view_is)
+    (subst (λ (s : ServiceState). Makes (g.W.World.tells c.args.world.now) (g.W.World.tells c.listen.new.world) (λ made. Closes config (ListenRefused place) s.slirp.forwards (holders_of s.slirp) made × Dutiful config made)) (sym c.self.view_is)
     (makes_as _ _ _ _ c.in-Some.ensures.makes (λ made closing. (refused config place new.slirp new.link made closing, none_refused config place new.slirp new.link made closing))))
     c.close_all.ensures.makes
 
@@ -38,3 +39,8 @@ returns-clause-makes g c =
 
 pub returns-clause-on : goal.returns-clause-on
 returns-clause-on g c = subst (λ (l : LinkState). ReadsOn (under_way l)) (sym c.in_default.ensures.link ∙ sym (ap (λ (s : ServiceState). s.link) c.self.view_is)) (reads_new c.args.self.now c.requires)
+
+pub returns-clause-calm : goal.returns-clause-calm
+returns-clause-calm g c again =
+    let opens = subst (λ (s : ServiceState). Makes (g.W.World.tells c.args.world.now) (g.W.World.tells c.listen.new.world) (Opens c.args.self.now.slirp.config (length c.args.self.now.slirp.config.forwards) s.slirp s.link)) (sym c.self.view_is) c.in_default.ensures.makes in
+    subst (λ (s : SlirpState). IsCalm s c.self.inside.link) (sym c.tell_moment.ensures) (none_is_calm c.self.inside.slirp c.self.inside.link opens.holds.none)

@@ -4,7 +4,7 @@ use Rattle.world_face.proofs.Telling.{brings_from, brings_then}
 use Rattle.slirp_core.specs.Holds.{after, holders_of}
 use Rattle.slirp_core.proofs.Counted.{grown}
 use Rattle.serve_loop.specs.Served.{ServiceState}
-use Rattle.run_duties.specs.Duties.{Attentive}
+use Rattle.run_duties.specs.Duties.{Dutiful}
 use Rattle.serve_loop.specs.Turns.{AttendsNow, EndedAs}
 use Rattle.serve_loop.proofs.Counted.{end_before}
 use Rattle.serve_loop.proofs.Serving.{attends_to, ran}
@@ -18,7 +18,7 @@ returns-in-Ended-clause-makes g c config count few =
     let slirp = c.self.inside.slirp in
     let end = c.in-Ended.end in
     brings_then
-    (subst (λ (s : ServiceState). Brings (g.W.World.tells c.args.world.now) (g.W.World.tells c.take_turn.new.world) (AttendsNow config (after count) false c.args.self.now.slirp c.args.self.now.link) (λ past. ((waited : ℕ) × EndedAs config waited end s.slirp.forwards (holders_of s.slirp) past) × Attentive config past)) (sym c.self.view_is)
+    (subst (λ (s : ServiceState). Brings (g.W.World.tells c.args.world.now) (g.W.World.tells c.take_turn.new.world) (AttendsNow config (after count) false c.args.self.now.slirp c.args.self.now.link) (λ past. ((waited : ℕ) × EndedAs config waited end s.slirp.forwards (holders_of s.slirp) past) × Dutiful config past)) (sym c.self.view_is)
     (c.in-Ended.ensures.makes config count few))
     (brings_from c.close_all.ensures.makes (λ made all past ended. attends_to config end slirp.forwards (holders_of slirp) made past (ran config ended.0.0 end slirp.forwards (holders_of slirp) past ended.0.1) ended.1 all))
 

@@ -1,21 +1,23 @@
-use Rattle.std.proofs.Common.{◌≡◌, ◌+◌, ◌∷◌, true, false, drop, List, refl, sym, ◌∙◌, subst, arith}
+use Rattle.std.proofs.Common.{◌≡◌, ◌+◌, ◌∷◌, true, false, drop, length, List, refl, sym, ◌∙◌, ap, subst, arith}
 use Rattle.poll_list.specs.Listing.{reads}
 use Rattle.poll_list.specs.declared.Want.{Want}
 use Rattle.poll_list.specs.declared.Who.TheVariants.{Link as TheLink}
 use Rattle.world_face.specs.Tells.{Brings}
 use Rattle.world_face.proofs.Telling.{brings_none, brings_then, brings_as}
-use Rattle.slirp_core.specs.Holds.{standing, after}
-use Rattle.serve_loop.specs.Turns.{AfterTurn, HoldsNow, is_passed_over}
+use Rattle.slirp_core.specs.Holds.{standing}
+use Rattle.serve_loop.specs.Served.{ServiceState}
+use Rattle.serve_loop.specs.Turns.{AfterTurn, HoldsNow, IsCalmAfter, is_passed_over}
 use Rattle.serve_loop.specs.declared.service.Turn.TheVariants.{Ended}
 use Rattle.serve_loop.proofs.Counted.{end_after, grown_then}
-use Rattle.serve_loop.proofs.Turning.{both_of, ended_left, passed_at, still_reads, weaker}
+use Rattle.serve_loop.proofs.Turning.{both_of, calm_at_end, drop_all, ended_left, passed_at, still_reads, weaker}
 use Rattle.serve_loop.proofs.service.Service.work.Goals as goal
 
 pub attend-requires-clause-number : goal.attend-requires-clause-number
 attend-requires-clause-number g c =
-    let few = c.min-count.ensures in
+    let few = c.requires.few in
     let less = c.loop-place-test.true in
-    omega (arith, c.loop-place.invariant.number, c.requires.number, less, few)
+    let many = ap length c.items-count.ensures ∙ ap (λ (s : ServiceState). length s.ready) c.self.view_is in
+    omega (arith, c.loop-place.invariant.number, c.requires.number, less, few, many)
 
 pub loop-place-init : goal.loop-place-init
 loop-place-init g c = record {
@@ -27,6 +29,7 @@ loop-place-init g c = record {
   number = omega arith;
   turns = refl;
   reports = (refl, refl);
+  calm = c.requires.calm;
   passed = λ all. (refl, refl);
 }
 
@@ -54,6 +57,9 @@ loop-place-preserved g c =
     let place = old.place in
     let rest = drop (place + 1) c.args.self.now.ready in
     let next : drop place c.args.self.now.ready ≡ c.item-item.result ∷ rest = subst (λ (l : List Want). drop place l ≡ c.item-item.result ∷ drop (place + 1) l) old.invariant.reports.1 c.item-item.ensures in
+    let calm_now : IsCalmAfter wants rest new.self.slirp new.self.link =
+    subst (λ (w : List Want). IsCalmAfter w rest new.self.slirp new.self.link) old.invariant.reports.0
+    (c.in-Again.ensures.calm rest (subst (λ (w : List Want). IsCalmAfter w (c.item-item.result ∷ rest) old.self.slirp old.self.link) (sym old.invariant.reports.0) (subst (λ (l : List Want). IsCalmAfter wants l old.self.slirp old.self.link) next old.invariant.calm)) refl) in
     record {
       makes = λ config count.
           let served = subst (λ (w : List Want). Brings (g.W.World.tells old.world) (g.W.World.tells new.world) (HoldsNow config (standing count w (c.item-item.result ∷ rest)) false old.self.slirp old.self.link) (HoldsNow config (standing count w rest) false new.self.slirp new.self.link)) old.invariant.reports.0
@@ -67,6 +73,7 @@ loop-place-preserved g c =
       number = omega (arith, c.in-Again.ensures.number, old.invariant.number);
       turns = c.in-Again.ensures.turns ∙ old.invariant.turns;
       reports = (c.in-Again.ensures.reports.0 ∙ old.invariant.reports.0, c.in-Again.ensures.reports.1 ∙ old.invariant.reports.1);
+      calm = calm_now;
       passed = λ all.
           let before = old.invariant.passed all in
           let over = passed_at wants c.args.self.now.ready place c.item-item.result rest all next in
@@ -95,3 +102,9 @@ returns-in-Ended-clause-passed g c all =
 
 pub returns-clause-passed : goal.returns-clause-passed
 returns-clause-passed g c all = let same = c.loop-place.invariant.passed all in (refl, same.0, same.1)
+
+pub returns-clause-calm : goal.returns-clause-calm
+returns-clause-calm g c again =
+    let old = c.loop-place in
+    calm_at_end c.args.self.now.wants old.self.slirp old.self.link
+    (subst (λ (l : List Want). IsCalmAfter c.args.self.now.wants l old.self.slirp old.self.link) (drop_all c.args.self.now.ready old.place (let many = ap length c.items-count.ensures ∙ ap (λ (s : ServiceState). length s.ready) c.self.view_is in omega (arith, c.loop-place-test.false, many))) old.invariant.calm)

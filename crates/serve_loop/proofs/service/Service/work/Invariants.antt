@@ -7,7 +7,7 @@ use Rattle.stream_netdev.specs.Keeps.{ReadsOn}
 use Rattle.stream_netdev.specs.State.{under_way}
 use Rattle.slirp_core.specs.Counts.{AreGrown}
 use Rattle.slirp_core.specs.Holds.{standing}
-use Rattle.serve_loop.specs.Turns.{HoldsNow, all_passed_over}
+use Rattle.serve_loop.specs.Turns.{HoldsNow, IsCalmAfter, all_passed_over}
 use Rattle.serve_loop.proofs.service.Service.work.Given as goal
 
 abbrev pub invariant-loop-place : goal.invariant-loop-place
@@ -15,6 +15,7 @@ invariant-loop-place g l = record {
   makes : (config : Config) (count : ℕ) → Brings (g.W.World.tells l.fn.world) (g.W.World.tells l.world)
       (HoldsNow config (standing count l.fn.self.wants l.fn.self.ready) false l.fn.self.slirp l.fn.self.link) (HoldsNow config (standing count l.fn.self.wants (drop l.place l.fn.self.ready)) false l.self.slirp l.self.link);
   reads : l.to_read ≡ true → reads TheLink l.fn.self.wants ≡ true;
+  calm : IsCalmAfter l.fn.self.wants (drop l.place l.fn.self.ready) l.self.slirp l.self.link;
   counts : AreGrown (g.W.World.tells l.fn.world).faults (g.W.World.tells l.world).faults;
   on : ReadsOn (under_way l.self.link);
   config : l.self.slirp.config ≡ l.fn.self.slirp.config;

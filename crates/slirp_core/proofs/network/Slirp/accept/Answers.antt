@@ -10,7 +10,7 @@ use Rattle.world_face.specs.Tells.{Answers, Brings}
 use Rattle.world_face.proofs.Telling.{brings_none, makes_one, makes_then}
 use Rattle.host_policy.specs.Addresses.{Config}
 use Rattle.core_flows.specs.Seats.{in_use_slots}
-use Rattle.flow_book.specs.Book.{book, is_refused}
+use Rattle.record_flows.specs.Book.{book, is_refused}
 use Rattle.spliced_flows.specs.Core.{CoreHolds}
 use Rattle.slirp_core.specs.Holds.{Holds, flowing, standing}
 use Rattle.slirp_core.specs.State.{SlirpState}

@@ -1,6 +1,6 @@
 use Rattle.std.proofs.Common.{◌≡◌, None, Some, not, if◌then◌else◌, sym, ◌∙◌, ap, subst}
 use Rattle.host_policy.specs.Addresses.{Config}
-use Rattle.flow_book.specs.Book.{book}
+use Rattle.record_flows.specs.Book.{book}
 use Rattle.host_policy.specs.Targets.{is_hidden, shown}
 use Rattle.spliced_flows.specs.Core.{CoreHolds}
 use Rattle.slirp_core.specs.State.{SlirpState}

@@ -11,7 +11,7 @@ use Rattle.udp_assoc.specs.Associations.{numbers}
 use Rattle.slirp_core.specs.Holds.{carriers, holders_of}
 use Rattle.slirp_core.specs.Pumps.{merged, time_left}
 use Rattle.slirp_core.specs.State.{SlirpState}
-use Rattle.slirp_core.specs.Timeouts.{IsFlowTime, sooner}
+use Rattle.slirp_core.specs.Timeouts.{IsFlowTime, SuitsFlows, sooner}
 use Rattle.slirp_core.proofs.Filling.{wants_of}
 use Rattle.slirp_core.proofs.Forwarding.{both_over}
 use Rattle.slirp_core.proofs.Merging.{merged_all, merged_rises}
@@ -24,7 +24,8 @@ returns-clause-timeout c held is =
       parts = c.time_of_parts.result;
       of_parts = c.time_of_parts.ensures held is;
       flows = c.time_of_flows.result;
-      of_flows = subst (λ (b : Bool). IsFlowTime b now.moment now.flows.flows.parts c.time_of_flows.result) c.blocked-2.ensures c.time_of_flows.ensures;
+      of_flows = subst (λ (b : Bool). IsFlowTime b now.moment now.flows.flows.parts c.time_of_flows.result) c.blocked-2.ensures c.time_of_flows.ensures.time;
+      suits_flows = λ config before past holds. subst (λ (b : Bool). SuitsFlows config now.moment b now.flows.flows.parts past c.time_of_flows.result) c.blocked-2.ensures (c.time_of_flows.ensures.suits config before past holds);
       files = c.time_of_files.result;
       of_files = c.time_of_files.ensures;
       is =

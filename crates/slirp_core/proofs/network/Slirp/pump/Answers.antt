@@ -1,15 +1,16 @@
-use Rattle.std.proofs.Common.{[], ◌≡◌, ◌∙◌, ℕ, None, true, ap, sym, subst}
+use Rattle.std.proofs.Common.{[], ◌≡◌, ◌∙◌, ℕ, None, true, ap, refl, sym, subst}
 use Rattle.world_face.proofs.Counting.{rose_after}
 use Rattle.world_face.proofs.Telling.{brings_none, brings_then}
 use Rattle.std.specs.Prelude.{false}
 use Rattle.spliced_flows.specs.Core.{CoreHolds}
 use Rattle.tcp_flows.specs.Kept.{Kept}
 use Rattle.tcp_flows.specs.Reading.{AreTold}
-use Rattle.tcp_flows.specs.Settled.{IsInTime}
+use Rattle.tcp_flows.specs.Settled.{ConnectYet, IsInTime}
 use Rattle.slirp_core.specs.Holds.{Leaves, standing}
 use Rattle.slirp_core.specs.State.{SlirpState}
 use Rattle.slirp_core.specs.declared.sending.Pumped.{Pumped}
 use Rattle.slirp_core.proofs.Counted.{grown}
+use Rattle.slirp_core.proofs.Connecting.{connect_then}
 use Rattle.slirp_core.proofs.Settling.{pumped_settled}
 use Rattle.slirp_core.proofs.network.Slirp.pump.Goals as goal
 
@@ -31,8 +32,9 @@ returns-in-Clear-clause-failed g c is =
     let before = grown _ _ _ (c.in-Clear.ensures.makes c.args.self.now.config (standing 0 [] []) false).counted in
     rose_after (g.W.World.tells c.args.world.now).faults.link _ _ before.0 (c.pump_flows.ensures.failed is)
 
-pub returns-in-Clear-clause-settled : goal.returns-in-Clear-clause-settled
-returns-in-Clear-clause-settled g c config at clear =
+-- a flow that was in time is so after what is owed of answers is out, and flows were told and sent what they owe
+pub returns-in-Clear-clause-ahead : goal.returns-in-Clear-clause-ahead
+returns-in-Clear-clause-ahead g c config at aged past holds n early =
     let old : SlirpState = c.args.self.now in
     let told : SlirpState = c.tell_addresses.new.self in
     let mid : SlirpState = c.pump_answers.new.self in
@@ -40,13 +42,60 @@ returns-in-Clear-clause-settled g c config at clear =
     let told_moment : told.moment ≡ old.moment = ap (λ (s : SlirpState). s.moment) c.tell_addresses.ensures.same in
     let flows_same : mid.flows ≡ told.flows = ap (λ (s : SlirpState). s.flows) c.in-Clear.ensures.others in
     let moment_same : mid.moment ≡ old.moment = ap (λ (s : SlirpState). s.moment) c.in-Clear.ensures.others ∙ told_moment in
+    let after = c.tell_addresses.ensures.holds config at aged c.args.link.now past holds in
+    subst (λ (m : ℕ). IsInTime m new.flows.flows.parts n) moment_same
+    (c.pump_flows.ensures.ahead config told.moment aged past (subst (λ (k : Kept). CoreHolds config told.moment aged None k.flows past) (sym flows_same) after.flows.holds) n
+    (subst (λ (k : Kept). IsInTime mid.moment k.flows.parts n) (sym flows_same) (subst (λ (m : ℕ). IsInTime m told.flows.flows.parts n) (sym moment_same) (c.tell_addresses.ensures.ahead old.moment n early))))
+
+pub returns-in-Blocked-clause-ahead : goal.returns-in-Blocked-clause-ahead
+returns-in-Blocked-clause-ahead g c config at aged past holds n early =
+    subst (λ (k : Kept). IsInTime c.args.self.now.moment k.flows.parts n) (sym (ap (λ (s : SlirpState). s.flows) c.in-Blocked.ensures.others)) (c.tell_addresses.ensures.ahead c.args.self.now.moment n early)
+
+pub returns-in-Failed-clause-ahead : goal.returns-in-Failed-clause-ahead
+returns-in-Failed-clause-ahead g c config at aged past holds n early =
+    subst (λ (k : Kept). IsInTime c.args.self.now.moment k.flows.parts n) (sym (ap (λ (s : SlirpState). s.flows) c.in-Failed.ensures.others)) (c.tell_addresses.ensures.ahead c.args.self.now.moment n early)
+
+pub returns-in-Clear-clause-clear : goal.returns-in-Clear-clause-clear
+returns-in-Clear-clause-clear g c is = record {
+  clear = (subst (λ (r : Pumped). Leaves r c.pump_flows.new.self c.pump_flows.new.link) is c.pump_flows.ensures.leaves).3;
+  slots = c.pump_flows.ensures.slots;
+  told = c.pump_flows.ensures.told;
+}
+
+pub returns-in-Clear-clause-free : goal.returns-in-Clear-clause-free
+returns-in-Clear-clause-free g c is = c.in-Clear.ensures.free refl
+
+pub returns-in-Clear-clause-settled : goal.returns-in-Clear-clause-settled
+returns-in-Clear-clause-settled g c config at clear =
+    let old : SlirpState = c.args.self.now in
+    let told : SlirpState = c.tell_addresses.new.self in
+    let mid : SlirpState = c.pump_answers.new.self in
+    let new : SlirpState = c.pump_flows.new.self in
+    let told_moment : told.moment ≡ old.moment = ap (λ (s : SlirpState). s.moment) c.tell_addresses.ensures.same in
+    let moment_same : mid.moment ≡ old.moment = ap (λ (s : SlirpState). s.moment) c.in-Clear.ensures.others ∙ told_moment in
     pumped_settled config at old.moment old new c.args.link.now c.pump_flows.new.link c.pump_flows.result clear (ap (λ (s : SlirpState). s.moment) c.pump_flows.ensures.others ∙ moment_same)
     (returns-in-Clear-clause-makes g c config at true)
     c.pump_flows.ensures.slots
     c.pump_flows.ensures.told
     (subst (λ (r : Pumped). Leaves r new c.pump_flows.new.link) clear c.pump_flows.ensures.leaves).3
-    (λ past holds n early.
-    let after = c.tell_addresses.ensures.holds config at true c.args.link.now past holds in
-    subst (λ (m : ℕ). IsInTime m new.flows.flows.parts n) moment_same
-    (c.pump_flows.ensures.ahead config told.moment true past (subst (λ (k : Kept). CoreHolds config told.moment true None k.flows past) (sym flows_same) after.flows.holds) n
-    (subst (λ (k : Kept). IsInTime mid.moment k.flows.parts n) (sym flows_same) (subst (λ (m : ℕ). IsInTime m told.flows.flows.parts n) (sym moment_same) (c.tell_addresses.ensures.ahead old.moment n early)))))
+    (λ past holds n early. returns-in-Clear-clause-ahead g c config at true past holds n early)
+
+pub returns-in-Clear-clause-connects : goal.returns-in-Clear-clause-connects
+returns-in-Clear-clause-connects g c config at aged past holds =
+    let told : SlirpState = c.tell_addresses.new.self in
+    let same = c.in-Clear.ensures.others in
+    let flows_same : c.pump_answers.new.self.flows ≡ told.flows = ap (λ (s : SlirpState). s.flows) same in
+    let moment_same : c.pump_answers.new.self.moment ≡ told.moment = ap (λ (s : SlirpState). s.moment) same in
+    let after = c.tell_addresses.ensures.holds config at aged c.args.link.now past holds in
+    connect_then c.args.self.now.flows.flows.parts told.flows.flows.parts c.pump_flows.new.self.flows.flows.parts c.tell_addresses.ensures.connects
+    (subst (λ (k : Kept). ConnectYet k.flows.parts c.pump_flows.new.self.flows.flows.parts) flows_same
+    (c.pump_flows.ensures.connects config aged past
+    (subst (λ (m : ℕ). CoreHolds config m aged None c.pump_answers.new.self.flows.flows past) (sym moment_same) (subst (λ (k : Kept). CoreHolds config told.moment aged None k.flows past) (sym flows_same) after.flows.holds))))
+
+pub returns-in-Blocked-clause-connects : goal.returns-in-Blocked-clause-connects
+returns-in-Blocked-clause-connects g c config at aged past holds =
+    subst (λ (k : Kept). ConnectYet c.args.self.now.flows.flows.parts k.flows.parts) (sym (ap (λ (s : SlirpState). s.flows) c.in-Blocked.ensures.others)) c.tell_addresses.ensures.connects
+
+pub returns-in-Failed-clause-connects : goal.returns-in-Failed-clause-connects
+returns-in-Failed-clause-connects g c config at aged past holds =
+    subst (λ (k : Kept). ConnectYet c.args.self.now.flows.flows.parts k.flows.parts) (sym (ap (λ (s : SlirpState). s.flows) c.in-Failed.ensures.others)) c.tell_addresses.ensures.connects

@@ -2,7 +2,7 @@ use Rattle.std.proofs.Common.{None, sym, ◌∙◌, ap, subst}
 use Rattle.world_face.specs.Tells.{Brings}
 use Rattle.spliced_flows.specs.Core.{CoreHolds}
 use Rattle.tcp_flows.specs.Reading.{AreTold}
-use Rattle.tcp_flows.specs.Settled.{IsInTime}
+use Rattle.tcp_flows.specs.Settled.{ConnectYet, IsInTime}
 use Rattle.slirp_core.specs.Holds.{AfterPump, Holds, flowing}
 use Rattle.slirp_core.specs.Pumps.{pumped_flows}
 use Rattle.slirp_core.specs.State.{SlirpState}
@@ -38,3 +38,9 @@ pub invariant_of-self : goal.invariant_of-self
 invariant_of-self g c =
     let i = c.self.inside in
     (c.self.invariant.0, c.self.invariant.1, c.self.invariant.2, drawn_stay i.number i.flows c.pump-pumped.new.self c.pump-pumped.ensures.stays c.self.invariant.3, c.self.invariant.4, c.self.invariant.5, c.self.invariant.6, c.self.invariant.7)
+
+pub returns-clause-connects : goal.returns-clause-connects
+returns-clause-connects g c config aged past holds =
+    let view = c.self.view_is in
+    subst (λ (s : SlirpState). ConnectYet s.flows.flows.parts c.pump-pumped.new.self.flows.parts) view
+    (c.pump-pumped.ensures.connects config aged past (subst (λ (s : SlirpState). CoreHolds config s.moment aged None s.flows.flows past) (sym view) holds))

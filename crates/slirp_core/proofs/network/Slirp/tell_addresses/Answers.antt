@@ -1,7 +1,8 @@
 use Rattle.std.proofs.Common.{subst, sym}
-use Rattle.tcp_flows.specs.Settled.{IsInTime, OwesNoAck}
+use Rattle.tcp_flows.specs.Settled.{ConnectYet, IsInTime, OwesNoAck}
 use Rattle.slirp_core.specs.Holds.{Holds, flowing}
 use Rattle.slirp_core.specs.State.{SlirpState}
+use Rattle.slirp_core.proofs.Connecting.{learnt_connects}
 use Rattle.slirp_core.proofs.Called.{addresses_told, flows_put}
 use Rattle.slirp_core.proofs.Drawn.{drawn_stay}
 use Rattle.slirp_core.proofs.network.Slirp.tell_addresses.Goals as goal
@@ -24,3 +25,8 @@ pub invariant_of-self : goal.invariant_of-self
 invariant_of-self c =
     let i = c.self.inside in
     (c.self.invariant.0, c.self.invariant.1, c.self.invariant.2, drawn_stay i.number i.flows c.learn.new.self c.learn.ensures.stays c.self.invariant.3, c.self.invariant.4, c.self.invariant.5, c.self.invariant.6, c.self.invariant.7)
+
+pub returns-clause-connects : goal.returns-clause-connects
+returns-clause-connects c =
+    subst (λ (s : SlirpState). ConnectYet s.flows.flows.parts c.learn.new.self.flows.parts) c.self.view_is
+    (learnt_connects c.self.inside.guests c.self.inside.flows.flows.parts c.learn.new.self.flows.parts c.learn.ensures.learnt)

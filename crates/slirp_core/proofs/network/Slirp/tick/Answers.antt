@@ -11,6 +11,7 @@ use Rattle.tcp_flows.specs.Runs.{ClosesRising}
 use Rattle.slirp_core.specs.Hearing.{ClosesByKind, WhereItTicks}
 use Rattle.slirp_core.specs.Holds.{Holds, after, flowing}
 use Rattle.slirp_core.specs.State.{SlirpState}
+use Rattle.slirp_core.specs.Waiting.{AreFresh}
 use Rattle.slirp_core.proofs.Called.{flows_put, turn_begins}
 use Rattle.slirp_core.proofs.Starting.{forgets}
 use Rattle.slirp_core.proofs.network.Slirp.tick.Goals as goal
@@ -79,3 +80,7 @@ returns-clause-unserved g c k served =
     c.begin_turn.ensures.unserved k
     (sym (ap (λ (f : Kept). slice_get f.served k) same ∙ ap (λ (l : List ℕ). slice_get l k) (c.tell_time.ensures.served ∙ c.tell_addresses.ensures.served)) ∙ served ∙ ap (λ (f : Kept). Some f.turn) same
     ∙ ap Some (c.tell_time.ensures.turn ∙ c.tell_addresses.ensures.turn))
+
+pub returns-clause-fresh : goal.returns-clause-fresh
+returns-clause-fresh g c =
+    subst (λ (s : SlirpState). AreFresh s.moment s.parts) (sym c.close_unanswered.ensures.same) (subst (λ (s : SlirpState). AreFresh s.moment s.parts) (sym c.close_unused.ensures.same) c.drop_parts.ensures.fresh)

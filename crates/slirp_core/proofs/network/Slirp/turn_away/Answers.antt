@@ -1,6 +1,6 @@
 use Rattle.std.proofs.Common.{◌≡◌, ℕ, List, [], ◌∷◌, ◌∙◌, ap}
 use Rattle.tcp_segment.specs.Tcp.{tcp_of}
-use Rattle.flow_book.specs.Segments.{segment_of}
+use Rattle.record_flows.specs.Segments.{segment_of}
 use Rattle.slirp_laws.specs.Answers.{frames_of, reset_for}
 use Rattle.slirp_core.specs.Segments.{coming_of}
 use Rattle.slirp_core.specs.State.{SlirpState}

@@ -1,6 +1,6 @@
 use Rattle.std.proofs.Common.{length, ap, arith, length-append}
 use Rattle.slirp_core.specs.Carrying.{sockets_of}
-use Rattle.slirp_core.specs.Pumps.{socket_wants}
+use Rattle.waiting_flows.specs.Wants.{socket_wants}
 use Rattle.slirp_core.proofs.Dividing.{begun_in_parts}
 use Rattle.slirp_core.proofs.wants.TurnWants.fill_before.Goals as goal
 

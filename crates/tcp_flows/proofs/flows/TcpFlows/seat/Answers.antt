@@ -8,7 +8,7 @@ use Rattle.tcp_transmit.specs.Transmission.{octets_read}
 use Rattle.flow_table.specs.Slots.{AreKept, MayBeTaken, NoneHas, with_slot}
 use Rattle.flow_table.specs.declared.Slot.{Slot}
 use Rattle.flow_table.specs.declared.Slot.TheVariants.{InUse as SlotInUse}
-use Rattle.flow_book.specs.Laws.{flow_settings}
+use Rattle.record_flows.specs.Laws.{flow_settings}
 use Rattle.core_flows.specs.Seats.{in_use_slots}
 use Rattle.flow_splice.specs.Splice.{Splice, is_open}
 use Rattle.spliced_flows.specs.Core.{ends_of, number_of}

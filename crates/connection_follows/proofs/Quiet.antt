@@ -1,0 +1,245 @@
+-- Events that leave a part of the story as it is.
+use Rattle.std.proofs.Common.{refl, ◌≡◌, ℕ, ◌<◌, ◌≤◌, List, ◌∷◌, Bool, true, Option, None, Some, if◌then◌else◌, IsTrue, nat_eq, ◌+◌, min, max, unwrap_or, ◌-◌, ap, subst, sym, ◌∙◌}
+use Rattle.retransmit.specs.Resending.{IsSteady, Resending, is_expired, is_off}
+use Rattle.sock_buffers.specs.Downward.{Downward}
+use Rattle.sock_buffers.specs.Upward.{Upward}
+use Rattle.tcp_transmit.specs.Transmission.{Transmission, is_owed_again, is_sent, octets_read}
+use Rattle.tcp_guest.specs.Connection.{Connection, has_gone, is_opening, shift_of}
+use Rattle.tcp_guest.specs.declared.Sendings.{Sendings}
+use Rattle.flow_laws.specs.Settings.{Settings}
+use Rattle.flow_laws.specs.Event.{Segment, Event, At, Story}
+use Rattle.flow_laws.specs.Guest.{AckIsDue, Honest, Up, was_acked}
+use Rattle.flow_laws.specs.Host.{Down, answered}
+use Rattle.flow_laws.specs.Flow.{host, is_accepted, is_under_way, their_number, their_syn, syn_is_out}
+use Rattle.flow_laws.specs.Windows.{mss, their_scale}
+use Rattle.halves_follow.specs.Ends.{IsCurrent}
+use Rattle.halves_follow.specs.Follows.{Follows}
+use Rattle.halves_follow.specs.Received.{received as taken_of}
+use Rattle.halves_follow.specs.Resends.{HasReason, Resends}
+use Rattle.halves_follow.specs.Sends.{Keeps}
+use Rattle.halves_follow.proofs.Reasons.{reason_stays, reason_later}
+use Rattle.halves_follow.proofs.Resent.{IsQuiet, later, quiet}
+use Rattle.halves_follow.proofs.Rests.{quiet_ends}
+use Rattle.connection_follows.specs.Holding.{Awaits, CountsSince, Gives, Holds, IsOpened, Receives}
+use Rattle.connection_follows.specs.Same.{SameGuest, SameHost, SameStart}
+use Rattle.connection_follows.specs.Seen.{count_of, outward_of, part_of, resending_of, timer_of, window_by}
+use Rattle.connection_follows.proofs.Counting.{counts_on, quiet_same}
+use Rattle.connection_follows.proofs.Going.{later as goes_later}
+
+pub same_number : (past next : Story) → their_syn next ≡ their_syn past → their_number next ≡ their_number past
+same_number past next is = rw is refl
+
+pub same_scale : (past next : Story) → their_syn next ≡ their_syn past → their_scale next ≡ their_scale past
+same_scale past next is = ap (λ (o : Option Segment). elim o [ None ↦ None | Some syn ↦ syn.scale ]) is
+
+pub same_mss : (s : Settings) (past next : Story) → their_syn next ≡ their_syn past → mss s next ≡ mss s past
+same_mss s past next is = ap (λ (o : Option Segment). min (max 64 (unwrap_or (elim o [ None ↦ None | Some syn ↦ syn.mss ]) 536)) (s.mtu - 40)) is
+
+pub same_under_way : (past next : Story) → host next ≡ host past → syn_is_out next ≡ syn_is_out past → is_under_way next ≡ is_under_way past
+same_under_way past next host_is out_is = rw (host_is, out_is) refl
+
+-- ---- the beginning stays
+
+pub opened_on : (s : Settings) (c : Connection) (past next : Story) → SameStart past next → answered (host next) ≡ answered (host past) → IsOpened s c past → IsOpened s c next
+opened_on s c past next same answered_is o = record {
+  live = o.live;
+  ours = same.ours ∙ o.ours;
+  connects = same.connecting ∙ o.connects;
+  out = same.out ∙ o.out;
+  unsent = o.unsent;
+  sent = o.sent;
+  answered = answered_is ∙ o.answered;
+  owes = o.owes;
+  calls = λ is. same.accepted ∙ o.calls is;
+  quiet = o.quiet;
+  called = λ is. o.called (sym same.accepted ∙ is);
+  theirs = same_number past next same.theirs ∙ o.theirs;
+  scale = o.scale ∙ ap shift_of (sym (same_scale past next same.theirs));
+  mss = λ is. o.mss is ∙ sym (same_mss s past next same.theirs);
+  calling = o.calling;
+}
+
+-- ---- the guest's stream stays
+
+pub awaits_on : (s : Settings) (c : Connection) (up : Upward) (past next : Story) → SameStart past next → SameGuest s past next → Awaits s c up past → Awaits s c up next
+awaits_on s c up past next start same a = record {
+  theirs = start.theirs ∙ a.theirs;
+  guest = same.guest ∙ a.guest;
+  received = a.received;
+  held = a.held;
+  kept = a.kept;
+  ack_owed = a.ack_owed;
+  told = a.told;
+  edge = same.edge ∙ a.edge;
+  host_ended = a.host_ended;
+  untold = same.ended ∙ a.untold;
+  end_acknowledged = a.end_acknowledged;
+  ours_first = a.ours_first;
+  unasked = start.unasked ∙ a.unasked;
+}
+
+pub receives_on : (s : Settings) (c : Connection) (up : Upward) (past : Story) (m : ℕ) (e : Event) → IsQuiet e → is_accepted (At m e ∷ past) ≡ is_accepted past → SameGuest s past (At m e ∷ past)
+    → Receives s c up past → Receives s c up (At m e ∷ past)
+receives_on s c up past m e silent accepted same r = record {
+  follows = subst (λ (g : List Up). Follows s.ring (part_of c up) g) (sym same.guest) r.follows;
+  due = λ none. subst (λ (g : List Up). AckIsDue g → ⊥) (sym same.guest) (r.due none);
+  once = λ is none. subst (λ (g : List Up). IsTrue (was_acked g)) (sym same.guest) (r.once (sym accepted ∙ is) none);
+  ends = quiet_ends past (part_of c up) (part_of c up) c.end_acknowledged c.ours_first c.acknowledged m e silent refl (λ i x is. is) r.ends;
+  current = subst (λ (g : List Up). IsCurrent g (taken_of c.received.first c.received.taken c.received.ended) c.acknowledged) (sym same.guest) r.current;
+  sure = r.sure;
+  host_ended = same.ended ∙ r.host_ended;
+  told = λ honest. same.edge ∙ r.told (subst (λ (g : List Up). Honest g) same.guest honest);
+  answered = λ is none. same.answered ∙ r.answered is none;
+  prompted = λ is. same.prompted ∙ r.prompted is;
+  updated = λ none is. r.updated (sym same.prompted ∙ none) is;
+}
+
+-- ---- the host's stream stays
+
+pub gives_on : (s : Settings) (c : Connection) (down : Downward) (past : Story) (now m : ℕ) (e : Event) → IsQuiet e → now ≤ m → syn_is_out (At m e ∷ past) ≡ syn_is_out past → SameHost s past (At m e ∷ past)
+    → Gives s c down past now → Gives s c down (At m e ∷ past) m
+gives_on s c down past now m e silent on out same g = record {
+  keeps = subst (λ (h : List Down). Keeps (outward_of c.transmission down) h) (sym same.host) g.keeps;
+  fin_acked = g.fin_acked;
+  fin_out = same.fin_out ∙ g.fin_out;
+  window = same.window ∙ g.window;
+  alone = g.alone;
+  resends = subst (λ (b : Bool). Resends (At m e ∷ past) m (timer_of (resending_of c)) (count_of b (resending_of c)) (resending_of c).estimate.wait) (sym (same_under_way past (At m e ∷ past) same.host out))
+      (quiet past m e now (timer_of (resending_of c)) (count_of (is_under_way past) (resending_of c)) (resending_of c).estimate.wait silent on g.resends);
+  counts = let same = quiet_same past m e silent in counts_on past (At m e ∷ past) c.transmission.resend.timer same.0 same.1 g.counts;
+  steady = g.steady;
+  unset = g.unset;
+  set = g.set;
+  owes_syn = g.owes_syn;
+  syn_again = λ is owed gone. reason_later (At m e ∷ past) now m on (reason_stays past m now e silent (g.syn_again is owed gone));
+  again = λ is under. reason_later (At m e ∷ past) now m on (reason_stays past m now e silent (g.again is under));
+}
+
+-- ---- time passes
+
+pub gives_later : (s : Settings) (c : Connection) (down : Downward) (past : Story) (now m : ℕ) → now ≤ m → Gives s c down past now → Gives s c down past m
+gives_later s c down past now m on g = record {
+  keeps = g.keeps;
+  fin_acked = g.fin_acked;
+  fin_out = g.fin_out;
+  window = g.window;
+  alone = g.alone;
+  resends = later past now m (timer_of (resending_of c)) (count_of (is_under_way past) (resending_of c)) (resending_of c).estimate.wait on g.resends;
+  counts = g.counts;
+  steady = g.steady;
+  unset = g.unset;
+  set = g.set;
+  owes_syn = g.owes_syn;
+  syn_again = λ is owed gone. reason_later past now m on (g.syn_again is owed gone);
+  again = λ is under. reason_later past now m on (g.again is under);
+}
+
+pub holds_later : (s : Settings) (c : Connection) (up : Upward) (down : Downward) (past : Story) (now m : ℕ) → now ≤ m → Holds s c up down past now → Holds s c up down past m
+holds_later s c up down past now m on h = record {
+  suits = h.suits;
+  buffers = h.buffers;
+  within = h.within;
+  goes = goes_later s past now m on h.goes;
+  opened = h.opened;
+  awaits = h.awaits;
+  receives = h.receives;
+  gives = gives_later s c down past now m on h.gives;
+}
+
+-- ---- another connection of which the same holds
+
+pub resending_as : (c d : Connection) → is_opening d.stage ≡ is_opening c.stage → d.transmission ≡ c.transmission → d.syn ≡ c.syn → resending_of d ≡ resending_of c
+resending_as c d open_is t_is syn_is =
+    ap (λ (b : Bool). if b then d.syn else d.transmission.resend) open_is
+    ∙ ap (λ (r : Resending). if is_opening c.stage then r else d.transmission.resend) syn_is
+    ∙ ap (λ (t : Transmission). if is_opening c.stage then c.syn else t.resend) t_is
+
+pub gives_as : (s : Settings) (c d : Connection) (down : Downward) (past : Story) (now : ℕ) → is_opening d.stage ≡ is_opening c.stage → d.transmission ≡ c.transmission → d.syn ≡ c.syn
+    → d.sendings ≡ c.sendings → d.fin_acked ≡ c.fin_acked → (d.syn_owed ≡ true → has_gone c.sendings ≡ true → is_opening c.stage ≡ true → HasReason past now) → (c.syn_owed ≡ true → d.syn_owed ≡ true)
+    → Gives s c down past now → Gives s d down past now
+gives_as s c d down past now open_is t_is syn_is gone_is fin_is reason still g = record {
+  keeps = subst (λ (t : Transmission). Keeps (outward_of t down) (host past)) (sym t_is) g.keeps;
+  fin_acked = fin_is ∙ g.fin_acked ∙ ap (λ (t : Transmission). nat_eq t.acked (octets_read down + 1)) (sym t_is);
+  fin_out = g.fin_out ∙ ap (λ (t : Transmission). is_sent t.end) (sym t_is);
+  window = g.window ∙ ap (λ (t : Transmission). window_by t.window) (sym t_is);
+  alone = λ is. ap (λ (t : Transmission). t.cwnd) t_is ∙ g.alone is;
+  resends = subst (λ (r : Resending). Resends past now (timer_of r) (count_of (is_under_way past) r) r.estimate.wait) (sym (resending_as c d open_is t_is syn_is)) g.resends;
+  counts = subst (λ (t : Transmission). CountsSince past t.resend.timer) (sym t_is) g.counts;
+  steady = subst (λ (r : Resending). IsSteady r) (sym syn_is) g.steady;
+  unset = λ none. ap (λ (r : Resending). is_off r.timer) syn_is ∙ g.unset (ap (λ (n : Sendings). has_gone n) (sym gone_is) ∙ none);
+  set = λ opening gone. ap (λ (r : Resending). is_off r.timer) syn_is ∙ g.set (sym open_is ∙ opening) (ap (λ (n : Sendings). has_gone n) (sym gone_is) ∙ gone);
+  owes_syn = λ opening over. still (g.owes_syn (sym open_is ∙ opening) (ap (λ (r : Resending). is_expired r.timer) (sym syn_is) ∙ over));
+  syn_again = λ opening owed gone. reason owed (ap (λ (n : Sendings). has_gone n) (sym gone_is) ∙ gone) (sym open_is ∙ opening);
+  again = λ owed under. g.again (ap (λ (t : Transmission). is_owed_again t) (sym t_is) ∙ owed) (subst (λ (t : Transmission). t.acked < t.sent) t_is under);
+}
+
+-- ---- another sending half
+
+pub receives_sending : (s : Settings) (c : Connection) (t : Transmission) (up : Upward) (past : Story) → Receives s c up past → Receives s (record c { transmission = t }) up past
+receives_sending s c t up past r = record {
+  follows = r.follows;
+  due = r.due;
+  once = r.once;
+  ends = r.ends;
+  current = r.current;
+  sure = r.sure;
+  host_ended = r.host_ended;
+  told = r.told;
+  answered = r.answered;
+  prompted = r.prompted;
+  updated = r.updated;
+}
+
+pub awaits_sending : (s : Settings) (c : Connection) (t : Transmission) (up : Upward) (past : Story) → Awaits s c up past → Awaits s (record c { transmission = t }) up past
+awaits_sending s c t up past a = record {
+  theirs = a.theirs;
+  guest = a.guest;
+  received = a.received;
+  held = a.held;
+  kept = a.kept;
+  ack_owed = a.ack_owed;
+  told = a.told;
+  edge = a.edge;
+  host_ended = a.host_ended;
+  untold = a.untold;
+  end_acknowledged = a.end_acknowledged;
+  ours_first = a.ours_first;
+  unasked = a.unasked;
+}
+
+pub opened_sending : (s : Settings) (c : Connection) (t : Transmission) (past : Story) → t.mss ≡ c.transmission.mss → IsOpened s c past → IsOpened s (record c { transmission = t }) past
+opened_sending s c t past most o = record {
+  live = o.live;
+  ours = o.ours;
+  connects = o.connects;
+  out = o.out;
+  unsent = o.unsent;
+  sent = o.sent;
+  answered = o.answered;
+  owes = o.owes;
+  calls = o.calls;
+  quiet = o.quiet;
+  called = o.called;
+  theirs = o.theirs;
+  scale = o.scale;
+  mss = λ is. most ∙ o.mss is;
+  calling = λ is. most ∙ o.calling is;
+}
+
+-- another size of pieces
+pub gives_most : (s : Settings) (c : Connection) (k : ℕ) (down : Downward) (past : Story) (now : ℕ) → Gives s c down past now → Gives s (record c { transmission = record c.transmission { mss = k } }) down past now
+gives_most s c k down past now g = record {
+  keeps = g.keeps;
+  fin_acked = g.fin_acked;
+  fin_out = g.fin_out;
+  window = g.window;
+  alone = g.alone;
+  resends = g.resends;
+  counts = g.counts;
+  steady = g.steady;
+  unset = g.unset;
+  set = g.set;
+  owes_syn = g.owes_syn;
+  syn_again = g.syn_again;
+  again = g.again;
+}

@@ -1,0 +1,155 @@
+-- What the test passes keeps the law.
+use Rattle.std.proofs.Common.{◌≡◌, ℕ, ◌==◌, ◌&&◌, ◌||◌, Bool, true, false, List, [], ◌∷◌, drop, MatchBool, MatchOption, Option, Some, None, refl, sym, ap}
+use Rattle.net_octets.specs.declared.Endpoint.{Endpoint}
+use Rattle.world_face.specs.Journal.{Entry, Call, call_of, CallNow, CallWait, CallLinkOpen, CallLinkRead, CallLinkWrite, CallConnect, CallConnected, CallListen, CallAccept, CallTcpRead, CallTcpWrite, CallTcpEnd, CallClose, CallUdpOpen, CallUdpSend, CallUdpRecv, CallFileLen, CallFileRead}
+use Rattle.world_face.specs.Frames.{tail}
+use Rattle.host_policy.specs.Addresses.{Config}
+use Rattle.host_policy.specs.Targets.{same_endpoint}
+use Rattle.flow_laws.specs.Check.{may}
+use Rattle.flow_laws.specs.Event.{Segment}
+use Rattle.flow_laws.specs.Lawful.{Act, AskConnected, Write, EndHost, Read, Send, May}
+use Rattle.flow_laws.specs.Settings.{Settings}
+use Rattle.flow_laws.proofs.Sound.{may_is}
+use Rattle.run_laws.specs.Moments.{moment}
+use Rattle.run_laws.specs.Sockets.{next_number}
+use Rattle.record_flows.specs.Book.{book, scene}
+use Rattle.record_flows.specs.Check.{may_act, may_shut, may_send, may_send_on, may_write, is_close, is_connect, is_call, may_due, is_due, may_touch, may_flow, keeps_flows}
+use Rattle.record_flows.specs.Flows.{Flow, Scene, closing, flow_of, is_strange, owner}
+use Rattle.record_flows.specs.Laws.{flow_settings, MayAct, MayShut, MaySend, MaySendOn, MayWrite, MayTouch, MayFlow, KeepsFlows}
+use Rattle.record_flows.specs.Lots.{due_for_flows}
+use Rattle.record_flows.specs.Segments.{OnTuple, segment_in}
+use Rattle.record_flows.proofs.Lists.{numbers_same}
+
+both : (a b : Bool) → (a && b) ≡ true → (a ≡ true) × (b ≡ true)
+both true b is = (refl, is)
+both false b is = cc
+
+acts : (s : Settings) (now : ℕ) (o : Option Flow) (act : Act) → may_act s now o act ≡ true → MayAct s now o act
+acts s now None act is = absurd cc
+acts s now (Some f) act is = may_is s f.story now act is
+
+shuts : (s : Settings) (sc : Scene) (came : Option OnTuple) (o : Option Flow) → may_shut s sc came o ≡ true → MayShut s sc came o
+shuts s sc came None is = tt
+shuts s sc came (Some f) is = may_is s f.story sc.moment (closing sc came f) is
+
+sends : (s : Settings) (now : ℕ) (seg : Segment) (o : Option Flow) → may_send s now seg o ≡ true → MaySend s now seg o
+sends s now seg None is = is
+sends s now seg (Some f) is = by_test (is_strange seg f) is
+  where
+    by_test : (b : Bool) → (b || may s f.story now (Send seg)) ≡ true → MatchBool b (Unit {0}) (May s f.story now (Send seg))
+    by_test true is = tt
+    by_test false is = may_is s f.story now (Send seg) is
+
+sends_on : (s : Settings) (now : ℕ) (flows : List Flow) (o : Option OnTuple) → may_send_on s now flows o ≡ true → MaySendOn s now flows o
+sends_on s now flows None is = tt
+sends_on s now flows (Some on) is = sends s now on.segment (owner on.tuple flows) is
+
+writes : (s : Settings) (now : ℕ) (flows : List Flow) (rest octets : List ℕ) → may_write s now flows rest octets ≡ true → MayWrite s now flows rest octets
+writes s now flows [] octets is = sends_on s now flows (segment_in (drop 4 octets)) is
+writes s now flows (x ∷ rest) octets is = tt
+
+-- ---- calls that are due
+
+ends_same : (a b : Endpoint) → same_endpoint a b ≡ true → a ≡ b
+ends_same a b is =
+    let parts = both (a.addr.0 == b.addr.0) (a.port == b.port) is in
+    let addr = numbers_same a.addr.0 b.addr.0 parts.0 in
+    let port = numbers_same a.port b.port parts.1 in
+    λ i. record { addr = record { 0 = addr i }; port = port i }
+
+pub closes : (socket : ℕ) (call : Call) → is_close socket call ≡ true → call ≡ CallClose socket
+closes socket (CallClose s) is = ap CallClose (numbers_same s socket is)
+closes socket CallNow is = cc
+closes socket (CallWait wants timeout) is = cc
+closes socket (CallLinkOpen at) is = cc
+closes socket (CallLinkRead asked) is = cc
+closes socket (CallLinkWrite octets) is = cc
+closes socket (CallConnect s to) is = cc
+closes socket (CallConnected s) is = cc
+closes socket (CallListen s at) is = cc
+closes socket (CallAccept l s) is = cc
+closes socket (CallTcpRead s asked) is = cc
+closes socket (CallTcpWrite s octets) is = cc
+closes socket (CallTcpEnd s) is = cc
+closes socket (CallUdpOpen s at) is = cc
+closes socket (CallUdpSend s to octets) is = cc
+closes socket (CallUdpRecv s asked) is = cc
+closes socket (CallFileLen name) is = cc
+closes socket (CallFileRead name place asked) is = cc
+
+pub connects : (socket : ℕ) (to : Endpoint) (call : Call) → is_connect socket to call ≡ true → call ≡ CallConnect socket to
+connects socket to (CallConnect s t) is =
+    let parts = both (s == socket) (same_endpoint t to) is in
+    let number = numbers_same s socket parts.0 in
+    let at = ends_same t to parts.1 in
+    λ i. CallConnect (number i) (at i)
+connects socket to CallNow is = cc
+connects socket to (CallWait wants timeout) is = cc
+connects socket to (CallLinkOpen at) is = cc
+connects socket to (CallLinkRead asked) is = cc
+connects socket to (CallLinkWrite octets) is = cc
+connects socket to (CallConnected s) is = cc
+connects socket to (CallListen s at) is = cc
+connects socket to (CallAccept l s) is = cc
+connects socket to (CallTcpRead s asked) is = cc
+connects socket to (CallTcpWrite s octets) is = cc
+connects socket to (CallTcpEnd s) is = cc
+connects socket to (CallClose s) is = cc
+connects socket to (CallUdpOpen s at) is = cc
+connects socket to (CallUdpSend s t octets) is = cc
+connects socket to (CallUdpRecv s asked) is = cc
+connects socket to (CallFileLen name) is = cc
+connects socket to (CallFileRead name place asked) is = cc
+
+calls : (d call : Call) → is_call d call ≡ true → call ≡ d
+calls (CallClose socket) call is = closes socket call is
+calls (CallConnect socket to) call is = connects socket to call is
+calls CallNow call is = cc
+calls (CallWait wants timeout) call is = cc
+calls (CallLinkOpen at) call is = cc
+calls (CallLinkRead asked) call is = cc
+calls (CallLinkWrite octets) call is = cc
+calls (CallConnected s) call is = cc
+calls (CallListen s at) call is = cc
+calls (CallAccept l s) call is = cc
+calls (CallTcpRead s asked) call is = cc
+calls (CallTcpWrite s octets) call is = cc
+calls (CallTcpEnd s) call is = cc
+calls (CallUdpOpen s at) call is = cc
+calls (CallUdpSend s to octets) call is = cc
+calls (CallUdpRecv s asked) call is = cc
+calls (CallFileLen name) call is = cc
+calls (CallFileRead name place asked) call is = cc
+
+due : (d : Option Call) (call : Call) → may_due d call ≡ true → MatchOption d (Unit {0}) (λ e. call ≡ e)
+due None call is = tt
+due (Some d) call is = calls d call is
+
+asked : (d : Option Call) (call : Call) → is_due d call ≡ true → d ≡ Some call
+asked None call is = cc
+asked (Some d) call is = ap Some (sym (calls d call is))
+
+-- ---- all
+
+touches : (config : Config) (past : List Entry) (call : Call) → may_touch config past call ≡ true → MayTouch config past call
+touches config past (CallLinkWrite octets) is = writes (flow_settings config) (moment past) (book config past).flows (tail past) octets is
+touches config past (CallConnect socket to) is = asked (due_for_flows config (book config past) (next_number past)) (CallConnect socket to) is
+touches config past (CallConnected socket) is = acts (flow_settings config) (moment past) (flow_of socket (book config past).flows) AskConnected is
+touches config past (CallAccept listener socket) is = numbers_same socket (next_number past) is
+touches config past (CallTcpRead socket asked) is = acts (flow_settings config) (moment past) (flow_of socket (book config past).flows) Read is
+touches config past (CallTcpWrite socket octets) is = acts (flow_settings config) (moment past) (flow_of socket (book config past).flows) (Write octets) is
+touches config past (CallTcpEnd socket) is = acts (flow_settings config) (moment past) (flow_of socket (book config past).flows) EndHost is
+touches config past (CallClose socket) is = shuts (flow_settings config) (scene config past) (book config past).came (flow_of socket (book config past).flows) is
+touches config past _ is = tt
+
+pub passes : (config : Config) (past : List Entry) (call : Call) → may_flow config past call ≡ true → MayFlow config past call
+passes config past call is =
+    let parts = both (may_due (due_for_flows config (book config past) (next_number past)) call) (may_touch config past call) is in
+    record { due = due (due_for_flows config (book config past) (next_number past)) call parts.0; touches = touches config past call parts.1 }
+
+-- a record that passes keeps the law of flows
+pub is_sound : (config : Config) (past : List Entry) → keeps_flows config past ≡ true → KeepsFlows config past
+is_sound config [] is = tt
+is_sound config (e ∷ past) is =
+    let parts = both (may_flow config past (call_of e)) (keeps_flows config past) is in
+    (passes config past (call_of e) parts.0, is_sound config past parts.1)

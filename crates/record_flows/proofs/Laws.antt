@@ -1,0 +1,125 @@
+-- The laws of flows in a run, from those of one flow.
+use Rattle.std.proofs.Common.{◌≡◌, ℕ, ◌<◌, ◌==◌, ◌||◌, nat_lt, Bool, true, false, cond, List, [], ◌∷◌, Option, Some, None, option_and_then, if◌then◌else◌, refl, sym, ◌∙◌, ap, subst, arith}
+use Rattle.std.proofs.lemmas.Bool.Decides.{nat_tests}
+use Rattle.net_octets.specs.declared.Endpoint.{Endpoint}
+use Rattle.world_face.specs.Journal.{Entry, Close, Connect, CallConnect}
+use Rattle.world_face.specs.declared.Made.{Made}
+use Rattle.host_policy.specs.Addresses.{Config}
+use Rattle.host_policy.specs.Targets.{target}
+use Rattle.host_policy.specs.declared.Proto.TheVariants.{Tcp as OverTcp}
+use Rattle.host_policy.specs.declared.Verdict.{Verdict}
+use Rattle.host_policy.specs.declared.Verdict.TheVariants.{Go, Denied}
+use Rattle.flow_laws.specs.Event.{IsStory}
+use Rattle.flow_laws.specs.Flow.{guest}
+use Rattle.flow_laws.specs.Guest.{Honest, front}
+use Rattle.flow_laws.specs.Lawful.{HasCause, IsLawful, IsPrefixOf}
+use Rattle.flow_laws.proofs.GuestLaws.{written_is_a_prefix}
+use Rattle.run_laws.specs.Moments.{moment}
+use Rattle.run_laws.specs.Sockets.{next_number}
+use Rattle.record_flows.specs.Book.{book, scene, story, story_in}
+use Rattle.record_flows.specs.Flows.{Flow, Book, comes_directly, comes_last, flow_of, guest_is_known, is_used, used, is_resting}
+use Rattle.record_flows.specs.Laws.{flow_settings, MayShut, KeepsFlows}
+use Rattle.record_flows.specs.Lots.{OfFlow, Dropped, Strange, asked_for, connects_to, due_by, due_for_flows, is_opening, is_to_many, lot, lot_by}
+use Rattle.record_flows.specs.Said.{Each, Kept, taken_on, ConnectsAsAsked}
+use Rattle.record_flows.specs.Segments.{OnTuple}
+use Rattle.record_flows.proofs.Agreeing.{taken_is}
+use Rattle.record_flows.proofs.Keeping.{are_kept}
+
+-- what holds of each flow holds of one that is found
+found_keeps : (P : Flow → Type 0) (number : ℕ) (flows : List Flow) (f : Flow) → Each P flows → flow_of number flows ≡ Some f → P f
+found_keeps P number [] f each is = absurd cc
+found_keeps P number (g ∷ flows) f each is = by_test (g.number == number) is (found_keeps P number flows f each.1)
+  where
+    by_test : (b : Bool) → cond b (Some g) (flow_of number flows) ≡ Some f → (flow_of number flows ≡ Some f → P f) → P f
+    by_test true is rest = let one : g ≡ f = cc in subst P one each.0
+    by_test false is rest = rest is
+
+pub keeps_the_law : (config : Config) (past : List Entry) (number : ℕ) (f : Flow) → KeepsFlows config past → flow_of number (book config past).flows ≡ Some f
+    → Kept (flow_settings config) (moment past) (book config past).doomed f
+keeps_the_law config past number f keeps is =
+    found_keeps (Kept (flow_settings config) (moment past) (book config past).doomed) number (book config past).flows f (are_kept config past keeps).each is
+
+module _ (config : Config) (past : List Entry) (number : ℕ) (keeps : KeepsFlows config past) where
+  -- a socket that is no flow's has an empty story, of which the law holds as well
+  by_flow : (o : Option Flow) → flow_of number (book config past).flows ≡ o → IsLawful (flow_settings config) (story_in o)
+  by_flow None is = tt
+  by_flow (Some f) is = (keeps_the_law config past number f keeps is).lawful
+
+  pub is_lawful : IsLawful (flow_settings config) (story config past number)
+  is_lawful = by_flow (flow_of number (book config past).flows) refl
+
+  pub is_story : (f : Flow) → flow_of number (book config past).flows ≡ Some f → IsStory (story config past number)
+  is_story f is = subst (λ o. IsStory (story_in o)) (sym is) (keeps_the_law config past number f keeps is).story
+
+  pub taken_begins : Honest (guest (story config past number)) → IsPrefixOf (taken_on number past) (front (guest (story config past number)))
+  taken_begins honest = subst (λ xs. IsPrefixOf xs (front (guest (story config past number)))) (taken_is config number past keeps)
+      (written_is_a_prefix (flow_settings config) (story config past number) is_lawful honest)
+
+-- ---- connects
+
+pub connects_as_asked : (config : Config) (b : Book) (number socket : ℕ) (to : Endpoint) → due_for_flows config b number ≡ Some (CallConnect socket to) → ConnectsAsAsked config b to
+connects_as_asked config b number socket to is = by_came b.came refl (asks b.doomed (connects_to config b) is)
+  where
+    asks : (doomed : Option ℕ) (o : Option Endpoint) → due_by doomed o number ≡ Some (CallConnect socket to) → o ≡ Some to
+    asks (Some n) o is = cc
+    asks None None is = cc
+    asks None (Some e) is = cc
+
+    both : (a c : Bool) → (a || c) ≡ false → (a ≡ false) × (c ≡ false)
+    both true c is = cc
+    both false c is = (refl, is)
+
+    goes : (v : Verdict) (room : Bool) → asked_for (lot_by v room) ≡ Some to → (v ≡ Go to) × (room ≡ true)
+    goes (Go at) true is = (cc, refl)
+    goes (Go at) false is = cc
+    goes (Denied rule) room is = cc
+
+    by_opening : (on : OnTuple) → (t : Bool) → is_opening on.segment ≡ t
+        → asked_for (if t then lot_by (target config OverTcp on.tuple.other) (nat_lt (used b.flows) config.flows) else Strange) ≡ Some to
+        → (is_opening on.segment ≡ true) × (target config OverTcp on.tuple.other ≡ Go to) × (nat_lt (used b.flows) config.flows ≡ true)
+    by_opening on true opening is = let parts = goes (target config OverTcp on.tuple.other) (nat_lt (used b.flows) config.flows) is in (opening, parts.0, parts.1)
+    by_opening on false opening is = cc
+
+    by_dropped : (on : OnTuple) → (t : Bool)
+        → asked_for (if t then Dropped else (if is_opening on.segment then lot_by (target config OverTcp on.tuple.other) (nat_lt (used b.flows) config.flows) else Strange)) ≡ Some to
+        → (is_opening on.segment ≡ true) × (target config OverTcp on.tuple.other ≡ Go to) × (nat_lt (used b.flows) config.flows ≡ true)
+    by_dropped on true is = cc
+    by_dropped on false is = by_opening on (is_opening on.segment) refl is
+
+    by_owner : (on : OnTuple) → (t : Bool) → (is_used on.tuple b.flows || is_resting on.tuple b) ≡ t
+        → asked_for (if t then OfFlow else (if on.segment.rst || is_to_many config on.tuple.other then Dropped
+        else (if is_opening on.segment then lot_by (target config OverTcp on.tuple.other) (nat_lt (used b.flows) config.flows) else Strange))) ≡ Some to
+        → ((is_used on.tuple b.flows || is_resting on.tuple b) ≡ false) × (is_opening on.segment ≡ true) × (target config OverTcp on.tuple.other ≡ Go to) × (nat_lt (used b.flows) config.flows ≡ true)
+    by_owner on true has is = cc
+    by_owner on false has is = let parts = by_dropped on (on.segment.rst || is_to_many config on.tuple.other) is in (has, parts.0, parts.1, parts.2)
+
+    less : (n m : ℕ) → nat_lt n m ≡ true → n < m
+    less n m is = grind (arith, nat_tests, is)
+
+    by_came : (came : Option OnTuple) → b.came ≡ came → option_and_then (λ on. asked_for (lot config b on)) b.came ≡ Some to → ConnectsAsAsked config b to
+    by_came None is asked = absurd (none_some (sym (ap (option_and_then (λ on. asked_for (lot config b on))) is) ∙ asked))
+      where
+        none_some : None ≡ Some to → ⊥
+        none_some is = cc
+    by_came (Some on) is asked =
+        let parts = by_owner on (is_used on.tuple b.flows || is_resting on.tuple b) refl (sym (ap (option_and_then (λ on. asked_for (lot config b on))) is) ∙ asked) in
+        let apart = both (is_used on.tuple b.flows) (is_resting on.tuple b) parts.0 in
+        record {
+          on = on;
+          came = is;
+          opening = parts.1;
+          free = apart.0;
+          awake = apart.1;
+          room = less (used b.flows) config.flows parts.3;
+          target = parts.2;
+        }
+
+pub connected_as_asked : (config : Config) (past : List Entry) (socket : ℕ) (to : Endpoint) (answer : Made) → KeepsFlows config (Connect socket to answer ∷ past) → ConnectsAsAsked config (book config past) to
+connected_as_asked config past socket to answer keeps = connects_as_asked config (book config past) (next_number past) socket to keeps.0.touches
+
+-- ---- closes
+
+pub closed_for_cause : (config : Config) (past : List Entry) (socket : ℕ) (f : Flow) → KeepsFlows config (Close socket ∷ past) → flow_of socket (book config past).flows ≡ Some f
+    → HasCause (comes_directly (book config past).came f) (comes_last (scene config past) f) (guest_is_known (scene config past) f) (moment past) f.story
+closed_for_cause config past socket f keeps is =
+    (subst (MayShut (flow_settings config) (scene config past) (book config past).came) is keeps.0.touches).closes_with_cause

@@ -1,0 +1,124 @@
+-- What becomes of a flow by one event.
+use Rattle.std.proofs.Common.{◌≡◌, ℕ, ◌≤◌, Bool, true, false, List, [], ◌∷◌, Option, Some, None, MatchBool, if◌then◌else◌, refl, arith}
+use Rattle.flow_laws.specs.Event.{Segment, Event, Connects, Accepts, Arrives, Departs, Connected, ConnectsYet, ConnectFails, Writes, WriteFails, Reads, ReadsEnd, ReadFails, EndsHost, EndFails, AsksAddress, Closes, At, Story, IsStory, Opens, newest_moment}
+use Rattle.flow_laws.specs.Close.{host_failed}
+use Rattle.flow_laws.specs.Lawful.{May, Send, MayHappen}
+use Rattle.flow_laws.specs.Settings.{Settings}
+use Rattle.world_face.specs.declared.Io.{Io}
+use Rattle.world_face.specs.declared.Io.TheVariants.{Done, End, NotYet, Failed}
+use Rattle.world_face.specs.declared.Made.{Made}
+use Rattle.world_face.specs.declared.Made.TheVariants.{Done as MadeDone, Failed as MadeFailed}
+use Rattle.world_face.specs.declared.Joined.{Joined}
+use Rattle.world_face.specs.declared.Joined.TheVariants.{Yes, NotYet as NotYetJoined, Failed as JoinFailed}
+use Rattle.flow_laws.specs.Lawful.{AskConnected, Write, EndHost, Read}
+use Rattle.record_flows.specs.Doings.{joined, read_by, written_by, ended_by}
+use Rattle.record_flows.specs.Flows.{Flow, fails, is_strange, sends, with_event}
+use Rattle.record_flows.specs.Said.{Kept}
+
+longer : (past : Story) (m : ℕ) (e : Event) → (Opens e → ⊥) → newest_moment past ≤ m → IsStory past → IsStory (At m e ∷ past)
+longer [] m e other later story = absurd story
+longer (b ∷ past) m e other later story = (other, later, story)
+
+-- the last thing that happened is a call that failed
+fails_is : (m : ℕ) (e : Event) (past : Story) → host_failed (At m e ∷ past) ≡ true → fails e ≡ true
+fails_is m (Connects ours syn) past is = cc
+fails_is m (Accepts ours) past is = cc
+fails_is m (Arrives seg) past is = cc
+fails_is m (Departs seg) past is = cc
+fails_is m Connected past is = cc
+fails_is m ConnectsYet past is = cc
+fails_is m ConnectFails past is = refl
+fails_is m (Writes xs n) past is = cc
+fails_is m (WriteFails xs) past is = refl
+fails_is m (Reads xs) past is = cc
+fails_is m ReadsEnd past is = cc
+fails_is m ReadFails past is = refl
+fails_is m EndsHost past is = cc
+fails_is m EndFails past is = refl
+fails_is m AsksAddress past is = cc
+fails_is m (Closes directly ended known) past is = cc
+
+-- ---- the events of calls
+
+pub joined_happens : (s : Settings) (past : Story) (m : ℕ) (answer : Joined) → May s past m AskConnected → MayHappen s past (At m (joined answer))
+joined_happens s past m Yes may = may
+joined_happens s past m NotYetJoined may = may
+joined_happens s past m JoinFailed may = may
+
+pub joined_opens : (answer : Joined) → Opens (joined answer) → ⊥
+joined_opens Yes opens = opens
+joined_opens NotYetJoined opens = opens
+joined_opens JoinFailed opens = opens
+
+pub read_happens : (s : Settings) (past : Story) (m : ℕ) (answer : Io) (octets : List ℕ) → May s past m Read → MayHappen s past (At m (read_by answer octets))
+read_happens s past m (Done n) octets may = may
+read_happens s past m End octets may = may
+read_happens s past m NotYet octets may = may
+read_happens s past m Failed octets may = may
+
+pub read_opens : (answer : Io) (octets : List ℕ) → Opens (read_by answer octets) → ⊥
+read_opens (Done n) octets opens = opens
+read_opens End octets opens = opens
+read_opens NotYet octets opens = opens
+read_opens Failed octets opens = opens
+
+pub write_happens : (s : Settings) (past : Story) (m : ℕ) (answer : Io) (octets : List ℕ) → May s past m (Write octets) → MayHappen s past (At m (written_by answer octets))
+write_happens s past m (Done n) octets may = may
+write_happens s past m End octets may = may
+write_happens s past m NotYet octets may = may
+write_happens s past m Failed octets may = may
+
+pub write_opens : (answer : Io) (octets : List ℕ) → Opens (written_by answer octets) → ⊥
+write_opens (Done n) octets opens = opens
+write_opens End octets opens = opens
+write_opens NotYet octets opens = opens
+write_opens Failed octets opens = opens
+
+pub end_happens : (s : Settings) (past : Story) (m : ℕ) (answer : Made) → May s past m EndHost → MayHappen s past (At m (ended_by answer))
+end_happens s past m MadeDone may = may
+end_happens s past m MadeFailed may = may
+
+pub end_opens : (answer : Made) → Opens (ended_by answer) → ⊥
+end_opens MadeDone opens = opens
+end_opens MadeFailed opens = opens
+
+-- ---- one flow
+
+module _ (s : Settings) (now : ℕ) where
+  -- nothing happened to it, where no socket was to be closed, or another one
+  pub stays : (later : ℕ) (doomed doomed_new : Option ℕ) (f : Flow) → now ≤ later → (doomed ≡ Some f.number → ⊥) → Kept s now doomed f → Kept s later doomed_new f
+  stays later doomed doomed_new f follows other kept = record {
+    story = kept.story;
+    moment = omega (arith, follows, kept.moment);
+    lawful = kept.lawful;
+    failed = λ failed. absurd (other (kept.failed failed));
+  }
+
+  -- an event that may happen
+  pub happened : (doomed doomed_new : Option ℕ) (e : Event) (f : Flow) → (Opens e → ⊥) → MayHappen s f.story (At now e) → (fails e ≡ true → doomed_new ≡ Some f.number)
+      → Kept s now doomed f → Kept s now doomed_new (with_event now e f)
+  happened doomed doomed_new e f other may dooms kept = record {
+    story = longer f.story now e other kept.moment kept.story;
+    moment = omega arith;
+    lawful = (may, kept.lawful);
+    failed = λ failed. dooms (fails_is now e f.story failed);
+  }
+
+  not_true : (b : Bool) → (b ≡ true → ⊥) → b ≡ false
+  not_true true not = absurd (not refl)
+  not_true false not = refl
+
+  -- it hadn't failed
+  pub well : (doomed : Option ℕ) (f : Flow) → (doomed ≡ Some f.number → ⊥) → Kept s now doomed f → host_failed f.story ≡ false
+  well doomed f other kept = not_true (host_failed f.story) (λ failed. other (kept.failed failed))
+
+  pub sent : (doomed : Option ℕ) (segment : Segment) (f : Flow) → (doomed ≡ Some f.number → ⊥) → MatchBool (is_strange segment f) (Unit {0}) (May s f.story now (Send segment))
+      → Kept s now doomed f → Kept s now None (sends now segment f)
+  sent doomed segment f other may kept = by_test (is_strange segment f) may
+    where
+      none_fails : false ≡ true → None ≡ Some f.number
+      none_fails is = cc
+
+      by_test : (b : Bool) → MatchBool b (Unit {0}) (May s f.story now (Send segment)) → Kept s now None (if b then f else with_event now (Departs segment) f)
+      by_test true may = stays now doomed None f (omega arith) other kept
+      by_test false may = happened doomed None (Departs segment) f (λ opens. opens) may none_fails kept

@@ -1,0 +1,68 @@
+-- What call may follow what past, as far as flows of TCP have a say in it.
+use Rattle.std.specs.Prelude.{◌≡◌, ℕ, true, List, [], ◌∷◌, drop, MatchBool, MatchOption, Option, Some, None}
+use Rattle.world_face.specs.Journal.{Entry, Call, Follows, CallLinkWrite, CallConnect, CallConnected, CallAccept, CallTcpRead, CallTcpWrite, CallTcpEnd, CallClose}
+use Rattle.world_face.specs.Frames.{tail}
+use Rattle.host_policy.specs.Addresses.{Config}
+use Rattle.flow_laws.specs.Event.{Segment}
+use Rattle.flow_laws.specs.Lawful.{Act, AskConnected, Write, EndHost, Read, Send, May}
+use Rattle.flow_laws.specs.Settings.{Settings}
+use Rattle.run_laws.specs.Moments.{moment}
+use Rattle.run_laws.specs.Sockets.{next_number}
+use Rattle.record_flows.specs.Book.{book, scene}
+use Rattle.record_flows.specs.Flows.{Flow, Scene, closing, flow_of, is_strange, owner}
+use Rattle.record_flows.specs.Lots.{due_for_flows}
+use Rattle.record_flows.specs.Segments.{OnTuple, segment_in}
+
+-- what each flow is to keep to
+abbrev pub flow_settings : Config → Settings
+flow_settings config = record { ring = config.ring; mru = config.mru; mtu = config.mtu; scales = true; congestion = config.congestion }
+
+-- a call on the socket of a flow is one that may be made for this flow
+abbrev pub MayAct : Settings → ℕ → Option Flow → Act → Type 0
+MayAct s now None act = ⊥
+MayAct s now (Some f) act = May s f.story now act
+
+-- the socket of a flow is closed where that may be; of other sockets nothing is said here
+abbrev pub MayShut : Settings → Scene → Option OnTuple → Option Flow → Type 0
+MayShut s scene came None = Unit {0}
+MayShut s scene came (Some f) = May s f.story scene.moment (closing scene came f)
+
+-- a segment goes out that its flow may send, or a reset of a segment without a flow
+abbrev pub MaySend : Settings → ℕ → Segment → Option Flow → Type 0
+MaySend s now segment None = segment.rst ≡ true
+MaySend s now segment (Some f) = MatchBool (is_strange segment f) (Unit {0}) (May s f.story now (Send segment))
+
+abbrev pub MaySendOn : Settings → ℕ → List Flow → Option OnTuple → Type 0
+MaySendOn s now flows None = Unit {0}
+MaySendOn s now flows (Some on) = MaySend s now on.segment (owner on.tuple flows)
+
+-- a write begins a frame where nothing is left of the one before
+abbrev pub MayWrite : Settings → ℕ → List Flow → List ℕ → List ℕ → Type 0
+MayWrite s now flows [] octets = MaySendOn s now flows (segment_in (drop 4 octets))
+MayWrite s now flows (x ∷ rest) octets = Unit {0}
+
+-- Each call on a flow's socket, each segment that goes out and each close is one that may be, by what happened to the flow. A socket connects
+-- only where a guest's SYN asks for it; a peer gets the next number.
+abbrev pub MayTouch : Config → List Entry → Call → Type 0
+MayTouch config past (CallLinkWrite octets) = MayWrite (flow_settings config) (moment past) (book config past).flows (tail past) octets
+MayTouch config past (CallConnect socket to) = due_for_flows config (book config past) (next_number past) ≡ Some (CallConnect socket to)
+MayTouch config past (CallConnected socket) = MayAct (flow_settings config) (moment past) (flow_of socket (book config past).flows) AskConnected
+MayTouch config past (CallAccept listener socket) = socket ≡ next_number past
+MayTouch config past (CallTcpRead socket asked) = MayAct (flow_settings config) (moment past) (flow_of socket (book config past).flows) Read
+MayTouch config past (CallTcpWrite socket octets) = MayAct (flow_settings config) (moment past) (flow_of socket (book config past).flows) (Write octets)
+MayTouch config past (CallTcpEnd socket) = MayAct (flow_settings config) (moment past) (flow_of socket (book config past).flows) EndHost
+MayTouch config past (CallClose socket) = MayShut (flow_settings config) (scene config past) (book config past).came (flow_of socket (book config past).flows)
+MayTouch config past _ = Unit {0}
+
+-- where a flow asks for a call, a connect or a close, that call comes
+abbrev pub MayDue : Config → List Entry → Call → Type 0
+MayDue config past call = MatchOption (due_for_flows config (book config past) (next_number past)) (Unit {0}) (λ d. call ≡ d)
+
+-- the next call is one that may come
+pub record MayFlow (config : Config) (past : List Entry) (call : Call) : Type 0 where
+  pub due : MayDue config past call
+  pub touches : MayTouch config past call
+
+-- every call was one that may follow its past
+abbrev pub KeepsFlows : Config → List Entry → Type 0
+KeepsFlows config past = Follows (MayFlow config) past

@@ -1,0 +1,45 @@
+// Laws of what the program comes to: where nothing happened to its outside that ends a run early, the run is made to its end. Each contract is proved though its body is empty.
+ghost use Rattle.std.specs.Prelude.{◌≡◌, ◌≢◌, ◌⊎◌, ℕ, ◌≤◌, ◌++◌, List, [], ◌∷◌, Option, IsTrue};
+ghost use Rattle.host_policy.specs.Addresses.{Config};
+ghost use Rattle.run_laws.specs.Shape.{phase};
+ghost use Rattle.serve_loop.specs.Ends.{end_of};
+ghost use Rattle.serve_loop.specs.declared.service.End.TheVariants.{Done as AtEnd};
+ghost use Rattle.slirp_laws.specs.Laws.{Finished, Lawful};
+ghost use Rattle.slirp_app.specs.Causes.{RanOn};
+ghost use Rattle.slirp_app.specs.Doing.{ReplaysFile};
+ghost use Rattle.slirp_app.specs.Fetching.{IsWhole, octets_read};
+ghost use Rattle.slirp_app.specs.Serving.{RunsAt};
+ghost use Rattle.slirp_app.specs.Statuses.{is_run};
+ghost use Rattle.slirp_app.specs.Texts.{Got};
+ghost use Rattle.slirp_app.specs.Untroubled.{CanBeFollowed, SaysUntroubled, Untroubled};
+ghost use Rattle.slirp_app.specs.declared.status.Outcome.{Outcome};
+ghost use Rattle.slirp_app.specs.declared.status.Outcome.TheVariants.{Done};
+ghost use Rattle.world_face.specs.Journal.{AreAllowed, Entry, LinkOpen, Place};
+ghost use Rattle.world_face.specs.Tells.{Telling, Told};
+ghost use Rattle.world_face.specs.declared.Made.TheVariants.{Done as Opened};
+
+/// A run is untroubled where its link carried whole frames until it ended, no call on the link and no wait failed, the host
+/// opened each port that is given to a guest, and fewer waits were made than the settings allow. Where such a run is finished, its
+/// link ended or a wait was told to stop: it is done.
+pub fn an_untroubled_run_is_made_to_its_end()
+    ensures run { (config : Config) (journal : List Entry) → AreAllowed journal → Lawful config journal → Finished config journal
+        → Untroubled config journal → end_of config (phase config journal) ≡ AtEnd }
+    // So with `serve`, once the link was opened.
+    ensures served { (config : Config) (at : Place) (outcome : Outcome) (made run : List Entry) → RunsAt config at outcome made → AreAllowed made
+        → made ≡ run ++ LinkOpen at Opened ∷ [] → Untroubled config run → outcome ≡ Done }
+{}
+
+/// A schedule that can be followed is followed to its end: `replay FILE` comes to 0.
+pub fn a_schedule_that_can_be_followed_is_followed_to_its_end()
+    // The status of a run that was made and didn't diverge is 0 where its record is untroubled.
+    ensures run { (file : List ℕ) (config : Config) (status : ℕ) (world world_new : Telling) (old new err err_new : Option (List ℕ)) (faults faults_new : ℕ)
+        → ReplaysFile file config status world world_new old new (Got err err_new faults faults_new)
+        → IsTrue (is_run status) → status ≢ 5 → RanOn config world world_new status old new (λ schedule journal. Untroubled config journal → status ≡ 0) }
+    // So where the words, FILE and each line of it were read and nothing diverged, which 1 to 5 tell, and FILE can be followed, it is 0; unless a put failed, with 12, or there was no memory, with 13.
+    ensures file { (file : List ℕ) (config : Config) (status : ℕ) (world world_new : Telling) (old new err err_new : Option (List ℕ)) (faults faults_new : ℕ)
+        → ReplaysFile file config status world world_new old new (Got err err_new faults faults_new)
+        → ¬ ((1 ≤ status) × (status ≤ 5)) → ((made : List Entry) → Told world world_new made → IsWhole made → CanBeFollowed config (octets_read made))
+        → (status ≡ 0) ⊎ (status ≡ 12) ⊎ (status ≡ 13) }
+    // A schedule can be followed where its lines are the record of an untroubled run, whether the run gets to the last of them or ends before.
+    ensures lines { (config : Config) (schedule : List ℕ) → SaysUntroubled config schedule → CanBeFollowed config schedule }
+{}

@@ -1,0 +1,435 @@
+-- The core waits no longer than the record allows, and is woken for nothing else than what the record asks for.
+use Rattle.std.proofs.Common.{◌≡◌, ℕ, zero, suc, ◌+◌, ◌-◌, ◌<◌, ◌≤◌, ◌&&◌, ◌||◌, not, cond, min, nat_le, nat_lt, Bool, true, false, is_some, List, [], ◌∷◌, ◌++◌, All, Any, filter, map, slice_get, Option, Some, None, option_map, inl, inr, ◌⊎◌, refl, sym, ap, ◌∙◌, subst, arith}
+use Rattle.std.proofs.lemmas.Bool.Decides.{nat_tests}
+use Rattle.world_face.specs.Journal.{Entry}
+use Rattle.world_face.specs.Frames.{is_blocked}
+use Rattle.host_policy.specs.Addresses.{Config}
+use Rattle.ipv4_head.specs.Sets.{PartSet, is_young, young}
+use Rattle.udp_assoc.specs.Associations.{idle_life, is_over as is_idle_association, numbered, numbers}
+use Rattle.udp_assoc.specs.declared.assocs.Association.{Association}
+use Rattle.dns_relay.specs.Questions.{is_over as is_idle_question, numbers as question_numbers, question_life}
+use Rattle.dns_relay.specs.declared.Question.{Question}
+use Rattle.tftp_server.specs.Transfers.{Transfer, are_left, goes_again, is_due, most_again, next_again, ticked_by}
+use Rattle.flow_laws.specs.Close.{is_in_use}
+use Rattle.flow_laws.specs.Dutiful.{AreAhead, connect_deadline, moment_if, resend_deadline, waits_since, wakes}
+use Rattle.flow_laws.specs.Event.{Story}
+use Rattle.flow_laws.specs.Flow.{has_connected, is_accepted, is_closed, is_under_way, opened_at}
+use Rattle.halves_follow.specs.Bounds.{IsBy, IsFrom}
+use Rattle.record_flows.specs.Book.{book}
+use Rattle.record_flows.specs.Flows.{Flow}
+use Rattle.record_flows.specs.Laws.{flow_settings}
+use Rattle.run_laws.specs.Fragments.{waiting}
+use Rattle.run_laws.specs.Moments.{moment}
+use Rattle.run_laws.specs.Sockets.{is_among, next_number}
+use Rattle.slirp_laws.specs.Answers.{serving}
+use Rattle.slirp_laws.specs.Names.{questions}
+use Rattle.slirp_laws.specs.Ports.{associations_open, used_at}
+use Rattle.slirp_laws.specs.Questions.{questions_open}
+use Rattle.slirp_laws.specs.Relayed.{associations}
+use Rattle.slirp_laws.proofs.Bools.{same}
+use Rattle.slirp_laws.proofs.Finding.{same_sockets, says_of}
+use Rattle.slirp_laws.proofs.Joining.{joined}
+use Rattle.slirp_laws.proofs.KeptFiles.{now_is}
+use Rattle.slirp_laws.proofs.Listed.{AllQuestions}
+use Rattle.slirp_laws.proofs.Waiting.{IsUsed, are_waiting, same_waiting}
+use Rattle.stream_netdev.specs.State.{LinkState}
+use Rattle.core_flows.specs.FlowsHold.{rests_at}
+use Rattle.flow_splice.specs.Splice.{Splice}
+use Rattle.flow_splice.proofs.Promises.{settled_is, waited_is}
+use Rattle.spliced_flows.specs.Core.{Following, number_of}
+use Rattle.spliced_flows.proofs.Options.{true_false}
+use Rattle.run_duties.specs.Times.{alarms, association_lives, deadlines, drops, file_alarms, lives, of_flows, question_lives, rest_ends, unless_blocked, wait_end}
+use Rattle.run_duties.proofs.Lives.{at_front, drops_from, lives_by, lives_from, used_by_now}
+use Rattle.run_duties.proofs.Waited.{questions_by, questions_from}
+use Rattle.waiting_flows.proofs.Bounding.{by_any, by_both, by_earlier, flows_by, from_first, from_later, from_second}
+use Rattle.waiting_flows.proofs.Placing.{each, not_in_use}
+use Rattle.tcp_flows.specs.Reading.{AllClear}
+use Rattle.tcp_flows.specs.Settled.{IsInTime}
+use Rattle.tcp_flows.specs.Waits.{IsForSome, IsInTimeAfter, IsInTimeFor}
+use Rattle.tcp_flows.proofs.Ahead.{have_stories, story_ahead}
+use Rattle.tcp_flows.proofs.Awaiting.{same_later}
+use Rattle.slirp_core.specs.Connecting.{AreInTime}
+use Rattle.slirp_core.specs.Fragments.{IsHeld}
+use Rattle.slirp_core.specs.Holds.{Holds, Standing, flowing}
+use Rattle.slirp_core.specs.Owed.{IsOwed, kept_by}
+use Rattle.slirp_core.specs.Pumps.{question_left, time_left}
+use Rattle.slirp_core.specs.State.{SlirpState}
+use Rattle.slirp_core.specs.Timeouts.{IsFileTime, IsPartTime, IsTimeout, SuitsFlows, sooner}
+use Rattle.slirp_core.specs.Waiting.{AreFresh}
+
+-- ---- two times
+
+-- the shorter of two times is by what either is by, and from what both are from
+by_first : (now : ℕ) (one other : Option ℕ) (ms : List ℕ) → IsBy (wait_end now one) ms → IsBy (wait_end now (sooner one other)) ms
+by_first now None None ms is = is
+by_first now None (Some other) ms is = by_any (now + other) ms is
+by_first now (Some one) None ms is = is
+by_first now (Some one) (Some other) ms is = by_earlier (now + min one other) (now + one) ms (omega arith) is
+
+by_second : (now : ℕ) (one other : Option ℕ) (ms : List ℕ) → IsBy (wait_end now other) ms → IsBy (wait_end now (sooner one other)) ms
+by_second now None other ms is = is
+by_second now (Some one) None ms is = by_any (now + one) ms is
+by_second now (Some one) (Some other) ms is = by_earlier (now + min one other) (now + other) ms (omega arith) is
+
+from_each : (now : ℕ) (one other : Option ℕ) (ms : List ℕ) → IsFrom (wait_end now one) ms → IsFrom (wait_end now other) ms → IsFrom (wait_end now (sooner one other)) ms
+from_each now None other ms is_one is_other = is_other
+from_each now (Some one) None ms is_one is_other = is_one
+from_each now (Some one) (Some other) ms is_one is_other = by (nat_le one other) refl
+  where
+    by : (b : Bool) → nat_le one other ≡ b → IsFrom (Some (now + min one other)) ms
+    by true is = from_later (now + one) (now + min one other) ms (grind (arith, nat_tests, is)) is_one
+    by false is = from_later (now + other) (now + min one other) ms (grind (arith, nat_tests, is)) is_other
+
+-- what is from one of two lists is from all that either is from
+from_some : (due : Option ℕ) (a b ms : List ℕ) → IsFrom due (a ++ b) → (IsFrom due a → IsFrom due ms) → (IsFrom due b → IsFrom due ms) → IsFrom due ms
+from_some None a b ms is one other = tt
+from_some (Some at) [] b ms is one other = other is
+from_some (Some at) (m ∷ a) b ms (inl low) one other = one (inl low)
+from_some (Some at) (m ∷ a) b ms (inr rest) one other = from_some (Some at) a b ms rest (λ is. one (inr is)) other
+
+-- ---- until a moment, by the time that is left until then
+
+left_by : (now at : ℕ) (ms : List ℕ) → AreAhead now ms → IsBy (Some at) ms → IsBy (Some (now + (at - now))) ms
+left_by now at [] ahead is = tt
+left_by now at (m ∷ ms) ahead is = ((let soon = ahead.0 in let by = is.0 in omega (arith, soon, by)), left_by now at ms ahead.1 is.1)
+
+until_left : (now : ℕ) (due time : Option ℕ) (ms : List ℕ) → time ≡ option_map (λ at. at - now) due → AreAhead now ms → IsBy due ms → IsBy (wait_end now time) ms
+until_left now None time ms left ahead is = subst (λ (o : Option ℕ). IsBy (wait_end now o) ms) (sym left) is
+until_left now (Some at) time ms left ahead is = subst (λ (o : Option ℕ). IsBy (wait_end now o) ms) (sym left) (left_by now at ms ahead is)
+
+from_left : (now : ℕ) (due time : Option ℕ) (ms : List ℕ) → time ≡ option_map (λ at. at - now) due → IsFrom due ms → IsFrom (wait_end now time) ms
+from_left now None time ms left is = subst (λ (o : Option ℕ). IsFrom (wait_end now o) ms) (sym left) is
+from_left now (Some at) time ms left is = subst (λ (o : Option ℕ). IsFrom (wait_end now o) ms) (sym left) (from_later at (now + (at - now)) ms (omega arith) is)
+
+-- moments that are ahead come at the next one or later
+next_by : (now : ℕ) (ms : List ℕ) → AreAhead now ms → IsBy (Some (now + 1)) ms
+next_by now [] ahead = tt
+next_by now (m ∷ ms) ahead = ((let low = ahead.0 in omega (arith, low)), next_by now ms ahead.1)
+
+by_next : (now : ℕ) (ms : List ℕ) → IsBy (Some (now + 1)) ms → AreAhead now ms
+by_next now [] is = tt
+by_next now (m ∷ ms) is = ((let low = is.0 in omega (arith, low)), by_next now ms is.1)
+
+-- ---- what flows are told the time for
+
+module _ (config : Config) (now : ℕ) (blocked : Bool) (parts : List (Option Splice)) (past : List Entry) (due time : Option ℕ) (left : time ≡ option_map (λ at. at - now) due) (for_some : IsForSome config past due) where
+  -- what is due first suits them
+  pub suits_due : IsInTimeFor config parts past due → SuitsFlows config now blocked parts past time
+  suits_due in_time = record { due = due; left = left; connects = λ ahead. in_time.connects; resends = λ free clear. in_time.resends clear; for_some = for_some }
+
+  -- and where the link is blocked so does what is due first after now
+  pub suits_after : blocked ≡ true → IsInTimeAfter config now past due → SuitsFlows config now blocked parts past time
+  suits_after waits in_time = record {
+    due = due;
+    left = left;
+    connects = λ ahead. subst (λ (ms : List ℕ). IsBy due ms) (same_later now (book config past).flows ahead) in_time;
+    resends = λ free clear. absurd (true_false (sym waits ∙ free));
+    for_some = for_some;
+  }
+
+-- ---- sockets
+
+-- where no socket is open none has a life
+none_lives : (due : Option ℕ) (life : ℕ → ℕ) (ns : List ℕ) → ((n : ℕ) → is_among n ns ≡ false) → IsBy due (map life ns)
+none_lives due life [] none = empty due
+  where
+    empty : (o : Option ℕ) → IsBy o []
+    empty o = tt
+none_lives due life (n ∷ ns) none = absurd (true_false (sym (at_front n ns) ∙ none n))
+
+-- ---- fragments
+
+-- sets that aren't to be dropped yet stay
+fresh_stay : (now : ℕ) (sets : List PartSet) → All (λ (s : PartSet). now < s.since + 60000) sets → young now sets ≡ sets
+fresh_stay now [] fresh = refl
+fresh_stay now (s ∷ sets) fresh = by (is_young now s) refl (fresh_stay now sets (λ k d low. fresh (suc k) d (omega (arith, low))))
+  where
+    first : now < s.since + 60000
+    first = fresh 0 s (omega arith)
+
+    by : (b : Bool) → is_young now s ≡ b → young now sets ≡ sets → cond b (s ∷ young now sets) (young now sets) ≡ s ∷ sets
+    by true is rest = ap (λ l. s ∷ l) rest
+    by false is rest = let low = first in absurd (grind (arith, nat_tests, is, low))
+
+-- ---- files
+
+abbrev dues : List Transfer → List ℕ
+dues transfers = map (λ (t : Transfer). t.due) transfers
+
+-- one of them is due then
+any_from : (at : ℕ) (ts : List Transfer) → Any (λ (t : Transfer). t.due ≡ at) ts → IsFrom (Some at) (dues ts)
+any_from at [] (k, x, low, here, is) = absurd (omega (arith, low))
+any_from at (t ∷ ts) (zero, x, low, here, is) = let first : t.due ≡ at = ap (λ (u : Transfer). u.due) here ∙ is in inl (omega (arith, first))
+any_from at (t ∷ ts) (suc k, x, low, here, is) = inr (any_from at ts (k, x, omega (arith, low), here, is))
+
+-- what is from some of them is from all
+fewer_from : (p : Transfer → Bool) (at : ℕ) (ts : List Transfer) → IsFrom (Some at) (dues (filter p ts)) → IsFrom (Some at) (dues ts)
+fewer_from p at [] is = is
+fewer_from p at (t ∷ ts) is = by (p t) (fewer_from p at ts) is
+  where
+    by : (b : Bool) → (IsFrom (Some at) (dues (filter p ts)) → IsFrom (Some at) (dues ts)) → IsFrom (Some at) (dues (cond b (t ∷ filter p ts) (filter p ts))) → (t.due ≤ at) ⊎ IsFrom (Some at) (dues ts)
+    by true more (inl low) = inl low
+    by true more (inr rest) = inr (more rest)
+    by false more rest = inr (more rest)
+
+-- one that goes again was due before
+again_from : (now at : ℕ) → now ≤ at → (ts : List Transfer) (t : Transfer) → next_again now ts ≡ Some t → IsFrom (Some at) (dues ts)
+again_from now at later [] t found = absurd cc
+again_from now at later (u ∷ ts) t found = by (goes_again now u) refl found (again_from now at later ts t)
+  where
+    due_by : (a b : Bool) → nat_le u.due now ≡ a → (a && b) ≡ true → u.due ≤ at
+    due_by true b is goes = grind (arith, nat_tests, is, later)
+    due_by false b is goes = absurd cc
+
+    by : (b : Bool) → goes_again now u ≡ b → cond b (Some u) (next_again now ts) ≡ Some t → (next_again now ts ≡ Some t → IsFrom (Some at) (dues ts)) → (u.due ≤ at) ⊎ IsFrom (Some at) (dues ts)
+    by true goes one rest = inl (due_by (is_due now u) (nat_lt u.again most_again) refl goes)
+    by false goes one rest = inr (rest one)
+
+-- what is due of those that are kept before a wait
+kept_from : (now at : ℕ) (free : Bool) (ts : List Transfer) → now ≤ at → Any (λ (t : Transfer). t.due ≡ at) (kept_by true free now ts) → IsFrom (Some at) (dues ts)
+kept_from now at false ts later some = fewer_from (λ (t : Transfer). not (is_due now t) || nat_lt t.again most_again) at ts (any_from at (are_left now ts) some)
+kept_from now at true ts later some = by (next_again now ts) refl some
+  where
+    by : (o : Option Transfer) → next_again now ts ≡ o → Any (λ (t : Transfer). t.due ≡ at) (ticked_by now (are_left now ts) o) → IsFrom (Some at) (dues ts)
+    by None is some = fewer_from (λ (t : Transfer). not (is_due now t) || nat_lt t.again most_again) at ts (any_from at (are_left now ts) some)
+    by (Some t) is some = again_from now at later ts t is
+
+-- ---- a wait
+
+no_connecting : (a b : Bool) → b ≡ true → not (a || b) ≡ false
+no_connecting true b is = refl
+no_connecting false b is = ap not is
+
+no_way : (a b : Bool) → b ≡ true → (a && not b) ≡ false
+no_way true b is = ap not is
+no_way false b is = refl
+
+module _ (config : Config) (at : Standing) (slirp : SlirpState) (link : LinkState) (past : List Entry) (holds : Holds config at slirp (flowing true slirp.flows) link past) where
+  abbrev now : ℕ
+  now = slirp.moment
+
+  abbrev flows : List Flow
+  flows = (book config past).flows
+
+  -- ---- what is ahead of a flow
+
+  flows_ahead : (moments : Story → List ℕ) → ((k : ℕ) (p : Splice) (story : Story) → slice_get slirp.flows.flows.parts k ≡ Some (Some p) → Following config now p story → AreAhead now (moments story))
+      → ((story : Story) → is_in_use story ≡ false → AreAhead now (moments story)) → AreAhead now (of_flows moments flows)
+  flows_ahead moments of_part of_closed =
+      by_next now (of_flows moments flows)
+      (flows_by (Some (now + 1)) moments flows holds.flows.holds.seats.differ
+      (λ n f found. next_by now (moments f.story)
+      (each number_of (Following config now) slirp.flows.flows.table slirp.flows.flows.parts (next_number past) flows (rests_at true config past) holds.flows.holds.seats
+      (λ story. AreAhead now (moments story)) of_part of_closed n f found)))
+
+  -- no host had its time to connect
+  connects_ahead : AreInTime now slirp.flows.flows.parts → AreAhead now (of_flows connect_deadline flows)
+  connects_ahead early =
+      flows_ahead connect_deadline
+      (λ k p story here follows. (waited_is (flow_settings config) p story now follows (λ open_yet connecting. early k p (record { here = here; open_yet = open_yet }) connecting)).connects)
+      (λ story unused. subst (λ (b : Bool). AreAhead now (moment_if b (opened_at story + 75000))) (sym (no_connecting (is_accepted story || has_connected story) (is_closed story) (not_in_use story unused))) tt)
+
+  -- and what is under way of a flow in time that owes no frame goes again within a minute
+  resends_ahead : AllClear slirp.flows.flows.parts → ((n : ℕ) → IsInTime now slirp.flows.flows.parts n) → AreAhead now (of_flows resend_deadline flows)
+  resends_ahead clear soon =
+      flows_ahead resend_deadline
+      (λ k p story here follows.
+      (settled_is (flow_settings config) p story now false follows (clear k p here) (λ unknown. refl)).resends
+      (story_ahead now p (have_stories config now true None slirp.flows.flows past holds.flows.holds k p here) (λ open_yet. soon (number_of p) k p (record { here = here; open_yet = open_yet }) refl)))
+      (λ story unused. subst (λ (b : Bool). AreAhead now (moment_if b (waits_since story + 60000))) (sym (no_way (is_under_way story) (is_closed story) (not_in_use story unused))) tt)
+
+  -- ---- sockets
+
+  module _ (young_now : All (λ a. is_idle_association now a ≡ false) slirp.associations) (recent : All (λ q. is_idle_question now q ≡ false) slirp.questions) where
+    all_young : All (λ a. is_idle_association now a ≡ false) (associations config past)
+    all_young = subst (λ l. All (λ a. is_idle_association now a ≡ false) l) (sym holds.relayed.list) young_now
+
+    all_recent : All (λ q. is_idle_question now q ≡ false) (questions config past)
+    all_recent = subst (λ l. All (λ q. is_idle_question now q ≡ false) l) (sym holds.relayed.questions) recent
+
+    -- the longest unused was used before now
+    socket_used : (o : Association) (rest : List Association) → associations config past ≡ o ∷ rest → o.used ≤ now
+    socket_used o rest is =
+        let mine = (says_of config past o.number (associations config past) o (joined config past holds.lawful).kept (ap (numbered o.number) is ∙ ap (λ (b : Bool). cond b (Some o) (numbered o.number rest)) (same o.number))).used in
+        let low = used_by_now o.number past in
+        let at_now = holds.clock.moment in
+        omega (arith, mine, low, at_now)
+
+    question_used : (o : Question) (rest : List Question) → questions config past ≡ o ∷ rest → o.used ≤ now
+    question_used o rest is =
+        let all = subst (AllQuestions (IsUsed past)) is (are_waiting config past holds.lawful).used in
+        let mine = all.0.used in
+        let low = used_by_now o.number past in
+        let at_now = holds.clock.moment in
+        omega (arith, mine, low, at_now)
+
+    associations_until : IsBy (wait_end now (time_left now slirp.associations)) (association_lives config past)
+    associations_until = by slirp.associations holds.relayed.list
+      where
+        by : (list : List Association) → associations config past ≡ list → IsBy (wait_end now (time_left now list)) (association_lives config past)
+        by [] is = none_lives None (λ n. used_at n past + idle_life) (associations_open config past) (λ n. same_sockets config past (associations config past) (joined config past holds.lawful) n ∙ ap (λ l. is_among n (numbers l)) is)
+        by (o ∷ rest) is = lives_by config past holds.lawful now all_young o rest is (socket_used o rest is)
+
+    associations_from : IsFrom (wait_end now (time_left now slirp.associations)) (association_lives config past)
+    associations_from = by slirp.associations holds.relayed.list
+      where
+        by : (list : List Association) → associations config past ≡ list → IsFrom (wait_end now (time_left now list)) (association_lives config past)
+        by [] is = tt
+        by (o ∷ rest) is = lives_from config past holds.lawful now all_young o rest is (socket_used o rest is)
+
+    questions_until : IsBy (wait_end now (question_left now slirp.questions)) (question_lives config past)
+    questions_until = by slirp.questions holds.relayed.questions
+      where
+        by : (list : List Question) → questions config past ≡ list → IsBy (wait_end now (question_left now list)) (question_lives config past)
+        by [] is = none_lives None (λ n. used_at n past + question_life) (questions_open config past) (λ n. same_waiting config past (questions config past) (are_waiting config past holds.lawful) n ∙ ap (λ l. is_among n (question_numbers l)) is)
+        by (o ∷ rest) is = questions_by config past holds.lawful now all_recent o rest is (question_used o rest is)
+
+    from_questions : IsFrom (wait_end now (question_left now slirp.questions)) (question_lives config past)
+    from_questions = by slirp.questions holds.relayed.questions
+      where
+        by : (list : List Question) → questions config past ≡ list → IsFrom (wait_end now (question_left now list)) (question_lives config past)
+        by [] is = tt
+        by (o ∷ rest) is = questions_from config past holds.lawful now all_recent o rest is (question_used o rest is)
+
+    -- ---- until, and from
+
+    module _ (timeout : Option ℕ) (times : (held : List PartSet) → IsHeld slirp.parts held → IsTimeout slirp link.blocked held timeout) where
+      abbrev held : List PartSet
+      held = holds.guests.fragments.held
+
+      time : IsTimeout slirp link.blocked held timeout
+      time = times held holds.guests.fragments.is_held
+
+      suits : SuitsFlows config now link.blocked slirp.flows.flows.parts past time.flows
+      suits = time.suits_flows config now past holds.flows.holds
+
+      abbrev datagrams : Option ℕ
+      datagrams = sooner (time_left now slirp.associations) (question_left now slirp.questions)
+
+      abbrev some : Option ℕ
+      some = sooner datagrams time.parts
+
+      abbrev more : Option ℕ
+      more = sooner some time.flows
+
+      abbrev all : Option ℕ
+      all = sooner more time.files
+
+      until_flows : (ms : List ℕ) → IsBy (wait_end now time.flows) ms → IsBy (wait_end now all) ms
+      until_flows ms is = by_first now more time.files ms (by_second now some time.flows ms is)
+
+      until_datagrams : (ms : List ℕ) → IsBy (wait_end now datagrams) ms → IsBy (wait_end now all) ms
+      until_datagrams ms is = by_first now more time.files ms (by_first now some time.flows ms (by_first now datagrams time.parts ms is))
+
+      until_all : AreInTime now slirp.flows.flows.parts → (link.blocked ≡ false → AllClear slirp.flows.flows.parts × ((n : ℕ) → IsInTime now slirp.flows.flows.parts n)) → IsBy (wait_end now all) (deadlines config past)
+      until_all early calm =
+          by_both (wait_end now all) (of_flows connect_deadline flows ++ lives config past) (unless_blocked (is_blocked past) (of_flows resend_deadline flows))
+          (by_both (wait_end now all) (of_flows connect_deadline flows) (lives config past)
+          (until_flows (of_flows connect_deadline flows) (until_left now suits.due time.flows (of_flows connect_deadline flows) suits.left (connects_ahead early) (suits.connects (connects_ahead early))))
+          (by_both (wait_end now all) (association_lives config past) (question_lives config past)
+          (until_datagrams (association_lives config past) (by_first now (time_left now slirp.associations) (question_left now slirp.questions) (association_lives config past) associations_until))
+          (until_datagrams (question_lives config past) (by_second now (time_left now slirp.associations) (question_left now slirp.questions) (question_lives config past) questions_until))))
+          (subst (λ (b : Bool). IsBy (wait_end now all) (unless_blocked b (of_flows resend_deadline flows))) (sym holds.keeps.blocked) (by_link link.blocked refl))
+        where
+          by_link : (b : Bool) → link.blocked ≡ b → IsBy (wait_end now all) (unless_blocked b (of_flows resend_deadline flows))
+          by_link true is = tt
+          by_link false is =
+              let both = calm is in
+              let ahead = resends_ahead both.0 both.1 in
+              until_flows (of_flows resend_deadline flows) (until_left now suits.due time.flows (of_flows resend_deadline flows) suits.left ahead (suits.resends is both.0))
+
+      -- ---- and at least
+
+      drops_left : AreFresh now slirp.parts → IsFrom (wait_end now time.parts) (drops config past)
+      drops_left fresh = by time.parts time.of_parts
+        where
+          same_sets : held ≡ waiting config past
+          same_sets =
+              sym (fresh_stay (moment past) held (subst (λ (n : ℕ). All (λ (s : PartSet). n < s.since + 60000) held) (sym holds.clock.moment) (fresh held holds.guests.fragments.is_held))) ∙ holds.guests.fragments.wait
+
+          by : (o : Option ℕ) → IsPartTime now held o → IsFrom (wait_end now o) (drops config past)
+          by None none = tt
+          by (Some left) (due, is) =
+              let first = is.0.one.1.1 in
+              let low : is.0.one.1.0.since + 60000 ≤ due = omega (arith, first.1) in
+              from_left now (Some due) (Some left) (drops config past) (ap Some is.1)
+              (drops_from due (waiting config past) is.0.one.0 is.0.one.1.0 (sym (ap (λ (sets : List PartSet). slice_get sets is.0.one.0) same_sets) ∙ first.0) low)
+
+      -- the files that the record knows of
+      owed_from : (due : ℕ) → now ≤ due → Any (λ (t : Transfer). t.due ≡ due) slirp.transfers → IsOwed config true slirp past → IsFrom (Some due) (file_alarms config past)
+      owed_from due later found (inl l) =
+          kept_from (serving config past).now due false (serving config past).files.transfers (let at_now = now_is config past ∙ holds.clock.moment in omega (arith, later, at_now))
+          (subst (λ (ts : List Transfer). Any (λ (t : Transfer). t.due ≡ due) ts) l.files found)
+      owed_from due later found (inr f) =
+          kept_from (serving config past).now due (not (is_some (serving config past).again)) (serving config past).files.transfers (let at_now = now_is config past ∙ holds.clock.moment in omega (arith, later, at_now))
+          (subst (λ (ts : List Transfer). Any (λ (t : Transfer). t.due ≡ due) ts) f.files found)
+
+      files_left : IsFrom (wait_end now time.files) (file_alarms config past)
+      files_left = by time.files time.of_files
+        where
+          by : (o : Option ℕ) → IsFileTime now slirp.transfers o → IsFrom (wait_end now o) (file_alarms config past)
+          by None none = tt
+          by (Some left) (due, is) =
+              from_left now (Some due) (Some left) (file_alarms config past) (ap Some is.1)
+              (owed_from due (let later = is.0.0 in omega (arith, later)) is.0.1 holds.answers.owed)
+
+      abbrev awake : List ℕ
+      awake = of_flows wakes flows
+
+      abbrev of_sockets : List ℕ
+      of_sockets = awake ++ lives config past
+
+      abbrev of_fragments : List ℕ
+      of_fragments = of_sockets ++ drops config past
+
+      abbrev of_rests : List ℕ
+      of_rests = of_fragments ++ rest_ends config past
+
+      from_sockets : (due : Option ℕ) → IsFrom due (lives config past) → IsFrom due (alarms config past)
+      from_sockets due is =
+          from_first due of_rests (file_alarms config past) (from_first due of_fragments (rest_ends config past) (from_first due of_sockets (drops config past) (from_second due awake (lives config past) is)))
+
+      from_flows : IsFrom (wait_end now time.flows) (alarms config past)
+      from_flows =
+          from_some (wait_end now time.flows) awake (rest_ends config past) (alarms config past) (from_left now suits.due time.flows (awake ++ rest_ends config past) suits.left suits.for_some)
+          (λ is. from_first (wait_end now time.flows) of_rests (file_alarms config past)
+          (from_first (wait_end now time.flows) of_fragments (rest_ends config past) (from_first (wait_end now time.flows) of_sockets (drops config past) (from_first (wait_end now time.flows) awake (lives config past) is))))
+          (λ is. from_first (wait_end now time.flows) of_rests (file_alarms config past) (from_second (wait_end now time.flows) of_fragments (rest_ends config past) is))
+
+      from_all : AreFresh now slirp.parts → IsFrom (wait_end now all) (alarms config past)
+      from_all fresh =
+          from_each now more time.files (alarms config past)
+          (from_each now some time.flows (alarms config past)
+          (from_each now datagrams time.parts (alarms config past)
+          (from_each now (time_left now slirp.associations) (question_left now slirp.questions) (alarms config past)
+          (from_sockets (wait_end now (time_left now slirp.associations)) (from_first (wait_end now (time_left now slirp.associations)) (association_lives config past) (question_lives config past) associations_from))
+          (from_sockets (wait_end now (question_left now slirp.questions)) (from_second (wait_end now (question_left now slirp.questions)) (association_lives config past) (question_lives config past) from_questions)))
+          (from_first (wait_end now time.parts) of_rests (file_alarms config past)
+          (from_first (wait_end now time.parts) of_fragments (rest_ends config past) (from_second (wait_end now time.parts) of_sockets (drops config past) (drops_left fresh)))))
+          from_flows)
+          (from_second (wait_end now time.files) of_rests (file_alarms config past) files_left)
+
+-- ---- what a wait has
+
+-- A wait lasts no longer than to what has a time: where no host had its time to connect, no socket for datagrams is idle for long, and the flows are clear and in time unless the link is blocked.
+pub until_is : (config : Config) (at : Standing) (slirp : SlirpState) (link : LinkState) (past : List Entry) → Holds config at slirp (flowing true slirp.flows) link past
+    → (timeout : Option ℕ) → ((held : List PartSet) → IsHeld slirp.parts held → IsTimeout slirp link.blocked held timeout) → AreInTime slirp.moment slirp.flows.flows.parts
+    → (link.blocked ≡ false → AllClear slirp.flows.flows.parts × ((n : ℕ) → IsInTime slirp.moment slirp.flows.flows.parts n))
+    → All (λ a. is_idle_association slirp.moment a ≡ false) slirp.associations → All (λ q. is_idle_question slirp.moment q ≡ false) slirp.questions
+    → IsBy (wait_end (moment past) timeout) (deadlines config past)
+unfolding time
+until_is config at slirp link past holds timeout times early calm young_now recent =
+    subst (λ (n : ℕ). IsBy (wait_end n timeout) (deadlines config past)) (sym holds.clock.moment)
+    (subst (λ (o : Option ℕ). IsBy (wait_end slirp.moment o) (deadlines config past)) (sym (times holds.guests.fragments.held holds.guests.fragments.is_held).is)
+    (until_all config at slirp link past holds young_now recent timeout times early calm))
+
+-- And it is cut short for nothing else than what the record has a time for, where no fragments that wait are to be dropped yet.
+pub from_is : (config : Config) (at : Standing) (slirp : SlirpState) (link : LinkState) (past : List Entry) → Holds config at slirp (flowing true slirp.flows) link past
+    → (timeout : Option ℕ) → ((held : List PartSet) → IsHeld slirp.parts held → IsTimeout slirp link.blocked held timeout) → AreFresh slirp.moment slirp.parts
+    → All (λ a. is_idle_association slirp.moment a ≡ false) slirp.associations → All (λ q. is_idle_question slirp.moment q ≡ false) slirp.questions
+    → IsFrom (wait_end (moment past) timeout) (alarms config past)
+unfolding time
+from_is config at slirp link past holds timeout times fresh young_now recent =
+    subst (λ (n : ℕ). IsFrom (wait_end n timeout) (alarms config past)) (sym holds.clock.moment)
+    (subst (λ (o : Option ℕ). IsFrom (wait_end slirp.moment o) (alarms config past)) (sym (times holds.guests.fragments.held holds.guests.fragments.is_held).is)
+    (from_all config at slirp link past holds young_now recent timeout times fresh))
