@@ -3,22 +3,22 @@ use std::collections::BTreeMap;
 
 /// A connection in a state, what happens to it, and what follows.
 #[derive(Drop)]
-pub struct Case {
-    pub name: String,
+pub struct Case<'a> {
+    pub name: &'a str,
     /// How the connection is opened.
-    pub opening: String,
+    pub opening: &'a str,
     /// The steps up to the state.
     pub before: String,
     /// The steps that happen in it.
     pub steps: String,
     /// The state after them.
-    pub state: String,
+    pub state: &'a str,
     /// How many octets of the guest were taken by them.
-    pub took: String,
+    pub took: &'a str,
     /// What became of the connection.
-    pub change: String,
+    pub change: &'a str,
     /// What goes out by them.
-    pub out: String,
+    pub out: &'a str,
 }
 
 /// The cases of a file.
@@ -51,15 +51,15 @@ pub struct Case {
 /// **What goes out** is `nothing`, or each segment with its number, its acknowledgement, its window and its window scale. A piece tells its place and its octets, and `fin`
 /// where it has FIN: `Data(0,10,fin) 250001/1001 w65535`.
 #[derive(Drop)]
-pub struct Cases {
+pub struct Cases<'a> {
     alloc: Global,
     courses: BTreeMap<String, String>,
-    cases: Vec<Case>,
+    cases: Vec<Case<'a>>,
 }
 
-impl Cases {
+impl<'a> Cases<'a> {
     /// Reads a file of cases.
-    pub fn read(alloc: Global, file: &str) -> Result<Cases, AllocError> {
+    pub fn read(alloc: Global, file: &'a str) -> Result<Cases<'a>, AllocError> {
         let mut cases = Cases {
             alloc,
             courses: BTreeMap::new(alloc),
@@ -74,12 +74,12 @@ impl Cases {
     }
 
     /// All cases, in their order.
-    pub fn all(&self) -> &[Case] {
+    pub fn all(&self) -> &[Case<'a>] {
         self.cases.as_slice()
     }
 
     // Takes a line of the file.
-    fn take(&mut self, line: &str) -> Result<(), AllocError> {
+    fn take(&mut self, line: &'a str) -> Result<(), AllocError> {
         let course = line
             .strip_prefix("course ")
             .and_then(|course| course.split_once(" = "));
@@ -93,16 +93,16 @@ impl Cases {
         Ok(())
     }
 
-    fn case_in(&self, line: &str) -> Result<Case, AllocError> {
+    fn case_in(&self, line: &'a str) -> Result<Case<'a>, AllocError> {
         Ok(Case {
-            name: field(line, 0).to_string(self.alloc)?,
-            opening: field(line, 1).to_string(self.alloc)?,
+            name: field(line, 0),
+            opening: field(line, 1),
             before: self.written_out(field(line, 2))?,
             steps: self.written_out(field(line, 3))?,
-            state: field(line, 4).to_string(self.alloc)?,
-            took: field(line, 5).to_string(self.alloc)?,
-            change: field(line, 6).to_string(self.alloc)?,
-            out: field(line, 7).to_string(self.alloc)?,
+            state: field(line, 4),
+            took: field(line, 5),
+            change: field(line, 6),
+            out: field(line, 7),
         })
     }
 

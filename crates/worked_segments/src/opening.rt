@@ -3,7 +3,7 @@ ghost use Rattle.sock_buffers.specs.Downward.{downward};
 ghost use Rattle.sock_buffers.specs.Upward.{empty};
 ghost use Rattle.tcp_guest.specs.Connection.{HasBuffers};
 
-use crate::steps::Said;
+use crate::steps::{Said, head_of};
 use seq_space::Seq;
 use tcp_guest::Conn;
 
@@ -26,26 +26,33 @@ pub struct Opening {
 impl Opening {
     /// Reads how a connection is opened. `None` where it has no reading.
     pub fn read(text: &str) -> Option<Opening> {
-        let (first, rest) = text.split_once(' ').unwrap_or((text, ""));
-        let (numbers, behind) = rest.split_once(' ').unwrap_or((rest, ""));
-        let is_accepted = first == "accept";
-        let mut opening = Opening {
-            syn: None,
+        let (first, rest) = head_of(text);
+        if first == "accept" {
+            return Opening::usual(None).with(rest);
+        }
+        let (numbers, words) = head_of(rest);
+        Opening::usual(Some(Said::usual(first, numbers)?)).with(words)
+    }
+
+    // One in which all else is as usual.
+    fn usual(syn: Option<Said>) -> Opening {
+        Opening {
+            syn,
             ours: 250_000,
             ring: 65_535,
             host: 140_000,
             mtu: 1_500,
             congestion: false,
             is_blocked: false,
-        };
-        if !is_accepted {
-            opening.syn = Some(Said::usual(first, numbers)?);
         }
-        let words = if is_accepted { rest } else { behind };
+    }
+
+    // Takes words of what isn't as usual. `None` where one has no reading.
+    fn with(mut self, words: &str) -> Option<Opening> {
         for word in words.split_whitespace() {
-            opening.take(word)?;
+            self.take(word)?;
         }
-        Some(opening)
+        Some(self)
     }
 
     // Takes a word of what isn't as usual. `None` where it has no reading.

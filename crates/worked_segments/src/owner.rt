@@ -240,15 +240,27 @@ impl Owner {
         if !self.out.is_empty() {
             self.out.push_str("; ")?;
         }
+        self.write_name(owed)?;
+        self.write_numbers(owed, head)?;
+        self.write_scale(head.scale)
+    }
+
+    fn write_name(&mut self, owed: &Owed) -> Result<(), AllocError> {
         let name = self.name_of(owed)?;
+        self.out.push_str(name.as_str())
+    }
+
+    fn write_numbers(&mut self, owed: &Owed, head: Head) -> Result<(), AllocError> {
         let numbers = self.numbers_of(owed, head)?;
-        self.out.push_str(name.as_str())?;
-        self.out.push_str(numbers.as_str())?;
-        if let Some(scale) = head.scale {
-            let scale = format!(in self.alloc; " ws{scale}")?;
-            self.out.push_str(scale.as_str())?;
-        }
-        Ok(())
+        self.out.push_str(numbers.as_str())
+    }
+
+    fn write_scale(&mut self, scale: Option<u8>) -> Result<(), AllocError> {
+        let Some(scale) = scale else {
+            return Ok(());
+        };
+        let scale = format!(in self.alloc; " ws{scale}")?;
+        self.out.push_str(scale.as_str())
     }
 
     fn name_of(&self, owed: &Owed) -> Result<String, AllocError> {
@@ -284,15 +296,20 @@ impl Owner {
             return self.closed();
         }
         let (name, taken, sent, acked) = (name_of(state), self.taken(), self.sent, self.acked());
-        let ends = self.ends()?;
         let rest = self.rest(behind)?;
+        let edge = self.edge(edge)?;
+        format!(in self.alloc; "{name} ({taken} {sent} {acked} {edge}{rest}")
+    }
+
+    // The edge, which is `edge` where nothing else can be seen.
+    fn edge(&mut self, edge: u64) -> Result<u64, AllocError> {
+        let sent = self.sent;
         let reached = self.reached()?.unwrap_or(edge);
-        let edge = if reached == edge.max(sent) {
+        Ok(if reached == edge.max(sent) {
             edge
         } else {
             reached
-        };
-        format!(in self.alloc; "{name} ({taken} {sent} {acked} {edge}{ends}){rest}")
+        })
     }
 
     fn closed(&self) -> Result<String, AllocError> {
@@ -326,18 +343,31 @@ impl Owner {
         Ok(ends)
     }
 
-    // What stands behind the brackets of a state where that stands there in a case.
+    // What stands behind the numbers: which ends passed, and what is behind the brackets.
     fn rest(&self, wanted: &str) -> Result<String, AllocError> {
+        let mut text = self.ends()?;
+        text.push(')')?;
+        self.put_behind(&mut text, wanted)?;
+        Ok(text)
+    }
+
+    // What stands behind the brackets where that stands there in a case.
+    fn put_behind(&self, text: &mut String, wanted: &str) -> Result<(), AllocError> {
         if wanted.contains("timer") {
-            return match self.until() {
-                Some(moment) => format!(in self.alloc; " timer {moment}"),
-                None => " no timer".to_string(self.alloc),
-            };
+            self.put_timer(text)
+        } else if wanted.contains("holds") {
+            self.put_held(text)
+        } else {
+            Ok(())
         }
-        if wanted.contains("holds") {
-            return self.holds();
-        }
-        Ok(String::new(self.alloc))
+    }
+
+    fn put_timer(&self, text: &mut String) -> Result<(), AllocError> {
+        let Some(moment) = self.until() else {
+            return text.push_str(" no timer");
+        };
+        let timer = format!(in self.alloc; " timer {moment}")?;
+        text.push_str(timer.as_str())
     }
 
     // The moment until which the connection waits: for its socket, or for its timer.
@@ -350,22 +380,21 @@ impl Owner {
     }
 
     // The octets that are held: `x15 k5` stands for fifteen x and five k.
-    fn holds(&self) -> Result<String, AllocError> {
+    fn put_held(&self, text: &mut String) -> Result<(), AllocError> {
+        text.push_str(" holds")?;
         let mut octets = [0; 64];
         let count = self.up.front_piece(&mut octets);
-        let mut text = " holds".to_string(self.alloc)?;
         let mut run = 0u32;
         let mut last = 0;
         for octet in octets.iter().take(count) {
             if *octet != last {
-                self.end_run(&mut text, last, run)?;
+                self.end_run(text, last, run)?;
                 run = 0;
                 last = *octet;
             }
             run = run.saturating_add(1);
         }
-        self.end_run(&mut text, last, run)?;
-        Ok(text)
+        self.end_run(text, last, run)
     }
 
     fn end_run(&self, text: &mut String, letter: u8, run: u32) -> Result<(), AllocError> {

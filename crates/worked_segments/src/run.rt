@@ -5,41 +5,54 @@ use crate::steps::Step;
 use std::alloc::{AllocError, Global};
 
 /// Runs a case, and says whether it came to what it must come to: `passed`, or what was otherwise.
-pub fn verdict(alloc: Global, case: &Case) -> Result<String, AllocError> {
-    let Some(opening) = Opening::read(case.opening.as_str()) else {
-        return format!(in alloc; "FAILED: its opening has no reading");
+pub fn verdict(alloc: Global, case: &Case<'_>) -> Result<String, AllocError> {
+    let Some(opening) = Opening::read(case.opening) else {
+        return "FAILED: its opening has no reading".to_string(alloc);
     };
     let mut owner = Owner::open(alloc, &opening)?;
-    if !follow(&mut owner, case.before.as_str())? {
-        return format!(in alloc; "FAILED: a step before has no reading");
+    verdict_on(alloc, &mut owner, case)
+}
+
+// Takes the steps of a case, and says what came of them.
+fn verdict_on(alloc: Global, owner: &mut Owner, case: &Case<'_>) -> Result<String, AllocError> {
+    if !follow(owner, case.before.as_str())? {
+        return "FAILED: a step before has no reading".to_string(alloc);
     }
     owner.forget();
     let before = owner.taken();
-    if !follow(&mut owner, case.steps.as_str())? {
-        return format!(in alloc; "FAILED: a step has no reading");
+    if !follow(owner, case.steps.as_str())? {
+        return "FAILED: a step has no reading".to_string(alloc);
     }
-    let took = owner.taken().saturating_sub(before).to_string(alloc)?;
-    if let Some(otherwise) = otherwise(alloc, "change", owner.change(), case.change.as_str())? {
-        return Ok(otherwise);
+    let took = owner.taken().saturating_sub(before);
+    if owner.change() != case.change {
+        return otherwise(alloc, "change", owner.change(), case.change);
     }
-    if let Some(otherwise) = otherwise(
-        alloc,
-        "count of octets",
-        took.as_str(),
-        case.took.as_str(),
-    )? {
-        return Ok(otherwise);
+    verdict_on_count(alloc, owner, took, case)
+}
+
+fn verdict_on_count(
+    alloc: Global,
+    owner: &mut Owner,
+    took: u64,
+    case: &Case<'_>,
+) -> Result<String, AllocError> {
+    let took = took.to_string(alloc)?;
+    if took.as_str() != case.took {
+        return otherwise(alloc, "count of octets", took.as_str(), case.took);
     }
-    if let Some(otherwise) = otherwise(alloc, "output", owner.out(), case.out.as_str())? {
-        return Ok(otherwise);
+    if owner.out() != case.out {
+        return otherwise(alloc, "output", owner.out(), case.out);
     }
-    let (edge, behind) = expected(case.state.as_str());
+    verdict_on_state(alloc, owner, case.state)
+}
+
+fn verdict_on_state(alloc: Global, owner: &mut Owner, wanted: &str) -> Result<String, AllocError> {
+    let (edge, behind) = expected(wanted);
     let state = owner.state(edge, behind)?;
-    let otherwise = otherwise(alloc, "state", state.as_str(), case.state.as_str())?;
-    match otherwise {
-        Some(otherwise) => Ok(otherwise),
-        None => "passed".to_string(alloc),
+    if state.as_str() != wanted {
+        return otherwise(alloc, "state", state.as_str(), wanted);
     }
+    "passed".to_string(alloc)
 }
 
 // Takes all steps. Answers whether each has a reading.
@@ -64,16 +77,6 @@ fn expected(state: &str) -> (u64, &str) {
     (edge.parse::<u64>().unwrap_or(0), behind)
 }
 
-// What was otherwise, if it was.
-fn otherwise(
-    alloc: Global,
-    what: &str,
-    is: &str,
-    wanted: &str,
-) -> Result<Option<String>, AllocError> {
-    if is == wanted {
-        return Ok(None);
-    }
-    let text = format!(in alloc; "FAILED: its {what} is {is}, and was to be {wanted}")?;
-    Ok(Some(text))
+fn otherwise(alloc: Global, what: &str, is: &str, wanted: &str) -> Result<String, AllocError> {
+    format!(in alloc; "FAILED: its {what} is {is}, and was to be {wanted}")
 }

@@ -35,7 +35,7 @@ pub struct Said {
 impl Step {
     /// Reads a step. `None` where it has no reading.
     pub fn read(text: &str) -> Option<Step> {
-        let (word, rest) = text.split_once(' ').unwrap_or((text, ""));
+        let (word, rest) = head_of(text);
         match word {
             "Connected" => Some(Step::News(HostNews::Connected)),
             "Refused" => Some(Step::News(HostNews::Refused)),
@@ -55,7 +55,7 @@ impl Step {
 impl Said {
     /// Reads a segment: its flags, and what stands behind them. `None` where it has no reading.
     fn read(flags: &str, rest: &str) -> Option<Said> {
-        let (numbers, words) = rest.split_once(' ').unwrap_or((rest, ""));
+        let (numbers, words) = head_of(rest);
         let mut said = Said::usual(flags, numbers)?;
         for word in words.split_whitespace() {
             said.take(word)?;
@@ -93,6 +93,11 @@ impl Said {
         }
         Some(())
     }
+}
+
+/// The first word of a text, and what stands behind it.
+pub fn head_of(text: &str) -> (&str, &str) {
+    text.split_once(' ').unwrap_or((text, ""))
 }
 
 fn flags_in(text: &str) -> Option<u8> {
