@@ -9,6 +9,8 @@ use Rattle.host_policy.specs.declared.config.Field.TheVariants.{Octets}
 use Rattle.slirp_config.specs.Meaning.{AnswersBy, AreSettings, Drives, HasPlace, Meaning, Means, MeansReplay, MeansServe, Replays, Serves, broken_in, config_of, said}
 use Rattle.slirp_config.specs.Options.{Word, value_of}
 use Rattle.slirp_config.specs.declared.Command.{Command}
+use Rattle.slirp_config.specs.declared.Tap.{Tap}
+use Rattle.slirp_config.specs.declared.Tap.TheVariants.{Off, Record, Capture}
 use Rattle.slirp_config.specs.declared.WordFault.{WordFault}
 use Rattle.slirp_config.specs.declared.WordFault.TheVariants.{Usage as Misread, BadConfig as BadField}
 use Rattle.run_laws.specs.Shape.{phase}
@@ -17,10 +19,10 @@ use Rattle.serve_loop.specs.declared.service.End.{End}
 use Rattle.serve_loop.specs.declared.service.End.TheVariants.{Done as EndDone, TooLong, Cut, LinkFault as EndLink, WaitFault as EndWait, TurnsSpent as EndTurns, ListenRefused as EndRefused}
 use Rattle.slirp_app.specs.Doing.{CanBeDone, Course, Meant, Misset, Misused, Does, refusal_of}
 use Rattle.serve_loop.specs.Served.{IsBuilt}
-use Rattle.slirp_app.specs.Serving.{ServesAt, Runs, IsRefused, HasNoMemory}
-use Rattle.slirp_app.specs.Statuses.{code_of, outcome_of}
+use Rattle.slirp_app.specs.Serving.{HasNoMemory, IsGiven, IsRefused, IsUnopened, OpensAt, Records, Runs, Serves as Served, ServesAt, Took, TookNot}
+use Rattle.slirp_app.specs.Statuses.{code_of, is_unrun, outcome_of}
 use Rattle.slirp_app.specs.declared.status.Outcome.{Outcome}
-use Rattle.slirp_app.specs.declared.status.Outcome.TheVariants.{BadConfig}
+use Rattle.slirp_app.specs.declared.status.Outcome.TheVariants.{BadConfig, NoMemory}
 
 -- what no option gives is not asked for
 is_built : (config : Config) (given : Word → Option Word) → AreSettings given config → IsBuilt config
@@ -32,12 +34,12 @@ is_built config given set = record {
 built_replay : (config : Config) (behind : List Word) (file : Word) → MeansReplay behind file config → IsBuilt config
 built_replay config behind file (line, rules, same, all, alone, some, few, are, set) = is_built config (value_of line) set
 
-built_serve : (config : Config) (behind : List Word) (at : Place) → MeansServe behind config at → IsBuilt config
-built_serve config behind at (line, same, all, link, are, set) = is_built config (value_of line) set
+built_serve : (config : Config) (behind : List Word) (at : Place) (tap : Tap) → MeansServe behind config at tap → IsBuilt config
+built_serve config behind at tap (line, same, all, link, taps, are, set) = is_built config (value_of line) set
 
 pub built : (words : List Word) (meaning : Meaning) → Means words meaning → IsBuilt (config_of meaning)
 built words (Replays file config) (behind, is, meant) = built_replay config behind file meant
-built words (Serves config at) (behind, is, meant) = built_serve config behind at meant
+built words (Serves config at tap) (behind, is, meant) = built_serve config behind at tap meant
 built words (Drives number octets) means = record { guest_forwards = refl; control = refl }
 
 named : (behind : List Word) (file : Word) (config : Config) → MeansReplay behind file config → (0 < length file) × (length file ≤ 1280)
@@ -53,7 +55,7 @@ in_range number octets small = let is : ltb 10000000 octets ≡ false = grind (a
 
 pub can_be_done : (words : List Word) (meaning : Meaning) → Means words meaning → HasPlace meaning → broken_in meaning ≡ None → CanBeDone meaning
 can_be_done words (Replays file config) (behind, is, meant) place none = named behind file config meant
-can_be_done words (Serves config at) means place none = place
+can_be_done words (Serves config at tap) means place none = place
 can_be_done words (Drives number octets) means place none = few octets (ltb 10000000 octets) refl none
 
 -- what is answered is the one meaning of the words
@@ -83,20 +85,61 @@ unbroken other (Some field) result command is that = cc
 pub none_broken : (result : Result Command WordFault) (command : Command) → result ≡ Ok command → AnswersBy result (said command) → broken_in (said command) ≡ None
 none_broken result command is answers = unbroken (said command) (broken_in (said command)) result command is answers
 
--- what serves comes to neither status of the words
-end_code : (end : End) → (code_of (outcome_of end) ≢ 1) × (code_of (outcome_of end) ≢ 2)
-end_code EndDone = (λ is. cc, λ is. cc)
-end_code (TooLong n) = (λ is. cc, λ is. cc)
-end_code (Cut n) = (λ is. cc, λ is. cc)
-end_code EndLink = (λ is. cc, λ is. cc)
-end_code EndWait = (λ is. cc, λ is. cc)
-end_code (EndTurns n) = (λ is. cc, λ is. cc)
-end_code (EndRefused n) = (λ is. cc, λ is. cc)
+-- A run's own end comes neither to a status of what wasn't run nor to that of a fault of `out`.
+pub record IsOfRun (outcome : Outcome) : Type 0 where
+  pub ran : is_unrun (code_of outcome) ≡ false
+  pub taken : code_of outcome ≢ 12
 
-pub served_code : (config : Config) (at : Place) (outcome : Outcome) (made : List Entry) → ServesAt config at outcome made → (code_of outcome ≢ 1) × (code_of outcome ≢ 2)
-served_code config at outcome made (Runs r) = subst (λ (o : Outcome). (code_of o ≢ 1) × (code_of o ≢ 2)) (sym r.ends) (end_code (end_of config (phase config r.run)))
-served_code config at outcome made (IsRefused only is) = subst (λ (o : Outcome). (code_of o ≢ 1) × (code_of o ≢ 2)) (sym is) (λ same. cc, λ same. cc)
-served_code config at outcome made (HasNoMemory none is) = subst (λ (o : Outcome). (code_of o ≢ 1) × (code_of o ≢ 2)) (sym is) (λ same. cc, λ same. cc)
+end_code : (end : End) → IsOfRun (outcome_of end)
+end_code EndDone = record { ran = refl; taken = λ is. cc }
+end_code (TooLong n) = record { ran = refl; taken = λ is. cc }
+end_code (Cut n) = record { ran = refl; taken = λ is. cc }
+end_code EndLink = record { ran = refl; taken = λ is. cc }
+end_code EndWait = record { ran = refl; taken = λ is. cc }
+end_code (EndTurns n) = record { ran = refl; taken = λ is. cc }
+end_code (EndRefused n) = record { ran = refl; taken = λ is. cc }
+
+pub end_of_run : (outcome : Outcome) (end : End) → outcome ≡ outcome_of end → IsOfRun outcome
+end_of_run outcome end is = subst IsOfRun (sym is) (end_code end)
+
+pub opens_code : (config : Config) (at : Place) (outcome : Outcome) (made : List Entry) → OpensAt config at outcome made → IsOfRun outcome
+opens_code config at outcome made (Runs run is ran) = end_of_run outcome (end_of config (phase config run)) ran.ends
+opens_code config at outcome made (IsRefused is told) = subst IsOfRun (sym told) (record { ran = refl; taken = λ is. cc })
+
+given_code : (octets : List ℕ) (course outcome : Outcome) (old new : Option (List ℕ)) → IsOfRun course → IsGiven octets course outcome old new → is_unrun (code_of outcome) ≡ false
+given_code octets course outcome old new of (Took put is) = ap (λ (o : Outcome). is_unrun (code_of o)) is ∙ of.ran
+given_code octets course outcome old new of (TookNot is) = ap (λ (o : Outcome). is_unrun (code_of o)) is
+
+-- what serves was run, or there was no memory and nothing was put
+pub served_code : (config : Config) (at : Place) (tap : Tap) (outcome : Outcome) (old new : Option (List ℕ)) (made : List Entry) → ServesAt config at tap outcome old new made
+    → (is_unrun (code_of outcome) ≡ false) ⊎ ((outcome ≡ NoMemory) × (new ≡ old))
+served_code config at Off outcome old new made (Served taps) = inl (opens_code config at outcome made taps.0).ran
+served_code config at Record outcome old new made (Served (Records run is recorded)) =
+    inl (given_code _ recorded.done outcome old new (end_of_run recorded.done (end_of config (phase config run)) recorded.ran.ends) recorded.given)
+served_code config at Record outcome old new made (Served (IsUnopened is told same)) = inl (ap (λ (o : Outcome). is_unrun (code_of o)) told)
+served_code config at Capture outcome old new made (Served taps) = inl (given_code _ taps.done outcome old new (opens_code config at taps.done made taps.opens) taps.given)
+served_code config at tap outcome old new made (HasNoMemory none is same) = inr (is, same)
+
+run_status : (outcome : Outcome) → is_unrun (code_of outcome) ≡ false → (code_of outcome ≢ 1) × (code_of outcome ≢ 2)
+run_status outcome ran = (
+  λ is. let clash : ◌≡◌ {A = Bool} true false = ap is_unrun (sym is) ∙ ran in cc clash,
+  λ is. let clash : ◌≡◌ {A = Bool} true false = ap is_unrun (sym is) ∙ ran in cc clash,
+)
+
+status_of : (outcome : Outcome) {P : Type 0} → (is_unrun (code_of outcome) ≡ false) ⊎ ((outcome ≡ NoMemory) × P) → (code_of outcome ≢ 1) × (code_of outcome ≢ 2)
+status_of outcome (inl ran) = run_status outcome ran
+status_of outcome (inr (is, same)) = subst (λ (o : Outcome). (code_of o ≢ 1) × (code_of o ≢ 2)) (sym is) (λ one. cc, λ two. cc)
+
+nothing_put : (outcome : Outcome) {P : Type 0} → (is_unrun (code_of outcome) ≡ false) ⊎ ((outcome ≡ NoMemory) × P) → is_unrun (code_of outcome) ≡ true → P
+nothing_put outcome (inl ran) unrun = let clash : ◌≡◌ {A = Bool} true false = sym unrun ∙ ran in absurd (cc clash)
+nothing_put outcome (inr (is, same)) unrun = same
+
+module _ (config : Config) (at : Place) (tap : Tap) (outcome : Outcome) (world world_new : Telling) (old new : Option (List ℕ)) (makes : Makes world world_new (ServesAt config at tap outcome old new)) where
+  pub serves_read : (code_of outcome ≢ 1) × (code_of outcome ≢ 2)
+  serves_read = status_of outcome (served_code config at tap outcome old new makes.made makes.holds)
+
+  pub serves_nothing : is_unrun (code_of outcome) ≡ true → new ≡ old
+  serves_nothing unrun = nothing_put outcome (served_code config at tap outcome old new makes.made makes.holds) unrun
 
 one_none : (o : Option Field) (field : Field) → o ≡ Some field → o ≡ None → ⊥
 one_none o field is none = cc

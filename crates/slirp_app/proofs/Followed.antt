@@ -87,7 +87,7 @@ at_end config WaitFault schedule old new ran = ran
 at_end config (TurnsSpent n) schedule old new ran = ran
 at_end config (ListenRefused n) schedule old new ran = ran
 
--- a run, lawful and finished, each of whose waits attends to all that can be taken, with the end that its record tells
+-- a run, lawful and finished, each of whose waits is as it must be, with the end that its record tells
 abbrev pub Ran : Config → End → List Entry → Type 0
 Ran config end made = Lawful config made × Dutiful config made × Finished config made × (end ≡ end_of config (phase config made))
 

@@ -1,7 +1,6 @@
 -- From the record of a run to the status.
-use Rattle.std.proofs.Common.{◌≡◌, ◌≢◌, ◌⊎◌, inl, inr, ℕ, ◌<◌, ◌≤◌, ◌==◌, ◌||◌, not, Bool, true, false, IsTrue, List, [], ◌∷◌, ◌++◌, Option, refl, sym, ◌∙◌, ap, subst, arith}
+use Rattle.std.proofs.Common.{◌≡◌, ◌≢◌, ◌⊎◌, inl, inr, ℕ, ◌<◌, ◌≤◌, ◌==◌, ◌||◌, not, Bool, true, false, IsTrue, List, Option, refl, ◌∙◌, ap, arith}
 use Rattle.std.proofs.lemmas.Bool.Decides.{nat_tests}
-use Rattle.std.proofs.lemmas.List.{append_cancel_right}
 use Rattle.host_policy.specs.Addresses.{Config}
 use Rattle.run_laws.specs.Shape.{By, Over, Phase, phase}
 use Rattle.serve_loop.specs.Ends.{end_of}
@@ -10,16 +9,15 @@ use Rattle.slirp_laws.specs.Laws.{Finished, Lawful}
 use Rattle.slirp_app.specs.Causes.{RanOn}
 use Rattle.slirp_app.specs.Doing.{ReplaysFile}
 use Rattle.slirp_app.specs.Fetching.{IsWhole, octets_read}
-use Rattle.slirp_app.specs.Serving.{RunsAt}
+use Rattle.slirp_app.specs.Serving.{IsRun}
 use Rattle.slirp_app.specs.Statuses.{code_of, outcome_of, is_run}
 use Rattle.slirp_app.specs.Untroubled.{CanBeFollowed, Untroubled}
 use Rattle.slirp_app.specs.declared.status.Outcome.{Outcome}
 use Rattle.slirp_app.specs.declared.status.Outcome.TheVariants.{Done}
 use Rattle.slirp_app.proofs.Completed.{ends_well}
 use Rattle.world_face.specs.Frames.{LinkEnded, Stopped}
-use Rattle.world_face.specs.Journal.{AreAllowed, Entry, LinkOpen, Place}
+use Rattle.world_face.specs.Journal.{AreAllowed, Entry}
 use Rattle.world_face.specs.Tells.{Telling, Told}
-use Rattle.world_face.specs.declared.Made.TheVariants.{Done as Opened}
 use Rattle.world_face.proofs.Telling.{makes_as}
 
 at_end : (config : Config) (p : Phase) → (p ≡ Over (By LinkEnded)) ⊎ (p ≡ Over (By Stopped)) → end_of config p ≡ AtEnd
@@ -29,16 +27,8 @@ at_end config p (inr stopped) = ap (end_of config) stopped
 pub is_at_end : (config : Config) (journal : List Entry) → AreAllowed journal → Lawful config journal → Finished config journal → Untroubled config journal → end_of config (phase config journal) ≡ AtEnd
 is_at_end config journal allowed lawful finished untroubled = at_end config (phase config journal) (ends_well config journal allowed lawful untroubled finished)
 
--- the newest calls
-newest_allowed : (later past : List Entry) → AreAllowed (later ++ past) → AreAllowed later
-newest_allowed [] past all = tt
-newest_allowed (e ∷ later) past all = (all.0, newest_allowed later past all.1)
-
-pub is_served : (config : Config) (at : Place) (outcome : Outcome) (made run : List Entry) → RunsAt config at outcome made → AreAllowed made → made ≡ run ++ LinkOpen at Opened ∷ [] → Untroubled config run → outcome ≡ Done
-is_served config at outcome made run ran allowed is untroubled =
-    let same : ran.run ≡ run = append_cancel_right ran.run run (LinkOpen at Opened ∷ []) (sym ran.is ∙ is) in
-    let all : AreAllowed ran.run = newest_allowed ran.run (LinkOpen at Opened ∷ []) (subst AreAllowed ran.is allowed) in
-    ran.ends ∙ ap outcome_of (is_at_end config ran.run all ran.lawful ran.finished (subst (Untroubled config) (sym same) untroubled))
+pub is_served : (config : Config) (outcome : Outcome) (run : List Entry) → IsRun config outcome run → AreAllowed run → Untroubled config run → outcome ≡ Done
+is_served config outcome run ran allowed untroubled = ran.ends ∙ ap outcome_of (is_at_end config run allowed ran.lawful ran.finished untroubled)
 
 module _ (file : List ℕ) (config : Config) (status : ℕ) (world world_new : Telling) (old new : Option (List ℕ)) (Said : Outcome → Type 0)
     (replays : ReplaysFile file config status world world_new old new Said) where

@@ -5,6 +5,9 @@ mod Courses
 mod Ending
 mod Fetched
 mod Followed
+mod Fitted
 mod Following
 mod Lined
 mod Opened
+mod Served
+mod Tapped

@@ -1,36 +1,38 @@
 -- The calls of `serve`.
-use Rattle.std.proofs.Common.{◌≡◌, [], ◌∷◌, ◌++◌, refl, ap, subst, ◌∙◌}
-use Rattle.world_face.specs.Journal.{Place, LinkOpen}
+use Rattle.std.proofs.Common.{◌≡◌, ℕ, List, [], ◌∷◌, ◌++◌, Option, refl, sym, ◌∙◌, ap, subst}
+use Rattle.world_face.specs.Journal.{Entry, Place, LinkOpen}
 use Rattle.world_face.specs.Tells.{Telling, Answers, Makes}
 use Rattle.world_face.specs.declared.Made.TheVariants.{Done, Failed}
 use Rattle.world_face.proofs.Telling.{makes_one, makes_then}
 use Rattle.host_policy.specs.Addresses.{Config}
-use Rattle.run_laws.specs.Shape.{phase}
-use Rattle.slirp_laws.specs.Laws.{Finished, Lawful}
-use Rattle.run_duties.specs.Duties.{Dutiful}
-use Rattle.serve_loop.specs.Ends.{end_of}
-use Rattle.serve_loop.specs.declared.service.End.{End}
-use Rattle.slirp_app.specs.Serving.{ServesAt, Runs, IsRefused}
+use Rattle.slirp_app.specs.Serving.{IsRecorded, IsRefused, IsRun, IsUnopened, OpensAt, Records, RecordsAt, Runs}
 use Rattle.slirp_app.specs.Statuses.{outcome_of}
 use Rattle.slirp_app.specs.declared.status.Outcome.{Outcome}
 use Rattle.slirp_app.specs.declared.status.Outcome.TheVariants.{LinkFault}
+use Rattle.slirp_app.proofs.Followed.{Ran}
+use Rattle.serve_loop.specs.declared.service.End.{End}
 
--- the link was opened, and the network ran
-pub opened : (a b c : Telling) (at : Place) (outcome : Outcome) (end : End) (config its : Config) → its ≡ config → Answers a b (LinkOpen at Done)
-    → Makes b c (λ made. Lawful its made × Dutiful its made × Finished its made × (end ≡ end_of its (phase its made))) → outcome ≡ outcome_of end → Makes a c (ServesAt config at outcome)
-opened a b c at outcome end config its is first ran told =
-    makes_then a b c (λ made. made ≡ LinkOpen at Done ∷ []) (λ made. Lawful its made × Dutiful its made × Finished its made × (end ≡ end_of its (phase its made))) (ServesAt config at outcome)
+-- the calls of a run, with the end that they tell
+pub is_run : (config : Config) (end : End) (outcome : Outcome) (run : List Entry) → Ran config end run → outcome ≡ outcome_of end → IsRun config outcome run
+is_run config end outcome run holds told = record { lawful = holds.0; dutiful = holds.1; finished = holds.2; ends = told ∙ ap outcome_of holds.3 }
+
+-- the link was opened, and some calls were made
+behind : {P Q : List Entry → Type 0} (a b c : Telling) (at : Place) → Answers a b (LinkOpen at Done) → Makes b c P → ((run : List Entry) → P run → Q (run ++ LinkOpen at Done ∷ [])) → Makes a c Q
+behind {P} {Q} a b c at first calls here =
+    makes_then a b c (λ made. made ≡ LinkOpen at Done ∷ []) P Q
     (makes_one a b (LinkOpen at Done) (λ made. made ≡ LinkOpen at Done ∷ []) first (λ allowed. refl))
-    ran
-    (λ before run here holds. Runs (record {
-      run = run;
-      is = ap (λ l. run ++ l) here;
-      lawful = subst (λ k. Lawful k run) is holds.0;
-      dutiful = subst (λ k. Dutiful k run) is holds.1;
-      finished = subst (λ k. Finished k run) is holds.2;
-      ends = told ∙ ap outcome_of (subst (λ k. end ≡ end_of k (phase k run)) is holds.3);
-    }))
+    calls
+    (λ before run is holds. subst (λ l. Q (run ++ l)) (sym is) (here run holds))
+
+pub opened : (a b c : Telling) (at : Place) (outcome : Outcome) (end : End) (config : Config) → Answers a b (LinkOpen at Done) → Makes b c (Ran config end) → outcome ≡ outcome_of end → Makes a c (OpensAt config at outcome)
+opened a b c at outcome end config first calls told = behind a b c at first calls (λ run holds. Runs run refl (is_run config end outcome run holds told))
+
+pub opened_recorded : (a b c : Telling) (at : Place) (outcome : Outcome) (config : Config) (old new : Option (List ℕ)) → Answers a b (LinkOpen at Done) → Makes b c (IsRecorded config outcome old new) → Makes a c (RecordsAt config at outcome old new)
+opened_recorded a b c at outcome config old new first calls = behind a b c at first calls (λ run holds. Records run refl holds)
 
 -- it couldn't be opened
-pub refused : (a b : Telling) (config : Config) (at : Place) → Answers a b (LinkOpen at Failed) → Makes a b (ServesAt config at LinkFault)
-refused a b config at first = makes_one a b (LinkOpen at Failed) (ServesAt config at LinkFault) first (λ allowed. IsRefused refl refl)
+pub refused : (a b : Telling) (config : Config) (at : Place) → Answers a b (LinkOpen at Failed) → Makes a b (OpensAt config at LinkFault)
+refused a b config at first = makes_one a b (LinkOpen at Failed) (OpensAt config at LinkFault) first (λ allowed. IsRefused refl refl)
+
+pub refused_recorded : (a b : Telling) (config : Config) (at : Place) (old : Option (List ℕ)) → Answers a b (LinkOpen at Failed) → Makes a b (RecordsAt config at LinkFault old old)
+refused_recorded a b config at old first = makes_one a b (LinkOpen at Failed) (RecordsAt config at LinkFault old old) first (λ allowed. IsUnopened refl refl refl)

@@ -13,6 +13,7 @@ use Rattle.run_laws.specs.Moments.{waits}
 use Rattle.run_laws.specs.Shape.{Over, Refused, phase}
 use Rattle.slirp_config.specs.Meaning.{Meaning, Means, Replays, Serves, Drives, broken_in}
 use Rattle.slirp_config.specs.Options.{Word}
+use Rattle.slirp_config.specs.declared.Tap.{Tap}
 use Rattle.slirp_config.specs.declared.WordFault.{WordFault}
 use Rattle.slirp_config.specs.declared.WordFault.TheVariants.{Usage as Misread, BadConfig as BadField}
 use Rattle.serve_loop.specs.Ends.{end_of}
@@ -54,13 +55,12 @@ pub record ReplaysFile (file : Word) (config : Config) (status : ℕ) (world wor
   -- with 11 the host refused a forward, and the text has its number, counted from 0
   pub forward_refused : status ≡ 11 → RanOn config world world_new 11 old new (λ schedule journal. (forward : ℕ) × (phase config journal ≡ Over (Refused forward)) × Told (ListenRefused forward))
 
--- What `serve --link AT` does: the link is opened, and then the calls are those of one lawful, finished run with the settings of the words; the outcome is that of its end, and `err` got its text. Nothing is put.
-pub record ServesLink (config : Config) (at : Place) (status : ℕ) (world world_new : Telling) (old new : Option (List ℕ)) (Told : Outcome → Type 0) : Type 0 where
+-- What `serve --link AT` does: the link is opened, and then the calls are those of one lawful, finished run with the settings of the words; what the words ask for is put of these calls, the same ones whether `world` tells them or not; and `err` got the text of the outcome.
+pub record ServesLink (config : Config) (at : Place) (tap : Tap) (status : ℕ) (world world_new : Telling) (old new : Option (List ℕ)) (Told : Outcome → Type 0) : Type 0 where
   pub outcome : Outcome
   pub is : status ≡ code_of outcome
   pub told : Told outcome
-  pub makes : Makes world world_new (ServesAt config at outcome)
-  pub nothing : new ≡ old
+  pub makes : Makes world world_new (ServesAt config at tap outcome old new)
 
 -- What `drive NUMBER OCTETS` does: the network runs on a World that is made from NUMBER, whose guest sends OCTETS octets.
 pub record DrivesRun (number octets : ℕ) (status : ℕ) (world world_new : Telling) (old new : Option (List ℕ)) : Type 0 where
@@ -74,13 +74,13 @@ pub record DrivesRun (number octets : ℕ) (status : ℕ) (world world_new : Tel
 -- what comes of the outcome alone; the settings of a run are those of the words as far as they are built
 abbrev pub Does : Meaning → Outcome → (world world_new : Telling) → (old new : Option (List ℕ)) → Type 0
 Does (Replays file config) outcome world world_new old new = Makes world world_new (λ made. Follows (MayFetch file) made × Caused config outcome made old new)
-Does (Serves config at) outcome world world_new old new = Makes world world_new (ServesAt config at outcome) × (new ≡ old)
+Does (Serves config at tap) outcome world world_new old new = Makes world world_new (ServesAt config at tap outcome old new)
 Does (Drives number octets) outcome world world_new old new = DrivesRun number octets (code_of outcome) world world_new old new
 
 -- a file has a name that can be asked for, a link a place at which it can be opened, a drill as many octets as it may have
 abbrev pub CanBeDone : Meaning → Type 0
 CanBeDone (Replays file config) = (0 < length file) × (length file ≤ 1280)
-CanBeDone (Serves config at) = IsPlace at
+CanBeDone (Serves config at tap) = IsPlace at
 CanBeDone (Drives number octets) = octets ≤ 10000000
 
 -- what comes of words that aren't followed

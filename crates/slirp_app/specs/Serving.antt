@@ -1,27 +1,62 @@
 -- What `serve` did.
-use Rattle.std.specs.Prelude.{◌≡◌, List, [], ◌∷◌, ◌++◌}
+use Rattle.std.specs.Prelude.{◌≡◌, ℕ, List, [], ◌∷◌, ◌++◌, Option}
 use Rattle.world_face.specs.Journal.{Entry, Place, LinkOpen}
+use Rattle.world_face.specs.Puts.{added}
 use Rattle.world_face.specs.declared.Made.TheVariants.{Done, Failed}
 use Rattle.host_policy.specs.Addresses.{Config}
 use Rattle.run_laws.specs.Shape.{phase}
 use Rattle.slirp_laws.specs.Laws.{Finished, Lawful}
 use Rattle.run_duties.specs.Duties.{Dutiful}
+use Rattle.replay.specs.Text.{text}
 use Rattle.serve_loop.specs.Ends.{end_of}
+use Rattle.slirp_config.specs.declared.Tap.{Tap}
+use Rattle.slirp_config.specs.declared.Tap.TheVariants.{Off, Record, Capture}
 use Rattle.slirp_app.specs.Statuses.{outcome_of}
 use Rattle.slirp_app.specs.declared.status.Outcome.{Outcome}
-use Rattle.slirp_app.specs.declared.status.Outcome.TheVariants.{LinkFault, NoMemory}
+use Rattle.slirp_app.specs.declared.status.Outcome.TheVariants.{LinkFault, NoMemory, SinkFault}
+use Rattle.taps.specs.Capturing.{capture}
 
--- After the link was opened the calls are those of a lawful run, each of whose waits attends to all that can be taken; nothing more is to be done, and the outcome is that of the end which the record tells.
-pub record RunsAt (config : Config) (at : Place) (outcome : Outcome) (made : List Entry) : Type 0 where
-  pub run : List Entry
-  pub is : made ≡ run ++ LinkOpen at Done ∷ []
+-- The calls of a whole run: each is lawful, each wait is as it must be, and nothing more is to be done; the outcome is that of the end which they tell.
+pub record IsRun (config : Config) (outcome : Outcome) (run : List Entry) : Type 0 where
   pub lawful : Lawful config run
   pub dutiful : Dutiful config run
   pub finished : Finished config run
   pub ends : outcome ≡ outcome_of (end_of config (phase config run))
 
--- That, or the link couldn't be opened, or there was no memory and no call was made.
-pub data ServesAt (config : Config) (at : Place) (outcome : Outcome) (made : List Entry) : Type 0 where
-  Runs : RunsAt config at outcome made → ServesAt config at outcome made
-  IsRefused : made ≡ LinkOpen at Failed ∷ [] → outcome ≡ LinkFault → ServesAt config at outcome made
-  HasNoMemory : made ≡ [] → outcome ≡ NoMemory → ServesAt config at outcome made
+-- The link was opened, and behind that a run was made; or it couldn't be opened.
+pub data OpensAt (config : Config) (at : Place) (outcome : Outcome) (made : List Entry) : Type 0 where
+  Runs : (run : List Entry) → made ≡ run ++ LinkOpen at Done ∷ [] → IsRun config outcome run → OpensAt config at outcome made
+  IsRefused : made ≡ LinkOpen at Failed ∷ [] → outcome ≡ LinkFault → OpensAt config at outcome made
+
+-- `out` got these octets, and the outcome is that of what was done; or it failed to take some of them, and the outcome is that.
+pub data IsGiven (octets : List ℕ) (done outcome : Outcome) (old new : Option (List ℕ)) : Type 0 where
+  Took : new ≡ added octets old → outcome ≡ done → IsGiven octets done outcome old new
+  TookNot : outcome ≡ SinkFault → IsGiven octets done outcome old new
+
+-- A run was made, and the text of its calls given.
+pub record IsRecorded (config : Config) (outcome : Outcome) (old new : Option (List ℕ)) (run : List Entry) : Type 0 where
+  pub done : Outcome
+  pub ran : IsRun config done run
+  pub given : IsGiven (text run) done outcome old new
+
+-- With `--record`: the run that is made behind the opening of the link is recorded. Where the link couldn't be opened nothing is put.
+pub data RecordsAt (config : Config) (at : Place) (outcome : Outcome) (old new : Option (List ℕ)) (made : List Entry) : Type 0 where
+  Records : (run : List Entry) → made ≡ run ++ LinkOpen at Done ∷ [] → IsRecorded config outcome old new run → RecordsAt config at outcome old new made
+  IsUnopened : made ≡ LinkOpen at Failed ∷ [] → outcome ≡ LinkFault → new ≡ old → RecordsAt config at outcome old new made
+
+-- With `--capture`: the head of the file and the frames of all calls are given. Where the link couldn't be opened that is the head alone.
+pub record CapturesAt (config : Config) (at : Place) (outcome : Outcome) (old new : Option (List ℕ)) (made : List Entry) : Type 0 where
+  pub done : Outcome
+  pub opens : OpensAt config at done made
+  pub given : IsGiven (capture made) done outcome old new
+
+-- with neither flag nothing is put
+abbrev pub TapsAt : Config → Place → Tap → Outcome → (old new : Option (List ℕ)) → List Entry → Type 0
+TapsAt config at Off outcome old new made = OpensAt config at outcome made × (new ≡ old)
+TapsAt config at Record outcome old new made = RecordsAt config at outcome old new made
+TapsAt config at Capture outcome old new made = CapturesAt config at outcome old new made
+
+-- That, or there was no memory, no call was made and nothing put.
+pub data ServesAt (config : Config) (at : Place) (tap : Tap) (outcome : Outcome) (old new : Option (List ℕ)) (made : List Entry) : Type 0 where
+  Serves : TapsAt config at tap outcome old new made → ServesAt config at tap outcome old new made
+  HasNoMemory : made ≡ [] → outcome ≡ NoMemory → new ≡ old → ServesAt config at tap outcome old new made

@@ -5,6 +5,7 @@ ghost use Rattle.host_policy.specs.Addresses.{Config};
 ghost use Rattle.host_policy.specs.Ranges.{IsSound, first_broken};
 ghost use Rattle.host_policy.specs.declared.config.Field.{Field as AField};
 ghost use Rattle.slirp_config.specs.Meaning.{Drives, Meaning, Means, Replays, Serves, broken_in, config_of, said};
+ghost use Rattle.slirp_config.specs.declared.Tap.{Tap as ATap};
 ghost use Rattle.slirp_app.specs.Doing.{CanBeDone, Course, Does, DrivesRun, ReplaysFile, ServesLink, refusal_of};
 ghost use Rattle.slirp_app.specs.Statuses.{code_of, is_unrun};
 ghost use Rattle.slirp_app.specs.Texts.{Got};
@@ -25,9 +26,9 @@ use world_face::{Sink, World};
 /// The program. The words of the command line, without the program's name, say what it does and with which settings.
 ///
 /// `replay FILE`: the schedule in FILE is read through `world`, the network runs on it, and what it did goes to `out` as text, last the line
-/// `end S` with the status S. `serve --link AT`: `world` opens the link at AT, and the network runs on `world` itself. `drive NUMBER OCTETS`: it runs with the usual
-/// settings on a World that is made from NUMBER, whose guest sends OCTETS octets, and what that came to goes to `out`. The text of a status other than
-/// 0 and 12 goes to `err`.
+/// `end S` with the status S. `serve --link AT`: `world` opens the link at AT, and the network runs on `world` itself; with `--record` the line of each call behind that goes to
+/// `out`, with `--capture` the frames of the link do. `drive NUMBER OCTETS`: it runs with the usual settings on a World that is made from NUMBER, whose guest sends OCTETS octets, and what
+/// that came to goes to `out`. The text of a status other than 0 and 12 goes to `err`.
 pub fn slirp_main<W: World, K: Sink, E: Sink>(
     alloc: Global,
     words: &Vec<String>,
@@ -46,9 +47,9 @@ pub fn slirp_main<W: World, K: Sink, E: Sink>(
     // With `replay FILE` a run is made on what FILE says, with the settings of the words.
     ensures replays { (file : List ℕ) (config : Config) → Means (map string_bytes words.now.items) (Replays file config) → first_broken config ≡ None
         → ReplaysFile file config result (W.tells world.old) (W.tells world.new) (K.holds out.old) (K.holds out.new) (Got (E.holds err.old) (E.holds err.new) (E.faults err.old) (E.faults err.new)) }
-    // With `serve --link AT` one is made on `world` itself.
-    ensures serves { (config : Config) (at : Place) → Means (map string_bytes words.now.items) (Serves config at) → first_broken config ≡ None
-        → ServesLink config at result (W.tells world.old) (W.tells world.new) (K.holds out.old) (K.holds out.new) (Got (E.holds err.old) (E.holds err.new) (E.faults err.old) (E.faults err.new)) }
+    // With `serve --link AT` one is made on `world` itself, and what the words ask for is put of it.
+    ensures serves { (config : Config) (at : Place) (tap : ATap) → Means (map string_bytes words.now.items) (Serves config at tap) → first_broken config ≡ None
+        → ServesLink config at tap result (W.tells world.old) (W.tells world.new) (K.holds out.old) (K.holds out.new) (Got (E.holds err.old) (E.holds err.new) (E.faults err.old) (E.faults err.new)) }
     // With `drive NUMBER OCTETS` one is made on a World of its own, and `world` is left alone.
     ensures drives { (number octets : ℕ) → Means (map string_bytes words.now.items) (Drives number octets) → octets ≤ 10000000
         → DrivesRun number octets result (W.tells world.old) (W.tells world.new) (K.holds out.old) (K.holds out.new) }
@@ -110,7 +111,7 @@ fn follow<W: World, K: Sink>(
 {
     match command {
         Command::Replay(file, config) => replay_file(alloc, file.as_str(), config, world, out),
-        Command::Serve(config, at) => serve(alloc, config, at, world),
+        Command::Serve(config, at, tap) => serve(alloc, config, at, *tap, world, out),
         Command::Drive(number, octets) => drive(alloc, *number, *octets, out),
     }
 }

@@ -8,15 +8,14 @@ ghost use Rattle.slirp_laws.specs.Laws.{Finished, Lawful};
 ghost use Rattle.slirp_app.specs.Causes.{RanOn};
 ghost use Rattle.slirp_app.specs.Doing.{ReplaysFile};
 ghost use Rattle.slirp_app.specs.Fetching.{IsWhole, octets_read};
-ghost use Rattle.slirp_app.specs.Serving.{RunsAt};
+ghost use Rattle.slirp_app.specs.Serving.{IsRun};
 ghost use Rattle.slirp_app.specs.Statuses.{is_run};
 ghost use Rattle.slirp_app.specs.Texts.{Got};
 ghost use Rattle.slirp_app.specs.Untroubled.{CanBeFollowed, SaysUntroubled, Untroubled};
 ghost use Rattle.slirp_app.specs.declared.status.Outcome.{Outcome};
 ghost use Rattle.slirp_app.specs.declared.status.Outcome.TheVariants.{Done};
-ghost use Rattle.world_face.specs.Journal.{AreAllowed, Entry, LinkOpen, Place};
+ghost use Rattle.world_face.specs.Journal.{AreAllowed, Entry};
 ghost use Rattle.world_face.specs.Tells.{Telling, Told};
-ghost use Rattle.world_face.specs.declared.Made.TheVariants.{Done as Opened};
 
 /// A run is untroubled where its link carried whole frames until it ended, no call on the link and no wait failed, the host
 /// opened each port that is given to a guest, and fewer waits were made than the settings allow. Where such a run is finished, its
@@ -24,9 +23,8 @@ ghost use Rattle.world_face.specs.declared.Made.TheVariants.{Done as Opened};
 pub fn an_untroubled_run_is_made_to_its_end()
     ensures run { (config : Config) (journal : List Entry) → AreAllowed journal → Lawful config journal → Finished config journal
         → Untroubled config journal → end_of config (phase config journal) ≡ AtEnd }
-    // So with `serve`, once the link was opened.
-    ensures served { (config : Config) (at : Place) (outcome : Outcome) (made run : List Entry) → RunsAt config at outcome made → AreAllowed made
-        → made ≡ run ++ LinkOpen at Opened ∷ [] → Untroubled config run → outcome ≡ Done }
+    // So with `serve`, behind the opening of the link.
+    ensures served { (config : Config) (outcome : Outcome) (run : List Entry) → IsRun config outcome run → AreAllowed run → Untroubled config run → outcome ≡ Done }
 {}
 
 /// A schedule that can be followed is followed to its end: `replay FILE` comes to 0.

@@ -18,12 +18,12 @@ pub record IsAnswer (Of : Meaning → Type 0) (result : Result Command WordFault
 
 broken_still : (meaning : Meaning) → broken_in (narrowed_meaning meaning) ≡ broken_in meaning
 broken_still (Replays file config) = same_broken config
-broken_still (Serves config at) = same_broken config
+broken_still (Serves config at tap) = same_broken config
 broken_still (Drives number octets) = refl
 
 nothing_narrowed : (meaning : Meaning) → IsSound (config_of (narrowed_meaning meaning)) → narrowed_meaning meaning ≡ meaning
 nothing_narrowed (Replays file config) sound = ap (Replays file) (same_settings config sound)
-nothing_narrowed (Serves config at) sound = ap (λ (c : Config). Serves c at) (same_settings config sound)
+nothing_narrowed (Serves config at tap) sound = ap (λ (c : Config). Serves c at tap) (same_settings config sound)
 nothing_narrowed (Drives number octets) sound = refl
 
 module _ (Of : Meaning → Type 0) (one : (m n : Meaning) → Of m → Of n → m ≡ n) where

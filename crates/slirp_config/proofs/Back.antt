@@ -28,8 +28,8 @@ sign_parts word there =
 module _ (verb : Verb) (o : List Given) (a : List Word) where
   pub put_back : (name value : Word) (w : Walk) → put_option (at verb o a) name value ≡ Some w → (is_some (value_in o name) ≡ false) × (w ≡ at verb (o ++ given name value ∷ []) a)
   put_back name value w is =
-      let c = chosen (not (is_some (value_in o name)) && ltb (length o) 22) (Some (at verb (o ++ given name value ∷ []) a)) w is in
-      (refuted (is_some (value_in o name)) (both (not (is_some (value_in o name))) (ltb (length o) 22) c.0).0, sym (same_walk (at verb (o ++ given name value ∷ []) a) w c.1))
+      let c = chosen (not (is_some (value_in o name)) && ltb (length o) 24) (Some (at verb (o ++ given name value ∷ []) a)) w is in
+      (refuted (is_some (value_in o name)) (both (not (is_some (value_in o name))) (ltb (length o) 24) c.0).0, sym (same_walk (at verb (o ++ given name value ∷ []) a) w c.1))
 
   pub record ValuePut (name value : Word) (w : Walk) : Type 0 where
     pub some : 0 < length value

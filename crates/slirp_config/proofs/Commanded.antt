@@ -3,6 +3,7 @@ use Rattle.std.proofs.Common.{◌≡◌, ℕ, List, [], ◌∷◌, codes, Result
 use Rattle.host_policy.specs.Addresses.{Config}
 use Rattle.world_face.specs.Journal.{Place}
 use Rattle.slirp_config.specs.declared.Command.{Command}
+use Rattle.slirp_config.specs.declared.Tap.{Tap}
 use Rattle.slirp_config.specs.Meaning.{Meaning, Replays, Serves, Drives, Means, MeansReplay, MeansServe, MeansDrive, said}
 use Rattle.slirp_config.specs.Narrowing.{narrowed_settings, narrowed_meaning}
 use Rattle.slirp_config.specs.Options.{Word}
@@ -36,10 +37,10 @@ module _ {E : Type 0} (words behind : List Word) (r : Result Command E) where
   ] h
 
   pub serve_command : words ≡ codes "serve" ∷ behind
-      → IfOk r (λ c. (config : Config) × (at : Place) × MeansServe behind config at × (said c ≡ Serves (narrowed_settings config) at))
+      → IfOk r (λ c. (config : Config) × (at : Place) × (tap : Tap) × MeansServe behind config at tap × (said c ≡ Serves (narrowed_settings config) at tap))
       → IfOk r (λ c. (meaning : Meaning) × Means words meaning × (said c ≡ narrowed_meaning meaning))
-  serve_command is h = elim r as (λ x. IfOk x (λ c. (config : Config) × (at : Place) × MeansServe behind config at × (said c ≡ Serves (narrowed_settings config) at)) → IfOk x (λ c. (meaning : Meaning) × Means words meaning × (said c ≡ narrowed_meaning meaning))) [
-    | Ok c ↦ λ m. (Serves m.0 m.1, (behind, is, m.2), m.3)
+  serve_command is h = elim r as (λ x. IfOk x (λ c. (config : Config) × (at : Place) × (tap : Tap) × MeansServe behind config at tap × (said c ≡ Serves (narrowed_settings config) at tap)) → IfOk x (λ c. (meaning : Meaning) × Means words meaning × (said c ≡ narrowed_meaning meaning))) [
+    | Ok c ↦ λ m. (Serves m.0 m.1 m.2, (behind, is, m.3), m.4)
     | Err e ↦ λ m. tt
   ] h
 
@@ -53,25 +54,25 @@ module _ {E : Type 0} (words behind : List Word) (r : Result Command E) where
 
 no_replay : (words behind : List Word) → words ≡ codes "replay" ∷ behind → ((file : List ℕ) (config : Config) → ¬ MeansReplay behind file config) → (meaning : Meaning) → ¬ Means words meaning
 no_replay words behind is none (Replays file config) m = none file config (subst (λ (b : List Word). MeansReplay b file config) (same_behind (codes "replay") m.0 behind (sym m.1 ∙ is)) m.2)
-no_replay words behind is none (Serves config at) m = other_command behind m.0 (sym is ∙ m.1)
+no_replay words behind is none (Serves config at tap) m = other_command behind m.0 (sym is ∙ m.1)
 no_replay words behind is none (Drives number octets) m = replay_no_drive behind m.0 (sym is ∙ m.1)
 
-no_serve : (words behind : List Word) → words ≡ codes "serve" ∷ behind → ((config : Config) (at : Place) → ¬ MeansServe behind config at) → (meaning : Meaning) → ¬ Means words meaning
+no_serve : (words behind : List Word) → words ≡ codes "serve" ∷ behind → ((config : Config) (at : Place) (tap : Tap) → ¬ MeansServe behind config at tap) → (meaning : Meaning) → ¬ Means words meaning
 no_serve words behind is none (Replays file config) m = other_command m.0 behind (sym m.1 ∙ is)
-no_serve words behind is none (Serves config at) m = none config at (subst (λ (b : List Word). MeansServe b config at) (same_behind (codes "serve") m.0 behind (sym m.1 ∙ is)) m.2)
+no_serve words behind is none (Serves config at tap) m = none config at tap (subst (λ (b : List Word). MeansServe b config at tap) (same_behind (codes "serve") m.0 behind (sym m.1 ∙ is)) m.2)
 no_serve words behind is none (Drives number octets) m = serve_no_drive behind m.0 (sym is ∙ m.1)
 
 no_drive : (words behind : List Word) → words ≡ codes "drive" ∷ behind → ((number octets : ℕ) → ¬ MeansDrive behind number octets) → (meaning : Meaning) → ¬ Means words meaning
 no_drive words behind is none (Replays file config) m = replay_no_drive m.0 behind (sym m.1 ∙ is)
-no_drive words behind is none (Serves config at) m = serve_no_drive m.0 behind (sym m.1 ∙ is)
+no_drive words behind is none (Serves config at tap) m = serve_no_drive m.0 behind (sym m.1 ∙ is)
 no_drive words behind is none (Drives number octets) m = none number octets (subst (λ (b : List Word). MeansDrive b number octets) (same_behind (codes "drive") m.0 behind (sym m.1 ∙ is)) m.2)
 
 module _ {E : Type 0} (words behind : List Word) (r : Result Command E) where
   pub replay_refused : words ≡ codes "replay" ∷ behind → OnErr r ((file : List ℕ) (config : Config) → ¬ MeansReplay behind file config) → OnErr r ((meaning : Meaning) → ¬ Means words meaning)
   replay_refused is h = on_err r ((file : List ℕ) (config : Config) → ¬ MeansReplay behind file config) ((meaning : Meaning) → ¬ Means words meaning) (no_replay words behind is) h
 
-  pub serve_refused : words ≡ codes "serve" ∷ behind → OnErr r ((config : Config) (at : Place) → ¬ MeansServe behind config at) → OnErr r ((meaning : Meaning) → ¬ Means words meaning)
-  serve_refused is h = on_err r ((config : Config) (at : Place) → ¬ MeansServe behind config at) ((meaning : Meaning) → ¬ Means words meaning) (no_serve words behind is) h
+  pub serve_refused : words ≡ codes "serve" ∷ behind → OnErr r ((config : Config) (at : Place) (tap : Tap) → ¬ MeansServe behind config at tap) → OnErr r ((meaning : Meaning) → ¬ Means words meaning)
+  serve_refused is h = on_err r ((config : Config) (at : Place) (tap : Tap) → ¬ MeansServe behind config at tap) ((meaning : Meaning) → ¬ Means words meaning) (no_serve words behind is) h
 
   pub drive_refused : words ≡ codes "drive" ∷ behind → OnErr r ((number octets : ℕ) → ¬ MeansDrive behind number octets) → OnErr r ((meaning : Meaning) → ¬ Means words meaning)
   drive_refused is h = on_err r ((number octets : ℕ) → ¬ MeansDrive behind number octets) ((meaning : Meaning) → ¬ Means words meaning) (no_drive words behind is) h
@@ -80,15 +81,15 @@ pub one_meaning : (words : List Word) (m n : Meaning) → Means words m → Mean
 one_meaning words (Replays f c) (Replays e d) h g =
     let s = one_replay g.0 f e c d (subst (λ (b : List Word). MeansReplay b f c) (same_behind (codes "replay") h.0 g.0 (sym h.1 ∙ g.1)) h.2) g.2 in
     ap (λ (x : Word). Replays x c) s.0 ∙ ap (Replays e) s.1
-one_meaning words (Serves c p) (Serves d q) h g =
-    let s = one_serve g.0 c d p q (subst (λ (b : List Word). MeansServe b c p) (same_behind (codes "serve") h.0 g.0 (sym h.1 ∙ g.1)) h.2) g.2 in
-    ap (λ (x : Config). Serves x p) s.0 ∙ ap (Serves d) s.1
-one_meaning words (Replays f c) (Serves d q) h g = absurd (other_command h.0 g.0 (sym h.1 ∙ g.1))
-one_meaning words (Serves c p) (Replays e d) h g = absurd (other_command g.0 h.0 (sym g.1 ∙ h.1))
+one_meaning words (Serves c p t) (Serves d q u) h g =
+    let s = one_serve g.0 c d p q t u (subst (λ (b : List Word). MeansServe b c p t) (same_behind (codes "serve") h.0 g.0 (sym h.1 ∙ g.1)) h.2) g.2 in
+    ap (λ (x : Config). Serves x p t) s.0 ∙ ap (λ (x : Place). Serves d x t) s.1 ∙ ap (Serves d q) s.2
+one_meaning words (Replays f c) (Serves d q u) h g = absurd (other_command h.0 g.0 (sym h.1 ∙ g.1))
+one_meaning words (Serves c p t) (Replays e d) h g = absurd (other_command g.0 h.0 (sym g.1 ∙ h.1))
 one_meaning words (Drives n o) (Drives m p) h g =
     let s = one_drive g.0 n m o p (subst (λ (b : List Word). MeansDrive b n o) (same_behind (codes "drive") h.0 g.0 (sym h.1 ∙ g.1)) h.2) g.2 in
     ap (λ (x : ℕ). Drives x o) s.0 ∙ ap (Drives m) s.1
 one_meaning words (Replays f c) (Drives m p) h g = absurd (replay_no_drive h.0 g.0 (sym h.1 ∙ g.1))
-one_meaning words (Serves c p) (Drives m o) h g = absurd (serve_no_drive h.0 g.0 (sym h.1 ∙ g.1))
+one_meaning words (Serves c p t) (Drives m o) h g = absurd (serve_no_drive h.0 g.0 (sym h.1 ∙ g.1))
 one_meaning words (Drives n o) (Replays e d) h g = absurd (replay_no_drive g.0 h.0 (sym g.1 ∙ h.1))
-one_meaning words (Drives n o) (Serves d q) h g = absurd (serve_no_drive g.0 h.0 (sym g.1 ∙ h.1))
+one_meaning words (Drives n o) (Serves d q u) h g = absurd (serve_no_drive g.0 h.0 (sym g.1 ∙ h.1))

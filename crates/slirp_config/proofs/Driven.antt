@@ -1,5 +1,5 @@
 -- What `drive` means.
-use Rattle.std.proofs.Common.{◌≡◌, ℕ, List, [], ◌∷◌, refl, sym, ◌∙◌}
+use Rattle.std.proofs.Common.{◌≡◌, ℕ, List, [], ◌∷◌, sym, ◌∙◌}
 use Rattle.std.proofs.lemmas.Fmt.{decimal_injective}
 use Rattle.slirp_config.specs.Meaning.{MeansDrive}
 use Rattle.slirp_config.specs.Options.{Word}

@@ -5,6 +5,7 @@ use Rattle.host_policy.specs.Settings.{usual}
 use Rattle.host_policy.specs.Targets.{loopback}
 use Rattle.host_policy.specs.declared.Proto.TheVariants.{Tcp, Udp}
 use Rattle.std.specs.Fmt.{digits}
+use Rattle.slirp_config.specs.declared.Tap.TheVariants.{Off}
 use Rattle.slirp_config.specs.Options.{Apart, Joined, Plain}
 use Rattle.slirp_config.specs.Texts.{address_text}
 use Rattle.slirp_config.specs.Meaning.{Means, Drives, Replays, Serves}
@@ -58,7 +59,7 @@ another_network = (
 -- a RULE without an address of a guest leads to the first that is lent, also where `--dhcpstart` stands behind it
 first_guest : Means
     (codes "serve" ∷ codes "--link=unix:s" ∷ codes "hostfwd=tcp:127.0.0.1:2222-:22" ∷ codes "--dhcpstart=10.0.2.100" ∷ [])
-    (Serves (record usual { dhcp_start = 0x0a000264; forwards = record { proto = Tcp; host = endpoint loopback 2222; guest = endpoint 0x0a000264 22 } ∷ [] }) (AtPath (codes "s")))
+    (Serves (record usual { dhcp_start = 0x0a000264; forwards = record { proto = Tcp; host = endpoint loopback 2222; guest = endpoint 0x0a000264 22 } ∷ [] }) (AtPath (codes "s")) Off)
 unfolding address_text digits
 first_guest = (
   codes "--link=unix:s" ∷ codes "hostfwd=tcp:127.0.0.1:2222-:22" ∷ codes "--dhcpstart=10.0.2.100" ∷ [],
@@ -68,6 +69,7 @@ first_guest = (
     refl,
     (((refl, omega arith), (refl, ((refl, omega arith), tt))), refl, omega arith),
     (refl, (omega arith, omega arith)),
+    (refl, refl),
     (
       inr (
         codes "tcp:127.0.0.1:2222-:22",

@@ -2,9 +2,10 @@
 use Rattle.std.proofs.Common.{◌≡◌, ◌<◌, ◌≤◌, List, ◌∷◌, length, codes, Option, Some, None, MatchOption, is_some, sym, ◌∙◌, ap, subst}
 use Rattle.host_policy.specs.Addresses.{Config}
 use Rattle.world_face.specs.Journal.{Place}
+use Rattle.slirp_config.specs.declared.Tap.{Tap}
 use Rattle.slirp_config.specs.declared.options.Verb.{Verb}
 use Rattle.slirp_config.specs.declared.options.Verb.TheVariants.{Replay, Serve}
-use Rattle.slirp_config.specs.Meaning.{AreSettings, MeansReplay, MeansServe}
+use Rattle.slirp_config.specs.Meaning.{AreSettings, IsTap, MeansReplay, MeansServe}
 use Rattle.slirp_config.specs.Options.{Word, Given, words_alone, options_of, value_in}
 use Rattle.slirp_config.specs.Rules.{AreRules}
 use Rattle.slirp_config.specs.Texts.{IsLink}
@@ -52,31 +53,34 @@ replay_meant words file config m = record {
 abbrev pub IsLinkAt : Option Word → Place → Type 0
 IsLinkAt given at = MatchOption given ⊥ (λ text. IsLink text at)
 
-pub record ServeRead (words : List Word) (config : Config) (at : Place) : Type 0 where
+pub record ServeRead (words : List Word) (config : Config) (at : Place) (tap : Tap) : Type 0 where
   pub walk : Walk
   pub read : walked Serve words ≡ Some walk
   pub link : IsLinkAt (value_in walk.options (codes "--link")) at
+  pub taps : IsTap (value_in walk.options) tap
   pub forwards : AreRules walk.alone config.dhcp_start config.forwards
   pub settings : AreSettings (value_in walk.options) config
 
-pub serve_means : (words : List Word) (config : Config) (at : Place) → ServeRead words config at → MeansServe words config at
-serve_means words config at r =
+pub serve_means : (words : List Word) (config : Config) (at : Place) (tap : Tap) → ServeRead words config at tap → MeansServe words config at tap
+serve_means words config at tap r =
     let l = walk_read Serve words r.walk r.read in (
       l.line,
       l.spelt,
       l.proper,
       subst (λ (o : List Given). IsLinkAt (value_in o (codes "--link")) at) l.options r.link,
+      subst (λ (o : List Given). IsTap (value_in o) tap) l.options r.taps,
       subst (λ (a : List Word). AreRules a config.dhcp_start config.forwards) l.alone r.forwards,
       subst (λ (o : List Given). AreSettings (value_in o) config) l.options r.settings,
     )
 
-pub serve_meant : (words : List Word) (config : Config) (at : Place) → MeansServe words config at → ServeRead words config at
-serve_meant words config at m = record {
+pub serve_meant : (words : List Word) (config : Config) (at : Place) (tap : Tap) → MeansServe words config at tap → ServeRead words config at tap
+serve_meant words config at tap m = record {
   walk = arrived Serve (options_of m.0.pieces) (words_alone m.0) (is_some m.0.behind);
   read = ap (walked Serve) m.1 ∙ line_walked Serve m.0 m.2;
   link = m.3;
-  forwards = m.4;
-  settings = m.5;
+  taps = m.4;
+  forwards = m.5;
+  settings = m.6;
 }
 
 -- words have one walk

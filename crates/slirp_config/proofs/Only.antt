@@ -7,8 +7,10 @@ use Rattle.host_policy.specs.Settings.{usual}
 use Rattle.host_policy.specs.Ranges.{mask_of}
 use Rattle.host_policy.specs.declared.Forward.{Forward}
 use Rattle.world_face.specs.Journal.{Place, AtPath, AtEndpoint}
+use Rattle.slirp_config.specs.declared.Tap.{Tap}
+use Rattle.slirp_config.specs.declared.Tap.TheVariants.{Off, Record, Capture}
 use Rattle.slirp_config.specs.declared.options.Verb.TheVariants.{Replay, Serve}
-use Rattle.slirp_config.specs.Meaning.{AreSettings, MeansReplay, MeansServe}
+use Rattle.slirp_config.specs.Meaning.{AreSettings, IsTap, MeansReplay, MeansServe, is_capture, is_record}
 use Rattle.slirp_config.specs.Options.{Word, value_in}
 use Rattle.slirp_config.specs.Rules.{AreRules}
 use Rattle.slirp_config.specs.Texts.{IsNumber, IsAddress, IsNetwork, IsEndpointText, IsLink, endpoint_text, is_other}
@@ -145,13 +147,29 @@ one_replay words f e c d h g =
     let given = subst (λ (r : List Word). AreRules r c.dhcp_start c.forwards) alone.1 a.forwards in
     (alone.0, one_settings (value_in b.walk.options) b.rules c d set b.settings given b.forwards)
 
-pub one_serve : (words : List Word) (c d : Config) (p q : Place) → MeansServe words c p → MeansServe words d q → (c ≡ d) × (p ≡ q)
-one_serve words c d p q h g =
-    let a = serve_meant words c p h in
-    let b = serve_meant words d q g in
+-- of two flags at most one stands, and each says one thing
+same_tap : (s t : Tap) → is_record s ≡ is_record t → is_capture s ≡ is_capture t → s ≡ t
+same_tap Off Off r c = refl
+same_tap Off Record r c = absurd (cc r)
+same_tap Off Capture r c = absurd (cc c)
+same_tap Record Off r c = absurd (cc r)
+same_tap Record Record r c = refl
+same_tap Record Capture r c = absurd (cc r)
+same_tap Capture Off r c = absurd (cc c)
+same_tap Capture Record r c = absurd (cc r)
+same_tap Capture Capture r c = refl
+
+one_tap : (given : Word → Option Word) (s t : Tap) → IsTap given s → IsTap given t → s ≡ t
+one_tap given s t h g = same_tap s t (sym h.0 ∙ g.0) (sym h.1 ∙ g.1)
+
+pub one_serve : (words : List Word) (c d : Config) (p q : Place) (s t : Tap) → MeansServe words c p s → MeansServe words d q t → (c ≡ d) × (p ≡ q) × (s ≡ t)
+one_serve words c d p q s t h g =
+    let a = serve_meant words c p s h in
+    let b = serve_meant words d q t g in
     let walk : a.walk ≡ b.walk = one_walk Serve words a.walk b.walk a.read b.read in
     let set = subst (λ (w : Walk). AreSettings (value_in w.options) c) walk a.settings in
     let given = subst (λ (w : Walk). AreRules w.alone c.dhcp_start c.forwards) walk a.forwards in (
       one_settings (value_in b.walk.options) b.walk.alone c d set b.settings given b.forwards,
       one_link (value_in b.walk.options (codes "--link")) p q (subst (λ (w : Walk). IsLinkAt (value_in w.options (codes "--link")) p) walk a.link) b.link,
+      one_tap (value_in b.walk.options) s t (subst (λ (w : Walk). IsTap (value_in w.options) s) walk a.taps) b.taps,
     )

@@ -98,5 +98,5 @@ module _ (verb : Verb) (o : List Given) (a : List Word) where
       begun ∙ ap (λ (w : Word). put_joined (at verb o a) w (after_first is_sign word)) front ∙ ap (λ (w : Word). put_joined (at verb o a) name w) back ∙ rw (is, full) refl
 
   -- an option whose name isn't there is put
-  pub put_fresh : (name value : Word) → is_some (value_in o name) ≡ false → length o < 22 → put_option (at verb o a) name value ≡ Some (at verb (o ++ given name value ∷ []) a)
-  put_fresh name value free room = let is : ltb (length o) 22 ≡ true = grind (arith, nat_tests, room) in rw (free, is) refl
+  pub put_fresh : (name value : Word) → is_some (value_in o name) ≡ false → length o < 24 → put_option (at verb o a) name value ≡ Some (at verb (o ++ given name value ∷ []) a)
+  put_fresh name value free room = let is : ltb (length o) 24 ≡ true = grind (arith, nat_tests, room) in rw (free, is) refl

@@ -30,7 +30,7 @@ module _ (verb : Verb) (o : List Given) where
       (end_kept words (a ++ word ∷ []) (rw moved k) ∙ ap (λ (x : List Word). Some (behind_end verb o x)) moved)
 
 pub line_kept : (verb : Verb) (pieces : List Piece) (behind : Option (List Word)) (o : List Given) (a : List Word) → ArePieces verb pieces
-    → none_twice same_name (o ++ options_of pieces) ≡ true → length (o ++ options_of pieces) ≤ 22 → length (a ++ (plain_words pieces ++ alone_behind behind)) ≤ 34
+    → none_twice same_name (o ++ options_of pieces) ≡ true → length (o ++ options_of pieces) ≤ 24 → length (a ++ (plain_words pieces ++ alone_behind behind)) ≤ 34
     → walk_on (pieces_words pieces ++ words_behind behind) (at verb o a) ≡ Some (arrived verb (o ++ options_of pieces) (a ++ (plain_words pieces ++ alone_behind behind)) (is_some behind))
 line_kept verb [] None o a p once few k = ap (λ (x : List Word). Some (arrived verb o x false)) (sym (append-nil a)) ∙ ap (λ (x : List Given). Some (arrived verb x (a ++ []) false)) (sym (append-nil o))
 line_kept verb [] (Some words) o a p once few k = end_kept verb o words a k ∙ ap (λ (x : List Given). Some (arrived verb x (a ++ words) true)) (sym (append-nil o))
@@ -45,7 +45,7 @@ line_kept verb (Flag name ∷ pieces) behind o a p once few k =
     let g = given name [] in
     let all = a ++ (plain_words pieces ++ alone_behind behind) in
     let moved : (o ++ g ∷ []) ++ options_of pieces ≡ o ++ g ∷ options_of pieces = append_assoc o (g ∷ []) (options_of pieces) in
-    let room : length o < 22 = omega (arith, few, length-append o (g ∷ options_of pieces)) in
+    let room : length o < 24 = omega (arith, few, length-append o (g ∷ options_of pieces)) in
     go (walk_on (pieces_words pieces ++ words_behind behind)) (step (at verb o a) name) (at verb (o ++ g ∷ []) a) _
     (flag_step verb o a name p.0 ∙ put_fresh verb o a name [] (fresh_there o g (options_of pieces) once) room)
     (line_kept verb pieces behind (o ++ g ∷ []) a p.1 (rw moved once) (rw moved few) k ∙ ap (λ (x : List Given). Some (arrived verb x all (is_some behind))) moved)
@@ -53,7 +53,7 @@ line_kept verb (Joined name value ∷ pieces) behind o a p once few k =
     let g = given name value in
     let all = a ++ (plain_words pieces ++ alone_behind behind) in
     let moved : (o ++ g ∷ []) ++ options_of pieces ≡ o ++ g ∷ options_of pieces = append_assoc o (g ∷ []) (options_of pieces) in
-    let room : length o < 22 = omega (arith, few, length-append o (g ∷ options_of pieces)) in
+    let room : length o < 24 = omega (arith, few, length-append o (g ∷ options_of pieces)) in
     go (walk_on (pieces_words pieces ++ words_behind behind)) (step (at verb o a) (name ++ codes "=" ++ value)) (at verb (o ++ g ∷ []) a) _
     (ap (step (at verb o a)) (append_assoc name (61 ∷ []) value) ∙ joined_step verb o a name value p.0.0 p.0.1 ∙ put_fresh verb o a name value (fresh_there o g (options_of pieces) once) room)
     (line_kept verb pieces behind (o ++ g ∷ []) a p.1 (rw moved once) (rw moved few) k ∙ ap (λ (x : List Given). Some (arrived verb x all (is_some behind))) moved)
@@ -61,7 +61,7 @@ line_kept verb (Apart name value ∷ pieces) behind o a p once few k =
     let g = given name value in
     let all = a ++ (plain_words pieces ++ alone_behind behind) in
     let moved : (o ++ g ∷ []) ++ options_of pieces ≡ o ++ g ∷ options_of pieces = append_assoc o (g ∷ []) (options_of pieces) in
-    let room : length o < 22 = omega (arith, few, length-append o (g ∷ options_of pieces)) in
+    let room : length o < 24 = omega (arith, few, length-append o (g ∷ options_of pieces)) in
     go (walk_on (value ∷ pieces_words pieces ++ words_behind behind)) (step (at verb o a) name) (waiting verb o a name) _
     (waits_step verb o a name p.0.0)
     (go (walk_on (pieces_words pieces ++ words_behind behind)) (step (waiting verb o a name) value) (at verb (o ++ g ∷ []) a) _
@@ -80,7 +80,7 @@ all_known verb (Apart name value ∷ pieces) p = pair _ _ (name_known verb name 
 
 pub line_walked : (verb : Verb) (line : Line) → IsLine verb line → walked verb (line_words line) ≡ Some (arrived verb (options_of line.pieces) (words_alone line) (is_some line.behind))
 line_walked verb line is =
-    let fits : length (options_of line.pieces) ≤ 22 = few names (options_of line.pieces) is.1 (all_known verb line.pieces is.0) in
+    let fits : length (options_of line.pieces) ≤ 24 = few names (options_of line.pieces) is.1 (all_known verb line.pieces is.0) in
     ap (next finished) (line_kept verb line.pieces line.behind [] [] is.0 is.1 fits is.2)
 
 -- and back

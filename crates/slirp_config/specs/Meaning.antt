@@ -1,5 +1,5 @@
 -- What the words of a command line mean.
-use Rattle.std.specs.Prelude.{◌≡◌, ℕ, ◌+◌, ◌%◌, ◌^◌, ◌<◌, ◌≤◌, ◌||◌, nat_lt, List, [], ◌∷◌, length, codes, Option, Some, None, is_some, Result, Ok, Err, MatchOption, if◌then◌else◌}
+use Rattle.std.specs.Prelude.{◌≡◌, ℕ, ◌+◌, ◌%◌, ◌^◌, ◌<◌, ◌≤◌, ◌||◌, nat_lt, Bool, true, false, List, [], ◌∷◌, length, codes, Option, Some, None, is_some, Result, Ok, Err, MatchOption, if◌then◌else◌}
 use Rattle.std.specs.Option.{option_map, option_map_or}
 use Rattle.net_octets.specs.declared.Endpoint.{Endpoint}
 use Rattle.host_policy.specs.Addresses.{Config}
@@ -10,6 +10,8 @@ use Rattle.host_policy.specs.declared.config.Field.TheVariants.{Octets}
 use Rattle.world_face.specs.Journal.{IsPlace, Place, place_of}
 use Rattle.slirp_config.specs.declared.Command.{Command}
 use Rattle.slirp_config.specs.declared.Command.TheVariants.{Drive as DriveOf, Replay as ReplayOf, Serve as ServeOf}
+use Rattle.slirp_config.specs.declared.Tap.{Tap}
+use Rattle.slirp_config.specs.declared.Tap.TheVariants.{Record, Capture}
 use Rattle.slirp_config.specs.declared.WordFault.{WordFault}
 use Rattle.slirp_config.specs.declared.WordFault.TheVariants.{BadConfig}
 use Rattle.slirp_config.specs.declared.options.Verb.TheVariants.{Replay, Serve}
@@ -17,22 +19,22 @@ use Rattle.slirp_config.specs.Options.{Word, Line, IsLine, line_words, words_alo
 use Rattle.slirp_config.specs.Rules.{AreRules}
 use Rattle.slirp_config.specs.Texts.{IsNumber, IsAddress, IsNetwork, IsEndpointText, IsLink, held_folder, held_text}
 
--- A schedule in a file is replayed, or the link at a place is served, with these settings; or a drill of so many octets is run, on a World that is made from a number.
+-- A schedule in a file is replayed, or the link at a place is served, with these settings, and perhaps what is called is recorded or the link's frames are captured; or a drill of so many octets is run, on a World that is made from a number.
 pub data Meaning : Type 0 where
   Replays : (file : Word) (config : Config) → Meaning
-  Serves : (config : Config) (at : Place) → Meaning
+  Serves : (config : Config) (at : Place) (tap : Tap) → Meaning
   Drives : (number octets : ℕ) → Meaning
 
 -- those of a drill are the usual ones
 abbrev pub config_of : Meaning → Config
 config_of (Replays file config) = config
-config_of (Serves config at) = config
+config_of (Serves config at tap) = config
 config_of (Drives number octets) = usual
 
 -- The first field that isn't in its range. A drill has up to 10,000,000 octets; they are checked as a field of their own, which no settings have.
 abbrev pub broken_in : Meaning → Option Field
 broken_in (Replays file config) = first_broken config
-broken_in (Serves config at) = first_broken config
+broken_in (Serves config at tap) = first_broken config
 broken_in (Drives number octets) = if nat_lt 10000000 octets then Some Octets else None
 
 -- a command with an option that only version 2 of the settings has is of that version
@@ -97,10 +99,22 @@ MeansReplay words file config =
     × (words_alone line ≡ file ∷ rules) × (0 < length file) × (length file ≤ 1280)
     × AreRules rules config.dhcp_start config.forwards × AreSettings (value_of line) config
 
+abbrev pub is_record : Tap → Bool
+is_record Record = true
+is_record _ = false
+
+abbrev pub is_capture : Tap → Bool
+is_capture Capture = true
+is_capture _ = false
+
+-- The calls are recorded where `--record` is given, and the frames captured where `--capture` is: one of them at most.
+abbrev pub IsTap : (given : Word → Option Word) → Tap → Type 0
+IsTap given tap = (is_some (given (codes "--record")) ≡ is_record tap) × (is_some (given (codes "--capture")) ≡ is_capture tap)
+
 -- the words behind `serve`: those that stand by themselves are RULEs, and the link is told
-abbrev pub MeansServe : List Word → (config : Config) (at : Place) → Type 0
-MeansServe words config at =
-    (line : Line) × (words ≡ line_words line) × IsLine Serve line × MatchOption (value_of line (codes "--link")) ⊥ (λ text. IsLink text at)
+abbrev pub MeansServe : List Word → (config : Config) (at : Place) (tap : Tap) → Type 0
+MeansServe words config at tap =
+    (line : Line) × (words ≡ line_words line) × IsLine Serve line × MatchOption (value_of line (codes "--link")) ⊥ (λ text. IsLink text at) × IsTap (value_of line) tap
     × AreRules (words_alone line) config.dhcp_start config.forwards × AreSettings (value_of line) config
 
 -- the words behind `drive` are two numbers
@@ -110,19 +124,19 @@ MeansDrive words number octets = (one : Word) × (two : Word) × (words ≡ one 
 -- The first word is the command. Words of another command mean nothing.
 abbrev pub Means : List Word → Meaning → Type 0
 Means words (Replays file config) = (behind : List Word) × (words ≡ codes "replay" ∷ behind) × MeansReplay behind file config
-Means words (Serves config at) = (behind : List Word) × (words ≡ codes "serve" ∷ behind) × MeansServe behind config at
+Means words (Serves config at tap) = (behind : List Word) × (words ≡ codes "serve" ∷ behind) × MeansServe behind config at tap
 Means words (Drives number octets) = (behind : List Word) × (words ≡ codes "drive" ∷ behind) × MeansDrive behind number octets
 
 -- what a command says
 abbrev pub said : Command → Meaning
 said (ReplayOf file config) = Replays file.bytes (settings config)
-said (ServeOf config at) = Serves (settings config) (place_of at)
+said (ServeOf config at tap) = Serves (settings config) (place_of at) tap
 said (DriveOf number octets) = Drives number octets
 
 -- the link can be opened there
 abbrev pub HasPlace : Meaning → Type 0
 HasPlace (Replays file config) = Unit {0}
-HasPlace (Serves config at) = IsPlace at
+HasPlace (Serves config at tap) = IsPlace at
 HasPlace (Drives number octets) = Unit {0}
 
 -- Words of this meaning are answered by it where each field is in its range, else by the first that isn't.

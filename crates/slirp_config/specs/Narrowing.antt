@@ -23,5 +23,5 @@ narrowed_settings config = record config { flows = narrowed config.flows; ring =
 
 abbrev pub narrowed_meaning : Meaning → Meaning
 narrowed_meaning (Replays file config) = Replays file (narrowed_settings config)
-narrowed_meaning (Serves config at) = Serves (narrowed_settings config) at
+narrowed_meaning (Serves config at tap) = Serves (narrowed_settings config) at tap
 narrowed_meaning (Drives number octets) = Drives number octets

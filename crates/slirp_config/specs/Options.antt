@@ -23,9 +23,14 @@ flag name = record { name = name; has_value = false; serve_alone = false }
 abbrev pub valued_of_serve : Word → Row
 valued_of_serve name = record { name = name; has_value = true; serve_alone = true }
 
+abbrev pub flag_of_serve : Word → Row
+flag_of_serve name = record { name = name; has_value = false; serve_alone = true }
+
 abbrev pub rows : List Row
 rows =
     valued_of_serve (codes "--link")
+    ∷ flag_of_serve (codes "--record")
+    ∷ flag_of_serve (codes "--capture")
     ∷ valued (codes "--net")
     ∷ valued (codes "--host")
     ∷ valued (codes "--dns")

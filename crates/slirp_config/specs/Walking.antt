@@ -27,10 +27,10 @@ given_of given = record { name = given.name.now; value = given.value.now }
 abbrev pub walk_of : LineHere → Walk
 walk_of line = record { verb = line.verb; options = map given_of line.options.items; alone = map (λ word. word.now) line.alone.items; waits = option_copied line.waits; ended = line.ended }
 
--- an option stands once, and there are twenty-two
+-- an option stands once, and there are twenty-four
 abbrev pub put_option : Walk → Word → Word → Option Walk
 put_option walk name value =
-    if not (is_some (value_in walk.options name)) && nat_lt (length walk.options) 22
+    if not (is_some (value_in walk.options name)) && nat_lt (length walk.options) 24
     then Some (record walk { options = walk.options ++ record { name = name; value = value } ∷ [] })
     else None
 

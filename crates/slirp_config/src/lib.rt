@@ -8,6 +8,7 @@
 //! | Option | Value | Without it |
 //! |---|---|---|
 //! | `--link` | `unix:PATH`, PATH of 1 to 107 octets, or `tcp:` and an endpoint; `serve` alone | needed |
+//! | `--record`, `--capture` | flags, of which at most one stands; `serve` alone | not set |
 //! | `--net` | an address, `/` and a number up to 32 | 10.0.2.0/24 |
 //! | `--host`, `--dns`, `--dhcpstart` | an address | 2, 3 and 15 behind the network's first address, modulo 2^32 |
 //! | `--restrict`, `--no-loopback`, `--congestion`, `--no-dhcp`, `--no-dns` | flags | not set |
@@ -33,7 +34,7 @@ mod rules;
 mod settings;
 mod values;
 
-ghost use Rattle.std.specs.Prelude.{◌≡◌, ℕ, List, Err, IfErr, IfOk, OnErr, OnOk, None, Some, map, nat_lt, ◌∷◌, ◌<◌, ◌≤◌, length, if◌then◌else◌};
+ghost use Rattle.std.specs.Prelude.{◌≡◌, ℕ, List, Err, IfErr, IfOk, OnErr, OnOk, None, Some, map, nat_lt, true, ◌∷◌, ◌<◌, ◌≤◌, length, if◌then◌else◌};
 ghost use Rattle.std.specs.String.{string_bytes};
 ghost use Rattle.std.specs.Result.{result_err};
 ghost use Rattle.host_policy.specs.Addresses.{Config};
@@ -42,10 +43,11 @@ ghost use Rattle.host_policy.specs.Settings.{usual};
 ghost use Rattle.host_policy.specs.declared.config.Field.{Field as AField};
 ghost use Rattle.host_policy.specs.declared.config.Field.TheVariants.{Octets};
 ghost use Rattle.world_face.specs.Journal.{Place};
-ghost use Rattle.slirp_config.specs.Meaning.{AnswersBy, Drives, HasPlace, Meaning, Means, MeansDrive, MeansReplay, MeansServe, Replays, Serves, broken_in, config_of, said};
+ghost use Rattle.slirp_config.specs.Meaning.{AnswersBy, Drives, HasPlace, Meaning, Means, MeansDrive, MeansReplay, MeansServe, Replays, Serves, broken_in, config_of, is_capture, is_record, said};
 ghost use Rattle.slirp_config.specs.Narrowing.{narrowed_meaning, narrowed_settings};
 ghost use Rattle.slirp_config.specs.Options.{Word};
 ghost use Rattle.slirp_config.specs.Texts.{IsNumber};
+ghost use Rattle.slirp_config.specs.declared.Tap.{Tap as ATap};
 ghost use Rattle.slirp_config.specs.declared.WordFault.TheVariants.{BadConfig, Usage};
 
 use crate::line::{Line, NoReading};
@@ -60,10 +62,21 @@ use world_face::LinkAt;
 pub enum Command {
     /// The schedule in a file, whose name has 1 to 1,280 octets, is replayed with these settings.
     Replay(ArrayString<1280>, SlirpConfig),
-    /// The network is served with these settings, on the link at this place.
-    Serve(SlirpConfig, LinkAt),
+    /// The network is served with these settings, on the link at this place, and this is put of it.
+    Serve(SlirpConfig, LinkAt, Tap),
     /// A drill is run with the usual settings: from this number, of so many octets.
     Drive(u64, u64),
+}
+
+/// What `serve` puts while it runs.
+#[derive(Clone, Copy, Debug, PartialEq, Eq)]
+pub enum Tap {
+    /// Nothing.
+    Off,
+    /// The line of each call, by which the run can be made again.
+    Record,
+    /// The frames of the link.
+    Capture,
 }
 
 /// The most octets of a drill.
@@ -77,7 +90,7 @@ impl Command {
     {
         match self {
             Command::Replay(_, config) => config.check(),
-            Command::Serve(config, _) => config.check(),
+            Command::Serve(config, ..) => config.check(),
             Command::Drive(_, octets) => check_driven(*octets),
         }
     }
@@ -197,17 +210,32 @@ fn file_of(word: &str) -> Result<ArrayString<1280>, NoReading>
 
 // What the words behind `serve` ask for.
 fn serve_of(words: &[String]) -> Result<Command, NoReading>
-    ensures meant { IfOk result (λ command. (config : Config) × (at : Place) × MeansServe (map string_bytes words.now) config at × (said command ≡ Serves (narrowed_settings config) at)) }
+    ensures meant { IfOk result (λ command. (config : Config) × (at : Place) × (tap : ATap) × MeansServe (map string_bytes words.now) config at tap × (said command ≡ Serves (narrowed_settings config) at tap)) }
     ensures place { IfOk result (λ command. HasPlace (said command)) }
-    ensures refused { OnErr result ((config : Config) (at : Place) → ¬ MeansServe (map string_bytes words.now) config at) }
+    ensures refused { OnErr result ((config : Config) (at : Place) (tap : ATap) → ¬ MeansServe (map string_bytes words.now) config at tap) }
 {
     let line = Line::read(Verb::Serve, words)?;
     let Some(link) = line.value("--link") else {
         return Err(NoReading);
     };
     let at = read_link(link)?;
+    let tap = tap_of(line.has("--record"), line.has("--capture"))?;
     let config = line.settings(line.alone())?;
-    Ok(Command::Serve(config, at))
+    Ok(Command::Serve(config, at, tap))
+}
+
+// What is put of a run, by which of both flags is given.
+fn tap_of(recorded: bool, captured: bool) -> Result<Tap, NoReading>
+    ensures recorded { IfOk result (λ tap. recorded ≡ is_record tap) }
+    ensures captured { IfOk result (λ tap. captured ≡ is_capture tap) }
+    ensures refused { OnErr result ((recorded ≡ true) × (captured ≡ true)) }
+{
+    match (recorded, captured) {
+        (false, false) => Ok(Tap::Off),
+        (true, false) => Ok(Tap::Record),
+        (false, true) => Ok(Tap::Capture),
+        (true, true) => Err(NoReading),
+    }
 }
 
 // What the words behind `drive` ask for.

@@ -34,10 +34,12 @@ macro_rules! rows {
 }
 
 /// How many options there are.
-pub(crate) const COUNT: usize = 22;
+pub(crate) const COUNT: usize = 24;
 
 const OPTIONS: [Row; COUNT] = rows![
     "--link" value of serve,
+    "--record" flag of serve,
+    "--capture" flag of serve,
     "--net" value of all,
     "--host" value of all,
     "--dns" value of all,

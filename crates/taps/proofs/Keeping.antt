@@ -1,9 +1,8 @@
 -- One line more that waits or was put.
-use Rattle.std.proofs.Common.{◌≡◌, ◌≤◌, ◌+◌, ℕ, Bool, true, false, List, [], ◌∷◌, ◌++◌, Option, Some, None, refl, sym, ◌∙◌, ap, append_assoc, arith, min}
+use Rattle.std.proofs.Common.{◌≡◌, ◌≤◌, ℕ, Bool, true, false, List, ◌∷◌, ◌++◌, Option, Some, None, refl, sym, ◌∙◌, ap, append_assoc, arith}
 use Rattle.world_face.specs.Journal.{Entry}
 use Rattle.world_face.specs.Puts.{added}
 use Rattle.world_face.specs.Tells.{Rose}
-use Rattle.world_face.specs.Limits.{last_count}
 use Rattle.replay.specs.Text.{line_text, text}
 use Rattle.taps.specs.Recording.{IsKept}
 

@@ -1,3 +1,4 @@
 mod Keeping
-mod Passing
+pub mod Marking
+pub mod Passing
 mod Walks

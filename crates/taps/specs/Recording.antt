@@ -1,5 +1,7 @@
 -- What a sink gets of calls, and what a World that writes them down tells.
-use Rattle.std.specs.Prelude.{◌≡◌, ℕ, ◌≤◌, Bool, true, false, List, [], ◌∷◌, Option, Some, None}
+use base.Stored.{Gv, gnil, gnum, gcons}
+use Rattle.std.specs.Coded.{Coded, codes}
+use Rattle.std.specs.Prelude.{◌≡◌, ℕ, ◌≤◌, Bool, true, false, List, [], ◌∷◌, ◌++◌, Option, Some, None}
 use Rattle.world_face.specs.Journal.{Entry}
 use Rattle.world_face.specs.Puts.{added}
 use Rattle.world_face.specs.Tells.{Telling, Counts, Rose, Makes}
@@ -39,6 +41,19 @@ pub record Tapped (W B : Type 0) : Type 0 where
 abbrev pub ArePassed : Telling → Telling → List Entry → Type 0
 ArePassed old new made = Makes old new (λ past. past ≡ made)
 
--- Each call is told, whatever the World below tells. It answers by no text: in that place stands where its book began, which stays the same too.
+-- What a World told, as numbers: no two tellings have the same ones.
+pub telling_code : Coded Telling
+telling_code = hlevel codes
+
+unfoldable pub numbers_of : Gv → List ℕ
+numbers_of gnil = 0 ∷ []
+numbers_of (gnum n) = 1 ∷ n ∷ []
+numbers_of (gcons front back) = 2 ∷ numbers_of front ++ numbers_of back
+
+-- where a World began, and where its book did
+unfoldable pub marked : Telling → List ℕ → List ℕ
+marked began source = numbers_of (telling_code.code began) ++ source
+
+-- Each call is told, whatever the World below tells. It answers by no text: in that place stands where both began, which stays the same too.
 abbrev pub telling : List ℕ → Counts → List Entry → Telling
 telling source faults made = record { source = source; kept = made; live = true; stop = None; faults = faults }

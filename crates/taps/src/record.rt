@@ -107,6 +107,10 @@ impl<K: Sink> Record<K> {
 }
 
 impl<K: Sink> Book for Record<K> {
+    ghost use Rattle.std.specs.Prelude.{ℕ, List, Option};
+    ghost use Rattle.replay.specs.Text.{text};
+    ghost use Rattle.taps.specs.Recording.{beginning};
+
     ghost made = { λ r. r.made };
 
     ghost source = { λ r. r.source };
@@ -116,7 +120,12 @@ impl<K: Sink> Book for Record<K> {
         self.journal = self.journal.then(line);
     }
 
-    fn pause(&mut self) {
+    /// Puts the lines that wait, so that the sink has the line of each call so far, unless it failed.
+    fn pause(&mut self)
+        ensures made { self.new.made ≡ self.old.made }
+        ensures source { self.new.source ≡ self.old.source }
+        ensures put { (old : Option (List ℕ)) (faults : ℕ) → self.old.source ≡ beginning faults old → self.new.failed ≡ false → K.holds self.new.out ≡ added (text self.new.made) old }
+    {
         self.failed = flush_unless(self.failed, &mut self.lines, &mut self.out);
     }
 }

@@ -120,10 +120,10 @@ fn seat(at: &LinkAt) -> (&[u8], Option<Endpoint>)
 }
 
 impl<W: World, B: Book> World for Tap<W, B> {
-    ghost use Rattle.taps.specs.Recording.{telling};
+    ghost use Rattle.taps.specs.Recording.{marked, telling};
 
     // Each call, with the counts of the World below.
-    ghost tells = { λ t. telling (B.source t.book) (W.tells t.world).faults (B.made t.book) };
+    ghost tells = { λ t. telling (marked (W.tells t.began) (B.source t.book)) (W.tells t.world).faults (B.made t.book) };
 
     fn now(&mut self) -> u64 {
         let moment = self.world.now();

@@ -4,7 +4,7 @@
 
 use host_policy::{Forward, Proto, SlirpConfig};
 use net_octets::Ip4;
-use slirp_config::{Command, WordFault, read_words};
+use slirp_config::{Command, Tap, WordFault, read_words};
 use std::alloc::{AllocError, Global};
 use std::{env, fs, io};
 use world_face::LinkAt;
@@ -34,10 +34,15 @@ fn meaning_of(alloc: Global, line: &str) -> Result<String, AllocError> {
             let settings = settings_of(alloc, config)?;
             format!(in alloc; "replay {}: {settings}", file.as_str())
         }
-        Ok(Command::Serve(config, at)) => {
+        Ok(Command::Serve(config, at, tap)) => {
             let settings = settings_of(alloc, config)?;
             let link = link_of(alloc, at)?;
-            format!(in alloc; "serve {link}: {settings}")
+            let put = match tap {
+                Tap::Off => "",
+                Tap::Record => ", recorded",
+                Tap::Capture => ", captured",
+            };
+            format!(in alloc; "serve {link}{put}: {settings}")
         }
         Ok(Command::Drive(number, octets)) => format!(in alloc; "drive {number} {octets}"),
         Err(WordFault::Usage) => "no reading".to_string(alloc),

@@ -21,3 +21,7 @@ pub returns-in-Drive-clause-does : goal.returns-in-Drive-clause-does
 returns-in-Drive-clause-does g c =
     subst (λ (k : Command). Does (said k) c.drive.result (g.W.World.tells c.args.world.now) (g.W.World.tells c.args.world.now) (g.K.Sink.holds c.args.out.now) (g.K.Sink.holds c.drive.new.out)) (sym c.in-Drive.is)
     (record { untouched = makes_none _ _ refl; ends = c.drive.ensures.ends; summary = c.drive.ensures.summary })
+
+pub returns-in-Serve-clause-does : goal.returns-in-Serve-clause-does
+returns-in-Serve-clause-does g c =
+    subst (λ (k : Command). Does (said k) c.serve.result (g.W.World.tells c.args.world.now) (g.W.World.tells c.serve.new.world) (g.K.Sink.holds c.args.out.now) (g.K.Sink.holds c.serve.new.out)) (sym c.in-Serve.is) c.serve.ensures.serves

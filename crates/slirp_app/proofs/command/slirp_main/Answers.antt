@@ -36,10 +36,14 @@ returns-clause-replays g c file config means sound =
     (courses.does _ _ _ _ _ _ c.run_words-outcome.ensures.course (Replays file config) means sound) (causing.got _ _ _ _ (told_text outcome) c.tell-told.result c.tell-told.ensures.text))
 
 pub returns-clause-serves : goal.returns-clause-serves
-returns-clause-serves g c config at means sound =
+returns-clause-serves g c config at tap means sound =
     let outcome = c.run_words-outcome.result in
-    let done = courses.does _ _ _ _ _ _ c.run_words-outcome.ensures.course (Serves config at) means sound in
-    record { outcome = outcome; is = c.code.ensures; told = causing.got _ _ _ _ (told_text outcome) c.tell-told.result c.tell-told.ensures.text; makes = done.0; nothing = done.1 }
+    record {
+      outcome = outcome;
+      is = c.code.ensures;
+      told = causing.got _ _ _ _ (told_text outcome) c.tell-told.result c.tell-told.ensures.text;
+      makes = courses.does _ _ _ _ _ _ c.run_words-outcome.ensures.course (Serves config at tap) means sound;
+    }
 
 pub returns-clause-drives : goal.returns-clause-drives
 returns-clause-drives g c number octets means small =

@@ -1,4 +1,4 @@
-use Rattle.std.proofs.Common.{◌≡◌, ◌∙◌, ap}
+use Rattle.std.proofs.Common.{◌∙◌, ap}
 use Rattle.std.specs.Result.{is_ok, is_err}
 use Rattle.drive_world.specs.Runs.{Run}
 use Rattle.host_policy.specs.Addresses.{Config}

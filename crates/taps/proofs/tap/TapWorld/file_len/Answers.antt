@@ -1,4 +1,4 @@
-use Rattle.std.proofs.Common.{◌≡◌, ◌∙◌, ap, length}
+use Rattle.std.proofs.Common.{ap}
 use Rattle.world_face.specs.Journal.{FileLen}
 use Rattle.taps.proofs.Passing.{passed_as}
 use Rattle.taps.proofs.tap.TapWorld.file_len.Goals as goal

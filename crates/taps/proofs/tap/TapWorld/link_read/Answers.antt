@@ -1,4 +1,4 @@
-use Rattle.std.proofs.Common.{◌≡◌, ◌∙◌, ap, length}
+use Rattle.std.proofs.Common.{ap, length}
 use Rattle.world_face.specs.Journal.{LinkRead}
 use Rattle.taps.proofs.Passing.{passed_as}
 use Rattle.taps.proofs.tap.TapWorld.link_read.Goals as goal

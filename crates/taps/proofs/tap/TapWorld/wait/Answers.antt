@@ -1,4 +1,4 @@
-use Rattle.std.proofs.Common.{◌≡◌, ◌∙◌, ◌∷◌, ap}
+use Rattle.std.proofs.Common.{◌∙◌, ap}
 use Rattle.world_face.specs.Journal.{Wait}
 use Rattle.taps.proofs.Passing.{passed_after}
 use Rattle.taps.proofs.tap.TapWorld.wait.Goals as goal
