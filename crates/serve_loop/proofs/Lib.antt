@@ -1,5 +1,6 @@
-pub mod Completing
+mod Among
 mod Counted
+pub mod Completing
 pub mod Opening
 pub mod Serving
 pub mod Taking

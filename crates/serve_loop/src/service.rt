@@ -4,8 +4,8 @@
 // idle too long, sends what is owed, with the packets of files that are due to go again, and waits for what it wants; then it asks for the moment and serves what was reported, in the order of the list: a
 // frame is read and taken in, a peer of a forward is taken, a peer's datagram is received, or a flow's socket is served, writing before reading, and after each what is owed for it is
 // sent. A frame or a datagram is read only while nothing is left to be sent. At the end every socket is closed, by rising number.
-ghost use Rattle.std.specs.Prelude.{◌≡◌, ◌&&◌, ◌||◌, ◌++◌, List, true, false, IfSome, if◌then◌else◌};
-ghost use Rattle.slirp_laws.specs.Agenda.{is_to_read};
+ghost use Rattle.std.specs.Prelude.{◌≡◌, ◌&&◌, ◌||◌, ◌++◌, List, true, false, IfSome, None, if◌then◌else◌};
+ghost use Rattle.slirp_laws.specs.Agenda.{is_to_read, is_to_write};
 ghost use Rattle.slirp_core.specs.Holds.{Standing};
 ghost use Rattle.serve_loop.specs.Turns.{still, is_read_now};
 ghost use Rattle.poll_list.specs.Listing.{reads, writes};
@@ -499,45 +499,38 @@ impl Service {
         self.pump(world)
     }
 
-    // What counts of a report on a flow's socket: the directions that were waited for, if any was. What is waited for of flows stands behind all else, by rising numbers.
+    // What counts of a report on a flow's socket: the directions that were waited for, and nothing exactly where none was.
     fn counted(&self, number: u64, item: &Want) -> Option<Want>
         requires { item.now.of ≡ Tcp number }
         ensures counts { IfSome result (λ w. w ≡ wanted_of self.now.wants item.now) }
         ensures some { IfSome result (λ w. (w.read || w.write) ≡ true) }
+        ensures none { result ≡ None → ((wanted_of self.now.wants item.now).read || (wanted_of self.now.wants item.now).write) ≡ false }
     {
         let wants = self.wants.of_flows();
-        match wants.binary_search_by_key(&Some(number), |want| socket_of(want.of)) {
-            Ok(place) => counted_at(wants, place, number, item),
-            Err(_) => None,
+        let read = item.read && flow_reads_among(wants, number);
+        let write = item.write && flow_writes_among(wants, number);
+        if !(read || write) {
+            return None;
         }
+        Some(Want {
+            of: item.of,
+            read,
+            write,
+        })
     }
 
-    // Whether a report on this listener is for reading, and peers were waited for. Listeners stand by rising numbers, the link before them.
+    // Whether a report on this listener is for reading, and peers were waited for.
     fn waits_for_peers(&self, number: u64, item: &Want) -> bool
-        ensures { result ≡ true → (item.now.read ≡ true) × (reads (Listener number) self.now.wants ≡ true) }
+        ensures { result ≡ (item.now.read && reads (Listener number) self.now.wants) }
     {
-        if !item.read {
-            return false;
-        }
-        let wants = self.wants.of_listeners();
-        match wants.binary_search_by_key(&Some(number), |want| socket_of(want.of)) {
-            Ok(place) => listens_at(wants, place, number),
-            Err(_) => false,
-        }
+        item.read && listens_among(self.wants.of_listeners(), number)
     }
 
-    // Whether a report on this socket is for reading, and datagrams on it were waited for. What is waited for of them stands by rising numbers, the link before all sockets.
+    // Whether a report on this socket is for reading, and datagrams on it were waited for.
     fn waits_for(&self, number: u64, item: &Want) -> bool
-        ensures { result ≡ true → (item.now.read ≡ true) × (reads (Udp number) self.now.wants ≡ true) }
+        ensures { result ≡ (item.now.read && reads (Udp number) self.now.wants) }
     {
-        if !item.read {
-            return false;
-        }
-        let wants = self.wants.of_datagrams();
-        match wants.binary_search_by_key(&Some(number), |want| socket_of(want.of)) {
-            Ok(place) => reads_at(wants, place, number),
-            Err(_) => false,
-        }
+        item.read && reads_among(self.wants.of_datagrams(), number)
     }
 
     // Reads a frame where nothing is left to be sent, takes it in, and sends its datagram on, serves it, or hands its segment on.
@@ -669,14 +662,58 @@ fn socket_of(who: Who) -> Option<u64> {
     }
 }
 
-// Whether the listener with this number stands at the place.
-fn listens_at(wants: &[Want], place: usize, number: u64) -> bool
-    ensures { result ≡ true → reads (Listener number) wants.now ≡ true }
+// Whether the listener with this number is among them, for reading.
+fn listens_among(wants: &[Want], number: u64) -> bool
+    ensures { result ≡ reads (Listener number) wants.now }
 {
-    let Some(want) = wants.get(place) else {
-        return false;
-    };
-    is_listened(want, number)
+    wants.iter().any(|want| is_listened(want, number))
+}
+
+// Whether the socket with this number is among them, for reading. What is waited for stands by rising number, so what isn't found there is looked for among all only where none was wanted.
+fn reads_among(wants: &[Want], number: u64) -> bool
+    ensures { result ≡ reads (Udp number) wants.now }
+{
+    reads_in_order(wants, number) || reads_anywhere(wants, number)
+}
+
+fn reads_in_order(wants: &[Want], number: u64) -> bool
+    ensures { result ≡ true → reads (Udp number) wants.now ≡ true }
+{
+    match wants.binary_search_by_key(&Some(number), |want| socket_of(want.of)) {
+        Ok(place) => reads_at(wants, place, number),
+        Err(_) => false,
+    }
+}
+
+fn reads_anywhere(wants: &[Want], number: u64) -> bool
+    ensures { result ≡ reads (Udp number) wants.now }
+{
+    wants.iter().any(|want| is_read(want, number))
+}
+
+// The same of a flow's socket, for reading and for writing (the search in order is left out here).
+fn flow_reads_among(wants: &[Want], number: u64) -> bool
+    ensures { result ≡ reads (Tcp number) wants.now }
+{
+    wants.iter().any(|want| is_flow_read(want, number))
+}
+
+fn flow_writes_among(wants: &[Want], number: u64) -> bool
+    ensures { result ≡ writes (Tcp number) wants.now }
+{
+    wants.iter().any(|want| is_flow_written(want, number))
+}
+
+fn is_flow_read(want: &Want, number: u64) -> bool
+    ensures { result ≡ is_to_read (Tcp number) want.now }
+{
+    want.of == Who::Tcp(number) && want.read
+}
+
+fn is_flow_written(want: &Want, number: u64) -> bool
+    ensures { result ≡ is_to_write (Tcp number) want.now }
+{
+    want.of == Who::Tcp(number) && want.write
 }
 
 // Whether it is the listener with this number.
@@ -694,33 +731,6 @@ fn reads_at(wants: &[Want], place: usize, number: u64) -> bool
         return false;
     };
     is_read(want, number)
-}
-
-// What counts of a report on the flow's socket with this number, where that stands at the place: the directions that were waited for.
-fn counted_at(wants: &[Want], place: usize, number: u64, item: &Want) -> Option<Want>
-    requires { item.now.of ≡ Tcp number }
-    ensures counts { (before : List AnItem) → TcpOnce (before ++ wants.now) → IfSome result (λ w. w ≡ wanted_of (before ++ wants.now) item.now) }
-    ensures some { IfSome result (λ w. (w.read || w.write) ≡ true) }
-{
-    let want = wants.get(place)?;
-    counted_by(want, number, item)
-}
-
-// The same of the want at the place.
-fn counted_by(want: &Want, number: u64, item: &Want) -> Option<Want>
-    ensures counts { IfSome result (λ w. (want.now.of ≡ Tcp number) × (w ≡ record { of = item.now.of; read = item.now.read && want.now.read; write = item.now.write && want.now.write })) }
-    ensures some { IfSome result (λ w. (w.read || w.write) ≡ true) }
-{
-    let read = item.read && want.read;
-    let write = item.write && want.write;
-    if want.of != Who::Tcp(number) || !(read || write) {
-        return None;
-    }
-    Some(Want {
-        of: item.of,
-        read,
-        write,
-    })
 }
 
 // Whether it is the socket with this number, for reading.

@@ -2,7 +2,7 @@ use crate::cases::Case;
 use arrayvec::ArrayVec;
 use dhcp_server::Leases;
 use host_policy::{Reply, SlirpConfig};
-use net_octets::{Endpoint, Ip4};
+use net_octets::{Endpoint, Ip4, Mac};
 use std::alloc::{AllocError, Global};
 
 /// Room for a reply, in octets.
@@ -73,7 +73,13 @@ fn answer(alloc: Global, leases: &mut Leases, asked: &str) -> Result<String, All
         return "no moment".to_string(alloc);
     }
     let mut into = [0xee; ROOM];
-    match leases.message(now, &body, &mut into) {
+    let reply = leases.message(now, &body, &mut into);
+    said(alloc, &reply, &into)
+}
+
+// What a reply says, whose octets stand first in `into`.
+fn said(alloc: Global, reply: &Reply, into: &[u8]) -> Result<String, AllocError> {
+    match reply {
         Reply::Nothing => "nothing".to_string(alloc),
         Reply::Unreachable(_) => "an unreachable".to_string(alloc),
         Reply::Datagram {
@@ -82,19 +88,31 @@ fn answer(alloc: Global, leases: &mut Leases, asked: &str) -> Result<String, All
             to,
             mac,
         } => {
-            let sender = place_of(alloc, from)?;
-            let target = place_of(alloc, to)?;
-            let mac = match mac {
-                Some(mac) => hex::encode(alloc, &mac.0)?,
-                None => "-".to_string(alloc)?,
-            };
-            let octets = hex::encode(alloc, into.get(..length).unwrap_or(&[]))?;
-            format!(in alloc; "{sender} {target} {mac} {octets}")
+            let mut text = String::new(alloc);
+            push_place(alloc, &mut text, *from)?;
+            push_place(alloc, &mut text, *to)?;
+            push_mac(alloc, &mut text, *mac)?;
+            push_octets(alloc, &mut text, into.get(..*length).unwrap_or(&[]))?;
+            Ok(text)
         }
     }
 }
 
-fn place_of(alloc: Global, place: Endpoint) -> Result<String, AllocError> {
+fn push_place(alloc: Global, text: &mut String, place: Endpoint) -> Result<(), AllocError> {
     let [a, b, c, d] = place.addr.0.to_be_bytes();
-    format!(in alloc; "{a}.{b}.{c}.{d}:{}", place.port)
+    let place = format!(in alloc; "{a}.{b}.{c}.{d}:{} ", place.port)?;
+    text.push_str(place.as_str())
+}
+
+fn push_mac(alloc: Global, text: &mut String, mac: Option<Mac>) -> Result<(), AllocError> {
+    match mac {
+        Some(mac) => push_octets(alloc, text, &mac.0)?,
+        None => text.push('-')?,
+    }
+    text.push(' ')
+}
+
+fn push_octets(alloc: Global, text: &mut String, octets: &[u8]) -> Result<(), AllocError> {
+    let octets = hex::encode(alloc, octets)?;
+    text.push_str(octets.as_str())
 }

@@ -3,7 +3,7 @@
 #![tactic(auto)]
 
 use host_policy::{Forward, Proto, SlirpConfig};
-use net_octets::Ip4;
+use net_octets::{Endpoint, Ip4};
 use slirp_config::{Command, Tap, WordFault, read_words};
 use std::alloc::{AllocError, Global};
 use std::{env, fs, io};
@@ -28,22 +28,14 @@ fn meaning_of(alloc: Global, line: &str) -> Result<String, AllocError> {
     for word in line.split_whitespace() {
         words.push(word.to_string(alloc)?)?;
     }
-    let read = read_words(&words);
+    meaning_of_words(alloc, &words)
+}
+
+fn meaning_of_words(alloc: Global, words: &Vec<String>) -> Result<String, AllocError> {
+    let read = read_words(words);
     match &read {
-        Ok(Command::Replay(file, config)) => {
-            let settings = settings_of(alloc, config)?;
-            format!(in alloc; "replay {}: {settings}", file.as_str())
-        }
-        Ok(Command::Serve(config, at, tap)) => {
-            let settings = settings_of(alloc, config)?;
-            let link = link_of(alloc, at)?;
-            let put = match tap {
-                Tap::Off => "",
-                Tap::Record => ", recorded",
-                Tap::Capture => ", captured",
-            };
-            format!(in alloc; "serve {link}{put}: {settings}")
-        }
+        Ok(Command::Replay(file, config)) => replay_of(alloc, file.as_str(), config),
+        Ok(Command::Serve(config, at, tap)) => serve_of(alloc, config, at, *tap),
         Ok(Command::Drive(number, octets)) => format!(in alloc; "drive {number} {octets}"),
         Err(WordFault::Usage) => "no reading".to_string(alloc),
         Err(WordFault::BadConfig(field)) => {
@@ -52,89 +44,137 @@ fn meaning_of(alloc: Global, line: &str) -> Result<String, AllocError> {
     }
 }
 
-fn link_of(alloc: Global, at: &LinkAt) -> Result<String, AllocError> {
+fn replay_of(alloc: Global, file: &str, config: &SlirpConfig) -> Result<String, AllocError> {
+    let mut text = format!(in alloc; "replay {file}: ")?;
+    push_settings(alloc, &mut text, config)?;
+    Ok(text)
+}
+
+fn serve_of(
+    alloc: Global,
+    config: &SlirpConfig,
+    at: &LinkAt,
+    tap: Tap,
+) -> Result<String, AllocError> {
+    let mut text = "serve ".to_string(alloc)?;
+    push_link(alloc, &mut text, at)?;
+    text.push_str(match tap {
+        Tap::Off => "",
+        Tap::Record => ", recorded",
+        Tap::Capture => ", captured",
+    })?;
+    text.push_str(": ")?;
+    push_settings(alloc, &mut text, config)?;
+    Ok(text)
+}
+
+fn push_link(alloc: Global, text: &mut String, at: &LinkAt) -> Result<(), AllocError> {
     match at {
-        LinkAt::Unix(path) => format!(in alloc; "unix:{}", path.as_str()),
-        LinkAt::Tcp(place) => {
-            let addr = dotted(alloc, place.addr)?;
-            format!(in alloc; "tcp:{addr}:{}", place.port)
+        LinkAt::Unix(path) => {
+            text.push_str("unix:")?;
+            text.push_str(path.as_str())
         }
+        LinkAt::Tcp(place) => push_place(alloc, text, "tcp:", *place),
     }
 }
 
 // All settings that an option can name.
-fn settings_of(alloc: Global, config: &SlirpConfig) -> Result<String, AllocError> {
-    let net = dotted(alloc, config.vnetwork)?;
-    let mask = dotted(alloc, config.vnetmask)?;
-    let host = dotted(alloc, config.vhost)?;
-    let dns = dotted(alloc, config.vnameserver)?;
-    let lent = dotted(alloc, config.vdhcp_start)?;
-    let mut text = format!(in alloc;
-        "net {net} mask {mask}, host {host}, dns {dns}, dhcpstart {lent}"
-    )?;
+fn push_settings(alloc: Global, text: &mut String, config: &SlirpConfig) -> Result<(), AllocError> {
+    push_addrs(alloc, text, config)?;
+    push_sizes(alloc, text, config)?;
+    push_switches(text, config)?;
+    push_version(alloc, text, config.version)?;
+    push_names(text, config)?;
+    push_ways(alloc, text, config)?;
+    for forward in config.forwards.as_slice() {
+        push_forward(alloc, text, forward)?;
+    }
+    Ok(())
+}
+
+// The addresses of the network.
+fn push_addrs(alloc: Global, text: &mut String, config: &SlirpConfig) -> Result<(), AllocError> {
+    for (name, addr) in [
+        ("net ", config.vnetwork),
+        (" mask ", config.vnetmask),
+        (", host ", config.vhost),
+        (", dns ", config.vnameserver),
+        (", dhcpstart ", config.vdhcp_start),
+    ] {
+        push_addr(alloc, text, name, addr)?;
+    }
+    Ok(())
+}
+
+fn push_sizes(alloc: Global, text: &mut String, config: &SlirpConfig) -> Result<(), AllocError> {
     let (mtu, mru, flows) = (config.if_mtu, config.if_mru, config.flows);
     let (ring, turns) = (config.ring, config.turns);
     let sizes = format!(in alloc;
         ", mtu {mtu}, mru {mru}, flows {flows}, ring {ring}, turns {turns}"
     )?;
-    text.push_str(sizes.as_str())?;
-    if config.restricted {
-        text.push_str(", restrict")?;
+    text.push_str(sizes.as_str())
+}
+
+// What is either so or not.
+fn push_switches(text: &mut String, config: &SlirpConfig) -> Result<(), AllocError> {
+    for (is_on, name) in [
+        (config.restricted, ", restrict"),
+        (config.disable_host_loopback, ", no-loopback"),
+        (config.congestion, ", congestion"),
+        (config.disable_dhcp, ", no-dhcp"),
+        (config.disable_dns, ", no-dns"),
+    ] {
+        if is_on {
+            text.push_str(name)?;
+        }
     }
-    if config.disable_host_loopback {
-        text.push_str(", no-loopback")?;
+    Ok(())
+}
+
+// The version, where it isn't the usual one.
+fn push_version(alloc: Global, text: &mut String, version: u32) -> Result<(), AllocError> {
+    if version == 1 {
+        return Ok(());
     }
-    if config.congestion {
-        text.push_str(", congestion")?;
+    let version = format!(in alloc; ", version {version}")?;
+    text.push_str(version.as_str())
+}
+
+// What a guest is told, and the folder whose files it may fetch.
+fn push_names(text: &mut String, config: &SlirpConfig) -> Result<(), AllocError> {
+    for (name, told) in [
+        (", hostname ", config.vhostname.as_slice()),
+        (", domainname ", config.vdomainname.as_slice()),
+        (", tftp-server-name ", config.tftp_server_name.as_slice()),
+        (", bootfile ", config.bootfile.as_slice()),
+    ] {
+        push_told(text, name, told)?;
     }
-    if config.disable_dhcp {
-        text.push_str(", no-dhcp")?;
+    match &config.tftp_path {
+        Some(folder) => push_told(text, ", tftp ", folder.as_str().as_bytes()),
+        None => Ok(()),
     }
-    if config.disable_dns {
-        text.push_str(", no-dns")?;
-    }
-    if config.version != 1 {
-        let version = format!(in alloc; ", version {}", config.version)?;
-        text.push_str(version.as_str())?;
-    }
-    push_told(&mut text, ", hostname ", config.vhostname.as_slice())?;
-    push_told(&mut text, ", domainname ", config.vdomainname.as_slice())?;
-    push_told(
-        &mut text,
-        ", tftp-server-name ",
-        config.tftp_server_name.as_slice(),
-    )?;
-    push_told(&mut text, ", bootfile ", config.bootfile.as_slice())?;
-    if let Some(folder) = &config.tftp_path {
-        push_told(&mut text, ", tftp ", folder.as_str().as_bytes())?;
-    }
+}
+
+// Where names are asked for, and from where connections go out.
+fn push_ways(alloc: Global, text: &mut String, config: &SlirpConfig) -> Result<(), AllocError> {
     if let Some(resolver) = config.resolver {
-        let addr = dotted(alloc, resolver.addr)?;
-        let asked = format!(in alloc; ", resolver {addr}:{}", resolver.port)?;
-        text.push_str(asked.as_str())?;
+        push_place(alloc, text, ", resolver ", resolver)?;
     }
     if let Some(outbound) = config.outbound {
-        let addr = dotted(alloc, outbound)?;
-        let from = format!(in alloc; ", outbound {addr}")?;
-        text.push_str(from.as_str())?;
+        push_addr(alloc, text, ", outbound ", outbound)?;
     }
-    for forward in config.forwards.as_slice() {
-        push_forward(alloc, &mut text, forward)?;
-    }
-    Ok(text)
+    Ok(())
 }
 
 // A port of the host that is given to a guest.
 fn push_forward(alloc: Global, text: &mut String, forward: &Forward) -> Result<(), AllocError> {
-    let proto = match forward.proto {
-        Proto::Tcp => "tcp",
-        Proto::Udp => "udp",
+    let host = match forward.proto {
+        Proto::Tcp => ", tcp ",
+        Proto::Udp => ", udp ",
     };
-    let host = dotted(alloc, forward.host.addr)?;
-    let guest = dotted(alloc, forward.guest.addr)?;
-    let (outside, inside) = (forward.host.port, forward.guest.port);
-    let given = format!(in alloc; ", {proto} {host}:{outside} to {guest}:{inside}")?;
-    text.push_str(given.as_str())
+    push_place(alloc, text, host, forward.host)?;
+    push_place(alloc, text, " to ", forward.guest)
 }
 
 // What a guest is told, where there is something.
@@ -146,7 +186,19 @@ fn push_told(text: &mut String, name: &str, told: &[u8]) -> Result<(), AllocErro
     text.push_str(str::from_utf8(told).unwrap_or("no text"))
 }
 
-fn dotted(alloc: Global, addr: Ip4) -> Result<String, AllocError> {
+fn push_place(
+    alloc: Global,
+    text: &mut String,
+    name: &str,
+    place: Endpoint,
+) -> Result<(), AllocError> {
+    push_addr(alloc, text, name, place.addr)?;
+    let port = format!(in alloc; ":{}", place.port)?;
+    text.push_str(port.as_str())
+}
+
+fn push_addr(alloc: Global, text: &mut String, name: &str, addr: Ip4) -> Result<(), AllocError> {
     let [a, b, c, d] = addr.0.to_be_bytes();
-    format!(in alloc; "{a}.{b}.{c}.{d}")
+    let addr = format!(in alloc; "{name}{a}.{b}.{c}.{d}")?;
+    text.push_str(addr.as_str())
 }

@@ -1,5 +1,5 @@
-use Rattle.std.proofs.Common.{◌&&◌, ◌∷◌, ap, false, inl, subst}
-use Rattle.poll_list.specs.Listing.{same_who}
+use Rattle.std.proofs.Common.{◌&&◌, ◌∷◌, ◌∙◌, ap, false, inl, subst, sym}
+use Rattle.poll_list.specs.Listing.{reads, same_who}
 use Rattle.poll_list.specs.declared.Who.{Who}
 use Rattle.poll_list.specs.declared.Who.TheVariants.{Link as TheLink, Listener}
 use Rattle.world_face.specs.Tells.{Brings}
@@ -9,6 +9,7 @@ use Rattle.slirp_core.proofs.Associating.{passes_over}
 use Rattle.serve_loop.specs.Served.{ServiceState}
 use Rattle.serve_loop.specs.Turns.{AfterTurn, HoldsNow}
 use Rattle.serve_loop.proofs.Turning.{calm_behind, of_listener, read_counts}
+use Rattle.serve_loop.proofs.Among.{both}
 use Rattle.serve_loop.proofs.service.Service.attend_listener.Goals as goal
 
 pub returns-then-not-waits_for_peers-clause-makes : goal.returns-then-not-waits_for_peers-clause-makes
@@ -18,14 +19,14 @@ returns-then-not-waits_for_peers-clause-makes g c config count items =
 pub returns-clause-makes : goal.returns-clause-makes
 returns-clause-makes g c config count items =
     let wants = c.args.self.now.wants in
-    let waited = c.waits_for_peers.ensures c.if-not-waits_for_peers.false in
+    let waited = both c.args.item.now.read (reads (Listener c.args.number) c.args.self.now.wants) (sym c.waits_for_peers.ensures ∙ c.if-not-waits_for_peers.false) in
     subst (λ (s : ServiceState). Brings (g.W.World.tells c.args.world.now) (g.W.World.tells c.pump.new.world) (HoldsNow config (standing count wants (c.args.item.now ∷ items)) false s.slirp s.link) (AfterTurn c.pump.result config (standing count wants items) false c.pump.new.self.slirp c.pump.new.self.link)) c.self.view_is
     (brings_then (c.accept.ensures.makes config count wants c.args.item.now items c.self.inside.link (of_listener c.args.number wants c.args.item.now c.requires.of waited.0 waited.1))
     (c.pump.ensures.makes config (standing count wants items) false))
 
 pub returns-clause-passed : goal.returns-clause-passed
 returns-clause-passed g c passed =
-    let waited = c.waits_for_peers.ensures c.if-not-waits_for_peers.false in
+    let waited = both c.args.item.now.read (reads (Listener c.args.number) c.args.self.now.wants) (sym c.waits_for_peers.ensures ∙ c.if-not-waits_for_peers.false) in
     absurd (read_counts c.args.self.now.wants c.args.item.now (Listener c.args.number) c.requires.of waited.0 waited.1 passed)
 
 pub returns-then-not-waits_for_peers-clause-calm : goal.returns-then-not-waits_for_peers-clause-calm

@@ -1,14 +1,11 @@
-use Rattle.std.proofs.Common.{◌≡◌, true, List, sym, ◌∙◌, ap, subst}
+use Rattle.std.proofs.Common.{◌&&◌, sym, ◌∙◌, ap}
 use Rattle.poll_list.specs.Listing.{reads}
-use Rattle.poll_list.specs.declared.Want.{Want}
 use Rattle.poll_list.specs.declared.Who.TheVariants.{Listener}
 use Rattle.serve_loop.specs.Served.{ServiceState}
-use Rattle.serve_loop.proofs.Wanted.{reads_before}
+use Rattle.serve_loop.proofs.Among.{listeners_among}
 use Rattle.serve_loop.proofs.service.Service.waits_for_peers.Goals as goal
 
-pub returns-in-Ok : goal.returns-in-Ok
-returns-in-Ok c is =
-    let split = c.of_listeners-wants.ensures.part in (
-      c.if-not-item.false,
-      subst (λ (l : List Want). reads (Listener c.args.number) l ≡ true) (sym split.1 ∙ ap (λ (s : ServiceState). s.wants) c.self.view_is) (reads_before (Listener c.args.number) c.of_listeners-wants.result.now split.0 (c.listens_at.ensures is)),
-    )
+pub returns-then-item : goal.returns-then-item
+returns-then-item c =
+    c.listens_among.ensures ∙ ap (reads (Listener c.args.number)) c.of_listeners.ensures.all ∙ listeners_among c.args.number c.self.inside.wants.items
+    ∙ ap (λ (s : ServiceState). reads (Listener c.args.number) s.wants) c.self.view_is ∙ sym (ap (λ b. b && reads (Listener c.args.number) c.args.self.now.wants) c.if-item.true)
