@@ -3,7 +3,9 @@ use Rattle.std.proofs.Common.{refl, ◌≡◌, List, [], ◌∷◌, ◌++◌, Bo
 use Rattle.world_face.specs.Journal.{Allowed, Close, Entry, TcpRead}
 use Rattle.world_face.specs.Tells.{Answers, Makes, Telling}
 use Rattle.world_face.proofs.Telling.{makes_next, makes_one, makes_then}
-use Rattle.flow_splice.specs.Hosts.{is_for_reading, reads_or_shuts, some_is}
+use Rattle.flow_splice.specs.Hosts.{ReadsOn, ServesReport, is_for_reading, is_for_writing, reads_or_shuts, some_is}
+use Rattle.flow_splice.specs.Splice.{Splice}
+use Rattle.flow_splice.specs.Wants.{reads, writes}
 
 pub two_calls : (a b c : Telling) (first second : Entry) (Q : List Entry → Type 0) → Answers a b first → Answers b c second → (Allowed first → Allowed second → Q (second ∷ first ∷ [])) → Makes a c Q
 two_calls a b c first second Q one two here =
@@ -48,3 +50,21 @@ reads_at_least [] so = so
 reads_at_least (TcpRead socket asked answer octets ∷ made) so = refl
 reads_at_least (Close socket ∷ made) so = refl
 reads_at_least (e ∷ made) so = or_last (reads_or_shuts e) (some_is reads_or_shuts made) (reads_at_least made so)
+
+-- nothing was called, and nothing has changed
+pub reads_on_yet : (f : Splice) → ReadsOn f f []
+reads_on_yet f reading = or_first (reads f) false reading
+
+-- where reading goes on after the writing it is done, and where it doesn't a socket was closed
+reads_behind : (goes_on : Bool) (second first : List Entry) → (goes_on || some_is reads_or_shuts first) ≡ true → (goes_on ≡ true → some_is is_for_reading second ≡ true)
+    → some_is reads_or_shuts (second ++ first) ≡ true
+reads_behind true second first so later = is_already reads_or_shuts second first (reads_at_least second (later refl))
+reads_behind false second first so later = still_is reads_or_shuts second first so
+
+-- the calls for writing, and then those for reading
+pub serves_both : (read write : Bool) (old mid : Splice) (first second : List Entry) → (write ≡ true → writes old ≡ true → some_is is_for_writing first ≡ true) → ReadsOn old mid first
+    → (read ≡ true → reads mid ≡ true → some_is is_for_reading second ≡ true) → ServesReport read write old (second ++ first)
+serves_both read write old mid first second written on later = record {
+  writing = λ is waits. still_is is_for_writing second first (written is waits);
+  reading = λ is waits. reads_behind (reads mid) second first (on waits) (later is);
+}

@@ -28,7 +28,7 @@ use Rattle.flow_splice.specs.Follows.{Follows, IsOpen}
 use Rattle.flow_splice.specs.Hosts.{Sees, ends as ends_by, given, gives_octets, reads_or_shuts, some_is}
 use Rattle.flow_splice.specs.Serves.{GoesOn}
 use Rattle.flow_splice.specs.Splice.{Splice, closed, is_open}
-use Rattle.flow_splice.specs.Wants.{may_end, may_read, owes_octets, reads as reads_by}
+use Rattle.flow_splice.specs.Wants.{may_end, may_read, may_write, owes_octets, reads as reads_by, writes as writes_by}
 use Rattle.flow_splice.proofs.Calls.{or_last}
 use Rattle.flow_splice.proofs.Opened.{goes_on, open_follows, open_is}
 use Rattle.flow_splice.proofs.Shutting.{done_follows, finished_cause, reset_follows, settled_same}
@@ -312,3 +312,26 @@ connects_unread f connects reading = by (is_open f) (is_connects f.conn.stage) (
     by true true c d is so = cc
     by true false c d is so = cc
     by false b c d is so = cc
+
+-- what is waited for is so of an open socket
+pub shut_unwritten : (f : Splice) → is_open f ≡ false → writes_by f ≡ true → ⊥
+shut_unwritten f shut waits = let not_it = sym waits ∙ ap (λ (b : Bool). b && may_write f) shut in cc
+
+pub shut_unread : (f : Splice) → is_open f ≡ false → reads_by f ≡ true → ⊥
+shut_unread f shut waits = let not_it = sym waits ∙ ap (λ (b : Bool). b && may_read f) shut in cc
+
+pub full_unread : (f : Splice) → may_read f ≡ false → reads_by f ≡ true → ⊥
+full_unread f none waits = by (is_open f) (may_read f) none waits
+  where
+    by : (a b : Bool) → b ≡ false → (a && b) ≡ true → ⊥
+    by true b none so = let not_it = sym so ∙ none in cc
+    by false b none so = cc
+
+-- one that has connected and owes the host nothing isn't written
+pub idle_unwritten : (f : Splice) → is_connects f.conn.stage ≡ false → owes_octets f ≡ false → may_end f ≡ false → writes_by f ≡ true → ⊥
+idle_unwritten f connected none over waits = by (is_open f) (is_connects f.conn.stage) (owes_octets f) (may_end f) connected none over waits
+  where
+    by : (a b c d : Bool) → b ≡ false → c ≡ false → d ≡ false → (a && (b || c || d)) ≡ true → ⊥
+    by true b c d connected none over so =
+        let not_it = sym so ∙ ap (λ (x : Bool). x || c || d) connected ∙ ap (λ (x : Bool). x || d) none ∙ over in cc
+    by false b c d connected none over so = cc

@@ -9,6 +9,7 @@ use Rattle.world_face.specs.Journal.{Entry, Close, Connected, TcpRead, TcpWrite,
 use Rattle.world_face.specs.declared.Io.{Io}
 use Rattle.world_face.specs.declared.Io.TheVariants.{Done, End, NotYet, Failed}
 use Rattle.flow_splice.specs.Splice.{Splice, closed, is_open}
+use Rattle.flow_splice.specs.Wants.{reads, writes}
 
 -- between whom it goes, its guest's hardware address and the sizes stay
 pub record IsAsOld (old new : Splice) : Type 0 where
@@ -83,6 +84,15 @@ reads_or_shuts e = is_for_reading e || shuts e
 abbrev pub some_is : (Entry → Bool) → List Entry → Bool
 some_is is [] = false
 some_is is (e ∷ made) = is e || some_is is made
+
+-- what was waited for to read is so yet, or was read, or a socket was closed
+abbrev pub ReadsOn : (old new : Splice) → List Entry → Type 0
+ReadsOn old new made = reads old ≡ true → (reads new || some_is reads_or_shuts made) ≡ true
+
+-- Each direction that was reported and waited for has its call; for reading, unless a call for writing closed the socket before it.
+pub record ServesReport (read write : Bool) (f : Splice) (made : List Entry) : Type 0 where
+  pub writing : write ≡ true → writes f ≡ true → some_is is_for_writing made ≡ true
+  pub reading : read ≡ true → reads f ≡ true → some_is reads_or_shuts made ≡ true
 
 -- The guest's end isn't held back: where the socket is open, the end was taken and none of the guest's octets is held, the host was told it.
 abbrev pub PassesEnd : Splice → Type 0

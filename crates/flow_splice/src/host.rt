@@ -1,5 +1,5 @@
 // The calls on the host's socket: whether it connected, what it takes, and what it gives.
-ghost use Rattle.std.specs.Prelude.{◌≡◌, ℕ, ◌+◌, ◌-◌, ◌^◌, ◌<◌, ◌≤◌, ◌||◌, List, ◌∷◌, [], length, take, min, nat_lt, true, false};
+ghost use Rattle.std.specs.Prelude.{◌≡◌, ℕ, ◌+◌, ◌-◌, ◌^◌, ◌<◌, ◌≤◌, List, ◌∷◌, [], length, take, min, nat_lt, true, false};
 ghost use Rattle.sock_buffers.specs.Upward.{Upward};
 ghost use Rattle.tcp_guest.specs.Connection.{HasBuffers};
 ghost use Rattle.tcp_guest.specs.Hosts.{connected_by, host_ended, is_open as is_host_open, reset, write_ended};
@@ -19,7 +19,7 @@ use world_face::{Io, Joined, Made, World};
 impl Spliced {
     ghost use Rattle.flow_splice.specs.Splice.{closed, is_open as is_open_by};
     ghost use Rattle.flow_splice.specs.Serves.{GoesOn};
-    ghost use Rattle.flow_splice.specs.Hosts.{IsAsOld, PassesEnd, is_for_reading, is_for_writing, reads_or_shuts, some_is};
+    ghost use Rattle.flow_splice.specs.Hosts.{IsAsOld, PassesEnd, ReadsOn, ServesReport, is_for_reading, is_for_writing, some_is};
     ghost use Rattle.flow_splice.specs.Shapes.{IsHostWork, is_ending, is_reading, is_writing};
     ghost use Rattle.flow_splice.specs.Wants.{may_end, owes_octets as owes_octets_by, reads, writes};
 
@@ -29,16 +29,12 @@ impl Spliced {
     pub fn host_ready<W: World>(&mut self, world: &mut W, now: u64, read: bool, write: bool)
         requires now { now ≤ 2 ^ 62 }
         requires few { octets_read self.old.down + 16384 < 2 ^ 62 }
-        ensures makes { Makes (W.tells world.old) (W.tells world.new) (λ made. GoesOn self.old self.new false now made × IsHostWork read write made) }
+        // Each direction that was reported is served; reading, unless a call for writing closed the socket before it.
+        ensures makes { Makes (W.tells world.old) (W.tells world.new)
+            (λ made. GoesOn self.old self.new false now made × IsHostWork read write made × ServesReport read write self.old made) }
         ensures same { IsAsOld self.old self.new }
         ensures up { self.new.up.written ≤ self.old.up.written + 16384 }
         ensures down { octets_read self.new.down ≤ octets_read self.old.down + 16384 }
-        // A direction that was reported is served.
-        ensures serves_writing { write ≡ true → writes self.old ≡ true
-            → Makes (W.tells world.old) (W.tells world.new) (λ made. some_is is_for_writing made ≡ true) }
-        // For reading, unless a call for writing closed the socket before it.
-        ensures serves_reading { read ≡ true → reads self.old ≡ true
-            → Makes (W.tells world.old) (W.tells world.new) (λ made. some_is reads_or_shuts made ≡ true) }
         // After a report for writing the guest's end isn't held back in a flow that had connected.
         ensures passes_end { write ≡ true → is_connects self.old.conn.stage ≡ false → PassesEnd self.new }
         ensures closed { is_open_by self.old ≡ false → self.new ≡ self.old }
@@ -50,12 +46,12 @@ impl Spliced {
     // The socket was reported ready for writing, or not.
     fn serve_writing<W: World>(&mut self, world: &mut W, now: u64, ready: bool)
         requires now { now ≤ 2 ^ 62 }
-        ensures makes { Makes (W.tells world.old) (W.tells world.new) (λ made. GoesOn self.old self.new false now made × (is_writing made ≡ true) × (ready ≡ false → made ≡ [])) }
+        ensures makes { Makes (W.tells world.old) (W.tells world.new)
+            (λ made. GoesOn self.old self.new false now made × (is_writing made ≡ true) × (ready ≡ false → made ≡ [])
+            × (ready ≡ true → writes self.old ≡ true → some_is is_for_writing made ≡ true) × ReadsOn self.old self.new made) }
         ensures same { IsAsOld self.old self.new }
         ensures up { self.new.up.written ≤ self.old.up.written + 16384 }
         ensures down { self.new.down ≡ self.old.down }
-        ensures serves { ready ≡ true → writes self.old ≡ true → Makes (W.tells world.old) (W.tells world.new) (λ made. some_is is_for_writing made ≡ true) }
-        ensures still_reads { reads self.old ≡ true → Makes (W.tells world.old) (W.tells world.new) (λ made. reads self.new || some_is reads_or_shuts made ≡ true) }
         ensures idle { ready ≡ false → (self.new ≡ self.old) × (W.tells world.new ≡ W.tells world.old) }
         ensures passes_end { ready ≡ true → is_connects self.old.conn.stage ≡ false → PassesEnd self.new }
         ensures closed { is_open_by self.old ≡ false → self.new ≡ self.old }
@@ -76,11 +72,12 @@ impl Spliced {
     fn serve_reading<W: World>(&mut self, world: &mut W, now: u64, ready: bool)
         requires now { now ≤ 2 ^ 62 }
         requires few { octets_read self.old.down + 16384 < 2 ^ 62 }
-        ensures makes { Makes (W.tells world.old) (W.tells world.new) (λ made. GoesOn self.old self.new false now made × (is_reading made ≡ true) × (ready ≡ false → made ≡ [])) }
+        ensures makes { Makes (W.tells world.old) (W.tells world.new)
+            (λ made. GoesOn self.old self.new false now made × (is_reading made ≡ true) × (ready ≡ false → made ≡ [])
+            × (ready ≡ true → reads self.old ≡ true → some_is is_for_reading made ≡ true)) }
         ensures same { IsAsOld self.old self.new }
         ensures up { self.new.up ≡ self.old.up }
         ensures down { octets_read self.new.down ≤ octets_read self.old.down + 16384 }
-        ensures serves { ready ≡ true → reads self.old ≡ true → Makes (W.tells world.old) (W.tells world.new) (λ made. some_is is_for_reading made ≡ true) }
         ensures passes_end { PassesEnd self.old → PassesEnd self.new }
         ensures closed { is_open_by self.old ≡ false → self.new ≡ self.old }
     {
@@ -96,11 +93,11 @@ impl Spliced {
         requires now { now ≤ 2 ^ 62 }
         requires open_yet { is_open_by self.old ≡ true }
         requires connects { is_connects self.old.conn.stage ≡ true }
-        ensures makes { Makes (W.tells world.old) (W.tells world.new) (λ made. GoesOn self.old self.new false now made × (is_writing made ≡ true)) }
+        ensures makes { Makes (W.tells world.old) (W.tells world.new)
+            (λ made. GoesOn self.old self.new false now made × (is_writing made ≡ true) × (some_is is_for_writing made ≡ true)) }
         ensures same { IsAsOld self.old self.new }
         ensures up { self.new.up ≡ self.old.up }
         ensures down { self.new.down ≡ self.old.down }
-        ensures serves { Makes (W.tells world.old) (W.tells world.new) (λ made. some_is is_for_writing made ≡ true) }
     {
         match self.ask(world) {
             Joined::Yes => self.join(now),
@@ -152,12 +149,11 @@ impl Spliced {
         requires open_yet { is_open_by self.old ≡ true }
         requires connected { is_connects self.old.conn.stage ≡ false }
         requires owes { owes_octets_by self.old ≡ true }
-        ensures makes { Makes (W.tells world.old) (W.tells world.new) (λ made. GoesOn self.old self.new false now made × (is_writing made ≡ true)) }
+        ensures makes { Makes (W.tells world.old) (W.tells world.new)
+            (λ made. GoesOn self.old self.new false now made × (is_writing made ≡ true) × (some_is is_for_writing made ≡ true) × ReadsOn self.old self.new made) }
         ensures same { IsAsOld self.old self.new }
         ensures up { self.new.up.written ≤ self.old.up.written + 16384 }
         ensures down { self.new.down ≡ self.old.down }
-        ensures serves { Makes (W.tells world.old) (W.tells world.new) (λ made. some_is is_for_writing made ≡ true) }
-        ensures still_reads { reads self.old ≡ true → Makes (W.tells world.old) (W.tells world.new) (λ made. reads self.new || some_is reads_or_shuts made ≡ true) }
         ensures passes_end { PassesEnd self.new }
     {
         match self.offer(world) {
@@ -185,11 +181,10 @@ impl Spliced {
         requires now { now ≤ 2 ^ 62 }
         requires open_yet { is_open_by self.old ≡ true }
         requires connected { is_connects self.old.conn.stage ≡ false }
-        ensures makes { Makes (W.tells world.old) (W.tells world.new) (λ made. GoesOn self.old self.new false now made × (is_ending made ≡ true)) }
+        ensures makes { Makes (W.tells world.old) (W.tells world.new) (λ made. GoesOn self.old self.new false now made × (is_ending made ≡ true) × ReadsOn self.old self.new made) }
         ensures same { IsAsOld self.old self.new }
         ensures up { self.new.up ≡ self.old.up }
         ensures down { self.new.down ≡ self.old.down }
-        ensures still_reads { reads self.old ≡ true → Makes (W.tells world.old) (W.tells world.new) (λ made. reads self.new || some_is reads_or_shuts made ≡ true) }
         ensures passes_end { PassesEnd self.new }
     {
         if !self.owes_octets() && self.owes_end() {
@@ -204,12 +199,11 @@ impl Spliced {
         requires connected { is_connects self.old.conn.stage ≡ false }
         requires all { owes_octets_by self.old ≡ false }
         requires ends { may_end self.old ≡ true }
-        ensures makes { Makes (W.tells world.old) (W.tells world.new) (λ made. GoesOn self.old self.new false now made × (is_ending made ≡ true)) }
+        ensures makes { Makes (W.tells world.old) (W.tells world.new)
+            (λ made. GoesOn self.old self.new false now made × (is_ending made ≡ true) × (some_is is_for_writing made ≡ true) × ReadsOn self.old self.new made) }
         ensures same { IsAsOld self.old self.new }
         ensures up { self.new.up ≡ self.old.up }
         ensures down { self.new.down ≡ self.old.down }
-        ensures serves { Makes (W.tells world.old) (W.tells world.new) (λ made. some_is is_for_writing made ≡ true) }
-        ensures still_reads { reads self.old ≡ true → Makes (W.tells world.old) (W.tells world.new) (λ made. reads self.new || some_is reads_or_shuts made ≡ true) }
         ensures passes_end { PassesEnd self.new }
     {
         match self.offer_end(world) {
@@ -256,11 +250,11 @@ impl Spliced {
         requires open_yet { is_open_by self.old ≡ true }
         requires may { may_read_by self.old ≡ true }
         requires few { octets_read self.old.down + 16384 < 2 ^ 62 }
-        ensures makes { Makes (W.tells world.old) (W.tells world.new) (λ made. GoesOn self.old self.new false now made × (is_reading made ≡ true)) }
+        ensures makes { Makes (W.tells world.old) (W.tells world.new)
+            (λ made. GoesOn self.old self.new false now made × (is_reading made ≡ true) × (some_is is_for_reading made ≡ true)) }
         ensures same { IsAsOld self.old self.new }
         ensures up { self.new.up ≡ self.old.up }
         ensures down { octets_read self.new.down ≤ octets_read self.old.down + 16384 }
-        ensures serves { Makes (W.tells world.old) (W.tells world.new) (λ made. some_is is_for_reading made ≡ true) }
         ensures passes_end { PassesEnd self.old → PassesEnd self.new }
     {
         match self.ask_octets(world, now) {

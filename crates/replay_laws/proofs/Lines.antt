@@ -233,7 +233,7 @@ sayable_turned [] h = tt
 sayable_turned (e ∷ past) h = subst AreSayable (sym (reverse-cons e past)) (sayable_push (reverse past) e (sayable_turned past h.1) h.0)
 
 -- no two records have one text, where a line can say each entry
-one_text : (a b : List Entry) → AreSayable a → AreSayable b → text a ≡ text b → a ≡ b
+pub one_text : (a b : List Entry) → AreSayable a → AreSayable b → text a ≡ text b → a ≡ b
 one_text a b ha hb is =
     let same = same_lines (reverse a) (reverse b) (sayable_turned a ha) (sayable_turned b hb) (sym (turned a) ∙ is ∙ turned b) in
     sym (reverse-reverse a) ∙ ap reverse same ∙ reverse-reverse b

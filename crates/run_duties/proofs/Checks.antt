@@ -1,10 +1,10 @@
 -- What the test passes is dutiful: sentence by sentence.
-use Rattle.std.proofs.Common.{◌≡◌, ℕ, ◌≤◌, ◌==◌, ◌&&◌, ◌||◌, nat_le, Bool, true, false, List, [], ◌∷◌, Option, Some, None, ◌⊎◌, inl, inr, refl, sym, ap, subst, if◌then◌else◌}
+use Rattle.std.proofs.Common.{◌≡◌, ℕ, ◌≤◌, ◌==◌, ◌&&◌, ◌||◌, not, nat_le, Bool, true, false, List, [], ◌∷◌, Option, Some, None, ◌⊎◌, inl, inr, refl, sym, ap, subst, if◌then◌else◌}
 use Rattle.poll_list.specs.Listing.{reads, same_who, writes}
 use Rattle.poll_list.specs.declared.Want.{Want}
 use Rattle.poll_list.specs.declared.Who.{Who}
 use Rattle.poll_list.specs.declared.Who.TheVariants.{Link, Listener, Tcp, Udp}
-use Rattle.world_face.specs.Journal.{Entry, Call, call_of, CallWait}
+use Rattle.world_face.specs.Journal.{Entry, Call, call_of, CallWait, Wait}
 use Rattle.world_face.specs.Frames.{is_blocked}
 use Rattle.host_policy.specs.Addresses.{Config}
 use Rattle.run_laws.specs.Moments.{moment}
@@ -20,8 +20,9 @@ use Rattle.record_flows.specs.Book.{book, scene}
 use Rattle.record_flows.specs.Flows.{Flow, flow_of, guest_is_known, is_numbered}
 use Rattle.record_flows.specs.Laws.{flow_settings}
 use Rattle.slirp_laws.proofs.Bools.{equal, first_of, second_of}
-use Rattle.run_duties.specs.Check.{all_flows, all_may, flows_are, implies, is_by, is_dutiful, is_from, is_must, is_settled_now, is_wanted, may_be_wanted, may_be_written, may_write_flow, must_wait, sockets_are, waits_for}
+use Rattle.run_duties.specs.Check.{all_flows, all_may, all_served, flows_are, implies, is_by, is_dutiful, is_from, is_must, is_settled_now, is_wanted, may_be_wanted, may_be_written, may_write_flow, must_wait, reported, sockets_are, waits_for}
 use Rattle.run_duties.specs.Duties.{Dutiful, Must as MustCome, MustWait, is_at_rest}
+use Rattle.run_duties.specs.Serving.{AllServed, is_left_to_read, is_left_to_write}
 use Rattle.run_duties.specs.Times.{alarms, deadlines, lives, wait_end}
 use Rattle.run_duties.specs.Waiting.{is_all_sent, MayBeWritten, MayWriteFlow, WaitsFor, are_in_order, is_read, is_written, reads_flow, writes_flow}
 
@@ -202,6 +203,57 @@ module _ (config : Config) (past : List Entry) where
         order = p.2;
       }
 
+  -- ---- reports
+
+  -- what is left was reported
+  read_reported : (who : Who) (before : List Entry) → is_left_to_read config before who ≡ true → reads who (reported before) ≡ true
+  read_reported who [] is = absurd cc
+  read_reported who (Wait wants timeout answer ready ∷ before) is = second_of (reads who wants) (reads who ready) (first_of (reads who wants && reads who ready) _ is)
+  read_reported who (_ ∷ before) is = read_reported who before (first_of (is_left_to_read config before who) _ (first_of _ _ is))
+
+  write_reported : (who : Who) (before : List Entry) → is_left_to_write config before who ≡ true → writes who (reported before) ≡ true
+  write_reported who [] is = absurd cc
+  write_reported who (Wait wants timeout answer ready ∷ before) is = second_of (writes who wants) (writes who ready) (first_of (writes who wants && writes who ready) _ is)
+  write_reported who (_ ∷ before) is = write_reported who before (first_of (is_left_to_write config before who) _ (first_of _ _ is))
+
+  -- and of what was reported the test asks
+  none_of : (a b c : Bool) → (not a && not b && c) ≡ true → (a ≡ false) × (b ≡ false) × (c ≡ true)
+  none_of true b c is = absurd cc
+  none_of false true c is = absurd cc
+  none_of false false c is = (refl, refl, is)
+
+  read_asked : (items : List Want) (who : Who) → all_served config past items ≡ true → reads who items ≡ true → is_left_to_read config past who ≡ false
+  read_asked [] who all is = absurd cc
+  read_asked (item ∷ items) who all is = by (same_who who item.of) refl (read_asked items who parts.2) is
+    where
+      parts : (is_left_to_read config past item.of ≡ false) × (is_left_to_write config past item.of ≡ false) × (all_served config past items ≡ true)
+      parts = none_of (is_left_to_read config past item.of) (is_left_to_write config past item.of) (all_served config past items) all
+
+      by : (s : Bool) → same_who who item.of ≡ s → (reads who items ≡ true → is_left_to_read config past who ≡ false) → ((s && item.read) || reads who items) ≡ true → is_left_to_read config past who ≡ false
+      by true test rest one = subst (λ w. is_left_to_read config past w ≡ false) (sym (same_is who item.of test)) parts.0
+      by false test rest one = rest one
+
+  write_asked : (items : List Want) (who : Who) → all_served config past items ≡ true → writes who items ≡ true → is_left_to_write config past who ≡ false
+  write_asked [] who all is = absurd cc
+  write_asked (item ∷ items) who all is = by (same_who who item.of) refl (write_asked items who parts.2) is
+    where
+      parts : (is_left_to_read config past item.of ≡ false) × (is_left_to_write config past item.of ≡ false) × (all_served config past items ≡ true)
+      parts = none_of (is_left_to_read config past item.of) (is_left_to_write config past item.of) (all_served config past items) all
+
+      by : (s : Bool) → same_who who item.of ≡ s → (writes who items ≡ true → is_left_to_write config past who ≡ false) → ((s && item.write) || writes who items) ≡ true → is_left_to_write config past who ≡ false
+      by true test rest one = subst (λ w. is_left_to_write config past w ≡ false) (sym (same_is who item.of test)) parts.1
+      by false test rest one = rest one
+
+  unless : (b : Bool) → (b ≡ true → b ≡ false) → b ≡ false
+  unless true f = f refl
+  unless false f = refl
+
+  served_all : all_served config past (reported past) ≡ true → AllServed config past
+  served_all all who = record {
+    reading = unless (is_left_to_read config past who) (λ is. read_asked (reported past) who all (read_reported who past is));
+    writing = unless (is_left_to_write config past who) (λ is. write_asked (reported past) who all (write_reported who past is));
+  }
+
   -- ---- times
 
   ahead_is : (now : ℕ) (ms : List ℕ) → all_ahead now ms ≡ true → AreAhead now ms
@@ -228,20 +280,23 @@ module _ (config : Config) (past : List Entry) where
   wait_is wants timeout is =
       let p = three (waits_for config past wants && (is_blocked past || is_all_sent config past))
       ((is_blocked past || all_flows (is_settled_now config past) (book config past).flows) && all_flows (λ f. may_wait f.story (moment past)) (book config past).flows && all_ahead (moment past) (lives config past))
-      (is_by (wait_end (moment past) timeout) (deadlines config past) && is_from (wait_end (moment past) timeout) (alarms config past)) is in
+      ((is_by (wait_end (moment past) timeout) (deadlines config past) && is_from (wait_end (moment past) timeout) (alarms config past)) && all_served config past (reported past)) is in
+      let times = first_of (is_by (wait_end (moment past) timeout) (deadlines config past) && is_from (wait_end (moment past) timeout) (alarms config past)) (all_served config past (reported past)) p.2 in
+      let served = second_of (is_by (wait_end (moment past) timeout) (deadlines config past) && is_from (wait_end (moment past) timeout) (alarms config past)) (all_served config past (reported past)) p.2 in
       let listed = first_of (waits_for config past wants) (is_blocked past || is_all_sent config past) p.0 in
       let out = second_of (waits_for config past wants) (is_blocked past || is_all_sent config past) p.0 in
       let r = three (is_blocked past || all_flows (is_settled_now config past) (book config past).flows) (all_flows (λ f. may_wait f.story (moment past)) (book config past).flows) (all_ahead (moment past) (lives config past)) p.1 in
       record {
         waits_for = waits_for_is wants listed;
+        served = served_all served;
         out = either (is_blocked past) (is_all_sent config past) out;
         settled = λ free number f found.
             settled (flow_settings config) f.story (guest_is_known (scene config past) f) (is_at_rest config past f) (moment past)
             (found_passes (is_settled_now config past) number (book config past).flows f (either (is_blocked past) (all_flows (is_settled_now config past) (book config past).flows) r.0 free) found);
         unused = ahead_is (moment past) (lives config past) r.2;
         closed = λ number f found. waits f.story (moment past) (found_passes (λ g. may_wait g.story (moment past)) number (book config past).flows f r.1 found);
-        until = by_is (wait_end (moment past) timeout) (deadlines config past) (first_of (is_by (wait_end (moment past) timeout) (deadlines config past)) (is_from (wait_end (moment past) timeout) (alarms config past)) p.2);
-        from = from_is (wait_end (moment past) timeout) (alarms config past) (second_of (is_by (wait_end (moment past) timeout) (deadlines config past)) (is_from (wait_end (moment past) timeout) (alarms config past)) p.2);
+        until = by_is (wait_end (moment past) timeout) (deadlines config past) (first_of (is_by (wait_end (moment past) timeout) (deadlines config past)) (is_from (wait_end (moment past) timeout) (alarms config past)) times);
+        from = from_is (wait_end (moment past) timeout) (alarms config past) (second_of (is_by (wait_end (moment past) timeout) (deadlines config past)) (is_from (wait_end (moment past) timeout) (alarms config past)) times);
       }
 
   pub must_come : (call : Call) → is_must config past call ≡ true → MustCome config past call

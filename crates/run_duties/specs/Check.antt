@@ -4,7 +4,7 @@ use Rattle.poll_list.specs.Listing.{reads, writes}
 use Rattle.poll_list.specs.declared.Want.{Want}
 use Rattle.poll_list.specs.declared.Who.{Who}
 use Rattle.poll_list.specs.declared.Who.TheVariants.{Link, Listener, Tcp, Udp}
-use Rattle.world_face.specs.Journal.{Entry, Call, call_of, CallWait}
+use Rattle.world_face.specs.Journal.{Entry, Call, call_of, CallWait, Wait}
 use Rattle.world_face.specs.Frames.{is_blocked}
 use Rattle.host_policy.specs.Addresses.{Config}
 use Rattle.run_laws.specs.Moments.{moment}
@@ -14,6 +14,7 @@ use Rattle.record_flows.specs.Book.{book, scene}
 use Rattle.record_flows.specs.Flows.{Flow, flow_of, guest_is_known}
 use Rattle.record_flows.specs.Laws.{flow_settings}
 use Rattle.run_duties.specs.Duties.{is_at_rest}
+use Rattle.run_duties.specs.Serving.{is_left_to_read, is_left_to_write}
 use Rattle.run_duties.specs.Times.{alarms, deadlines, lives, wait_end}
 use Rattle.run_duties.specs.Waiting.{are_in_order, is_all_sent, is_read, is_written}
 
@@ -61,6 +62,18 @@ waits_for config past wants =
     (all_may config past wants && is_wanted config past wants Link)
     && (sockets_are config past wants (open_sockets past) && flows_are config past wants (book config past).flows) && are_in_order wants
 
+-- ---- reports
+
+-- what the last wait reported
+abbrev pub reported : List Entry → List Want
+reported [] = []
+reported (Wait wants timeout answer ready ∷ past) = ready
+reported (_ ∷ past) = reported past
+
+abbrev pub all_served : Config → List Entry → List Want → Bool
+all_served config past [] = true
+all_served config past (item ∷ items) = not (is_left_to_read config past item.of) && not (is_left_to_write config past item.of) && all_served config past items
+
 -- ---- flows
 
 abbrev pub all_flows : (Flow → Bool) → List Flow → Bool
@@ -89,7 +102,7 @@ must_wait config past wants timeout =
     (waits_for config past wants && (is_blocked past || is_all_sent config past))
     && ((is_blocked past || all_flows (is_settled_now config past) (book config past).flows) && all_flows (λ f. may_wait f.story (moment past)) (book config past).flows
     && all_ahead (moment past) (lives config past))
-    && (is_by (wait_end (moment past) timeout) (deadlines config past) && is_from (wait_end (moment past) timeout) (alarms config past))
+    && ((is_by (wait_end (moment past) timeout) (deadlines config past) && is_from (wait_end (moment past) timeout) (alarms config past)) && all_served config past (reported past))
 
 abbrev pub is_must : Config → List Entry → Call → Bool
 is_must config past (CallWait wants timeout) = must_wait config past wants timeout

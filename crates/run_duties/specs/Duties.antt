@@ -12,6 +12,7 @@ use Rattle.halves_follow.specs.Bounds.{IsBy, IsFrom}
 use Rattle.record_flows.specs.Book.{book, is_young, scene}
 use Rattle.record_flows.specs.Flows.{Flow, flow_of, guest_is_known, rests_among}
 use Rattle.record_flows.specs.Laws.{flow_settings}
+use Rattle.run_duties.specs.Serving.{AllServed}
 use Rattle.run_duties.specs.Times.{alarms, deadlines, lives, wait_end}
 use Rattle.run_duties.specs.Waiting.{WaitsFor, is_all_sent}
 
@@ -31,6 +32,8 @@ IsSettledNow config past f = IsSettled (flow_settings config) f.story (guest_is_
 pub record MustWait (config : Config) (past : List Entry) (wants : List Want) (timeout : Option ℕ) : Type 0 where
   -- they are all that can be taken, and nothing else
   pub waits_for : WaitsFor config past wants
+  -- each direction that the wait before wanted and reported had its call, or wasn't waited for any more
+  pub served : AllServed config past
   -- unless the link is blocked all that is owed is out, of the answer to what came last and of a packet of a file that goes again, and each flow is settled
   pub out : is_blocked past ≡ false → is_all_sent config past ≡ true
   pub settled : is_blocked past ≡ false → EachFlow config past (IsSettledNow config past)

@@ -1,6 +1,8 @@
 mod Among
+pub mod Attending
 mod Counted
 pub mod Completing
+pub mod Left
 pub mod Opening
 pub mod Serving
 pub mod Taking

@@ -1,10 +1,12 @@
 -- A run from its first call to its last.
 use Rattle.std.proofs.Common.{◌≡◌, Bool, ℕ, ◌≤◌, false, List, [], ◌++◌, Some, refl, sym, ◌∙◌, ap, subst}
+use Rattle.std.proofs.lemmas.List.{append-nil}
 use Rattle.world_face.specs.Journal.{Entry}
 use Rattle.world_face.specs.Tells.{Telling, Makes}
 use Rattle.world_face.proofs.Telling.{makes_as, makes_then}
 use Rattle.world_face.proofs.Following.{heard}
 use Rattle.host_policy.specs.Addresses.{Config}
+use Rattle.run_laws.specs.Moments.{waits}
 use Rattle.run_laws.specs.Shape.{phase}
 use Rattle.slirp_laws.specs.Datagrams.{Settled}
 use Rattle.slirp_laws.specs.Laws.{Finished, Lawful}
@@ -20,6 +22,8 @@ use Rattle.slirp_core.specs.Holds.{AfterListening, after, flowing, Begins, Close
 use Rattle.slirp_core.specs.Numbers.{flows_for}
 use Rattle.slirp_core.specs.State.{SlirpState}
 use Rattle.run_duties.specs.Duties.{Attended, Dutiful, Must}
+use Rattle.run_duties.specs.Serving.{AllServed}
+use Rattle.run_duties.proofs.Serving.{all_served_on}
 use Rattle.run_duties.proofs.Ended.{dutiful_to_the_end, dutiful_unwaited, refused_unwaited}
 use Rattle.slirp_core.proofs.Starting.{IsUnbegun, begun, ran as ran_by, spent as spent_by}
 use Rattle.serve_loop.specs.Ends.{end_of}
@@ -105,6 +109,12 @@ finishes config end forwards o a b c ran closed = makes_then a b c _ _ (AttendsT
 -- a run whose first wait hasn't been attends
 pub none_waited : (config : Config) (count : ℕ) (aged : Bool) (slirp : SlirpState) (link : LinkState) (made : List Entry) → count ≡ 0 → HoldsNow config (after count) aged slirp link made → Dutiful config made
 none_waited config count aged slirp link made none holds = dutiful_unwaited config made (holds.clock.counted ∙ none)
+
+-- and has no reports
+pub none_reported : (config : Config) (made : List Entry) → waits made ≡ 0 → AllServed config made
+none_reported config made none =
+    let same : made ++ [] ≡ made = append-nil made in
+    subst (AllServed config) same (all_served_on config made [] (ap waits same ∙ none) (λ who. record { reading = refl; writing = refl }))
 
 pub none_refused : (config : Config) (place : ℕ) (slirp : SlirpState) (link : LinkState) (made : List Entry) → AfterListening (Some place) config slirp link made → Dutiful config made
 none_refused config place slirp link made closing = dutiful_unwaited config made (refused_unwaited config made place closing.lawful (sym closing.is))

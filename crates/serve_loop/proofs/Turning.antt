@@ -11,8 +11,10 @@ use Rattle.world_face.specs.Tells.{Brings, Telling}
 use Rattle.host_policy.specs.Addresses.{Config}
 use Rattle.port_forward.specs.Opened.{Opened}
 use Rattle.run_laws.specs.Moments.{waits}
-use Rattle.run_duties.proofs.Going.{brings_on}
-use Rattle.slirp_laws.specs.Agenda.{agenda, is_to_read, wanted_of}
+use Rattle.run_duties.specs.Duties.{Dutiful}
+use Rattle.run_duties.proofs.Going.{goes_on}
+use Rattle.run_duties.proofs.Serving.{all_served_on}
+use Rattle.slirp_laws.specs.Agenda.{agenda, is_to_read, is_to_write, wanted_of}
 use Rattle.stream_netdev.specs.State.{LinkState, under_way}
 use Rattle.slirp_core.specs.Holds.{Standing, after, standing, flowing, Ended, AfterPump, Holders, Leaves, holders_of}
 use Rattle.slirp_core.specs.Calm.{AreClear}
@@ -28,8 +30,7 @@ use Rattle.slirp_core.proofs.Associating.{with_agenda}
 use Rattle.slirp_core.proofs.Parts.{or_second}
 use Rattle.slirp_core.proofs.Sockets.{same}
 use Rattle.serve_loop.specs.Ends.{end_by, turn_of}
-use Rattle.serve_loop.specs.Turns.{all_passed_over, is_passed_over, is_read_now, still, AfterTurn, AllSent, AttendsAfterTaking, AttendsAfterTurn, AttendsNow, EndedAs, HoldsNow, IsCalm, IsCalmAfter, IsInTime, MayRest}
-use Rattle.serve_loop.specs.declared.service.End.{End}
+use Rattle.serve_loop.specs.Turns.{all_passed_over, is_passed_over, is_read_now, still, AfterTurn, AllSent, AttendsAfterTaking, AttendsAfterTurn, AttendsNow, EndedAs, HoldsNow, IsAttended, IsAttendedAfter, IsCalm, IsCalmAfter, IsInTime, MayRest, ServedAfter, ServesNow, is_frame_due}
 use Rattle.serve_loop.specs.declared.service.Turn.{Turn}
 use Rattle.serve_loop.specs.declared.service.Turn.TheVariants.{Again, Ended as TurnEnded}
 
@@ -73,8 +74,8 @@ pub same_under_way : (old new : LinkState) → new.octets ≡ old.octets → new
 same_under_way old new octets whole = ap (λ b. if b then [] else new.octets) whole ∙ ap (λ l. if old.whole then [] else l) octets
 
 -- a socket isn't the link
-pub still_by_socket : (to_read : Bool) (item : Want) (number : ℕ) → item.of ≡ Udp number → still to_read item ≡ to_read
-still_by_socket to_read item number is = ap (λ who. to_read && not (same_who TheLink who && item.read)) is ∙ and_true to_read
+pub still_by_socket : (to_read : Bool) (item : Want) → same_who TheLink item.of ≡ false → still to_read item ≡ to_read
+still_by_socket to_read item other = ap (λ b. to_read && not (b && item.read)) other ∙ and_true to_read
   where
     and_true : (b : Bool) → (b && true) ≡ b
     and_true true = refl
@@ -111,6 +112,11 @@ reads_there who [] n want other few there is = absurd (omega (arith, few))
 reads_there who (x ∷ wants) zero want other few there is = ap (λ (w : Want). is_to_read who w || reads who wants) (sym there) ∙ ap (λ (b : Bool). b || reads who wants) is
 reads_there who (x ∷ wants) (suc n) want other few there is = or_second (is_to_read who x) (reads who wants) (reads_there who wants n want other (omega (arith, few)) there is)
 
+pub writes_there : (who : Who) (wants : List Want) (n : ℕ) (want other : Want) → n < length wants → want ≡ get_or wants n other → is_to_write who want ≡ true → writes who wants ≡ true
+writes_there who [] n want other few there is = absurd (omega (arith, few))
+writes_there who (x ∷ wants) zero want other few there is = ap (λ (w : Want). is_to_write who w || writes who wants) (sym there) ∙ ap (λ (b : Bool). b || writes who wants) is
+writes_there who (x ∷ wants) (suc n) want other few there is = or_second (is_to_write who x) (writes who wants) (writes_there who wants n want other (omega (arith, few)) there is)
+
 -- none is left from the end on
 pub drop_all : (items : List Want) (n : ℕ) → length items ≤ n → drop n items ≡ []
 drop_all [] zero all = refl
@@ -134,22 +140,50 @@ pub still_reads : (to_read : Bool) (item : Want) → still to_read item ≡ true
 still_reads true item is = refl
 still_reads false item is = is
 
--- an ended run has no reports left
-pub ended_left : (end : End) (config : Config) (count : ℕ) (wants items : List Want) (aged later : Bool) (slirp : SlirpState) (link : LinkState) (past : List Entry) → AfterTurn (TurnEnded end) config (standing count wants items) aged slirp link past
-    → AfterTurn (TurnEnded end) config (after count) later slirp link past
-ended_left end config count wants items aged later slirp link past ended = ended
-
 -- so often the run waited
 waited_so : (turn : Turn) (config : Config) (at : Standing) (aged : Bool) (slirp : SlirpState) (link : LinkState) (past : List Entry) → AfterTurn turn config at aged slirp link past → waits past ≡ at.count
 waited_so Again config at aged slirp link past holds = holds.clock.counted
 waited_so (TurnEnded end) config at aged slirp link past ended = ended.ended.waited
 
+-- what was attended so far is after a part of a turn that doesn't wait
+attended_after : (turn : Turn) (config : Config) (past : List Entry) → IsAttended config past → IsAttendedAfter turn config past
+attended_after Again config past now = now
+attended_after (TurnEnded end) config past now = now.0
+
 -- a part of a turn that doesn't wait attends on
 pub attends_on : (turn : Turn) (config : Config) (at later : Standing) (aged then_aged : Bool) (slirp new : SlirpState) (link next : LinkState) (a b : Telling) → at.count ≡ later.count
     → Brings a b (HoldsNow config at aged slirp link) (AfterTurn turn config later then_aged new next) → Brings a b (AttendsNow config at aged slirp link) (AttendsAfterTurn turn config later then_aged new next)
-attends_on turn config at later aged then_aged slirp new link next a b same brings =
-    brings_on config a b (HoldsNow config at aged slirp link) (AfterTurn turn config later then_aged new next)
-    (λ past made before now. waited_so turn config later then_aged new next (made ++ past) now ∙ sym same ∙ sym before.clock.counted) brings
+attends_on turn config at later aged then_aged slirp new link next a b same brings = record {
+  made = brings.made;
+  same = brings.same;
+  allowed = brings.allowed;
+  told = brings.told;
+  counted = brings.counted;
+  brings = λ past now.
+      let after = brings.brings past now.0 in
+      let as_often = waited_so turn config later then_aged new next (brings.made ++ past) after ∙ sym same ∙ sym now.0.clock.counted in
+      (after, attended_after turn config (brings.made ++ past) (goes_on config brings.made past as_often now.1.0, all_served_on config brings.made past as_often now.1.1));
+}
+
+-- the reports of a wait are served after it
+pub attends_to_reports : (turn : Turn) (config : Config) (count : ℕ) (wants ready : List Want) (slirp new : SlirpState) (link next : LinkState) (a b : Telling)
+    → Brings a b (ServesNow config count wants ready (is_frame_due wants ready) slirp link) (λ past. AfterTurn turn config (after count) false new next past × ServedAfter turn config past)
+    → Brings a b (λ past. ServesNow config count wants ready (is_frame_due wants ready) slirp link past × Dutiful config past) (AttendsAfterTurn turn config (after count) false new next)
+attends_to_reports turn config count wants ready slirp new link next a b brings = record {
+  made = brings.made;
+  same = brings.same;
+  allowed = brings.allowed;
+  told = brings.told;
+  counted = brings.counted;
+  brings = λ past now.
+      let after_it = brings.brings past now.0 in
+      let as_often = waited_so turn config (after count) false new next (brings.made ++ past) after_it.0 ∙ sym now.0.holds.clock.counted in
+      (after_it.0, by turn (brings.made ++ past) after_it.1 (goes_on config brings.made past as_often now.1));
+}
+  where
+    by : (t : Turn) (past : List Entry) → ServedAfter t config past → Dutiful config past → IsAttendedAfter t config past
+    by Again past served dutiful = (dutiful, served)
+    by (TurnEnded end) past served dutiful = dutiful
 
 -- a part of a turn after which it may wait, where it did what has a time
 pub rests_after : (config : Config) (at : Standing) (aged : Bool) (slirp new : SlirpState) (link next : LinkState) (a b : Telling) → Brings a b (AttendsNow config at aged slirp link) (AttendsNow config at true new next)

@@ -1,13 +1,15 @@
 -- What a turn, and each part of it, comes to.
-use Rattle.std.specs.Prelude.{◌≡◌, ◌⊎◌, ℕ, ◌+◌, ◌&&◌, not, Bool, true, false, List, [], ◌∷◌, All, None}
-use Rattle.poll_list.specs.Listing.{same_who, writes}
+use Rattle.std.specs.Prelude.{◌≡◌, ◌⊎◌, ℕ, ◌+◌, ◌&&◌, not, Bool, true, false, List, [], ◌∷◌, slice_get, All, None, Some}
+use Rattle.poll_list.specs.Listing.{differ, reads, same_who, writes}
 use Rattle.poll_list.specs.declared.Want.{Want}
-use Rattle.poll_list.specs.declared.Who.TheVariants.{Link}
+use Rattle.poll_list.specs.declared.Who.{Who}
+use Rattle.poll_list.specs.declared.Who.TheVariants.{Link, Tcp, Udp}
 use Rattle.world_face.specs.Journal.{Entry}
 use Rattle.world_face.specs.Frames.{Ending, Stopped, WaitFailed}
 use Rattle.host_policy.specs.Addresses.{Config}
 use Rattle.run_laws.specs.Shape.{phase}
-use Rattle.slirp_laws.specs.Agenda.{wanted_of}
+use Rattle.flow_splice.specs.Splice.{Splice}
+use Rattle.slirp_laws.specs.Agenda.{all_wanted, wanted_of}
 use Rattle.slirp_laws.specs.Laws.{Finished, Lawful}
 use Rattle.udp_assoc.specs.Associations.{is_over as is_idle_association}
 use Rattle.dns_relay.specs.Questions.{is_over as is_idle_question}
@@ -24,6 +26,8 @@ use Rattle.slirp_core.specs.Pumps.{is_settled}
 use Rattle.slirp_core.specs.State.{SlirpState}
 use Rattle.slirp_core.specs.Waiting.{AreFresh}
 use Rattle.run_duties.specs.Duties.{Dutiful}
+use Rattle.run_duties.specs.Serving.{AllServed, IsServed, is_left_to_read, is_left_to_write}
+use Rattle.spliced_flows.specs.Core.{number_of}
 use Rattle.serve_loop.specs.Ends.{end_by, end_of}
 use Rattle.serve_loop.specs.declared.service.End.{End}
 use Rattle.serve_loop.specs.declared.service.Turn.{Turn}
@@ -50,6 +54,10 @@ NoneGoesAgain slirp = slirp.pending ≡ [] → next_again slirp.moment slirp.tra
 abbrev pub AllSent : SlirpState → LinkState → Type 0
 AllSent slirp link = link.blocked ≡ false → is_settled slirp link ≡ true
 
+-- no flow was told in this turn
+abbrev pub NoneTold : SlirpState → Type 0
+NoneTold slirp = (k : ℕ) → slice_get slirp.flows.served k ≡ Some slirp.flows.turn → ⊥
+
 -- no socket of a guest's port is idle for long, and none of a question, and no fragments are to be dropped
 abbrev pub AreYoung : SlirpState → Type 0
 AreYoung slirp = All (λ a. is_idle_association slirp.moment a ≡ false) slirp.associations × All (λ q. is_idle_question slirp.moment q ≡ false) slirp.questions × AreFresh slirp.moment slirp.parts
@@ -71,9 +79,42 @@ IsCalmAfter wants items slirp link = IsCalm slirp link ⊎ IsFreed wants items
 abbrev pub IsInTime : SlirpState → LinkState → Type 0
 IsInTime slirp link = AreInTime slirp.moment slirp.flows.flows.parts × (link.blocked ≡ false → (n : ℕ) → HasNoneDue slirp.moment slirp.flows.flows.parts n)
 
+-- ---- reports that are to be served
+
+-- frames and datagrams are taken in only where nothing is left to be sent
+abbrev pub comes_in : Who → Bool
+comes_in Link = true
+comes_in (Udp n) = true
+comes_in _ = false
+
+-- where one is left to be taken in, nothing is left to be sent
+abbrev pub CanTake : Config → SlirpState → LinkState → List Entry → Type 0
+CanTake config slirp link past = (who : Who) → comes_in who ≡ true → is_left_to_read config past who ≡ true → is_settled slirp link ≡ true
+
+-- What is left of the reports of the last wait, which wanted these, is among these items, of which no two are of one socket.
+pub record IsLeftAmong (config : Config) (wants items : List Want) (to_read : Bool) (slirp : SlirpState) (past : List Entry) : Type 0 where
+  pub reading : (who : Who) → is_left_to_read config past who ≡ true → reads who (all_wanted wants items) ≡ true
+  pub writing : (who : Who) → is_left_to_write config past who ≡ true → writes who (all_wanted wants items) ≡ true
+  -- a frame is left only where one is still to be read, and a link that takes more is served by its report
+  pub frame : to_read ≡ false → is_left_to_read config past Link ≡ false
+  pub freed : is_left_to_write config past Link ≡ false
+  -- nothing is left of a flow that was told in this turn
+  pub told : (k : ℕ) (p : Splice) → slice_get slirp.flows.flows.parts k ≡ Some (Some p) → slice_get slirp.flows.served k ≡ Some slirp.flows.turn → IsServed config past (Tcp (number_of p))
+  pub differ : differ items ≡ true
+
+-- where a run stands within a turn, with these items to be served
+pub record ServesNow (config : Config) (count : ℕ) (wants items : List Want) (to_read : Bool) (slirp : SlirpState) (link : LinkState) (past : List Entry) : Type 0 where
+  pub holds : HoldsNow config (standing count wants items) false slirp link past
+  pub left : IsLeftAmong config wants items to_read slirp past
+  pub can_take : CanTake config slirp link past
+
+-- whether a frame is to be read in a turn: the link was waited for, and reported
+abbrev pub is_frame_due : List Want → List Want → Bool
+is_frame_due wants ready = reads Link wants && reads Link ready
+
 -- after a wait with these wants, and the call of the clock that follows it
 abbrev pub AfterSleep : Slept → Config → ℕ → List Want → List Want → SlirpState → LinkState → List Entry → Type 0
-AfterSleep Ready config count wants ready slirp link past = HoldsNow config (standing count wants ready) false slirp link past
+AfterSleep Ready config count wants ready slirp link past = ServesNow config count wants ready (is_frame_due wants ready) slirp link past
 AfterSleep SleptStopped config count wants ready slirp link past = Ended config count Stopped slirp.forwards (holders_of slirp) past
 AfterSleep SleepFailed config count wants ready slirp link past = Ended config count WaitFailed slirp.forwards (holders_of slirp) past
 
@@ -86,6 +127,16 @@ pub record EndedAs (config : Config) (count : ℕ) (end : End) (forwards : List 
 abbrev pub AfterTurn : Turn → Config → Standing → Bool → SlirpState → LinkState → List Entry → Type 0
 AfterTurn Again config at aged slirp link past = HoldsNow config at aged slirp link past
 AfterTurn (TurnEnded end) config at aged slirp link past = EndedAs config at.count end slirp.forwards (holders_of slirp) past
+
+-- after an item was served
+abbrev pub AfterItem : Turn → Config → ℕ → List Want → List Want → Bool → SlirpState → LinkState → List Entry → Type 0
+AfterItem Again config count wants items to_read slirp link past = ServesNow config count wants items to_read slirp link past
+AfterItem (TurnEnded end) config count wants items to_read slirp link past = EndedAs config count end slirp.forwards (holders_of slirp) past
+
+-- after all were
+abbrev pub ServedAfter : Turn → Config → List Entry → Type 0
+ServedAfter Again config past = AllServed config past
+ServedAfter (TurnEnded end) config past = Unit {0}
 
 -- after a turn, whose sockets are left open where it ended the run: that may have been before its wait
 abbrev pub AfterTaking : Turn → Config → ℕ → SlirpState → LinkState → List Entry → Type 0
@@ -113,8 +164,17 @@ AfterWholeTurn (TurnEnded end) config at slirp link past = RanTo config end past
 
 -- ---- the same, where each wait so far was as it must be
 
+-- and each report of the last one is served
+abbrev pub IsAttended : Config → List Entry → Type 0
+IsAttended config past = Dutiful config past × AllServed config past
+
+-- a run that ended may leave some
+abbrev pub IsAttendedAfter : Turn → Config → List Entry → Type 0
+IsAttendedAfter Again config past = IsAttended config past
+IsAttendedAfter (TurnEnded end) config past = Dutiful config past
+
 abbrev pub AttendsNow : Config → Standing → Bool → SlirpState → LinkState → List Entry → Type 0
-AttendsNow config at aged slirp link past = HoldsNow config at aged slirp link past × Dutiful config past
+AttendsNow config at aged slirp link past = HoldsNow config at aged slirp link past × IsAttended config past
 
 abbrev pub MayRest : Config → Standing → SlirpState → LinkState → List Entry → Type 0
 MayRest config at slirp link past = AttendsNow config at true slirp link past × IsInTime slirp link
@@ -123,13 +183,13 @@ abbrev pub AttendsAfterSleep : Slept → Config → ℕ → List Want → List W
 AttendsAfterSleep slept config count wants ready slirp link past = AfterSleep slept config count wants ready slirp link past × Dutiful config past
 
 abbrev pub AttendsAfterTurn : Turn → Config → Standing → Bool → SlirpState → LinkState → List Entry → Type 0
-AttendsAfterTurn turn config at aged slirp link past = AfterTurn turn config at aged slirp link past × Dutiful config past
+AttendsAfterTurn turn config at aged slirp link past = AfterTurn turn config at aged slirp link past × IsAttendedAfter turn config past
 
 abbrev pub AttendsAfterTaking : Turn → Config → ℕ → SlirpState → LinkState → List Entry → Type 0
-AttendsAfterTaking turn config count slirp link past = AfterTaking turn config count slirp link past × Dutiful config past
+AttendsAfterTaking turn config count slirp link past = AfterTaking turn config count slirp link past × IsAttendedAfter turn config past
 
 abbrev pub AttendsAfterWholeTurn : Turn → Config → Standing → SlirpState → LinkState → List Entry → Type 0
-AttendsAfterWholeTurn turn config at slirp link past = AfterWholeTurn turn config at slirp link past × Dutiful config past
+AttendsAfterWholeTurn turn config at slirp link past = AfterWholeTurn turn config at slirp link past × IsAttendedAfter turn config past
 
 abbrev pub AttendsTo : Config → End → List Entry → Type 0
 AttendsTo config end made = RanTo config end made × Dutiful config made

@@ -4,7 +4,7 @@
 // idle too long, sends what is owed, with the packets of files that are due to go again, and waits for what it wants; then it asks for the moment and serves what was reported, in the order of the list: a
 // frame is read and taken in, a peer of a forward is taken, a peer's datagram is received, or a flow's socket is served, writing before reading, and after each what is owed for it is
 // sent. A frame or a datagram is read only while nothing is left to be sent. At the end every socket is closed, by rising number.
-ghost use Rattle.std.specs.Prelude.{◌≡◌, ◌&&◌, ◌||◌, ◌++◌, List, true, false, IfSome, None, if◌then◌else◌};
+ghost use Rattle.std.specs.Prelude.{◌≡◌, ◌&&◌, ◌||◌, List, true, false, IfSome, None, if◌then◌else◌};
 ghost use Rattle.slirp_laws.specs.Agenda.{is_to_read, is_to_write};
 ghost use Rattle.slirp_core.specs.Holds.{Standing};
 ghost use Rattle.serve_loop.specs.Turns.{still, is_read_now};
@@ -93,7 +93,7 @@ impl Model for Service {
 }
 
 impl Service {
-    ghost use Rattle.std.specs.Prelude.{ℕ, ◌+◌, ◌<◌, ◌≤◌, ◌^◌, [], ◌∷◌, Bool, drop, length, if◌then◌else◌, IfOk};
+    ghost use Rattle.std.specs.Prelude.{ℕ, ◌+◌, ◌<◌, ◌≤◌, ◌^◌, ◌∷◌, Bool, drop, length, if◌then◌else◌, IfOk};
     ghost use Rattle.world_face.specs.Journal.{Entry};
     ghost use Rattle.world_face.specs.Tells.{Makes, Brings, Rose};
     ghost use Rattle.host_policy.specs.Addresses.{Config};
@@ -107,8 +107,10 @@ impl Service {
     ghost use Rattle.serve_loop.specs.Ends.{end_of, IsCounted};
     ghost use Rattle.slirp_core.specs.Counts.{AreGrown};
     ghost use Rattle.slirp_core.specs.Holds.{AfterListening, after, standing};
-    ghost use Rattle.serve_loop.specs.Turns.{AfterTurn, AllSent, AreYoung, AttendsAfterSleep, AttendsAfterTaking, AttendsAfterTurn, AttendsAfterWholeTurn, AttendsNow, GoesOnAfter, HoldsNow, IsCalm, IsCalmAfter, IsInTime, MayRest, NoneGoesAgain, all_passed_over, is_passed_over};
+    ghost use Rattle.serve_loop.specs.Turns.{AfterItem, AfterTurn, AllSent, AreYoung, AttendsAfterSleep, AttendsAfterTaking, AttendsAfterTurn, AttendsAfterWholeTurn, AttendsNow, CanTake, GoesOnAfter, HoldsNow, IsCalm, IsCalmAfter, IsInTime, MayRest, NoneGoesAgain, NoneTold, ServedAfter, ServesNow, all_passed_over, is_frame_due, is_passed_over};
     ghost use Rattle.run_duties.specs.Duties.{Attended, Dutiful};
+    ghost use Rattle.run_duties.specs.Serving.{is_left_to_read};
+    ghost use Rattle.slirp_core.specs.Marks.{KeepsMarks};
     ghost use Rattle.slirp_core.specs.Pumps.{is_settled};
     ghost use Rattle.serve_loop.specs.Served.{IsBuilt, IsNew};
     ghost use Rattle.slirp_core.specs.Hearing.{Receives, is_heard};
@@ -263,6 +265,7 @@ impl Service {
         ensures young { AreYoung self.old.slirp → AreYoung self.new.slirp }
         ensures connects { (config : Config) (at : Standing) (past : List Entry) → HoldsNow config at true self.old.slirp self.old.link past → result ≡ Turn.Again → IsInTime self.old.slirp self.old.link → IsInTime self.new.slirp self.new.link }
         ensures none { result ≡ Turn.Again → NoneGoesAgain self.new.slirp }
+        ensures untold { NoneTold self.old.slirp → NoneTold self.new.slirp }
         ensures faults { IsCounted result (W.tells world.old).faults (W.tells world.new).faults }
         ensures on { GoesOnAfter result self.new.link }
         ensures config { self.new.slirp.config ≡ self.old.slirp.config }
@@ -289,6 +292,7 @@ impl Service {
         requires none { NoneGoesAgain self.old.slirp }
         requires sent { AllSent self.old.slirp self.old.link }
         requires young { AreYoung self.old.slirp }
+        requires untold { NoneTold self.old.slirp }
         requires calm { IsCalm self.old.slirp self.old.link }
         ensures makes { (config : Config) (count : ℕ) → count < config.turns → Brings (W.tells world.old) (W.tells world.new)
             (MayRest config (after count) self.old.slirp self.old.link) (AttendsAfterTurn result config (after (count + 1)) false self.new.slirp self.new.link) }
@@ -311,6 +315,7 @@ impl Service {
         requires none { NoneGoesAgain self.old.slirp }
         requires sent { AllSent self.old.slirp self.old.link }
         requires young { AreYoung self.old.slirp }
+        requires untold { NoneTold self.old.slirp }
         requires calm { IsCalm self.old.slirp self.old.link }
         ensures makes { (config : Config) (count : ℕ) → count < config.turns → Brings (W.tells world.old) (W.tells world.new)
             (MayRest config (after count) self.old.slirp self.old.link) (AttendsAfterSleep result config (count + 1) self.new.wants self.new.ready self.new.slirp self.new.link) }
@@ -344,7 +349,8 @@ impl Service {
         requires few { length self.old.ready ≤ 5155 }
         requires calm { IsCalmAfter self.old.wants self.old.ready self.old.slirp self.old.link }
         ensures makes { (config : Config) (count : ℕ) → Brings (W.tells world.old) (W.tells world.new)
-            (HoldsNow config (standing count self.old.wants self.old.ready) false self.old.slirp self.old.link) (AfterTurn result config (after count) false self.new.slirp self.new.link) }
+            (ServesNow config count self.old.wants self.old.ready (is_frame_due self.old.wants self.old.ready) self.old.slirp self.old.link)
+            (λ past. AfterTurn result config (after count) false self.new.slirp self.new.link past × ServedAfter result config past) }
         ensures faults { IsCounted result (W.tells world.old).faults (W.tells world.new).faults }
         ensures on { GoesOnAfter result self.new.link }
         ensures calm { result ≡ Turn.Again → IsCalm self.new.slirp self.new.link }
@@ -385,7 +391,8 @@ impl Service {
         requires on { ReadsOn (under_way self.old.link) }
         requires number { self.old.slirp.number + 1 < 2 ^ 64 }
         ensures makes { (config : Config) (count : ℕ) (items : List AnItem) → (to_read ≡ true → reads TheLink self.old.wants ≡ true) → Brings (W.tells world.old) (W.tells world.new)
-            (HoldsNow config (standing count self.old.wants (item.now ∷ items)) false self.old.slirp self.old.link) (AfterTurn result config (standing count self.old.wants items) false self.new.slirp self.new.link) }
+            (ServesNow config count self.old.wants (item.now ∷ items) to_read self.old.slirp self.old.link)
+            (AfterItem result config count self.old.wants items (still to_read item.now) self.new.slirp self.new.link) }
         ensures faults { IsCounted result (W.tells world.old).faults (W.tells world.new).faults }
         ensures on { GoesOnAfter result self.new.link }
         ensures calm { (items : List AnItem) → IsCalmAfter self.old.wants (item.now ∷ items) self.old.slirp self.old.link → result ≡ Turn.Again → IsCalmAfter self.old.wants items self.new.slirp self.new.link }
@@ -409,7 +416,8 @@ impl Service {
         requires on { ReadsOn (under_way self.old.link) }
         requires number { self.old.slirp.number + 1 < 2 ^ 64 }
         ensures makes { (config : Config) (count : ℕ) (items : List AnItem) → (to_read ≡ true → reads TheLink self.old.wants ≡ true) → Brings (W.tells world.old) (W.tells world.new)
-            (HoldsNow config (standing count self.old.wants (item.now ∷ items)) false self.old.slirp self.old.link) (AfterTurn result config (standing count self.old.wants items) false self.new.slirp self.new.link) }
+            (ServesNow config count self.old.wants (item.now ∷ items) to_read self.old.slirp self.old.link)
+            (AfterItem result config count self.old.wants items (still to_read item.now) self.new.slirp self.new.link) }
         ensures faults { IsCounted result (W.tells world.old).faults (W.tells world.new).faults }
         ensures on { GoesOnAfter result self.new.link }
         ensures calm { (items : List AnItem) → IsCalmAfter self.old.wants (item.now ∷ items) self.old.slirp self.old.link → result ≡ Turn.Again → IsCalmAfter self.old.wants items self.new.slirp self.new.link }
@@ -436,8 +444,9 @@ impl Service {
         requires of { item.now.of ≡ Listener number }
         requires on { ReadsOn (under_way self.old.link) }
         requires number { self.old.slirp.number + 1 < 2 ^ 64 }
-        ensures makes { (config : Config) (count : ℕ) (items : List AnItem) → Brings (W.tells world.old) (W.tells world.new)
-            (HoldsNow config (standing count self.old.wants (item.now ∷ items)) false self.old.slirp self.old.link) (AfterTurn result config (standing count self.old.wants items) false self.new.slirp self.new.link) }
+        ensures makes { (config : Config) (count : ℕ) (items : List AnItem) (to_read : Bool) → Brings (W.tells world.old) (W.tells world.new)
+            (ServesNow config count self.old.wants (item.now ∷ items) to_read self.old.slirp self.old.link)
+            (AfterItem result config count self.old.wants items to_read self.new.slirp self.new.link) }
         ensures faults { IsCounted result (W.tells world.old).faults (W.tells world.new).faults }
         ensures on { GoesOnAfter result self.new.link }
         ensures calm { (items : List AnItem) → IsCalmAfter self.old.wants (item.now ∷ items) self.old.slirp self.old.link → result ≡ Turn.Again → IsCalmAfter self.old.wants items self.new.slirp self.new.link }
@@ -458,8 +467,9 @@ impl Service {
     fn attend_port<W: World>(&mut self, world: &mut W, number: u64, item: &Want) -> Turn
         requires of { item.now.of ≡ Udp number }
         requires on { ReadsOn (under_way self.old.link) }
-        ensures makes { (config : Config) (count : ℕ) (items : List AnItem) → Brings (W.tells world.old) (W.tells world.new)
-            (HoldsNow config (standing count self.old.wants (item.now ∷ items)) false self.old.slirp self.old.link) (AfterTurn result config (standing count self.old.wants items) false self.new.slirp self.new.link) }
+        ensures makes { (config : Config) (count : ℕ) (items : List AnItem) (to_read : Bool) → Brings (W.tells world.old) (W.tells world.new)
+            (ServesNow config count self.old.wants (item.now ∷ items) to_read self.old.slirp self.old.link)
+            (AfterItem result config count self.old.wants items to_read self.new.slirp self.new.link) }
         ensures faults { IsCounted result (W.tells world.old).faults (W.tells world.new).faults }
         ensures on { GoesOnAfter result self.new.link }
         ensures calm { (items : List AnItem) → IsCalmAfter self.old.wants (item.now ∷ items) self.old.slirp self.old.link → result ≡ Turn.Again → IsCalmAfter self.old.wants items self.new.slirp self.new.link }
@@ -480,8 +490,9 @@ impl Service {
     fn attend_flow<W: World>(&mut self, world: &mut W, number: u64, item: &Want) -> Turn
         requires of { item.now.of ≡ Tcp number }
         requires on { ReadsOn (under_way self.old.link) }
-        ensures makes { (config : Config) (count : ℕ) (items : List AnItem) → Brings (W.tells world.old) (W.tells world.new)
-            (HoldsNow config (standing count self.old.wants (item.now ∷ items)) false self.old.slirp self.old.link) (AfterTurn result config (standing count self.old.wants items) false self.new.slirp self.new.link) }
+        ensures makes { (config : Config) (count : ℕ) (items : List AnItem) (to_read : Bool) → Brings (W.tells world.old) (W.tells world.new)
+            (ServesNow config count self.old.wants (item.now ∷ items) to_read self.old.slirp self.old.link)
+            (AfterItem result config count self.old.wants items to_read self.new.slirp self.new.link) }
         ensures faults { IsCounted result (W.tells world.old).faults (W.tells world.new).faults }
         ensures on { GoesOnAfter result self.new.link }
         ensures calm { (items : List AnItem) → IsCalmAfter self.old.wants (item.now ∷ items) self.old.slirp self.old.link → result ≡ Turn.Again → IsCalmAfter self.old.wants items self.new.slirp self.new.link }
@@ -538,7 +549,9 @@ impl Service {
         requires on { ReadsOn (under_way self.old.link) }
         requires number { self.old.slirp.number + 1 < 2 ^ 64 }
         ensures makes { (config : Config) (count : ℕ) (wants : List AnItem) (item : AnItem) (items : List AnItem) → is_to_read TheLink (wanted_of wants item) ≡ true → Brings (W.tells world.old) (W.tells world.new)
-            (HoldsNow config (standing count wants (item ∷ items)) false self.old.slirp self.old.link) (AfterTurn result config (standing count wants items) false self.new.slirp self.new.link) }
+            (λ past. HoldsNow config (standing count wants (item ∷ items)) false self.old.slirp self.old.link past × CanTake config self.old.slirp self.old.link past)
+            (λ past. AfterTurn result config (standing count wants items) false self.new.slirp self.new.link past × (result ≡ Turn.Again → is_left_to_read config past TheLink ≡ false)) }
+        ensures marks { KeepsMarks self.old.slirp.number self.old.slirp.flows self.new.slirp.flows }
         ensures faults { IsCounted result (W.tells world.old).faults (W.tells world.new).faults }
         ensures on { GoesOnAfter result self.new.link }
         ensures config { self.new.slirp.config ≡ self.old.slirp.config }
@@ -573,9 +586,11 @@ impl Service {
         // Where nothing is left to be sent and the socket is open a datagram is asked for on it, once.
         ensures hears { is_settled self.old.slirp self.old.link ≡ true → is_heard number self.old.slirp ≡ true → Makes (W.tells world.old) (W.tells world.new) (Receives number) }
         ensures makes { (config : Config) (count : ℕ) (wants : List AnItem) (item : AnItem) (items : List AnItem) → is_to_read (Udp number) (wanted_of wants item) ≡ true → Brings (W.tells world.old) (W.tells world.new)
-            (HoldsNow config (standing count wants (item ∷ items)) false self.old.slirp self.old.link) (HoldsNow config (standing count wants items) false self.new.slirp self.new.link) }
+            (λ past. HoldsNow config (standing count wants (item ∷ items)) false self.old.slirp self.old.link past × CanTake config self.old.slirp self.old.link past)
+            (λ past. HoldsNow config (standing count wants items) false self.new.slirp self.new.link past × (is_left_to_read config past (Udp number) ≡ false)) }
         ensures counts { AreGrown (W.tells world.old).faults (W.tells world.new).faults }
         ensures link { self.new.link ≡ self.old.link }
+        ensures flows { self.new.slirp.flows ≡ self.old.slirp.flows }
         ensures config { self.new.slirp.config ≡ self.old.slirp.config }
         ensures number { self.new.slirp.number ≡ self.old.slirp.number }
         ensures turns { self.new.slirp.flows.turn ≡ self.old.slirp.flows.turn }
@@ -609,6 +624,7 @@ impl Service {
         ensures number { self.new.slirp.number ≡ self.old.slirp.number }
         ensures turns { self.new.slirp.flows.turn ≡ self.old.slirp.flows.turn }
         ensures files { (self.new.slirp.moment ≡ self.old.slirp.moment) × (self.new.slirp.transfers ≡ self.old.slirp.transfers) }
+        ensures marks { KeepsMarks self.old.slirp.number self.old.slirp.flows self.new.slirp.flows }
         ensures reports { (self.new.wants ≡ self.old.wants) × (self.new.ready ≡ self.old.ready) }
     {
         let pumped = self.slirp.pump(world, &mut self.link);
@@ -691,17 +707,66 @@ fn reads_anywhere(wants: &[Want], number: u64) -> bool
     wants.iter().any(|want| is_read(want, number))
 }
 
-// The same of a flow's socket, for reading and for writing (the search in order is left out here).
+// The same of a flow's socket, for reading.
 fn flow_reads_among(wants: &[Want], number: u64) -> bool
+    ensures { result ≡ reads (Tcp number) wants.now }
+{
+    flow_reads_in_order(wants, number) || flow_reads_anywhere(wants, number)
+}
+
+fn flow_reads_in_order(wants: &[Want], number: u64) -> bool
+    ensures { result ≡ true → reads (Tcp number) wants.now ≡ true }
+{
+    match wants.binary_search_by_key(&Some(number), |want| socket_of(want.of)) {
+        Ok(place) => flow_reads_at(wants, place, number),
+        Err(_) => false,
+    }
+}
+
+fn flow_reads_anywhere(wants: &[Want], number: u64) -> bool
     ensures { result ≡ reads (Tcp number) wants.now }
 {
     wants.iter().any(|want| is_flow_read(want, number))
 }
 
+fn flow_reads_at(wants: &[Want], place: usize, number: u64) -> bool
+    ensures { result ≡ true → reads (Tcp number) wants.now ≡ true }
+{
+    let Some(want) = wants.get(place) else {
+        return false;
+    };
+    is_flow_read(want, number)
+}
+
+// And for writing.
 fn flow_writes_among(wants: &[Want], number: u64) -> bool
     ensures { result ≡ writes (Tcp number) wants.now }
 {
+    flow_writes_in_order(wants, number) || flow_writes_anywhere(wants, number)
+}
+
+fn flow_writes_in_order(wants: &[Want], number: u64) -> bool
+    ensures { result ≡ true → writes (Tcp number) wants.now ≡ true }
+{
+    match wants.binary_search_by_key(&Some(number), |want| socket_of(want.of)) {
+        Ok(place) => flow_writes_at(wants, place, number),
+        Err(_) => false,
+    }
+}
+
+fn flow_writes_anywhere(wants: &[Want], number: u64) -> bool
+    ensures { result ≡ writes (Tcp number) wants.now }
+{
     wants.iter().any(|want| is_flow_written(want, number))
+}
+
+fn flow_writes_at(wants: &[Want], place: usize, number: u64) -> bool
+    ensures { result ≡ true → writes (Tcp number) wants.now ≡ true }
+{
+    let Some(want) = wants.get(place) else {
+        return false;
+    };
+    is_flow_written(want, number)
 }
 
 fn is_flow_read(want: &Want, number: u64) -> bool

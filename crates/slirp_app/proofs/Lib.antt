@@ -1,13 +1,16 @@
 mod Carried
 mod Causing
 mod Completed
+mod Copied
 mod Courses
 mod Ending
 mod Fetched
 mod Followed
 mod Fitted
 mod Following
+mod Halted
 mod Lined
 mod Opened
+mod Repeated
 mod Served
 mod Tapped

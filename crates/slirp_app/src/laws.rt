@@ -1,21 +1,26 @@
-// Laws of what the program comes to: where nothing happened to its outside that ends a run early, the run is made to its end. Each contract is proved though its body is empty.
-ghost use Rattle.std.specs.Prelude.{◌≡◌, ◌≢◌, ◌⊎◌, ℕ, ◌≤◌, ◌++◌, List, [], ◌∷◌, Option, IsTrue};
+// Laws of what the program comes to: where nothing happened to its outside that ends a run early, the run is made to its end; and a record that is replayed is made again. Each contract is proved though its body is empty.
+ghost use Rattle.std.specs.Prelude.{◌≡◌, ◌≢◌, ◌⊎◌, ℕ, ◌≤◌, ◌++◌, List, [], ◌∷◌, Option, Some, IsTrue};
 ghost use Rattle.host_policy.specs.Addresses.{Config};
+ghost use Rattle.replay.specs.Text.{text};
+ghost use Rattle.run_laws.specs.Moments.{waits};
 ghost use Rattle.run_laws.specs.Shape.{phase};
 ghost use Rattle.serve_loop.specs.Ends.{end_of};
 ghost use Rattle.serve_loop.specs.declared.service.End.TheVariants.{Done as AtEnd};
-ghost use Rattle.slirp_laws.specs.Laws.{Finished, Lawful};
+ghost use Rattle.slirp_laws.specs.Laws.{Finished, Lawful, May};
 ghost use Rattle.slirp_app.specs.Causes.{RanOn};
-ghost use Rattle.slirp_app.specs.Doing.{ReplaysFile};
+ghost use Rattle.slirp_app.specs.Doing.{ReplaysFile, ServesLink};
 ghost use Rattle.slirp_app.specs.Fetching.{IsWhole, octets_read};
+ghost use Rattle.slirp_app.specs.Ran.{end_line};
 ghost use Rattle.slirp_app.specs.Serving.{IsRun};
-ghost use Rattle.slirp_app.specs.Statuses.{is_run};
+ghost use Rattle.slirp_app.specs.Statuses.{code_of, is_run, outcome_of};
 ghost use Rattle.slirp_app.specs.Texts.{Got};
 ghost use Rattle.slirp_app.specs.Untroubled.{CanBeFollowed, SaysUntroubled, Untroubled};
 ghost use Rattle.slirp_app.specs.declared.status.Outcome.{Outcome};
 ghost use Rattle.slirp_app.specs.declared.status.Outcome.TheVariants.{Done};
-ghost use Rattle.world_face.specs.Journal.{AreAllowed, Entry};
-ghost use Rattle.world_face.specs.Tells.{Telling, Told};
+ghost use Rattle.slirp_config.specs.declared.Tap.TheVariants.{Record};
+ghost use Rattle.world_face.specs.Journal.{AreAllowed, Call, Entry, Place, call_of};
+ghost use Rattle.world_face.specs.Puts.{added};
+ghost use Rattle.world_face.specs.Tells.{Makes, Telling, Told};
 
 /// A run is untroubled where its link carried whole frames until it ended, no call on the link and no wait failed, the host
 /// opened each port that is given to a guest, and fewer waits were made than the settings allow. Where such a run is finished, its
@@ -40,4 +45,28 @@ pub fn a_schedule_that_can_be_followed_is_followed_to_its_end()
         → (status ≡ 0) ⊎ (status ≡ 12) ⊎ (status ≡ 13) }
     // A schedule can be followed where its lines are the record of an untroubled run, whether the run gets to the last of them or ends before.
     ensures lines { (config : Config) (schedule : List ℕ) → SaysUntroubled config schedule → CanBeFollowed config schedule }
+{}
+
+/// A record, replayed with the same settings, prints itself where nothing diverged.
+pub fn a_record_replays_to_itself()
+    // FILE has the lines of a lawful record: a replay with its settings that made a run, and neither diverged (5) nor spent its turns (10), made just its calls with their answers; so the record is that of a finished run, and the status is that of the end which it tells.
+    ensures itself { (file : List ℕ) (config : Config) (status : ℕ) (world world_new : Telling) (old new err err_new : Option (List ℕ)) (faults faults_new : ℕ) (run : List Entry)
+        → ReplaysFile file config status world world_new old new (Got err err_new faults faults_new) → AreAllowed run → Lawful config run
+        → IsTrue (is_run status) → status ≢ 5 → status ≢ 10 → Makes world world_new (λ made. octets_read made ≡ text run
+        → (new ≡ added (text run ++ end_line status) old) × Finished config run × (status ≡ code_of (outcome_of (end_of config (phase config run))))) }
+    // One that spent its turns made the first calls of the record, those of a finished run with as many waits, and the record has no wait after them.
+    ensures spent { (file : List ℕ) (config : Config) (status : ℕ) (world world_new : Telling) (old new err err_new : Option (List ℕ)) (faults faults_new : ℕ) (run : List Entry)
+        → ReplaysFile file config status world world_new old new (Got err err_new faults faults_new) → AreAllowed run → Lawful config run
+        → status ≡ 10 → Makes world world_new (λ made. octets_read made ≡ text run → (rest : List Entry) × (front : List Entry) × (run ≡ rest ++ front)
+        × (new ≡ added (text front ++ end_line 10) old) × Finished config front × (waits front ≡ config.turns) × (waits run ≡ config.turns)) }
+    // One that diverged (5) made the first calls of the record, and ceased at a lawful call that isn't the record's next; of a finished record whose turns weren't spent.
+    ensures diverged { (file : List ℕ) (config : Config) (status : ℕ) (world world_new : Telling) (old new err err_new : Option (List ℕ)) (faults faults_new : ℕ) (run : List Entry)
+        → ReplaysFile file config status world world_new old new (Got err err_new faults faults_new) → AreAllowed run → Lawful config run → Finished config run → code_of (outcome_of (end_of config (phase config run))) ≢ 10
+        → status ≡ 5 → Makes world world_new (λ made. octets_read made ≡ text run → (rest : List Entry) × (entry : Entry) × (front : List Entry) × (call : Call) × (run ≡ rest ++ (entry ∷ front))
+        × (new ≡ added (text front ++ end_line 5) old) × May config front call × (call ≢ call_of entry)) }
+    // So of all that `serve --record` put where the output held nothing and took it: such a replay prints it again, and comes to the same status.
+    ensures recorded { (config : Config) (at : Place) (status again : ℕ) (live live_new world world_new : Telling) (octets file : List ℕ) (old new said said_new err err_new : Option (List ℕ)) (told told_new faults faults_new : ℕ)
+        → ServesLink config at Record status live live_new (Some []) (Some octets) (Got said said_new told told_new) → status ≢ 12
+        → ReplaysFile file config again world world_new old new (Got err err_new faults faults_new) → IsTrue (is_run again) → again ≢ 5 → again ≢ 10
+        → Makes world world_new (λ made. octets_read made ≡ octets → (new ≡ added (octets ++ end_line again) old) × (again ≡ status)) }
 {}

@@ -57,12 +57,13 @@ use Rattle.waiting_flows.proofs.Placing.{each, not_in_use}
 use Rattle.run_duties.proofs.Lives.{lives_ahead}
 use Rattle.run_duties.proofs.Waited.{all_ahead}
 use Rattle.run_duties.specs.Duties.{EachFlow, IsSettledNow, MustWait}
+use Rattle.run_duties.specs.Serving.{AllServed}
 use Rattle.run_duties.specs.Times.{lives}
 use Rattle.run_duties.specs.Waiting.{WaitsFor, is_all_sent, is_for_datagrams, takes_datagrams}
 use Rattle.waiting_flows.proofs.Listing.{AreOfFlows, AreOver, AreOverBy, DoRise, DoRiseBy, all_waited_for, of_flows}
 use Rattle.slirp_core.specs.Calm.{AreClear}
 use Rattle.slirp_core.specs.Connecting.{AreInTime}
-use Rattle.slirp_core.specs.Forwards.{forward_sockets, given, is_over, sockets_over, with_numbers}
+use Rattle.slirp_core.specs.Forwards.{forward_sockets, is_over, sockets_over, with_numbers}
 use Rattle.slirp_core.specs.Holds.{Flowing, Holds, Standing, carriers, flowing, holders_of}
 use Rattle.slirp_core.specs.Owed.{IsOwed, OfFile, OfLeft}
 use Rattle.slirp_core.specs.Fragments.{IsHeld}
@@ -228,7 +229,7 @@ rise_given p (f ∷ fs) k = by (same_proto p f.proto) (rise_given p fs (k + 1))
     by false rest = rest
 
 -- the number of a place is among those of a protocol where the forward at that place is of it
-abbrev is_at : Proto → Option Forward → Bool
+abbrev pub is_at : Proto → Option Forward → Bool
 is_at p None = false
 is_at p (Some f) = same_proto p f.proto
 
@@ -259,7 +260,7 @@ among_over p (f ∷ fs) (suc n) k = by (same_proto p f.proto) ∙ subst (λ m. i
     by true = let other : ((k + suc n) == k) ≡ false = grind (arith, nat_tests) in ap (λ b. b || is_among (k + suc n) (sockets_over p (with_numbers (k + 1) fs))) other
     by false = refl
 
-among_given_over : (p : Proto) (fs : List Forward) (n : ℕ) → is_among n (sockets_over p (with_numbers 0 fs)) ≡ is_at p (slice_get fs n)
+pub among_given_over : (p : Proto) (fs : List Forward) (n : ℕ) → is_among n (sockets_over p (with_numbers 0 fs)) ≡ is_at p (slice_get fs n)
 among_given_over p fs n = let it : 0 + n ≡ n = omega arith in subst (λ m. is_among m (sockets_over p (with_numbers 0 fs)) ≡ is_at p (slice_get fs n)) it (among_over p fs n 0)
 
 -- those of a protocol are among all
@@ -361,7 +362,7 @@ module _ (config : Config) (at : Standing) (slirp : SlirpState) (f : Flowing) (l
       tells Tcp = refl
       tells Udp = refl
 
-  sockets_are : (sockets : List ℕ) → IsPermutation (carriers (holders_of slirp)) sockets → (n : ℕ) → takes_datagrams past n ≡ is_among n (sockets_over Udp slirp.forwards ++ sockets)
+  pub sockets_are : (sockets : List ℕ) → IsPermutation (carriers (holders_of slirp)) sockets → (n : ℕ) → takes_datagrams past n ≡ is_among n (sockets_over Udp slirp.forwards ++ sockets)
   sockets_are sockets moved n =
       two_kinds (is_among n (open_sockets past)) (kind_of n past) (unquestioned config n past (known_of config past holds.lawful n))
       ∙ (λ i. for_datagrams n i || (carried_by config at Settled None slirp f link past holds n ∙ among_moved n (carriers (holders_of slirp)) sockets moved) i)
@@ -370,7 +371,7 @@ module _ (config : Config) (at : Standing) (slirp : SlirpState) (f : Flowing) (l
   room_is : nat_lt (used (book config past).flows) config.flows ≡ nat_lt (in_use_slots f.kept.flows.table.slots) (length f.kept.flows.table.slots)
   room_is = λ i. nat_lt (holds.flows.holds.seats.counted i) (sym holds.flows.holds.slots i)
 
-  listeners_are : f.kept ≡ slirp.flows → (n : ℕ) → takes_peers config past n ≡ is_among n (listeners_of slirp)
+  pub listeners_are : f.kept ≡ slirp.flows → (n : ℕ) → takes_peers config past n ≡ is_among n (listeners_of slirp)
   listeners_are same_flows n =
       and_assoc_by (is_among n (open_sockets past)) (is_listener (kind_of n past)) (nat_lt (used (book config past).flows) config.flows)
       ∙ (λ i. for_peers n i && (room_is ∙ ap (λ (k : Kept). nat_lt (in_use_slots k.flows.table.slots) (length k.flows.table.slots)) same_flows) i)
@@ -438,15 +439,16 @@ each_settled config at slirp link past holds are early n f found =
     (are_settled config slirp.moment slirp.flows.flows past holds.clock.moment holds.flows.holds are.slots (subst (λ l. AreTold l slirp.flows.flows.parts) (sym holds.guests.known) are.told) are.clear n f found)
     (early n))
 
--- A wait for what the core waits for, as long as it waits, is as it must be, where unless the link is blocked all that is owed is out, no flow owes a frame and none has a timer that is due; no socket for datagrams is idle for long, no fragments are to be dropped, and the host of no flow had its time to connect.
+-- A wait for what the core waits for, as long as it waits, is as it must be, where each report of the last wait is served, and unless the link is blocked all that is owed is out, no flow owes a frame and none has a timer that is due; no socket for datagrams is idle for long, no fragments are to be dropped, and the host of no flow had its time to connect.
 pub must_wait : (config : Config) (at : Standing) (slirp : SlirpState) (link : LinkState) (past : List Entry) (wants : List Want) (timeout : Option ℕ) → Holds config at slirp (flowing true slirp.flows) link past → (slirp.pending ≡ [] → next_again slirp.moment slirp.transfers ≡ None)
-    → (link.blocked ≡ false → is_settled slirp link ≡ true) → All (λ a. is_idle_association slirp.moment a ≡ false) slirp.associations → All (λ q. is_idle_question slirp.moment q ≡ false) slirp.questions → AreFresh slirp.moment slirp.parts → AreInTime slirp.moment slirp.flows.flows.parts → (link.blocked ≡ false → AreClear slirp.known slirp.flows.flows × ((n : ℕ) → IsInTime slirp.moment slirp.flows.flows.parts n)) → ((held : List PartSet) → IsHeld slirp.parts held → IsTimeout slirp link.blocked held timeout) → (of : WantsOf slirp link wants) → AreWaitedFor config past of.flows → MustWait config past wants timeout
-must_wait config at slirp link past wants timeout holds none_again quiet young recent fresh early calm times of are = record {
+    → (link.blocked ≡ false → is_settled slirp link ≡ true) → All (λ a. is_idle_association slirp.moment a ≡ false) slirp.associations → All (λ q. is_idle_question slirp.moment q ≡ false) slirp.questions → AreFresh slirp.moment slirp.parts → AreInTime slirp.moment slirp.flows.flows.parts → (link.blocked ≡ false → AreClear slirp.known slirp.flows.flows × ((n : ℕ) → IsInTime slirp.moment slirp.flows.flows.parts n)) → ((held : List PartSet) → IsHeld slirp.parts held → IsTimeout slirp link.blocked held timeout) → (of : WantsOf slirp link wants) → AreWaitedFor config past of.flows → AllServed config past → MustWait config past wants timeout
+must_wait config at slirp link past wants timeout holds none_again quiet young recent fresh early calm times of are served = record {
   waits_for = subst (λ (ws : List Want). WaitsFor config past ws) (sym of.is)
       (all_waited_for config past (is_settled slirp link) link.blocked (listeners_of slirp) (sockets_over Udp slirp.forwards ++ of.sockets) of.flows holds.keeps.blocked sent_is quiet
       (listeners_are config at slirp (flowing true slirp.flows) link past holds refl) (sockets_are config at slirp (flowing true slirp.flows) link past holds of.sockets of.all)
       (each_of_flows slirp.flows.flows.parts of.flows of.of_flows) are.to_read are.to_write are.only_to_write (rise_listeners config at slirp (flowing true slirp.flows) link past holds)
       (rise_sockets config at slirp (flowing true slirp.flows) link past holds of.sockets of.all of.rising) (rise_by of.flows of.of_flows.rising));
+  served = served;
   out = λ free. sent_is ∙ quiet (sym holds.keeps.blocked ∙ free);
   settled = λ free. let now = calm (sym holds.keeps.blocked ∙ free) in each_settled config at slirp link past holds now.0 now.1;
   unused = subst (λ (now : ℕ). AreAhead now (lives config past)) (sym holds.clock.moment)

@@ -36,7 +36,8 @@ use Rattle.spliced_flows.specs.Core.{Following, number_of}
 use Rattle.core_flows.specs.Seats.{Seats}
 use Rattle.record_flows.specs.Book.{book, is_young}
 use Rattle.record_flows.specs.Flows.{Rest}
-use Rattle.tcp_flows.specs.Runs.{Between, Broken, ClosesRising, IsIdle, IsIdlePump, Leaves, Learns, LeavesOthers, Pumps, Reports, Sendable, Ticks}
+use Rattle.tcp_flows.specs.Runs.{Between, Broken, ClosesRising, IsIdle, IsIdlePump, Leaves, Learns, LeavesOthers, Pumps, Reports, Sendable, Ticks, Tells}
+use Rattle.tcp_flows.specs.Told.{ServesOnce}
 use Rattle.slirp_core.proofs.Given.{all_given}
 use Rattle.slirp_core.proofs.Open.{open_by}
 
@@ -124,6 +125,14 @@ reported config count wants item items slirp f link past made number read write 
     let then_is = reports config f.aged past (all_wanted wants items) (between config (standing count wants (item ∷ items)) slirp f link past turn holds) (subst (λ w. IsLast (w ∷ all_wanted wants items) (agenda past)) wanted holds.agenda) in
     after_flows config (standing count wants (item ∷ items)) (standing count wants items) slirp f link past made f.aged new slirp.transfers refl allowed turn holds then_is.between then_is.leaves then_is.agenda
     (λ same. owed_on config f.aged slirp past (made ++ past) same holds.answers.owed)
+
+-- and nothing is left of that, unless the flow was told before in this turn
+pub told_once : (config : Config) (count : ℕ) (wants : List Want) (item : Want) (items : List Want) (slirp : SlirpState) (f : Flowing) (link : LinkState) (past made : List Entry) (number : ℕ) (read write : Bool)
+    → wanted_of wants item ≡ record { of = OnTcp number; read = read; write = write } → Tells slirp.moment number read write f.kept made
+    → Holds config (standing count wants (item ∷ items)) slirp f link past → ServesOnce config number read write f.kept (made ++ past)
+told_once config count wants item items slirp f link past made number read write wanted tells holds =
+    let turn = reported_turn config count wants item items slirp f link past holds in
+    tells config f.aged past (all_wanted wants items) (between config (standing count wants (item ∷ items)) slirp f link past turn holds) (subst (λ w. IsLast (w ∷ all_wanted wants items) (agenda past)) wanted holds.agenda)
 
 -- where another wait may come the run isn't over
 not_ended : (config : Config) (count : ℕ) (slirp : SlirpState) (kept : Kept) (link : LinkState) (past : List Entry) → count < config.turns → InTurn config past

@@ -1,5 +1,5 @@
 -- Flows that connect: those of a network after it learnt guests' hardware addresses, and after a pump.
-use Rattle.std.proofs.Common.{◌≡◌, ℕ, ◌<◌, Bool, true, false, is_some, List, Option, Some, None, slice_get, refl, sym, ap, ◌∙◌, subst, if◌then◌else◌}
+use Rattle.std.proofs.Common.{◌≡◌, ℕ, ◌<◌, Bool, true, false, is_some, List, Option, refl, sym, ap, ◌∙◌, subst, if◌then◌else◌}
 use Rattle.net_octets.specs.declared.Ip4.{Ip4}
 use Rattle.net_octets.specs.declared.Mac.{Mac}
 use Rattle.arp_table.specs.Table.{mac_of as learnt_for}
@@ -7,8 +7,8 @@ use Rattle.connection_follows.specs.Holding.{is_connects}
 use Rattle.flow_splice.specs.Sends.{learnt}
 use Rattle.flow_splice.specs.Splice.{Splice, is_open}
 use Rattle.flow_splice.specs.Wants.{connect_end}
-use Rattle.tcp_flows.specs.Reading.{HaveLearnt, IsOpenAt, learnt_from}
-use Rattle.tcp_flows.specs.Settled.{ConnectYet, ConnectedBefore}
+use Rattle.tcp_flows.specs.Reading.{HaveLearnt}
+use Rattle.tcp_flows.specs.Settled.{ConnectYet}
 use Rattle.slirp_core.specs.Connecting.{AreInTime}
 
 -- who learnt an address connects as before

@@ -15,6 +15,7 @@ pub mod Filling
 pub mod Given
 pub mod Listening
 pub mod Forwarding
+pub mod Marking
 pub mod Merging
 pub mod Guests
 pub mod Names
@@ -24,6 +25,7 @@ pub mod Pumping
 pub mod Relaying
 pub mod Rising
 pub mod Services
+pub mod Served
 pub mod Serving
 pub mod Sockets
 pub mod Taking
@@ -44,4 +46,5 @@ pub mod Sizes
 pub mod Learning
 pub mod Settling
 pub mod Awaiting
+pub mod Unserved
 pub mod Visiting

@@ -45,6 +45,7 @@ use Rattle.slirp_laws.specs.Datagrams.{Settled}
 use Rattle.udp_assoc.specs.Associations.{numbers, without}
 use Rattle.slirp_laws.proofs.OpenSockets.{next_is_new}
 use Rattle.slirp_core.proofs.Given.{HasGiven, given_kind}
+use Rattle.run_duties.specs.Serving.{is_left_to_read}
 use Rattle.slirp_core.specs.Forwards.{with_numbers}
 use Rattle.slirp_core.specs.Visits.{Treats}
 use Rattle.slirp_core.specs.Holds.{Begins, Holds, InTurn, OfFlows, Stands, Turns, flowing, is_ours, standing}
@@ -56,6 +57,7 @@ use Rattle.slirp_core.proofs.Names.{none_without}
 use Rattle.slirp_core.proofs.Parts.{asks_nothing, asked_for, behind_of, due_is, errand_for, given_in, keeps_by, reads_of, still_open}
 use Rattle.slirp_core.proofs.Relaying.{not_carried, unclosed}
 use Rattle.slirp_core.proofs.Owing.{owed_stays}
+use Rattle.slirp_core.proofs.Served.{peer_is_read}
 use Rattle.slirp_core.proofs.Services.{none_due_for_services, services_stay}
 
 -- the kinds of sockets, where a peer came or none
@@ -319,15 +321,20 @@ module _ (config : Config) (count : ℕ) (wants : List Want) (item : Want) (item
           first_allowed : (made : List Entry) → made ≡ Close slirp.number ∷ [] → AreAllowed (made ++ Accept listener slirp.number (From peer) ∷ []) → Allowed (Close slirp.number)
           first_allowed made is all = (subst (λ es. AreAllowed (es ++ Accept listener slirp.number (From peer) ∷ [])) is all).0
 
--- nobody came, or the host failed
+-- nobody came, or the host failed: nothing is left of the report
 pub passed_by : (a b : Telling) (config : Config) (count : ℕ) (wants : List Want) (item : Want) (items : List Want) (listener : ℕ) → is_to_read (AListener listener) (wanted_of wants item) ≡ true → (slirp : SlirpState) (link : LinkState)
     → in_use_slots slirp.flows.flows.table.slots < length slirp.flows.flows.table.slots → (forward : Forward) (number : ℕ) → slice_get slirp.forwards listener ≡ Some (forward, number) → forward.proto ≡ Tcp
     → (answer : Accepted) → (answer ≡ NotYetAccepted) ⊎ (answer ≡ AcceptFailed) → Answers a b (Accept listener slirp.number answer)
-    → Brings a b (Holds config (standing count wants (item ∷ items)) slirp (flowing false slirp.flows) link) (Holds config (standing count wants items) slirp (flowing false slirp.flows) link)
+    → Brings a b (Holds config (standing count wants (item ∷ items)) slirp (flowing false slirp.flows) link)
+    (λ past. Holds config (standing count wants items) slirp (flowing false slirp.flows) link past × (is_left_to_read config past (AListener listener) ≡ false))
 passed_by a b config count wants item items listener reads_it slirp link room forward number at tcp answer (inl is) answers =
-    brings_one (subst (λ (r : Accepted). Answers a b (Accept listener slirp.number r)) is answers) (λ fine past holds. nobody_came config count wants item items listener reads_it slirp link past holds room forward number at tcp fine)
+    brings_one (subst (λ (r : Accepted). Answers a b (Accept listener slirp.number r)) is answers)
+    (λ fine past holds. let then_is = nobody_came config count wants item items listener reads_it slirp link past holds room forward number at tcp fine in
+    (then_is, peer_is_read config count wants item items slirp slirp (flowing false slirp.flows) (flowing false slirp.flows) link link past (Accept listener slirp.number NotYetAccepted ∷ []) holds then_is listener slirp.number NotYetAccepted [] refl))
 passed_by a b config count wants item items listener reads_it slirp link room forward number at tcp answer (inr is) answers =
-    brings_one (subst (λ (r : Accepted). Answers a b (Accept listener slirp.number r)) is answers) (λ fine past holds. none_accepted config count wants item items listener reads_it slirp link past holds room forward number at tcp fine)
+    brings_one (subst (λ (r : Accepted). Answers a b (Accept listener slirp.number r)) is answers)
+    (λ fine past holds. let then_is = none_accepted config count wants item items listener reads_it slirp link past holds room forward number at tcp fine in
+    (then_is, peer_is_read config count wants item items slirp slirp (flowing false slirp.flows) (flowing false slirp.flows) link link past (Accept listener slirp.number AcceptFailed ∷ []) holds then_is listener slirp.number AcceptFailed [] refl))
 
 -- who is refused, by what the policy and the slots say
 pub refused_by : (config : Config) (guest peer other : Endpoint) (b : Book) (found : Option Endpoint) (used : Bool) → found ≡ (if is_hidden config peer then None else Some (shown config peer)) → found ≡ Some other

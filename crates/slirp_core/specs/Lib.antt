@@ -11,6 +11,7 @@ pub mod Hearing
 pub mod Holds
 pub mod Kinds
 pub mod Leases
+pub mod Marks
 pub mod Numbers
 pub mod Outgoing
 pub mod Owed

@@ -21,12 +21,14 @@ impl Slirp {
     ghost use Rattle.slirp_core.specs.Counts.{AreGrown};
     ghost use Rattle.slirp_core.specs.Forwards.{Listens};
     ghost use Rattle.slirp_core.specs.Holds.{Holds, flowing, standing};
+    ghost use Rattle.slirp_core.specs.Marks.{KeepsMarks};
     ghost use Rattle.port_forward.specs.Adding.{fault_of};
     ghost use Rattle.core_flows.specs.Seats.{in_use_slots};
     ghost use Rattle.record_flows.specs.Book.{book, is_refused, tuple_for};
     ghost use Rattle.host_policy.specs.Targets.{is_hidden};
     ghost use Rattle.spliced_flows.specs.Core.{CoreHolds};
     ghost use Rattle.tcp_flows.specs.Reading.{NoneUses};
+    ghost use Rattle.run_duties.specs.Serving.{is_left_to_read};
     ghost use Rattle.slirp_core.specs.Visits.{AsksForPeer, ClosesOne, Treats, is_awaited};
     ghost use Rattle.std.specs.Prelude.{Bool, List, ◌∷◌, true, false, not, is_some};
 
@@ -77,10 +79,13 @@ impl Slirp {
         ensures asks { is_awaited listener self.old ≡ true → Makes (W.tells world.old) (W.tells world.new) (AsksForPeer listener self.old.number) }
         ensures makes { (config : Config) (count : ℕ) (wants : List AnItem) (item : AnItem) (items : List AnItem) (link : LinkState) → is_to_read (Listener listener) (wanted_of wants item) ≡ true
             → Brings (W.tells world.old) (W.tells world.new)
-            (Holds config (standing count wants (item ∷ items)) self.old (flowing false self.old.flows) link) (Holds config (standing count wants items) self.new (flowing false self.new.flows) link) }
+            (Holds config (standing count wants (item ∷ items)) self.old (flowing false self.old.flows) link)
+            (λ past. Holds config (standing count wants items) self.new (flowing false self.new.flows) link past
+            × (is_left_to_read config past (Listener listener) ≡ false)) }
         ensures counts { AreGrown (W.tells world.old).faults (W.tells world.new).faults }
         ensures number { self.new.number ≤ self.old.number + 1 }
         ensures turn { self.new.flows.turn ≡ self.old.flows.turn }
+        ensures marks { KeepsMarks self.old.number self.old.flows self.new.flows }
         ensures others { self.new ≡ record self.old { number = self.new.number; flows = self.new.flows } }
     {
         if !self.flows.has_room() {
@@ -106,6 +111,7 @@ impl Slirp {
         ensures treats { Makes (W.tells world.old) (W.tells world.new) (λ made. (config : Config) (now : ℕ) (aged : Bool) (past : List Entry)
             → CoreHolds config now aged None self.old.flows.flows past → self.old.config ≡ config → Treats (is_refused config guest peer (book config past)) guest peer self.old self.new made) }
         ensures turn { self.new.flows.turn ≡ self.old.flows.turn }
+        ensures marks { KeepsMarks self.old.number self.old.flows self.new.flows }
         ensures others { self.new ≡ record self.old { number = self.old.number + 1; flows = self.new.flows } }
     {
         let ends = self.ends_for(guest, peer);

@@ -1,13 +1,11 @@
 // What the host reports of the sockets of flows, and the octets that wait for it.
-ghost use Rattle.std.specs.Prelude.{◌≡◌, List, ◌∷◌, ◌++◌, min, take, drop, length, IfSome, IfNone, Bool, true, false};
+ghost use Rattle.std.specs.Prelude.{◌≡◌, List, ◌∷◌, ◌++◌, min, take, drop, length, IfSome, IfNone, Bool, false};
 
 use crate::network::Slirp;
 use world_face::World;
 
 impl Slirp {
-    ghost use Rattle.flow_splice.specs.Hosts.{PassesEnd, is_for_writing, reads_or_shuts, some_is};
     ghost use Rattle.flow_splice.specs.Splice.{Splice};
-    ghost use Rattle.flow_splice.specs.Wants.{reads, writes};
     ghost use Rattle.host_policy.specs.Addresses.{Config};
     ghost use Rattle.poll_list.specs.declared.Want.{Want as AnItem};
     ghost use Rattle.poll_list.specs.declared.Who.TheVariants.{Tcp};
@@ -17,23 +15,27 @@ impl Slirp {
     ghost use Rattle.tcp_flows.specs.Fronts.{IsFrontOf};
     ghost use Rattle.world_face.specs.Journal.{Entry};
     ghost use Rattle.stream_netdev.specs.State.{LinkState};
-    ghost use Rattle.tcp_flows.specs.Reading.{HasSocket, IsUnserved, NoneOpen};
-    ghost use Rattle.world_face.specs.Tells.{Brings, Makes};
-    ghost use Rattle.std.specs.Prelude.{ℕ};
+    ghost use Rattle.spliced_flows.specs.Core.{number_of};
+    ghost use Rattle.tcp_flows.specs.Reading.{HasSocket, IsOpenAt, NoneOpen, Stays};
+    ghost use Rattle.tcp_flows.specs.Told.{ServesOnce};
+    ghost use Rattle.world_face.specs.Tells.{Brings};
+    ghost use Rattle.std.specs.Prelude.{ℕ, slice_set};
 
-    /// The socket of a flow was reported ready in these directions, which were wanted: its flow is told, once a turn.
+    /// The socket of a flow was reported ready in these directions, which were wanted: its flow is told, once a turn. Nothing is left of the report then.
     pub fn take_report<W: World>(&mut self, world: &mut W, number: u64, read: bool, write: bool)
         ensures makes { (config : Config) (count : ℕ) (wants : List AnItem) (item : AnItem) (items : List AnItem) (link : LinkState)
             → wanted_of wants item ≡ record { of = Tcp number; read = read; write = write } → Brings (W.tells world.old) (W.tells world.new)
-            (Holds config (standing count wants (item ∷ items)) self.old (flowing false self.old.flows) link) (Holds config (standing count wants items) self.new (flowing false self.new.flows) link) }
-        // A direction that was reported is served, if the socket wasn't served in this turn. Reading is, unless a call for writing closed the socket before it.
-        ensures serves_writing { (k : ℕ) (p : Splice) → IsUnserved self.old.flows number k p → write ≡ true → writes p ≡ true
-            → Makes (W.tells world.old) (W.tells world.new) (λ made. some_is is_for_writing made ≡ true) }
-        ensures serves_reading { (k : ℕ) (p : Splice) → IsUnserved self.old.flows number k p → read ≡ true → reads p ≡ true
-            → Makes (W.tells world.old) (W.tells world.new) (λ made. some_is reads_or_shuts made ≡ true) }
+            (Holds config (standing count wants (item ∷ items)) self.old (flowing false self.old.flows) link)
+            (λ past. Holds config (standing count wants items) self.new (flowing false self.new.flows) link past
+            × ServesOnce config number read write self.old.flows past) }
         ensures counts { AreGrown (W.tells world.old).faults (W.tells world.new).faults }
         ensures others { self.new ≡ record self.old { flows = self.new.flows } }
         ensures turn { self.new.flows.turn ≡ self.old.flows.turn }
+        // It is marked as served in this turn; where no open socket has the number nothing changes.
+        ensures told { (k : ℕ) (p : Splice) → IsOpenAt self.old.flows.flows.parts k p → number_of p ≡ number
+            → self.new.flows.served ≡ slice_set self.old.flows.served k self.old.flows.turn }
+        ensures untold { NoneOpen number self.old.flows.flows.parts → self.new ≡ self.old }
+        ensures stays { Stays self.old.flows self.new.flows }
     {
         self.flows
             .host_ready(world, self.moment, number, read, write);

@@ -88,7 +88,7 @@ impl Slirp {
     ghost use Rattle.slirp_core.specs.Waiting.{AreFresh};
     ghost use Rattle.slirp_core.specs.Hearing.{ClosesByKind, WhereItTicks};
     ghost use Rattle.tcp_flows.specs.Runs.{ClosesRising};
-    ghost use Rattle.tcp_flows.specs.Reading.{AreTold, IsFirst, IsOpenAt, NoneIsAbove};
+    ghost use Rattle.tcp_flows.specs.Reading.{AreTold, IsFirst, IsOpenAt, NoneIsAbove, Stays};
     ghost use Rattle.tcp_flows.specs.Settled.{ConnectYet, IsInTime, OwesNoAck};
     ghost use Rattle.world_face.specs.Journal.{Entry};
     ghost use Rattle.flow_splice.specs.Splice.{Splice};
@@ -299,6 +299,7 @@ impl Slirp {
         ensures connects { ConnectYet self.old.flows.flows.parts self.new.flows.flows.parts }
         ensures turn { self.new.flows.turn ≡ self.old.flows.turn }
         ensures served { self.new.flows.served ≡ self.old.flows.served }
+        ensures stays { Stays self.old.flows self.new.flows }
         ensures same { self.new ≡ record self.old { flows = self.new.flows } }
     {
         self.flows.learn(&self.guests);

@@ -38,6 +38,7 @@ impl Slirp {
     ghost use Rattle.tcp_flows.specs.Reading.{AreTold, HaveSlots};
     ghost use Rattle.tcp_flows.specs.Settled.{AreSettled, ConnectYet, IsInTime};
     ghost use Rattle.slirp_core.specs.Calm.{AreClear};
+    ghost use Rattle.slirp_core.specs.Marks.{KeepsMarks};
 
     /// Whether nothing is left to be sent.
     pub fn is_settled(&self, link: &Link) -> bool
@@ -76,6 +77,7 @@ impl Slirp {
         ensures config { self.new.config ≡ self.old.config }
         ensures number { self.new.number ≡ self.old.number }
         ensures turn { self.new.flows.turn ≡ self.old.flows.turn }
+        ensures marks { KeepsMarks self.old.number self.old.flows self.new.flows }
         ensures others { self.new ≡ record self.old { pending = self.new.pending; sent = self.new.sent; flows = self.new.flows } }
     {
         self.tell_addresses();
@@ -103,6 +105,7 @@ impl Slirp {
         ensures connects { (config : Config) (aged : Bool) (past : List Entry) → CoreHolds config self.old.moment aged None self.old.flows.flows past → ConnectYet self.old.flows.flows.parts self.new.flows.flows.parts }
         ensures same { under_way link.new ≡ under_way link.old }
         ensures turn { self.new.flows.turn ≡ self.old.flows.turn }
+        ensures marks { KeepsMarks self.old.number self.old.flows self.new.flows }
         ensures others { self.new ≡ record self.old { sent = self.new.sent; flows = self.new.flows } }
     {
         let pumped = self

@@ -61,6 +61,7 @@ impl Slirp {
     ghost use Rattle.slirp_laws.specs.Answers.{frames_of, reset_for};
     ghost use Rattle.slirp_core.specs.Counts.{AreGrown};
     ghost use Rattle.slirp_core.specs.Holds.{Standing, Holds, Comes, flowing};
+    ghost use Rattle.slirp_core.specs.Marks.{KeepsMarks};
     ghost use Rattle.stream_netdev.specs.State.{LinkState};
     ghost use Rattle.world_face.specs.Tells.{Brings};
 
@@ -76,6 +77,7 @@ impl Slirp {
         ensures number { self.new.number ≤ self.old.number + 1 }
         ensures config { self.new.config ≡ self.old.config }
         ensures turn { self.new.flows.turn ≡ self.old.flows.turn }
+        ensures marks { KeepsMarks self.old.number self.old.flows self.new.flows }
     {
         match self
             .flows

@@ -28,6 +28,7 @@ impl Slirp {
     ghost use Rattle.udp_assoc.specs.Relays.{FitsRoom};
     ghost use Rattle.world_face.specs.Tells.{Brings, Makes};
     ghost use Rattle.slirp_core.specs.Hearing.{Receives, is_heard};
+    ghost use Rattle.run_duties.specs.Serving.{is_left_to_read};
     ghost use Rattle.stream_netdev.specs.State.{LinkState};
     ghost use Rattle.slirp_core.specs.Datagrams.{datagram_of, errand_of, FitsErrand};
     ghost use Rattle.slirp_core.specs.Holds.{asked_by, Standing, flowing, standing, Holds, HoldsAt};
@@ -182,7 +183,9 @@ impl Slirp {
         // Where the socket is open a datagram is asked for on it, once.
         ensures receives { is_heard number self.old ≡ true → Makes (W.tells world.old) (W.tells world.new) (Receives number) }
         ensures makes { (config : Config) (count : ℕ) (wants : List AnItem) (item : AnItem) (items : List AnItem) (aged : Bool) (link : LinkState) → is_to_read (Udp number) (wanted_of wants item) ≡ true → link.tail ≡ [] → Brings (W.tells world.old) (W.tells world.new)
-            (Holds config (standing count wants (item ∷ items)) self.old (flowing aged self.old.flows) link) (Holds config (standing count wants items) self.new (flowing aged self.new.flows) link) }
+            (Holds config (standing count wants (item ∷ items)) self.old (flowing aged self.old.flows) link)
+            (λ past. Holds config (standing count wants items) self.new (flowing aged self.new.flows) link past
+            × (is_left_to_read config past (Udp number) ≡ false)) }
         ensures counts { AreGrown (W.tells world.old).faults (W.tells world.new).faults }
         ensures number { self.new.number ≡ self.old.number }
         ensures config { self.new.config ≡ self.old.config }
@@ -203,7 +206,9 @@ impl Slirp {
         requires asked { is_some (question_numbered number self.old.questions) ≡ true }
         ensures receives { Makes (W.tells world.old) (W.tells world.new) (Receives number) }
         ensures makes { (config : Config) (count : ℕ) (wants : List AnItem) (item : AnItem) (items : List AnItem) (aged : Bool) (link : LinkState) → is_to_read (Udp number) (wanted_of wants item) ≡ true → link.tail ≡ [] → Brings (W.tells world.old) (W.tells world.new)
-            (Holds config (standing count wants (item ∷ items)) self.old (flowing aged self.old.flows) link) (Holds config (standing count wants items) self.new (flowing aged self.new.flows) link) }
+            (Holds config (standing count wants (item ∷ items)) self.old (flowing aged self.old.flows) link)
+            (λ past. Holds config (standing count wants items) self.new (flowing aged self.new.flows) link past
+            × (is_left_to_read config past (Udp number) ≡ false)) }
         ensures counts { AreGrown (W.tells world.old).faults (W.tells world.new).faults }
         ensures others { self.new ≡ record self.old { questions = self.new.questions; pending = self.new.pending } }
         ensures room { length into.new ≡ 65507 }
@@ -219,7 +224,9 @@ impl Slirp {
         requires unasked { is_some (question_numbered number self.old.questions) ≡ false }
         ensures receives { is_heard number self.old ≡ true → Makes (W.tells world.old) (W.tells world.new) (Receives number) }
         ensures makes { (config : Config) (count : ℕ) (wants : List AnItem) (item : AnItem) (items : List AnItem) (aged : Bool) (link : LinkState) → is_to_read (Udp number) (wanted_of wants item) ≡ true → link.tail ≡ [] → Brings (W.tells world.old) (W.tells world.new)
-            (Holds config (standing count wants (item ∷ items)) self.old (flowing aged self.old.flows) link) (Holds config (standing count wants items) self.new (flowing aged self.new.flows) link) }
+            (Holds config (standing count wants (item ∷ items)) self.old (flowing aged self.old.flows) link)
+            (λ past. Holds config (standing count wants items) self.new (flowing aged self.new.flows) link past
+            × (is_left_to_read config past (Udp number) ≡ false)) }
         ensures counts { AreGrown (W.tells world.old).faults (W.tells world.new).faults }
         ensures others { self.new ≡ record self.old { associations = self.new.associations; pending = self.new.pending } }
         ensures room { length into.new ≡ 65507 }

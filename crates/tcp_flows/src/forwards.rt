@@ -1,5 +1,5 @@
 // Peers come to ports of the host that are given to guests, and guests' hardware addresses are learnt.
-ghost use Rattle.std.specs.Prelude.{◌≡◌, ℕ, ◌+◌, ◌-◌, ◌^◌, ◌<◌, ◌≤◌, ◌⊎◌, List, [], length, option_map, slice_get, slice_set, true, false, Some, None};
+ghost use Rattle.std.specs.Prelude.{◌≡◌, ℕ, ◌+◌, ◌-◌, ◌^◌, ◌<◌, ◌≤◌, List, [], length, option_map, slice_get, slice_set, true, false, Some};
 ghost use Rattle.core_flows.specs.Seats.{in_use_slots};
 ghost use Rattle.flow_laws.specs.Flow.{first_number};
 ghost use Rattle.flow_table.specs.Slots.{NoneHas};
@@ -26,7 +26,7 @@ impl TcpFlows {
     ghost use Rattle.spliced_flows.specs.Core.{CoreHolds, number_of};
     ghost use Rattle.std.specs.Prelude.{Bool, Option};
     ghost use Rattle.tcp_flows.specs.Kept.{with_flows};
-    ghost use Rattle.tcp_flows.specs.Reading.{HaveLearnt, AreTold, NoneInSlots, NoneUses, Stays, learnt_from};
+    ghost use Rattle.tcp_flows.specs.Reading.{HaveLearnt, AreTold, NoneInSlots, NoneUses, Stays, StaysBut, learnt_from};
     ghost use Rattle.tcp_flows.specs.Runs.{Learns, MakesWay, Welcomes};
     ghost use Rattle.tcp_flows.specs.Settled.{IsInTime, OwesNoAck};
     ghost use Rattle.world_face.specs.Journal.{Call, Entry};
@@ -109,8 +109,7 @@ impl TcpFlows {
         ensures opened { self.new.flows.opened ≡ self.old.flows.opened + 1 }
         ensures slots { length self.new.flows.parts ≡ length self.old.flows.parts }
         // Each flow has that number, or the number of the flow that its slot had.
-        ensures numbers { (k : ℕ) (p : Splice) → slice_get self.new.flows.parts k ≡ Some (Some p)
-            → (number_of p ≡ number) ⊎ ((q : Splice) × (slice_get self.old.flows.parts k ≡ Some (Some q)) × (number_of p ≡ number_of q)) }
+        ensures numbers { StaysBut number self.old self.new }
     {
         let conn = called(&self.sizes, now, self.opened);
         self.make_way(ends);

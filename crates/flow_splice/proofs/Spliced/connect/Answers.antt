@@ -1,4 +1,4 @@
-use Rattle.std.proofs.Common.{[], ◌∷◌, false, subst, sym, refl, ◌≡◌, true}
+use Rattle.std.proofs.Common.{[], ◌∷◌, false, subst, sym, refl}
 use Rattle.world_face.specs.Journal.{Close, Connected}
 use Rattle.world_face.specs.declared.Joined.TheVariants.{Yes, NotYet, Failed}
 use Rattle.world_face.proofs.Telling.{makes_one}
@@ -7,7 +7,6 @@ use Rattle.flow_splice.specs.Serves.{GoesOn}
 use Rattle.flow_splice.specs.Splice.{Splice}
 use Rattle.flow_splice.proofs.Calls.{two_calls}
 use Rattle.flow_splice.proofs.Hosting.{host_connected, host_not_yet, host_refused}
-use Rattle.flow_splice.specs.Hosts.{is_for_writing, some_is}
 use Rattle.flow_splice.proofs.Spliced.connect.Goals as goal
 
 pub returns-in-Yes-clause-makes : goal.returns-in-Yes-clause-makes
@@ -19,26 +18,16 @@ returns-in-Yes-clause-makes g c =
       subst (λ (x : Splice). GoesOn f x false c.args.now (Connected f.face.number Yes ∷ [])) (sym change)
           (host_connected f c.args.now c.requires.open_yet c.requires.connects (subst (λ (x : Splice). HasBuffers x.conn x.up x.down) change c.join.ensures.buffers)),
       refl,
+      refl,
     ))
 
 pub returns-in-NotYet-clause-makes : goal.returns-in-NotYet-clause-makes
 returns-in-NotYet-clause-makes g c =
     let f = c.args.self.now in
-    makes_one _ _ (Connected f.face.number NotYet) _ c.in-NotYet.ensures (λ allowed. (host_not_yet f c.args.now c.requires.open_yet c.requires.connects, refl))
+    makes_one _ _ (Connected f.face.number NotYet) _ c.in-NotYet.ensures (λ allowed. (host_not_yet f c.args.now c.requires.open_yet c.requires.connects, refl, refl))
 
 pub returns-in-Failed-clause-makes : goal.returns-in-Failed-clause-makes
 returns-in-Failed-clause-makes g c =
     let f = c.args.self.now in
     two_calls _ _ _ (Connected f.face.number Failed) (Close f.face.number) _ c.in-Failed.ensures c.fail.ensures.closes
-    (λ one two. (subst (λ (x : Splice). GoesOn f x false c.args.now (Close f.face.number ∷ Connected f.face.number Failed ∷ [])) (sym c.fail.ensures.change) (host_refused f c.args.now c.requires.open_yet c.requires.connects), refl))
-
-pub returns-in-Yes-clause-serves : goal.returns-in-Yes-clause-serves
-returns-in-Yes-clause-serves g c = makes_one _ _ (Connected c.args.self.now.face.number Yes) (λ made. some_is is_for_writing made ≡ true) c.in-Yes.ensures (λ allowed. refl)
-
-pub returns-in-NotYet-clause-serves : goal.returns-in-NotYet-clause-serves
-returns-in-NotYet-clause-serves g c = makes_one _ _ (Connected c.args.self.now.face.number NotYet) (λ made. some_is is_for_writing made ≡ true) c.in-NotYet.ensures (λ allowed. refl)
-
-pub returns-in-Failed-clause-serves : goal.returns-in-Failed-clause-serves
-returns-in-Failed-clause-serves g c =
-    let f = c.args.self.now in
-    two_calls _ _ _ (Connected f.face.number Failed) (Close f.face.number) (λ made. some_is is_for_writing made ≡ true) c.in-Failed.ensures c.fail.ensures.closes (λ one two. refl)
+    (λ one two. (subst (λ (x : Splice). GoesOn f x false c.args.now (Close f.face.number ∷ Connected f.face.number Failed ∷ [])) (sym c.fail.ensures.change) (host_refused f c.args.now c.requires.open_yet c.requires.connects), refl, refl))

@@ -1,10 +1,10 @@
-use Rattle.std.proofs.Common.{◌≡◌, ◌∷◌, [], ℕ, ◌||◌, true, false, refl, ap, subst, sym}
+use Rattle.std.proofs.Common.{◌≡◌, ◌∷◌, [], ℕ, true, false, refl, ap, subst, sym}
 use Rattle.world_face.specs.Journal.{Close, TcpEnd}
 use Rattle.world_face.specs.declared.Made.TheVariants.{Done, Failed}
 use Rattle.tcp_guest.specs.Connection.{HasBuffers}
 use Rattle.tcp_guest.specs.Hosts.{write_ended}
 use Rattle.tcp_guest.specs.Segments.{settled}
-use Rattle.flow_splice.specs.Hosts.{Sees, ends, is_for_writing, reads_or_shuts, some_is}
+use Rattle.flow_splice.specs.Hosts.{Sees, ends, is_for_writing}
 use Rattle.flow_splice.specs.Serves.{GoesOn}
 use Rattle.flow_splice.specs.Splice.{Splice}
 use Rattle.flow_splice.specs.Wants.{reads}
@@ -22,6 +22,8 @@ returns-in-Failed-clause-makes g c =
       subst (λ (x : Splice). GoesOn f x false now (Close f.face.number ∷ TcpEnd f.face.number Failed ∷ [])) (sym c.fail.ensures.change)
           (host_end_fails f now c.requires.open_yet c.requires.all c.requires.ends),
       refl,
+      refl,
+      λ reading. or_last (reads c.fail.new.self) true refl,
     ))
 
 pub returns-in-Done-clause-makes : goal.returns-in-Done-clause-makes
@@ -36,29 +38,6 @@ returns-in-Done-clause-makes g c =
       host_ends f now c.requires.open_yet c.requires.all c.requires.ends (subst (λ (x : Splice). HasBuffers x.conn x.up x.down) is marked.ensures.buffers)
           (ends marked.result) (sym (ap ends marked.ensures.change)) c.see.new.self made (subst (λ (x : Splice). Sees (ends marked.result) x c.see.new.self now made) is sees),
       sees_ending (ends marked.result) marked.new.self c.see.new.self now made f.face.number Done sees,
+      still_is is_for_writing made (TcpEnd f.face.number Done ∷ []) refl,
+      told_reads (ends marked.result) f marked.new.self c.see.new.self now made f.face.number Done marked.ensures.ended (ap ends marked.ensures.change) sees,
     ))
-
-pub returns-in-Failed-clause-serves : goal.returns-in-Failed-clause-serves
-returns-in-Failed-clause-serves g c =
-    let f : Splice = c.args.self.now in
-    two_calls _ _ _ (TcpEnd f.face.number Failed) (Close f.face.number) (λ made. some_is is_for_writing made ≡ true) c.in-Failed.ensures c.fail.ensures.closes (λ one two. refl)
-
-pub returns-in-Done-clause-serves : goal.returns-in-Done-clause-serves
-returns-in-Done-clause-serves g c =
-    let f : Splice = c.args.self.now in
-    let marked = c.mark_ended-change in
-    calls_after _ _ _ (TcpEnd f.face.number Done) (Sees (ends marked.result) marked.new.self c.see.new.self c.args.now) (λ made. some_is is_for_writing made ≡ true) c.in-Done.ensures c.see.ensures (λ made sees. still_is is_for_writing made (TcpEnd f.face.number Done ∷ []) refl)
-
-pub returns-in-Failed-clause-still_reads : goal.returns-in-Failed-clause-still_reads
-returns-in-Failed-clause-still_reads g c reading =
-    let f : Splice = c.args.self.now in
-    let new : Splice = c.fail.new.self in
-    two_calls _ _ _ (TcpEnd f.face.number Failed) (Close f.face.number) (λ made. reads new || some_is reads_or_shuts made ≡ true) c.in-Failed.ensures c.fail.ensures.closes (λ one two. or_last (reads new) true refl)
-
-pub returns-in-Done-clause-still_reads : goal.returns-in-Done-clause-still_reads
-returns-in-Done-clause-still_reads g c reading =
-    let f : Splice = c.args.self.now in
-    let marked = c.mark_ended-change in
-    let new : Splice = c.see.new.self in
-    calls_after _ _ _ (TcpEnd f.face.number Done) (Sees (ends marked.result) marked.new.self new c.args.now) (λ made. reads new || some_is reads_or_shuts made ≡ true) c.in-Done.ensures c.see.ensures
-    (λ made sees. told_reads (ends marked.result) f marked.new.self new c.args.now made f.face.number Done marked.ensures.ended (ap ends marked.ensures.change) sees reading)

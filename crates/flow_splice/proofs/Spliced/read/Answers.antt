@@ -6,7 +6,7 @@ use Rattle.world_face.specs.declared.Io.TheVariants.{Done, End, NotYet, Failed}
 use Rattle.world_face.proofs.Telling.{makes_one}
 use Rattle.tcp_guest.specs.Connection.{HasBuffers}
 use Rattle.tcp_guest.specs.Hosts.{host_ended, reset}
-use Rattle.flow_splice.specs.Hosts.{given, gives_octets, read_by, is_for_reading, some_is}
+use Rattle.flow_splice.specs.Hosts.{given, gives_octets, read_by}
 use Rattle.flow_splice.specs.Serves.{GoesOn}
 use Rattle.flow_splice.specs.Splice.{Splice, closed}
 use Rattle.flow_splice.proofs.Calls.{two_calls}
@@ -28,6 +28,7 @@ returns-in-End-clause-makes g c =
       subst (λ (x : Splice). GoesOn f x false now (TcpRead f.face.number asked End octets ∷ [])) (sym change)
           (host_gives_end f now c.requires.open_yet c.requires.may octets c.ask_octets.ensures.size (subst (λ (x : Splice). HasBuffers x.conn x.up x.down) change c.end_reading.ensures.buffers)),
       refl,
+      refl,
     ))
 
 pub returns-in-Failed-clause-makes : goal.returns-in-Failed-clause-makes
@@ -45,6 +46,7 @@ returns-in-Failed-clause-makes g c =
     (λ one two. (
       subst (λ (x : Splice). GoesOn f x false now (Close f.face.number ∷ TcpRead f.face.number asked Failed octets ∷ [])) (sym shut)
           (host_gives_none f now c.requires.open_yet c.requires.may octets c.ask_octets.ensures.size),
+      refl,
       refl,
     ))
 
@@ -67,22 +69,5 @@ returns-in-Done-clause-makes g c =
       subst (λ (x : Splice). GoesOn f x false now (TcpRead f.face.number asked answer octets ∷ [])) (sym change)
           (host_gives f now c.requires.open_yet c.requires.may answer octets gave c.ask_octets.ensures.size read.2 (subst (λ (x : Splice). HasBuffers x.conn x.up x.down) change c.ask_octets.ensures.buffers)),
       refl,
+      refl,
     ))
-
-pub returns-in-End-clause-serves : goal.returns-in-End-clause-serves
-returns-in-End-clause-serves g c =
-    let f : Splice = c.args.self.now in
-    let read = c.ask_octets.ensures.read in
-    makes_one _ _ (TcpRead f.face.number (min 16384 (f.down.size - length f.down.octets)) c.ask_octets.result read.0) (λ made. some_is is_for_reading made ≡ true) read.1 (λ allowed. refl)
-
-pub returns-in-Failed-clause-serves : goal.returns-in-Failed-clause-serves
-returns-in-Failed-clause-serves g c =
-    let f : Splice = c.args.self.now in
-    let read = c.ask_octets.ensures.read in
-    two_calls _ _ _ (TcpRead f.face.number (min 16384 (f.down.size - length f.down.octets)) c.ask_octets.result read.0) (Close c.ask_octets.new.self.face.number) (λ made. some_is is_for_reading made ≡ true) read.1 c.fail.ensures.closes (λ one two. refl)
-
-pub returns-in-Done-clause-serves : goal.returns-in-Done-clause-serves
-returns-in-Done-clause-serves g c =
-    let f : Splice = c.args.self.now in
-    let read = c.ask_octets.ensures.read in
-    makes_one _ _ (TcpRead f.face.number (min 16384 (f.down.size - length f.down.octets)) c.ask_octets.result read.0) (λ made. some_is is_for_reading made ≡ true) read.1 (λ allowed. refl)

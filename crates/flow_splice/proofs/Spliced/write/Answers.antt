@@ -1,4 +1,4 @@
-use Rattle.std.proofs.Common.{◌≡◌, ◌∷◌, [], ℕ, length, take, min, false, refl, arith, ap, subst, sym, ◌∙◌, inl, inr, ◌⊎◌, ◌||◌, true}
+use Rattle.std.proofs.Common.{◌≡◌, ◌∷◌, [], ℕ, length, take, min, false, refl, arith, ap, subst, sym, ◌∙◌, inl, inr, ◌⊎◌, true}
 use Rattle.world_face.specs.Journal.{Close, Entry, TcpWrite, count_of}
 use Rattle.world_face.specs.Tells.{Answers}
 use Rattle.world_face.specs.declared.Io.{Io}
@@ -13,7 +13,7 @@ use Rattle.flow_splice.proofs.Calls.{calls_after, or_already, or_last, still_is,
 use Rattle.flow_splice.proofs.Events.{goes_then}
 use Rattle.flow_splice.proofs.Hosting.{host_takes, host_takes_none}
 use Rattle.flow_splice.proofs.Shaping.{gives_ending}
-use Rattle.flow_splice.specs.Hosts.{is_for_writing, reads_or_shuts, some_is}
+use Rattle.flow_splice.specs.Hosts.{is_for_writing, reads_or_shuts}
 use Rattle.flow_splice.specs.Wants.{reads}
 use Rattle.flow_splice.proofs.Spliced.write.Goals as goal
 
@@ -30,7 +30,7 @@ returns-in-Failed-clause-makes g c =
     let offers = subst (λ (answer : Io). Answers (g.W.World.tells c.args.world.now) (g.W.World.tells c.offer.new.world) (TcpWrite f.face.number front answer)) c.in-Failed.is c.offer.ensures.offers in
     let closes = subst (λ (x : Splice). Answers (g.W.World.tells c.offer.new.world) (g.W.World.tells c.fail.new.world) (Close x.face.number)) same c.fail.ensures.closes in
     two_calls _ _ _ (TcpWrite f.face.number front Failed) (Close f.face.number) _ offers closes
-    (λ one two. (subst (λ (x : Splice). GoesOn f x false now (Close f.face.number ∷ TcpWrite f.face.number front Failed ∷ [])) (sym shut) (host_takes_none f now c.requires.open_yet c.requires.owes), refl))
+    (λ one two. (subst (λ (x : Splice). GoesOn f x false now (Close f.face.number ∷ TcpWrite f.face.number front Failed ∷ [])) (sym shut) (host_takes_none f now c.requires.open_yet c.requires.owes), refl, refl, λ reading. or_last (reads c.fail.new.self) true refl))
 
 not_failed : (answer : Io) → ((n : ℕ) × (answer ≡ Done n)) ⊎ ((answer ≡ End) ⊎ (answer ≡ NotYet)) → answer ≡ Failed → ⊥
 not_failed answer (inl is) failed = let not_it = sym is.1 ∙ failed in cc
@@ -52,32 +52,6 @@ returns-in-Done-clause-makes g c =
     (λ made more. (
       goes_then f mid new false now (offered ∷ []) made c.end_after_octets.ensures.same.face c.end_after_octets.ensures.same.mac first more.0,
       gives_ending made f.face.number (take (min 16384 (length f.up.held)) f.up.held) answer more.1,
+      still_is is_for_writing made (offered ∷ []) refl,
+      λ reading. or_already (reads new) reads_or_shuts made (offered ∷ []) (more.2 (ap reads change ∙ reading)),
     ))
-
-pub returns-in-Done-clause-serves : goal.returns-in-Done-clause-serves
-returns-in-Done-clause-serves g c =
-    let f : Splice = c.args.self.now in
-    let offered : Entry = TcpWrite f.face.number (take (min 16384 (length f.up.held)) f.up.held) c.offer.result in
-    calls_after _ _ _ offered _ (λ made. some_is is_for_writing made ≡ true) c.offer.ensures.offers c.end_after_octets.ensures.makes
-    (λ made more. still_is is_for_writing made (offered ∷ []) refl)
-
-pub returns-in-Failed-clause-serves : goal.returns-in-Failed-clause-serves
-returns-in-Failed-clause-serves g c =
-    let f : Splice = c.args.self.now in
-    two_calls _ _ _ (TcpWrite f.face.number (take (min 16384 (length f.up.held)) f.up.held) c.offer.result) (Close c.offer.new.self.face.number) (λ made. some_is is_for_writing made ≡ true) c.offer.ensures.offers c.fail.ensures.closes (λ one two. refl)
-
-pub returns-in-Failed-clause-still_reads : goal.returns-in-Failed-clause-still_reads
-returns-in-Failed-clause-still_reads g c reading =
-    let f : Splice = c.args.self.now in
-    let new : Splice = c.fail.new.self in
-    two_calls _ _ _ (TcpWrite f.face.number (take (min 16384 (length f.up.held)) f.up.held) c.offer.result) (Close c.offer.new.self.face.number) (λ made. reads new || some_is reads_or_shuts made ≡ true)
-    c.offer.ensures.offers c.fail.ensures.closes (λ one two. or_last (reads new) true refl)
-
-pub returns-in-Done-clause-still_reads : goal.returns-in-Done-clause-still_reads
-returns-in-Done-clause-still_reads g c reading =
-    let f : Splice = c.args.self.now in
-    let new : Splice = c.end_after_octets.new.self in
-    let offered : Entry = TcpWrite f.face.number (take (min 16384 (length f.up.held)) f.up.held) c.offer.result in
-    calls_after _ _ _ offered (λ made. reads new || some_is reads_or_shuts made ≡ true) (λ made. reads new || some_is reads_or_shuts made ≡ true) c.offer.ensures.offers
-    (c.end_after_octets.ensures.still_reads (ap reads c.offer.ensures.change ∙ reading))
-    (λ made more. or_already (reads new) reads_or_shuts made (offered ∷ []) more)

@@ -7,6 +7,7 @@ use Rattle.serve_loop.specs.Turns.{AfterTurn, AreYoung, HoldsNow, IsInTime}
 use Rattle.serve_loop.specs.Served.{ServiceState}
 use Rattle.tcp_flows.specs.Settled.{IsInTime as HasNoneDue}
 use Rattle.slirp_core.specs.Connecting.{AreInTime}
+use Rattle.slirp_core.specs.Marks.{KeepsMarks}
 use Rattle.slirp_core.specs.State.{SlirpState}
 use Rattle.slirp_core.proofs.Connecting.{in_time_yet}
 use Rattle.serve_loop.proofs.Turning.{calm_by, clear_by, pumped, sent_by}
@@ -48,3 +49,6 @@ returns-clause-connects g c config at aged past holds again early =
           let all_out = clear_by c.pump-pumped.result new c.pump-pumped.new.link c.pump-pumped.ensures.leaves (sym c.turn_of.ensures ∙ again) free in
           subst (λ (m : ℕ). HasNoneDue m new.flows.flows.parts n) (sym moment_same) (c.pump-pumped.ensures.ahead config at aged past before n (early_yet.1 (c.pump-pumped.ensures.free all_out) n)),
     )
+
+pub returns-clause-marks : goal.returns-clause-marks
+returns-clause-marks g c = subst (λ (s : ServiceState). KeepsMarks s.slirp.number s.slirp.flows c.pump-pumped.new.self.flows) c.self.view_is c.pump-pumped.ensures.marks

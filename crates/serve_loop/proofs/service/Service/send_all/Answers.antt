@@ -3,7 +3,8 @@ use Rattle.world_face.specs.Tells.{Brings}
 use Rattle.world_face.proofs.Telling.{brings_none, brings_then}
 use Rattle.serve_loop.specs.Served.{ServiceState}
 use Rattle.slirp_core.specs.State.{SlirpState}
-use Rattle.serve_loop.specs.Turns.{AfterTurn, AllSent, AreYoung, HoldsNow, IsCalm, IsInTime}
+use Rattle.serve_loop.specs.Turns.{AfterTurn, AllSent, AreYoung, HoldsNow, IsCalm, IsInTime, NoneTold}
+use Rattle.serve_loop.proofs.Left.{none_told}
 use Rattle.serve_loop.proofs.Turning.{still_sent}
 use Rattle.serve_loop.specs.declared.service.Turn.TheVariants.{Ended as TurnEnded}
 use Rattle.serve_loop.proofs.Counted.{grown_then}
@@ -30,6 +31,7 @@ loop-self-init g c =
           (subst (λ (x : SlirpState). IsInTime x link) (sym c.send_again.ensures.others) (subst (λ (s : ServiceState). IsInTime s.slirp s.link) (sym c.self.view_is) early));
       calm = c.in_default.ensures.calm refl;
       young = λ young. c.in_default.ensures.young (subst AreYoung (sym c.send_again.ensures.others) (subst (λ (s : ServiceState). AreYoung s.slirp) (sym c.self.view_is) young));
+      untold = λ none. none_told c.send_again.new.self.number c.send_again.new.self new.self.slirp c.in_default.ensures.marks (subst NoneTold (sym c.send_again.ensures.others) (subst (λ (s : ServiceState). NoneTold s.slirp) (sym c.self.view_is) none));
       counts = c.in_default.ensures.faults;
       on = c.in_default.ensures.on;
       config = search rules;
@@ -55,6 +57,8 @@ loop-self-preserved g c =
           (subst (λ (x : SlirpState). IsInTime x link) (sym c.send_again-in-loop-self.ensures.others) (subst (λ (s : ServiceState). IsInTime s.slirp s.link) (sym c.self-in-loop-self.view_is) (before.invariant.connects config at past holds early)));
       calm = c.in-Again.ensures.calm refl;
       young = λ young. c.in-Again.ensures.young (subst AreYoung (sym c.send_again-in-loop-self.ensures.others) (subst (λ (s : ServiceState). AreYoung s.slirp) (sym c.self-in-loop-self.view_is) (before.invariant.young young)));
+      untold = λ none. none_told c.send_again-in-loop-self.new.self.number c.send_again-in-loop-self.new.self new.self.slirp c.in-Again.ensures.marks
+          (subst NoneTold (sym c.send_again-in-loop-self.ensures.others) (subst (λ (s : ServiceState). NoneTold s.slirp) (sym c.self-in-loop-self.view_is) (before.invariant.untold none)));
       on = c.in-Again.ensures.on;
       config = search rules;
       number = search rules;
@@ -105,3 +109,16 @@ returns-in-Ended-clause-young g c young = c.in-Ended.ensures.young (subst AreYou
 pub returns-in-Ended-pump-clause-young : goal.returns-in-Ended-pump-clause-young
 returns-in-Ended-pump-clause-young g c young =
     c.in-Ended-pump.ensures.young (subst AreYoung (sym c.send_again-in-loop-self.ensures.others) (subst (λ (s : ServiceState). AreYoung s.slirp) (sym c.self-in-loop-self.view_is) (c.loop-self.invariant.young young)))
+
+pub returns-clause-untold : goal.returns-clause-untold
+returns-clause-untold g c none =
+    subst NoneTold (sym c.send_again-in-loop-self.ensures.others) (subst (λ (s : ServiceState). NoneTold s.slirp) (sym c.self-in-loop-self.view_is) (c.loop-self.invariant.untold none))
+
+pub returns-in-Ended-clause-untold : goal.returns-in-Ended-clause-untold
+returns-in-Ended-clause-untold g c none =
+    none_told c.send_again.new.self.number c.send_again.new.self c.pump.new.self.slirp c.in-Ended.ensures.marks (subst NoneTold (sym c.send_again.ensures.others) (subst (λ (s : ServiceState). NoneTold s.slirp) (sym c.self.view_is) none))
+
+pub returns-in-Ended-pump-clause-untold : goal.returns-in-Ended-pump-clause-untold
+returns-in-Ended-pump-clause-untold g c none =
+    none_told c.send_again-in-loop-self.new.self.number c.send_again-in-loop-self.new.self c.pump-in-loop-self.new.self.slirp c.in-Ended-pump.ensures.marks
+    (subst NoneTold (sym c.send_again-in-loop-self.ensures.others) (subst (λ (s : ServiceState). NoneTold s.slirp) (sym c.self-in-loop-self.view_is) (c.loop-self.invariant.untold none)))

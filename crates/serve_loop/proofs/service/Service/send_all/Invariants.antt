@@ -7,7 +7,7 @@ use Rattle.stream_netdev.specs.State.{under_way}
 use Rattle.tftp_server.proofs.Turning.{due_count}
 use Rattle.slirp_core.specs.Counts.{AreGrown}
 use Rattle.slirp_core.specs.Holds.{Standing}
-use Rattle.serve_loop.specs.Turns.{AllSent, AreYoung, HoldsNow, IsCalm, IsInTime}
+use Rattle.serve_loop.specs.Turns.{AllSent, AreYoung, HoldsNow, IsCalm, IsInTime, NoneTold}
 use Rattle.serve_loop.proofs.service.Service.send_all.Given as goal
 
 abbrev pub invariant-loop-self : goal.invariant-loop-self
@@ -18,6 +18,7 @@ invariant-loop-self g l = record {
   connects : (config : Config) (at : Standing) (past : List Entry) → HoldsNow config at true l.fn.self.slirp l.fn.self.link past → IsInTime l.fn.self.slirp l.fn.self.link → IsInTime l.self.slirp l.self.link;
   calm : IsCalm l.self.slirp l.self.link;
   young : AreYoung l.fn.self.slirp → AreYoung l.self.slirp;
+  untold : NoneTold l.fn.self.slirp → NoneTold l.self.slirp;
   on : ReadsOn (under_way l.self.link);
   config : l.self.slirp.config ≡ l.fn.self.slirp.config;
   number : l.self.slirp.number ≡ l.fn.self.slirp.number;

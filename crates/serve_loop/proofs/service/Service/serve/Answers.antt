@@ -77,7 +77,7 @@ returns-clause-makes g c =
     let turns = c.self.invariant.0 ∙ ap (λ (s : ServiceState). s.slirp.config.turns) c.self.view_is ∙ ap (λ (k : Config). k.turns) c.in_default.ensures.config in
     let all = subst (λ n. n ≤ c.loop-count._count) turns c.loop-count-test.false in
     let most = c.self-2.invariant.0 ∙ ap (λ (s : ServiceState). s.slirp.config.turns) c.self-2.view_is ∙ ap (λ (k : Config). k.turns) c.loop-count.invariant.config in
-    let ran = makes_as _ _ _ _ c.loop-count.invariant.makes (λ made holds. (spent config c.loop-count._count c.self-2.inside.turns c.loop-count.self made c.requires.some_turns all most holds.0, holds.1)) in
+    let ran = makes_as _ _ _ _ c.loop-count.invariant.makes (λ made holds. (spent config c.loop-count._count c.self-2.inside.turns c.loop-count.self made c.requires.some_turns all most holds.0, holds.1.0)) in
     makes_as _ _ _ _
     (finishes config end slirp.forwards (holders_of slirp) _ _ _
     (subst (λ (s : ServiceState). Makes (g.W.World.tells c.args.world.now) (g.W.World.tells c.loop-count.world) (λ made. Closes config end s.slirp.forwards (holders_of s.slirp) made × Dutiful config made)) (sym c.self-2.view_is) ran)

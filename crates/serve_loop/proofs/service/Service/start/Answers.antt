@@ -12,7 +12,7 @@ use Rattle.run_duties.specs.Duties.{Dutiful}
 use Rattle.serve_loop.specs.Turns.{Closes, HoldsNow, IsCalm}
 use Rattle.serve_loop.proofs.Turning.{none_is_calm}
 use Rattle.serve_loop.specs.declared.service.End.TheVariants.{ListenRefused}
-use Rattle.serve_loop.proofs.Serving.{finishes, none_refused, none_waited, refused, reads_new}
+use Rattle.serve_loop.proofs.Serving.{finishes, none_refused, none_reported, none_waited, refused, reads_new}
 use Rattle.serve_loop.proofs.service.Service.start.Goals as goal
 
 pub returns-in-Some-clause-makes : goal.returns-in-Some-clause-makes
@@ -35,7 +35,7 @@ returns-clause-makes g c =
     (subst (λ (s : ServiceState). Makes (g.W.World.tells c.args.world.now) (g.W.World.tells c.listen.new.world) (Opens config (length config.forwards) s.slirp s.link)) (sym c.self.view_is) c.in_default.ensures.makes)
     c.now-told.ensures
     (λ made opens allowed. subst (λ (s : SlirpState). HoldsNow config (after 0) false s i.link (Now told ∷ made)) (sym c.tell_moment.ensures) (started config i.slirp i.link told made allowed opens)))
-    (λ made holds. (holds, none_waited config 0 false c.tell_moment.new.self i.link made refl holds))
+    (λ made holds. (holds, (none_waited config 0 false c.tell_moment.new.self i.link made refl holds, none_reported config made holds.clock.counted)))
 
 pub returns-clause-on : goal.returns-clause-on
 returns-clause-on g c = subst (λ (l : LinkState). ReadsOn (under_way l)) (sym c.in_default.ensures.link ∙ sym (ap (λ (s : ServiceState). s.link) c.self.view_is)) (reads_new c.args.self.now c.requires)

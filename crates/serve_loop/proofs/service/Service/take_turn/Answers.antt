@@ -52,3 +52,6 @@ wake-requires-clause-young g c = c.in-Again.ensures.young (c.tick.ensures.none, 
 
 pub wake-requires-clause-calm : goal.wake-requires-clause-calm
 wake-requires-clause-calm g c = c.in-Again.ensures.calm refl
+
+pub wake-requires-clause-untold : goal.wake-requires-clause-untold
+wake-requires-clause-untold g c = c.in-Again.ensures.untold c.tick.ensures.unserved

@@ -1,8 +1,8 @@
-use Rattle.std.proofs.Common.{◌+◌, false, refl}
-use Rattle.slirp_core.specs.Holds.{after, holders_of, standing}
+use Rattle.std.proofs.Common.{◌+◌}
+use Rattle.slirp_core.specs.Holds.{holders_of}
 use Rattle.world_face.specs.Frames.{Stopped, WaitFailed}
 use Rattle.world_face.proofs.Telling.{brings_then, brings_as}
-use Rattle.serve_loop.proofs.Turning.{attends_on, ended_as}
+use Rattle.serve_loop.proofs.Turning.{attends_to_reports, ended_as}
 use Rattle.serve_loop.proofs.Counted.{counted_after}
 use Rattle.serve_loop.proofs.service.Service.wake.Goals as goal
 
@@ -10,7 +10,7 @@ pub returns-in-Ready-clause-makes : goal.returns-in-Ready-clause-makes
 returns-in-Ready-clause-makes g c config count few =
     let mid = c.sleep.new in
     brings_then (c.in-Ready.ensures.makes config count few)
-    (attends_on c.work.result config (standing (count + 1) mid.self.wants mid.self.ready) (after (count + 1)) false false mid.self.slirp c.work.new.self.slirp mid.self.link c.work.new.self.link (g.W.World.tells mid.world) (g.W.World.tells c.work.new.world) refl
+    (attends_to_reports c.work.result config (count + 1) mid.self.wants mid.self.ready mid.self.slirp c.work.new.self.slirp mid.self.link c.work.new.self.link (g.W.World.tells mid.world) (g.W.World.tells c.work.new.world)
     (c.work.ensures.makes config (count + 1)))
 
 pub returns-in-Stopped-clause-makes : goal.returns-in-Stopped-clause-makes

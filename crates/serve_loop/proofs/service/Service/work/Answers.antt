@@ -4,12 +4,12 @@ use Rattle.poll_list.specs.declared.Want.{Want}
 use Rattle.poll_list.specs.declared.Who.TheVariants.{Link as TheLink}
 use Rattle.world_face.specs.Tells.{Brings}
 use Rattle.world_face.proofs.Telling.{brings_none, brings_then, brings_as}
-use Rattle.slirp_core.specs.Holds.{standing}
 use Rattle.serve_loop.specs.Served.{ServiceState}
-use Rattle.serve_loop.specs.Turns.{AfterTurn, HoldsNow, IsCalmAfter, is_passed_over}
+use Rattle.serve_loop.specs.Turns.{AfterItem, IsCalmAfter, IsLeftAmong, ServesNow, is_frame_due, is_passed_over, still}
 use Rattle.serve_loop.specs.declared.service.Turn.TheVariants.{Ended}
 use Rattle.serve_loop.proofs.Counted.{end_after, grown_then}
-use Rattle.serve_loop.proofs.Turning.{both_of, calm_at_end, drop_all, ended_left, passed_at, still_reads, weaker}
+use Rattle.serve_loop.proofs.Left.{served_at_end}
+use Rattle.serve_loop.proofs.Turning.{both_of, calm_at_end, drop_all, passed_at, still_reads, weaker}
 use Rattle.serve_loop.proofs.service.Service.work.Goals as goal
 
 pub attend-requires-clause-number : goal.attend-requires-clause-number
@@ -21,7 +21,7 @@ attend-requires-clause-number g c =
 
 pub loop-place-init : goal.loop-place-init
 loop-place-init g c = record {
-  makes = λ config count. brings_none (λ past holds. holds);
+  makes = λ config count. brings_none (λ past now. subst (λ to_read. ServesNow config count c.args.self.now.wants c.args.self.now.ready to_read c.args.self.now.slirp c.args.self.now.link past) (sym c.may_read-to_read.ensures) now);
   reads = λ is. (both_of (reads TheLink c.args.self.now.wants) (reads TheLink c.args.self.now.ready) (sym c.may_read-to_read.ensures ∙ is)).0;
   counts = (omega arith, omega arith, omega arith);
   on = c.requires.on;
@@ -40,10 +40,12 @@ returns-in-Ended-clause-makes g c config count =
     let place = old.place in
     let rest = drop (place + 1) c.args.self.now.ready in
     let next : drop place c.args.self.now.ready ≡ c.item-item.result ∷ rest = subst (λ (l : List Want). drop place l ≡ c.item-item.result ∷ drop (place + 1) l) old.invariant.reports.1 c.item-item.ensures in
-    let served = subst (λ (w : List Want). Brings (g.W.World.tells old.world) (g.W.World.tells c.attend.new.world) (HoldsNow config (standing count w (c.item-item.result ∷ rest)) false old.self.slirp old.self.link) (AfterTurn (Ended c.in-Ended.end) config (standing count w rest) false c.attend.new.self.slirp c.attend.new.self.link)) old.invariant.reports.0
+    let served = subst (λ (w : List Want). Brings (g.W.World.tells old.world) (g.W.World.tells c.attend.new.world) (ServesNow config count w (c.item-item.result ∷ rest) old.to_read old.self.slirp old.self.link)
+    (AfterItem (Ended c.in-Ended.end) config count w rest (still old.to_read c.item-item.result) c.attend.new.self.slirp c.attend.new.self.link)) old.invariant.reports.0
     (c.in-Ended.ensures.makes config count rest (λ is. subst (λ (w : List Want). reads TheLink w ≡ true) (sym old.invariant.reports.0) (old.invariant.reads is))) in
-    let before = subst (λ (l : List Want). Brings (g.W.World.tells c.args.world.now) (g.W.World.tells old.world) (HoldsNow config (standing count wants c.args.self.now.ready) false c.args.self.now.slirp c.args.self.now.link) (HoldsNow config (standing count wants l) false old.self.slirp old.self.link)) next (old.invariant.makes config count) in
-    brings_as (brings_then before served) (λ past ended. ended_left (c.in-Ended.end) config count wants rest false false c.attend.new.self.slirp c.attend.new.self.link past ended)
+    let before = subst (λ (l : List Want). Brings (g.W.World.tells c.args.world.now) (g.W.World.tells old.world) (ServesNow config count wants c.args.self.now.ready (is_frame_due wants c.args.self.now.ready) c.args.self.now.slirp c.args.self.now.link)
+    (ServesNow config count wants l old.to_read old.self.slirp old.self.link)) next (old.invariant.makes config count) in
+    brings_as (brings_then before served) (λ past ended. (ended, tt))
 
 pub returns-in-Ended-clause-faults : goal.returns-in-Ended-clause-faults
 returns-in-Ended-clause-faults g c =
@@ -62,10 +64,13 @@ loop-place-preserved g c =
     (c.in-Again.ensures.calm rest (subst (λ (w : List Want). IsCalmAfter w (c.item-item.result ∷ rest) old.self.slirp old.self.link) (sym old.invariant.reports.0) (subst (λ (l : List Want). IsCalmAfter wants l old.self.slirp old.self.link) next old.invariant.calm)) refl) in
     record {
       makes = λ config count.
-          let served = subst (λ (w : List Want). Brings (g.W.World.tells old.world) (g.W.World.tells new.world) (HoldsNow config (standing count w (c.item-item.result ∷ rest)) false old.self.slirp old.self.link) (HoldsNow config (standing count w rest) false new.self.slirp new.self.link)) old.invariant.reports.0
+          let served = subst (λ (w : List Want). Brings (g.W.World.tells old.world) (g.W.World.tells new.world) (ServesNow config count w (c.item-item.result ∷ rest) old.to_read old.self.slirp old.self.link)
+          (ServesNow config count w rest (still old.to_read c.item-item.result) new.self.slirp new.self.link)) old.invariant.reports.0
           (c.in-Again.ensures.makes config count rest (λ is. subst (λ (w : List Want). reads TheLink w ≡ true) (sym old.invariant.reports.0) (old.invariant.reads is))) in
-          let before = subst (λ (l : List Want). Brings (g.W.World.tells c.args.world.now) (g.W.World.tells old.world) (HoldsNow config (standing count wants c.args.self.now.ready) false c.args.self.now.slirp c.args.self.now.link) (HoldsNow config (standing count wants l) false old.self.slirp old.self.link)) next (old.invariant.makes config count) in
-          brings_then before served;
+          let before = subst (λ (l : List Want). Brings (g.W.World.tells c.args.world.now) (g.W.World.tells old.world) (ServesNow config count wants c.args.self.now.ready (is_frame_due wants c.args.self.now.ready) c.args.self.now.slirp c.args.self.now.link)
+          (ServesNow config count wants l old.to_read old.self.slirp old.self.link)) next (old.invariant.makes config count) in
+          subst (λ to_read. Brings (g.W.World.tells c.args.world.now) (g.W.World.tells new.world) (ServesNow config count wants c.args.self.now.ready (is_frame_due wants c.args.self.now.ready) c.args.self.now.slirp c.args.self.now.link)
+          (ServesNow config count wants rest to_read new.self.slirp new.self.link)) (sym c.still-to_read.ensures) (brings_then before served);
       reads = λ is. old.invariant.reads (still_reads old.to_read c.item-item.result (sym c.still-to_read.ensures ∙ is));
       counts = grown_then (g.W.World.tells c.args.world.now).faults (g.W.World.tells old.world).faults (g.W.World.tells new.world).faults old.invariant.counts c.in-Again.ensures.faults;
       on = c.in-Again.ensures.on;
@@ -85,7 +90,12 @@ loop-place-preserved g c =
 pub returns-clause-makes : goal.returns-clause-makes
 returns-clause-makes g c config count =
     let old = c.loop-place in
-    brings_as (old.invariant.makes config count) (λ past holds. weaker config count c.args.self.now.wants (drop old.place c.args.self.now.ready) false old.self.slirp old.self.link past holds)
+    let wants = c.args.self.now.wants in
+    let none = drop_all c.args.self.now.ready old.place (let many = ap length c.items-count.ensures ∙ ap (λ (s : ServiceState). length s.ready) c.self.view_is in omega (arith, c.loop-place-test.false, many)) in
+    brings_as (old.invariant.makes config count) (λ past now. (
+      weaker config count wants (drop old.place c.args.self.now.ready) false old.self.slirp old.self.link past now.holds,
+      served_at_end config wants old.to_read old.self.slirp past (subst (λ l. IsLeftAmong config wants l old.to_read old.self.slirp past) none now.left),
+    ))
 
 pub returns-in-Ended-clause-passed : goal.returns-in-Ended-clause-passed
 returns-in-Ended-clause-passed g c all =

@@ -4,6 +4,8 @@ use Rattle.host_policy.specs.Ranges.{same_proto}
 use Rattle.host_policy.specs.declared.Proto.TheVariants.{Tcp}
 use Rattle.slirp_core.specs.Forwards.{is_over}
 use Rattle.std.proofs.lemmas.Bool.Decides.{nat_tests}
+use Rattle.net_octets.specs.declared.Endpoint.{Endpoint}
+use Rattle.poll_list.specs.declared.Who.TheVariants.{Listener as AListener}
 use Rattle.world_face.specs.Journal.{Accept, AreAllowed, Entry}
 use Rattle.world_face.specs.declared.Accepted.TheVariants.{From}
 use Rattle.world_face.specs.Tells.{Answers, Brings}
@@ -12,20 +14,45 @@ use Rattle.host_policy.specs.Addresses.{Config}
 use Rattle.core_flows.specs.Seats.{in_use_slots}
 use Rattle.record_flows.specs.Book.{book, is_refused}
 use Rattle.spliced_flows.specs.Core.{CoreHolds}
+use Rattle.run_duties.specs.Serving.{is_left_to_read}
 use Rattle.slirp_core.specs.Holds.{Holds, flowing, standing}
 use Rattle.slirp_core.specs.State.{SlirpState}
 use Rattle.slirp_core.specs.Visits.{AsksForPeer, ClosesOne, Treats}
 use Rattle.slirp_core.proofs.Associating.{passes_over}
 use Rattle.slirp_core.proofs.Counted.{grown}
+use Rattle.slirp_core.proofs.Served.{peer_is_read, unawaited_is_unread}
 use Rattle.slirp_core.proofs.Telling.{brings_allowed}
 use Rattle.slirp_core.proofs.Visiting.{passed_by, treated}
+use Rattle.slirp_core.proofs.Marking.{marks_same}
 use Rattle.slirp_core.proofs.network.Slirp.accept.Goals as goal
 
+-- where a test fails none is awaited
+no_room : (a b : Bool) → a ≡ false → (a && b) ≡ false
+no_room true b is = cc
+no_room false b is = refl
+
+none_there : (a b : Bool) → b ≡ false → (a && b) ≡ false
+none_there true b is = is
+none_there false b is = refl
+
 pub returns-then-not-has_room-clause-makes : goal.returns-then-not-has_room-clause-makes
-returns-then-not-has_room-clause-makes g c config count wants item items link reads_it = brings_none (λ past holds. passes_over config count wants item items c.args.self.now (flowing false c.args.self.now.flows) link past holds)
+returns-then-not-has_room-clause-makes g c config count wants item items link reads_it =
+    let full = c.if-not-has_room.ensures in
+    brings_none (λ past holds. (
+      passes_over config count wants item items c.args.self.now (flowing false c.args.self.now.flows) link past holds,
+      unawaited_is_unread config (standing count wants (item ∷ items)) c.args.self.now (flowing false c.args.self.now.flows) link past holds refl c.args.listener
+          (no_room (nat_lt (in_use_slots c.args.self.now.flows.flows.table.slots) (length c.args.self.now.flows.flows.table.slots)) (option_map_or (is_over Tcp) (slice_get c.args.self.now.forwards c.args.listener) false)
+          (subst (λ (s : SlirpState). nat_lt (in_use_slots s.flows.flows.table.slots) (length s.flows.flows.table.slots) ≡ false) c.self.view_is (sym full))),
+    ))
 
 pub returns-in_default-clause-makes : goal.returns-in_default-clause-makes
-returns-in_default-clause-makes g c config count wants item items link reads_it = brings_none (λ past holds. passes_over config count wants item items c.args.self.now (flowing false c.args.self.now.flows) link past holds)
+returns-in_default-clause-makes g c config count wants item items link reads_it =
+    let none = subst (λ (s : SlirpState). slice_get s.forwards c.args.listener ≡ None) c.self.view_is (sym c.at.ensures ∙ c.in_default.is) in
+    brings_none (λ past holds. (
+      passes_over config count wants item items c.args.self.now (flowing false c.args.self.now.flows) link past holds,
+      unawaited_is_unread config (standing count wants (item ∷ items)) c.args.self.now (flowing false c.args.self.now.flows) link past holds refl c.args.listener
+          (none_there (nat_lt (in_use_slots c.args.self.now.flows.flows.table.slots) (length c.args.self.now.flows.flows.table.slots)) (option_map_or (is_over Tcp) (slice_get c.args.self.now.forwards c.args.listener) false) (ap (λ o. option_map_or (is_over Tcp) o false) none)),
+    ))
 
 pub returns-in-NotYet : goal.returns-in-NotYet
 returns-in-NotYet g c =
@@ -35,14 +62,21 @@ returns-in-NotYet g c =
     let room : in_use_slots i.flows.flows.table.slots < length i.flows.flows.table.slots = grind (arith, nat_tests, room_is) in
     record {
       makes = λ config count wants item items link reads_it.
-          subst (λ (s : SlirpState). Brings (g.W.World.tells c.args.world.now) (g.W.World.tells c.accept.new.self) (Holds config (standing count wants (item ∷ items)) s (flowing false s.flows) link) (Holds config (standing count wants items) s (flowing false s.flows) link)) c.self.view_is
+          subst (λ (s : SlirpState). Brings (g.W.World.tells c.args.world.now) (g.W.World.tells c.accept.new.self) (Holds config (standing count wants (item ∷ items)) s (flowing false s.flows) link)
+          (λ past. Holds config (standing count wants items) s (flowing false s.flows) link past × (is_left_to_read config past (AListener c.args.listener) ≡ false))) c.self.view_is
           (passed_by _ _ config count wants item items c.args.listener reads_it slirp link room c.in-Some.forward c.in-Some.field-0-1 (sym c.at.ensures ∙ c.in-Some.is) c.in-Tcp.is c.accept.result c.in-NotYet.is c.accept.ensures);
       asks = λ awaited. makes_one _ _ _ _ (subst (λ (s : SlirpState). Answers (g.W.World.tells c.args.world.now) (g.W.World.tells c.accept.new.self) (Accept c.args.listener s.number c.accept.result)) c.self.view_is c.accept.ensures) (λ allowed. (c.accept.result, false, refl));
       counts = grown _ _ _ c.accept.ensures.counted;
       number = omega arith;
       turn = refl;
+      marks = marks_same c.args.self.now.number c.args.self.now.flows;
       others = refl;
     }
+
+-- a peer came, and was treated so
+abbrev HasTreated : Config → Endpoint → Endpoint → (old new : SlirpState) → List Entry → Type 0
+HasTreated k guest peer old new made =
+    (config : Config) (now : ℕ) (aged : Bool) (past : List Entry) → CoreHolds config now aged None old.flows.flows past → k ≡ config → Treats (is_refused config guest peer (book config past)) guest peer old new made
 
 pub returns-in-From-clause-makes : goal.returns-in-From-clause-makes
 returns-in-From-clause-makes g c config count wants item items link reads_it =
@@ -55,15 +89,18 @@ returns-in-From-clause-makes g c config count wants item items link reads_it =
     let came : Entry = Accept c.args.listener slirp.number (From peer) in
     brings_allowed
     (makes_then _ _ _ (λ made. made ≡ came ∷ []) _
-    (λ es. (made : List Entry) × (es ≡ made ++ came ∷ [])
-    × ((config : Config) (now : ℕ) (aged : Bool) (past : List Entry) → CoreHolds config now aged None slirp.flows.flows past → slirp.config ≡ config → Treats (is_refused config forward.guest peer (book config past)) forward.guest peer slirp new made))
+    (λ es. (made : List Entry) × (es ≡ made ++ came ∷ []) × HasTreated slirp.config forward.guest peer slirp new made)
     (makes_one _ _ _ _ (subst (λ (s : SlirpState). Answers (g.W.World.tells c.args.world.now) (g.W.World.tells c.accept.new.self) (Accept c.args.listener s.number (From peer))) c.self.view_is c.in-From.ensures) (λ allowed. refl)) c.welcome.ensures.treats
     (λ made more one treats. (more, ap (λ l. more ++ l) one, treats)))
     (λ es (made, is, treats) allowed past holds.
+    let then_is : Holds config (standing count wants items) new (flowing false new.flows) link (es ++ past) =
     subst (λ l. Holds config (standing count wants items) new (flowing false new.flows) link (l ++ past)) (sym is)
     (treated config count wants item items c.args.listener reads_it slirp link past holds (subst (λ (s : SlirpState). in_use_slots s.flows.flows.table.slots < length s.flows.flows.table.slots) c.self.view_is room)
     forward c.in-Some.field-0-1 (subst (λ (s : SlirpState). slice_get s.forwards c.args.listener ≡ Some (forward, c.in-Some.field-0-1)) c.self.view_is (sym c.at.ensures ∙ c.in-Some.is)) c.in-Tcp.is peer new made (subst AreAllowed is allowed) c.welcome.ensures.others
-    (treats config slirp.moment false past holds.flows.holds holds.guests.settings)))
+    (treats config slirp.moment false past holds.flows.holds holds.guests.settings)) in (
+      then_is,
+      peer_is_read config count wants item items slirp new (flowing false slirp.flows) (flowing false new.flows) link link past es holds then_is c.args.listener slirp.number (From peer) made is,
+    ))
 
 pub returns-in-From-clause-counts : goal.returns-in-From-clause-counts
 returns-in-From-clause-counts g c =
@@ -72,36 +109,33 @@ returns-in-From-clause-counts g c =
     (omega (arith, first.0, then_is.0), omega (arith, first.1, then_is.1), omega (arith, first.2, then_is.2))
 
 pub returns-in-Udp-clause-makes : goal.returns-in-Udp-clause-makes
-returns-in-Udp-clause-makes g c config count wants item items link reads_it = brings_none (λ past holds. passes_over config count wants item items c.args.self.now (flowing false c.args.self.now.flows) link past holds)
-
--- where a test fails none is awaited
-none_awaited : (a b : Bool) → a ≡ false → (a && b) ≡ true → false ≡ true
-none_awaited true b is awaited = sym is ∙ refl
-none_awaited false b is awaited = awaited
-
-not_here : (a b : Bool) → b ≡ false → (a && b) ≡ true → false ≡ true
-not_here true b is awaited = sym is ∙ awaited
-not_here false b is awaited = awaited
+returns-in-Udp-clause-makes g c config count wants item items link reads_it =
+    let some = subst (λ (s : SlirpState). slice_get s.forwards c.args.listener ≡ Some (c.in-Some.forward, c.in-Some.field-0-1)) c.self.view_is (sym c.at.ensures ∙ c.in-Some.is) in
+    brings_none (λ past holds. (
+      passes_over config count wants item items c.args.self.now (flowing false c.args.self.now.flows) link past holds,
+      unawaited_is_unread config (standing count wants (item ∷ items)) c.args.self.now (flowing false c.args.self.now.flows) link past holds refl c.args.listener
+          (none_there (nat_lt (in_use_slots c.args.self.now.flows.flows.table.slots) (length c.args.self.now.flows.flows.table.slots)) (option_map_or (is_over Tcp) (slice_get c.args.self.now.forwards c.args.listener) false) (ap (λ o. option_map_or (is_over Tcp) o false) some ∙ ap (same_proto Tcp) c.in-Udp.is)),
+    ))
 
 pub returns-then-not-has_room-clause-asks : goal.returns-then-not-has_room-clause-asks
 returns-then-not-has_room-clause-asks g c awaited =
     let full = c.if-not-has_room.ensures in
-    let never : false ≡ true = none_awaited (nat_lt (in_use_slots c.args.self.now.flows.flows.table.slots) (length c.args.self.now.flows.flows.table.slots)) (option_map_or (is_over Tcp) (slice_get c.args.self.now.forwards c.args.listener) false)
-    (subst (λ (s : SlirpState). nat_lt (in_use_slots s.flows.flows.table.slots) (length s.flows.flows.table.slots) ≡ false) c.self.view_is (sym full)) awaited in
+    let never : false ≡ true = sym (no_room (nat_lt (in_use_slots c.args.self.now.flows.flows.table.slots) (length c.args.self.now.flows.flows.table.slots)) (option_map_or (is_over Tcp) (slice_get c.args.self.now.forwards c.args.listener) false)
+    (subst (λ (s : SlirpState). nat_lt (in_use_slots s.flows.flows.table.slots) (length s.flows.flows.table.slots) ≡ false) c.self.view_is (sym full))) ∙ awaited in
     absurd cc
 
 pub returns-in_default-clause-asks : goal.returns-in_default-clause-asks
 returns-in_default-clause-asks g c awaited =
     let none = subst (λ (s : SlirpState). slice_get s.forwards c.args.listener ≡ None) c.self.view_is (sym c.at.ensures ∙ c.in_default.is) in
-    let never : false ≡ true = not_here (nat_lt (in_use_slots c.args.self.now.flows.flows.table.slots) (length c.args.self.now.flows.flows.table.slots)) (option_map_or (is_over Tcp) (slice_get c.args.self.now.forwards c.args.listener) false)
-    (ap (λ o. option_map_or (is_over Tcp) o false) none) awaited in
+    let never : false ≡ true = sym (none_there (nat_lt (in_use_slots c.args.self.now.flows.flows.table.slots) (length c.args.self.now.flows.flows.table.slots)) (option_map_or (is_over Tcp) (slice_get c.args.self.now.forwards c.args.listener) false)
+    (ap (λ o. option_map_or (is_over Tcp) o false) none)) ∙ awaited in
     absurd cc
 
 pub returns-in-Udp-clause-asks : goal.returns-in-Udp-clause-asks
 returns-in-Udp-clause-asks g c awaited =
     let some = subst (λ (s : SlirpState). slice_get s.forwards c.args.listener ≡ Some (c.in-Some.forward, c.in-Some.field-0-1)) c.self.view_is (sym c.at.ensures ∙ c.in-Some.is) in
-    let never : false ≡ true = not_here (nat_lt (in_use_slots c.args.self.now.flows.flows.table.slots) (length c.args.self.now.flows.flows.table.slots)) (option_map_or (is_over Tcp) (slice_get c.args.self.now.forwards c.args.listener) false)
-    (ap (λ o. option_map_or (is_over Tcp) o false) some ∙ ap (same_proto Tcp) c.in-Udp.is) awaited in
+    let never : false ≡ true = sym (none_there (nat_lt (in_use_slots c.args.self.now.flows.flows.table.slots) (length c.args.self.now.flows.flows.table.slots)) (option_map_or (is_over Tcp) (slice_get c.args.self.now.forwards c.args.listener) false)
+    (ap (λ o. option_map_or (is_over Tcp) o false) some ∙ ap (same_proto Tcp) c.in-Udp.is)) ∙ awaited in
     absurd cc
 
 pub returns-in-From-clause-asks : goal.returns-in-From-clause-asks
@@ -110,3 +144,12 @@ returns-in-From-clause-asks g c awaited =
     makes_then _ _ _ (λ made. made ≡ Accept c.args.listener slirp.number (From c.in-From.peer) ∷ []) (ClosesOne slirp.number) (AsksForPeer c.args.listener slirp.number)
     (makes_one _ _ _ _ (subst (λ (s : SlirpState). Answers (g.W.World.tells c.args.world.now) (g.W.World.tells c.accept.new.self) (Accept c.args.listener s.number (From c.in-From.peer))) c.self.view_is c.in-From.ensures) (λ allowed. refl)) c.welcome.ensures.closes
     (λ one more is (closed, closes). (From c.in-From.peer, closed, λ i. closes i ++ is i))
+
+pub returns-then-not-has_room-clause-marks : goal.returns-then-not-has_room-clause-marks
+returns-then-not-has_room-clause-marks g c = marks_same c.args.self.now.number c.args.self.now.flows
+
+pub returns-in_default-clause-marks : goal.returns-in_default-clause-marks
+returns-in_default-clause-marks g c = marks_same c.args.self.now.number c.args.self.now.flows
+
+pub returns-in-Udp-clause-marks : goal.returns-in-Udp-clause-marks
+returns-in-Udp-clause-marks g c = marks_same c.args.self.now.number c.args.self.now.flows

@@ -1,4 +1,4 @@
-use Rattle.std.proofs.Common.{[], ◌≡◌, ◌∙◌, ℕ, None, true, ap, refl, sym, subst}
+use Rattle.std.proofs.Common.{[], ◌≡◌, ◌∙◌, ℕ, None, true, ap, refl, sym, subst, arith}
 use Rattle.world_face.proofs.Counting.{rose_after}
 use Rattle.world_face.proofs.Telling.{brings_none, brings_then}
 use Rattle.std.specs.Prelude.{false}
@@ -12,6 +12,8 @@ use Rattle.slirp_core.specs.declared.sending.Pumped.{Pumped}
 use Rattle.slirp_core.proofs.Counted.{grown}
 use Rattle.slirp_core.proofs.Connecting.{connect_then}
 use Rattle.slirp_core.proofs.Settling.{pumped_settled}
+use Rattle.slirp_core.specs.Marks.{KeepsMarks}
+use Rattle.slirp_core.proofs.Marking.{marks_stay, marks_then}
 use Rattle.slirp_core.proofs.network.Slirp.pump.Goals as goal
 
 pub returns-in-Clear-clause-makes : goal.returns-in-Clear-clause-makes
@@ -99,3 +101,28 @@ returns-in-Blocked-clause-connects g c config at aged past holds =
 pub returns-in-Failed-clause-connects : goal.returns-in-Failed-clause-connects
 returns-in-Failed-clause-connects g c config at aged past holds =
     subst (λ (k : Kept). ConnectYet c.args.self.now.flows.flows.parts k.flows.parts) (sym (ap (λ (s : SlirpState). s.flows) c.in-Failed.ensures.others)) c.tell_addresses.ensures.connects
+
+-- the marks stay as they were
+pub returns-in-Clear-clause-marks : goal.returns-in-Clear-clause-marks
+returns-in-Clear-clause-marks g c =
+    let old : SlirpState = c.args.self.now in
+    let told : SlirpState = c.tell_addresses.new.self in
+    let mid : SlirpState = c.pump_answers.new.self in
+    let same = c.in-Clear.ensures.others in
+    let number : mid.number ≡ old.number = ap (λ (s : SlirpState). s.number) same ∙ ap (λ (s : SlirpState). s.number) c.tell_addresses.ensures.same in
+    marks_then old.number mid.number old.flows mid.flows c.pump_flows.new.self.flows (omega (arith, number))
+    (subst (λ (k : Kept). KeepsMarks old.number old.flows k) (sym (ap (λ (s : SlirpState). s.flows) same))
+    (marks_stay old.number old.flows told.flows c.tell_addresses.ensures.served c.tell_addresses.ensures.turn c.tell_addresses.ensures.stays))
+    c.pump_flows.ensures.marks
+
+pub returns-in-Blocked-clause-marks : goal.returns-in-Blocked-clause-marks
+returns-in-Blocked-clause-marks g c =
+    let old : SlirpState = c.args.self.now in
+    subst (λ (k : Kept). KeepsMarks old.number old.flows k) (sym (ap (λ (s : SlirpState). s.flows) c.in-Blocked.ensures.others))
+    (marks_stay old.number old.flows c.tell_addresses.new.self.flows c.tell_addresses.ensures.served c.tell_addresses.ensures.turn c.tell_addresses.ensures.stays)
+
+pub returns-in-Failed-clause-marks : goal.returns-in-Failed-clause-marks
+returns-in-Failed-clause-marks g c =
+    let old : SlirpState = c.args.self.now in
+    subst (λ (k : Kept). KeepsMarks old.number old.flows k) (sym (ap (λ (s : SlirpState). s.flows) c.in-Failed.ensures.others))
+    (marks_stay old.number old.flows c.tell_addresses.new.self.flows c.tell_addresses.ensures.served c.tell_addresses.ensures.turn c.tell_addresses.ensures.stays)

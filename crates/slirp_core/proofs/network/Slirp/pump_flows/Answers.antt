@@ -1,6 +1,7 @@
 use Rattle.std.proofs.Common.{None, sym, ◌∙◌, ap, subst}
 use Rattle.world_face.specs.Tells.{Brings}
 use Rattle.spliced_flows.specs.Core.{CoreHolds}
+use Rattle.tcp_flows.specs.Kept.{Kept}
 use Rattle.tcp_flows.specs.Reading.{AreTold}
 use Rattle.tcp_flows.specs.Settled.{ConnectYet, IsInTime}
 use Rattle.slirp_core.specs.Holds.{AfterPump, Holds, flowing}
@@ -9,6 +10,8 @@ use Rattle.slirp_core.specs.State.{SlirpState}
 use Rattle.slirp_core.proofs.Called.{after_put, pumped_so}
 use Rattle.slirp_core.proofs.Drawn.{drawn_stay}
 use Rattle.slirp_core.proofs.Telling.{brings_allowed}
+use Rattle.slirp_core.specs.Marks.{KeepsMarks}
+use Rattle.slirp_core.proofs.Marking.{marks_stay}
 use Rattle.slirp_core.proofs.network.Slirp.pump_flows.Goals as goal
 
 pub returns-clause-makes : goal.returns-clause-makes
@@ -44,3 +47,10 @@ returns-clause-connects g c config aged past holds =
     let view = c.self.view_is in
     subst (λ (s : SlirpState). ConnectYet s.flows.flows.parts c.pump-pumped.new.self.flows.parts) view
     (c.pump-pumped.ensures.connects config aged past (subst (λ (s : SlirpState). CoreHolds config s.moment aged None s.flows.flows past) (sym view) holds))
+
+pub returns-clause-marks : goal.returns-clause-marks
+returns-clause-marks g c =
+    let i = c.self.inside in
+    let same = c.pump-pumped.ensures.same in
+    subst (λ (s : SlirpState). KeepsMarks s.number s.flows c.pump-pumped.new.self) c.self.view_is
+    (marks_stay i.number i.flows c.pump-pumped.new.self (ap (λ (k : Kept). k.served) same) (ap (λ (k : Kept). k.turn) same) c.pump-pumped.ensures.stays)

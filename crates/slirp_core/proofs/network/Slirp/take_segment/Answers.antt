@@ -8,6 +8,7 @@ use Rattle.slirp_laws.specs.Answers.{frames_of, reset_for}
 use Rattle.udp_assoc.proofs.Below.{below_up}
 use Rattle.core_flows.specs.Seats.{in_use_slots}
 use Rattle.spliced_flows.specs.Stands.{lot_without}
+use Rattle.tcp_flows.specs.Kept.{Kept}
 use Rattle.tcp_flows.specs.Runs.{Hears}
 use Rattle.tcp_flows.specs.declared.guest.Heard.TheVariants.{Alone}
 use Rattle.slirp_core.specs.Holds.{Comes, Holds, flowing}
@@ -17,6 +18,8 @@ use Rattle.slirp_core.proofs.Called.{flows_put}
 use Rattle.slirp_core.proofs.Drawn.{asked_up, drawn_begun, drawn_stay, drawn_up}
 use Rattle.slirp_core.proofs.Hearing.{alone_dropped, alone_reset, connected, heard_strange, asks_for_room, heard_taken, none_made, unconnected_then}
 use Rattle.slirp_core.proofs.Telling.{brings_allowed}
+use Rattle.slirp_core.specs.Marks.{KeepsMarks}
+use Rattle.slirp_core.proofs.Marking.{marks_begun, marks_stay, marks_then}
 use Rattle.slirp_core.proofs.network.Slirp.take_segment.Goals as goal
 
 -- its flow took it
@@ -158,3 +161,46 @@ invariant_of-self-in-Done g c =
       asked_up i.number (i.number + 1) i.policy i.questions (omega arith) c.self.invariant.6,
       c.self.invariant.7,
     )
+
+-- ---- the marks, and the numbers in the slots
+
+pub returns-in-Taken-clause-marks : goal.returns-in-Taken-clause-marks
+returns-in-Taken-clause-marks g c =
+    let i = c.self.inside in
+    subst (λ (s : SlirpState). KeepsMarks s.number s.flows c.segment.new.self) c.self.view_is
+    (marks_stay i.number i.flows c.segment.new.self c.in-Taken.ensures.served c.in-Taken.ensures.turn c.in-Taken.ensures.stays)
+
+pub returns-in-Strange-clause-marks : goal.returns-in-Strange-clause-marks
+returns-in-Strange-clause-marks g c =
+    let i = c.self.inside in
+    subst (λ (s : SlirpState). KeepsMarks s.number s.flows c.turn_away.new.self.flows) c.self.view_is
+    (subst (λ (k : Kept). KeepsMarks i.number i.flows k) (sym (ap (λ (s : SlirpState). s.flows) c.turn_away.ensures))
+    (marks_stay i.number i.flows c.segment.new.self c.in-Strange.ensures.served c.in-Strange.ensures.turn c.in-Strange.ensures.stays))
+
+pub returns-in-Dropped-clause-marks : goal.returns-in-Dropped-clause-marks
+returns-in-Dropped-clause-marks g c =
+    let i = c.self.inside in
+    subst (λ (s : SlirpState). KeepsMarks s.number s.flows c.segment.new.self) c.self.view_is
+    (marks_stay i.number i.flows c.segment.new.self c.in-Alone.ensures.served c.in-Alone.ensures.turn c.in-Alone.ensures.stays)
+
+pub returns-in-Reset-clause-marks : goal.returns-in-Reset-clause-marks
+returns-in-Reset-clause-marks g c =
+    let i = c.self.inside in
+    subst (λ (s : SlirpState). KeepsMarks s.number s.flows c.turn_away-in-Reset.new.self.flows) c.self.view_is
+    (subst (λ (k : Kept). KeepsMarks i.number i.flows k) (sym (ap (λ (s : SlirpState). s.flows) c.turn_away-in-Reset.ensures))
+    (marks_stay i.number i.flows c.segment.new.self c.in-Alone.ensures.served c.in-Alone.ensures.turn c.in-Alone.ensures.stays))
+
+pub returns-in-Done-clause-marks : goal.returns-in-Done-clause-marks
+returns-in-Done-clause-marks g c =
+    let i = c.self.inside in
+    subst (λ (s : SlirpState). KeepsMarks s.number s.flows c.begin.new.self) c.self.view_is
+    (marks_then i.number i.number i.flows c.segment.new.self c.begin.new.self (omega arith)
+    (marks_stay i.number i.flows c.segment.new.self c.in-Alone.ensures.served c.in-Alone.ensures.turn c.in-Alone.ensures.stays)
+    (marks_begun i.number c.segment.new.self c.begin.new.self c.begin.ensures.served c.begin.ensures.turn c.begin.ensures.numbers))
+
+pub returns-in-Failed-clause-marks : goal.returns-in-Failed-clause-marks
+returns-in-Failed-clause-marks g c =
+    let i = c.self.inside in
+    subst (λ (s : SlirpState). KeepsMarks s.number s.flows c.turn_away-in-Failed.new.self.flows) c.self.view_is
+    (subst (λ (k : Kept). KeepsMarks i.number i.flows k) (sym (ap (λ (s : SlirpState). s.flows) c.turn_away-in-Failed.ensures))
+    (marks_stay i.number i.flows c.segment.new.self c.in-Alone.ensures.served c.in-Alone.ensures.turn c.in-Alone.ensures.stays))

@@ -1,4 +1,5 @@
 use Rattle.std.proofs.Common.{subst, sym}
+use Rattle.tcp_flows.specs.Reading.{Stays}
 use Rattle.tcp_flows.specs.Settled.{ConnectYet, IsInTime, OwesNoAck}
 use Rattle.slirp_core.specs.Holds.{Holds, flowing}
 use Rattle.slirp_core.specs.State.{SlirpState}
@@ -30,3 +31,6 @@ pub returns-clause-connects : goal.returns-clause-connects
 returns-clause-connects c =
     subst (λ (s : SlirpState). ConnectYet s.flows.flows.parts c.learn.new.self.flows.parts) c.self.view_is
     (learnt_connects c.self.inside.guests c.self.inside.flows.flows.parts c.learn.new.self.flows.parts c.learn.ensures.learnt)
+
+pub returns-clause-stays : goal.returns-clause-stays
+returns-clause-stays c = subst (λ (s : SlirpState). Stays s.flows c.learn.new.self) c.self.view_is c.learn.ensures.stays

@@ -10,6 +10,8 @@ use Rattle.tcp_flows.specs.Runs.{Welcomes}
 use Rattle.slirp_core.specs.State.{SlirpState}
 use Rattle.slirp_core.proofs.Drawn.{asked_up, drawn_up}
 use Rattle.slirp_core.proofs.Visiting.{treats_refused, treats_welcome}
+use Rattle.slirp_core.specs.Marks.{KeepsMarks}
+use Rattle.slirp_core.proofs.Marking.{marks_begun, marks_same}
 use Rattle.slirp_core.proofs.network.Slirp.welcome.Goals as goal
 
 pub returns-in_default-clause-treats : goal.returns-in_default-clause-treats
@@ -52,3 +54,12 @@ returns-in_default-clause-closes g c = makes_one _ _ _ _ c.close.ensures (λ all
 
 pub returns-clause-closes : goal.returns-clause-closes
 returns-clause-closes g c = makes_none _ _ (false, refl)
+
+pub returns-in_default-clause-marks : goal.returns-in_default-clause-marks
+returns-in_default-clause-marks g c = let i = c.self.inside in subst (λ (s : SlirpState). KeepsMarks s.number s.flows i.flows) c.self.view_is (marks_same i.number i.flows)
+
+pub returns-clause-marks : goal.returns-clause-marks
+returns-clause-marks g c =
+    let i = c.self.inside in
+    subst (λ (s : SlirpState). KeepsMarks s.number s.flows c.accept.new.self) c.self.view_is
+    (marks_begun i.number i.flows c.accept.new.self c.accept.ensures.served c.accept.ensures.turn c.accept.ensures.numbers)

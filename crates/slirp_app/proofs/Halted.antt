@@ -1,0 +1,72 @@
+-- No call may follow a finished run that an entry ended or whose port the host refused, and none that ended is followed by a wait.
+use Rattle.std.proofs.Common.{◌≡◌, ℕ, ◌&&◌, ◌||◌, Bool, true, false, cond, is_some, List, [], ◌∷◌, refl, ◌∙◌, ap, subst}
+use Rattle.host_policy.specs.Addresses.{Config}
+use Rattle.run_duties.proofs.Ended.{ended_yet}
+use Rattle.run_laws.specs.Moments.{waits}
+use Rattle.run_laws.specs.Shape.{Phase, Opening, Started, Woken, Working, Over, is_ended, is_over, is_working, may_turn, phase}
+use Rattle.run_laws.specs.Sockets.{is_among, open_sockets}
+use Rattle.slirp_laws.specs.Laws.{Deed, Asks, Waits, Reads, Writes, Opens, Sends, Hears, Connects, Accepts, Looks, Gives, Ends, Takes, Shuts, Seeks, Unbuilt, Finished, Lawful, May, deed_of, due, has_place, has_socket, is_closing, is_least, parts}
+use Rattle.slirp_laws.proofs.Bools.{first_of}
+use Rattle.slirp_app.proofs.Copied.{later_than, onto}
+use Rattle.std.specs.Prelude.{nat_lt}
+use Rattle.world_face.proofs.Following.{follows_before}
+use Rattle.world_face.specs.Journal.{Call, Entry, call_of}
+
+not_both : (b : Bool) → b ≡ false → b ≡ true → ⊥
+not_both true is_not is = cc
+not_both false is_not is = cc
+
+turns_no_more : (p : Phase) → is_over p ≡ true → may_turn p ≡ false
+turns_no_more (Opening opened forwards) over = cc
+turns_no_more Started over = cc
+turns_no_more Woken over = refl
+turns_no_more Working over = cc
+turns_no_more (Over cause) over = refl
+
+works_no_more : (p : Phase) → is_over p ≡ true → is_working p ≡ false
+works_no_more (Opening opened forwards) over = refl
+works_no_more Started over = refl
+works_no_more Woken over = refl
+works_no_more Working over = cc
+works_no_more (Over cause) over = refl
+
+module _ (config : Config) (past : List Entry) (finished : Finished config past) (over : is_over (phase config past) ≡ true) where
+  none_due : is_some (due config past) ≡ true → ⊥
+  none_due some = not_both (is_some (due config past)) (ap is_some finished.none_due) some
+
+  no_work : is_working (phase config past) ≡ true → ⊥
+  no_work works = not_both (is_working (phase config past)) (works_no_more (phase config past) over) works
+
+  no_turn : (may_turn (phase config past) && nat_lt (waits past) config.turns) ≡ true → ⊥
+  no_turn turns = not_both (may_turn (phase config past)) (turns_no_more (phase config past) over) (first_of (may_turn (phase config past)) (nat_lt (waits past) config.turns) turns)
+
+  none_open : (socket : ℕ) (b : Bool) → (is_among socket (open_sockets past) && b) ≡ true → ⊥
+  none_open socket b may = not_both (is_among socket (open_sockets past)) (ap (is_among socket) finished.closed) (first_of (is_among socket (open_sockets past)) b may)
+
+  no_deed : (deed : Deed) → has_place config past deed ≡ true → has_socket config past deed ≡ true → ⊥
+  no_deed Asks place socket_is = none_due place
+  no_deed Waits place socket_is = no_turn place
+  no_deed Reads place socket_is = no_work place
+  no_deed (Writes octets) place socket_is = no_work place
+  no_deed (Opens socket) place socket_is = none_due place
+  no_deed (Sends socket) place socket_is = none_due place
+  no_deed (Hears socket asked) place socket_is = no_work place
+  no_deed (Connects socket) place socket_is = none_due place
+  no_deed (Accepts listener socket) place socket_is = no_work place
+  no_deed (Looks socket) place socket_is = no_work place
+  no_deed (Gives socket) place socket_is = no_work place
+  no_deed (Ends socket) place socket_is = no_work place
+  no_deed (Takes socket) place socket_is = no_work place
+  no_deed (Shuts socket) place socket_is = none_open socket (cond (is_closing config past) (is_least socket (open_sockets past)) (parts config past socket || (is_ended config past && is_least socket (open_sockets past)))) socket_is
+  no_deed Seeks place socket_is = none_due place
+  no_deed Unbuilt place socket_is = cc
+
+  pub no_more : (call : Call) → May config past call → ⊥
+  no_more call may = no_deed (deed_of call) may.place may.socket
+
+  pub nothing_later : (back : List Entry) → Lawful config (onto back past) → back ≡ []
+  nothing_later [] lawful = refl
+  nothing_later (e ∷ back) lawful = absurd (no_more (call_of e) (follows_before (May config) (onto back []) (e ∷ past) (subst (Lawful config) (later_than back (e ∷ past)) lawful)).0)
+
+pub waits_no_more : (config : Config) (back past : List Entry) → Lawful config (onto back past) → is_ended config past ≡ true → waits (onto back past) ≡ waits past
+waits_no_more config back past lawful ended = ap waits (later_than back past) ∙ (ended_yet config (onto back []) past (subst (Lawful config) (later_than back past) lawful) ended).1
