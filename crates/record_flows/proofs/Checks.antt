@@ -1,21 +1,24 @@
 -- What the test passes keeps the law.
-use Rattle.std.proofs.Common.{◌≡◌, ℕ, ◌==◌, ◌&&◌, ◌||◌, Bool, true, false, List, [], ◌∷◌, drop, MatchBool, MatchOption, Option, Some, None, refl, sym, ap}
+use Rattle.std.proofs.Common.{◌≡◌, ℕ, ◌==◌, ◌&&◌, ◌||◌, not, Bool, true, false, cond, List, [], ◌∷◌, drop, MatchBool, MatchOption, Option, Some, None, refl, sym, ◌∙◌, ap, subst}
 use Rattle.net_octets.specs.declared.Endpoint.{Endpoint}
 use Rattle.world_face.specs.Journal.{Entry, Call, call_of, CallNow, CallWait, CallLinkOpen, CallLinkRead, CallLinkWrite, CallConnect, CallConnected, CallListen, CallAccept, CallTcpRead, CallTcpWrite, CallTcpEnd, CallClose, CallUdpOpen, CallUdpSend, CallUdpRecv, CallFileLen, CallFileRead}
 use Rattle.world_face.specs.Frames.{tail}
 use Rattle.host_policy.specs.Addresses.{Config}
 use Rattle.host_policy.specs.Targets.{same_endpoint}
 use Rattle.flow_laws.specs.Check.{may}
+use Rattle.flow_laws.specs.CheckDuty.{must, must_close}
+use Rattle.flow_laws.specs.Dutiful.{Must, MustClose, read_size}
 use Rattle.flow_laws.specs.Event.{Segment}
 use Rattle.flow_laws.specs.Lawful.{Act, AskConnected, Write, EndHost, Read, Send, May}
 use Rattle.flow_laws.specs.Settings.{Settings}
+use Rattle.flow_laws.proofs.Duties.{must_close_is, must_is}
 use Rattle.flow_laws.proofs.Sound.{may_is}
 use Rattle.run_laws.specs.Moments.{moment}
 use Rattle.run_laws.specs.Sockets.{next_number}
 use Rattle.record_flows.specs.Book.{book, scene}
-use Rattle.record_flows.specs.Check.{may_act, may_shut, may_send, may_send_on, may_write, is_close, is_connect, is_call, may_due, is_due, may_touch, may_flow, keeps_flows}
+use Rattle.record_flows.specs.Check.{may_act, may_shut, may_send, may_send_on, may_write, is_close, is_connect, is_call, may_due, is_due, may_touch, must_act, asks_for_room, must_send, must_send_on, must_write, must_touch, closes_at_once, may_flow, keeps_flows}
 use Rattle.record_flows.specs.Flows.{Flow, Scene, closing, flow_of, is_strange, owner}
-use Rattle.record_flows.specs.Laws.{flow_settings, MayAct, MayShut, MaySend, MaySendOn, MayWrite, MayTouch, MayFlow, KeepsFlows}
+use Rattle.record_flows.specs.Laws.{flow_settings, MayAct, MayShut, MaySend, MaySendOn, MayWrite, MayTouch, MustAct, AsksForRoom, MustSend, MustSendOn, MustWrite, MustTouch, MayFlow, KeepsFlows}
 use Rattle.record_flows.specs.Lots.{due_for_flows}
 use Rattle.record_flows.specs.Segments.{OnTuple, segment_in}
 use Rattle.record_flows.proofs.Lists.{numbers_same}
@@ -129,6 +132,59 @@ asked : (d : Option Call) (call : Call) → is_due d call ≡ true → d ≡ Som
 asked None call is = cc
 asked (Some d) call is = ap Some (sym (calls d call is))
 
+-- ---- as it must be
+
+must_acts : (s : Settings) (now : ℕ) (o : Option Flow) (act : Act) → must_act s now o act ≡ true → MustAct s now o act
+must_acts s now None act is = tt
+must_acts s now (Some f) act is = must_is s f.story now act is
+
+asks_room : (s : Settings) (o : Option Flow) (asked : ℕ) → asks_for_room s o asked ≡ true → AsksForRoom s o asked
+asks_room s None asked is = tt
+asks_room s (Some f) asked is = numbers_same asked (read_size s f.story) is
+
+must_sends : (s : Settings) (now : ℕ) (seg : Segment) (o : Option Flow) → must_send s now seg o ≡ true → MustSend s now seg o
+must_sends s now seg None is = tt
+must_sends s now seg (Some f) is = by_test (is_strange seg f) is
+  where
+    by_test : (b : Bool) → (b || must s f.story now (Send seg)) ≡ true → MatchBool b (Unit {0}) (Must s f.story now (Send seg))
+    by_test true is = tt
+    by_test false is = must_is s f.story now (Send seg) is
+
+must_sends_on : (s : Settings) (now : ℕ) (flows : List Flow) (o : Option OnTuple) → must_send_on s now flows o ≡ true → MustSendOn s now flows o
+must_sends_on s now flows None is = tt
+must_sends_on s now flows (Some on) is = must_sends s now on.segment (owner on.tuple flows) is
+
+must_writes : (s : Settings) (now : ℕ) (flows : List Flow) (rest octets : List ℕ) → must_write s now flows rest octets ≡ true → MustWrite s now flows rest octets
+must_writes s now flows [] octets is = must_sends_on s now flows (segment_in (drop 4 octets)) is
+must_writes s now flows (x ∷ rest) octets is = tt
+
+musts : (config : Config) (past : List Entry) (call : Call) → must_touch config past call ≡ true → MustTouch config past call
+musts config past (CallLinkWrite octets) is = must_writes (flow_settings config) (moment past) (book config past).flows (tail past) octets is
+musts config past (CallConnected socket) is = must_acts (flow_settings config) (moment past) (flow_of socket (book config past).flows) AskConnected is
+musts config past (CallTcpRead socket asked) is =
+    let parts = both (must_act (flow_settings config) (moment past) (flow_of socket (book config past).flows) Read) (asks_for_room (flow_settings config) (flow_of socket (book config past).flows) asked) is in
+    (must_acts (flow_settings config) (moment past) (flow_of socket (book config past).flows) Read parts.0, asks_room (flow_settings config) (flow_of socket (book config past).flows) asked parts.1)
+musts config past (CallTcpWrite socket octets) is = must_acts (flow_settings config) (moment past) (flow_of socket (book config past).flows) (Write octets) is
+musts config past (CallTcpEnd socket) is = must_acts (flow_settings config) (moment past) (flow_of socket (book config past).flows) EndHost is
+musts config past _ is = tt
+
+-- the test of a close goes through all flows
+at_once : (flows : List Flow) (call : Call) (number : ℕ) (f : Flow) → closes_at_once flows call ≡ true → flow_of number flows ≡ Some f → MustClose f.story → call ≡ CallClose number
+at_once [] call number f is found must = absurd cc
+at_once (g ∷ flows) call number f is found must =
+    let parts = both (not (must_close g.story) || is_close g.number call) (closes_at_once flows call) is in
+    by_test (g.number == number) refl found parts.0 (λ behind. at_once flows call number f parts.1 behind must)
+  where
+    this_one : (g : Flow) → MustClose g.story → (not (must_close g.story) || is_close g.number call) ≡ true → is_close g.number call ≡ true
+    this_one g must is = sym (ap (λ b. not b || is_close g.number call) (must_close_is g.story must)) ∙ is
+
+    by_test : (b : Bool) → (g.number == number) ≡ b → cond b (Some g) (flow_of number flows) ≡ Some f → (not (must_close g.story) || is_close g.number call) ≡ true
+        → (flow_of number flows ≡ Some f → call ≡ CallClose number) → call ≡ CallClose number
+    by_test true same is test rest =
+        let one : f ≡ g = cc in
+        closes g.number call (this_one g (subst (λ h. MustClose h.story) one must) test) ∙ ap CallClose (numbers_same g.number number same)
+    by_test false other is test rest = rest is
+
 -- ---- all
 
 touches : (config : Config) (past : List Entry) (call : Call) → may_touch config past call ≡ true → MayTouch config past call
@@ -144,8 +200,15 @@ touches config past _ is = tt
 
 pub passes : (config : Config) (past : List Entry) (call : Call) → may_flow config past call ≡ true → MayFlow config past call
 passes config past call is =
-    let parts = both (may_due (due_for_flows config (book config past) (next_number past)) call) (may_touch config past call) is in
-    record { due = due (due_for_flows config (book config past) (next_number past)) call parts.0; touches = touches config past call parts.1 }
+    let parts = both (may_due (due_for_flows config (book config past) (next_number past)) call) (may_touch config past call && must_touch config past call && closes_at_once (book config past).flows call) is in
+    let rest = both (may_touch config past call && must_touch config past call) (closes_at_once (book config past).flows call) parts.1 in
+    let done = both (may_touch config past call) (must_touch config past call) rest.0 in
+    record {
+      due = due (due_for_flows config (book config past) (next_number past)) call parts.0;
+      touches = touches config past call done.0;
+      must = musts config past call done.1;
+      at_once = λ number f found must. at_once (book config past).flows call number f rest.1 found must;
+    }
 
 -- a record that passes keeps the law of flows
 pub is_sound : (config : Config) (past : List Entry) → keeps_flows config past ≡ true → KeepsFlows config past

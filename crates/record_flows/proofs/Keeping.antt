@@ -10,19 +10,21 @@ use Rattle.world_face.specs.declared.Made.TheVariants.{Done as MadeDone, Failed 
 use Rattle.world_face.specs.declared.Accepted.{Accepted}
 use Rattle.world_face.specs.declared.Accepted.TheVariants.{From, NotYet as NotYetAccepted, Failed as AcceptFailed}
 use Rattle.host_policy.specs.Addresses.{Config}
-use Rattle.flow_laws.specs.Event.{Event, At, Opens, Story}
-use Rattle.flow_laws.specs.Lawful.{Act, AskConnected, Write, EndHost, Read, May, MayHappen}
+use Rattle.flow_laws.specs.Event.{Event, Opens}
+use Rattle.flow_laws.specs.Dutiful.{MustClose}
+use Rattle.flow_laws.specs.Lawful.{Act, AskConnected, Write, EndHost, Read, act_of}
 use Rattle.run_laws.specs.Happenings.{Arrival, happens}
 use Rattle.run_laws.specs.Moments.{moment}
 use Rattle.run_laws.specs.Sockets.{next_number}
 use Rattle.record_flows.specs.Book.{book, scene, turned, quiet}
 use Rattle.record_flows.specs.Doings.{Doing, Nothing, Pauses, Joins, Visits, Calls, comes, goes, seeks, doing_by, joined, read_by, written_by, ended_by}
 use Rattle.record_flows.specs.Flows.{flow_of}
-use Rattle.record_flows.specs.Laws.{flow_settings, MayAct, MayWrite, MaySendOn, MayDue, MayFlow, KeepsFlows}
+use Rattle.record_flows.specs.Laws.{flow_settings, MayAct, MayWrite, MaySendOn, MustAct, MustWrite, MustSendOn, ClosesAtOnce, MayDue, MayFlow, KeepsFlows}
 use Rattle.record_flows.specs.Lots.{due_by, connects_to}
-use Rattle.record_flows.specs.Said.{IsSound, AreKept}
+use Rattle.record_flows.specs.Said.{Each, IsSound, AreKept}
 use Rattle.record_flows.specs.Segments.{OnTuple, segment_came, segment_in, asked_in}
-use Rattle.record_flows.proofs.Stories.{joined_happens, joined_opens, read_happens, read_opens, write_happens, write_opens, end_happens, end_opens}
+use Rattle.record_flows.proofs.Lists.{each_by_number}
+use Rattle.record_flows.proofs.Stories.{may_happen, must_happen, joined_act, joined_opens, read_act, read_opens, write_act, write_opens, end_act, end_opens}
 use Rattle.record_flows.proofs.Turning.{same_sound, comes_sound, goes_sound, seeks_sound, calls_sound, shuts_sound, joins_sound, visits_sound}
 
 -- ---- the call that is due
@@ -52,6 +54,13 @@ module _ (config : Config) (past : List Entry) (kept : AreKept config past) wher
   free : (call : Call) → MayDue config past call → ((socket : ℕ) → call ≡ CallClose socket → ⊥) → (book config past).doomed ≡ None
   free call due not = none_doomed (book config past).doomed (connects_to config (book config past)) (next_number past) call due not
 
+  -- no flow must be closed, where another call than a close comes
+  free_to_go : (call : Call) → ClosesAtOnce config past call → ((socket : ℕ) → call ≡ CallClose socket → ⊥) → Each (λ f. MustClose f.story → ⊥) (book config past).flows
+  free_to_go call closes not = each_by_number (λ f. MustClose f.story → ⊥) (book config past).flows kept.differ (λ n f found must. not n (closes n f found must))
+
+  abbrev Stay : Type 0
+  Stay = Each (λ f. MustClose f.story → ⊥) (book config past).flows
+
   abbrev IsNext : Doing → Type 0
   IsNext d = IsSound (flow_settings config) (moment past) (next_number past) (turned config (scene config past) d (book config past))
 
@@ -59,38 +68,40 @@ module _ (config : Config) (past : List Entry) (kept : AreKept config past) wher
   nothing none = same_sound config (flow_settings config) (scene config past) (next_number past) (book config past) kept (moment past) (next_number past) (quiet (book config past)) (omega arith) (omega arith) none refl
 
   -- a frame came, or none
-  came : (e : Entry) → (book config past).doomed ≡ None → IsNext (doing_by None None e) → (o : Option Arrival) → IsNext (doing_by o None e)
-  came e none other None = other
-  came e none other (Some arrival) = by_segment (segment_came (Some arrival))
+  came : (e : Entry) → (book config past).doomed ≡ None → Stay → IsNext (doing_by None None e) → (o : Option Arrival) → IsNext (doing_by o None e)
+  came e none stay other None = other
+  came e none stay other (Some arrival) = by_segment (segment_came (Some arrival))
     where
       by_segment : (o : Option OnTuple) → IsNext (comes o)
       by_segment None = nothing none
-      by_segment (Some on) = comes_sound config (flow_settings config) (scene config past) (next_number past) (book config past) kept on none
+      by_segment (Some on) = comes_sound config (flow_settings config) (scene config past) (next_number past) (book config past) kept on none stay
 
   -- a frame went out, or none
-  asked : (o : Option ℕ) → (book config past).doomed ≡ None → IsNext (seeks o)
-  asked None none = nothing none
-  asked (Some guest) none = seeks_sound config (flow_settings config) (scene config past) (next_number past) (book config past) kept guest none
+  asked : (o : Option ℕ) → (book config past).doomed ≡ None → Stay → IsNext (seeks o)
+  asked None none stay = nothing none
+  asked (Some guest) none stay = seeks_sound config (flow_settings config) (scene config past) (next_number past) (book config past) kept guest none stay
 
-  went : (frame : List ℕ) (o : Option OnTuple) → (book config past).doomed ≡ None → MaySendOn (flow_settings config) (moment past) (book config past).flows o → IsNext (goes o (asked_in frame))
-  went frame None none may = asked (asked_in frame) none
-  went frame (Some on) none may = goes_sound config (flow_settings config) (scene config past) (next_number past) (book config past) kept on none may
+  went : (frame : List ℕ) (o : Option OnTuple) → (book config past).doomed ≡ None → Stay → MaySendOn (flow_settings config) (moment past) (book config past).flows o
+      → MustSendOn (flow_settings config) (moment past) (book config past).flows o → IsNext (goes o (asked_in frame))
+  went frame None none stay may must = asked (asked_in frame) none stay
+  went frame (Some on) none stay may must = goes_sound config (flow_settings config) (scene config past) (next_number past) (book config past) kept on none may must
 
-  begun : (octets : List ℕ) (answer : Io) → (book config past).doomed ≡ None → (rest : List ℕ) → MayWrite (flow_settings config) (moment past) (book config past).flows rest octets
-      → IsNext (doing_by None (opens (LinkWrite octets answer) rest) (LinkWrite octets answer))
-  begun octets answer none (x ∷ rest) may = nothing none
-  begun octets (Done n) none [] may = went (drop 4 octets) (segment_in (drop 4 octets)) none may
-  begun octets End none [] may = nothing none
-  begun octets NotYet none [] may = nothing none
-  begun octets Failed none [] may = nothing none
+  begun : (octets : List ℕ) (answer : Io) → (book config past).doomed ≡ None → Stay → (rest : List ℕ) → MayWrite (flow_settings config) (moment past) (book config past).flows rest octets
+      → MustWrite (flow_settings config) (moment past) (book config past).flows rest octets → IsNext (doing_by None (opens (LinkWrite octets answer) rest) (LinkWrite octets answer))
+  begun octets answer none stay (x ∷ rest) may must = nothing none
+  begun octets (Done n) none stay [] may must = went (drop 4 octets) (segment_in (drop 4 octets)) none stay may must
+  begun octets End none stay [] may must = nothing none
+  begun octets NotYet none stay [] may must = nothing none
+  begun octets Failed none stay [] may must = nothing none
 
   -- a call on a flow's socket
-  called : (socket : ℕ) (e : Event) (act : Act) → (book config past).doomed ≡ None → (Opens e → ⊥)
-      → ((story : Story) → May (flow_settings config) story (moment past) act → MayHappen (flow_settings config) story (At (moment past) e))
-      → MayAct (flow_settings config) (moment past) (flow_of socket (book config past).flows) act → IsNext (Calls socket e)
-  called socket e act none other happens may =
+  called : (socket : ℕ) (e : Event) (act : Act) → (book config past).doomed ≡ None → (Opens e → ⊥) → act_of e ≡ Some act
+      → MayAct (flow_settings config) (moment past) (flow_of socket (book config past).flows) act → MustAct (flow_settings config) (moment past) (flow_of socket (book config past).flows) act
+      → IsNext (Calls socket e)
+  called socket e act none other is may must =
       calls_sound config (flow_settings config) (scene config past) (next_number past) (book config past) kept socket e none other
-      (λ f found. happens f.story (subst (λ o. MayAct (flow_settings config) (moment past) o act) found may))
+      (λ f found. may_happen (flow_settings config) f.story (moment past) e act is (subst (λ o. MayAct (flow_settings config) (moment past) o act) found may))
+      (λ f found. must_happen (flow_settings config) f.story (moment past) e act is (subst (λ o. MustAct (flow_settings config) (moment past) o act) found must))
 
   connects : (socket : ℕ) (to : Endpoint) (answer : Made) → (book config past).doomed ≡ None → socket ≡ next_number past → AreKept config (Connect socket to answer ∷ past)
   connects socket to MadeDone none is =
@@ -116,20 +127,20 @@ module _ (config : Config) (past : List Entry) (kept : AreKept config past) wher
       same_sound config (flow_settings config) (scene config past) (next_number past) (book config past) kept (moment past) (next_number past) (turned config (scene config past) Pauses (book config past)) (omega arith) (omega arith) (free _ may.due (λ n is. cc)) refl
   goes_on (LinkOpen at answer) may = nothing (free _ may.due (λ n is. cc))
   goes_on (LinkRead asked answer octets) may =
-      came (LinkRead asked answer octets) (free _ may.due (λ n is. cc)) (nothing (free _ may.due (λ n is. cc))) (happens config past (LinkRead asked answer octets)).came
-  goes_on (LinkWrite octets answer) may = begun octets answer (free _ may.due (λ n is. cc)) (tail past) may.touches
+      came (LinkRead asked answer octets) (free _ may.due (λ n is. cc)) (free_to_go _ may.at_once (λ n is. cc)) (nothing (free _ may.due (λ n is. cc))) (happens config past (LinkRead asked answer octets)).came
+  goes_on (LinkWrite octets answer) may = begun octets answer (free _ may.due (λ n is. cc)) (free_to_go _ may.at_once (λ n is. cc)) (tail past) may.touches may.must
   goes_on (Connect socket to answer) may =
       connects socket to answer (free _ may.due (λ n is. cc)) (connects_next (book config past).doomed (connects_to config (book config past)) (next_number past) socket to may.touches)
   goes_on (Connected socket answer) may =
-      called socket (joined answer) AskConnected (free _ may.due (λ n is. cc)) (joined_opens answer) (λ story. joined_happens (flow_settings config) story (moment past) answer) may.touches
+      called socket (joined answer) AskConnected (free _ may.due (λ n is. cc)) (joined_opens answer) (joined_act answer) may.touches may.must
   goes_on (Listen socket at answer) may = more (moment past) (next_number past + 1) (omega arith) (omega arith) (free _ may.due (λ n is. cc))
   goes_on (Accept listener socket answer) may = accepts listener socket answer (free _ may.due (λ n is. cc)) may.touches
   goes_on (TcpRead socket asked answer octets) may =
-      called socket (read_by answer octets) Read (free _ may.due (λ n is. cc)) (read_opens answer octets) (λ story. read_happens (flow_settings config) story (moment past) answer octets) may.touches
+      called socket (read_by answer octets) Read (free _ may.due (λ n is. cc)) (read_opens answer octets) (read_act answer octets) may.touches may.must.0
   goes_on (TcpWrite socket octets answer) may =
-      called socket (written_by answer octets) (Write octets) (free _ may.due (λ n is. cc)) (write_opens answer octets) (λ story. write_happens (flow_settings config) story (moment past) answer octets) may.touches
+      called socket (written_by answer octets) (Write octets) (free _ may.due (λ n is. cc)) (write_opens answer octets) (write_act answer octets) may.touches may.must
   goes_on (TcpEnd socket answer) may =
-      called socket (ended_by answer) EndHost (free _ may.due (λ n is. cc)) (end_opens answer) (λ story. end_happens (flow_settings config) story (moment past) answer) may.touches
+      called socket (ended_by answer) EndHost (free _ may.due (λ n is. cc)) (end_opens answer) (end_act answer) may.touches may.must
   goes_on (Close socket) may =
       shuts_sound config (flow_settings config) (scene config past) (next_number past) (book config past) kept socket
       (only_doomed (book config past).doomed (connects_to config (book config past)) (next_number past) socket may.due) may.touches

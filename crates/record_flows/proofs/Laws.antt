@@ -1,43 +1,38 @@
 -- The laws of flows in a run, from those of one flow.
-use Rattle.std.proofs.Common.{◌≡◌, ℕ, ◌<◌, ◌==◌, ◌||◌, nat_lt, Bool, true, false, cond, List, [], ◌∷◌, Option, Some, None, option_and_then, if◌then◌else◌, refl, sym, ◌∙◌, ap, subst, arith}
+use Rattle.std.proofs.Common.{◌≡◌, ℕ, ◌+◌, ◌<◌, ◌≤◌, ◌||◌, nat_lt, Bool, true, false, List, ◌∷◌, length, Option, Some, None, option_and_then, if◌then◌else◌, refl, sym, ◌∙◌, ap, subst, arith}
 use Rattle.std.proofs.lemmas.Bool.Decides.{nat_tests}
 use Rattle.net_octets.specs.declared.Endpoint.{Endpoint}
-use Rattle.world_face.specs.Journal.{Entry, Close, Connect, CallConnect}
+use Rattle.world_face.specs.Journal.{Entry, Close, Connect, TcpRead, CallConnect}
+use Rattle.world_face.specs.declared.Io.{Io}
 use Rattle.world_face.specs.declared.Made.{Made}
 use Rattle.host_policy.specs.Addresses.{Config}
 use Rattle.host_policy.specs.Targets.{target}
 use Rattle.host_policy.specs.declared.Proto.TheVariants.{Tcp as OverTcp}
 use Rattle.host_policy.specs.declared.Verdict.{Verdict}
 use Rattle.host_policy.specs.declared.Verdict.TheVariants.{Go, Denied}
+use Rattle.flow_laws.specs.Dutiful.{IsDutiful, read_size}
 use Rattle.flow_laws.specs.Event.{IsStory}
 use Rattle.flow_laws.specs.Flow.{guest}
-use Rattle.flow_laws.specs.Guest.{Honest, front}
+use Rattle.flow_laws.specs.Guest.{Honest, IsAcknowledged, front}
 use Rattle.flow_laws.specs.Lawful.{HasCause, IsLawful, IsPrefixOf}
+use Rattle.flow_laws.proofs.FoundRoom.{acknowledged_has_room}
 use Rattle.flow_laws.proofs.GuestLaws.{written_is_a_prefix}
 use Rattle.run_laws.specs.Moments.{moment}
 use Rattle.run_laws.specs.Sockets.{next_number}
 use Rattle.record_flows.specs.Book.{book, scene, story, story_in}
-use Rattle.record_flows.specs.Flows.{Flow, Book, comes_directly, comes_last, flow_of, guest_is_known, is_used, used, is_resting}
-use Rattle.record_flows.specs.Laws.{flow_settings, MayShut, KeepsFlows}
+use Rattle.record_flows.specs.Flows.{Flow, Book, comes_directly, comes_last, flow_of, guest_is_known, is_numbered, is_used, used, is_resting}
+use Rattle.record_flows.specs.Laws.{flow_settings, AsksForRoom, MayShut, KeepsFlows}
 use Rattle.record_flows.specs.Lots.{OfFlow, Dropped, Strange, asked_for, connects_to, due_by, due_for_flows, is_opening, is_to_many, lot, lot_by}
-use Rattle.record_flows.specs.Said.{Each, Kept, taken_on, ConnectsAsAsked}
+use Rattle.record_flows.specs.Said.{Kept, taken_on, ConnectsAsAsked}
 use Rattle.record_flows.specs.Segments.{OnTuple}
 use Rattle.record_flows.proofs.Agreeing.{taken_is}
 use Rattle.record_flows.proofs.Keeping.{are_kept}
-
--- what holds of each flow holds of one that is found
-found_keeps : (P : Flow → Type 0) (number : ℕ) (flows : List Flow) (f : Flow) → Each P flows → flow_of number flows ≡ Some f → P f
-found_keeps P number [] f each is = absurd cc
-found_keeps P number (g ∷ flows) f each is = by_test (g.number == number) is (found_keeps P number flows f each.1)
-  where
-    by_test : (b : Bool) → cond b (Some g) (flow_of number flows) ≡ Some f → (flow_of number flows ≡ Some f → P f) → P f
-    by_test true is rest = let one : g ≡ f = cc in subst P one each.0
-    by_test false is rest = rest is
+use Rattle.record_flows.proofs.Lists.{each_found}
 
 pub keeps_the_law : (config : Config) (past : List Entry) (number : ℕ) (f : Flow) → KeepsFlows config past → flow_of number (book config past).flows ≡ Some f
     → Kept (flow_settings config) (moment past) (book config past).doomed f
 keeps_the_law config past number f keeps is =
-    found_keeps (Kept (flow_settings config) (moment past) (book config past).doomed) number (book config past).flows f (are_kept config past keeps).each is
+    each_found (Kept (flow_settings config) (moment past) (book config past).doomed) (is_numbered number) (book config past).flows f (are_kept config past keeps).each is
 
 module _ (config : Config) (past : List Entry) (number : ℕ) (keeps : KeepsFlows config past) where
   -- a socket that is no flow's has an empty story, of which the law holds as well
@@ -48,12 +43,23 @@ module _ (config : Config) (past : List Entry) (number : ℕ) (keeps : KeepsFlow
   pub is_lawful : IsLawful (flow_settings config) (story config past number)
   is_lawful = by_flow (flow_of number (book config past).flows) refl
 
+  done_by : (o : Option Flow) → flow_of number (book config past).flows ≡ o → IsDutiful (flow_settings config) (story_in o)
+  done_by None is = tt
+  done_by (Some f) is = (keeps_the_law config past number f keeps is).dutiful
+
+  pub is_dutiful : IsDutiful (flow_settings config) (story config past number)
+  is_dutiful = done_by (flow_of number (book config past).flows) refl
+
   pub is_story : (f : Flow) → flow_of number (book config past).flows ≡ Some f → IsStory (story config past number)
   is_story f is = subst (λ o. IsStory (story_in o)) (sym is) (keeps_the_law config past number f keeps is).story
 
   pub taken_begins : Honest (guest (story config past number)) → IsPrefixOf (taken_on number past) (front (guest (story config past number)))
   taken_begins honest = subst (λ xs. IsPrefixOf xs (front (guest (story config past number)))) (taken_is config number past keeps)
       (written_is_a_prefix (flow_settings config) (story config past number) is_lawful honest)
+
+  pub found_room : Honest (guest (story config past number)) → (a : ℕ) → IsAcknowledged (guest (story config past number)) a → a ≤ length (taken_on number past) + config.ring
+  found_room honest a acked = subst (λ xs. a ≤ length xs + config.ring) (taken_is config number past keeps)
+      (acknowledged_has_room (flow_settings config) (story config past number) is_dutiful honest a acked)
 
 -- ---- connects
 
@@ -123,3 +129,9 @@ pub closed_for_cause : (config : Config) (past : List Entry) (socket : ℕ) (f :
     → HasCause (comes_directly (book config past).came f) (comes_last (scene config past) f) (guest_is_known (scene config past) f) (moment past) f.story
 closed_for_cause config past socket f keeps is =
     (subst (MayShut (flow_settings config) (scene config past) (book config past).came) is keeps.0.touches).closes_with_cause
+
+-- ---- reads
+
+pub read_asks : (config : Config) (past : List Entry) (socket asked : ℕ) (answer : Io) (octets : List ℕ) (f : Flow) → KeepsFlows config (TcpRead socket asked answer octets ∷ past) → flow_of socket (book config past).flows ≡ Some f
+    → asked ≡ read_size (flow_settings config) f.story
+read_asks config past socket asked answer octets f keeps is = subst (λ o. AsksForRoom (flow_settings config) o asked) is keeps.0.must.1

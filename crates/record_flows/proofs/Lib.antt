@@ -20,3 +20,4 @@ pub mod TcpGivesUp
 pub mod TcpForwards
 pub mod TcpRefused
 pub mod Lots
+pub mod TcpDuties

@@ -1,5 +1,5 @@
 -- Something holds of each of a list of flows, one of which is changed.
-use Rattle.std.proofs.Common.{◌≡◌, ℕ, ◌<◌, ◌≤◌, ◌==◌, Bool, true, false, cond, List, [], ◌∷◌, map, find, Some, None, if◌then◌else◌, refl, sym, ◌∙◌, ap, arith}
+use Rattle.std.proofs.Common.{◌≡◌, ℕ, ◌<◌, ◌≤◌, ◌==◌, Bool, true, false, cond, List, [], ◌∷◌, map, find, Some, None, if◌then◌else◌, refl, sym, ◌∙◌, ap, subst, arith}
 use Rattle.std.proofs.lemmas.Bool.Decides.{nat_tests}
 use Rattle.record_flows.specs.Flows.{Flow, is_numbered, flow_of, tell}
 use Rattle.record_flows.specs.Said.{Each, Differ}
@@ -29,6 +29,19 @@ module _ (P Q : Flow → Type 0) where
       head_or_rest test change f flows (tell test change flows) (test f) refl changed each.0 (λ is. stays f each.0) (λ is. each_as stays flows each.1)
       (λ later. each_told test change stays flows later each.1)
 
+-- what holds of each holds of one that is found
+pub each_found : (P : Flow → Type 0) (test : Flow → Bool) (flows : List Flow) (f : Flow) → Each P flows → find test flows ≡ Some f → P f
+each_found P test [] f each is = absurd cc
+each_found P test (g ∷ flows) f each is = by_test (test g) is (each_found P test flows f each.1)
+  where
+    by_test : (b : Bool) → cond b (Some g) (find test flows) ≡ Some f → (find test flows ≡ Some f → P f) → P f
+    by_test true is rest = let one : g ≡ f = cc in subst P one each.0
+    by_test false is rest = rest is
+
+pub each_both : (P Q : Flow → Type 0) (flows : List Flow) → Each P flows → Each Q flows → Each (λ f. P f × Q f) flows
+each_both P Q [] p q = tt
+each_both P Q (f ∷ flows) p q = ((p.0, q.0), each_both P Q flows p.1 q.1)
+
 pub is_number : (n : ℕ) → (n == n) ≡ true
 is_number n = grind (arith, nat_tests)
 
@@ -56,6 +69,18 @@ none_here P n (g ∷ flows) none each = by_test (g.number == n) refl none (λ is
         → (flow_of n flows ≡ None → Each (λ f. P f × ((f.number == n) ≡ false)) flows) → Each (λ f. P f × ((f.number == n) ≡ false)) (g ∷ flows)
     by_test true same is rest = absurd (some_none is)
     by_test false other is rest = ((each.0, other), rest is)
+
+-- where numbers differ, what holds of each that is found by its number holds of each
+pub each_by_number : (P : Flow → Type 0) (flows : List Flow) → Differ flows → ((n : ℕ) (f : Flow) → flow_of n flows ≡ Some f → P f) → Each P flows
+each_by_number P [] differ found = tt
+each_by_number P (g ∷ flows) differ found = (
+  found g.number g (ap (λ b. cond b (Some g) (flow_of g.number flows)) (is_number g.number)),
+  each_by_number P flows differ.1 (λ n f is. found n f (behind n f is (g.number == n) refl)),
+)
+  where
+    behind : (n : ℕ) (f : Flow) → flow_of n flows ≡ Some f → (b : Bool) → (g.number == n) ≡ b → flow_of n (g ∷ flows) ≡ Some f
+    behind n f is true same = absurd (some_none (sym is ∙ ap (λ m. flow_of m flows) (sym (numbers_same g.number n same)) ∙ differ.0))
+    behind n f is false other = ap (λ b. cond b (Some g) (flow_of n flows)) other ∙ is
 
 -- where numbers differ, all but the changed one have another number
 pub each_numbered : (P Q : Flow → Type 0) (n : ℕ) (change : Flow → Flow) → ((f : Flow) → (f.number == n) ≡ false → P f → Q f) → (flows : List Flow) → Differ flows

@@ -5,17 +5,18 @@ use Rattle.host_policy.specs.Addresses.{Config, address}
 use Rattle.flow_laws.specs.Event.{Event, Connects, Accepts, Arrives, AsksAddress, Closes, At, Opens}
 use Rattle.flow_laws.specs.Close.{host_failed}
 use Rattle.flow_laws.specs.Flow.{first_number, is_accepted}
+use Rattle.flow_laws.specs.Dutiful.{Must, MustClose, MustHappen}
 use Rattle.flow_laws.specs.Lawful.{MayHappen}
 use Rattle.flow_laws.specs.Settings.{Settings}
 use Rattle.flow_table.specs.declared.Tuple.{Tuple}
 use Rattle.record_flows.specs.Book.{opens, port_of, tuple_for, is_refused, joins_for, visits_for, doom, quiet, turned}
 use Rattle.record_flows.specs.Doings.{Comes, Goes, Seeks, Joins, Visits, Calls, Shuts}
-use Rattle.record_flows.specs.Flows.{Flow, Book, Scene, is_on, is_numbered, owner, flow_of, tell, with_event, sends, seeks_for, shuts, fails, comes_directly, comes_last, guest_is_known}
-use Rattle.record_flows.specs.Laws.{MayShut, MaySend}
+use Rattle.record_flows.specs.Flows.{Flow, Book, Scene, closing, is_on, is_numbered, owner, flow_of, tell, with_event, sends, seeks_for, shuts, fails, comes_directly, comes_last, guest_is_known}
+use Rattle.record_flows.specs.Laws.{MayShut, MaySend, MustSend}
 use Rattle.record_flows.specs.Said.{Each, Differ, Kept, IsSound}
 use Rattle.record_flows.specs.Segments.{OnTuple}
 use Rattle.record_flows.proofs.Apart.{sends_number, seeks_number}
-use Rattle.record_flows.proofs.Lists.{each_as, each_map, each_told, each_numbered, found_number, told_differ, mapped_differ, fresh, never}
+use Rattle.record_flows.proofs.Lists.{each_as, each_both, each_found, each_map, each_told, each_numbered, found_number, told_differ, mapped_differ, fresh, never}
 use Rattle.record_flows.proofs.Stories.{stays, happened, well, sent}
 
 not_doomed : (doomed : Option ℕ) (n : ℕ) → doomed ≡ None → doomed ≡ Some n → ⊥
@@ -56,38 +57,43 @@ module _ (config : Config) (s : Settings) (sc : Scene) (next : ℕ) (b : Book) (
   none_fails : (n : ℕ) → false ≡ true → None ≡ Some n
   none_fails n is = cc
 
-  pub comes_sound : (on : OnTuple) → b.doomed ≡ None → IsSound s sc.moment next (turned config sc (Comes on) b)
-  comes_sound on none =
+  -- nothing that isn't done for a flow comes where it must be closed
+  pub comes_sound : (on : OnTuple) → b.doomed ≡ None → Each (λ f. MustClose f.story → ⊥) b.flows → IsSound s sc.moment next (turned config sc (Comes on) b)
+  comes_sound on none free =
       let is = told (is_on on.tuple) (with_event sc.moment (Arrives on.segment)) None (λ f. refl) none
-      (λ f found kept. happened s sc.moment b.doomed None (Arrives on.segment) f (λ opens. opens) (well s sc.moment b.doomed f (not_doomed b.doomed f.number none) kept) (none_fails f.number) kept) in
+      (λ f found kept. happened s sc.moment b.doomed None (Arrives on.segment) f (λ opens. opens) (well s sc.moment b.doomed f (not_doomed b.doomed f.number none) kept)
+      (each_found (λ g. MustClose g.story → ⊥) (is_on on.tuple) b.flows f free found) (none_fails f.number) kept) in
       record { differ = is.0; below = is.1; each = is.2 }
 
-  pub goes_sound : (on : OnTuple) → b.doomed ≡ None → MaySend s sc.moment on.segment (owner on.tuple b.flows) → IsSound s sc.moment next (turned config sc (Goes on) b)
-  goes_sound on none may =
+  pub goes_sound : (on : OnTuple) → b.doomed ≡ None → MaySend s sc.moment on.segment (owner on.tuple b.flows) → MustSend s sc.moment on.segment (owner on.tuple b.flows)
+      → IsSound s sc.moment next (turned config sc (Goes on) b)
+  goes_sound on none may must =
       let is = told (is_on on.tuple) (sends sc.moment on.segment) None (sends_number sc.moment on.segment) none
-      (λ f found kept. sent s sc.moment b.doomed on.segment f (not_doomed b.doomed f.number none) (subst (MaySend s sc.moment on.segment) found may) kept) in
+      (λ f found kept. sent s sc.moment b.doomed on.segment f (not_doomed b.doomed f.number none) (subst (MaySend s sc.moment on.segment) found may)
+      (subst (MustSend s sc.moment on.segment) found must) kept) in
       record { differ = is.0; below = is.1; each = is.2 }
 
-  pub seeks_sound : (guest : ℕ) → b.doomed ≡ None → IsSound s sc.moment next (turned config sc (Seeks guest) b)
-  seeks_sound guest none = record {
+  pub seeks_sound : (guest : ℕ) → b.doomed ≡ None → Each (λ f. MustClose f.story → ⊥) b.flows → IsSound s sc.moment next (turned config sc (Seeks guest) b)
+  seeks_sound guest none free = record {
     differ = mapped_differ (seeks_for sc.moment guest) (seeks_number sc.moment guest) b.flows sound.differ;
     below = each_map (λ f. f.number < next) (λ f. f.number < next) (seeks_for sc.moment guest) (λ f is. kept_below (seeks_for sc.moment guest) (seeks_number sc.moment guest) next f is) b.flows sound.below;
-    each = each_map (Kept s sc.moment b.doomed) (Kept s sc.moment None) (seeks_for sc.moment guest) asked b.flows sound.each;
+    each = each_map (λ f. Kept s sc.moment b.doomed f × (MustClose f.story → ⊥)) (Kept s sc.moment None) (seeks_for sc.moment guest) asked b.flows
+        (each_both (Kept s sc.moment b.doomed) (λ f. MustClose f.story → ⊥) b.flows sound.each free);
   }
     where
-      asked : (f : Flow) → Kept s sc.moment b.doomed f → Kept s sc.moment None (seeks_for sc.moment guest f)
-      asked f kept = by_test (is_accepted f.story && (address f.tuple.guest == guest))
+      asked : (f : Flow) → Kept s sc.moment b.doomed f × (MustClose f.story → ⊥) → Kept s sc.moment None (seeks_for sc.moment guest f)
+      asked f (kept, stays_open) = by_test (is_accepted f.story && (address f.tuple.guest == guest))
         where
           by_test : (t : Bool) → Kept s sc.moment None (if t then with_event sc.moment AsksAddress f else f)
-          by_test true = happened s sc.moment b.doomed None AsksAddress f (λ opens. opens) (well s sc.moment b.doomed f (not_doomed b.doomed f.number none) kept) (none_fails f.number) kept
+          by_test true = happened s sc.moment b.doomed None AsksAddress f (λ opens. opens) (well s sc.moment b.doomed f (not_doomed b.doomed f.number none) kept) stays_open (none_fails f.number) kept
           by_test false = others sc.moment None (omega arith) none f kept
 
   -- a call on its socket
   pub calls_sound : (socket : ℕ) (e : Event) → b.doomed ≡ None → (Opens e → ⊥) → ((f : Flow) → flow_of socket b.flows ≡ Some f → MayHappen s f.story (At sc.moment e))
-      → IsSound s sc.moment next (turned config sc (Calls socket e) b)
-  calls_sound socket e none other may =
+      → ((f : Flow) → flow_of socket b.flows ≡ Some f → MustHappen s f.story (At sc.moment e)) → IsSound s sc.moment next (turned config sc (Calls socket e) b)
+  calls_sound socket e none other may must =
       let is = told (is_numbered socket) (with_event sc.moment e) (if fails e then Some socket else None) (λ f. refl) none
-      (λ f found kept. happened s sc.moment b.doomed (if fails e then Some socket else None) e f other (may f found) (λ failed. dooms f (found_number socket b.flows f found) failed) kept) in
+      (λ f found kept. happened s sc.moment b.doomed (if fails e then Some socket else None) e f other (may f found) (must f found) (λ failed. dooms f (found_number socket b.flows f found) failed) kept) in
       record { differ = is.0; below = is.1; each = is.2 }
     where
       dooms : (f : Flow) → f.number ≡ socket → fails e ≡ true → (if fails e then Some socket else None) ≡ Some f.number
@@ -100,24 +106,31 @@ module _ (config : Config) (s : Settings) (sc : Scene) (next : ℕ) (b : Book) (
     below = each_told (λ f. f.number < next) (λ f. f.number < next) (is_numbered socket) (shuts sc b.came) (λ f is. is) b.flows (λ f found is. is) sound.below;
     each = each_numbered (Kept s sc.moment b.doomed) (Kept s sc.moment None) socket (shuts sc b.came)
         (λ f not kept. stays s sc.moment sc.moment b.doomed None f (omega arith) (λ doomed. another f.number (only f.number doomed) not) kept) b.flows sound.differ
-        (λ f found kept. happened s sc.moment b.doomed None (closes f) f (λ opens. opens) (subst (MayShut s sc b.came) found may) (none_fails f.number) kept) sound.each;
+        (λ f found kept. happened s sc.moment b.doomed None (closes f) f (λ opens. opens) (subst (MayShut s sc b.came) found may) (closes_so f) (none_fails f.number) kept) sound.each;
   }
     where
       closes : Flow → Event
       closes f = Closes (comes_directly b.came f) (comes_last sc f) (guest_is_known sc f)
+
+      -- nothing is asked of a close
+      closes_so : (f : Flow) → Must s f.story sc.moment (closing sc b.came f)
+      closes_so f = record { sends_its_room = tt; offers_what_was_acknowledged = tt; closes_after_reset = tt }
 
       another : (n : ℕ) → n ≡ socket → (n == socket) ≡ false → ⊥
       another n same not = never n socket same not
 
   -- ---- a flow more
 
-  opened : (e : Event) (tuple : Tuple) → b.doomed ≡ None → Opens e → MayHappen s [] (At sc.moment e) → (host_failed (At sc.moment e ∷ []) ≡ false)
+  none_came : MustClose [] → ⊥
+  none_came must = cc must.1
+
+  opened : (e : Event) (tuple : Tuple) → b.doomed ≡ None → Opens e → MayHappen s [] (At sc.moment e) → MustHappen s [] (At sc.moment e) → (host_failed (At sc.moment e ∷ []) ≡ false)
       → IsSound s sc.moment (next + 1) (opens config sc.moment next tuple e b)
-  opened e tuple none opening may well = record {
+  opened e tuple none opening may must well = record {
     differ = (fresh next b.flows sound.below next (omega arith), sound.differ);
     below = (omega arith, below_on (next + 1) (omega arith));
     each = (
-      record { story = opening; moment = omega arith; lawful = (may, tt); failed = λ failed. absurd (not_both failed) },
+      record { story = opening; moment = omega arith; lawful = (may, tt); dutiful = (must, tt); failed = λ failed. absurd (not_both failed) },
       each_as (Kept s sc.moment b.doomed) (Kept s sc.moment None) (others sc.moment None (omega arith) none) b.flows sound.each,
     );
   }
@@ -133,7 +146,7 @@ module _ (config : Config) (s : Settings) (sc : Scene) (next : ℕ) (b : Book) (
     where
       by_came : (came : Option OnTuple) → IsSound s sc.moment (next + 1) (joins_for config sc.moment next came b)
       by_came None = same_sound sc.moment (next + 1) (quiet b) (omega arith) (omega arith) none refl
-      by_came (Some on) = opened (Connects (first_number sc.moment (length b.flows)) on.segment) on.tuple none tt refl refl
+      by_came (Some on) = opened (Connects (first_number sc.moment (length b.flows)) on.segment) on.tuple none tt refl none_came refl
 
   pub visits_sound : (listener : ℕ) (peer : Endpoint) → b.doomed ≡ None → IsSound s sc.moment (next + 1) (turned config sc (Visits listener next peer) b)
   visits_sound listener peer none = by_port (port_of config listener)
@@ -141,7 +154,7 @@ module _ (config : Config) (s : Settings) (sc : Scene) (next : ℕ) (b : Book) (
       by_test : (guest : Endpoint) (t : Bool) → IsSound s sc.moment (next + 1) (if t then doom next b
           else opens config sc.moment next (tuple_for config guest peer) (Accepts (first_number sc.moment (length b.flows))) b)
       by_test guest true = same_sound sc.moment (next + 1) (doom next b) (omega arith) (omega arith) none refl
-      by_test guest false = opened (Accepts (first_number sc.moment (length b.flows))) (tuple_for config guest peer) none tt refl refl
+      by_test guest false = opened (Accepts (first_number sc.moment (length b.flows))) (tuple_for config guest peer) none tt refl none_came refl
 
       by_port : (port : Option Endpoint) → IsSound s sc.moment (next + 1) (visits_for config sc.moment next peer port b)
       by_port None = same_sound sc.moment (next + 1) (quiet b) (omega arith) (omega arith) none refl

@@ -1,11 +1,13 @@
 -- A test that says of a record whether its flows keep the law, by computing. It asks of every guest what the law asks of an honest one.
-use Rattle.std.specs.Prelude.{ℕ, ◌==◌, ◌&&◌, ◌||◌, Bool, true, false, List, [], ◌∷◌, drop, Option, Some, None}
+use Rattle.std.specs.Prelude.{ℕ, ◌==◌, ◌&&◌, ◌||◌, not, Bool, true, false, List, [], ◌∷◌, drop, Option, Some, None}
 use Rattle.net_octets.specs.declared.Endpoint.{Endpoint}
 use Rattle.world_face.specs.Journal.{Entry, Call, call_of, CallLinkWrite, CallConnect, CallConnected, CallAccept, CallTcpRead, CallTcpWrite, CallTcpEnd, CallClose}
 use Rattle.world_face.specs.Frames.{tail}
 use Rattle.host_policy.specs.Addresses.{Config}
 use Rattle.host_policy.specs.Targets.{same_endpoint}
 use Rattle.flow_laws.specs.Check.{may}
+use Rattle.flow_laws.specs.CheckDuty.{must, must_close}
+use Rattle.flow_laws.specs.Dutiful.{read_size}
 use Rattle.flow_laws.specs.Event.{Segment}
 use Rattle.flow_laws.specs.Lawful.{Act, AskConnected, Write, EndHost, Read, Send}
 use Rattle.flow_laws.specs.Settings.{Settings}
@@ -70,9 +72,44 @@ may_touch config past (CallTcpEnd socket) = may_act (flow_settings config) (mome
 may_touch config past (CallClose socket) = may_shut (flow_settings config) (scene config past) (book config past).came (flow_of socket (book config past).flows)
 may_touch config past _ = true
 
--- the next call may come
+-- ---- as it must be
+
+abbrev pub must_act : Settings → ℕ → Option Flow → Act → Bool
+must_act s now None act = true
+must_act s now (Some f) act = must s f.story now act
+
+abbrev pub asks_for_room : Settings → Option Flow → ℕ → Bool
+asks_for_room s None asked = true
+asks_for_room s (Some f) asked = asked == read_size s f.story
+
+abbrev pub must_send : Settings → ℕ → Segment → Option Flow → Bool
+must_send s now segment None = true
+must_send s now segment (Some f) = is_strange segment f || must s f.story now (Send segment)
+
+abbrev pub must_send_on : Settings → ℕ → List Flow → Option OnTuple → Bool
+must_send_on s now flows None = true
+must_send_on s now flows (Some on) = must_send s now on.segment (owner on.tuple flows)
+
+abbrev pub must_write : Settings → ℕ → List Flow → List ℕ → List ℕ → Bool
+must_write s now flows [] octets = must_send_on s now flows (segment_in (drop 4 octets))
+must_write s now flows (x ∷ rest) octets = true
+
+abbrev pub must_touch : Config → List Entry → Call → Bool
+must_touch config past (CallLinkWrite octets) = must_write (flow_settings config) (moment past) (book config past).flows (tail past) octets
+must_touch config past (CallConnected socket) = must_act (flow_settings config) (moment past) (flow_of socket (book config past).flows) AskConnected
+must_touch config past (CallTcpRead socket asked) =
+    must_act (flow_settings config) (moment past) (flow_of socket (book config past).flows) Read && asks_for_room (flow_settings config) (flow_of socket (book config past).flows) asked
+must_touch config past (CallTcpWrite socket octets) = must_act (flow_settings config) (moment past) (flow_of socket (book config past).flows) (Write octets)
+must_touch config past (CallTcpEnd socket) = must_act (flow_settings config) (moment past) (flow_of socket (book config past).flows) EndHost
+must_touch config past _ = true
+
+abbrev pub closes_at_once : List Flow → Call → Bool
+closes_at_once [] call = true
+closes_at_once (f ∷ flows) call = (not (must_close f.story) || is_close f.number call) && closes_at_once flows call
+
+-- the next call may come, and is made as it must be
 abbrev pub may_flow : Config → List Entry → Call → Bool
-may_flow config past call = may_due (due_for_flows config (book config past) (next_number past)) call && may_touch config past call
+may_flow config past call = may_due (due_for_flows config (book config past) (next_number past)) call && (may_touch config past call && must_touch config past call && closes_at_once (book config past).flows call)
 
 -- every call could follow its past
 abbrev pub keeps_flows : Config → List Entry → Bool

@@ -5,6 +5,7 @@ use Rattle.world_face.specs.Frames.{tail}
 use Rattle.host_policy.specs.Addresses.{Config}
 use Rattle.flow_laws.specs.Event.{Segment}
 use Rattle.flow_laws.specs.Lawful.{Act, AskConnected, Write, EndHost, Read, Send, May}
+use Rattle.flow_laws.specs.Dutiful.{Must, MustClose, read_size}
 use Rattle.flow_laws.specs.Settings.{Settings}
 use Rattle.run_laws.specs.Moments.{moment}
 use Rattle.run_laws.specs.Sockets.{next_number}
@@ -58,10 +59,57 @@ MayTouch config past _ = Unit {0}
 abbrev pub MayDue : Config → List Entry → Call → Type 0
 MayDue config past call = MatchOption (due_for_flows config (book config past) (next_number past)) (Unit {0}) (λ d. call ≡ d)
 
--- the next call is one that may come
+-- ---- as it must be
+
+-- a call on the socket of a flow is made as it must be, by what happened to the flow
+abbrev pub MustAct : Settings → ℕ → Option Flow → Act → Type 0
+MustAct s now None act = Unit {0}
+MustAct s now (Some f) act = Must s f.story now act
+
+-- a read asks for all that there is room for
+abbrev pub AsksForRoom : Settings → Option Flow → ℕ → Type 0
+AsksForRoom s None asked = Unit {0}
+AsksForRoom s (Some f) asked = asked ≡ read_size s f.story
+
+-- a segment of a flow goes out as it must be; a reset that answers a segment without a flow is none of its own (RFC 9293, 3.8.6)
+abbrev pub MustSend : Settings → ℕ → Segment → Option Flow → Type 0
+MustSend s now segment None = Unit {0}
+MustSend s now segment (Some f) = MatchBool (is_strange segment f) (Unit {0}) (Must s f.story now (Send segment))
+
+abbrev pub MustSendOn : Settings → ℕ → List Flow → Option OnTuple → Type 0
+MustSendOn s now flows None = Unit {0}
+MustSendOn s now flows (Some on) = MustSend s now on.segment (owner on.tuple flows)
+
+-- and so it does where a write begins its frame
+abbrev pub MustWrite : Settings → ℕ → List Flow → List ℕ → List ℕ → Type 0
+MustWrite s now flows [] octets = MustSendOn s now flows (segment_in (drop 4 octets))
+MustWrite s now flows (x ∷ rest) octets = Unit {0}
+
+-- Each segment tells the room that is left, the host is offered all that was acknowledged and asked for all that there is room for, and after a
+-- guest's reset at the next number nothing is done for the flow but its close.
+abbrev pub MustTouch : Config → List Entry → Call → Type 0
+MustTouch config past (CallLinkWrite octets) = MustWrite (flow_settings config) (moment past) (book config past).flows (tail past) octets
+MustTouch config past (CallConnected socket) = MustAct (flow_settings config) (moment past) (flow_of socket (book config past).flows) AskConnected
+MustTouch config past (CallTcpRead socket asked) =
+    MustAct (flow_settings config) (moment past) (flow_of socket (book config past).flows) Read × AsksForRoom (flow_settings config) (flow_of socket (book config past).flows) asked
+MustTouch config past (CallTcpWrite socket octets) = MustAct (flow_settings config) (moment past) (flow_of socket (book config past).flows) (Write octets)
+MustTouch config past (CallTcpEnd socket) = MustAct (flow_settings config) (moment past) (flow_of socket (book config past).flows) EndHost
+MustTouch config past _ = Unit {0}
+
+-- where a guest has just reset a flow at the next number, the next call closes its socket (RFC 9293, 3.10.7.4)
+abbrev pub ClosesAtOnce : Config → List Entry → Call → Type 0
+ClosesAtOnce config past call = (number : ℕ) (f : Flow) → flow_of number (book config past).flows ≡ Some f → MustClose f.story → call ≡ CallClose number
+
+-- no flow is one that the next call must close
+abbrev pub NoneMustClose : Config → List Entry → Type 0
+NoneMustClose config past = (number : ℕ) (f : Flow) → flow_of number (book config past).flows ≡ Some f → MustClose f.story → ⊥
+
+-- the next call is one that may come, and is made as it must be
 pub record MayFlow (config : Config) (past : List Entry) (call : Call) : Type 0 where
   pub due : MayDue config past call
   pub touches : MayTouch config past call
+  pub must : MustTouch config past call
+  pub at_once : ClosesAtOnce config past call
 
 -- every call was one that may follow its past
 abbrev pub KeepsFlows : Config → List Entry → Type 0

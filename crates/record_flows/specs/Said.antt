@@ -11,6 +11,7 @@ use Rattle.host_policy.specs.declared.Verdict.TheVariants.{Go, Denied}
 use Rattle.host_policy.specs.declared.Rule.{Rule}
 use Rattle.flow_laws.specs.Event.{IsStory, newest_moment}
 use Rattle.flow_laws.specs.Close.{host_failed}
+use Rattle.flow_laws.specs.Dutiful.{IsDutiful}
 use Rattle.flow_laws.specs.Lawful.{IsLawful}
 use Rattle.flow_laws.specs.Settings.{Settings}
 use Rattle.run_laws.specs.Moments.{moment}
@@ -31,11 +32,12 @@ abbrev pub Differ : List Flow → Type 0
 Differ [] = Unit {0}
 Differ (f ∷ flows) = (flow_of f.number flows ≡ None) × Differ flows
 
--- A flow's story keeps the law of one flow; where a call on its socket failed last, this is the socket that the next entry closes.
+-- A flow's story keeps the law of one flow, and what was done for it was done as it must be; where a call on its socket failed last, this is the socket that the next entry closes.
 pub record Kept (s : Settings) (now : ℕ) (doomed : Option ℕ) (f : Flow) : Type 0 where
   pub story : IsStory f.story
   pub moment : newest_moment f.story ≤ now
   pub lawful : IsLawful s f.story
+  pub dutiful : IsDutiful s f.story
   pub failed : host_failed f.story ≡ true → doomed ≡ Some f.number
 
 -- each flow of the book has a number of its own, below the next one, and keeps the law

@@ -11,17 +11,19 @@
 //! it gives one octet to each number of its stream and has one end with nothing past it.
 #![tactic(auto)]
 
-ghost use Rattle.std.specs.Prelude.{◌≡◌, ℕ, ◌+◌, ◌<◌, ◌++◌, ◌||◌, List, ◌∷◌, length, true, false, Bool, IsTrue, Some, slice_get};
+ghost use Rattle.std.specs.Prelude.{◌≡◌, ℕ, ◌+◌, ◌<◌, ◌≤◌, ◌++◌, ◌||◌, List, ◌∷◌, length, true, false, Bool, IsTrue, Some, slice_get};
 ghost use Rattle.net_octets.specs.declared.Endpoint.{Endpoint};
-ghost use Rattle.world_face.specs.Journal.{Entry, Close, Connect};
+ghost use Rattle.world_face.specs.Journal.{Entry, Close, Connect, TcpRead};
+ghost use Rattle.world_face.specs.declared.Io.{Io};
 ghost use Rattle.world_face.specs.declared.Made.{Made};
 ghost use Rattle.host_policy.specs.Addresses.{Config};
 ghost use Rattle.seq_space.specs.Places.{number_of};
 ghost use Rattle.flow_laws.specs.Event.{IsStory};
 ghost use Rattle.flow_laws.specs.Flow.{guest, host, their_number, has_connected, is_accepted};
-ghost use Rattle.flow_laws.specs.Guest.{Honest, HasCome, ackd, front, has_ended};
+ghost use Rattle.flow_laws.specs.Guest.{Honest, HasCome, IsAcknowledged, ackd, front, has_ended};
 ghost use Rattle.flow_laws.specs.Host.{Gave, got_end, end_is_out};
 ghost use Rattle.flow_laws.specs.Close.{owes_reset};
+ghost use Rattle.flow_laws.specs.Dutiful.{IsDutiful, read_size};
 ghost use Rattle.flow_laws.specs.Lawful.{HasCause, IsLawful, IsPrefixOf};
 ghost use Rattle.flow_laws.specs.Said.{CameAt, closed_as_failed, reset_is_out, something_is_out};
 ghost use Rattle.run_laws.specs.Moments.{moment};
@@ -35,13 +37,23 @@ ghost use Rattle.record_flows.specs.Segments.{OnTuple, segment_came};
 ghost use Rattle.record_flows.specs.Touching.{AreApart};
 
 /// Each flow of a run keeps the law of one flow: its story begins with what opened it, and whatever was done for it was allowed
-/// by what had happened to it. No two flows have one socket.
+/// by what had happened to it, and done as it must be: each segment told the room that was left, each write offered all that was
+/// acknowledged, and nothing but the close was done after a reset at the next number. No two flows have one socket.
 pub fn each_flow_keeps_the_law_of_one()
     ensures story { (config : Config) (past : List Entry) (socket : ℕ) (f : Flow) → KeepsFlows config past
         → flow_of socket (book config past).flows ≡ Some f → IsStory (story config past socket) }
     ensures lawful { (config : Config) (past : List Entry) (socket : ℕ) → KeepsFlows config past
         → IsLawful (flow_settings config) (story config past socket) }
+    ensures dutiful { (config : Config) (past : List Entry) (socket : ℕ) → KeepsFlows config past
+        → IsDutiful (flow_settings config) (story config past socket) }
     ensures differ { (config : Config) (past : List Entry) → KeepsFlows config past → Differ (book config past).flows }
+{}
+
+/// A host is asked for all the octets that there is room for, 16,384 at most.
+pub fn reads_ask_for_all_that_there_is_room_for()
+    ensures { (config : Config) (past : List Entry) (socket asked : ℕ) (answer : Io) (octets : List ℕ) (f : Flow)
+        → KeepsFlows config (TcpRead socket asked answer octets ∷ past) → flow_of socket (book config past).flows ≡ Some f
+        → asked ≡ read_size (flow_settings config) f.story }
 {}
 
 /// What a host's socket took is a prefix of what the guest of its flow sent, and whatever the guest does each octet came from
@@ -82,6 +94,14 @@ pub fn what_is_acknowledged_came()
     ensures { (config : Config) (past : List Entry) (socket : ℕ) → KeepsFlows config past
         → Honest (guest (story config past socket))
         → HasCome (guest (story config past socket)) (ackd (guest (story config past socket))) }
+{}
+
+/// And it found room: what was acknowledged of an honest guest's octets is no more than the socket of its flow took and the ring
+/// holds.
+pub fn acknowledged_octets_found_room()
+    ensures { (config : Config) (past : List Entry) (socket : ℕ) → KeepsFlows config past
+        → Honest (guest (story config past socket)) → (a : ℕ) → IsAcknowledged (guest (story config past socket)) a
+        → a ≤ length (taken_on socket past) + config.ring }
 {}
 
 /// A guest's SYN is answered only after the host connected: nothing but a reset goes out on a flow before, unless a peer's

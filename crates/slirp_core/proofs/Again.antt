@@ -16,13 +16,14 @@ use Rattle.tftp_server.specs.Serving.{IsFromServer, said_by}
 use Rattle.tftp_server.proofs.Turning.{begun_left, ticked_left, ticked_none}
 use Rattle.record_flows.specs.Book.{book}
 use Rattle.record_flows.specs.Doings.{Nothing, doing, doing_by, goes}
-use Rattle.record_flows.specs.Laws.{MaySendOn, MayWrite, flow_settings}
+use Rattle.record_flows.specs.Laws.{MaySendOn, MayWrite, MustSendOn, MustWrite, flow_settings}
 use Rattle.record_flows.specs.Segments.{asked_in, segment_in}
 use Rattle.run_laws.specs.Moments.{moment}
 use Rattle.tftp_server.specs.Transfers.{Files, Said, Transfer, are_left, begun, next_again, said_again, ticked}
 use Rattle.slirp_laws.specs.Answers.{files_begun, frames_of, is_first, left, or_begun, our_mac, part_frame, serving, told_of_files, uncut}
 use Rattle.slirp_laws.specs.Datagrams.{Settled as SettledStep}
 use Rattle.slirp_laws.specs.Laws.{Lawful}
+use Rattle.slirp_laws.proofs.Deeds.{FlowsLetWrite}
 use Rattle.slirp_laws.specs.Sending.{asked_beside, requests, requests_by}
 use Rattle.slirp_laws.proofs.FileTurns.{MayGoAgain, aged_again, files_again, gone_again, left_again, no_flows}
 use Rattle.slirp_laws.proofs.KeptFiles.{now_is}
@@ -44,12 +45,12 @@ module _ (config : Config) (past : List Entry) (said : Said) (frame : List ℕ) 
   its_asked = ap asked_in begins ∙ (no_flows config past said frame rest room m).asked
 
   -- it is nothing to the flows
-  pub may_write_again : MayWrite (flow_settings config) (moment past) (book config past).flows (tail past) octets
+  pub may_write_again : FlowsLetWrite config past octets
   may_write_again = by (tail past)
     where
-      by : (t : List ℕ) → MayWrite (flow_settings config) (moment past) (book config past).flows t octets
-      by [] = subst (MaySendOn (flow_settings config) (moment past) (book config past).flows) (sym its_segment) tt
-      by (x ∷ t) = tt
+      by : (t : List ℕ) → MayWrite (flow_settings config) (moment past) (book config past).flows t octets × MustWrite (flow_settings config) (moment past) (book config past).flows t octets
+      by [] = (subst (MaySendOn (flow_settings config) (moment past) (book config past).flows) (sym its_segment) tt, subst (MustSendOn (flow_settings config) (moment past) (book config past).flows) (sym its_segment) tt)
+      by (x ∷ t) = (tt, tt)
 
   pub nothing_to_flows : (answer : Io) → doing config past (LinkWrite octets answer) ≡ Nothing
   nothing_to_flows answer = by answer (tail past)

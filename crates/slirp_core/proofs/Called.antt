@@ -33,6 +33,7 @@ use Rattle.run_laws.specs.Guests.{known}
 use Rattle.tcp_flows.specs.Kept.{Kept}
 use Rattle.tcp_flows.specs.Reading.{AreTold, NoneInSlots}
 use Rattle.spliced_flows.specs.Core.{Following, number_of}
+use Rattle.spliced_flows.proofs.Staying.{core_stays}
 use Rattle.core_flows.specs.Seats.{Seats}
 use Rattle.record_flows.specs.Book.{book, is_young}
 use Rattle.record_flows.specs.Flows.{Rest}
@@ -341,6 +342,7 @@ module _ (config : Config) (at : Standing) (slirp : SlirpState) (f : Flowing) (l
     errand = others.errand ∙ errand_for config Settled None slirp past holds.relayed;
     served = then_is.served;
     idle = then_is.asks;
+    stay = core_stays config slirp.moment f.aged None new.flows (made ++ past) then_is.holds;
     sockets = subst (λ l. AreOpenWith (forward_sockets l) (carriers (holders_with slirp new)) new.flows.parts (made ++ past)) (sym holds.forwards)
         (open_by config slirp (flowing f.aged new) slirp.moment (made ++ past) then_is.lawful (others.list ∙ holds.relayed.list) (others.questions ∙ holds.relayed.questions) then_is.holds (sockets_left config past made others holds.sockets.kinds)
         (all_given config (made ++ past) then_is.lawful (Over (By LinkFailed)) then_is.over refl) then_is.open_yet);

@@ -22,6 +22,8 @@ use Rattle.slirp_core.proofs.Askers.{among_both, asked_without}
 use Rattle.slirp_core.proofs.Sockets.{those_without}
 use Rattle.spliced_flows.specs.Core.{number_of}
 use Rattle.spliced_flows.proofs.Ending.{may_close_least}
+use Rattle.spliced_flows.proofs.Pumping.{differ_in}
+use Rattle.spliced_flows.proofs.Staying.{stays_closed}
 use Rattle.spliced_flows.proofs.Options.{none_some, some_same, true_false}
 use Rattle.tcp_flows.specs.Reading.{IsNextOpen, IsOpenAt, NoneIsAbove}
 use Rattle.port_forward.specs.Opened.{Opened, is_at, socket_at, socket_of, without as without_port}
@@ -92,7 +94,7 @@ module _ (Open : List Entry → Type 0) (o : Holders) (config : Config) (over : 
   is_due (AllWaited working) = any_one config past (CallClose n) (due_is config past Settled working closing.served closing.idle (ap (step_of config past) closing.errand))
 
   may_close : May config past (CallClose n)
-  may_close = may_close_least config past closing.lawful closing.ended n first_is (is_due closing.rests) (place closing.rests) closing.idle
+  may_close = may_close_least config past closing.lawful closing.ended n first_is (is_due closing.rests) (place closing.rests) (record { due = closing.idle; stay = closing.stay })
 
   rests_on : Rests config past → Rests config (Close n ∷ past)
   rests_on (OverFor cause is) = OverFor cause is
@@ -107,6 +109,7 @@ module _ (Open : List Entry → Type 0) (o : Holders) (config : Config) (over : 
     errand = closing.errand;
     served = quest_none config past closing.served;
     idle = refl;
+    stay = stays_closed config past n (differ_in config past closing.lawful) closing.stay;
     sockets = left;
     two = two;
   }
@@ -333,6 +336,7 @@ no_forwards config over o past closing = record {
   errand = closing.errand;
   served = closing.served;
   idle = closing.idle;
+  stay = closing.stay;
   sockets = record {
     each = λ n among. others n (closing.sockets.each n among);
     carry = closing.sockets.carry;

@@ -23,7 +23,6 @@ use Rattle.slirp_laws.specs.Names.{questions, step_to_names, with_socket as with
 use Rattle.slirp_laws.specs.Ports.{forward_for}
 use Rattle.slirp_laws.specs.Relayed.{associations, step_for, with_forward, with_socket, without_socket}
 use Rattle.slirp_laws.specs.Laws.{Lawful, May, carries, due, due_for_services, is_closing, unless_due, begins_closing}
-use Rattle.slirp_laws.proofs.Deeds.{FlowsAskNothing}
 use Rattle.slirp_laws.proofs.Joining.{joined_step}
 use Rattle.stream_netdev.specs.Keeps.{Keeps}
 use Rattle.stream_netdev.specs.State.{LinkState}
@@ -44,7 +43,7 @@ use Rattle.slirp_laws.proofs.Steps.{errand_in}
 -- ---- which call is due
 
 -- by where the run stands; services and flows ask for none
-pub due_in_phase : (config : Config) (past : List Entry) (p : Phase) → phase config past ≡ p → due_for_services config past ≡ None → FlowsAskNothing config past
+pub due_in_phase : (config : Config) (past : List Entry) (p : Phase) → phase config past ≡ p → due_for_services config past ≡ None → due_for_flows config (book config past) (next_number past) ≡ None
     → due config past ≡ unless_due (due_in p past) (due_for config (step config past) (next_number past))
 due_in_phase config past p is serves asks =
     ap (λ q. unless_due (due_in q past) (unless_due (due_for config (step config past) (next_number past)) (unless_due (due_for_services config past) (due_for_flows config (book config past) (next_number past))))) is
@@ -56,7 +55,7 @@ due_in_phase config past p is serves asks =
     unless_none None = refl
     unless_none (Some call) = refl
 
-pub due_is : (config : Config) (past : List Entry) (s : Step) → phase config past ≡ Working → due_for_services config past ≡ None → FlowsAskNothing config past → step config past ≡ s → due config past ≡ due_for config s (next_number past)
+pub due_is : (config : Config) (past : List Entry) (s : Step) → phase config past ≡ Working → due_for_services config past ≡ None → due_for_flows config (book config past) (next_number past) ≡ None → step config past ≡ s → due config past ≡ due_for config s (next_number past)
 due_is config past s working serves asks is = due_in_phase config past Working working serves asks ∙ ap (λ t. due_for config t (next_number past)) is
 
 -- of which datagram

@@ -10,7 +10,7 @@ use Rattle.slirp_laws.specs.Sending.{requests, requests_by}
 use Rattle.slirp_laws.specs.Answers.{identification, datagrams_in, datagrams_out, with_datagrams, again_frames, left, serving, taken, is_first, is_out}
 use Rattle.record_flows.specs.Book.{book}
 use Rattle.record_flows.specs.Doings.{doing_by}
-use Rattle.record_flows.specs.Laws.{MayWrite, flow_settings}
+use Rattle.record_flows.specs.Laws.{MayWrite, MustWrite, flow_settings}
 use Rattle.run_laws.specs.Moments.{moment}
 use Rattle.slirp_laws.specs.Datagrams.{Settled}
 use Rattle.slirp_laws.specs.Sending.{is_beside, is_explained}
@@ -27,7 +27,7 @@ use Rattle.slirp_core.specs.Pumps.{pumped_of, keep}
 use Rattle.slirp_core.specs.State.{SlirpState}
 use Rattle.slirp_core.specs.declared.sending.Pumped.{Pumped}
 use Rattle.slirp_laws.specs.Errands.{errand_left}
-use Rattle.slirp_laws.proofs.Deeds.{writes}
+use Rattle.slirp_laws.proofs.Deeds.{FlowsLetWrite, writes}
 use Rattle.slirp_core.proofs.Guests.{guests_stay, of_guests}
 use Rattle.slirp_core.proofs.Parts.{asks_nothing, asked_for, due_is, errand_for, in_turn, or_first, two_in}
 use Rattle.slirp_core.specs.Owed.{IsOwed, OfFile, OfLeft}
@@ -35,7 +35,7 @@ use Rattle.slirp_core.proofs.Again.{again_gone, asks_nobody, may_write_again, no
 use Rattle.slirp_core.proofs.Owing.{again_stays, files_stay, left_then, owed_as, owed_on, quest_written, unbegun}
 use Rattle.slirp_laws.proofs.FileTurns.{MayGoAgain, is_explained_again}
 use Rattle.slirp_core.proofs.Services.{none_due_for_services}
-use Rattle.slirp_core.proofs.Flows.{answer_goes, flows_answered, flows_stay}
+use Rattle.slirp_core.proofs.Flows.{answer_goes, flows_answered, flows_stay, flows_stay_open}
 use Rattle.slirp_core.proofs.Open.{are_open}
 use Rattle.stream_netdev.specs.declared.Offered.TheVariants.{Taken, Blocked as OfferBlocked, Failed as OfferFailed}
 
@@ -47,14 +47,14 @@ record Left (config : Config) (aged : Bool) (past : List Entry) (octets : List �
 -- after a lawful write in a turn, by its answer
 after_write : (config : Config) (at : Standing) (slirp new_slirp : SlirpState) (f : Flowing) (old new : LinkState) (past : List Entry) (octets : List ℕ) (answer : Io) (blocked : Bool)
     → Holds config at slirp f old past → InTurn config past → Keeps new (LinkWrite octets answer ∷ past) → Allowed (LinkWrite octets answer) → may_begin config past (tail past) octets ≡ true
-    → MayWrite (flow_settings config) (moment past) (book config past).flows (tail past) octets → ((a : Io) → OfFlows config f slirp.moment (LinkWrite octets a ∷ past))
+    → FlowsLetWrite config past octets → ((a : Io) → OfFlows config f slirp.moment (LinkWrite octets a ∷ past))
     → Left config f.aged past octets answer new_slirp → new_slirp ≡ record slirp { pending = new_slirp.pending; sent = new_slirp.sent }
     → AfterPump (pumped_of (offered answer) blocked) config at new_slirp f new (LinkWrite octets answer ∷ past)
 after_write config at slirp new_slirp f old new past octets answer blocked holds turn keeps allowed may sent flows remains same = by_answer answer blocked keeps allowed remains
   where
     lawful : (a : Io) → Keeps new (LinkWrite octets a ∷ past) → Lawful config (LinkWrite octets a ∷ past)
     lawful a k = (
-      writes config past octets k.framed.0 (due_is config past Settled turn.working (none_due_for_services config past holds.relayed.heard holds.services.quest) holds.flows.holds.asked (asked_for config at Settled None slirp f old past holds)) (ap is_working turn.working) may holds.open_yet sent,
+      writes config past octets k.framed.0 (due_is config past Settled turn.working (none_due_for_services config past holds.relayed.heard holds.services.quest) holds.flows.holds.asked (asked_for config at Settled None slirp f old past holds)) (flows_stay_open config f slirp.moment past holds.flows) (ap is_working turn.working) may holds.open_yet sent,
       holds.lawful,
     )
 
@@ -98,6 +98,7 @@ after_write config at slirp new_slirp f old new past octets answer blocked holds
       errand = errand_for config Settled None slirp past holds.relayed;
       served = none_due_for_services config (LinkWrite octets Failed ∷ past) refl (quest_written config octets Failed past holds.services.quest);
       idle = (flows Failed).holds.asked;
+      stay = flows_stay_open config f slirp.moment (LinkWrite octets Failed ∷ past) (flows Failed);
       sockets = subst (λ (s : SlirpState). AreOpenWith (forward_sockets s.forwards) (carriers (holders_with s f.kept)) f.kept.flows.parts (LinkWrite octets Failed ∷ past)) (sym same) (record { each = now_open.each; forward = now_open.forward; carry = now_open.carry; flow = now_open.flow; apart = now_open.apart; rising = now_open.rising; first = now_open.first });
       two = subst (λ (s : SlirpState). AreTwo (holders_with s f.kept)) (sym same) (two_in config slirp past holds.lawful holds.relayed.list holds.relayed.questions);
     }
@@ -125,9 +126,10 @@ after_flush config at slirp f old new made past result pumped some (answer, is, 
     begins [] rest some is = absurd (omega (arith, ap length is))
     begins (x ∷ t) rest some is = refl
 
-    goes_on : (t rest : List ℕ) → 0 < length rest → t ≡ rest → MayWrite (flow_settings config) (moment past) (book config past).flows t rest
+    goes_on : (t rest : List ℕ) → 0 < length rest → t ≡ rest
+        → MayWrite (flow_settings config) (moment past) (book config past).flows t rest × MustWrite (flow_settings config) (moment past) (book config past).flows t rest
     goes_on [] rest some is = absurd (omega (arith, ap length is))
-    goes_on (x ∷ t) rest some is = tt
+    goes_on (x ∷ t) rest some is = (tt, tt)
 
     none_opens : (a : Io) (rest t : List ℕ) → 0 < length rest → t ≡ rest → opens (LinkWrite rest a) t ≡ None
     none_opens a rest [] some is = absurd (omega (arith, ap length is))
@@ -158,7 +160,7 @@ counts_on more out = omega arith
 -- the frame may go out, flows are as they should be after it, and what is owed then is what the network has
 record Offers (config : Config) (f : Flowing) (slirp : SlirpState) (past : List Entry) (frame : List ℕ) (rest : List (List ℕ)) : Type 0 where
   explained : is_explained config past (drop 4 (spelling frame)) ≡ true
-  goes : MayWrite (flow_settings config) (moment past) (book config past).flows (tail past) (spelling frame)
+  goes : FlowsLetWrite config past (spelling frame)
   flows : (a : Io) → OfFlows config f slirp.moment (LinkWrite (spelling frame) a ∷ past)
   owed : (a : Io) (next : SlirpState) → tail past ≡ [] → next.pending ≡ keep (offered a) (frame ∷ rest) → next.transfers ≡ slirp.transfers → IsOwed config f.aged next (LinkWrite (spelling frame) a ∷ past)
 

@@ -55,7 +55,7 @@ use Rattle.slirp_core.proofs.Guests.{guests_learn}
 use Rattle.slirp_core.proofs.Parts.{behind_of, errand_for, from_of, reads_of, skipped, due_is, in_turn, two_in}
 use Rattle.slirp_core.proofs.Waitings.{fragments_stay, fragments_take}
 use Rattle.tcp_flows.specs.Kept.{Kept}
-use Rattle.slirp_core.proofs.Flows.{flows_stay}
+use Rattle.slirp_core.proofs.Flows.{flows_stay, flows_stay_open}
 use Rattle.slirp_core.proofs.Owing.{nothing_left, of_left, owed_at}
 use Rattle.slirp_core.proofs.Services.{none_due_for_services, serving_is}
 use Rattle.slirp_laws.specs.Names.{answered, questions}
@@ -89,7 +89,7 @@ module _ (config : Config) (count : ℕ) (wants : List Want) (item : Want) (item
   -- a read may come, that asks for what is missing
   may_read : (asked : ℕ) (past : List Entry) → MayFrame past (CallLinkRead asked) → Quiet config count wants item items slirp kept wait past → May config past (CallLinkRead asked)
   may_read asked past framed q =
-      reads_on config past asked framed (due_is config past Settled q.turn.working (none_due_for_services config past q.heard q.serves.quest) q.flows.holds.asked (ap (step_of config past) q.unasked)) (ap is_working q.turn.working)
+      reads_on config past asked framed (due_is config past Settled q.turn.working (none_due_for_services config past q.heard q.serves.quest) q.flows.holds.asked (ap (step_of config past) q.unasked)) (flows_stay_open config (flowing false kept) slirp.moment past q.flows) (ap is_working q.turn.working)
       (reads_of TheLink (wanted_of wants item) (all_wanted wants items) (agenda past) reads_it q.reported)
       (ap (λ t. is_nothing t && is_out (left config past)) q.out ∙ ap is_out q.none) q.open_yet
 
@@ -547,6 +547,7 @@ module _ (config : Config) (count : ℕ) (wants : List Want) (item : Want) (item
         errand = all.asks ∙ ap (errand_by_packet config) nothing;
         served = none_due_for_services config (made ++ past) all.heard (ap (λ (k : Files). k.quest) (all.files_is ∙ ap (files_by_packet config (serving_of slirp)) nothing));
         idle = flows.holds.asked;
+        stay = flows_stay_open config (flowing false kept) slirp.moment (made ++ past) flows;
         sockets = subst (λ l. AreOpenWith (forward_sockets l) (carriers (holders_with slirp kept)) kept.flows.parts (made ++ past)) (sym holds.forwards)
             (open_by config slirp (flowing false kept) slirp.moment (made ++ past) all.lawful all.list all.named flows.holds all.sockets.kinds
             (all_given config (made ++ past) all.lawful (Over (By why)) (all.phase_is ∙ ap over_by (r.1.last ∙ is)) refl) all.open_yet);

@@ -59,7 +59,7 @@ use Rattle.tftp_server.specs.Transfers.{Settled as QuestSettled}
 use Rattle.slirp_core.proofs.Owing.{left_stays, left_then, nothing_left as none_left, of_left, owed_stays}
 use Rattle.slirp_core.proofs.Services.{asks_resolver, close_due, none_due_for_services, opened_for_name, opened_for_other}
 use Rattle.slirp_core.proofs.Sockets.{numbered_among, idle_among}
-use Rattle.slirp_core.proofs.Flows.{closes_freely, no_flow}
+use Rattle.slirp_core.proofs.Flows.{closes_freely, flows_ask_nothing, flows_stay_open, no_flow}
 
 -- the kinds of sockets, one more
 kinds_open : (number : ℕ) (at : Endpoint) (answer : Made) (past : List Entry) → 0 < waits past → ((n : ℕ) → is_among n (open_sockets past) ≡ true → is_ours (kind_of n past) ≡ true)
@@ -261,7 +261,7 @@ module _ (config : Config) (at : Standing) (slirp : SlirpState) (f : Flowing) (l
           ∙ (λ i. Some (CallUdpOpen (holds.sockets.number i) (is_port i)))
 
       may_open : May config past (CallUdpOpen slirp.number port)
-      may_open = opens config past slirp.number port open_due (ap (λ n. slirp.number == n) holds.sockets.number ∙ same slirp.number) holds.flows.holds.asked holds.open_yet
+      may_open = opens config past slirp.number port open_due (ap (λ n. slirp.number == n) holds.sockets.number ∙ same slirp.number) (flows_ask_nothing config f slirp.moment past holds.flows) holds.open_yet
 
       -- with these lists then
       opened_with : (list : List Association) (named : List Question) → Allowed (UdpOpen slirp.number port MadeDone)
@@ -371,7 +371,7 @@ module _ (config : Config) (at : Standing) (slirp : SlirpState) (f : Flowing) (l
     send_due = due_is config past (NeedsSending socket errand) send_turn.working (none_due_for_services config past holds.relayed.heard holds.services.quest) holds.flows.holds.asked (asks (NeedsSending socket errand) None holds)
 
     may_send : May config past (CallUdpSend socket errand.to errand.datagram.body)
-    may_send = sends config past socket errand.to errand.datagram.body send_due on holds.flows.holds.asked holds.open_yet
+    may_send = sends config past socket errand.to errand.datagram.body send_due on (flows_ask_nothing config f slirp.moment past holds.flows) holds.open_yet
 
     pub after_sending : (answer : Sent) (pending : List (List ℕ)) → Allowed (UdpSend socket errand.to errand.datagram.body answer)
         → unless_sent answer (frames_of config (identification past) (told_about config no_network errand.datagram)) (left config past) ≡ pending
@@ -429,7 +429,7 @@ module _ (config : Config) (at : Standing) (slirp : SlirpState) (f : Flowing) (l
           (and_both (is_among socket (open_sockets past)) _ here
           (ap (λ (b : Bool). if b then is_least socket (open_sockets past) else parts config past socket || (is_ended config past && is_least socket (open_sockets past))) holds.open_yet
           ∙ or_first (parts config past socket) (is_ended config past && is_least socket (open_sockets past)) why))
-          (closes_freely config past socket (no_flow config past socket holds.lawful own) holds.flows.holds.asked);
+          (closes_freely config past socket (no_flow config past socket holds.lawful own) (flows_ask_nothing config f slirp.moment past holds.flows));
       allowed = allowed;
       own = own;
       answers = record { sent = holds.answers.sent; owed = owed holds.answers.owed };
@@ -580,7 +580,7 @@ module _ (config : Config) (count : ℕ) (wants : List Want) (item : Want) (item
       none_reported x rest (y ∷ front) is = cc
 
   may_hear : relays past socket ≡ true → May config past (CallUdpRecv socket size)
-  may_hear on = hears config past socket size (due_is config past Settled hear_turn.working (none_due_for_services config past holds.relayed.heard holds.services.quest) holds.flows.holds.asked (asks config before slirp f link past Settled None holds)) (ap is_working hear_turn.working)
+  may_hear on = hears config past socket size (due_is config past Settled hear_turn.working (none_due_for_services config past holds.relayed.heard holds.services.quest) holds.flows.holds.asked (asks config before slirp f link past Settled None holds)) (flows_stay_open config f slirp.moment past holds.flows) (ap is_working hear_turn.working)
       on whole (reads_of (UdpAt socket) (wanted_of wants item) (all_wanted wants items) (agenda past) reported holds.agenda) (all_out config before slirp f link past none out holds) holds.open_yet
 
   agenda_behind : (answer : Got) (octets : List ℕ) → IsLast (all_wanted wants items) (agenda (UdpRecv socket size answer octets ∷ past))

@@ -21,7 +21,7 @@ use Rattle.stream_netdev.specs.State.{LinkState}
 use Rattle.tcp_flows.specs.Kept.{Kept}
 use Rattle.slirp_core.specs.Holds.{AsksFile, Holds, InTurn, IsLast, OfClock, OfFlows, OfGuests, OfSockets, Standing, Turns, flowing}
 use Rattle.slirp_core.specs.State.{SlirpState}
-use Rattle.slirp_core.proofs.Flows.{flows_stay}
+use Rattle.slirp_core.proofs.Flows.{flows_ask_nothing, flows_stay}
 use Rattle.slirp_core.proofs.Guests.{guests_stay}
 use Rattle.slirp_core.proofs.Parts.{asks_nothing, errand_for, keeps_by}
 
@@ -111,7 +111,7 @@ module _ (config : Config) (at : Standing) (slirp : SlirpState) (kept : Kept) (l
       let o : Outcome = came config.tftp_path slirp.moment d.mac d.from d.body (settled slirp.transfers) in
       let at_now : (serving config past).now ≡ slirp.moment = now_is config past ∙ a.clock.moment in
       let is : IsServed slirp.moment o transfers told made = subst (λ (k : Config). IsServed slirp.moment (came k.tftp_path slirp.moment d.mac d.from d.body (settled slirp.transfers)) transfers told made) a.guests.settings is_served in
-      let may : MaySeek config past = record { working = a.turn.working; settled = errand_for config Settled None slirp past a.relayed; unheard = a.relayed.heard; nothing = a.flows.holds.asked; open_yet = a.open_yet } in
+      let may : MaySeek config past = record { working = a.turn.working; settled = errand_for config Settled None slirp past a.relayed; unheard = a.relayed.heard; nothing = flows_ask_nothing config (flowing false kept) slirp.moment past a.flows; open_yet = a.open_yet } in
       let calls : AreFileCalls config past o made = are_file_calls config past o made a.lawful may a.outcome (silent_packet config.tftp_path slirp.moment d.mac d.from (packet_in d.body) slirp.transfers)
       (a.owed ∙ ap (λ i. frames_of config i (told_of_files config o.told)) (sym a.sent)) (subst (λ n. AreAskedFor n o made) (sym at_now) is.asked) in
       let after : after_calls (serving config past).now made o ≡ after_calls slirp.moment made o = ap (λ n. after_calls n made o) at_now in

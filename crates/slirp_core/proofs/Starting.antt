@@ -57,7 +57,7 @@ use Rattle.spliced_flows.specs.Core.{CoreHolds, Following, number_of}
 use Rattle.spliced_flows.proofs.Options.{true_false}
 use Rattle.tcp_flows.specs.Kept.{IsFor, Kept}
 use Rattle.tcp_flows.specs.Reading.{NoneInSlots}
-use Rattle.slirp_core.proofs.Flows.{flows_stay, flows_told}
+use Rattle.slirp_core.proofs.Flows.{flows_ask_nothing, flows_stay, flows_stay_open, flows_told}
 use Rattle.slirp_core.proofs.Given.{given_kind, given_rise, opening_kind, opening_made, opening_next, opening_open, opening_waits}
 use Rattle.slirp_core.proofs.Open.{are_open}
 
@@ -268,8 +268,8 @@ module _ (config : Config) (slirp : SlirpState) (link : LinkState) (past : List 
       drawn = ap (λ n. slirp.number == n) opens.sockets.number ∙ same slirp.number
 
       by : (p : Proto) → due config past ≡ Some (opening_call p slirp.number f) → May config past (call_of (port_opening p slirp.number f.host answer))
-      by Tcp is = listens config past slirp.number f.host is drawn opens.flows.holds.asked opens.open_yet
-      by Udp is = opens_socket config past slirp.number f.host is drawn opens.flows.holds.asked opens.open_yet
+      by Tcp is = listens config past slirp.number f.host is drawn (flows_ask_nothing config (flowing false slirp.flows) slirp.moment past opens.flows) opens.open_yet
+      by Udp is = opens_socket config past slirp.number f.host is drawn (flows_ask_nothing config (flowing false slirp.flows) slirp.moment past opens.flows) opens.open_yet
 
   nothing_left : errand_left config past ≡ None
   nothing_left = errand_for config Settled None slirp past opens.relayed
@@ -353,6 +353,7 @@ module _ (config : Config) (slirp : SlirpState) (link : LinkState) (past : List 
     errand = errand_then f.proto Failed;
     served = none_due_for_services config (opened_port Failed ∷ past) q.unheard (ap (λ (k : Files). k.quest) q.files ∙ opens.services.quest);
     idle = (flows_stay config (flowing false slirp.flows) slirp.moment (opened_port Failed) past q.silent q.unasked (let up = opening_next config f.proto slirp.number f.host Failed past in omega (arith, up)) q.moment opens.flows).holds.asked;
+    stay = flows_stay_open config (flowing false slirp.flows) slirp.moment (opened_port Failed ∷ past) (flows_stay config (flowing false slirp.flows) slirp.moment (opened_port Failed) past q.silent q.unasked (let up = opening_next config f.proto slirp.number f.host Failed past in omega (arith, up)) q.moment opens.flows);
     sockets = record {
       each = λ n among. inl (sym (ap (is_among n) (are_same n)) ∙ among);
       forward = λ n among. ap (is_among n) (are_same n) ∙ among;
@@ -389,7 +390,7 @@ module _ (config : Config) (slirp : SlirpState) (link : LinkState) (past : List 
 pub started : (config : Config) (slirp : SlirpState) (link : LinkState) (told : ℕ) (past : List Entry) → Allowed (Now told) → Opens config (length config.forwards) slirp link past
     → Holds config (after 0) (record slirp { moment = max (min told (2 ^ 62)) slirp.moment }) (flowing false slirp.flows) link (Now told ∷ past)
 started config slirp link told past fine opens = record {
-  lawful = (asks config past asks_due opens.flows.holds.asked opens.open_yet, opens.lawful);
+  lawful = (asks config past asks_due (flows_ask_nothing config (flowing false slirp.flows) slirp.moment past opens.flows) opens.open_yet, opens.lawful);
   allowed = (fine, opens.allowed);
   keeps = record { framed = (tt, opens.keeps.framed); partly = opens.keeps.partly; rest = opens.keeps.rest; blocked = opens.keeps.blocked };
   answers = record { sent = opens.answers.sent; owed = owed_told config slirp (record slirp { moment = max (min told (2 ^ 62)) slirp.moment }) past (Now told ∷ past) refl refl refl refl refl refl opens.answers.owed };
@@ -445,6 +446,7 @@ ran config count why forwards o made ended = record {
   errand = ended.errand;
   served = ended.served;
   idle = ended.idle;
+  stay = ended.stay;
   sockets = ended.sockets;
   two = ended.two;
 }
@@ -464,6 +466,7 @@ spent config count slirp f link made some all holds = record {
   errand = errand_for config Settled None slirp made holds.relayed;
   served = none_due_for_services config made holds.relayed.heard holds.services.quest;
   idle = holds.flows.holds.asked;
+  stay = flows_stay_open config f slirp.moment made holds.flows;
   sockets = are_open config (after count) Settled None slirp f link made holds;
   two = two_in config slirp made holds.lawful holds.relayed.list holds.relayed.questions;
 }

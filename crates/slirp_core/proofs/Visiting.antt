@@ -51,7 +51,7 @@ use Rattle.slirp_core.specs.Visits.{Treats}
 use Rattle.slirp_core.specs.Holds.{Begins, Holds, InTurn, OfFlows, Stands, Turns, flowing, is_ours, standing}
 use Rattle.slirp_core.specs.State.{SlirpState}
 use Rattle.slirp_core.proofs.Called.{between, flows_put}
-use Rattle.slirp_core.proofs.Flows.{close_same, flows_since, flows_stay}
+use Rattle.slirp_core.proofs.Flows.{close_same, flows_since, flows_stay, flows_stay_open}
 use Rattle.slirp_core.proofs.Guests.{guests_stay}
 use Rattle.slirp_core.proofs.Names.{none_without}
 use Rattle.slirp_core.proofs.Parts.{asks_nothing, asked_for, behind_of, due_is, errand_for, given_in, keeps_by, reads_of, still_open}
@@ -107,7 +107,7 @@ module _ (config : Config) (count : ℕ) (wants : List Want) (item : Want) (item
   may_accept : May config past (CallAccept listener slirp.number)
   may_accept = accepts config past listener slirp.number
       (due_is config past Settled turn.working (none_due_for_services config past holds.relayed.heard holds.services.quest) holds.flows.holds.asked (asked_for config (standing count wants (item ∷ items)) Settled None slirp (flowing false slirp.flows) link past holds))
-      (ap is_working turn.working) takes (ap (λ n. slirp.number == n) holds.sockets.number ∙ same slirp.number)
+      (flows_stay_open config (flowing false slirp.flows) slirp.moment past holds.flows) (ap is_working turn.working) takes (ap (λ n. slirp.number == n) holds.sockets.number ∙ same slirp.number)
       (reads_of (AListener listener) (wanted_of wants item) (all_wanted wants items) (agenda past) reads_it holds.agenda) holds.open_yet
 
   -- what an accept leaves, by its answer
@@ -220,6 +220,8 @@ module _ (config : Config) (count : ℕ) (wants : List Want) (item : Want) (item
           (record {
             due = subst (λ o. MatchOption o (Unit {0}) (λ d. CallClose slirp.number ≡ d)) (sym close_is_due) refl;
             touches = subst (MayShut (flow_settings config) (scene config (visit ∷ past)) (book config (visit ∷ past)).came) (sym no_flow_then) tt;
+            must = tt;
+            at_once = λ n f found closes. absurd (flows_stay_open config (flowing false slirp.flows) slirp.moment past holds.flows n f (sym (ap (λ (b : Book). flow_of n b.flows) doomed_is) ∙ found) closes);
           })
 
       book_then : book config shut_again ≡ quiet (book config past)

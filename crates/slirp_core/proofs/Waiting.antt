@@ -25,7 +25,7 @@ use Rattle.slirp_core.proofs.Owing.{owed_told, owed_waited}
 use Rattle.slirp_core.proofs.Services.{none_due_for_services}
 use Rattle.tftp_server.specs.Transfers.{next_again}
 use Rattle.tcp_flows.specs.Kept.{Kept}
-use Rattle.slirp_core.proofs.Flows.{flows_paused, flows_told}
+use Rattle.slirp_core.proofs.Flows.{flows_ask_nothing, flows_paused, flows_stay_open, flows_told}
 use Rattle.slirp_core.proofs.Open.{are_open}
 
 not_before : (told now : ℕ) → now ≤ max (min told (2 ^ 62)) now
@@ -49,7 +49,7 @@ module _ (config : Config) (count : ℕ) (slirp : SlirpState) (kept : Kept) (old
 
   waited : (answer : Waited) (ready : List Want) → Lawful config (Wait wants timeout answer ready ∷ past)
   waited answer ready = (
-    waits_now config past wants timeout (none_due holds.stands) (turns_on holds.stands) waits_on holds.open_yet,
+    waits_now config past wants timeout (none_due holds.stands) (flows_stay_open config (flowing true kept) slirp.moment past holds.flows) (turns_on holds.stands) waits_on holds.open_yet,
     holds.lawful,
   )
 
@@ -71,6 +71,7 @@ module _ (config : Config) (count : ℕ) (slirp : SlirpState) (kept : Kept) (old
     errand = errand_for config Settled None slirp past holds.relayed;
     served = none_due_for_services config (Wait wants timeout answer ready ∷ past) refl holds.services.quest;
     idle = (flows_then answer ready).holds.asked;
+    stay = flows_stay_open config (flowing false kept) slirp.moment (Wait wants timeout answer ready ∷ past) (flows_then answer ready);
     sockets = record { each = now_open.each; forward = now_open.forward; carry = now_open.carry; flow = now_open.flow; apart = now_open.apart; rising = now_open.rising; first = now_open.first };
     two = two_in config slirp past holds.lawful holds.relayed.list holds.relayed.questions;
   }
@@ -79,7 +80,7 @@ module _ (config : Config) (count : ℕ) (slirp : SlirpState) (kept : Kept) (old
       → new.blocked ≡ (if writes TheLink ready then false else old.blocked)
       → Holds config (standing (count + 1) wants ready) (record slirp { moment = max (min told (2 ^ 62)) slirp.moment }) (flowing false kept) new (Now told ∷ Wait wants timeout Ready ready ∷ past)
   wait_wakes ready told new allowed_wait allowed_now same_in same_out free = record {
-    lawful = (asks config (Wait wants timeout Ready ready ∷ past) refl (flows_then Ready ready).holds.asked holds.open_yet, waited Ready ready);
+    lawful = (asks config (Wait wants timeout Ready ready ∷ past) refl (flows_ask_nothing config (flowing false kept) slirp.moment (Wait wants timeout Ready ready ∷ past) (flows_then Ready ready)) holds.open_yet, waited Ready ready);
     allowed = (allowed_now, (allowed_wait, holds.allowed));
     keeps = record {
       framed = (tt, (tt, holds.keeps.framed));

@@ -10,6 +10,7 @@ use Rattle.udp_assoc.specs.declared.assocs.Association.{Association as AnAssocia
 use Rattle.dns_relay.specs.declared.Question.{Question}
 use Rattle.dns_relay.specs.Questions.{numbers as question_numbers}
 use Rattle.record_flows.specs.Book.{book}
+use Rattle.record_flows.specs.Laws.{NoneMustClose}
 use Rattle.record_flows.specs.Lots.{due_for_flows, is_reset}
 use Rattle.record_flows.specs.Taught.{taught}
 use Rattle.flow_splice.specs.Splice.{Splice}
@@ -290,6 +291,7 @@ pub record Ended (config : Config) (count : ℕ) (why : Ending) (forwards : List
   pub errand : errand_left config past ≡ None
   pub served : due_for_services config past ≡ None
   pub idle : due_for_flows config (book config past) (next_number past) ≡ None
+  pub stay : NoneMustClose config past
   pub sockets : AreOpenWith (forward_sockets forwards) (carriers o) o.parts past
   pub two : AreTwo o
 
@@ -337,6 +339,7 @@ pub record ClosingBy (Left : List Entry → Type 0) (o : Holders) (config : Conf
   pub errand : errand_left config past ≡ None
   pub served : due_for_services config past ≡ None
   pub idle : due_for_flows config (book config past) (next_number past) ≡ None
+  pub stay : NoneMustClose config past
   pub sockets : Left past
   pub two : AreTwo o
 

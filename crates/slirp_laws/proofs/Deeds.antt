@@ -11,9 +11,9 @@ use Rattle.host_policy.specs.Addresses.{Config}
 use Rattle.run_laws.specs.Shape.{due_in, is_over, is_working, may_turn, phase}
 use Rattle.run_laws.specs.Sockets.{next_number}
 use Rattle.record_flows.specs.Book.{book}
-use Rattle.record_flows.specs.Laws.{MayFlow, MayTouch, MayWrite, flow_settings}
+use Rattle.record_flows.specs.Laws.{MayFlow, MayTouch, MustTouch, NoneMustClose}
 use Rattle.record_flows.specs.Lots.{due_for_flows}
-use Rattle.run_laws.specs.Moments.{moment, waits}
+use Rattle.run_laws.specs.Moments.{waits}
 use Rattle.slirp_laws.specs.Agenda.{agenda}
 use Rattle.slirp_laws.specs.Laws.{May, MayDue, deed_of, due, due_for_answer, due_for_services, goes_on, has_place, has_socket, is_all_out, is_answered, is_closing, is_served, may_begin, may_close, unless_due, relays, takes_peers}
 use Rattle.slirp_laws.specs.Asking.{step}
@@ -31,26 +31,39 @@ gathered config past call framed is_due has_place has_socket served answered on 
 
 -- ---- what flows say of it
 
--- no call is due for a flow
-abbrev pub FlowsAskNothing : Config → List Entry → Type 0
-FlowsAskNothing config past = due_for_flows config (book config past) (next_number past) ≡ None
+-- no call is due for a flow, and none must be closed
+pub record FlowsAskNothing (config : Config) (past : List Entry) : Type 0 where
+  pub due : due_for_flows config (book config past) (next_number past) ≡ None
+  pub stay : NoneMustClose config past
 
--- flows ask for no call, and this one touches none
-pub untouched : (config : Config) (past : List Entry) (call : Call) → FlowsAskNothing config past → MayTouch config past call → MayFlow config past call
-untouched config past call nothing touches = record { due = subst (λ o. MatchOption o (Unit {0}) (λ d. call ≡ d)) (sym nothing) tt; touches = touches }
+-- a write is one that flows allow, and as it must be for them
+abbrev pub FlowsLetWrite : Config → List Entry → List ℕ → Type 0
+FlowsLetWrite config past octets = MayTouch config past (CallLinkWrite octets) × MustTouch config past (CallLinkWrite octets)
+
+-- flows ask for no call, allow this one, and it is as it must be for them
+pub untouched : (config : Config) (past : List Entry) (call : Call) → FlowsAskNothing config past → MayTouch config past call → MustTouch config past call → MayFlow config past call
+untouched config past call nothing touches must = record {
+  due = subst (λ o. MatchOption o (Unit {0}) (λ d. call ≡ d)) (sym nothing.due) tt;
+  touches = touches;
+  must = must;
+  at_once = λ number f found closes. absurd (nothing.stay number f found closes);
+}
 
 second_none : (first second : Option Call) → unless_due first second ≡ None → second ≡ None
 second_none None second is = is
 second_none (Some call) second is = cc
 
 -- where no call is due none is for a flow
-pub ask_nothing : (config : Config) (past : List Entry) → due config past ≡ None → FlowsAskNothing config past
-ask_nothing config past none =
+pub ask_nothing : (config : Config) (past : List Entry) → due config past ≡ None → NoneMustClose config past → FlowsAskNothing config past
+ask_nothing config past none stay =
     let flows = due_for_flows config (book config past) (next_number past) in
     let services = unless_due (due_for_services config past) flows in
     let datagrams = unless_due (due_for config (step config past) (next_number past)) services in
-    second_none (due_for_services config past) flows
-    (second_none (due_for config (step config past) (next_number past)) services (second_none (due_in (phase config past) past) datagrams none))
+    record {
+      due = second_none (due_for_services config past) flows
+          (second_none (due_for config (step config past) (next_number past)) services (second_none (due_in (phase config past) past) datagrams none));
+      stay = stay;
+    }
 
 -- where a call is due, and where none is
 pub this_one : (config : Config) (past : List Entry) (call : Call) → due config past ≡ Some call → MayDue config past call
@@ -95,57 +108,57 @@ module _ (config : Config) (past : List Entry) where
 
   -- the clock is asked where that is due
   pub asks : due config past ≡ Some CallNow → FlowsAskNothing config past → is_closing config past ≡ false → May config past CallNow
-  asks is nothing open_yet = gathered config past CallNow tt (this_one config past CallNow is) (some_due config past CallNow is) refl refl refl (on_yet open_yet) (untouched config past CallNow nothing tt)
+  asks is nothing open_yet = gathered config past CallNow tt (this_one config past CallNow is) (some_due config past CallNow is) refl refl refl (on_yet open_yet) (untouched config past CallNow nothing tt tt)
 
   -- a turn begins
-  pub waits_now : (wants : List Want) (timeout : Option ℕ) → due config past ≡ None → may_turn (phase config past) ≡ true → nat_lt (waits past) config.turns ≡ true → is_closing config past ≡ false → May config past (CallWait wants timeout)
-  waits_now wants timeout none turn few open_yet =
+  pub waits_now : (wants : List Want) (timeout : Option ℕ) → due config past ≡ None → NoneMustClose config past → may_turn (phase config past) ≡ true → nat_lt (waits past) config.turns ≡ true → is_closing config past ≡ false → May config past (CallWait wants timeout)
+  waits_now wants timeout none stay turn few open_yet =
       gathered config past (CallWait wants timeout) tt (any_one config past (CallWait wants timeout) none) (and_both (may_turn (phase config past)) (nat_lt (waits past) config.turns) turn few) refl refl refl
-      (on_yet open_yet) (untouched config past (CallWait wants timeout) (ask_nothing config past none) tt)
+      (on_yet open_yet) (untouched config past (CallWait wants timeout) (ask_nothing config past none stay) tt tt)
 
   -- the link is read where the last wait reported it and nothing is left to be sent
-  pub reads_on : (asked : ℕ) → MayFrame past (CallLinkRead asked) → due config past ≡ None → is_working (phase config past) ≡ true → reads Link (agenda past) ≡ true → is_all_out config past ≡ true
+  pub reads_on : (asked : ℕ) → MayFrame past (CallLinkRead asked) → due config past ≡ None → NoneMustClose config past → is_working (phase config past) ≡ true → reads Link (agenda past) ≡ true → is_all_out config past ≡ true
       → is_closing config past ≡ false → May config past (CallLinkRead asked)
-  reads_on asked framed none working reported out open_yet =
-      gathered config past (CallLinkRead asked) framed (any_one config past (CallLinkRead asked) none) working refl reported out (on_yet open_yet) (untouched config past (CallLinkRead asked) (ask_nothing config past none) tt)
+  reads_on asked framed none stay working reported out open_yet =
+      gathered config past (CallLinkRead asked) framed (any_one config past (CallLinkRead asked) none) working refl reported out (on_yet open_yet) (untouched config past (CallLinkRead asked) (ask_nothing config past none stay) tt tt)
 
   -- a frame is written, or goes on
-  pub writes : (octets : List ℕ) → MayFrame past (CallLinkWrite octets) → due config past ≡ None → is_working (phase config past) ≡ true → may_begin config past (tail past) octets ≡ true
-      → is_closing config past ≡ false → MayWrite (flow_settings config) (moment past) (book config past).flows (tail past) octets → May config past (CallLinkWrite octets)
-  writes octets framed none working begins open_yet sent =
-      gathered config past (CallLinkWrite octets) framed (any_one config past (CallLinkWrite octets) none) working refl refl begins (on_yet open_yet) (untouched config past (CallLinkWrite octets) (ask_nothing config past none) sent)
+  pub writes : (octets : List ℕ) → MayFrame past (CallLinkWrite octets) → due config past ≡ None → NoneMustClose config past → is_working (phase config past) ≡ true → may_begin config past (tail past) octets ≡ true
+      → is_closing config past ≡ false → FlowsLetWrite config past octets → May config past (CallLinkWrite octets)
+  writes octets framed none stay working begins open_yet sent =
+      gathered config past (CallLinkWrite octets) framed (any_one config past (CallLinkWrite octets) none) working refl refl begins (on_yet open_yet) (untouched config past (CallLinkWrite octets) (ask_nothing config past none stay) sent.0 sent.1)
 
   -- a socket is opened with the next number where that is due
   pub opens : (socket : ℕ) (at : Endpoint) → due config past ≡ Some (CallUdpOpen socket at) → (socket == next_number past) ≡ true → FlowsAskNothing config past → is_closing config past ≡ false → May config past (CallUdpOpen socket at)
   opens socket at is next nothing open_yet =
-      gathered config past (CallUdpOpen socket at) tt (this_one config past (CallUdpOpen socket at) is) (some_due config past (CallUdpOpen socket at) is) next refl refl (on_yet open_yet) (untouched config past (CallUdpOpen socket at) nothing tt)
+      gathered config past (CallUdpOpen socket at) tt (this_one config past (CallUdpOpen socket at) is) (some_due config past (CallUdpOpen socket at) is) next refl refl (on_yet open_yet) (untouched config past (CallUdpOpen socket at) nothing tt tt)
 
   -- and so is a port of the host that takes connections
   pub listens : (socket : ℕ) (at : Endpoint) → due config past ≡ Some (CallListen socket at) → (socket == next_number past) ≡ true → FlowsAskNothing config past → is_closing config past ≡ false → May config past (CallListen socket at)
   listens socket at is next nothing open_yet =
-      gathered config past (CallListen socket at) tt (this_one config past (CallListen socket at) is) (some_due config past (CallListen socket at) is) next refl refl (on_yet open_yet) (untouched config past (CallListen socket at) nothing tt)
+      gathered config past (CallListen socket at) tt (this_one config past (CallListen socket at) is) (some_due config past (CallListen socket at) is) next refl refl (on_yet open_yet) (untouched config past (CallListen socket at) nothing tt tt)
 
   -- a peer is taken where the last wait reported the port, while there is room for a flow more
-  pub accepts : (listener socket : ℕ) → due config past ≡ None → is_working (phase config past) ≡ true → takes_peers config past listener ≡ true → (socket == next_number past) ≡ true → reads (AListener listener) (agenda past) ≡ true
+  pub accepts : (listener socket : ℕ) → due config past ≡ None → NoneMustClose config past → is_working (phase config past) ≡ true → takes_peers config past listener ≡ true → (socket == next_number past) ≡ true → reads (AListener listener) (agenda past) ≡ true
       → is_closing config past ≡ false → May config past (CallAccept listener socket)
-  accepts listener socket none working room next reported open_yet =
+  accepts listener socket none stay working room next reported open_yet =
       gathered config past (CallAccept listener socket) tt (any_one config past (CallAccept listener socket) none) working (and_both (takes_peers config past listener) (socket == next_number past) room next) reported refl (on_yet open_yet)
-      (untouched config past (CallAccept listener socket) (ask_nothing config past none) (equal socket (next_number past) next))
+      (untouched config past (CallAccept listener socket) (ask_nothing config past none stay) (equal socket (next_number past) next) tt)
 
   -- a datagram is sent where that is due
   pub sends : (socket : ℕ) (to : Endpoint) (octets : List ℕ) → due config past ≡ Some (CallUdpSend socket to octets) → relays past socket ≡ true → FlowsAskNothing config past → is_closing config past ≡ false
       → May config past (CallUdpSend socket to octets)
   sends socket to octets is on nothing open_yet =
       gathered config past (CallUdpSend socket to octets) tt (this_one config past (CallUdpSend socket to octets) is) (some_due config past (CallUdpSend socket to octets) is) on refl refl
-      (on_yet open_yet) (untouched config past (CallUdpSend socket to octets) nothing tt)
+      (on_yet open_yet) (untouched config past (CallUdpSend socket to octets) nothing tt tt)
 
   -- one is asked for where the last wait reported the socket and nothing is left to be sent
-  pub hears : (socket asked : ℕ) → due config past ≡ None → is_working (phase config past) ≡ true → relays past socket ≡ true → asked ≡ most_to_udp → reads (Udp socket) (agenda past) ≡ true → is_all_out config past ≡ true
+  pub hears : (socket asked : ℕ) → due config past ≡ None → NoneMustClose config past → is_working (phase config past) ≡ true → relays past socket ≡ true → asked ≡ most_to_udp → reads (Udp socket) (agenda past) ≡ true → is_all_out config past ≡ true
       → is_closing config past ≡ false → May config past (CallUdpRecv socket asked)
-  hears socket asked none working on whole reported out open_yet =
+  hears socket asked none stay working on whole reported out open_yet =
       gathered config past (CallUdpRecv socket asked) tt (any_one config past (CallUdpRecv socket asked) none) working
       (and_both (relays past socket) (asked == most_to_udp) on (ap (λ n. n == most_to_udp) whole ∙ same most_to_udp)) reported out (on_yet open_yet)
-      (untouched config past (CallUdpRecv socket asked) (ask_nothing config past none) tt)
+      (untouched config past (CallUdpRecv socket asked) (ask_nothing config past none stay) tt tt)
 
   -- a socket is closed
   pub closes : (socket : ℕ) → MayDue config past (CallClose socket) → (is_working (phase config past) || is_over (phase config past)) ≡ true → may_close config past socket ≡ true → MayFlow config past (CallClose socket)
@@ -155,9 +168,9 @@ module _ (config : Config) (past : List Entry) where
   -- the length of a file, or octets of it, are asked for where that is due
   pub measures : (name : List ℕ) → due config past ≡ Some (CallFileLen name) → FlowsAskNothing config past → is_closing config past ≡ false → May config past (CallFileLen name)
   measures name is nothing open_yet =
-      gathered config past (CallFileLen name) tt (this_one config past (CallFileLen name) is) (some_due config past (CallFileLen name) is) refl refl refl (on_yet open_yet) (untouched config past (CallFileLen name) nothing tt)
+      gathered config past (CallFileLen name) tt (this_one config past (CallFileLen name) is) (some_due config past (CallFileLen name) is) refl refl refl (on_yet open_yet) (untouched config past (CallFileLen name) nothing tt tt)
 
   pub takes_octets : (name : List ℕ) (place asked : ℕ) → due config past ≡ Some (CallFileRead name place asked) → FlowsAskNothing config past → is_closing config past ≡ false → May config past (CallFileRead name place asked)
   takes_octets name place asked is nothing open_yet =
       gathered config past (CallFileRead name place asked) tt (this_one config past (CallFileRead name place asked) is) (some_due config past (CallFileRead name place asked) is) refl refl refl
-      (on_yet open_yet) (untouched config past (CallFileRead name place asked) nothing tt)
+      (on_yet open_yet) (untouched config past (CallFileRead name place asked) nothing tt tt)

@@ -1,5 +1,5 @@
 -- Runs with files written out: those that are lawful, and those that break one sentence each.
-use Rattle.std.proofs.Common.{◌≡◌, ◌==◌, ℕ, ◌+◌, ◌%◌, zero, suc, Bool, true, false, List, [], ◌∷◌, ◌++◌, Some, None, refl, sym, ◌∙◌, ap, arith}
+use Rattle.std.proofs.Common.{◌≡◌, ℕ, ◌+◌, ◌%◌, zero, suc, Bool, true, false, List, [], ◌∷◌, ◌++◌, Some, None, refl, sym, ◌∙◌, ap, arith}
 use Rattle.poll_list.specs.declared.Who.TheVariants.{Link}
 use Rattle.world_face.specs.declared.Io.TheVariants.{Done, NotYet, End}
 use Rattle.world_face.specs.declared.FileSize.TheVariants.{Length, Missing}

@@ -113,7 +113,7 @@ pub record IsFileCall (config : Config) (e : Entry) (past : List Entry) : Type 0
 
 of_length : (config : Config) (name : List ℕ) (answer : FileSize) (past : List Entry) → IsFileCall config (FileLen name answer) past
 of_length config name answer past = record {
-  may = λ m. record { working = m.working; settled = m.settled; unheard = refl; nothing = refl; open_yet = m.open_yet };
+  may = λ m. record { working = m.working; settled = m.settled; unheard = refl; nothing = record { due = refl; stay = m.nothing.stay }; open_yet = m.open_yet };
   comes = λ m is lawful. (measures config past name (due_then config past (CallFileLen name) m is) m.nothing m.open_yet, lawful);
   outcome = length_came (serving config past).now answer (serving config past).files.quest (serving config past).files.transfers;
   is = refl;
@@ -127,7 +127,7 @@ of_length config name answer past = record {
 
 of_octets : (config : Config) (name : List ℕ) (place asked : ℕ) (answer : Io) (octets : List ℕ) (past : List Entry) → IsFileCall config (FileRead name place asked answer octets) past
 of_octets config name place asked answer octets past = record {
-  may = λ m. record { working = m.working; settled = m.settled; unheard = refl; nothing = refl; open_yet = m.open_yet };
+  may = λ m. record { working = m.working; settled = m.settled; unheard = refl; nothing = record { due = refl; stay = m.nothing.stay }; open_yet = m.open_yet };
   comes = λ m is lawful. (takes_octets config past name place asked (due_then config past (CallFileRead name place asked) m is) m.nothing m.open_yet, lawful);
   outcome = octets_came (serving config past).now answer octets (serving config past).files.quest (serving config past).files.transfers;
   is = refl;

@@ -17,8 +17,7 @@ use Rattle.flow_laws.specs.Flow.{is_accepted}
 use Rattle.record_flows.specs.Book.{book, scene, turned}
 use Rattle.record_flows.specs.Doings.{Doing, Seeks, doing, doing_by, goes, seeks}
 use Rattle.record_flows.specs.Flows.{Flow, flow_of, seeks_for, with_event}
-use Rattle.record_flows.specs.Laws.{MaySendOn, MayWrite, flow_settings}
-use Rattle.record_flows.specs.Lots.{due_for_flows}
+use Rattle.record_flows.specs.Laws.{MaySendOn, MayWrite, MustSendOn, MustWrite, flow_settings}
 use Rattle.record_flows.specs.Segments.{asked_in, segment_in}
 use Rattle.record_flows.specs.Taught.{taught}
 use Rattle.record_flows.proofs.Apart.{map_found, seeks_number}
@@ -30,7 +29,7 @@ use Rattle.slirp_laws.specs.Answers.{is_first}
 use Rattle.slirp_laws.specs.Laws.{May, may_begin}
 use Rattle.slirp_laws.specs.Sending.{accepted_for, is_beside, is_explained, is_known, is_silent, may_ask, requests, sends_again, times}
 use Rattle.slirp_laws.proofs.Bools.{and_both, or_second, same}
-use Rattle.slirp_laws.proofs.Deeds.{writes}
+use Rattle.slirp_laws.proofs.Deeds.{FlowsAskNothing, writes}
 use Rattle.flow_splice.specs.Frames.{request_frame}
 use Rattle.flow_splice.specs.Splice.{Face, Splice}
 use Rattle.flow_splice.proofs.Asked.{asked_follows}
@@ -73,7 +72,7 @@ found_among p n (g ∷ flows) f is passes = by (g.number == n) (p g) refl is (λ
     by false true here is more = or_second (f.number == g.number) (is_among f.number (map (λ (h : Flow). h.number) (filter p flows))) (more is)
     by false false here is more = more is
 
-module _ (config : Config) (face : Face) (f : Flow) (past : List Entry) (n : ℕ) (octets : List ℕ) (work : InWork config past) (asks_nothing : due_for_flows config (book config past) (next_number past) ≡ None)
+module _ (config : Config) (face : Face) (f : Flow) (past : List Entry) (n : ℕ) (octets : List ℕ) (work : InWork config past) (asks_nothing : FlowsAskNothing config past)
     (nothing : left config past ≡ []) (none : tail past ≡ []) (is : drop 4 octets ≡ request_frame face) (vhost : config.vhost ≡ face.vhost.0) (fits : face.guest.addr.0 < 2 ^ 32)
     (was : flow_of n (book config past).flows ≡ Some f) (mine : (is_accepted f.story && (address f.tuple.guest == face.guest.addr.0)) ≡ true) (silent : is_silent f ≡ true) where
   abbrev guest : ℕ
@@ -107,8 +106,13 @@ module _ (config : Config) (face : Face) (f : Flow) (past : List Entry) (n : ℕ
         subst (λ t. MayWrite (flow_settings config) (moment past) (book config past).flows t octets) (sym none)
         (subst (λ x. MaySendOn (flow_settings config) (moment past) (book config past).flows (segment_in x)) (sym is) (subst (MaySendOn (flow_settings config) (moment past) (book config past).flows) (sym (no_segment face)) tt))
 
+    must_write : MustWrite (flow_settings config) (moment past) (book config past).flows (tail past) octets
+    must_write =
+        subst (λ t. MustWrite (flow_settings config) (moment past) (book config past).flows t octets) (sym none)
+        (subst (λ x. MustSendOn (flow_settings config) (moment past) (book config past).flows (segment_in x)) (sym is) (subst (MustSendOn (flow_settings config) (moment past) (book config past).flows) (sym (no_segment face)) tt))
+
     pub may_request : May config past (CallLinkWrite octets)
-    may_request = writes config past octets framed (due_is config past work ∙ asks_nothing) (ap is_working work.working) begins work.open_yet writes_it
+    may_request = writes config past octets framed (due_is config past work ∙ asks_nothing.due) asks_nothing.stay (ap is_working work.working) begins work.open_yet (writes_it, must_write)
 
   -- what the record has of it, where the link took something
   pub is_request : (count : ℕ) → doing config past (LinkWrite octets (Done count)) ≡ Seeks guest

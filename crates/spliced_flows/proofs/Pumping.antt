@@ -19,7 +19,8 @@ use Rattle.flow_laws.specs.Event.{Segment, Departs, Closes, At, Story}
 use Rattle.flow_laws.specs.Close.{ended_first, follows_reset, host_failed, is_done, rests_since}
 use Rattle.flow_laws.specs.Flow.{is_closed}
 use Rattle.flow_laws.proofs.Grows.{closed_stays}
-use Rattle.flow_laws.specs.Lawful.{HasCause, IsLawful, Send, Close as CloseAct, May as MayOfOne}
+use Rattle.flow_laws.specs.Lawful.{HasCause, Send, Close as CloseAct, May as MayOfOne}
+use Rattle.flow_laws.specs.Dutiful.{Must as MustOfOne}
 use Rattle.record_flows.specs.Book.{book, scene, turned}
 use Rattle.record_flows.specs.Doings.{doing, doing_by, goes}
 use Rattle.record_flows.specs.Book.{rest as restful}
@@ -43,7 +44,7 @@ use Rattle.flow_splice.specs.Entries.{AreEvents, OffersSegment, datagrams, ident
 use Rattle.flow_splice.specs.Frames.{IsSized, segment_frame}
 use Rattle.flow_splice.specs.Splice.{Face}
 use Rattle.flow_splice.specs.Shapes.{are_sending, is_sending, is_write, wrote}
-use Rattle.spliced_flows.specs.Stands.{HasFlow, InWork, with_beats, with_rest}
+use Rattle.spliced_flows.specs.Stands.{HasFlow, InWork, IsInOrder, with_beats, with_rest}
 use Rattle.spliced_flows.proofs.Calling.{after_close, may_part_then, may_shut, rests_closed, since_now}
 use Rattle.spliced_flows.proofs.ReadBack.{four_off, one_datagram, segment_back, written_back}
 use Rattle.slirp_laws.proofs.Deeds.{quest_none, services_written}
@@ -217,8 +218,11 @@ module _ (config : Config) (face : Face) (to : Mac) (f : Flow) (past : List Entr
       may : MayOfOne (flow_settings config) (with_beats f rest).story (moment before) (Send seg)
       may = subst (λ m. MayOfOne (flow_settings config) (rest ++ f.story) m (Send seg)) (sym sent.at) offers.may
 
+      must : MustOfOne (flow_settings config) (with_beats f rest).story (moment before) (Send seg)
+      must = subst (λ m. MustOfOne (flow_settings config) (rest ++ f.story) m (Send seg)) (sym sent.at) offers.must
+
       pub may_offer : May config before (CallLinkWrite octets)
-      may_offer = may_write config face (with_beats f rest) before sent.has to seg frame octets differ none is carries may sent.work sent.left framed
+      may_offer = may_write config face (with_beats f rest) before sent.has to seg frame octets differ none is carries may must sent.work sent.left framed
 
       pub has_after : (answer : Io) → HasFlow config face (offered_flow answer (moment before) seg (with_beats f rest)) (LinkWrite octets answer ∷ before)
       has_after answer = after_offer config face (with_beats f rest) before sent.has to seg frame octets differ none is carries may answer
@@ -369,19 +373,20 @@ module _ (config : Config) (face : Face) (to : Mac) (f : Flow) (past : List Entr
   -- ---- all of them
 
   -- what was lawful before what was offered
-  lawful_before : (octets : List ℕ) (answer : Io) (rest beats : Story) (seg : Segment) → MayWrite (length octets) answer → beats ≡ went answer now (Departs seg) rest → IsLawful (flow_settings config) (beats ++ f.story)
-      → IsLawful (flow_settings config) (rest ++ f.story)
+  lawful_before : (octets : List ℕ) (answer : Io) (rest beats : Story) (seg : Segment) → MayWrite (length octets) answer → beats ≡ went answer now (Departs seg) rest → IsInOrder (flow_settings config) (beats ++ f.story)
+      → IsInOrder (flow_settings config) (rest ++ f.story)
   lawful_before octets (Done n) rest beats seg may is lawful =
-      (subst (λ b. IsLawful (flow_settings config) (b ++ f.story)) (is ∙ ap (λ b. if b then At now (Departs seg) ∷ rest else rest) (some_was n may.0)) lawful).1
+      let both = subst (λ b. IsInOrder (flow_settings config) (b ++ f.story)) (is ∙ ap (λ b. if b then At now (Departs seg) ∷ rest else rest) (some_was n may.0)) lawful in
+      (both.0.1, both.1.1)
   lawful_before octets End rest beats seg may is lawful = absurd may
-  lawful_before octets NotYet rest beats seg may is lawful = subst (λ b. IsLawful (flow_settings config) (b ++ f.story)) is lawful
-  lawful_before octets Failed rest beats seg may is lawful = subst (λ b. IsLawful (flow_settings config) (b ++ f.story)) is lawful
+  lawful_before octets NotYet rest beats seg may is lawful = subst (λ b. IsInOrder (flow_settings config) (b ++ f.story)) is lawful
+  lawful_before octets Failed rest beats seg may is lawful = subst (λ b. IsInOrder (flow_settings config) (b ++ f.story)) is lawful
 
   abbrev Made : List Entry → Story → Type 0
   Made made beats = AreEvents (flow_settings config) face (Some to) false ended known ident now f.story made beats
 
   abbrev Before : List Entry → Type 0
-  Before made = (rest : Story) → Made made rest → IsLawful (flow_settings config) (rest ++ f.story) → Sent made rest
+  Before made = (rest : Story) → Made made rest → IsInOrder (flow_settings config) (rest ++ f.story) → Sent made rest
 
   known_guest : {X : Type 0} → ◌≡◌ {A = Option Mac} (Some to) None → X
   known_guest is = absurd (not_both is)
@@ -391,18 +396,18 @@ module _ (config : Config) (face : Face) (to : Mac) (f : Flow) (past : List Entr
 
   module _ (vhost : config.vhost ≡ face.vhost.0) where
     write_next : (octets : List ℕ) (answer : Io) (made : List Entry) (beats : Story) → Before made → wrote answer ≡ true → MayWrite (length octets) answer → Made (LinkWrite octets answer ∷ made) beats
-        → IsLawful (flow_settings config) (beats ++ f.story) → MayFrame (made ++ past) (CallLinkWrite octets) → Sent (LinkWrite octets answer ∷ made) beats
+        → IsInOrder (flow_settings config) (beats ++ f.story) → MayFrame (made ++ past) (CallLinkWrite octets) → Sent (LinkWrite octets answer ∷ made) beats
     write_next octets answer made beats go_on ok may (rest, are, inl (seg, offers, is)) lawful framed =
         offered_it made rest (go_on rest are (lawful_before octets answer rest beats seg may is lawful)) octets seg vhost offers framed answer beats ok may is
     write_next octets answer made beats go_on ok may (rest, are, inr (request, is)) lawful framed = known_guest request.unknown
 
-    close_next : (socket : ℕ) (made : List Entry) (beats : Story) → Before made → (book config (made ++ past)).came ≡ None → Made (Close socket ∷ made) beats → IsLawful (flow_settings config) (beats ++ f.story)
+    close_next : (socket : ℕ) (made : List Entry) (beats : Story) → Before made → (book config (made ++ past)).came ≡ None → Made (Close socket ∷ made) beats → IsInOrder (flow_settings config) (beats ++ f.story)
         → Sent (Close socket ∷ made) beats
     close_next socket made beats go_on came (rest, are, (number, is, cause)) lawful =
-        let now_lawful = subst (λ b. IsLawful (flow_settings config) (b ++ f.story)) is lawful in
+        let now_lawful = subst (λ b. IsInOrder (flow_settings config) (b ++ f.story)) is lawful in
         subst (λ n. Sent (Close n ∷ made) beats) (sym number)
         (subst (Sent (Close face.number ∷ made)) (sym is)
-        (closed_it made rest (go_on rest are now_lawful.1) came cause now_lawful.0))
+        (closed_it made rest (go_on rest are (now_lawful.0.1, now_lawful.1.1)) came cause now_lawful.0.0))
 
     -- the oldest of them is a write
     write_sends : (e : Entry) → is_write e ≡ true → is_sending e ≡ true
@@ -422,7 +427,7 @@ module _ (config : Config) (face : Face) (to : Mac) (f : Flow) (past : List Entr
     nothing_came socket [] is = absurd cc
     nothing_came socket (d ∷ made) is = quiet_sending config d (made ++ past) (head_sends d made is)
 
-    one_next : (e : Entry) (made : List Entry) (beats : Story) → Before made → are_sending (e ∷ made) ≡ true → AreAllowed (e ∷ made) → Made (e ∷ made) beats → IsLawful (flow_settings config) (beats ++ f.story)
+    one_next : (e : Entry) (made : List Entry) (beats : Story) → Before made → are_sending (e ∷ made) ≡ true → AreAllowed (e ∷ made) → Made (e ∷ made) beats → IsInOrder (flow_settings config) (beats ++ f.story)
         → Follows MayFrame (e ∷ made ++ past) → Sent (e ∷ made) beats
     one_next e made beats go_on sending allowed are lawful framed = elim (which e (head_sends e made sending)) [
       | inl w ↦
@@ -434,7 +439,7 @@ module _ (config : Config) (face : Face) (to : Mac) (f : Flow) (past : List Entr
     ]
 
     -- what was made is lawful, where the flow's events were
-    pub sends : (made : List Entry) (beats : Story) → Sent [] [] → are_sending made ≡ true → AreAllowed made → Made made beats → IsLawful (flow_settings config) (beats ++ f.story) → Follows MayFrame (made ++ past) → Sent made beats
+    pub sends : (made : List Entry) (beats : Story) → Sent [] [] → are_sending made ≡ true → AreAllowed made → Made made beats → IsInOrder (flow_settings config) (beats ++ f.story) → Follows MayFrame (made ++ past) → Sent made beats
     sends [] beats begins sending allowed are lawful framed = subst (Sent []) (sym are) begins
     sends (e ∷ made) beats begins sending allowed are lawful framed =
         one_next e made beats (λ rest r l. sends made rest begins (tail_sends e made sending) allowed.1 r l framed.1) sending allowed are lawful framed
@@ -447,9 +452,9 @@ module _ (config : Config) (face : Face) (to : Mac) (f : Flow) (past : List Entr
       pub sent : Sent made beats
 
     pub breaks : (octets : List ℕ) (made : List Entry) (beats : Story) → Sent [] [] → are_sending made ≡ true → AreAllowed (LinkWrite octets Failed ∷ made) → Made (LinkWrite octets Failed ∷ made) beats
-        → IsLawful (flow_settings config) (beats ++ f.story) → Follows MayFrame (LinkWrite octets Failed ∷ made ++ past) → Broke octets made beats
+        → IsInOrder (flow_settings config) (beats ++ f.story) → Follows MayFrame (LinkWrite octets Failed ∷ made ++ past) → Broke octets made beats
     breaks octets made beats begins sending allowed (rest, are, inl (seg, offers, is)) lawful framed =
-        let sent = sends made rest begins sending allowed.1 are (subst (λ b. IsLawful (flow_settings config) (b ++ f.story)) is lawful) framed.1 in
+        let sent = sends made rest begins sending allowed.1 are (subst (λ b. IsInOrder (flow_settings config) (b ++ f.story)) is lawful) framed.1 in
         let failed = failed_it made rest sent octets seg vhost offers framed.0 in
         subst (Broke octets made) (sym is) (record { lawful = failed.0; over = failed.1; has = failed.2; sent = sent })
     breaks octets made beats begins sending allowed (rest, are, inr (request, is)) lawful framed = known_guest request.unknown

@@ -26,12 +26,13 @@ use Rattle.host_policy.specs.declared.Verdict.TheVariants.{Go, Denied}
 use Rattle.flow_laws.specs.Event.{AsksAddress, At, Segment, Story}
 use Rattle.flow_laws.specs.Close.{is_owed_reset, owes_reset}
 use Rattle.flow_laws.specs.Lawful.{Send, May as MayFor}
+use Rattle.flow_laws.specs.Dutiful.{Must as MustOfOne}
 use Rattle.flow_laws.specs.Flow.{host, is_accepted, is_closed, next_number, our_number, syn_is_out, their_number}
 use Rattle.flow_laws.specs.Host.{answered as answered_yet, sent}
 use Rattle.record_flows.specs.Book.{book, is_young, quiet, scene, turned}
 use Rattle.record_flows.specs.Doings.{Doing, Seeks, comes, doing, doing_by, ended_by, goes, joined, read_by, seeks, visits, written_by}
 use Rattle.record_flows.specs.Flows.{Flow, Book, Rest, Scene, flow_of, is_on, is_resting, is_strange, is_used, owner, sends, used}
-use Rattle.record_flows.specs.Laws.{MaySend, MaySendOn, MayShut, MayWrite, flow_settings}
+use Rattle.record_flows.specs.Laws.{MaySend, MaySendOn, MayShut, MayWrite, MustSend, MustSendOn, MustWrite, flow_settings}
 use Rattle.record_flows.specs.Lots.{Lot, OfFlow, Dropped, Strange, due_for_flows, is_mistaken, is_opening, is_reset, is_reset_by, is_to_many, lot_by}
 use Rattle.record_flows.specs.Said.{ConnectsAsAsked}
 use Rattle.record_flows.specs.Segments.{OnTuple, asked_in, from_guest, segment_by, segment_came, segment_in}
@@ -50,6 +51,7 @@ use Rattle.tftp_server.specs.Transfers.{Outcome, Said}
 use Rattle.slirp_laws.specs.Answers.{Serving, is_flows, starts, again_frames, begins_again, is_first, is_out, ledger, left_by_file, left_by_outcome, may_go_again, serving, told_of_files, frames_of, identification, left, left_after, owed_for_packet, owed_for_segment, strays, taken, unsent}
 use Rattle.slirp_laws.specs.Datagrams.{Step, Settled, NeedsRoom, NeedsSocket, NeedsSending}
 use Rattle.slirp_laws.specs.Laws.{Lawful, May}
+use Rattle.slirp_laws.proofs.Deeds.{FlowsLetWrite}
 use Rattle.slirp_laws.specs.Ports.{last_datagram}
 use Rattle.slirp_laws.specs.Said.{Occasion, Came, by_outcome, by_said, heard_on, last_occasion, occasion_after, refused_or, unsent_or}
 use Rattle.slirp_laws.proofs.Bools.{first_of, second_of}
@@ -471,12 +473,25 @@ module _ (config : Config) (past : List Entry) (frame : List ℕ) (rest : List (
   may_send_on None read = tt
   may_send_on (Some on) read = may_send on (owner on.tuple (book config past).flows) read refl
 
-  pub answer_may_go : (octets : List ℕ) → drop 4 octets ≡ frame → MayWrite (flow_settings config) (moment past) (book config past).flows (tail past) octets
+  -- nothing is asked of it, since it is none of a flow's own
+  must_send : (on : OnTuple) (o : Option Flow) → segment_in frame ≡ Some on → owner on.tuple (book config past).flows ≡ o → MustSend (flow_settings config) (moment past) on.segment o
+  must_send on None read owned = tt
+  must_send on (Some f) read owned =
+      subst (λ b. MatchBool b (Unit {0}) (MustOfOne (flow_settings config) f.story (moment past) (Send on.segment))) (sym (left_strange config past frame rest on f fits lawful ends is read owned)) tt
+
+  must_send_on : (o : Option OnTuple) → segment_in frame ≡ o → MustSendOn (flow_settings config) (moment past) (book config past).flows o
+  must_send_on None read = tt
+  must_send_on (Some on) read = must_send on (owner on.tuple (book config past).flows) read refl
+
+  pub answer_may_go : (octets : List ℕ) → drop 4 octets ≡ frame → FlowsLetWrite config past octets
   answer_may_go octets begins = by (tail past)
     where
-      by : (t : List ℕ) → MayWrite (flow_settings config) (moment past) (book config past).flows t octets
-      by [] = subst (λ f. MaySendOn (flow_settings config) (moment past) (book config past).flows (segment_in f)) (sym begins) (may_send_on (segment_in frame) refl)
-      by (x ∷ rest) = tt
+      by : (t : List ℕ) → MayWrite (flow_settings config) (moment past) (book config past).flows t octets × MustWrite (flow_settings config) (moment past) (book config past).flows t octets
+      by [] = (
+        subst (λ f. MaySendOn (flow_settings config) (moment past) (book config past).flows (segment_in f)) (sym begins) (may_send_on (segment_in frame) refl),
+        subst (λ f. MustSendOn (flow_settings config) (moment past) (book config past).flows (segment_in f)) (sym begins) (must_send_on (segment_in frame) refl),
+      )
+      by (x ∷ rest) = (tt, tt)
 
   -- it is nothing to the flows, or asks for the hardware address of a guest
   IsSame : Doing → Type 0

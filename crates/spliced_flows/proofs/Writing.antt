@@ -15,10 +15,11 @@ use Rattle.run_laws.specs.Sockets.{next_number}
 use Rattle.flow_laws.specs.Event.{Segment, Departs}
 use Rattle.flow_laws.specs.Close.{host_failed, is_owed_reset, owes_reset}
 use Rattle.flow_laws.specs.Lawful.{Send, May as MayOfOne}
+use Rattle.flow_laws.specs.Dutiful.{Must as MustOfOne}
 use Rattle.record_flows.specs.Book.{book, quiet, scene, turned}
 use Rattle.record_flows.specs.Doings.{Nothing, Goes, doing, doing_by, goes}
 use Rattle.record_flows.specs.Flows.{Flow, flow_of, is_on, is_strange, owner, sends, with_event}
-use Rattle.record_flows.specs.Laws.{MaySend, MaySendOn, MayWrite, flow_settings}
+use Rattle.record_flows.specs.Laws.{MaySend, MaySendOn, MayWrite, MustSend, MustSendOn, MustWrite, flow_settings}
 use Rattle.record_flows.specs.Lots.{due_for_flows}
 use Rattle.record_flows.specs.Said.{Differ}
 use Rattle.record_flows.specs.Segments.{OnTuple, asked_in, segment_in}
@@ -36,7 +37,7 @@ use Rattle.slirp_laws.proofs.Deeds.{writes}
 use Rattle.flow_splice.specs.Splice.{Face}
 use Rattle.spliced_flows.specs.Core.{ends_of}
 use Rattle.spliced_flows.specs.Stands.{HasFlow, InWork, close_if}
-use Rattle.spliced_flows.proofs.Calling.{due_is}
+use Rattle.spliced_flows.proofs.Calling.{due_is, none_must_close}
 
 -- the two ends of a face
 abbrev pub on_ends : Face → Mac → Segment → OnTuple
@@ -127,10 +128,21 @@ module _ (config : Config) (face : Face) (f : Flow) (past : List Entry) (has : H
         subst (λ t. MayWrite (flow_settings config) (moment past) (book config past).flows t octets) (sym none)
         (subst (λ x. MaySendOn (flow_settings config) (moment past) (book config past).flows (segment_in x)) (sym is) (sent (segment_in frame) carries.carried))
 
-    pub may_write : InWork config past → left config past ≡ [] → MayFrame past (CallLinkWrite octets) → May config past (CallLinkWrite octets)
-    may_write work nothing framed =
+    must_send : MustOfOne (flow_settings config) f.story (moment past) (Send seg) → (o : Option OnTuple) → o ≡ Some (on_ends face to seg) → MustSendOn (flow_settings config) (moment past) (book config past).flows o
+    must_send must o on =
+        subst (MustSendOn (flow_settings config) (moment past) (book config past).flows) (sym on)
+        (subst (MustSend (flow_settings config) (moment past) seg) (sym (owner_is differ))
+        (subst (λ b. MatchBool b (Unit {0}) (MustOfOne (flow_settings config) f.story (moment past) (Send seg))) (sym (not_strange seg may)) must))
+
+    must_write : MustOfOne (flow_settings config) f.story (moment past) (Send seg) → MustWrite (flow_settings config) (moment past) (book config past).flows (tail past) octets
+    must_write must =
+        subst (λ t. MustWrite (flow_settings config) (moment past) (book config past).flows t octets) (sym none)
+        (subst (λ x. MustSendOn (flow_settings config) (moment past) (book config past).flows (segment_in x)) (sym is) (must_send must (segment_in frame) carries.carried))
+
+    pub may_write : MustOfOne (flow_settings config) f.story (moment past) (Send seg) → InWork config past → left config past ≡ [] → MayFrame past (CallLinkWrite octets) → May config past (CallLinkWrite octets)
+    may_write must work nothing framed =
         writes config past octets framed (due_is config past work ∙ has.due ∙ ap (λ b. close_if b face.number) may.closes_after_failure)
-        (ap is_working work.working) (begins nothing) work.open_yet writes_it
+        (none_must_close config face f past work has must.closes_after_reset) (ap is_working work.working) (begins nothing) work.open_yet (writes_it, must_write must)
 
     -- ---- what the record has of the flow then
 
@@ -163,6 +175,7 @@ module _ (config : Config) (face : Face) (f : Flow) (past : List Entry) (has : H
           owned = owner_id f.tuple (book config (LinkWrite octets (Done n) ∷ past)).flows (book config past).flows only.same ∙ has.owned;
           socket = has.socket;
           due = ap (λ b. due_for_flows config b (next_number past)) new;
+          others = λ m g other found. has.others m g other (sym (only.apart m other) ∙ found);
         }
 
     -- nothing of it was taken
@@ -177,6 +190,7 @@ module _ (config : Config) (face : Face) (f : Flow) (past : List Entry) (has : H
           owned = ap (λ b. option_map (λ (g : Flow). g.number) (owner f.tuple b.flows)) new ∙ has.owned;
           socket = has.socket;
           due = ap (λ b. due_for_flows config b (next_number past)) new ∙ ap (λ b. close_if b face.number) (sym well);
+          others = λ m g other found. has.others m g other (sym (ap (λ b. flow_of m b.flows) new) ∙ found);
         }
 
     -- it is of this flow, or nothing to any

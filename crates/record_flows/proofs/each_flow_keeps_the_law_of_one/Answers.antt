@@ -1,5 +1,5 @@
 use Rattle.record_flows.proofs.Keeping.{are_kept}
-use Rattle.record_flows.proofs.Laws.{is_lawful, is_story}
+use Rattle.record_flows.proofs.Laws.{is_dutiful, is_lawful, is_story}
 use Rattle.record_flows.proofs.each_flow_keeps_the_law_of_one.Goals as goal
 
 pub returns-clause-story : goal.returns-clause-story
@@ -7,6 +7,9 @@ returns-clause-story c = λ config past socket f keeps found. is_story config pa
 
 pub returns-clause-lawful : goal.returns-clause-lawful
 returns-clause-lawful c = λ config past socket keeps. is_lawful config past socket keeps
+
+pub returns-clause-dutiful : goal.returns-clause-dutiful
+returns-clause-dutiful c = λ config past socket keeps. is_dutiful config past socket keeps
 
 pub returns-clause-differ : goal.returns-clause-differ
 returns-clause-differ c = λ config past keeps. (are_kept config past keeps).differ
