@@ -5,7 +5,7 @@ ghost use Rattle.world_face.specs.Limits.{most_ready};
 
 use poll_list::{ReadyList, Want, Wants, Who};
 use std::alloc::{AllocError, Global};
-use std::net::{Net, TcpListener, TcpStream, UdpSocket};
+use std::net::{Net, SocketAddr, TcpListener, TcpStream, UdpSocket};
 use std::test::Fail;
 use world_face::{Endpoint, Ip4, Made, Sent, Waited, World};
 
@@ -23,10 +23,34 @@ pub fn here(port: u16) -> Endpoint {
     }
 }
 
+/// A listener of the host, and its port.
+pub fn host_listener<R: Net<Listener = TcpListener, Stream = TcpStream>>(
+    rt: &R,
+) -> Result<(TcpListener, u16), Fail> {
+    let listener = TcpListener::bind(rt, "127.0.0.1:0")?;
+    let port = listener.local_addr()?.port();
+    Ok((listener, port))
+}
+
+/// A socket of the host for datagrams, and its port.
+pub fn host_datagrams<R: Net>(rt: &R) -> Result<(UdpSocket, u16), Fail> {
+    let socket = UdpSocket::bind(rt, "127.0.0.1:0")?;
+    let port = socket.local_addr()?.port();
+    Ok((socket, port))
+}
+
 /// A port of the host at which nobody listens.
 pub fn free_port<R: Net<Listener = TcpListener, Stream = TcpStream>>(rt: &R) -> Result<u16, Fail> {
-    let free = TcpListener::bind(rt, "127.0.0.1:0")?;
-    Ok(free.local_addr()?.port())
+    let (_, port) = host_listener(rt)?;
+    Ok(port)
+}
+
+/// A connection of the host to one of its ports.
+pub fn host_stream<R: Net<Listener = TcpListener, Stream = TcpStream>>(
+    rt: &R,
+    port: u16,
+) -> Result<TcpStream, Fail> {
+    Ok(TcpStream::connect(rt, SocketAddr::from(([127, 0, 0, 1], port)))?)
 }
 
 /// The lists of a wait for one thing.

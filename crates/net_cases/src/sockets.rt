@@ -1,34 +1,24 @@
 // Sockets of the host.
-use crate::asker::{Asker, free_port, here, is_answered};
+use crate::asker::{
+    Asker, free_port, here, host_datagrams, host_listener, host_stream, is_answered,
+};
+use crate::calls::Call::{
+    Accept, AcceptFrom, Close, Connect, Connected, Listen, NotTold, TcpEnd, TcpRead, TcpWrite,
+    Told, UdpFrom, UdpOpen, UdpRecv, UdpSend,
+};
+use crate::calls::Step::{Calls, Gets, Sends};
+use crate::calls::{Call, Step, Wanted, follow, take_steps};
 use poll_list::{ReadyList, Want, Wants, Who};
-use std::alloc::Global;
-use std::io::{Read, Write};
-use std::net::{Net, SocketAddr, TcpListener, TcpStream, UdpSocket};
+use std::alloc::{AllocError, Global};
+use std::io::Read;
+use std::net::{Net, TcpListener, TcpStream, UdpSocket};
 use std::test::Fail;
-use world_face::{Accepted, Endpoint, Got, Io, Ip4, Joined, Made, Sent, Waited, World};
+use world_face::{Accepted, Got, Io, Joined, Made, Sent, Waited, World};
 
 const WRITING: Want = Want {
     of: Who::Tcp(7),
     read: false,
     write: true,
-};
-
-const READING: Want = Want {
-    of: Who::Tcp(7),
-    read: true,
-    write: false,
-};
-
-const LISTENER: Want = Want {
-    of: Who::Listener(5),
-    read: true,
-    write: false,
-};
-
-const DATAGRAMS: Want = Want {
-    of: Who::Udp(3),
-    read: true,
-    write: false,
 };
 
 const FIRST: Want = Want {
@@ -50,15 +40,115 @@ const LAST: Want = Want {
 };
 
 /// A socket opens once under its number, and a datagram goes out.
-fn asks<W: World>(world: &mut W, port: u16) -> bool {
-    let anywhere = Endpoint {
-        addr: Ip4(0),
-        port: 0,
-    };
-    world.udp_open(3, anywhere) == Made::Done
-        && world.udp_open(3, anywhere) == Made::Failed
-        && world.udp_send(3, here(port), b"ask") == Sent::Done
-}
+const ASKS: [Call; 3] = [
+    UdpOpen(Made::Done),
+    UdpOpen(Made::Failed),
+    UdpSend(Sent::Done),
+];
+
+/// Both that the peer answered come, once; none once the socket is closed.
+const BOTH_COME: [Call; 9] = [
+    Told(Wanted::Datagrams, 1000),
+    UdpFrom(b"answer"),
+    Told(Wanted::Datagrams, 1000),
+    UdpFrom(b""),
+    UdpRecv(Got::NotYet),
+    NotTold(Wanted::Datagrams, 0),
+    Close(3),
+    UdpRecv(Got::Failed),
+    UdpSend(Sent::Failed),
+];
+
+/// A connection is made.
+pub const JOINED: [Call; 3] = [
+    Connect(Made::Done),
+    Told(Wanted::ConnectionForWriting, 1000),
+    Connected(Joined::Yes),
+];
+
+/// A connection is made, and takes octets.
+const WRITES: [Call; 4] = [
+    Connect(Made::Done),
+    Told(Wanted::ConnectionForWriting, 1000),
+    Connected(Joined::Yes),
+    TcpWrite(b"abc", Io::Done(3)),
+];
+
+/// Octets come to the host and go from it, and our end goes to it.
+const GO_BOTH_WAYS: [Step; 4] = [
+    Gets(&[b"abc"]),
+    Sends(b"defg"),
+    Calls(&[
+        Told(Wanted::Connection, 1000),
+        TcpRead(Io::Done(4), b"defg"),
+        TcpRead(Io::NotYet, b""),
+        TcpEnd(Made::Done),
+    ]),
+    Gets(&[]),
+];
+
+/// The end of the host comes, and after the close nothing goes.
+const ENDED: [Call; 4] = [
+    Told(Wanted::Connection, 1000),
+    TcpRead(Io::End, b""),
+    Close(7),
+    TcpWrite(b"x", Io::Failed),
+];
+
+/// A full connection isn't told for writing.
+const FULL: [Call; 1] = [NotTold(Wanted::ConnectionForWriting, 0)];
+
+/// Once the host has read, octets are taken again.
+const AGAIN: [Call; 2] = [
+    Told(Wanted::ConnectionForWriting, 1000),
+    TcpWrite(b"unread", Io::Done(6)),
+];
+
+/// The connection was reset.
+const BROKEN: [Call; 2] = [Told(Wanted::Connection, 1000), TcpRead(Io::Failed, b"")];
+
+/// Nobody listens there.
+const REFUSED: [Call; 3] = [
+    Connect(Made::Done),
+    Told(Wanted::ConnectionForWriting, 1000),
+    Connected(Joined::Failed),
+];
+
+/// One listener opens at a port.
+const LISTENS: [Call; 2] = [Listen(5, Made::Done), Listen(6, Made::Failed)];
+
+/// A connection is taken from a listener, which then has none.
+const ACCEPTED: [Step; 2] = [
+    Calls(&[
+        Told(Wanted::Listener, 1000),
+        AcceptFrom,
+        Accept(8, Accepted::NotYet),
+        NotTold(Wanted::Listener, 0),
+        TcpWrite(b"abc", Io::Done(3)),
+    ]),
+    Gets(&[b"abc"]),
+];
+
+/// Where no descriptor or no place is left a connection isn't accepted or made; its listener isn't told again before something was closed.
+const LIMITED: [Call; 7] = [
+    Told(Wanted::Listener, 1000),
+    Accept(7, Accepted::Failed),
+    NotTold(Wanted::Listener, 0),
+    Connect(Made::Failed),
+    Close(100),
+    Told(Wanted::Listener, 1000),
+    AcceptFrom,
+];
+
+/// The system tells once that a connection is ready for writing. While it isn't wanted for that it isn't told, and once it is wanted it is.
+const TOLD_ALONE: [Call; 6] = [
+    Connect(Made::Done),
+    Told(Wanted::ConnectionForWriting, 1000),
+    Connected(Joined::Yes),
+    NotTold(Wanted::Connection, 10),
+    NotTold(Wanted::Connection, 10),
+    Told(Wanted::ConnectionForWriting, 0),
+];
 
 /// The peer answers by a datagram, and by one without octets.
 fn answers(peer: &UdpSocket) -> bool {
@@ -69,84 +159,29 @@ fn answers(peer: &UdpSocket) -> bool {
     }
 }
 
-/// Both come, once.
-fn comes_once<W: World>(asker: &mut Asker, world: &mut W, port: u16) -> bool {
-    let mut into = [0u8; 16];
-    asker.is_ready(world, DATAGRAMS, 1000)
-        && matches!(world.udp_recv(3, &mut into), Got::From(from, 6) if from == here(port))
-        && into[..6].starts_with(b"answer")
-        && asker.is_ready(world, DATAGRAMS, 1000)
-        && matches!(world.udp_recv(3, &mut into), Got::From(_, 0))
-        && world.udp_recv(3, &mut into) == Got::NotYet
-        && !asker.is_ready(world, DATAGRAMS, 0)
-}
-
-/// A datagram goes out and its answer comes, once; none once the socket is closed.
-fn exchanges_datagrams<W: World>(
-    asker: &mut Asker,
-    world: &mut W,
-    peer: &UdpSocket,
-    port: u16,
-) -> bool {
-    if !asks(world, port) || !answers(peer) || !comes_once(asker, world, port) {
-        return false;
-    }
-    world.close(3);
-    world.udp_recv(3, &mut [0u8; 16]) == Got::Failed
-        && world.udp_send(3, here(port), b"ask") == Sent::Failed
-}
-
-/// Datagrams go both ways.
+/// A datagram goes out and its answers come, once; none once the socket is closed.
 pub fn exchange<R: Net, W: World>(rt: &R, asker: &mut Asker, world: &mut W) -> Result<bool, Fail> {
-    let peer = UdpSocket::bind(rt, "127.0.0.1:0")?;
-    let port = peer.local_addr()?.port();
-    Ok(exchanges_datagrams(asker, world, &peer, port))
+    let (peer, port) = host_datagrams(rt)?;
+    Ok(
+        follow(asker, world, port, &ASKS)
+            && answers(&peer)
+            && follow(asker, world, port, &BOTH_COME),
+    )
 }
 
-/// A connection is made.
-fn is_joined<W: World>(asker: &mut Asker, world: &mut W, port: u16) -> bool {
-    world.connect(7, here(port)) == Made::Done
-        && asker.is_ready(world, WRITING, 1000)
-        && world.connected(7) == Joined::Yes
-}
-
-/// Octets come to the host and go from it.
-fn answers_octets(far: &mut TcpStream) -> bool {
-    matches!(far.read(&mut [0u8; 8]), Ok(3)) && far.write_all(b"defg").is_ok()
-}
-
-/// Octets come from the host, and our end goes to it.
-fn comes_and_ends<W: World>(asker: &mut Asker, world: &mut W, far: &mut TcpStream) -> bool {
-    let mut into = [0u8; 8];
-    asker.is_ready(world, READING, 1000)
-        && world.tcp_read(7, &mut into) == Io::Done(4)
-        && world.tcp_read(7, &mut into) == Io::NotYet
-        && world.tcp_end(7) == Made::Done
-        && matches!(far.read(&mut into), Ok(0))
+/// The host takes the connection, and octets go both ways until each side has ended.
+fn serves_the_host<W: World>(asker: &mut Asker, world: &mut W, host: &TcpListener) -> bool {
+    match host.accept() {
+        Ok((mut far, _)) => take_steps(asker, world, &mut far, &GO_BOTH_WAYS),
+        Err(_) => false,
+    }
 }
 
 /// A connection is made, and octets go both ways until each side has ended.
 fn connects<W: World>(asker: &mut Asker, world: &mut W, host: &TcpListener, port: u16) -> bool {
-    if !is_joined(asker, world, port) || world.tcp_write(7, b"abc") != Io::Done(3) {
-        return false;
-    }
-    let Ok((mut far, _)) = host.accept() else {
-        return false;
-    };
-    if !answers_octets(&mut far) || !comes_and_ends(asker, world, &mut far) {
-        return false;
-    }
-    drop(far);
-    let ended = asker.is_ready(world, READING, 1000) && world.tcp_read(7, &mut [0u8; 8]) == Io::End;
-    world.close(7);
-    ended && world.tcp_write(7, b"x") == Io::Failed
-}
-
-/// Nobody listens there.
-fn is_refused<W: World>(asker: &mut Asker, world: &mut W, port: u16) -> bool {
-    world.connect(7, here(port)) == Made::Done
-        && asker.is_ready(world, WRITING, 1000)
-        && world.connected(7) == Joined::Failed
+    follow(asker, world, port, &WRITES)
+        && serves_the_host(asker, world, host)
+        && follow(asker, world, port, &ENDED)
 }
 
 /// How many octets a connection takes whose peer reads nothing, until it takes none.
@@ -179,29 +214,47 @@ fn so_many_come(far: &mut TcpStream, sent: u64) -> bool {
     false
 }
 
-/// A peer that reads nothing makes writes short and then not yet; once it has read, octets are taken again. A peer that goes with octets unread resets the connection.
+/// A peer that reads nothing makes writes short and then not yet; once it has read, octets are taken again.
+fn backs_up<W: World>(asker: &mut Asker, world: &mut W, far: &mut TcpStream) -> bool {
+    let Some(sent) = octets_taken(world) else {
+        return false;
+    };
+    sent >= 16_384
+        && follow(asker, world, 0, &FULL)
+        && so_many_come(far, sent)
+        && follow(asker, world, 0, &AGAIN)
+}
+
+fn backs_up_to_the_host<W: World>(asker: &mut Asker, world: &mut W, host: &TcpListener) -> bool {
+    match host.accept() {
+        Ok((mut far, _)) => backs_up(asker, world, &mut far),
+        Err(_) => false,
+    }
+}
+
+/// A peer that goes with octets unread resets the connection.
 fn backs_up_and_breaks<W: World>(
     asker: &mut Asker,
     world: &mut W,
     host: &TcpListener,
     port: u16,
 ) -> bool {
-    if !is_joined(asker, world, port) {
-        return false;
-    }
-    let Ok((mut far, _)) = host.accept() else {
-        return false;
-    };
-    let Some(sent) = octets_taken(world) else {
-        return false;
-    };
-    let again = sent >= 16_384
-        && !asker.is_ready(world, WRITING, 0)
-        && so_many_come(&mut far, sent)
-        && asker.is_ready(world, WRITING, 1000)
-        && world.tcp_write(7, b"unread") == Io::Done(6);
-    drop(far);
-    again && asker.is_ready(world, READING, 1000) && world.tcp_read(7, &mut [0u8; 8]) == Io::Failed
+    follow(asker, world, port, &JOINED)
+        && backs_up_to_the_host(asker, world, host)
+        && follow(asker, world, port, &BROKEN)
+}
+
+/// Connections to a listener are made, back up and break. Answers its port too, which nobody has in the end.
+fn are_made_and_break<R: Net<Listener = TcpListener, Stream = TcpStream>, W: World>(
+    rt: &R,
+    asker: &mut Asker,
+    world: &mut W,
+) -> Result<(bool, u16), Fail> {
+    let (host, port) = host_listener(rt)?;
+    let made = connects(asker, world, &host, port);
+    let broken = backs_up_and_breaks(asker, world, &host, port);
+    world.close(7);
+    Ok((made && broken, port))
 }
 
 /// Connections are made, back up, break and are refused.
@@ -210,24 +263,10 @@ pub fn connect<R: Net<Listener = TcpListener, Stream = TcpStream>, W: World>(
     asker: &mut Asker,
     world: &mut W,
 ) -> Result<bool, Fail> {
-    let host = TcpListener::bind(rt, "127.0.0.1:0")?;
-    let port = host.local_addr()?.port();
-    let made = connects(asker, world, &host, port);
-    let broken = backs_up_and_breaks(asker, world, &host, port);
+    let (served, port) = are_made_and_break(rt, asker, world)?;
+    let refused = follow(asker, world, port, &REFUSED);
     world.close(7);
-    drop(host);
-    let refused = is_refused(asker, world, port);
-    world.close(7);
-    Ok(made && broken && refused)
-}
-
-/// A connection is taken from a listener, which then has none.
-fn accepts<W: World>(asker: &mut Asker, world: &mut W) -> bool {
-    asker.is_ready(world, LISTENER, 1000)
-        && matches!(world.accept(5, 7), Accepted::From(_))
-        && world.accept(5, 8) == Accepted::NotYet
-        && !asker.is_ready(world, LISTENER, 0)
-        && world.tcp_write(7, b"abc") == Io::Done(3)
+    Ok(served && refused)
 }
 
 /// Where no descriptor or no place is left a socket isn't opened, and a connection isn't accepted; its listener isn't told again before something was closed.
@@ -239,17 +278,31 @@ fn meets_the_limit<W: World>(asker: &mut Asker, world: &mut W) -> bool {
         }
         last = number;
     }
-    if last == 0 || last == 6099 {
-        return false;
-    }
-    let refused = asker.is_ready(world, LISTENER, 1000)
-        && world.accept(5, 7) == Accepted::Failed
-        && !asker.is_ready(world, LISTENER, 0)
-        && world.connect(7, here(9)) == Made::Failed;
-    world.close(100);
-    refused
-        && asker.is_ready(world, LISTENER, 1000)
-        && matches!(world.accept(5, 7), Accepted::From(_))
+    last != 0 && last != 6099 && follow(asker, world, 9, &LIMITED)
+}
+
+/// A connection is accepted, and octets go out.
+fn accepts_one<R: Net<Listener = TcpListener, Stream = TcpStream>, W: World>(
+    rt: &R,
+    asker: &mut Asker,
+    world: &mut W,
+    port: u16,
+) -> Result<bool, Fail> {
+    let mut far = host_stream(rt, port)?;
+    let accepted = take_steps(asker, world, &mut far, &ACCEPTED);
+    world.close(7);
+    Ok(accepted)
+}
+
+/// Another is accepted once there is a descriptor for it.
+fn accepts_another<R: Net<Listener = TcpListener, Stream = TcpStream>, W: World>(
+    rt: &R,
+    asker: &mut Asker,
+    world: &mut W,
+    port: u16,
+) -> Result<bool, Fail> {
+    let _other = host_stream(rt, port)?;
+    Ok(meets_the_limit(asker, world))
 }
 
 /// A connection is accepted, and another once there is a descriptor for it.
@@ -259,22 +312,11 @@ pub fn accept<R: Net<Listener = TcpListener, Stream = TcpStream>, W: World>(
     world: &mut W,
 ) -> Result<bool, Fail> {
     let port = free_port(rt)?;
-    if world.listen(5, here(port)) != Made::Done || world.listen(6, here(port)) != Made::Failed {
-        return Ok(false);
-    }
-    let mut far = TcpStream::connect(rt, SocketAddr::from(([127, 0, 0, 1], port)))?;
-    let accepted = accepts(asker, world) && matches!(far.read(&mut [0u8; 4]), Ok(3));
-    world.close(7);
-    let _other = TcpStream::connect(rt, SocketAddr::from(([127, 0, 0, 1], port)))?;
-    Ok(accepted && meets_the_limit(asker, world))
-}
-
-/// The system tells once that a connection is ready for writing. While it isn't wanted for that it isn't told, and once it is wanted it is.
-fn is_told_alone<W: World>(asker: &mut Asker, world: &mut W) -> bool {
-    world.connected(7) == Joined::Yes
-        && !asker.is_ready(world, READING, 10)
-        && !asker.is_ready(world, READING, 10)
-        && asker.is_ready(world, WRITING, 0)
+    Ok(
+        follow(asker, world, port, &LISTENS)
+            && accepts_one(rt, asker, world, port)?
+            && accepts_another(rt, asker, world, port)?,
+    )
 }
 
 /// Four sockets for datagrams have something to read.
@@ -288,17 +330,33 @@ fn are_answered<W: World>(asker: &mut Asker, world: &mut W, far: &UdpSocket, por
 }
 
 /// Beside what is ready for reading it is told too; of that exactly what is wanted is told, in the order of the wants.
-fn is_told_in_order<W: World>(alloc: Global, world: &mut W) -> bool {
-    let (Ok(mut wants), Ok(mut ready)) = (Wants::open(alloc, 4), ReadyList::open(alloc, 5155))
-    else {
-        return false;
-    };
+fn is_told_in_order<W: World>(alloc: Global, world: &mut W) -> Result<bool, AllocError> {
+    let mut wants = Wants::open(alloc, 4)?;
+    let mut ready = ReadyList::open(alloc, 5155)?;
     wants.add(FIRST);
     wants.add(SENDING);
     wants.add(LAST);
     wants.add(WRITING);
     let told = [FIRST, LAST, WRITING];
-    world.wait(&wants, Some(1000), &mut ready) == Waited::Ready && ready.items() == told.as_slice()
+    Ok(
+        world.wait(&wants, Some(1000), &mut ready) == Waited::Ready
+            && ready.items() == told.as_slice(),
+    )
+}
+
+/// What is wanted of a connection is told, beside sockets for datagrams.
+fn tell_of_a_connection<R: Net + Alloc<A = Global>, W: World>(
+    rt: &R,
+    asker: &mut Asker,
+    world: &mut W,
+    host_port: u16,
+) -> Result<bool, Fail> {
+    let (far, port) = host_datagrams(rt)?;
+    Ok(
+        follow(asker, world, host_port, &TOLD_ALONE)
+            && are_answered(asker, world, &far, port)
+            && is_told_in_order(rt.alloc(), world)?,
+    )
 }
 
 /// What is wanted is told, once it is wanted.
@@ -306,15 +364,8 @@ pub fn tell_what_is_wanted<
     R: Net<Listener = TcpListener, Stream = TcpStream> + Alloc<A = Global>,
     W: World,
 >(rt: &R, asker: &mut Asker, world: &mut W) -> Result<bool, Fail> {
-    let host = TcpListener::bind(rt, "127.0.0.1:0")?;
-    let host_port = host.local_addr()?.port();
-    let far = UdpSocket::bind(rt, "127.0.0.1:0")?;
-    let port = far.local_addr()?.port();
-    let told = world.connect(7, here(host_port)) == Made::Done
-        && asker.is_ready(world, WRITING, 1000)
-        && is_told_alone(asker, world)
-        && are_answered(asker, world, &far, port)
-        && is_told_in_order(rt.alloc(), world);
+    let (_host, port) = host_listener(rt)?;
+    let told = tell_of_a_connection(rt, asker, world, port)?;
     world.close(7);
     Ok(told)
 }

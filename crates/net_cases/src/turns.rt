@@ -3,37 +3,25 @@ ghost use Rattle.std.specs.Prelude.{◌≡◌, ◌≤◌, length};
 ghost use Rattle.poll_list.specs.Listing.{AreWants};
 ghost use Rattle.world_face.specs.Limits.{most_ready};
 
-use crate::asker::{Asker, LINK, here, is_answered};
+use crate::asker::{Asker, LINK, host_datagrams, host_listener, is_answered};
+use crate::calls::Call::{TellsOf, Told};
+use crate::calls::Step::{Calls, Sends};
+use crate::calls::{Call, Step, Wanted, follow, take_steps};
 use crate::links::{octets_come, open_at, thousands_taken};
+use crate::sockets::JOINED;
 use mio::net::UnixStream;
-use net_world::NetWorld;
 use poll_list::{ReadyList, Want, Wants, Who};
-use std::alloc::Global;
-use std::fs::Files;
-use std::io::{Read, Write};
+use std::alloc::{AllocError, Global};
+use std::io::Read;
 use std::net::{Net, TcpListener, TcpStream, UdpSocket};
-use std::sync::Wait;
 use std::test::Fail;
-use std::time::Clock;
-use world_face::{Io, Joined, Made, Waited, World};
+use world_face::{Io, Made, Waited, World};
 
-const READING: Want = Want {
-    of: Who::Tcp(7),
-    read: true,
-    write: false,
-};
+/// A connection has something to read.
+const READS: [Step; 2] = [Sends(b"x"), Calls(&[Told(Wanted::Connection, 1000)])];
 
-const WRITING: Want = Want {
-    of: Who::Tcp(7),
-    read: false,
-    write: true,
-};
-
-const BOTH_WAYS: Want = Want {
-    of: Who::Tcp(7),
-    read: true,
-    write: true,
-};
+/// It is told for writing alone where it is wanted in both directions.
+const WRITES: [Call; 1] = [TellsOf(Wanted::ConnectionBothWays, Wanted::ConnectionForWriting)];
 
 /// Forty sockets for datagrams have something to read.
 fn are_answered<W: World>(asker: &mut Asker, world: &mut W, far: &UdpSocket, port: u16) -> bool {
@@ -116,14 +104,11 @@ fn is_joined<W: World>(
     host: &TcpListener,
     port: u16,
 ) -> Result<bool, Fail> {
-    if world.connect(7, here(port)) != Made::Done
-        || !asker.is_ready(world, WRITING, 1000)
-        || world.connected(7) != Joined::Yes
-    {
+    if !follow(asker, world, port, &JOINED) {
         return Ok(false);
     }
     let (mut far, _) = host.accept()?;
-    Ok(far.write_all(b"x").is_ok() && asker.is_ready(world, READING, 1000))
+    Ok(take_steps(asker, world, &mut far, &READS))
 }
 
 /// Once the peer reads, all are told in turn, and all that was taken comes.
@@ -172,7 +157,7 @@ fn wait_for_room<W: World, P: Read>(
         return false;
     };
     told_by_a_wait(world, wants, ready, 0) == Some(0)
-        && asker.tells(world, BOTH_WAYS, WRITING)
+        && follow(asker, world, 0, &WRITES)
         && are_told_once_there_is_room(world, wants, ready, peer, sent)
 }
 
@@ -193,33 +178,46 @@ fn are_told<W: World, P: Read>(
     asker: &mut Asker,
     world: &mut W,
     peer: &mut P,
-) -> bool {
-    let (Ok(mut wants), Ok(mut ready)) = (Wants::open(alloc, 41), ReadyList::open(alloc, 5155))
-    else {
-        return false;
-    };
+) -> Result<bool, AllocError> {
+    let mut wants = Wants::open(alloc, 41)?;
+    let mut ready = ReadyList::open(alloc, 5155)?;
     want_all(&mut wants);
-    world.link_read(&mut [0u8; 4]) == Io::NotYet
-        && are_told_in_turn(world, &wants, &mut ready)
-        && wait_for_room(asker, world, &wants, &mut ready, peer)
+    Ok(
+        world.link_read(&mut [0u8; 4]) == Io::NotYet
+            && are_told_in_turn(world, &wants, &mut ready)
+            && wait_for_room(asker, world, &wants, &mut ready, peer),
+    )
+}
+
+/// They are told beside a connection.
+fn are_told_beside_one<
+    R: Net<Listener = TcpListener, Stream = TcpStream> + Alloc<A = Global>,
+    W: World,
+    P: Read,
+>(rt: &R, asker: &mut Asker, world: &mut W, peer: &mut P) -> Result<bool, Fail> {
+    let (host, port) = host_listener(rt)?;
+    Ok(is_joined(asker, world, &host, port)? && are_told(rt.alloc(), asker, world, peer)?)
+}
+
+/// Forty sockets and a connection are served beside the link.
+fn are_served<
+    R: Net<Listener = TcpListener, Stream = TcpStream> + Alloc<A = Global>,
+    W: World,
+    P: Read,
+>(rt: &R, asker: &mut Asker, world: &mut W, peer: &mut P) -> Result<bool, Fail> {
+    let (far, port) = host_datagrams(rt)?;
+    Ok(are_answered(asker, world, &far, port) && are_told_beside_one(rt, asker, world, peer)?)
 }
 
 /// Forty sockets and a connection are served beside a link, whose peer reads nothing for a while.
-pub fn are_taken<
-    R: Net<Listener = TcpListener, Stream = TcpStream> + Wait + Files + Clock + Alloc<A = Global>,
->(rt: &R, asker: &mut Asker) -> Result<bool, Fail> {
-    let mut world = NetWorld::open(rt, rt.alloc())?;
-    if open_at(&mut world, "crowded") != Some(Made::Done) {
+pub fn are_taken<R: Net<Listener = TcpListener, Stream = TcpStream> + Alloc<A = Global>, W: World>(
+    rt: &R,
+    asker: &mut Asker,
+    world: &mut W,
+) -> Result<bool, Fail> {
+    if open_at(world, "crowded") != Some(Made::Done) {
         return Ok(false);
     }
     let mut peer = UnixStream::connect(rt, "crowded")?;
-    let far = UdpSocket::bind(rt, "127.0.0.1:0")?;
-    let far_port = far.local_addr()?.port();
-    let host = TcpListener::bind(rt, "127.0.0.1:0")?;
-    let port = host.local_addr()?.port();
-    Ok(
-        are_answered(asker, &mut world, &far, far_port)
-            && is_joined(asker, &mut world, &host, port)?
-            && are_told(rt.alloc(), asker, &mut world, &mut peer),
-    )
+    are_served(rt, asker, world, &mut peer)
 }
