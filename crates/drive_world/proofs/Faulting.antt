@@ -1,7 +1,7 @@
 -- What is told of a call that is passed on, and of one that gets the fault.
-use Rattle.std.proofs.Common.{◌≡◌, ℕ, ◌+◌, ◌^◌, ◌<◌, ◌≤◌, ◌==◌, ◌&&◌, nat_lt, min, max, Bool, true, false, cond, Option, Some, None, is_none, List, [], ◌∷◌, ◌++◌, length, get_or, take, drop, refl, sym, ◌∙◌, ap, subst, arith}
+use Rattle.std.proofs.Common.{◌≡◌, ◌⊎◌, inl, inr, ℕ, ◌+◌, ◌^◌, ◌<◌, ◌≤◌, ◌==◌, ◌&&◌, nat_lt, min, max, Bool, true, false, cond, Option, Some, None, is_none, List, [], ◌∷◌, ◌++◌, length, length-append, length-drop, get_or, take, drop, refl, sym, ◌∙◌, ap, subst, arith}
 use Rattle.std.proofs.lemmas.List.{get_or_default, take-append-le, length-take-le}
-use Rattle.world_face.specs.Journal.{AreOctets, Entry, Allowed, IsNumber, Leaves, MayRead, MayWrite, count_of, filled}
+use Rattle.world_face.specs.Journal.{AreOctets, Entry, Allowed, IsNumber, Leaves, MayRead, MayReadFile, MayWrite, count_of, filled}
 use Rattle.world_face.specs.Faults.{failures, link_failed, wait_failed, socket_failed, file_failed}
 use Rattle.world_face.specs.Limits.{last_count}
 use Rattle.world_face.specs.Tells.{Answers, Counts, Telling, silent}
@@ -129,6 +129,19 @@ may_more asked whole End some may = tt
 may_more asked whole IoNotYet some may = tt
 may_more asked whole Failed some may = tt
 
+-- the same of a file
+file_more : (asked whole : ℕ) (answer : Io) → asked ≤ whole → MayReadFile asked answer → MayReadFile whole answer
+file_more asked whole (Done n) some may = (may.0, omega (arith, may.1, some))
+file_more asked whole End some may = tt
+file_more asked whole IoNotYet some may = may
+file_more asked whole Failed some may = tt
+
+pub as_read : (asked : ℕ) (answer : Io) → MayReadFile asked answer → MayRead asked answer
+as_read asked (Done n) may = may
+as_read asked End may = tt
+as_read asked IoNotYet may = tt
+as_read asked Failed may = tt
+
 at_most : (asked : ℕ) (answer : Io) → MayRead asked answer → count_of answer ≤ asked
 at_most asked (Done n) may = may.1
 at_most asked End may = omega arith
@@ -147,8 +160,23 @@ module _ (into part : List ℕ) (answer : Io) (some : 0 < length into) (same : l
   may_leave fits may leaves =
       (may_more (length (take 1 into)) (length into) answer (omega (arith, one_asked into some, some)) may, subst (Leaves answer) (sym (same_filled (length (take 1 into)) answer part (drop 1 into) same may)) leaves, fits)
 
-  pub first_filled : MayRead (length (take 1 into)) answer → filled answer part ≡ filled answer (part ++ drop 1 into)
+  pub file_may_leave : length into < 2 ^ 64 → MayReadFile (length (take 1 into)) answer → Leaves answer (filled answer part)
+      → MayReadFile (length into) answer × Leaves answer (filled answer (part ++ drop 1 into)) × IsNumber (length into)
+  file_may_leave fits may leaves =
+      (file_more (length (take 1 into)) (length into) answer (omega (arith, one_asked into some, some)) may, (may_leave fits (as_read (length (take 1 into)) answer may) leaves).1, fits)
+
+  first_filled : MayRead (length (take 1 into)) answer → filled answer part ≡ filled answer (part ++ drop 1 into)
   first_filled may = sym (same_filled (length (take 1 into)) answer part (drop 1 into) same may)
+
+  pub whole_stays : length (part ++ drop 1 into) ≡ length into
+  whole_stays = grind (arith, length-append, length-drop, same, one_asked into some, some)
+
+  -- what is read of one octet alone is what its front is filled with
+  pub first_read : (entry : ℕ → List ℕ → Entry) (old new : Telling) → MayRead (length (take 1 into)) answer
+      → Answers old new (entry (length (take 1 into)) (filled answer part)) → Answers old new (entry 1 (filled answer (part ++ drop 1 into)))
+  first_read entry old new may answers =
+      subst (λ asked. Answers old new (entry asked (filled answer (part ++ drop 1 into)))) (one_asked into some)
+      (subst (λ octets. Answers old new (entry (length (take 1 into)) octets)) (first_filled may) answers)
 
 pub all_small : (from : List ℕ) → ((i : ℕ) → get_or from i 0 < 256) → AreOctets from
 all_small from small = λ k d lt. subst (λ n. n < 256) (get_or_default from k 0 d lt) (small k)
@@ -160,20 +188,60 @@ write_more from End some may = may
 write_more from IoNotYet some may = tt
 write_more from Failed some may = tt
 
+-- What is known where a call was counted, and the fault given to it after.
+pub due_as : (p : Plan) (how that : How) → Some how ≡ due p → how ≡ that → due p ≡ Some that
+due_as p how that answered is = sym answered ∙ ap (λ h. Some h) is
+
+pub given_then : (p q r : Plan) (kind : Kind) → r ≡ record q { given = Some kind } → q ≡ counted p → r ≡ given_to kind p
+given_then p q r kind given one = given ∙ ap {B = Plan} (λ (s : Plan). record s { given = Some kind }) one
+
+-- counted in both of two cases
+pub counted_by : {A B C D : Type 0} (p q : Plan) → A ⊎ B → (A → C × (q ≡ counted p)) → (B → D × (q ≡ counted p)) → q ≡ counted p
+counted_by p q (inl a) first second = (first a).1
+counted_by p q (inr b) first second = (second b).1
+
 -- The same for a World and a plan that are fields: what they were is what the whole was.
 module _ {W : Type 0} (tells : W → Telling) (was : W) (p : Plan) (now : Faulted W) (is : ◌≡◌ {A = Faulted W} (record { inner = was; plan = p }) now) where
   pub passes_on : (new : W) (q : Plan) (e : Entry) → Answers (tells was) (tells new) e → q ≡ counted p → Passes tells now (record { inner = new; plan = q }) e
   passes_on new q e answers next = subst (λ (w : Faulted W). Passes tells w (record { inner = new; plan = q }) e) is (record { answers = answers; plan = next })
 
-  due_then : (how : How) → Some how ≡ due p → how ≡ Short → due p ≡ Some Short
-  due_then how answered short = sym answered ∙ ap (λ h. Some h) short
+  -- what is told over a field is told over the whole
+  over : (new : W) (q : Plan) (e : Entry) → Answers (tells_over p (tells was)) (tells_over q (tells new)) e
+      → Answers (tells_over now.plan (tells now.inner)) (tells_over q (tells new)) e
+  over new q e answers = subst (λ (w : Faulted W). Answers (tells_over w.plan (tells w.inner)) (tells_over q (tells new)) e) is answers
 
-  pub short_answers : (new : W) (how : How) (next q : Plan) (kind : Kind) (whole : ℕ) (answer : Io) (e f : Entry) → Some how ≡ due p → how ≡ Short
-      → next ≡ counted p → q ≡ short_of kind whole answer next → Answers (tells was) (tells new) e → Allowed f → FailAlike e f
+  pub passed_on : (new : W) (q : Plan) (e : Entry) → Answers (tells was) (tells new) e → q ≡ counted p
+      → Answers (tells_over now.plan (tells now.inner)) (tells_over q (tells new)) e
+  passed_on new q e answers next = over new q e (passed p q (tells was) (tells new) e next answers)
+
+  pub fails_here : (q : Plan) (kind : Kind) (e : Entry) → (due p ≡ Some Fail) × (q ≡ given_to kind p)
+      → failures link_failed (e ∷ []) ≡ (one_failed kind).link → failures wait_failed (e ∷ []) ≡ (one_failed kind).wait
+      → failures socket_failed (e ∷ []) ≡ (one_failed kind).socket → failures file_failed (e ∷ []) ≡ (one_failed kind).file
+      → Allowed e → Answers (tells_over now.plan (tells now.inner)) (tells_over q (tells was)) e
+  fails_here q kind e both link wait socket file allowed = over was q e (failed p q kind (tells was) e both.0 both.1 link wait socket file allowed)
+
+  pub put_off_here : (q : Plan) (kind : Kind) (e : Entry) → (due p ≡ Some NotYet) × (q ≡ given_to kind p)
+      → link_failed e ≡ false → wait_failed e ≡ false → socket_failed e ≡ false → file_failed e ≡ false
+      → Allowed e → Answers (tells_over now.plan (tells now.inner)) (tells_over q (tells was)) e
+  put_off_here q kind e both link wait socket file allowed = over was q e (put_off p q kind (tells was) e both.0 both.1 link wait socket file allowed)
+
+  with_plan : (q r : Plan) → q ≡ r → ◌≡◌ {A = Faulted W} (record { inner = was; plan = q }) (record { inner = was; plan = r })
+  with_plan q r same = ap {B = Faulted W} (λ (s : Plan). record { inner = was; plan = s }) same
+
+  -- the fault was given, and the World below stays
+  pub given_here : (q : Plan) (kind : Kind) → q ≡ given_to kind p
+      → ◌≡◌ {A = Faulted W} (record { inner = was; plan = q }) (record now { plan = given_to kind now.plan })
+  given_here q kind given =
+      subst (λ (w : Faulted W). ◌≡◌ {A = Faulted W} (record { inner = was; plan = q }) (record w { plan = given_to kind w.plan })) is
+      (with_plan q (given_to kind p) given)
+
+  pub short_answers : (new : W) (next q : Plan) (kind : Kind) (whole : ℕ) (answer : Io) (e f : Entry)
+      → (due p ≡ Some Short) × (next ≡ counted p) → q ≡ short_of kind whole answer next
+      → Answers (tells was) (tells new) e → Allowed f → FailAlike e f
       → Answers (tells_over now.plan (tells now.inner)) (tells_over q (tells new)) f
-  short_answers new how next q kind whole answer e f answered short one given answers allowed alike =
+  short_answers new next q kind whole answer e f short given answers allowed alike =
       subst (λ (w : Faulted W). Answers (tells_over w.plan (tells w.inner)) (tells_over q (tells new)) f) is
-      (cut_short p q kind whole answer (tells was) (tells new) e f (due_then how answered short) (given ∙ ap (short_of kind whole answer) one) answers allowed alike)
+      (cut_short p q kind whole answer (tells was) (tells new) e f short.0 (given ∙ ap (short_of kind whole answer) short.1) answers allowed alike)
 
   pub falls_short : (new : W) (next q : Plan) (kind : Kind) (whole : ℕ) (answer : Io) (e : Entry) → next ≡ counted p → q ≡ short_of kind whole answer next
       → Answers (tells was) (tells new) e → FallsShort tells kind whole answer now (record { inner = new; plan = q }) e

@@ -6,7 +6,7 @@ ghost use Rattle.drive_world.specs.Draws.{drawn, next_seed, fate_of};
 const MOST_LOST: u8 = 3;
 
 /// What becomes of a frame.
-#[derive(Clone, Copy, Debug, PartialEq, Eq)]
+#[derive(Clone, Copy)]
 pub enum Fate {
     Lost,
     /// It comes twice.

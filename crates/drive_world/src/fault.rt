@@ -1,7 +1,8 @@
 // A World over a World, in which one call fails, falls short or isn't answered yet.
-ghost use Rattle.std.specs.Prelude.{◌≡◌, ◌≢◌, ◌<◌, ◌≤◌, ◌-◌, Some, None, length, is_some};
+ghost use Rattle.std.specs.Prelude.{◌≡◌, ◌≢◌, ◌<◌, ◌≤◌, ◌-◌, true, false, Some, None, length, is_some};
 ghost use Rattle.world_face.specs.Tells.{Answers};
 ghost use Rattle.drive_world.specs.Faults.{counted, due, given_to, short_of};
+ghost use Rattle.drive_world.specs.declared.fault.Course.TheVariants.{Fails, IsPutOff, IsCut, PassesOn};
 ghost use Rattle.drive_world.specs.declared.fault.How.TheVariants.{Fail, Short, NotYet as Later};
 ghost use Rattle.drive_world.specs.declared.fault.Kind.TheVariants as kind;
 
@@ -31,6 +32,15 @@ pub enum Kind {
     File,
 }
 
+/// What becomes of a call that may also be answered NotYet.
+#[derive(Clone, Copy)]
+enum Course {
+    Fails,
+    IsPutOff,
+    IsCut,
+    PassesOn,
+}
+
 // What the fault is, how many calls come before it, and which call got it.
 #[derive(Clone, Copy)]
 pub(crate) struct Plan {
@@ -55,6 +65,40 @@ impl Plan {
         ensures { self.new ≡ record self.old { given = Some kind } }
     {
         self.given = Some(kind);
+    }
+
+    // Counts a call of a kind, and answers whether it fails: the fault is given to it then.
+    fn fails(&mut self, kind: Kind) -> bool
+        ensures fails { result ≡ true → (due self.old ≡ Some Fail) × (self.new ≡ given_to kind self.old) }
+        ensures passes { result ≡ false → (due self.old ≢ Some Fail) × (self.new ≡ counted self.old) }
+    {
+        if let Some(How::Fail) = self.count() {
+            self.give(kind);
+            true
+        } else {
+            false
+        }
+    }
+
+    // Counts a call of a kind, and answers what becomes of it: where it fails or is put off the fault is given to it.
+    fn course(&mut self, kind: Kind) -> Course
+        ensures fails { result ≡ Fails → (due self.old ≡ Some Fail) × (self.new ≡ given_to kind self.old) }
+        ensures put_off { result ≡ IsPutOff → (due self.old ≡ Some Later) × (self.new ≡ given_to kind self.old) }
+        ensures cut { result ≡ IsCut → (due self.old ≡ Some Short) × (self.new ≡ counted self.old) }
+        ensures passes { result ≡ PassesOn → (due self.old ≡ None) × (self.new ≡ counted self.old) }
+    {
+        match self.count() {
+            Some(How::Fail) => {
+                self.give(kind);
+                Course::Fails
+            }
+            Some(How::NotYet) => {
+                self.give(kind);
+                Course::IsPutOff
+            }
+            Some(How::Short) => Course::IsCut,
+            None => Course::PassesOn,
+        }
     }
 
     // A call was passed on for one octet in place of several, and the fault was given where it moved that.
@@ -157,13 +201,11 @@ impl<W: World> World for FaultWorld<W> {
         ensures fails { due self.old.plan ≡ Some Fail → (result ≡ WaitFailed) × (self.new ≡ record self.old { plan = given_to kind.Wait self.old.plan }) }
         ensures passes { due self.old.plan ≢ Some Fail → Passes W.tells self.old self.new (Wait wants.now.items timeout result ready.new.items) }
     {
-        match self.plan.count() {
-            Some(How::Fail) => {
-                self.plan.give(Kind::Wait);
-                ready.clear();
-                Waited::Failed
-            }
-            Some(How::Short | How::NotYet) | None => self.inner.wait(wants, timeout, ready),
+        if self.plan.fails(Kind::Wait) {
+            ready.clear();
+            Waited::Failed
+        } else {
+            self.inner.wait(wants, timeout, ready)
         }
     }
 
@@ -173,12 +215,10 @@ impl<W: World> World for FaultWorld<W> {
         ensures fails { due self.old.plan ≡ Some Fail → (result ≡ MadeFailed) × (self.new ≡ record self.old { plan = given_to kind.Link self.old.plan }) }
         ensures passes { due self.old.plan ≢ Some Fail → Passes W.tells self.old self.new (LinkOpen (place_of at.now) result) }
     {
-        match self.plan.count() {
-            Some(How::Fail) => {
-                self.plan.give(Kind::Link);
-                Made::Failed
-            }
-            Some(How::Short | How::NotYet) | None => self.inner.link_open(at),
+        if self.plan.fails(Kind::Link) {
+            Made::Failed
+        } else {
+            self.inner.link_open(at)
         }
     }
 
@@ -190,21 +230,15 @@ impl<W: World> World for FaultWorld<W> {
         ensures falls_short { due self.old.plan ≡ Some Short → FallsShort W.tells kind.Link (length into.old) result self.old self.new (LinkRead 1 result (filled result into.new)) }
         ensures passes { due self.old.plan ≡ None → Passes W.tells self.old self.new (LinkRead (length into.old) result (filled result into.new)) }
     {
-        match self.plan.count() {
-            Some(How::Fail) => {
-                self.plan.give(Kind::Link);
-                Io::Failed
-            }
-            Some(How::NotYet) => {
-                self.plan.give(Kind::Link);
-                Io::NotYet
-            }
-            Some(How::Short) => {
+        match self.plan.course(Kind::Link) {
+            Course::Fails => Io::Failed,
+            Course::IsPutOff => Io::NotYet,
+            Course::IsCut => {
                 let answer = self.inner.link_read(&mut into[..1]);
                 self.plan.cut(Kind::Link, into.len(), answer);
                 answer
             }
-            None => self.inner.link_read(into),
+            Course::PassesOn => self.inner.link_read(into),
         }
     }
 
@@ -217,21 +251,15 @@ impl<W: World> World for FaultWorld<W> {
         ensures falls_short { due self.old.plan ≡ Some Short → FallsShort W.tells kind.Link (length from.now) result self.old self.new (LinkWrite (take 1 from.now) result) }
         ensures passes { due self.old.plan ≡ None → Passes W.tells self.old self.new (LinkWrite from.now result) }
     {
-        match self.plan.count() {
-            Some(How::Fail) => {
-                self.plan.give(Kind::Link);
-                Io::Failed
-            }
-            Some(How::NotYet) => {
-                self.plan.give(Kind::Link);
-                Io::NotYet
-            }
-            Some(How::Short) => {
+        match self.plan.course(Kind::Link) {
+            Course::Fails => Io::Failed,
+            Course::IsPutOff => Io::NotYet,
+            Course::IsCut => {
                 let answer = self.inner.link_write(&from[..1]);
                 self.plan.cut(Kind::Link, from.len(), answer);
                 answer
             }
-            None => self.inner.link_write(from),
+            Course::PassesOn => self.inner.link_write(from),
         }
     }
 
@@ -240,12 +268,10 @@ impl<W: World> World for FaultWorld<W> {
         ensures fails { due self.old.plan ≡ Some Fail → (result ≡ MadeFailed) × (self.new ≡ record self.old { plan = given_to kind.Socket self.old.plan }) }
         ensures passes { due self.old.plan ≢ Some Fail → Passes W.tells self.old self.new (Connect c to result) }
     {
-        match self.plan.count() {
-            Some(How::Fail) => {
-                self.plan.give(Kind::Socket);
-                Made::Failed
-            }
-            Some(How::Short | How::NotYet) | None => self.inner.connect(c, to),
+        if self.plan.fails(Kind::Socket) {
+            Made::Failed
+        } else {
+            self.inner.connect(c, to)
         }
     }
 
@@ -255,16 +281,10 @@ impl<W: World> World for FaultWorld<W> {
         ensures waits { due self.old.plan ≡ Some Later → (result ≡ JoinLater) × (self.new ≡ record self.old { plan = given_to kind.Socket self.old.plan }) }
         ensures passes { due self.old.plan ≢ Some Fail → due self.old.plan ≢ Some Later → Passes W.tells self.old self.new (Connected c result) }
     {
-        match self.plan.count() {
-            Some(How::Fail) => {
-                self.plan.give(Kind::Socket);
-                Joined::Failed
-            }
-            Some(How::NotYet) => {
-                self.plan.give(Kind::Socket);
-                Joined::NotYet
-            }
-            Some(How::Short) | None => self.inner.connected(c),
+        match self.plan.course(Kind::Socket) {
+            Course::Fails => Joined::Failed,
+            Course::IsPutOff => Joined::NotYet,
+            Course::IsCut | Course::PassesOn => self.inner.connected(c),
         }
     }
 
@@ -273,12 +293,10 @@ impl<W: World> World for FaultWorld<W> {
         ensures fails { due self.old.plan ≡ Some Fail → (result ≡ MadeFailed) × (self.new ≡ record self.old { plan = given_to kind.Socket self.old.plan }) }
         ensures passes { due self.old.plan ≢ Some Fail → Passes W.tells self.old self.new (Listen l at result) }
     {
-        match self.plan.count() {
-            Some(How::Fail) => {
-                self.plan.give(Kind::Socket);
-                Made::Failed
-            }
-            Some(How::Short | How::NotYet) | None => self.inner.listen(l, at),
+        if self.plan.fails(Kind::Socket) {
+            Made::Failed
+        } else {
+            self.inner.listen(l, at)
         }
     }
 
@@ -288,16 +306,10 @@ impl<W: World> World for FaultWorld<W> {
         ensures waits { due self.old.plan ≡ Some Later → (result ≡ AcceptLater) × (self.new ≡ record self.old { plan = given_to kind.Socket self.old.plan }) }
         ensures passes { due self.old.plan ≢ Some Fail → due self.old.plan ≢ Some Later → Passes W.tells self.old self.new (Accept l c result) }
     {
-        match self.plan.count() {
-            Some(How::Fail) => {
-                self.plan.give(Kind::Socket);
-                Accepted::Failed
-            }
-            Some(How::NotYet) => {
-                self.plan.give(Kind::Socket);
-                Accepted::NotYet
-            }
-            Some(How::Short) | None => self.inner.accept(l, c),
+        match self.plan.course(Kind::Socket) {
+            Course::Fails => Accepted::Failed,
+            Course::IsPutOff => Accepted::NotYet,
+            Course::IsCut | Course::PassesOn => self.inner.accept(l, c),
         }
     }
 
@@ -309,21 +321,15 @@ impl<W: World> World for FaultWorld<W> {
         ensures falls_short { due self.old.plan ≡ Some Short → FallsShort W.tells kind.Socket (length into.old) result self.old self.new (TcpRead c 1 result (filled result into.new)) }
         ensures passes { due self.old.plan ≡ None → Passes W.tells self.old self.new (TcpRead c (length into.old) result (filled result into.new)) }
     {
-        match self.plan.count() {
-            Some(How::Fail) => {
-                self.plan.give(Kind::Socket);
-                Io::Failed
-            }
-            Some(How::NotYet) => {
-                self.plan.give(Kind::Socket);
-                Io::NotYet
-            }
-            Some(How::Short) => {
+        match self.plan.course(Kind::Socket) {
+            Course::Fails => Io::Failed,
+            Course::IsPutOff => Io::NotYet,
+            Course::IsCut => {
                 let answer = self.inner.tcp_read(c, &mut into[..1]);
                 self.plan.cut(Kind::Socket, into.len(), answer);
                 answer
             }
-            None => self.inner.tcp_read(c, into),
+            Course::PassesOn => self.inner.tcp_read(c, into),
         }
     }
 
@@ -336,21 +342,15 @@ impl<W: World> World for FaultWorld<W> {
         ensures falls_short { due self.old.plan ≡ Some Short → FallsShort W.tells kind.Socket (length from.now) result self.old self.new (TcpWrite c (take 1 from.now) result) }
         ensures passes { due self.old.plan ≡ None → Passes W.tells self.old self.new (TcpWrite c from.now result) }
     {
-        match self.plan.count() {
-            Some(How::Fail) => {
-                self.plan.give(Kind::Socket);
-                Io::Failed
-            }
-            Some(How::NotYet) => {
-                self.plan.give(Kind::Socket);
-                Io::NotYet
-            }
-            Some(How::Short) => {
+        match self.plan.course(Kind::Socket) {
+            Course::Fails => Io::Failed,
+            Course::IsPutOff => Io::NotYet,
+            Course::IsCut => {
                 let answer = self.inner.tcp_write(c, &from[..1]);
                 self.plan.cut(Kind::Socket, from.len(), answer);
                 answer
             }
-            None => self.inner.tcp_write(c, from),
+            Course::PassesOn => self.inner.tcp_write(c, from),
         }
     }
 
@@ -359,12 +359,10 @@ impl<W: World> World for FaultWorld<W> {
         ensures fails { due self.old.plan ≡ Some Fail → (result ≡ MadeFailed) × (self.new ≡ record self.old { plan = given_to kind.Socket self.old.plan }) }
         ensures passes { due self.old.plan ≢ Some Fail → Passes W.tells self.old self.new (TcpEnd c result) }
     {
-        match self.plan.count() {
-            Some(How::Fail) => {
-                self.plan.give(Kind::Socket);
-                Made::Failed
-            }
-            Some(How::Short | How::NotYet) | None => self.inner.tcp_end(c),
+        if self.plan.fails(Kind::Socket) {
+            Made::Failed
+        } else {
+            self.inner.tcp_end(c)
         }
     }
 
@@ -381,12 +379,10 @@ impl<W: World> World for FaultWorld<W> {
         ensures fails { due self.old.plan ≡ Some Fail → (result ≡ MadeFailed) × (self.new ≡ record self.old { plan = given_to kind.Socket self.old.plan }) }
         ensures passes { due self.old.plan ≢ Some Fail → Passes W.tells self.old self.new (UdpOpen s at result) }
     {
-        match self.plan.count() {
-            Some(How::Fail) => {
-                self.plan.give(Kind::Socket);
-                Made::Failed
-            }
-            Some(How::Short | How::NotYet) | None => self.inner.udp_open(s, at),
+        if self.plan.fails(Kind::Socket) {
+            Made::Failed
+        } else {
+            self.inner.udp_open(s, at)
         }
     }
 
@@ -397,16 +393,10 @@ impl<W: World> World for FaultWorld<W> {
         ensures waits { due self.old.plan ≡ Some Later → (result ≡ SentLater) × (self.new ≡ record self.old { plan = given_to kind.Socket self.old.plan }) }
         ensures passes { due self.old.plan ≢ Some Fail → due self.old.plan ≢ Some Later → Passes W.tells self.old self.new (UdpSend s to from.now result) }
     {
-        match self.plan.count() {
-            Some(How::Fail) => {
-                self.plan.give(Kind::Socket);
-                Sent::Failed
-            }
-            Some(How::NotYet) => {
-                self.plan.give(Kind::Socket);
-                Sent::NotYet
-            }
-            Some(How::Short) | None => self.inner.udp_send(s, to, from),
+        match self.plan.course(Kind::Socket) {
+            Course::Fails => Sent::Failed,
+            Course::IsPutOff => Sent::NotYet,
+            Course::IsCut | Course::PassesOn => self.inner.udp_send(s, to, from),
         }
     }
 
@@ -417,16 +407,10 @@ impl<W: World> World for FaultWorld<W> {
         ensures waits { due self.old.plan ≡ Some Later → (result ≡ GotLater) × (self.new ≡ record self.old { plan = given_to kind.Socket self.old.plan }) }
         ensures passes { due self.old.plan ≢ Some Fail → due self.old.plan ≢ Some Later → Passes W.tells self.old self.new (UdpRecv s (length into.old) result (filled_got result into.new)) }
     {
-        match self.plan.count() {
-            Some(How::Fail) => {
-                self.plan.give(Kind::Socket);
-                Got::Failed
-            }
-            Some(How::NotYet) => {
-                self.plan.give(Kind::Socket);
-                Got::NotYet
-            }
-            Some(How::Short) | None => self.inner.udp_recv(s, into),
+        match self.plan.course(Kind::Socket) {
+            Course::Fails => Got::Failed,
+            Course::IsPutOff => Got::NotYet,
+            Course::IsCut | Course::PassesOn => self.inner.udp_recv(s, into),
         }
     }
 
@@ -437,12 +421,10 @@ impl<W: World> World for FaultWorld<W> {
         ensures fails { due self.old.plan ≡ Some Fail → (result ≡ SizeFailed) × (self.new ≡ record self.old { plan = given_to kind.File self.old.plan }) }
         ensures passes { due self.old.plan ≢ Some Fail → Passes W.tells self.old self.new (FileLen name.now result) }
     {
-        match self.plan.count() {
-            Some(How::Fail) => {
-                self.plan.give(Kind::File);
-                FileSize::Failed
-            }
-            Some(How::Short | How::NotYet) | None => self.inner.file_len(name),
+        if self.plan.fails(Kind::File) {
+            FileSize::Failed
+        } else {
+            self.inner.file_len(name)
         }
     }
 

@@ -42,7 +42,7 @@ pub struct Flow {
 }
 
 /// What is to be sent after a segment came.
-#[derive(Clone, Copy, Debug, PartialEq, Eq)]
+#[derive(Clone, Copy)]
 pub enum Owed {
     Nothing,
     /// An acknowledgement.
@@ -96,53 +96,43 @@ impl Flow {
             return None;
         }
         self.due = Some(now.saturating_add(PATIENCE));
+        let (flags, count) = self.next();
+        self.under_way = self.under_way.max(count.max(1));
+        let body = pattern.part(self.acknowledged.saturating_sub(1), count as usize)?;
+        Some(self.segment(self.acknowledged, flags, body))
+    }
+
+    // The flags of the piece that is sent next, and how many octets it has: a SYN and a FIN have none.
+    fn next(&self) -> (u8, u32) {
         if self.acknowledged == 0 {
-            self.under_way = self.under_way.max(1);
-            return Some(TcpView {
-                mss: Some(MOST_TAKEN),
-                ack: Seq(0),
-                ..self.segment(SYN, &[])
-            });
+            return (SYN, 0);
         }
-        let place = self.acknowledged - 1;
-        let left = self.octets.saturating_sub(place);
+        let left = self.octets.saturating_sub(self.acknowledged - 1);
         if left == 0 {
-            self.under_way = self.under_way.max(1);
-            return Some(self.segment(FIN | ACK, &[]));
+            return (FIN | ACK, 0);
         }
-        let count = left
-            .min(MOST_BODY as u32)
-            .min(u32::from(self.window).max(1));
-        self.under_way = self.under_way.max(count);
-        Some(self.segment(PSH | ACK, pattern.part(place, count as usize)?))
+        let most = u32::from(self.window).clamp(1, MOST_BODY as u32);
+        (PSH | ACK, left.min(most))
     }
 
     /// An acknowledgement alone. Its number is the one after what is under way.
     pub fn word(&self) -> TcpView<'static> {
-        let segment = self.segment(ACK, &[]);
-        TcpView {
-            seq: self.number(self.acknowledged.wrapping_add(self.under_way)),
-            ..segment
-        }
+        self.segment(self.acknowledged.wrapping_add(self.under_way), ACK, &[])
     }
 
-    fn segment<'a>(&self, flags: u8, body: &'a [u8]) -> TcpView<'a> {
+    // A segment whose number comes so many after that of the SYN.
+    fn segment<'a>(&self, count: u32, flags: u8, body: &'a [u8]) -> TcpView<'a> {
         TcpView {
             from_port: self.port,
             to_port: SERVER.port,
-            seq: self.number(self.acknowledged),
+            seq: number_of(count),
             ack: self.expected,
             flags,
             window: WINDOW,
-            mss: None,
+            mss: (flags == SYN).then_some(MOST_TAKEN),
             scale: None,
             body,
         }
-    }
-
-    // The number that comes so many after its SYN's.
-    fn number(&self, count: u32) -> Seq {
-        Seq(FIRST.wrapping_add(count))
     }
 
     /// Takes a segment of the other side (RFC 9293, 3.10.7).
@@ -158,7 +148,7 @@ impl Flow {
 
     // While its SYN isn't acknowledged (3.10.7.3).
     fn hear_first(&mut self, segment: &TcpView<'_>) -> Owed {
-        let acknowledges = self.under_way == 1 && segment.ack == self.number(1);
+        let acknowledges = self.under_way == 1 && segment.ack == number_of(1);
         if !segment.is_ack() || !acknowledges {
             return Owed::Nothing;
         }
@@ -178,40 +168,51 @@ impl Flow {
     // Once both sides have begun (3.10.7.4).
     fn hear_later(&mut self, segment: &TcpView<'_>) -> Heard {
         if segment.is_rst() {
-            if segment.seq == self.expected {
-                self.end();
-                return nothing(Owed::Nothing);
-            }
-            let in_window = ahead(segment.seq, self.expected) > 0
-                && ahead(segment.seq, self.expected) < i32::from(WINDOW);
-            return nothing(if in_window { Owed::Word } else { Owed::Nothing });
+            nothing(self.hear_reset(segment.seq))
+        } else if segment.is_syn() {
+            nothing(Owed::Word)
+        } else if segment.is_ack() {
+            self.hear_acknowledgement(segment)
+        } else {
+            nothing(Owed::Nothing)
         }
-        if segment.is_syn() {
+    }
+
+    // A reset with this number: one that comes next ends it, another in the window is asked about.
+    fn hear_reset(&mut self, number: Seq) -> Owed {
+        let distance = ahead(number, self.expected);
+        if distance == 0 {
+            self.end();
+            Owed::Nothing
+        } else if distance > 0 && distance < i32::from(WINDOW) {
+            Owed::Word
+        } else {
+            Owed::Nothing
+        }
+    }
+
+    // A segment that acknowledges, and may bring octets. An old one acknowledges nothing, and tells no window.
+    fn hear_acknowledgement(&mut self, segment: &TcpView<'_>) -> Heard {
+        let moved = segment.ack.0.wrapping_sub(number_of(self.acknowledged).0);
+        if moved.cast_signed() < 0 {
+            return self.take(segment);
+        }
+        if moved > self.under_way {
             return nothing(Owed::Word);
         }
-        if !segment.is_ack() {
-            return nothing(Owed::Nothing);
+        self.window = segment.window;
+        if moved == 0 {
+            return self.take(segment);
         }
-        let moved = segment.ack.0.wrapping_sub(self.number(self.acknowledged).0);
-        let old = moved.cast_signed() < 0;
-        if !old && moved > self.under_way {
-            return nothing(Owed::Word);
-        }
-        if !old {
-            self.window = segment.window;
-        }
-        let goes_on = !old && moved > 0;
-        if goes_on {
-            self.advance(moved);
-        }
+        self.advance(moved);
         let heard = self.take(segment);
-        if goes_on && !self.is_all_acknowledged() {
+        if self.is_all_acknowledged() {
+            heard
+        } else {
             Heard {
                 owed: Owed::Piece,
                 ..heard
             }
-        } else {
-            heard
         }
     }
 
@@ -221,20 +222,22 @@ impl Flow {
         let past = self.expected.0.wrapping_sub(segment.seq.0) as usize;
         let fits = past <= size && !self.end_taken;
         let from = if fits { past } else { size };
-        let count = u32::try_from(size - from).unwrap_or(u32::MAX);
-        self.taken = self.taken.wrapping_add(count);
-        self.expected = Seq(self.expected.0.wrapping_add(count));
-        let ends = fits && segment.is_fin();
-        if ends {
-            self.end_taken = true;
-            self.expected = Seq(self.expected.0.wrapping_add(1));
-        }
+        self.go_on(size - from, fits && segment.is_fin());
         let owed = if size > 0 || segment.is_fin() || past != 0 {
             Owed::Word
         } else {
             Owed::Nothing
         };
         Heard { owed, from }
+    }
+
+    // So many octets came next, and the end after them or not.
+    fn go_on(&mut self, count: usize, ends: bool) {
+        let count = u32::try_from(count).unwrap_or(u32::MAX);
+        self.taken = self.taken.wrapping_add(count);
+        let passed = count.wrapping_add(u32::from(ends));
+        self.expected = Seq(self.expected.0.wrapping_add(passed));
+        self.end_taken = self.end_taken || ends;
     }
 
     // So many numbers more are acknowledged.
@@ -249,6 +252,11 @@ impl Flow {
         self.reset = true;
         self.due = None;
     }
+}
+
+// The number that comes so many after that of the SYN.
+fn number_of(count: u32) -> Seq {
+    Seq(FIRST.wrapping_add(count))
 }
 
 // A segment that brings no octets.

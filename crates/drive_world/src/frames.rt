@@ -1,5 +1,5 @@
 // Frames between the guest and the network, and the segments in them.
-ghost use Rattle.std.specs.Prelude.{◌≤◌, length};
+ghost use Rattle.std.specs.Prelude.{◌≤◌, ◌<◌, ◌+◌, ◌^◌, length, IfSome};
 
 use crate::reporting::fill;
 use ether_frame::EtherView;
@@ -93,57 +93,83 @@ impl Frame {
     }
 
     /// The frame that carries a segment of the guest's flow, which has at most 1,000 octets.
-    #[tactic(auto, using(crate::proofs::Sizes::is_small))]
     pub fn carrying(flow: usize, segment: &TcpView<'_>) -> Option<Frame> {
-        if segment.body.len() > MOST_BODY {
-            return None;
-        }
         let mut body = [0; MOST_SEGMENT];
-        let Ok(size) = tcp_segment::encode(segment, GUEST, SERVER.addr, &mut body) else {
-            return None;
-        };
-        let datagram = IpView {
-            ident: 0,
-            more: false,
-            offset: 0,
-            ttl: TIME_TO_LIVE,
-            proto: PROTOCOL_TCP,
-            from: GUEST,
-            to: SERVER.addr,
-            head: &[],
-            body: body.get(..size)?,
-        };
+        let size = write_segment(segment, &mut body)?;
         let mut packet = [0; MOST_SEGMENT + 20];
-        let Ok(size) = ipv4_head::encode(&datagram, &mut packet) else {
-            return None;
-        };
+        let size = write_datagram(body.get(..size)?, &mut packet)?;
+        let mut frame = Frame::empty();
+        frame.flow = flow;
+        frame.put(packet.get(..size)?).then_some(frame)
+    }
+
+    // Puts a packet to the network into an empty frame, where there is room.
+    fn put(&mut self, packet: &[u8]) -> bool {
         let ether = EtherView {
             to: NETWORK_MAC,
             from: GUEST_MAC,
             kind: KIND_IPV4,
-            body: packet.get(..size)?,
+            body: packet,
         };
-        let mut frame = Frame::empty();
-        frame.flow = flow;
-        let Ok(size) = ether_frame::encode(&ether, &mut frame.octets[LENGTH..]) else {
-            return None;
+        let Ok(size) = ether_frame::encode(&ether, &mut self.octets[LENGTH..]) else {
+            return false;
         };
-        frame.count = LENGTH + size;
+        self.count = LENGTH + size;
         let length = (size as u32).to_be_bytes();
-        frame.octets[..LENGTH].copy_from_slice(&length);
-        Some(frame)
+        self.octets[..LENGTH].copy_from_slice(&length);
+        true
     }
+}
+
+// Writes a segment to the server of at most 1,000 octets, where there is room, and answers how long it is.
+#[tactic(auto, using(crate::proofs::Sizes::is_small))]
+fn write_segment(segment: &TcpView<'_>, into: &mut [u8]) -> Option<usize> {
+    if segment.body.len() > MOST_BODY {
+        return None;
+    }
+    tcp_segment::encode(segment, GUEST, SERVER.addr, into).ok()
+}
+
+// Writes the datagram that carries a segment to the server, where there is room, and answers how long it is.
+fn write_datagram(segment: &[u8], into: &mut [u8]) -> Option<usize>
+    requires { 20 + length segment.now < 2 ^ 16 }
+{
+    let datagram = IpView {
+        ident: 0,
+        more: false,
+        offset: 0,
+        ttl: TIME_TO_LIVE,
+        proto: PROTOCOL_TCP,
+        from: GUEST,
+        to: SERVER.addr,
+        head: &[],
+        body: segment,
+    };
+    ipv4_head::encode(&datagram, into).ok()
 }
 
 /// The segment to the guest in what the link carries, where there is one of the server.
 pub fn segment_in(carried: &[u8]) -> Option<TcpView<'_>> {
+    let octets = octets_in(packet_in(carried)?)?;
+    match tcp_segment::decode(octets, SERVER.addr, GUEST) {
+        Ok(segment) if segment.from_port == SERVER.port => Some(segment),
+        _ => None,
+    }
+}
+
+// The packet in what the link carries.
+fn packet_in(carried: &[u8]) -> Option<&[u8]> {
     let Ok(ether) = ether_frame::decode(carried.get(LENGTH..)?) else {
         return None;
     };
-    if ether.kind != KIND_IPV4 {
-        return None;
-    }
-    let Ok(datagram) = ipv4_head::decode(ether.body) else {
+    (ether.kind == KIND_IPV4).then_some(ether.body)
+}
+
+// The octets of a segment in a whole datagram of the server to the guest.
+fn octets_in(packet: &[u8]) -> Option<&[u8]>
+    ensures { IfSome result (λ octets. length octets.now ≤ 65535) }
+{
+    let Ok(datagram) = ipv4_head::decode(packet) else {
         return None;
     };
     let whole = !datagram.more && datagram.offset == 0;
@@ -153,10 +179,7 @@ pub fn segment_in(carried: &[u8]) -> Option<TcpView<'_>> {
     if datagram.from != SERVER.addr || datagram.body.len() > 65535 {
         return None;
     }
-    match tcp_segment::decode(datagram.body, datagram.from, datagram.to) {
-        Ok(segment) if segment.from_port == SERVER.port => Some(segment),
-        _ => None,
-    }
+    Some(datagram.body)
 }
 
 /// Frames in a row, with room for a fixed number, all of it taken at opening.

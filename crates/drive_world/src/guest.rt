@@ -50,24 +50,16 @@ impl Guest {
         };
         let place = flow.taken;
         let heard = flow.hear(&segment);
-        let taken = match segment.body.get(heard.from..) {
+        if let Some(frame) = frame_owed(flow, heard.owed, number, now, pattern) {
+            road.send(&frame);
+        }
+        match segment.body.get(heard.from..) {
             Some(octets) => Taken {
                 count: octets.len() as u64,
                 wrong: pattern.differing(place, octets),
             },
             None => NOTHING_TAKEN,
-        };
-        let answer = match heard.owed {
-            Owed::Nothing => None,
-            Owed::Word => Frame::carrying(number, &flow.word()),
-            Owed::Piece => flow
-                .piece(now, pattern)
-                .and_then(|piece| Frame::carrying(number, &piece)),
-        };
-        if let Some(frame) = answer {
-            road.send(&frame);
         }
-        taken
     }
 
     /// Sends what is due at this moment.
@@ -75,10 +67,8 @@ impl Guest {
         let mut number = 0;
         for flow in self.flows.iter_mut() {
             if flow.is_due(now) {
-                if let Some(piece) = flow.piece(now, pattern) {
-                    if let Some(frame) = Frame::carrying(number, &piece) {
-                        road.send(&frame);
-                    }
+                if let Some(frame) = frame_owed(flow, Owed::Piece, number, now, pattern) {
+                    road.send(&frame);
                 }
             }
             number = number.saturating_add(1);
@@ -96,6 +86,21 @@ impl Guest {
 
     pub fn flows(&self) -> &[Flow] {
         &self.flows
+    }
+}
+
+// The frame that a flow, which has this number, owes, where it does.
+fn frame_owed(
+    flow: &mut Flow,
+    owed: Owed,
+    number: usize,
+    now: u64,
+    pattern: &Pattern,
+) -> Option<Frame> {
+    match owed {
+        Owed::Nothing => None,
+        Owed::Word => Frame::carrying(number, &flow.word()),
+        Owed::Piece => Frame::carrying(number, &flow.piece(now, pattern)?),
     }
 }
 

@@ -32,7 +32,7 @@ impl Pattern {
     /// The octets of a stream from a place on.
     pub fn part(&self, place: u32, count: usize) -> Option<&[u8]> {
         let from = place as usize % PERIOD;
-        self.octets.get(from..)?.get(..count)
+        self.octets.get(from..from.saturating_add(count))
     }
 
     /// How many of these octets differ from those of a stream from this place on.

@@ -9,7 +9,7 @@ use itoa::Buffer;
 use world_face::{Failed, Sink};
 
 /// The number from which a run is drawn, the octets that the host got and that the guest took in order, how many of both are wrong, and the waits.
-#[derive(Clone, Copy, Debug, PartialEq, Eq)]
+#[derive(Clone, Copy)]
 pub struct Run {
     pub number: u64,
     pub up: u64,

@@ -5,7 +5,6 @@ ghost use Rattle.world_face.specs.Faults.{io_failed, waited_failed};
 ghost use Rattle.world_face.specs.Journal.{MayRead, MayWait};
 ghost use Rattle.world_face.specs.Limits.{most_ready, most_wants};
 ghost use Rattle.world_face.specs.declared.Waited.TheVariants.{Ready};
-ghost use Rattle.drive_world.specs.Picks.{IsPickedFrom};
 ghost use Rattle.drive_world.specs.Runs.{CountsDown};
 
 use crate::frames::Frame;
@@ -190,7 +189,6 @@ impl Outside {
         requires some { AreWants wants.now.items }
         requires few { length wants.now.items ≤ most_wants }
         requires room { most_ready ≤ ready.old.capacity }
-        ensures picked { IsPickedFrom wants.now.items ready.new.items }
         ensures may { MayWait wants.now.items Ready ready.new.items }
         ensures capacity { ready.new.capacity ≡ ready.old.capacity }
     {

@@ -9,11 +9,12 @@ use Rattle.stream_netdev.specs.declared.Offered.{Offered}
 use Rattle.stream_netdev.specs.declared.Offered.TheVariants.{Failed}
 use Rattle.tcp_guest.specs.declared.Owed.{Owed}
 use Rattle.flow_splice.specs.Hosts.{Sees, is_for_writing, shuts}
-use Rattle.flow_splice.specs.Sends.{Marks, pumped_of}
+use Rattle.flow_splice.specs.Sends.{Marks}
+use Rattle.stream_netdev.specs.Offers.{pumped_of}
 use Rattle.flow_splice.specs.Shapes.{IsHostWork, IsPumpWork, are_sending, ends, gives, is_at_most_a_close, is_ending, is_reading, is_sending, is_write, is_writing, wrote}
 use Rattle.flow_splice.specs.Splice.{Splice}
-use Rattle.flow_splice.specs.declared.Pumped.{Pumped}
-use Rattle.flow_splice.specs.declared.Pumped.TheVariants.{Clear, Blocked as PumpBlocked, Failed as PumpFailed}
+use Rattle.stream_netdev.specs.declared.Pumped.{Pumped}
+use Rattle.stream_netdev.specs.declared.Pumped.TheVariants.{Clear, Blocked as PumpBlocked, Failed as PumpFailed}
 use Rattle.flow_splice.proofs.Calls.{or_first, or_last}
 use Rattle.flow_splice.proofs.Marking.{marks_stay}
 

@@ -19,8 +19,8 @@ use Rattle.flow_splice.specs.Entries.{ident_after}
 use Rattle.flow_splice.specs.Follows.{Follows}
 use Rattle.flow_splice.specs.Serves.{Serves}
 use Rattle.flow_splice.specs.Splice.{Splice, is_open}
-use Rattle.flow_splice.specs.declared.Pumped.{Pumped}
-use Rattle.flow_splice.specs.declared.Pumped.TheVariants.{Clear, Blocked as PumpBlocked, Failed as PumpFailed}
+use Rattle.stream_netdev.specs.declared.Pumped.{Pumped}
+use Rattle.stream_netdev.specs.declared.Pumped.TheVariants.{Clear, Blocked as PumpBlocked, Failed as PumpFailed}
 
 -- the flow keeps a hardware address that it is told
 abbrev pub or_known : Option Mac → Option Mac → Option Mac
@@ -55,12 +55,6 @@ abbrev pub Marks : Offered → Owed → Splice → Splice → ℕ → List Entry
 Marks Taken what old new now made = GoesOut (is_rst what) what old new now made
 Marks Blocked what old new now made = (made ≡ []) × (new ≡ old)
 Marks Failed what old new now made = (made ≡ []) × (new ≡ old)
-
--- what an offer comes to, where the link is then blocked or not
-abbrev pub pumped_of : Offered → Bool → Pumped
-pumped_of Taken blocked = if blocked then PumpBlocked else Clear
-pumped_of Blocked blocked = if blocked then PumpBlocked else Clear
-pumped_of Failed blocked = PumpFailed
 
 -- with a hardware address that it is told
 abbrev pub learnt : Splice → Option Mac → Splice

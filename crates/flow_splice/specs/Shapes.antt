@@ -4,8 +4,8 @@ use Rattle.world_face.specs.Journal.{Entry, LinkWrite, TcpWrite, TcpEnd, Close}
 use Rattle.world_face.specs.declared.Io.{Io}
 use Rattle.world_face.specs.declared.Io.TheVariants.{Done, End, NotYet, Failed as IoFailed}
 use Rattle.flow_splice.specs.Hosts.{is_for_reading, is_for_writing, shuts}
-use Rattle.flow_splice.specs.declared.Pumped.{Pumped}
-use Rattle.flow_splice.specs.declared.Pumped.TheVariants.{Clear, Blocked, Failed}
+use Rattle.stream_netdev.specs.declared.Pumped.{Pumped}
+use Rattle.stream_netdev.specs.declared.Pumped.TheVariants.{Clear, Blocked, Failed}
 
 -- a socket is closed, or nothing is called
 abbrev pub is_at_most_a_close : List Entry → Bool

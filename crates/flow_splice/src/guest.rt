@@ -38,16 +38,16 @@ impl Spliced {
         ensures quiet { is_open_by self.old ≡ false → W.tells world.new ≡ W.tells world.old }
     {
         if self.is_open() {
-            return self.hear(world, now, seg);
+            return self.take_segment(world, now, seg);
         }
         if let Place::Resting(since) = self.place() {
-            self.hear_at_rest(since, now, seg);
+            self.take_at_rest(since, now, seg);
         }
         false
     }
 
     // While its socket is open.
-    fn hear<W: World>(&mut self, world: &mut W, now: u64, seg: &TcpView<'_>) -> bool
+    fn take_segment<W: World>(&mut self, world: &mut W, now: u64, seg: &TcpView<'_>) -> bool
         requires now { now ≤ 2 ^ 62 }
         requires body { length seg.now.body.now ≤ 65535 }
         requires few { self.old.up.written + length seg.now.body.now + 2 ^ 21 < 2 ^ 62 }
@@ -88,7 +88,7 @@ impl Spliced {
 
     // ---- at rest
 
-    fn hear_at_rest(&mut self, since: u64, now: u64, seg: &TcpView<'_>)
+    fn take_at_rest(&mut self, since: u64, now: u64, seg: &TcpView<'_>)
         requires now { now ≤ 2 ^ 62 }
         requires body { length seg.now.body.now ≤ 65535 }
         requires few { self.old.up.written + length seg.now.body.now + 2 ^ 21 < 2 ^ 62 }

@@ -60,17 +60,6 @@ pub enum Place {
     Resting(u64),
 }
 
-/// What a pump came to.
-#[derive(Clone, Copy, Debug, PartialEq, Eq)]
-pub enum Pumped {
-    /// All that the flow owes is out.
-    Clear,
-    /// The link takes no more for now.
-    Blocked,
-    /// The link failed.
-    Failed,
-}
-
 /// One flow, or the place for one. A contract sees a `Splice`.
 #[derive(Drop)]
 pub struct Spliced {

@@ -8,7 +8,6 @@ ghost use Rattle.stream_netdev.specs.State.{under_way};
 ghost use Rattle.tcp_guest.specs.Connection.{HasBuffers};
 ghost use Rattle.tcp_guest.specs.Owing.{change_gone, owed_of};
 ghost use Rattle.connection_follows.specs.Sending.{is_rst, segment_out, with_head};
-ghost use Rattle.flow_splice.specs.Sends.{pumped_of};
 ghost use Rattle.flow_splice.specs.Frames.{IsHeld, IsSized, frame_length, request_frame, segment_frame};
 ghost use Rattle.flow_laws.specs.Settings.{Settings};
 ghost use Rattle.flow_laws.specs.Event.{Story};
@@ -17,10 +16,10 @@ ghost use Rattle.net_octets.specs.declared.Endpoint.{Endpoint};
 
 use crate::frames::{Route, write_frame, write_request};
 use crate::time::REQUESTS;
-use crate::{Place, Pumped, Spliced};
+use crate::{Place, Spliced};
 use net_octets::{Ip4, Mac};
 use sock_buffers::Down;
-use stream_netdev::{Link, Offered};
+use stream_netdev::{Link, Offered, Pumped, outcome};
 use tcp_guest::{Change, Head, Owed};
 use world_face::World;
 
@@ -164,7 +163,7 @@ impl Spliced {
     ghost use Rattle.flow_splice.specs.Splice.{is_open as is_open_by};
     ghost use Rattle.flow_splice.specs.Sends.{IsClear, IsPumped, SendsOn, asked, asks_now, learnt, or_known, takes_part};
     ghost use Rattle.flow_splice.specs.declared.Place.TheVariants.{Empty};
-    ghost use Rattle.flow_splice.specs.declared.Pumped.TheVariants.{Clear, Blocked, Failed};
+    ghost use Rattle.stream_netdev.specs.declared.Pumped.TheVariants.{Clear, Blocked, Failed};
 
     /// Sends all that the flow owes, one segment at a time, until the link is blocked. Each datagram that goes out has the number `ident`, which is one more
     /// then, modulo 2^16. `mac` is the guest's hardware address, where it is known: the flow keeps it. A flow that calls a guest whose address isn't known
@@ -397,16 +396,5 @@ fn is_reset(what: &Owed) -> bool
     match what {
         Owed::Reset { .. } => true,
         Owed::Syn | Owed::SynAck | Owed::Data(_) | Owed::Ack => false,
-    }
-}
-
-// What an offer comes to.
-fn outcome(offered: Offered, blocked: bool) -> Pumped
-    ensures { result ≡ pumped_of offered blocked }
-{
-    match offered {
-        Offered::Taken | Offered::Blocked if blocked => Pumped::Blocked,
-        Offered::Taken | Offered::Blocked => Pumped::Clear,
-        Offered::Failed => Pumped::Failed,
     }
 }

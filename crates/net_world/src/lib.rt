@@ -6,7 +6,6 @@ mod files;
 mod gathering;
 mod link;
 mod net_world;
-mod pace;
 mod socket_file;
 mod sockets;
 

@@ -1,11 +1,11 @@
 // The stream to the guest.
 ghost use Rattle.std.specs.Prelude.{◌≡◌, ◌<◌, length};
 ghost use Rattle.world_face.specs.Journal.{MayRead, MayWrite};
-ghost use Rattle.net_world.specs.Paces.{let_out};
+ghost use Rattle.ack_pace.specs.Paces.{let_out};
 
-use crate::pace::Pace;
 use crate::socket_file;
 use crate::sockets::{address, is_not_yet, send_at_once};
+use ack_pace::Pace;
 use arrayvec::ArrayString;
 use mio::event::Event;
 use mio::net::{TcpListener, TcpStream, UnixListener, UnixStream};

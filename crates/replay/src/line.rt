@@ -40,7 +40,7 @@ pub enum Line {
 }
 
 /// The call that fitted no line, with its arguments; its octets and its wants stand beside it.
-#[derive(Clone, Copy, Debug, PartialEq, Eq)]
+#[derive(Clone, Copy)]
 pub enum Stop {
     Now,
     Wait(Option<u64>),

@@ -22,7 +22,7 @@ use std::alloc::Global;
 use world_face::{Endpoint, Ip4, Want, Who};
 
 /// Why a line wasn't read.
-#[derive(Clone, Copy, Debug, PartialEq, Eq)]
+#[derive(Clone, Copy)]
 pub enum Unread {
     NoReading,
     NoMemory,

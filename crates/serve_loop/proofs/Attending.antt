@@ -16,7 +16,7 @@ use Rattle.run_duties.specs.Serving.{IsServed, is_left_to_read, is_left_to_write
 use Rattle.run_duties.specs.Waiting.{is_written}
 use Rattle.run_duties.proofs.Serving.{read_since, reading_on, served_on, unwritten, writing_on}
 use Rattle.flow_splice.specs.Splice.{Splice}
-use Rattle.spliced_flows.specs.Core.{number_of}
+use Rattle.flows_follow.specs.Core.{number_of}
 use Rattle.tcp_flows.specs.Kept.{Kept}
 use Rattle.tcp_flows.specs.Reading.{IsOpenAt, NoneOpen, Stays}
 use Rattle.tcp_flows.specs.Told.{ServesOnce, WasTold}
@@ -28,21 +28,12 @@ use Rattle.slirp_core.specs.Marks.{KeepsMarks}
 use Rattle.slirp_core.specs.State.{SlirpState}
 use Rattle.slirp_core.proofs.Associating.{passes_over}
 use Rattle.slirp_core.proofs.Unserved.{told_then}
+use Rattle.slirp_core.proofs.Telling.{from_more}
+use Rattle.slirp_core.proofs.Brought.{reads_wait}
 use Rattle.serve_loop.specs.Turns.{AfterItem, AfterTurn, AllSent, CanTake, HoldsNow, IsLeftAmong, ServesNow, still}
 use Rattle.serve_loop.specs.declared.service.Turn.{Turn}
 use Rattle.serve_loop.specs.declared.service.Turn.TheVariants.{Again, Ended as TurnEnded}
 use Rattle.serve_loop.proofs.Left.{both_true, can_take, its_flow, left_behind_link, left_behind_socket, left_on, still_told}
-
--- what may be asked more of
-pub from_more : (a b : Telling) (Before More After : List Entry → Type 0) → ((past : List Entry) → More past → Before past) → Brings a b Before After → Brings a b More After
-from_more a b Before More After less brings = record {
-  made = brings.made;
-  same = brings.same;
-  allowed = brings.allowed;
-  told = brings.told;
-  counted = brings.counted;
-  brings = λ past more. brings.brings past (less past more);
-}
 
 -- flows that stay as they were keep their marks
 pub same_marks : (number : ℕ) (old new : Kept) → new ≡ old → KeepsMarks number old new
@@ -214,8 +205,8 @@ none_serves (LinkRead asked IoNotYet octets ∷ made) past ends = refl
 none_serves (LinkRead asked IoFailed octets ∷ made) past ends = absurd (let never : IoFailed ≡ IoNotYet = ends in cc)
 none_serves (_ ∷ made) past ends = absurd ends
 
-pub frame_was_read : (config : Config) (made past : List Entry) (link : LinkState) → EndsBy Frame made → ReadsFrame Frame link made past → waits (made ++ past) ≡ waits past → is_left_to_read config (made ++ past) TheLink ≡ false
-frame_was_read config made past link ends reads same = read_since config made past TheLink same (frame_serves made past (frame_of link) ends reads.frame)
+pub frame_was_read : (config : Config) (made past : List Entry) (link : LinkState) → EndsBy Frame made → ReadsFrame Frame link made past → is_left_to_read config (made ++ past) TheLink ≡ false
+frame_was_read config made past link ends reads = read_since config made past TheLink (reads_wait made past reads.reads) (frame_serves made past (frame_of link) ends reads.frame)
 
 pub none_came : (config : Config) (made past : List Entry) → EndsBy NotYet made → waits (made ++ past) ≡ waits past → is_left_to_read config (made ++ past) TheLink ≡ false
 none_came config made past ends same = read_since config made past TheLink same (none_serves made past ends)

@@ -17,7 +17,7 @@ use Rattle.run_duties.specs.Waiting.{WaitsFor, is_all_sent, is_read, is_written,
 use Rattle.run_duties.proofs.Checks.{same_is}
 use Rattle.run_duties.proofs.Serving.{read_left, reading_on, served_on, unread, write_left, writing_on}
 use Rattle.flow_splice.specs.Splice.{Splice}
-use Rattle.spliced_flows.specs.Core.{number_of}
+use Rattle.flows_follow.specs.Core.{number_of}
 use Rattle.stream_netdev.specs.State.{LinkState}
 use Rattle.slirp_core.specs.Holds.{Standing, flowing}
 use Rattle.slirp_core.specs.Marks.{KeepsMarks}

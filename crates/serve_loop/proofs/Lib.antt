@@ -1,7 +1,6 @@
 mod Among
 pub mod Attending
 mod Counted
-pub mod Completing
 pub mod Left
 pub mod Opening
 pub mod Serving

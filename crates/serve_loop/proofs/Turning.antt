@@ -24,8 +24,8 @@ use Rattle.waiting_flows.specs.Wants.{link_want, listener_want, socket_wants}
 use Rattle.tcp_flows.specs.Reading.{NoneInSlots}
 use Rattle.host_policy.specs.declared.Proto.TheVariants.{Udp as OverUdp}
 use Rattle.slirp_core.specs.State.{SlirpState}
-use Rattle.slirp_core.specs.declared.sending.Pumped.{Pumped}
-use Rattle.slirp_core.specs.declared.sending.Pumped.TheVariants.{Clear, Blocked, Failed as PumpFailed}
+use Rattle.stream_netdev.specs.declared.Pumped.{Pumped}
+use Rattle.stream_netdev.specs.declared.Pumped.TheVariants.{Clear, Blocked, Failed as PumpFailed}
 use Rattle.slirp_core.proofs.Associating.{with_agenda}
 use Rattle.slirp_core.proofs.Parts.{or_second}
 use Rattle.slirp_core.proofs.Sockets.{same}

@@ -4,8 +4,8 @@ use Rattle.world_face.specs.Frames.{Ending, LinkEnded, LinkCut, LongFrame, LinkF
 use Rattle.host_policy.specs.Addresses.{Config}
 use Rattle.run_laws.specs.Shape.{By, Refused, Phase, Opening, Started, Woken, Working, Over}
 use Rattle.slirp_core.specs.Counts.{AreGrown}
-use Rattle.slirp_core.specs.declared.sending.Pumped.{Pumped}
-use Rattle.slirp_core.specs.declared.sending.Pumped.TheVariants.{Clear, Blocked, Failed as PumpFailed}
+use Rattle.stream_netdev.specs.declared.Pumped.{Pumped}
+use Rattle.stream_netdev.specs.declared.Pumped.TheVariants.{Clear, Blocked, Failed as PumpFailed}
 use Rattle.serve_loop.specs.declared.service.Turn.{Turn}
 use Rattle.serve_loop.specs.declared.service.Turn.TheVariants.{Again, Ended}
 use Rattle.serve_loop.specs.declared.service.End.{End}

@@ -15,6 +15,13 @@ pub record ServiceState : Type 0 where
   pub wants : List Want
   pub ready : List Want
 
+-- what a step within a turn leaves as it was: the settings, how many turns there were, and what the last wait wanted and reported
+pub record Stays (old new : ServiceState) : Type 0 where
+  pub config : new.slirp.config ≡ old.slirp.config
+  pub turn : new.slirp.flows.turn ≡ old.slirp.flows.turn
+  pub wants : new.wants ≡ old.wants
+  pub ready : new.ready ≡ old.ready
+
 -- No part is asked for that isn't built: no port of the network is forwarded, and there is no control.
 pub record IsBuilt (config : Config) : Type 0 where
   pub guest_forwards : config.guest_forwards ≡ []

@@ -6,6 +6,7 @@ use Rattle.poll_list.specs.declared.Who.{Who}
 use Rattle.poll_list.specs.declared.Who.TheVariants.{Link, Tcp, Udp}
 use Rattle.world_face.specs.Journal.{Entry}
 use Rattle.world_face.specs.Frames.{Ending, Stopped, WaitFailed}
+use Rattle.world_face.specs.Tells.{Counts}
 use Rattle.host_policy.specs.Addresses.{Config}
 use Rattle.run_laws.specs.Shape.{phase}
 use Rattle.flow_splice.specs.Splice.{Splice}
@@ -27,8 +28,8 @@ use Rattle.slirp_core.specs.State.{SlirpState}
 use Rattle.slirp_core.specs.Waiting.{AreFresh}
 use Rattle.run_duties.specs.Duties.{Dutiful}
 use Rattle.run_duties.specs.Serving.{AllServed, IsServed, is_left_to_read, is_left_to_write}
-use Rattle.spliced_flows.specs.Core.{number_of}
-use Rattle.serve_loop.specs.Ends.{end_by, end_of}
+use Rattle.flows_follow.specs.Core.{number_of}
+use Rattle.serve_loop.specs.Ends.{IsCounted, end_by, end_of}
 use Rattle.serve_loop.specs.declared.service.End.{End}
 use Rattle.serve_loop.specs.declared.service.Turn.{Turn}
 use Rattle.serve_loop.specs.declared.service.Turn.TheVariants.{Again, Ended as TurnEnded}
@@ -147,6 +148,11 @@ AfterTaking (TurnEnded end) config count slirp link past = (waited : ℕ) × End
 abbrev pub GoesOnAfter : Turn → LinkState → Type 0
 GoesOnAfter Again link = ReadsOn (under_way link)
 GoesOnAfter (TurnEnded end) link = Unit {0}
+
+-- how a step ends: where it ends the run a count of faults says why, and where the turn goes on the link can be read
+pub record IsStep (result : Turn) (old new : Counts) (link : LinkState) : Type 0 where
+  pub counted : IsCounted result old new
+  pub on : GoesOnAfter result link
 
 -- a run that has this end; only its sockets are to be closed
 pub record Closes (config : Config) (end : End) (forwards : List Opened) (o : Holders) (past : List Entry) : Type 0 where

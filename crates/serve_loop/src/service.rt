@@ -19,10 +19,10 @@ use arrayvec::ArrayVec;
 use host_policy::{Forward, SlirpConfig};
 use net_octets::NoMemory;
 use poll_list::{ReadyList, Want, Who};
-use slirp_core::{LONGEST_ASSEMBLED, Pumped, Slirp, Task, TurnWants};
+use slirp_core::{LONGEST_ASSEMBLED, Slirp, TurnWants};
 use std::alloc::Global;
 use std::marker::Model;
-use stream_netdev::{Arrived, Link};
+use stream_netdev::{Arrived, Link, Pumped};
 use world_face::{Waited, World};
 
 /// The most octets of a datagram's payload.
@@ -58,7 +58,7 @@ pub enum Turn {
 }
 
 // What came of a wait.
-#[derive(Clone, Copy, Debug, PartialEq, Eq)]
+#[derive(Clone, Copy)]
 pub enum Slept {
     Ready,
     Stopped,
@@ -107,12 +107,12 @@ impl Service {
     ghost use Rattle.serve_loop.specs.Ends.{end_of, IsCounted};
     ghost use Rattle.slirp_core.specs.Counts.{AreGrown};
     ghost use Rattle.slirp_core.specs.Holds.{AfterListening, after, standing};
-    ghost use Rattle.serve_loop.specs.Turns.{AfterItem, AfterTurn, AllSent, AreYoung, AttendsAfterSleep, AttendsAfterTaking, AttendsAfterTurn, AttendsAfterWholeTurn, AttendsNow, CanTake, GoesOnAfter, HoldsNow, IsCalm, IsCalmAfter, IsInTime, MayRest, NoneGoesAgain, NoneTold, ServedAfter, ServesNow, all_passed_over, is_frame_due, is_passed_over};
+    ghost use Rattle.serve_loop.specs.Turns.{AfterItem, AfterTurn, AllSent, AreYoung, AttendsAfterSleep, AttendsAfterTaking, AttendsAfterTurn, AttendsAfterWholeTurn, AttendsNow, CanTake, HoldsNow, IsCalm, IsCalmAfter, IsInTime, IsStep, MayRest, NoneGoesAgain, NoneTold, ServedAfter, ServesNow, all_passed_over, is_frame_due, is_passed_over};
     ghost use Rattle.run_duties.specs.Duties.{Attended, Dutiful};
     ghost use Rattle.run_duties.specs.Serving.{is_left_to_read};
     ghost use Rattle.slirp_core.specs.Marks.{KeepsMarks};
     ghost use Rattle.slirp_core.specs.Pumps.{is_settled};
-    ghost use Rattle.serve_loop.specs.Served.{IsBuilt, IsNew};
+    ghost use Rattle.serve_loop.specs.Served.{IsBuilt, IsNew, Stays};
     ghost use Rattle.slirp_core.specs.Hearing.{Receives, is_heard};
 
     /// A network with these settings that has served nothing. It takes all the memory that it will ever need.
@@ -178,8 +178,7 @@ impl Service {
     pub fn start<W: World>(&mut self, world: &mut W) -> Turn
         requires { IsNew self.old }
         ensures makes { Makes (W.tells world.old) (W.tells world.new) (AttendsAfterWholeTurn result self.old.slirp.config (after 0) self.new.slirp self.new.link) }
-        ensures faults { IsCounted result (W.tells world.old).faults (W.tells world.new).faults }
-        ensures on { GoesOnAfter result self.new.link }
+        ensures step { IsStep result (W.tells world.old).faults (W.tells world.new).faults self.new.link }
         ensures calm { result ≡ Turn.Again → IsCalm self.new.slirp self.new.link }
         ensures config { self.new.slirp.config ≡ self.old.slirp.config }
         ensures number { self.new.slirp.number ≤ 32 }
@@ -215,8 +214,7 @@ impl Service {
         ensures makes { (config : Config) (count : ℕ) → count < config.turns → Brings (W.tells world.old) (W.tells world.new)
             (AttendsNow config (after count) false self.old.slirp self.old.link) (AttendsAfterWholeTurn result config (after (count + 1)) self.new.slirp self.new.link) }
         // Where it ended by a fault the count of the link's, or of the waits', rose.
-        ensures faults { IsCounted result (W.tells world.old).faults (W.tells world.new).faults }
-        ensures on { GoesOnAfter result self.new.link }
+        ensures step { IsStep result (W.tells world.old).faults (W.tells world.new).faults self.new.link }
         ensures calm { result ≡ Turn.Again → IsCalm self.new.slirp self.new.link }
         ensures config { self.new.slirp.config ≡ self.old.slirp.config }
         ensures number { self.new.slirp.number ≤ self.old.slirp.number + 5155 }
@@ -239,8 +237,7 @@ impl Service {
         requires calm { IsCalm self.old.slirp self.old.link }
         ensures makes { (config : Config) (count : ℕ) → count < config.turns → Brings (W.tells world.old) (W.tells world.new)
             (AttendsNow config (after count) false self.old.slirp self.old.link) (AttendsAfterTaking result config count self.new.slirp self.new.link) }
-        ensures faults { IsCounted result (W.tells world.old).faults (W.tells world.new).faults }
-        ensures on { GoesOnAfter result self.new.link }
+        ensures step { IsStep result (W.tells world.old).faults (W.tells world.new).faults self.new.link }
         ensures calm { result ≡ Turn.Again → IsCalm self.new.slirp self.new.link }
         ensures config { self.new.slirp.config ≡ self.old.slirp.config }
         ensures number { self.new.slirp.number ≤ self.old.slirp.number + 5155 }
@@ -266,8 +263,7 @@ impl Service {
         ensures connects { (config : Config) (at : Standing) (past : List Entry) → HoldsNow config at true self.old.slirp self.old.link past → result ≡ Turn.Again → IsInTime self.old.slirp self.old.link → IsInTime self.new.slirp self.new.link }
         ensures none { result ≡ Turn.Again → NoneGoesAgain self.new.slirp }
         ensures untold { NoneTold self.old.slirp → NoneTold self.new.slirp }
-        ensures faults { IsCounted result (W.tells world.old).faults (W.tells world.new).faults }
-        ensures on { GoesOnAfter result self.new.link }
+        ensures step { IsStep result (W.tells world.old).faults (W.tells world.new).faults self.new.link }
         ensures config { self.new.slirp.config ≡ self.old.slirp.config }
         ensures number { self.new.slirp.number ≡ self.old.slirp.number }
         ensures turns { self.new.slirp.flows.turn ≡ self.old.slirp.flows.turn }
@@ -296,8 +292,7 @@ impl Service {
         requires calm { IsCalm self.old.slirp self.old.link }
         ensures makes { (config : Config) (count : ℕ) → count < config.turns → Brings (W.tells world.old) (W.tells world.new)
             (MayRest config (after count) self.old.slirp self.old.link) (AttendsAfterTurn result config (after (count + 1)) false self.new.slirp self.new.link) }
-        ensures faults { IsCounted result (W.tells world.old).faults (W.tells world.new).faults }
-        ensures on { GoesOnAfter result self.new.link }
+        ensures step { IsStep result (W.tells world.old).faults (W.tells world.new).faults self.new.link }
         ensures calm { result ≡ Turn.Again → IsCalm self.new.slirp self.new.link }
         ensures config { self.new.slirp.config ≡ self.old.slirp.config }
         ensures number { self.new.slirp.number ≤ self.old.slirp.number + 5155 }
@@ -351,8 +346,7 @@ impl Service {
         ensures makes { (config : Config) (count : ℕ) → Brings (W.tells world.old) (W.tells world.new)
             (ServesNow config count self.old.wants self.old.ready (is_frame_due self.old.wants self.old.ready) self.old.slirp self.old.link)
             (λ past. AfterTurn result config (after count) false self.new.slirp self.new.link past × ServedAfter result config past) }
-        ensures faults { IsCounted result (W.tells world.old).faults (W.tells world.new).faults }
-        ensures on { GoesOnAfter result self.new.link }
+        ensures step { IsStep result (W.tells world.old).faults (W.tells world.new).faults self.new.link }
         ensures calm { result ≡ Turn.Again → IsCalm self.new.slirp self.new.link }
         ensures config { self.new.slirp.config ≡ self.old.slirp.config }
         ensures number { self.new.slirp.number ≤ self.old.slirp.number + 5155 }
@@ -393,13 +387,10 @@ impl Service {
         ensures makes { (config : Config) (count : ℕ) (items : List AnItem) → (to_read ≡ true → reads TheLink self.old.wants ≡ true) → Brings (W.tells world.old) (W.tells world.new)
             (ServesNow config count self.old.wants (item.now ∷ items) to_read self.old.slirp self.old.link)
             (AfterItem result config count self.old.wants items (still to_read item.now) self.new.slirp self.new.link) }
-        ensures faults { IsCounted result (W.tells world.old).faults (W.tells world.new).faults }
-        ensures on { GoesOnAfter result self.new.link }
+        ensures step { IsStep result (W.tells world.old).faults (W.tells world.new).faults self.new.link }
         ensures calm { (items : List AnItem) → IsCalmAfter self.old.wants (item.now ∷ items) self.old.slirp self.old.link → result ≡ Turn.Again → IsCalmAfter self.old.wants items self.new.slirp self.new.link }
-        ensures config { self.new.slirp.config ≡ self.old.slirp.config }
+        ensures stays { Stays self.old self.new }
         ensures number { self.new.slirp.number ≤ self.old.slirp.number + 1 }
-        ensures turns { self.new.slirp.flows.turn ≡ self.old.slirp.flows.turn }
-        ensures reports { (self.new.wants ≡ self.old.wants) × (self.new.ready ≡ self.old.ready) }
         ensures passed { (to_read ≡ true → reads TheLink self.old.wants ≡ true) → is_passed_over self.old.wants item.now ≡ true → (result ≡ Turn.Again) × (self.new ≡ self.old) × (world.new ≡ world.old) }
     {
         match item.of {
@@ -418,17 +409,14 @@ impl Service {
         ensures makes { (config : Config) (count : ℕ) (items : List AnItem) → (to_read ≡ true → reads TheLink self.old.wants ≡ true) → Brings (W.tells world.old) (W.tells world.new)
             (ServesNow config count self.old.wants (item.now ∷ items) to_read self.old.slirp self.old.link)
             (AfterItem result config count self.old.wants items (still to_read item.now) self.new.slirp self.new.link) }
-        ensures faults { IsCounted result (W.tells world.old).faults (W.tells world.new).faults }
-        ensures on { GoesOnAfter result self.new.link }
+        ensures step { IsStep result (W.tells world.old).faults (W.tells world.new).faults self.new.link }
         ensures calm { (items : List AnItem) → IsCalmAfter self.old.wants (item.now ∷ items) self.old.slirp self.old.link → result ≡ Turn.Again → IsCalmAfter self.old.wants items self.new.slirp self.new.link }
-        ensures config { self.new.slirp.config ≡ self.old.slirp.config }
+        ensures stays { Stays self.old self.new }
         ensures number { self.new.slirp.number ≤ self.old.slirp.number + 1 }
-        ensures turns { self.new.slirp.flows.turn ≡ self.old.slirp.flows.turn }
-        ensures reports { (self.new.wants ≡ self.old.wants) × (self.new.ready ≡ self.old.ready) }
         ensures passed { (to_read ≡ true → reads TheLink self.old.wants ≡ true) → is_passed_over self.old.wants item.now ≡ true → (result ≡ Turn.Again) × (self.new ≡ self.old) × (world.new ≡ world.old) }
     {
         if is_read_now(to_read, item) {
-            return match self.receive(world) {
+            return match self.receive_frame(world) {
                 Turn::Again => self.pump(world),
                 Turn::Ended(end) => Turn::Ended(end),
             };
@@ -447,13 +435,10 @@ impl Service {
         ensures makes { (config : Config) (count : ℕ) (items : List AnItem) (to_read : Bool) → Brings (W.tells world.old) (W.tells world.new)
             (ServesNow config count self.old.wants (item.now ∷ items) to_read self.old.slirp self.old.link)
             (AfterItem result config count self.old.wants items to_read self.new.slirp self.new.link) }
-        ensures faults { IsCounted result (W.tells world.old).faults (W.tells world.new).faults }
-        ensures on { GoesOnAfter result self.new.link }
+        ensures step { IsStep result (W.tells world.old).faults (W.tells world.new).faults self.new.link }
         ensures calm { (items : List AnItem) → IsCalmAfter self.old.wants (item.now ∷ items) self.old.slirp self.old.link → result ≡ Turn.Again → IsCalmAfter self.old.wants items self.new.slirp self.new.link }
-        ensures config { self.new.slirp.config ≡ self.old.slirp.config }
+        ensures stays { Stays self.old self.new }
         ensures number { self.new.slirp.number ≤ self.old.slirp.number + 1 }
-        ensures turns { self.new.slirp.flows.turn ≡ self.old.slirp.flows.turn }
-        ensures reports { (self.new.wants ≡ self.old.wants) × (self.new.ready ≡ self.old.ready) }
         ensures passed { is_passed_over self.old.wants item.now ≡ true → (result ≡ Turn.Again) × (self.new ≡ self.old) × (world.new ≡ world.old) }
     {
         if !self.waits_for_peers(number, item) {
@@ -470,19 +455,16 @@ impl Service {
         ensures makes { (config : Config) (count : ℕ) (items : List AnItem) (to_read : Bool) → Brings (W.tells world.old) (W.tells world.new)
             (ServesNow config count self.old.wants (item.now ∷ items) to_read self.old.slirp self.old.link)
             (AfterItem result config count self.old.wants items to_read self.new.slirp self.new.link) }
-        ensures faults { IsCounted result (W.tells world.old).faults (W.tells world.new).faults }
-        ensures on { GoesOnAfter result self.new.link }
+        ensures step { IsStep result (W.tells world.old).faults (W.tells world.new).faults self.new.link }
         ensures calm { (items : List AnItem) → IsCalmAfter self.old.wants (item.now ∷ items) self.old.slirp self.old.link → result ≡ Turn.Again → IsCalmAfter self.old.wants items self.new.slirp self.new.link }
-        ensures config { self.new.slirp.config ≡ self.old.slirp.config }
+        ensures stays { Stays self.old self.new }
         ensures number { self.new.slirp.number ≡ self.old.slirp.number }
-        ensures turns { self.new.slirp.flows.turn ≡ self.old.slirp.flows.turn }
-        ensures reports { (self.new.wants ≡ self.old.wants) × (self.new.ready ≡ self.old.ready) }
         ensures passed { is_passed_over self.old.wants item.now ≡ true → (result ≡ Turn.Again) × (self.new ≡ self.old) × (world.new ≡ world.old) }
     {
         if !self.waits_for(number, item) {
             return Turn::Again;
         }
-        self.hear(world, number);
+        self.receive_datagram(world, number);
         self.pump(world)
     }
 
@@ -493,13 +475,10 @@ impl Service {
         ensures makes { (config : Config) (count : ℕ) (items : List AnItem) (to_read : Bool) → Brings (W.tells world.old) (W.tells world.new)
             (ServesNow config count self.old.wants (item.now ∷ items) to_read self.old.slirp self.old.link)
             (AfterItem result config count self.old.wants items to_read self.new.slirp self.new.link) }
-        ensures faults { IsCounted result (W.tells world.old).faults (W.tells world.new).faults }
-        ensures on { GoesOnAfter result self.new.link }
+        ensures step { IsStep result (W.tells world.old).faults (W.tells world.new).faults self.new.link }
         ensures calm { (items : List AnItem) → IsCalmAfter self.old.wants (item.now ∷ items) self.old.slirp self.old.link → result ≡ Turn.Again → IsCalmAfter self.old.wants items self.new.slirp self.new.link }
-        ensures config { self.new.slirp.config ≡ self.old.slirp.config }
+        ensures stays { Stays self.old self.new }
         ensures number { self.new.slirp.number ≡ self.old.slirp.number }
-        ensures turns { self.new.slirp.flows.turn ≡ self.old.slirp.flows.turn }
-        ensures reports { (self.new.wants ≡ self.old.wants) × (self.new.ready ≡ self.old.ready) }
         ensures passed { is_passed_over self.old.wants item.now ≡ true → (result ≡ Turn.Again) × (self.new ≡ self.old) × (world.new ≡ world.old) }
     {
         let Some(wanted) = self.counted(number, item) else {
@@ -518,8 +497,8 @@ impl Service {
         ensures none { result ≡ None → ((wanted_of self.now.wants item.now).read || (wanted_of self.now.wants item.now).write) ≡ false }
     {
         let wants = self.wants.of_flows();
-        let read = item.read && flow_reads_among(wants, number);
-        let write = item.write && flow_writes_among(wants, number);
+        let read = item.read && reads_among(wants, Who::Tcp(number));
+        let write = item.write && writes_among(wants, Who::Tcp(number));
         if !(read || write) {
             return None;
         }
@@ -534,43 +513,34 @@ impl Service {
     fn waits_for_peers(&self, number: u64, item: &Want) -> bool
         ensures { result ≡ (item.now.read && reads (Listener number) self.now.wants) }
     {
-        item.read && listens_among(self.wants.of_listeners(), number)
+        item.read && reads_among(self.wants.of_listeners(), Who::Listener(number))
     }
 
     // Whether a report on this socket is for reading, and datagrams on it were waited for.
     fn waits_for(&self, number: u64, item: &Want) -> bool
         ensures { result ≡ (item.now.read && reads (Udp number) self.now.wants) }
     {
-        item.read && reads_among(self.wants.of_datagrams(), number)
+        item.read && reads_among(self.wants.of_datagrams(), Who::Udp(number))
     }
 
-    // Reads a frame where nothing is left to be sent, takes it in, and sends its datagram on, serves it, or hands its segment on.
-    fn receive<W: World>(&mut self, world: &mut W) -> Turn
+    // Reads a frame where nothing is left to be sent, and hands it to the network.
+    fn receive_frame<W: World>(&mut self, world: &mut W) -> Turn
         requires on { ReadsOn (under_way self.old.link) }
         requires number { self.old.slirp.number + 1 < 2 ^ 64 }
         ensures makes { (config : Config) (count : ℕ) (wants : List AnItem) (item : AnItem) (items : List AnItem) → is_to_read TheLink (wanted_of wants item) ≡ true → Brings (W.tells world.old) (W.tells world.new)
             (λ past. HoldsNow config (standing count wants (item ∷ items)) false self.old.slirp self.old.link past × CanTake config self.old.slirp self.old.link past)
             (λ past. AfterTurn result config (standing count wants items) false self.new.slirp self.new.link past × (result ≡ Turn.Again → is_left_to_read config past TheLink ≡ false)) }
         ensures marks { KeepsMarks self.old.slirp.number self.old.slirp.flows self.new.slirp.flows }
-        ensures faults { IsCounted result (W.tells world.old).faults (W.tells world.new).faults }
-        ensures on { GoesOnAfter result self.new.link }
-        ensures config { self.new.slirp.config ≡ self.old.slirp.config }
+        ensures step { IsStep result (W.tells world.old).faults (W.tells world.new).faults self.new.link }
+        ensures stays { Stays self.old self.new }
         ensures number { self.new.slirp.number ≤ self.old.slirp.number + 1 }
-        ensures turns { self.new.slirp.flows.turn ≡ self.old.slirp.flows.turn }
-        ensures reports { (self.new.wants ≡ self.old.wants) × (self.new.ready ≡ self.old.ready) }
     {
         if !self.is_settled() {
             return Turn::Again;
         }
         match self.link.read_frame(world) {
             Arrived::Frame => {
-                let brought = self.slirp.input(self.link.frame(), &mut self.joined);
-                match self.slirp.complete(brought, &self.joined) {
-                    Some(Task::Errand(errand)) => self.slirp.relay(world, &errand),
-                    Some(Task::File(datagram)) => self.slirp.take_file(world, &datagram),
-                    Some(Task::Segment(segment)) => self.slirp.take_segment(world, &segment),
-                    None => {}
-                }
+                self.slirp.input(world, self.link.frame(), &mut self.joined);
                 Turn::Again
             }
             Arrived::NotYet => Turn::Again,
@@ -582,22 +552,21 @@ impl Service {
     }
 
     // Receives a datagram on a socket where nothing is left to be sent.
-    fn hear<W: World>(&mut self, world: &mut W, number: u64)
+    fn receive_datagram<W: World>(&mut self, world: &mut W, number: u64)
         // Where nothing is left to be sent and the socket is open a datagram is asked for on it, once.
-        ensures hears { is_settled self.old.slirp self.old.link ≡ true → is_heard number self.old.slirp ≡ true → Makes (W.tells world.old) (W.tells world.new) (Receives number) }
+        ensures receives { is_settled self.old.slirp self.old.link ≡ true → is_heard number self.old.slirp ≡ true → Makes (W.tells world.old) (W.tells world.new) (Receives number) }
         ensures makes { (config : Config) (count : ℕ) (wants : List AnItem) (item : AnItem) (items : List AnItem) → is_to_read (Udp number) (wanted_of wants item) ≡ true → Brings (W.tells world.old) (W.tells world.new)
             (λ past. HoldsNow config (standing count wants (item ∷ items)) false self.old.slirp self.old.link past × CanTake config self.old.slirp self.old.link past)
             (λ past. HoldsNow config (standing count wants items) false self.new.slirp self.new.link past × (is_left_to_read config past (Udp number) ≡ false)) }
         ensures counts { AreGrown (W.tells world.old).faults (W.tells world.new).faults }
         ensures link { self.new.link ≡ self.old.link }
         ensures flows { self.new.slirp.flows ≡ self.old.slirp.flows }
-        ensures config { self.new.slirp.config ≡ self.old.slirp.config }
+        ensures stays { Stays self.old self.new }
         ensures number { self.new.slirp.number ≡ self.old.slirp.number }
-        ensures turns { self.new.slirp.flows.turn ≡ self.old.slirp.flows.turn }
-        ensures reports { (self.new.wants ≡ self.old.wants) × (self.new.ready ≡ self.old.ready) }
     {
         if self.is_settled() {
-            self.slirp.hear(world, number, &mut self.payload);
+            self.slirp
+                .receive_datagram(world, number, &mut self.payload);
         }
     }
 
@@ -618,14 +587,11 @@ impl Service {
         ensures calm { result ≡ Turn.Again → IsCalm self.new.slirp self.new.link }
         ensures young { AreYoung self.old.slirp → AreYoung self.new.slirp }
         ensures connects { (config : Config) (at : Standing) (aged : Bool) (past : List Entry) → HoldsNow config at aged self.old.slirp self.old.link past → result ≡ Turn.Again → IsInTime self.old.slirp self.old.link → IsInTime self.new.slirp self.new.link }
-        ensures faults { IsCounted result (W.tells world.old).faults (W.tells world.new).faults }
-        ensures on { GoesOnAfter result self.new.link }
-        ensures config { self.new.slirp.config ≡ self.old.slirp.config }
+        ensures step { IsStep result (W.tells world.old).faults (W.tells world.new).faults self.new.link }
+        ensures stays { Stays self.old self.new }
         ensures number { self.new.slirp.number ≡ self.old.slirp.number }
-        ensures turns { self.new.slirp.flows.turn ≡ self.old.slirp.flows.turn }
         ensures files { (self.new.slirp.moment ≡ self.old.slirp.moment) × (self.new.slirp.transfers ≡ self.old.slirp.transfers) }
         ensures marks { KeepsMarks self.old.slirp.number self.old.slirp.flows self.new.slirp.flows }
-        ensures reports { (self.new.wants ≡ self.old.wants) × (self.new.ready ≡ self.old.ready) }
     {
         let pumped = self.slirp.pump(world, &mut self.link);
         turn_of(pumped)
@@ -678,131 +644,78 @@ fn socket_of(who: Who) -> Option<u64> {
     }
 }
 
-// Whether the listener with this number is among them, for reading.
-fn listens_among(wants: &[Want], number: u64) -> bool
-    ensures { result ≡ reads (Listener number) wants.now }
+// Whether this one is among them, for reading. What is waited for stands by rising number, so what isn't found there is looked for among all only where none was wanted.
+fn reads_among(wants: &[Want], of: Who) -> bool
+    ensures { result ≡ reads of wants.now }
 {
-    wants.iter().any(|want| is_listened(want, number))
+    reads_in_order(wants, of) || reads_anywhere(wants, of)
 }
 
-// Whether the socket with this number is among them, for reading. What is waited for stands by rising number, so what isn't found there is looked for among all only where none was wanted.
-fn reads_among(wants: &[Want], number: u64) -> bool
-    ensures { result ≡ reads (Udp number) wants.now }
+fn reads_in_order(wants: &[Want], of: Who) -> bool
+    ensures { result ≡ true → reads of wants.now ≡ true }
 {
-    reads_in_order(wants, number) || reads_anywhere(wants, number)
-}
-
-fn reads_in_order(wants: &[Want], number: u64) -> bool
-    ensures { result ≡ true → reads (Udp number) wants.now ≡ true }
-{
-    match wants.binary_search_by_key(&Some(number), |want| socket_of(want.of)) {
-        Ok(place) => reads_at(wants, place, number),
+    match wants.binary_search_by_key(&socket_of(of), |want| socket_of(want.of)) {
+        Ok(place) => reads_at(wants, place, of),
         Err(_) => false,
     }
 }
 
-fn reads_anywhere(wants: &[Want], number: u64) -> bool
-    ensures { result ≡ reads (Udp number) wants.now }
+fn reads_anywhere(wants: &[Want], of: Who) -> bool
+    ensures { result ≡ reads of wants.now }
 {
-    wants.iter().any(|want| is_read(want, number))
+    wants.iter().any(|want| is_read(want, of))
 }
 
-// The same of a flow's socket, for reading.
-fn flow_reads_among(wants: &[Want], number: u64) -> bool
-    ensures { result ≡ reads (Tcp number) wants.now }
-{
-    flow_reads_in_order(wants, number) || flow_reads_anywhere(wants, number)
-}
-
-fn flow_reads_in_order(wants: &[Want], number: u64) -> bool
-    ensures { result ≡ true → reads (Tcp number) wants.now ≡ true }
-{
-    match wants.binary_search_by_key(&Some(number), |want| socket_of(want.of)) {
-        Ok(place) => flow_reads_at(wants, place, number),
-        Err(_) => false,
-    }
-}
-
-fn flow_reads_anywhere(wants: &[Want], number: u64) -> bool
-    ensures { result ≡ reads (Tcp number) wants.now }
-{
-    wants.iter().any(|want| is_flow_read(want, number))
-}
-
-fn flow_reads_at(wants: &[Want], place: usize, number: u64) -> bool
-    ensures { result ≡ true → reads (Tcp number) wants.now ≡ true }
+fn reads_at(wants: &[Want], place: usize, of: Who) -> bool
+    ensures { result ≡ true → reads of wants.now ≡ true }
 {
     let Some(want) = wants.get(place) else {
         return false;
     };
-    is_flow_read(want, number)
+    is_read(want, of)
+}
+
+fn is_read(want: &Want, of: Who) -> bool
+    ensures { result ≡ is_to_read of want.now }
+{
+    want.of == of && want.read
 }
 
 // And for writing.
-fn flow_writes_among(wants: &[Want], number: u64) -> bool
-    ensures { result ≡ writes (Tcp number) wants.now }
+fn writes_among(wants: &[Want], of: Who) -> bool
+    ensures { result ≡ writes of wants.now }
 {
-    flow_writes_in_order(wants, number) || flow_writes_anywhere(wants, number)
+    writes_in_order(wants, of) || writes_anywhere(wants, of)
 }
 
-fn flow_writes_in_order(wants: &[Want], number: u64) -> bool
-    ensures { result ≡ true → writes (Tcp number) wants.now ≡ true }
+fn writes_in_order(wants: &[Want], of: Who) -> bool
+    ensures { result ≡ true → writes of wants.now ≡ true }
 {
-    match wants.binary_search_by_key(&Some(number), |want| socket_of(want.of)) {
-        Ok(place) => flow_writes_at(wants, place, number),
+    match wants.binary_search_by_key(&socket_of(of), |want| socket_of(want.of)) {
+        Ok(place) => writes_at(wants, place, of),
         Err(_) => false,
     }
 }
 
-fn flow_writes_anywhere(wants: &[Want], number: u64) -> bool
-    ensures { result ≡ writes (Tcp number) wants.now }
+fn writes_anywhere(wants: &[Want], of: Who) -> bool
+    ensures { result ≡ writes of wants.now }
 {
-    wants.iter().any(|want| is_flow_written(want, number))
+    wants.iter().any(|want| is_written(want, of))
 }
 
-fn flow_writes_at(wants: &[Want], place: usize, number: u64) -> bool
-    ensures { result ≡ true → writes (Tcp number) wants.now ≡ true }
+fn writes_at(wants: &[Want], place: usize, of: Who) -> bool
+    ensures { result ≡ true → writes of wants.now ≡ true }
 {
     let Some(want) = wants.get(place) else {
         return false;
     };
-    is_flow_written(want, number)
+    is_written(want, of)
 }
 
-fn is_flow_read(want: &Want, number: u64) -> bool
-    ensures { result ≡ is_to_read (Tcp number) want.now }
+fn is_written(want: &Want, of: Who) -> bool
+    ensures { result ≡ is_to_write of want.now }
 {
-    want.of == Who::Tcp(number) && want.read
-}
-
-fn is_flow_written(want: &Want, number: u64) -> bool
-    ensures { result ≡ is_to_write (Tcp number) want.now }
-{
-    want.of == Who::Tcp(number) && want.write
-}
-
-// Whether it is the listener with this number.
-fn is_listened(want: &Want, number: u64) -> bool
-    ensures { result ≡ is_to_read (Listener number) want.now }
-{
-    want.of == Who::Listener(number) && want.read
-}
-
-// Whether the socket with this number stands at the place, for reading.
-fn reads_at(wants: &[Want], place: usize, number: u64) -> bool
-    ensures { result ≡ true → reads (Udp number) wants.now ≡ true }
-{
-    let Some(want) = wants.get(place) else {
-        return false;
-    };
-    is_read(want, number)
-}
-
-// Whether it is the socket with this number, for reading.
-fn is_read(want: &Want, number: u64) -> bool
-    ensures { result ≡ is_to_read (Udp number) want.now }
-{
-    want.of == Who::Udp(number) && want.read
+    want.of == of && want.write
 }
 
 // What a pump comes to in a turn.

@@ -5,12 +5,13 @@ use Rattle.replay.specs.Unread.{IsFirstUnread}
 use Rattle.replay.specs.declared.Divergence.{Divergence}
 use Rattle.slirp_app.specs.Causes.{Came, CannotRead, Caused, IsTooLarge, RanOn}
 use Rattle.slirp_app.specs.Doing.{ReplaysFile}
-use Rattle.slirp_app.specs.Fetching.{IsUnreadable, MayFetch, is_read, octets_read}
+use Rattle.app_edges.specs.Fetching.{IsUnreadable, MayFetch, is_read, octets_read}
 use Rattle.slirp_app.specs.Ran.{Ceased, EndsBy, IsAtEnd, Replayed}
-use Rattle.slirp_app.specs.Statuses.{code_of, outcome_of, is_run}
-use Rattle.slirp_app.specs.Texts.{text_of}
-use Rattle.slirp_app.specs.declared.status.Outcome.{Outcome}
-use Rattle.slirp_app.specs.declared.status.Outcome.TheVariants.{Done, Usage, BadConfig, ScheduleRead, ScheduleTooLarge, ScheduleLine, Diverged, FrameTooLong, FrameCut, LinkFault, WaitFault, TurnsSpent, ListenRefused, SinkFault, NoMemory}
+use Rattle.app_edges.specs.Statuses.{code_of, is_run}
+use Rattle.slirp_app.specs.Statuses.{outcome_of}
+use Rattle.app_edges.specs.Texts.{text_of}
+use Rattle.app_edges.specs.declared.status.Outcome.{Outcome}
+use Rattle.app_edges.specs.declared.status.Outcome.TheVariants.{Done, Usage, BadConfig, ScheduleRead, ScheduleTooLarge, ScheduleLine, Diverged, FrameTooLong, FrameCut, LinkFault, WaitFault, TurnsSpent, ListenRefused, SinkFault, NoMemory}
 use Rattle.slirp_app.proofs.Ending.{ends_by, long_frame, waits_spent, meant_by}
 use Rattle.serve_loop.specs.Ends.{end_of}
 use Rattle.slirp_laws.specs.Laws.{Lawful}

@@ -20,9 +20,10 @@ use Rattle.serve_loop.specs.declared.service.End.TheVariants.{Done as EndDone, T
 use Rattle.slirp_app.specs.Doing.{CanBeDone, Course, Meant, Misset, Misused, Does, refusal_of}
 use Rattle.serve_loop.specs.Served.{IsBuilt}
 use Rattle.slirp_app.specs.Serving.{HasNoMemory, IsGiven, IsRefused, IsUnopened, OpensAt, Records, Runs, Serves as Served, ServesAt, Took, TookNot}
-use Rattle.slirp_app.specs.Statuses.{code_of, is_unrun, outcome_of}
-use Rattle.slirp_app.specs.declared.status.Outcome.{Outcome}
-use Rattle.slirp_app.specs.declared.status.Outcome.TheVariants.{BadConfig, NoMemory}
+use Rattle.app_edges.specs.Statuses.{code_of, is_unrun}
+use Rattle.slirp_app.specs.Statuses.{outcome_of}
+use Rattle.app_edges.specs.declared.status.Outcome.{Outcome}
+use Rattle.app_edges.specs.declared.status.Outcome.TheVariants.{BadConfig, NoMemory}
 
 -- what no option gives is not asked for
 is_built : (config : Config) (given : Word → Option Word) → AreSettings given config → IsBuilt config
@@ -140,6 +141,11 @@ module _ (config : Config) (at : Place) (tap : Tap) (outcome : Outcome) (world w
 
   pub serves_nothing : is_unrun (code_of outcome) ≡ true → new ≡ old
   serves_nothing unrun = nothing_put outcome (served_code config at tap outcome old new makes.made makes.holds) unrun
+
+pub drives_read : (status : ℕ) → (status ≡ 0) ⊎ (status ≡ 12) ⊎ (status ≡ 13) → (status ≢ 1) × (status ≢ 2)
+drives_read status (inl is) = (λ one. cc, λ two. cc)
+drives_read status (inr (inl is)) = (λ one. cc, λ two. cc)
+drives_read status (inr (inr is)) = (λ one. cc, λ two. cc)
 
 one_none : (o : Option Field) (field : Field) → o ≡ Some field → o ≡ None → ⊥
 one_none o field is none = cc

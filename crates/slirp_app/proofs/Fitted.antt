@@ -11,7 +11,7 @@ use Rattle.host_policy.specs.Addresses.{Config}
 use Rattle.run_laws.specs.Shape.{Phase, Opening, Started, Woken, Working, Over, clocked, is_over, is_working, may_turn, opened, phase, phase_after, unless_over}
 use Rattle.slirp_laws.specs.Laws.{Lawful}
 use Rattle.slirp_app.specs.Serving.{IsRefused, OpensAt, Runs}
-use Rattle.slirp_app.specs.declared.status.Outcome.{Outcome}
+use Rattle.app_edges.specs.declared.status.Outcome.{Outcome}
 use Rattle.taps.specs.Capturing.{Fits}
 
 -- what is under way was brought by one read, and what is left by one write

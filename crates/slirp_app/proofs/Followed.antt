@@ -22,10 +22,13 @@ use Rattle.replay.specs.Script.{Script, IsFresh, script_tells, newest_onto}
 use Rattle.replay.specs.Text.{text}
 use Rattle.replay.specs.declared.Divergence.{Divergence}
 use Rattle.slirp_app.specs.Causes.{Came}
-use Rattle.slirp_app.specs.Ran.{Replayed, IsAtEnd, Ceased, end_line}
-use Rattle.slirp_app.specs.Statuses.{code_of, outcome_of}
-use Rattle.slirp_app.specs.declared.status.Outcome.{Outcome}
-use Rattle.slirp_app.specs.declared.status.Outcome.TheVariants.{Diverged}
+use Rattle.slirp_app.specs.Ran.{Replayed, IsAtEnd, Ceased}
+use Rattle.app_edges.specs.Texts.{end_line}
+use Rattle.slirp_app.specs.Serving.{IsRun}
+use Rattle.app_edges.specs.Statuses.{code_of}
+use Rattle.slirp_app.specs.Statuses.{outcome_of}
+use Rattle.app_edges.specs.declared.status.Outcome.{Outcome}
+use Rattle.app_edges.specs.declared.status.Outcome.TheVariants.{Diverged}
 
 -- the first n lines, newest first, before these
 newest_rows : ℕ → List Row → List Row → List Row
@@ -87,12 +90,8 @@ at_end config WaitFault schedule old new ran = ran
 at_end config (TurnsSpent n) schedule old new ran = ran
 at_end config (ListenRefused n) schedule old new ran = ran
 
--- a run, lawful and finished, each of whose waits is as it must be, with the end that its record tells
-abbrev pub Ran : Config → End → List Entry → Type 0
-Ran config end made = Lawful config made × Dutiful config made × Finished config made × (end ≡ end_of config (phase config made))
-
-module _ (config : Config) (script new : Script) (end : End) (outcome : Outcome) (before after : Option (List ℕ)) (fresh : IsFresh script)
-    (lives : new.live ≡ true → outcome ≡ outcome_of end)
+module _ (config : Config) (script new : Script) (done outcome : Outcome) (before after : Option (List ℕ)) (fresh : IsFresh script)
+    (lives : new.live ≡ true → outcome ≡ done)
     (dead : new.live ≡ false → (divergence : Divergence) × (outcome ≡ Diverged divergence) × (divergence_of new ≡ Some divergence))
     (rightly : StopsRightly new.lines new.used new.stop) (within : new.used ≤ length new.lines) (readable : AreReadable new.lines)
     (put : after ≡ added (text (script_tells new).kept ++ end_line (code_of outcome)) before) where
@@ -133,23 +132,25 @@ module _ (config : Config) (script new : Script) (end : End) (outcome : Outcome)
         wanted = ap (λ (d : Divergence). d.wanted) at.2 ∙ ap (λ o. option_map (λ (row : Row). name_of (call_of row.entry)) o) (sym (first_left new.used new.lines));
       }
 
-  by_told : (made : List Entry) → schedule_text new.lines ≡ schedule_text script.lines → AreAllowed made → Ran config end made → Told (script_tells script) (script_tells new) made → Came config outcome (schedule_text script.lines) before after
+  by_told : (made : List Entry) → schedule_text new.lines ≡ schedule_text script.lines → AreAllowed made → IsRun config done made → Told (script_tells script) (script_tells new) made → Came config outcome (schedule_text script.lines) before after
   by_told made same allowed run (on was now kept) =
       let is : made ≡ (script_tells new).kept = sym (kept ∙ ap (λ l. made ++ l) nothing_kept ∙ append-nil made) in
-      subst (λ o. Came config o (schedule_text script.lines) before after) (sym (lives now)) (at_end config end (schedule_text script.lines) before after (record {
+      let end = end_of config (phase config made) in
+      let ends : outcome ≡ outcome_of end = lives now ∙ run.ends in
+      subst (λ o. Came config o (schedule_text script.lines) before after) (sym ends) (at_end config end (schedule_text script.lines) before after (record {
         journal = (script_tells new).kept;
-        put = put_as (outcome_of end) (lives now);
+        put = put_as (outcome_of end) ends;
         fits = fits same;
         allowed = subst AreAllowed is allowed;
-        lawful = subst (Lawful config) is run.0;
-        dutiful = subst (Dutiful config) is run.1;
-        holds = (subst (Finished config) is run.2, ap outcome_of (run.3 ∙ ap (λ l. end_of config (phase config l)) is));
+        lawful = subst (Lawful config) is run.lawful;
+        dutiful = subst (Dutiful config) is run.dutiful;
+        holds = (subst (Finished config) is run.finished, ap (λ l. outcome_of (end_of config (phase config l))) is);
       }))
   by_told made same allowed run (ceased was now later told e made_is kept stop) =
       let is : told ≡ (script_tells new).kept = sym (kept ∙ ap (λ l. told ++ l) nothing_kept ∙ append-nil told) in
-      let lawful = subst (Lawful config) made_is run.0 in
+      let lawful = subst (Lawful config) made_is run.lawful in
       let next = follows_before (May config) later (e ∷ told) lawful in
-      let duty = follows_before (Must config) later (e ∷ told) (subst (Dutiful config) made_is run.1) in
+      let duty = follows_before (Must config) later (e ∷ told) (subst (Dutiful config) made_is run.dutiful) in
       let left = dead now in
       subst (λ o. Came config o (schedule_text script.lines) before after) (sym left.1) (record {
         journal = (script_tells new).kept;
@@ -162,5 +163,5 @@ module _ (config : Config) (script new : Script) (end : End) (outcome : Outcome)
       })
   by_told made same allowed run (silent quiet now kept stop) = cc
 
-  pub replayed : Makes (script_tells script) (script_tells new) (Ran config end) → Came config outcome (schedule_text script.lines) before after
+  pub replayed : Makes (script_tells script) (script_tells new) (IsRun config done) → Came config outcome (schedule_text script.lines) before after
   replayed makes = by_told makes.made makes.same makes.allowed makes.holds makes.told

@@ -8,12 +8,13 @@ use Rattle.serve_loop.specs.declared.service.End.TheVariants.{Done as AtEnd}
 use Rattle.slirp_laws.specs.Laws.{Finished, Lawful}
 use Rattle.slirp_app.specs.Causes.{RanOn}
 use Rattle.slirp_app.specs.Doing.{ReplaysFile}
-use Rattle.slirp_app.specs.Fetching.{IsWhole, octets_read}
+use Rattle.app_edges.specs.Fetching.{IsWhole, octets_read}
 use Rattle.slirp_app.specs.Serving.{IsRun}
-use Rattle.slirp_app.specs.Statuses.{code_of, outcome_of, is_run}
+use Rattle.app_edges.specs.Statuses.{code_of, is_run}
+use Rattle.slirp_app.specs.Statuses.{outcome_of}
 use Rattle.slirp_app.specs.Untroubled.{CanBeFollowed, Untroubled}
-use Rattle.slirp_app.specs.declared.status.Outcome.{Outcome}
-use Rattle.slirp_app.specs.declared.status.Outcome.TheVariants.{Done}
+use Rattle.app_edges.specs.declared.status.Outcome.{Outcome}
+use Rattle.app_edges.specs.declared.status.Outcome.TheVariants.{Done}
 use Rattle.slirp_app.proofs.Completed.{ends_well}
 use Rattle.world_face.specs.Frames.{LinkEnded, Stopped}
 use Rattle.world_face.specs.Journal.{AreAllowed, Entry}

@@ -4,7 +4,6 @@ mod Completed
 mod Copied
 mod Courses
 mod Ending
-mod Fetched
 mod Followed
 mod Fitted
 mod Following

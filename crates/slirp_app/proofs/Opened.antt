@@ -3,18 +3,24 @@ use Rattle.std.proofs.Common.{◌≡◌, ℕ, List, [], ◌∷◌, ◌++◌, Opt
 use Rattle.world_face.specs.Journal.{Entry, Place, LinkOpen}
 use Rattle.world_face.specs.Tells.{Telling, Answers, Makes}
 use Rattle.world_face.specs.declared.Made.TheVariants.{Done, Failed}
-use Rattle.world_face.proofs.Telling.{makes_one, makes_then}
+use Rattle.world_face.proofs.Telling.{makes_as, makes_one, makes_then}
 use Rattle.host_policy.specs.Addresses.{Config}
 use Rattle.slirp_app.specs.Serving.{IsRecorded, IsRefused, IsRun, IsUnopened, OpensAt, Records, RecordsAt, Runs}
 use Rattle.slirp_app.specs.Statuses.{outcome_of}
-use Rattle.slirp_app.specs.declared.status.Outcome.{Outcome}
-use Rattle.slirp_app.specs.declared.status.Outcome.TheVariants.{LinkFault}
-use Rattle.slirp_app.proofs.Followed.{Ran}
+use Rattle.app_edges.specs.declared.status.Outcome.{Outcome}
+use Rattle.app_edges.specs.declared.status.Outcome.TheVariants.{LinkFault}
+use Rattle.slirp_laws.specs.Laws.{Finished, Lawful}
+use Rattle.run_duties.specs.Duties.{Dutiful}
+use Rattle.run_laws.specs.Shape.{phase}
+use Rattle.serve_loop.specs.Ends.{end_of}
 use Rattle.serve_loop.specs.declared.service.End.{End}
 
 -- the calls of a run, with the end that they tell
-pub is_run : (config : Config) (end : End) (outcome : Outcome) (run : List Entry) → Ran config end run → outcome ≡ outcome_of end → IsRun config outcome run
-is_run config end outcome run holds told = record { lawful = holds.0; dutiful = holds.1; finished = holds.2; ends = told ∙ ap outcome_of holds.3 }
+pub runs : (a b : Telling) (config : Config) (end : End) (outcome : Outcome) → Makes a b (λ made. Lawful config made × Dutiful config made × Finished config made × (end ≡ end_of config (phase config made)))
+    → outcome ≡ outcome_of end → Makes a b (IsRun config outcome)
+runs a b config end outcome calls told =
+    makes_as a b (λ made. Lawful config made × Dutiful config made × Finished config made × (end ≡ end_of config (phase config made))) (IsRun config outcome) calls
+    (λ made holds. record { lawful = holds.0; dutiful = holds.1; finished = holds.2; ends = told ∙ ap outcome_of holds.3 })
 
 -- the link was opened, and some calls were made
 behind : {P Q : List Entry → Type 0} (a b c : Telling) (at : Place) → Answers a b (LinkOpen at Done) → Makes b c P → ((run : List Entry) → P run → Q (run ++ LinkOpen at Done ∷ [])) → Makes a c Q
@@ -24,8 +30,8 @@ behind {P} {Q} a b c at first calls here =
     calls
     (λ before run is holds. subst (λ l. Q (run ++ l)) (sym is) (here run holds))
 
-pub opened : (a b c : Telling) (at : Place) (outcome : Outcome) (end : End) (config : Config) → Answers a b (LinkOpen at Done) → Makes b c (Ran config end) → outcome ≡ outcome_of end → Makes a c (OpensAt config at outcome)
-opened a b c at outcome end config first calls told = behind a b c at first calls (λ run holds. Runs run refl (is_run config end outcome run holds told))
+pub opened : (a b c : Telling) (at : Place) (outcome : Outcome) (config : Config) → Answers a b (LinkOpen at Done) → Makes b c (IsRun config outcome) → Makes a c (OpensAt config at outcome)
+opened a b c at outcome config first calls = behind a b c at first calls (λ run holds. Runs run refl holds)
 
 pub opened_recorded : (a b c : Telling) (at : Place) (outcome : Outcome) (config : Config) (old new : Option (List ℕ)) → Answers a b (LinkOpen at Done) → Makes b c (IsRecorded config outcome old new) → Makes a c (RecordsAt config at outcome old new)
 opened_recorded a b c at outcome config old new first calls = behind a b c at first calls (λ run holds. Records run refl holds)

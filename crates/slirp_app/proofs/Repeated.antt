@@ -12,12 +12,13 @@ use Rattle.slirp_app.proofs.Copied.{allowed_before, another, goes_on, later_than
 use Rattle.slirp_app.proofs.Ending.{waits_spent}
 use Rattle.slirp_app.proofs.Halted.{no_more, nothing_later, waits_no_more}
 use Rattle.slirp_app.specs.Doing.{ReplaysFile, ServesLink}
-use Rattle.slirp_app.specs.Fetching.{octets_read}
-use Rattle.slirp_app.specs.Ran.{end_line}
+use Rattle.app_edges.specs.Fetching.{octets_read}
+use Rattle.app_edges.specs.Texts.{end_line}
 use Rattle.slirp_app.specs.Serving.{IsGiven, IsRun, IsUnopened, HasNoMemory, Records, RecordsAt, Serves, ServesAt, Took, TookNot}
-use Rattle.slirp_app.specs.Statuses.{code_of, is_run, outcome_of}
-use Rattle.slirp_app.specs.declared.status.Outcome.{Outcome}
-use Rattle.slirp_app.specs.declared.status.Outcome.TheVariants.{TurnsSpent}
+use Rattle.app_edges.specs.Statuses.{code_of, is_run}
+use Rattle.slirp_app.specs.Statuses.{outcome_of}
+use Rattle.app_edges.specs.declared.status.Outcome.{Outcome}
+use Rattle.app_edges.specs.declared.status.Outcome.TheVariants.{TurnsSpent}
 use Rattle.slirp_laws.specs.Laws.{Finished, Lawful, May}
 use Rattle.slirp_config.specs.declared.Tap.TheVariants.{Record}
 use Rattle.world_face.proofs.Telling.{makes_as}

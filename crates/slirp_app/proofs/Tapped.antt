@@ -7,14 +7,13 @@ use Rattle.world_face.proofs.Telling.{makes_as}
 use Rattle.host_policy.specs.Addresses.{Config}
 use Rattle.replay.specs.Text.{text}
 use Rattle.slirp_app.specs.Serving.{CapturesAt, IsGiven, IsRecorded, IsRun, OpensAt, Took, TookNot}
-use Rattle.slirp_app.specs.Statuses.{code_of, outcome_of}
-use Rattle.slirp_app.specs.declared.status.Outcome.{Outcome}
-use Rattle.slirp_app.specs.declared.status.Outcome.TheVariants.{SinkFault}
-use Rattle.serve_loop.specs.declared.service.End.{End}
+use Rattle.app_edges.specs.Statuses.{code_of}
+use Rattle.app_edges.specs.declared.status.Outcome.{Outcome}
+use Rattle.app_edges.specs.declared.status.Outcome.TheVariants.{SinkFault}
+use Rattle.run_laws.specs.Shape.{phase}
+use Rattle.serve_loop.specs.Ends.{end_of}
 use Rattle.slirp_app.proofs.Courses.{end_of_run, opens_code}
 use Rattle.slirp_app.proofs.Fitted.{opened_fits}
-use Rattle.slirp_app.proofs.Followed.{Ran}
-use Rattle.slirp_app.proofs.Opened.{is_run}
 use Rattle.taps.specs.Capturing.{IsCaptured, capture}
 use Rattle.taps.specs.Recording.{ArePassed, IsWritten, Tapped, Written, beginning, marked, telling}
 use Rattle.taps.proofs.Marking.{marked_once}
@@ -63,26 +62,26 @@ captured world world_new noted config at done outcome old new passed opens given
     makes_as world world_new (λ made. made ≡ noted) (CapturesAt config at outcome old new) passed (λ made is. subst (CapturesAt config at outcome old new) (sym is) (record { done = done; opens = opens; given = given }))
 
 -- a run that a World with a record of it served
-pub run_recorded : {W K : Type 0} (tells : W → Telling) (config : Config) (end : End) (done outcome : Outcome) (failed : Bool) (world world_new : W) (sink : K) (before after : Option (List ℕ)) (faults faults_new : ℕ)
+pub run_recorded : {W K : Type 0} (tells : W → Telling) (config : Config) (done outcome : Outcome) (failed : Bool) (world world_new : W) (sink : K) (before after : Option (List ℕ)) (faults faults_new : ℕ)
     (counts counts_new : Counts) (fresh : Written K) (tap tap_new : Tapped W (Written K)) (book : Written K)
     → fresh ≡ record { out = sink; source = beginning faults before; made = []; failed = false }
     → tap ≡ record { world = world; began = world; book = fresh }
-    → Makes (telling (marked (tells tap.began) tap.book.source) counts tap.book.made) (telling (marked (tells tap_new.began) tap_new.book.source) counts_new tap_new.book.made) (Ran config end)
+    → Makes (telling (marked (tells tap.began) tap.book.source) counts tap.book.made) (telling (marked (tells tap_new.began) tap_new.book.source) counts_new tap_new.book.made) (IsRun config done)
     → ArePassed (tells tap_new.began) (tells world_new) book.made
     → book ≡ tap_new.book
     → ((old : Option (List ℕ)) (f : ℕ) → book.source ≡ beginning f old → IsWritten old after f faults_new book.made failed)
-    → done ≡ outcome_of end → outcome ≡ (if failed then SinkFault else done)
+    → outcome ≡ (if failed then SinkFault else done)
     → Makes (tells world) (tells world_new) (IsRecorded config outcome before after) × (code_of outcome ≡ 12 → Rose faults faults_new)
-run_recorded {W} {K} tells config end done outcome failed world world_new sink before after faults faults_new counts counts_new fresh tap tap_new book fresh_is tap_is makes passed book_is written done_is outcome_is =
+run_recorded {W} {K} tells config done outcome failed world world_new sink before after faults faults_new counts counts_new fresh tap tap_new book fresh_is tap_is makes passed book_is written outcome_is =
     let none : tap.book.made ≡ [] = ap (λ (t : Tapped W (Written K)). t.book.made) tap_is ∙ ap (λ (b : Written K). b.made) fresh_is in
-    let noted = all_noted {P = Ran config end} (tells tap.began) (tells tap_new.began) tap.book.source tap_new.book.source tap.book.made tap_new.book.made counts counts_new none makes in
+    let noted = all_noted {P = IsRun config done} (tells tap.began) (tells tap_new.began) tap.book.source tap_new.book.source tap.book.made tap_new.book.made counts counts_new none makes in
     let began : tells tap_new.began ≡ tells world = noted.same_world ∙ ap (λ (t : Tapped W (Written K)). tells t.began) tap_is in
     let source : book.source ≡ beginning faults before = ap (λ (b : Written K). b.source) book_is ∙ noted.same_sink ∙ ap (λ (t : Tapped W (Written K)). t.book.source) tap_is ∙ ap (λ (b : Written K). b.source) fresh_is in
     let put = written before faults source in
-    let ran : Ran config end book.made = subst (Ran config end) (sym (ap (λ (b : Written K). b.made) book_is)) noted.holds in (
+    let ran : IsRun config done book.made = subst (IsRun config done) (sym (ap (λ (b : Written K). b.made) book_is)) noted.holds in (
       recorded (tells world) (tells world_new) book.made config done outcome before after (subst (λ t. ArePassed t (tells world_new) book.made) began passed)
-          (is_run config end done book.made ran done_is) (given failed done outcome outcome_is (text book.made) before after put.put),
-      fault failed done outcome outcome_is put.fault (end_of_run done end done_is).taken,
+          ran (given failed done outcome outcome_is (text book.made) before after put.put),
+      fault failed done outcome outcome_is put.fault (end_of_run done (end_of config (phase config book.made)) ran.ends).taken,
     )
 
 -- and one whose frames were put

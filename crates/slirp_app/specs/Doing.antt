@@ -19,12 +19,13 @@ use Rattle.slirp_config.specs.declared.WordFault.TheVariants.{Usage as Misread, 
 use Rattle.serve_loop.specs.Ends.{end_of}
 use Rattle.slirp_laws.specs.Laws.{Finished}
 use Rattle.slirp_app.specs.Causes.{CannotRead, Caused, IsTooLarge, RanOn}
-use Rattle.slirp_app.specs.Fetching.{IsWhole, MayFetch, is_read, octets_read}
+use Rattle.app_edges.specs.Fetching.{IsWhole, MayFetch, is_read, octets_read}
 use Rattle.slirp_app.specs.Ran.{Ceased, EndsBy}
 use Rattle.slirp_app.specs.Serving.{ServesAt}
-use Rattle.slirp_app.specs.Statuses.{code_of, outcome_of, is_run}
-use Rattle.slirp_app.specs.declared.status.Outcome.{Outcome}
-use Rattle.slirp_app.specs.declared.status.Outcome.TheVariants.{BadConfig, Diverged, FrameCut, FrameTooLong, ListenRefused, ScheduleLine, TurnsSpent, Usage}
+use Rattle.app_edges.specs.Statuses.{code_of, is_run}
+use Rattle.slirp_app.specs.Statuses.{outcome_of}
+use Rattle.app_edges.specs.declared.status.Outcome.{Outcome}
+use Rattle.app_edges.specs.declared.status.Outcome.TheVariants.{BadConfig, Diverged, FrameCut, FrameTooLong, ListenRefused, ScheduleLine, TurnsSpent, Usage}
 
 -- What `replay FILE` does: the calls on the outer World, and by each status what came of the schedule and of the run. Told says that `err` got the text of an outcome.
 pub record ReplaysFile (file : Word) (config : Config) (status : ℕ) (world world_new : Telling) (old new : Option (List ℕ)) (Told : Outcome → Type 0) : Type 0 where

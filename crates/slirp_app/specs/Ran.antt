@@ -1,5 +1,5 @@
 -- What a replay did.
-use Rattle.std.specs.Prelude.{◌≡◌, ℕ, ◌+◌, List, [], ◌∷◌, ◌++◌, length, slice_get, codes, decimal, Option, Some, option_map}
+use Rattle.std.specs.Prelude.{◌≡◌, ℕ, ◌+◌, List, ◌∷◌, ◌++◌, length, slice_get, Option, Some, option_map}
 use Rattle.world_face.specs.Frames.{Ending, partial, ending}
 use Rattle.world_face.specs.Journal.{Entry, Call, call_of, AreAllowed}
 use Rattle.world_face.specs.Puts.{added}
@@ -14,12 +14,9 @@ use Rattle.replay.specs.Names.{name_of}
 use Rattle.replay.specs.Rows.{Row, AreReadable, Fits, FitsBefore, schedule_text}
 use Rattle.replay.specs.Text.{text}
 use Rattle.replay.specs.declared.Divergence.{Divergence}
+use Rattle.app_edges.specs.Texts.{end_line}
 use Rattle.slirp_app.specs.Statuses.{outcome_of}
-use Rattle.slirp_app.specs.declared.status.Outcome.{Outcome}
-
--- the last line of a transcript
-abbrev pub end_line : ℕ → List ℕ
-end_line status = codes "end " ++ decimal status ++ 10 ∷ []
+use Rattle.app_edges.specs.declared.status.Outcome.{Outcome}
 
 -- There is one record of calls: it was put, and then the status; it fits the schedule's lines from the first; each answer is one that a World may give;
 -- each call was lawful for these settings, and each wait attended to all that could be taken. P holds of it.

@@ -12,8 +12,8 @@ use Rattle.serve_loop.specs.Ends.{end_of}
 use Rattle.slirp_config.specs.declared.Tap.{Tap}
 use Rattle.slirp_config.specs.declared.Tap.TheVariants.{Off, Record, Capture}
 use Rattle.slirp_app.specs.Statuses.{outcome_of}
-use Rattle.slirp_app.specs.declared.status.Outcome.{Outcome}
-use Rattle.slirp_app.specs.declared.status.Outcome.TheVariants.{LinkFault, NoMemory, SinkFault}
+use Rattle.app_edges.specs.declared.status.Outcome.{Outcome}
+use Rattle.app_edges.specs.declared.status.Outcome.TheVariants.{LinkFault, NoMemory, SinkFault}
 use Rattle.taps.specs.Capturing.{capture}
 
 -- The calls of a whole run: each is lawful, each wait is as it must be, and nothing more is to be done; the outcome is that of the end which they tell.

@@ -1,26 +1,8 @@
--- The statuses of the program.
-use Rattle.std.specs.Prelude.{ℕ, ◌==◌, ◌||◌, not, Bool}
+-- What the program comes to by the end of a run.
 use Rattle.serve_loop.specs.declared.service.End.{End}
 use Rattle.serve_loop.specs.declared.service.End.TheVariants.{Done as EndDone, TooLong, Cut, LinkFault as EndLink, WaitFault as EndWait, TurnsSpent as EndTurns, ListenRefused as EndRefused}
-use Rattle.slirp_app.specs.declared.status.Outcome.{Outcome}
-use Rattle.slirp_app.specs.declared.status.Outcome.TheVariants.{Done, Usage, BadConfig, ScheduleRead, ScheduleTooLarge, ScheduleLine, Diverged, FrameTooLong, FrameCut, LinkFault, WaitFault, TurnsSpent, ListenRefused, SinkFault, NoMemory}
-
-abbrev pub code_of : Outcome → ℕ
-code_of Done = 0
-code_of Usage = 1
-code_of (BadConfig field) = 2
-code_of ScheduleRead = 3
-code_of ScheduleTooLarge = 3
-code_of (ScheduleLine line) = 4
-code_of (Diverged divergence) = 5
-code_of (FrameTooLong length) = 6
-code_of (FrameCut octets) = 7
-code_of LinkFault = 8
-code_of WaitFault = 9
-code_of (TurnsSpent turns) = 10
-code_of (ListenRefused forward) = 11
-code_of SinkFault = 12
-code_of NoMemory = 13
+use Rattle.app_edges.specs.declared.status.Outcome.{Outcome}
+use Rattle.app_edges.specs.declared.status.Outcome.TheVariants.{Done, FrameTooLong, FrameCut, LinkFault, WaitFault, TurnsSpent, ListenRefused}
 
 -- what a run comes to by its end
 abbrev pub outcome_of : End → Outcome
@@ -31,11 +13,3 @@ outcome_of EndLink = LinkFault
 outcome_of EndWait = WaitFault
 outcome_of (EndTurns turns) = TurnsSpent turns
 outcome_of (EndRefused forward) = ListenRefused forward
-
--- nothing was run: the words or the schedule have no reading, the settings aren't sound, or there was no memory
-abbrev pub is_unrun : ℕ → Bool
-is_unrun status = (status == 1) || (status == 2) || (status == 3) || (status == 4) || (status == 13)
-
--- a run was made and its record put
-abbrev pub is_run : ℕ → Bool
-is_run status = not (is_unrun status || (status == 12))

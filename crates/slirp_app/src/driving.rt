@@ -1,12 +1,13 @@
 // A drill: the network on a World that is made from a number.
-ghost use Rattle.std.specs.Prelude.{◌≡◌, ◌≢◌, ◌⊎◌, ◌≤◌, IsTrue};
+ghost use Rattle.std.specs.Prelude.{◌≡◌, ◌⊎◌, ◌≤◌, IsTrue};
 ghost use Rattle.drive_world.specs.Runs.{Run, summary_text};
-ghost use Rattle.slirp_app.specs.Statuses.{code_of, is_unrun};
+ghost use Rattle.app_edges.specs.Statuses.{code_of, is_unrun};
 ghost use Rattle.serve_loop.specs.Served.{IsNew};
 ghost use Rattle.world_face.specs.Puts.{Puts, added};
 ghost use Rattle.world_face.specs.Tells.{Rose};
 
-use crate::status::Outcome;
+use crate::serving::run_service;
+use app_edges::Outcome;
 use drive_world::DriveWorld;
 use host_policy::SlirpConfig;
 use serve_loop::Service;
@@ -19,7 +20,6 @@ pub(crate) fn drive<K: Sink>(alloc: Global, number: u64, octets: u64, out: &mut 
     requires { octets ≤ 10000000 }
     ensures ends { (code_of result ≡ 0) ⊎ (code_of result ≡ 12) ⊎ (code_of result ≡ 13) }
     ensures summary { code_of result ≡ 0 → (run : Run) × (run.number ≡ number) × (K.holds out.new ≡ added (summary_text run) (K.holds out.old)) }
-    ensures read { (code_of result ≢ 1) × (code_of result ≢ 2) }
     ensures nothing { IsTrue (is_unrun (code_of result)) → K.holds out.new ≡ K.holds out.old }
     ensures refused { code_of result ≡ 12 → Rose (K.faults out.old) (K.faults out.new) }
 {
@@ -36,10 +36,10 @@ pub(crate) fn drive<K: Sink>(alloc: Global, number: u64, octets: u64, out: &mut 
 }
 
 // Runs a service that has served nothing, and puts what it came to.
-fn run_on<K: Sink>(mut world: DriveWorld, mut service: Service, out: &mut K) -> Result<(), Failed>
+fn run_on<K: Sink>(mut world: DriveWorld, service: Service, out: &mut K) -> Result<(), Failed>
     requires { IsNew service }
     ensures { (run : Run) × (run.number ≡ world.number) × Puts (K.holds out.old) (K.holds out.new) (K.faults out.old) (K.faults out.new) (summary_text run) result }
 {
-    let _end = service.serve(&mut world);
+    let _outcome = run_service(service, &mut world);
     world.summary(out)
 }

@@ -8,19 +8,18 @@ ghost use Rattle.replay.specs.Script.{IsFresh};
 ghost use Rattle.replay.specs.Unread.{IsFirstUnread};
 ghost use Rattle.replay.specs.declared.Divergence.{Divergence};
 ghost use Rattle.slirp_app.specs.Causes.{Came, Caused};
-ghost use Rattle.slirp_app.specs.Fetching.{MayFetch};
-ghost use Rattle.slirp_app.specs.Statuses.{code_of, outcome_of, is_run, is_unrun};
-ghost use Rattle.slirp_app.specs.declared.status.Outcome.TheVariants.{Diverged, NoMemory as OfMemory, ScheduleLine, ScheduleRead, ScheduleTooLarge};
+ghost use Rattle.app_edges.specs.Fetching.{MayFetch};
+ghost use Rattle.app_edges.specs.Statuses.{code_of, is_run, is_unrun};
+ghost use Rattle.app_edges.specs.declared.status.Outcome.TheVariants.{Diverged, NoMemory as OfMemory, ScheduleLine, ScheduleRead, ScheduleTooLarge};
 ghost use Rattle.serve_loop.specs.Served.{IsBuilt};
 ghost use Rattle.world_face.specs.Journal.{Follows};
 ghost use Rattle.world_face.specs.Tells.{Makes, Rose};
 
-use crate::fetching::{Unread, read_file};
-use crate::record::put_record;
-use crate::status::{Outcome, outcome_of};
+use crate::serving::run_service;
+use app_edges::{Outcome, Unread, put_record, read_file};
 use host_policy::SlirpConfig;
 use replay::{ScriptFault, ScriptWorld};
-use serve_loop::{End, Service};
+use serve_loop::Service;
 use std::alloc::Global;
 use world_face::{Sink, World};
 
@@ -84,20 +83,21 @@ fn run<K: Sink>(
     ensures read { (code_of result ≢ 1) × (code_of result ≢ 2) × (code_of result ≢ 3) × (code_of result ≢ 4) }
     ensures refused { code_of result ≡ 12 → Rose (K.faults out.old) (K.faults out.new) }
 {
-    let Ok(mut service) = Service::open(alloc, config) else {
+    let Ok(service) = Service::open(alloc, config) else {
         return Outcome::NoMemory;
     };
-    let end = service.serve(&mut script);
-    let outcome = ended(&script, end);
+    let done = run_service(service, &mut script);
+    let outcome = ended(&script, done);
     match put_record(&script, outcome.code(), out) {
         Ok(()) => outcome,
         Err(_) => Outcome::SinkFault,
     }
 }
 
-// What a run came to.
-fn ended(script: &ScriptWorld, end: End) -> Outcome
-    ensures lives { script.now.live ≡ true → result ≡ outcome_of end }
+// What a run came to that was done so, unless it diverged.
+fn ended(script: &ScriptWorld, done: Outcome) -> Outcome
+    requires { IsTrue (is_run (code_of done)) }
+    ensures lives { script.now.live ≡ true → result ≡ done }
     ensures ceased { script.now.live ≡ false → (divergence : Divergence) × (result ≡ Diverged divergence) × (divergence_of script.now ≡ Some divergence) }
     ensures fits_none { StopsRightly script.now.lines script.now.used script.now.stop }
     ensures within { script.now.used ≤ length script.now.lines }
@@ -106,6 +106,6 @@ fn ended(script: &ScriptWorld, end: End) -> Outcome
 {
     match script.divergence() {
         Some(divergence) => Outcome::Diverged(divergence),
-        None => outcome_of(end),
+        None => done,
     }
 }

@@ -1,17 +1,18 @@
 // The network on the outside itself.
-ghost use Rattle.std.specs.Prelude.{◌≡◌, ◌≢◌, IsTrue};
+ghost use Rattle.std.specs.Prelude.{◌≡◌, IsTrue};
 ghost use Rattle.host_policy.specs.Ranges.{IsSound};
 ghost use Rattle.host_policy.specs.Settings.{settings};
-ghost use Rattle.slirp_app.specs.Serving.{OpensAt, ServesAt};
-ghost use Rattle.slirp_app.specs.Statuses.{code_of, is_unrun};
+ghost use Rattle.slirp_app.specs.Serving.{IsRun, OpensAt, ServesAt};
+ghost use Rattle.slirp_app.specs.Statuses.{outcome_of};
+ghost use Rattle.app_edges.specs.Statuses.{code_of, is_run};
 ghost use Rattle.serve_loop.specs.Served.{IsBuilt, IsNew};
 ghost use Rattle.world_face.specs.Journal.{IsPlace, place_of};
 ghost use Rattle.world_face.specs.Tells.{Makes, Rose};
 
-use crate::status::{Outcome, outcome_of};
 use crate::tapping::{capture_link, record_link};
+use app_edges::Outcome;
 use host_policy::SlirpConfig;
-use serve_loop::Service;
+use serve_loop::{End, Service};
 use slirp_config::Tap;
 use std::alloc::Global;
 use taps::{Framing, Lines};
@@ -30,8 +31,6 @@ pub(crate) fn serve<W: World, K: Sink>(
     requires built { IsBuilt (settings config.now) }
     requires place { IsPlace (place_of at.now) }
     ensures serves { Makes (W.tells world.old) (W.tells world.new) (ServesAt (settings config.now) (place_of at.now) tap result (K.holds out.old) (K.holds out.new)) }
-    ensures read { (code_of result ≢ 1) × (code_of result ≢ 2) }
-    ensures nothing { IsTrue (is_unrun (code_of result)) → K.holds out.new ≡ K.holds out.old }
     ensures refused { code_of result ≡ 12 → Rose (K.faults out.old) (K.faults out.new) }
 {
     let Ok(service) = Service::open(alloc, config) else {
@@ -41,23 +40,61 @@ pub(crate) fn serve<W: World, K: Sink>(
         Tap::Off => serve_link(service, at, world),
         Tap::Record => match Lines::open(alloc) {
             Ok(lines) => record_link(service, lines, at, world, out),
-            Err(_) => Outcome::NoMemory,
+            Err(_) => {
+                let_go(service);
+                Outcome::NoMemory
+            }
         },
         Tap::Capture => match Framing::open(alloc) {
             Ok(framing) => capture_link(service, framing, at, world, out),
-            Err(_) => Outcome::NoMemory,
+            Err(_) => {
+                let_go(service);
+                Outcome::NoMemory
+            }
         },
     }
 }
 
 // Opens the link, and runs a service that has served nothing on it.
-pub(crate) fn serve_link<W: World>(mut service: Service, at: &LinkAt, world: &mut W) -> Outcome
+pub(crate) fn serve_link<W: World>(service: Service, at: &LinkAt, world: &mut W) -> Outcome
     requires new { IsNew service }
     requires place { IsPlace (place_of at.now) }
     ensures { Makes (W.tells world.old) (W.tells world.new) (OpensAt service.slirp.config (place_of at.now) result) }
 {
     match world.link_open(at) {
-        Made::Done => outcome_of(service.serve(world)),
-        Made::Failed => Outcome::LinkFault,
+        Made::Done => run_service(service, world),
+        Made::Failed => {
+            let_go(service);
+            Outcome::LinkFault
+        }
+    }
+}
+
+// Runs a service that has served nothing.
+pub(crate) fn run_service<W: World>(mut service: Service, world: &mut W) -> Outcome
+    requires { IsNew service }
+    ensures runs { Makes (W.tells world.old) (W.tells world.new) (IsRun service.slirp.config result) }
+    ensures ran { IsTrue (is_run (code_of result)) }
+{
+    let end = service.serve(world);
+    let_go(service);
+    outcome_of(end)
+}
+
+// Lets go of a service. It is called wherever one goes, since what a function lets go of is proved in it, and a service is large.
+pub(crate) fn let_go(_service: Service) {}
+
+// The outcome of a run that ended so.
+fn outcome_of(end: End) -> Outcome
+    ensures { result ≡ outcome_of end }
+{
+    match end {
+        End::Done => Outcome::Done,
+        End::TooLong(length) => Outcome::FrameTooLong(length),
+        End::Cut(octets) => Outcome::FrameCut(octets),
+        End::LinkFault => Outcome::LinkFault,
+        End::WaitFault => Outcome::WaitFault,
+        End::TurnsSpent(turns) => Outcome::TurnsSpent(turns),
+        End::ListenRefused(forward) => Outcome::ListenRefused(forward),
     }
 }

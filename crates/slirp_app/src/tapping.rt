@@ -2,14 +2,14 @@
 ghost use Rattle.std.specs.Prelude.{◌≡◌, [], if◌then◌else◌};
 ghost use Rattle.serve_loop.specs.Served.{IsNew};
 ghost use Rattle.slirp_app.specs.Serving.{CapturesAt, IsRecorded, RecordsAt};
-ghost use Rattle.slirp_app.specs.Statuses.{code_of};
-ghost use Rattle.slirp_app.specs.declared.status.Outcome.TheVariants.{SinkFault};
+ghost use Rattle.app_edges.specs.Statuses.{code_of};
+ghost use Rattle.app_edges.specs.declared.status.Outcome.TheVariants.{SinkFault};
 ghost use Rattle.taps.specs.Capturing.{Tracks};
 ghost use Rattle.world_face.specs.Journal.{IsPlace, place_of};
 ghost use Rattle.world_face.specs.Tells.{Makes, Rose};
 
-use crate::serving::serve_link;
-use crate::status::{Outcome, outcome_of};
+use crate::serving::{let_go, run_service, serve_link};
+use app_edges::Outcome;
 use core::mem::replace_with;
 use serve_loop::Service;
 use taps::{Capture, Framing, Lines, Record, Tap};
@@ -31,7 +31,10 @@ pub(crate) fn record_link<W: World, K: Sink>(
 {
     match world.link_open(at) {
         Made::Done => record(service, lines, world, out),
-        Made::Failed => Outcome::LinkFault,
+        Made::Failed => {
+            let_go(service);
+            Outcome::LinkFault
+        }
     }
 }
 
@@ -69,12 +72,12 @@ fn record_run<W: World, K: Sink>(sink: K, run: (W, Service, Lines)) -> (K, (W, O
     ensures recorded { Makes (W.tells run.0) (W.tells result.1.0) (IsRecorded run.1.slirp.config result.1.1 (K.holds sink) (K.holds result.0)) }
     ensures refused { code_of result.1.1 ≡ 12 → Rose (K.faults sink) (K.faults result.0) }
 {
-    let (world, mut service, lines) = run;
+    let (world, service, lines) = run;
     let mut tap = Tap::new(world, Record::new(sink, lines));
-    let end = service.serve(&mut tap);
+    let outcome = run_service(service, &mut tap);
     let (world, record) = tap.into_parts();
     let (sink, failed) = record.close();
-    (sink, (world, unless_failed(failed, outcome_of(end))))
+    (sink, (world, unless_failed(failed, outcome)))
 }
 
 // Opens the link, and puts the frames of the run on it.

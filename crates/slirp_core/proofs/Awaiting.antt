@@ -20,7 +20,7 @@ use Rattle.tftp_server.specs.Transfers.{Said, next_again, said_again}
 use Rattle.tftp_server.proofs.Turning.{next_left}
 use Rattle.record_flows.specs.Book.{book, is_young, scene}
 use Rattle.record_flows.specs.Flows.{guest_is_known, rests_among, used}
-use Rattle.core_flows.specs.Seats.{in_use_slots}
+use Rattle.flows_follow.specs.Seats.{in_use_slots}
 use Rattle.run_laws.specs.Sockets.{Kind, Association, DnsSocket, Forward as OfForward, Listener, Flow, is_among, is_association, is_forward, is_listener, kind_of, next_number, open_sockets}
 use Rattle.slirp_laws.specs.Answers.{is_out, left, may_go_again, or_begun, serving}
 use Rattle.slirp_laws.specs.Datagrams.{Settled}
@@ -36,8 +36,8 @@ use Rattle.slirp_laws.proofs.Joining.{joined}
 use Rattle.slirp_laws.proofs.KeptFiles.{now_is}
 use Rattle.slirp_laws.proofs.Waiting.{are_waiting}
 use Rattle.stream_netdev.specs.State.{LinkState}
-use Rattle.spliced_flows.specs.Core.{Following, number_of}
-use Rattle.spliced_flows.proofs.Options.{true_false}
+use Rattle.flows_follow.specs.Core.{Following, number_of}
+use Rattle.flows_follow.proofs.Options.{true_false}
 use Rattle.tcp_flows.specs.Kept.{Kept}
 use Rattle.tcp_flows.specs.Reading.{AreAbove, AreRising, AreTold, AreWantsOf}
 use Rattle.tcp_flows.specs.Settled.{IsInTime}
@@ -50,7 +50,7 @@ use Rattle.flow_laws.specs.Event.{Story}
 use Rattle.flow_laws.specs.Flow.{has_connected, is_accepted, is_closed, opened_at}
 use Rattle.record_flows.specs.Laws.{flow_settings}
 use Rattle.flow_splice.proofs.Promises.{waited_is}
-use Rattle.core_flows.specs.FlowsHold.{rests_at}
+use Rattle.flows_follow.specs.FlowsHold.{rests_at}
 use Rattle.run_laws.specs.Moments.{moment}
 use Rattle.halves_follow.proofs.Waiting.{settled_in_time}
 use Rattle.waiting_flows.proofs.Placing.{each, not_in_use}

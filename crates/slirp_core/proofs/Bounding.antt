@@ -33,11 +33,11 @@ use Rattle.slirp_laws.proofs.KeptFiles.{now_is}
 use Rattle.slirp_laws.proofs.Listed.{AllQuestions}
 use Rattle.slirp_laws.proofs.Waiting.{IsUsed, are_waiting, same_waiting}
 use Rattle.stream_netdev.specs.State.{LinkState}
-use Rattle.core_flows.specs.FlowsHold.{rests_at}
+use Rattle.flows_follow.specs.FlowsHold.{rests_at}
 use Rattle.flow_splice.specs.Splice.{Splice}
 use Rattle.flow_splice.proofs.Promises.{settled_is, waited_is}
-use Rattle.spliced_flows.specs.Core.{Following, number_of}
-use Rattle.spliced_flows.proofs.Options.{true_false}
+use Rattle.flows_follow.specs.Core.{Following, number_of}
+use Rattle.flows_follow.proofs.Options.{true_false}
 use Rattle.run_duties.specs.Times.{alarms, association_lives, deadlines, drops, file_alarms, lives, of_flows, question_lives, rest_ends, unless_blocked, wait_end}
 use Rattle.run_duties.proofs.Lives.{at_front, drops_from, lives_by, lives_from, used_by_now}
 use Rattle.run_duties.proofs.Waited.{questions_by, questions_from}

@@ -26,15 +26,14 @@ use Rattle.slirp_core.proofs.Owing.{SameLedger, nothing_left, of_left, owed_aged
 use Rattle.slirp_core.proofs.Services.{none_due_for_services, unheard}
 use Rattle.slirp_laws.proofs.KeptFiles.{now_is}
 use Rattle.tftp_server.specs.Transfers.{Files, Transfer, are_left}
-use Rattle.flow_splice.specs.declared.Pumped.{Pumped as PumpedFlows}
-use Rattle.slirp_core.specs.Pumps.{pumped_flows}
-use Rattle.flow_splice.specs.declared.Pumped.TheVariants.{Clear, Blocked, Failed}
+use Rattle.stream_netdev.specs.declared.Pumped.{Pumped}
+use Rattle.stream_netdev.specs.declared.Pumped.TheVariants.{Clear, Blocked, Failed}
 use Rattle.run_laws.specs.Guests.{known}
 use Rattle.tcp_flows.specs.Kept.{Kept}
 use Rattle.tcp_flows.specs.Reading.{AreTold, NoneInSlots}
-use Rattle.spliced_flows.specs.Core.{Following, number_of}
-use Rattle.spliced_flows.proofs.Staying.{core_stays}
-use Rattle.core_flows.specs.Seats.{Seats}
+use Rattle.flows_follow.specs.Core.{Following, number_of}
+use Rattle.flows_follow.proofs.Staying.{core_stays}
+use Rattle.flows_follow.specs.Seats.{Seats}
 use Rattle.record_flows.specs.Book.{book, is_young}
 use Rattle.record_flows.specs.Flows.{Rest}
 use Rattle.tcp_flows.specs.Runs.{Between, Broken, ClosesRising, IsIdle, IsIdlePump, Leaves, Learns, LeavesOthers, Pumps, Reports, Sendable, Ticks, Tells}
@@ -350,29 +349,29 @@ module _ (config : Config) (at : Standing) (slirp : SlirpState) (f : Flowing) (l
   }
 
   -- the flows were pumped
-  pub pumped : (result : PumpedFlows) → Pumps slirp.moment slirp.known f.kept new link next slirp.sent last result made → AfterPump (pumped_flows result) config at (record slirp { sent = last }) (flowing f.aged new) next (made ++ past)
+  pub pumped : (result : Pumped) → Pumps slirp.moment slirp.known f.kept new link next slirp.sent last result made → AfterPump result config at (record slirp { sent = last }) (flowing f.aged new) next (made ++ past)
   pumped Clear pumps = let then_is = pumps config f.aged past (sendable config at slirp f link past none turn holds) in went_on then_is.0 then_is.1 then_is.2 then_is.3
   pumped Blocked pumps = let then_is = pumps config f.aged past (sendable config at slirp f link past none turn holds) in went_on then_is.0 then_is.1 then_is.2 then_is.3
   pumped Failed pumps = let then_is = pumps config f.aged past (sendable config at slirp f link past none turn holds) in broke then_is.0 then_is.2
 
 -- the flows of a turn were pumped, or of none
-pub pumped_so : (config : Config) (at : Standing) (slirp : SlirpState) (aged : Bool) (kept new : Kept) (link next : LinkState) (past made : List Entry) (last : ℕ) (result : PumpedFlows) → slirp.pending ≡ [] → AreAllowed made
+pub pumped_so : (config : Config) (at : Standing) (slirp : SlirpState) (aged : Bool) (kept new : Kept) (link next : LinkState) (past made : List Entry) (last : ℕ) (result : Pumped) → slirp.pending ≡ [] → AreAllowed made
     → Pumps slirp.moment slirp.known kept new link next slirp.sent last result made → IsIdlePump kept new link next slirp.sent last result made → Holds config at slirp (flowing aged kept) link past
-    → AfterPump (pumped_flows result) config at (record slirp { sent = last }) (flowing aged new) next (made ++ past)
+    → AfterPump result config at (record slirp { sent = last }) (flowing aged new) next (made ++ past)
 pumped_so config at slirp aged kept new link next past made last result none allowed pumps idle holds = by holds.stands
   where
-    by : Stands config Settled slirp kept link past → AfterPump (pumped_flows result) config at (record slirp { sent = last }) (flowing aged new) next (made ++ past)
+    by : Stands config Settled slirp kept link past → AfterPump result config at (record slirp { sent = last }) (flowing aged new) next (made ++ past)
     by (Turns turn) = pumped config at slirp (flowing aged kept) link next past made new last none allowed turn holds result pumps
     by (Begins unbegun free unrested) =
         let still = idle free in
-        subst (λ (m : List Entry). AfterPump (pumped_flows result) config at (record slirp { sent = last }) (flowing aged new) next (m ++ past)) (sym still.1)
-        (subst (λ (r : PumpedFlows). AfterPump (pumped_flows r) config at (record slirp { sent = last }) (flowing aged new) next past) (sym still.2)
+        subst (λ (m : List Entry). AfterPump result config at (record slirp { sent = last }) (flowing aged new) next (m ++ past)) (sym still.1)
+        (subst (λ (r : Pumped). AfterPump r config at (record slirp { sent = last }) (flowing aged new) next past) (sym still.2)
         (subst (λ (k : Kept). Holds config at (record slirp { sent = last }) (flowing aged k) next past) (sym still.0)
         (subst (λ (l : LinkState). Holds config at (record slirp { sent = last }) (flowing aged kept) l past) (sym still.3)
         (subst (λ (n : ℕ). Holds config at (record slirp { sent = n }) (flowing aged kept) link past) (sym still.4) holds))))
 
 -- the ended run as it is where the network has other flows
-pub after_put : (result : PumpedFlows) (config : Config) (at : Standing) (slirp : SlirpState) (k : Kept) (f : Flowing) (link : LinkState) (past : List Entry) → AfterPump (pumped_flows result) config at slirp f link past → AfterPump (pumped_flows result) config at (record slirp { flows = k }) f link past
+pub after_put : (result : Pumped) (config : Config) (at : Standing) (slirp : SlirpState) (k : Kept) (f : Flowing) (link : LinkState) (past : List Entry) → AfterPump result config at slirp f link past → AfterPump result config at (record slirp { flows = k }) f link past
 after_put Clear config at slirp k f link past holds = flows_put config at slirp k f link past holds
 after_put Blocked config at slirp k f link past holds = flows_put config at slirp k f link past holds
 after_put Failed config at slirp k f link past ended = ended

@@ -15,16 +15,16 @@ use Rattle.slirp_laws.specs.Datagrams.{Settled, due_for}
 use Rattle.slirp_laws.specs.Laws.{May, MayDue, due, unless_due}
 use Rattle.slirp_laws.proofs.Bools.{among_without, and_both, equal, or_second, same}
 use Rattle.slirp_laws.proofs.Deeds.{any_one, quest_none, this_one}
-use Rattle.core_flows.proofs.Tables.{get_set_at, get_set_other}
-use Rattle.core_flows.proofs.Seats.{differ, same_or_not}
+use Rattle.flows_follow.proofs.Tables.{get_set_at, get_set_other}
+use Rattle.flows_follow.proofs.Seats.{differ, same_or_not}
 use Rattle.slirp_core.specs.Sockets.{AllAbove, IsRising}
 use Rattle.slirp_core.proofs.Askers.{among_both, asked_without}
 use Rattle.slirp_core.proofs.Sockets.{those_without}
-use Rattle.spliced_flows.specs.Core.{number_of}
-use Rattle.spliced_flows.proofs.Ending.{may_close_least}
-use Rattle.spliced_flows.proofs.Pumping.{differ_in}
-use Rattle.spliced_flows.proofs.Staying.{stays_closed}
-use Rattle.spliced_flows.proofs.Options.{none_some, some_same, true_false}
+use Rattle.flows_follow.specs.Core.{number_of}
+use Rattle.flows_follow.proofs.Ending.{may_close_least}
+use Rattle.flows_follow.proofs.Pumping.{differ_in}
+use Rattle.flows_follow.proofs.Staying.{stays_closed}
+use Rattle.flows_follow.proofs.Options.{none_some, some_same, true_false}
 use Rattle.tcp_flows.specs.Reading.{IsNextOpen, IsOpenAt, NoneIsAbove}
 use Rattle.port_forward.specs.Opened.{Opened, is_at, socket_at, socket_of, without as without_port}
 use Rattle.host_policy.specs.declared.Forward.{Forward}

@@ -7,7 +7,7 @@ use Rattle.dns_relay.specs.Questions.{numbers}
 use Rattle.dns_relay.specs.State.{RelayState}
 use Rattle.host_policy.specs.Addresses.{Config}
 use Rattle.flow_splice.specs.Splice.{Splice}
-use Rattle.spliced_flows.specs.Core.{number_of}
+use Rattle.flows_follow.specs.Core.{number_of}
 use Rattle.tcp_flows.specs.Kept.{Kept}
 use Rattle.tcp_flows.specs.Reading.{Stays}
 use Rattle.slirp_core.specs.Numbers.{AreDrawn, flows_for}

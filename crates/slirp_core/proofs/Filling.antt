@@ -12,10 +12,10 @@ use Rattle.poll_list.specs.declared.Who.TheVariants.{Link, Listener, Udp, Tcp}
 use Rattle.std.specs.List.Sorted.{IsPermutation, IsNonDecreasing}
 use Rattle.stream_netdev.specs.State.{LinkState}
 use Rattle.flow_splice.specs.Splice.{Splice}
-use Rattle.spliced_flows.specs.Core.{number_of}
+use Rattle.flows_follow.specs.Core.{number_of}
 use Rattle.tcp_flows.specs.Reading.{AreAbove, AreRising, AreWantsOf, want_of}
 use Rattle.host_policy.specs.declared.Proto.TheVariants.{Udp as OverUdp}
-use Rattle.spliced_flows.proofs.Options.{true_false}
+use Rattle.flows_follow.proofs.Options.{true_false}
 use Rattle.slirp_core.specs.Forwards.{sockets_over}
 use Rattle.slirp_core.specs.Holds.{carriers, holders_of}
 use Rattle.slirp_core.specs.Pumps.{TcpOnce, WantsOf, is_settled, listeners_of, merged}

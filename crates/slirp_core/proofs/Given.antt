@@ -35,8 +35,8 @@ use Rattle.slirp_laws.specs.Ports.{forward_for, given_by, given_port, is_port, o
 use Rattle.slirp_core.specs.Forwards.{forward_sockets, given, guest_on, with_numbers}
 use Rattle.slirp_core.specs.Holds.{is_given}
 use Rattle.slirp_core.specs.Sockets.{AllAbove, IsRising}
-use Rattle.core_flows.proofs.Seats.{same_or_not}
-use Rattle.spliced_flows.proofs.Options.{true_false}
+use Rattle.flows_follow.proofs.Seats.{same_or_not}
+use Rattle.flows_follow.proofs.Options.{true_false}
 use Rattle.slirp_core.proofs.Rising.{open_rise}
 use Rattle.slirp_core.proofs.Names.{known_of}
 use Rattle.slirp_laws.specs.Names.{kind_for}

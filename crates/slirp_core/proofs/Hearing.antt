@@ -26,7 +26,7 @@ use Rattle.slirp_laws.specs.Answers.{frames_of, identification, left, owed_for_s
 use Rattle.slirp_laws.specs.Errands.{errand_left}
 use Rattle.slirp_laws.specs.Laws.{Lawful, May}
 use Rattle.slirp_laws.proofs.Bools.{among_last}
-use Rattle.core_flows.specs.Seats.{in_use_slots}
+use Rattle.flows_follow.specs.Seats.{in_use_slots}
 use Rattle.stream_netdev.specs.State.{LinkState}
 use Rattle.slirp_core.specs.Holds.{Standing, IsLast, Comes, Holds, Turns, flowing, is_ours}
 use Rattle.slirp_core.specs.Segments.{Coming}
@@ -35,10 +35,10 @@ use Rattle.slirp_core.proofs.Guests.{guests_stay}
 use Rattle.slirp_core.proofs.Parts.{asks_nothing, keeps_by}
 use Rattle.tftp_server.specs.Transfers.{Files}
 use Rattle.slirp_core.proofs.Services.{none_due_for_services, unheard}
-use Rattle.spliced_flows.specs.Core.{Following, mac_of, number_of}
-use Rattle.spliced_flows.specs.Stands.{lot_without}
-use Rattle.spliced_flows.proofs.Joined.{may_connect}
-use Rattle.spliced_flows.proofs.Others.{holds_quiet}
+use Rattle.flows_follow.specs.Core.{Following, mac_of, number_of}
+use Rattle.flows_follow.specs.Stands.{lot_without}
+use Rattle.flows_follow.proofs.Joined.{may_connect}
+use Rattle.flows_follow.proofs.Others.{holds_quiet}
 use Rattle.tcp_flows.specs.Kept.{Kept}
 use Rattle.tcp_flows.proofs.Asking.{asked_then}
 use Rattle.tcp_flows.specs.Runs.{Begins as BeginsFlow, Between, HasLot, Hears, IsHeard, Leaves}

@@ -11,7 +11,7 @@ use Rattle.flow_splice.specs.Splice.{Splice, is_open}
 use Rattle.run_laws.specs.Shape.{Phase}
 use Rattle.run_laws.specs.Sockets.{is_among}
 use Rattle.slirp_laws.proofs.Bools.{equal, same}
-use Rattle.spliced_flows.proofs.Options.{none_some, some_same, true_false}
+use Rattle.flows_follow.proofs.Options.{none_some, some_same, true_false}
 use Rattle.tcp_flows.specs.Reading.{IsFirst, IsNextOpen, IsOpenAt, NoneIsAbove}
 use Rattle.tcp_flows.specs.Runs.{ClosesFirst}
 use Rattle.udp_assoc.specs.Associations.{numbers}

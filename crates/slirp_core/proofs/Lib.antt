@@ -48,3 +48,4 @@ pub mod Settling
 pub mod Awaiting
 pub mod Unserved
 pub mod Visiting
+pub mod Brought

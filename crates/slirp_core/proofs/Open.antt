@@ -17,10 +17,10 @@ use Rattle.stream_netdev.specs.State.{LinkState}
 use Rattle.slirp_core.specs.Forwards.{forward_sockets, given}
 use Rattle.slirp_core.specs.Holds.{Standing, AreOpenWith, Flowing, HoldsOn, IsOf, carriers, holders_with, is_given, is_ours}
 use Rattle.slirp_core.specs.State.{SlirpState}
-use Rattle.spliced_flows.specs.Core.{CoreHolds, number_of}
-use Rattle.spliced_flows.proofs.Open.{joins_carries_none, open_flow, open_seat, seat_open}
+use Rattle.flows_follow.specs.Core.{CoreHolds, number_of}
+use Rattle.flows_follow.proofs.Open.{joins_carries_none, open_flow, open_seat, seat_open}
 use Rattle.tcp_flows.specs.Reading.{HasSocket}
-use Rattle.spliced_flows.proofs.Options.{true_false}
+use Rattle.flows_follow.proofs.Options.{true_false}
 use Rattle.slirp_core.proofs.Given.{HasGiven, among_given, given_among, given_rise}
 use Rattle.slirp_core.proofs.Parts.{carried, given_in}
 

@@ -23,9 +23,10 @@ use Rattle.stream_netdev.specs.declared.Offered.{Offered}
 use Rattle.slirp_core.specs.Forwards.{forward_sockets}
 use Rattle.slirp_core.specs.Holds.{Standing, InTurn, AfterPump, AreOpenWith, AreTwo, carriers, holders_with, Flowing, Holds, OfFlows, Turns, LeavesBehind, LeavesRest}
 use Rattle.slirp_core.specs.Outgoing.{sent_after}
-use Rattle.slirp_core.specs.Pumps.{pumped_of, keep}
+use Rattle.slirp_core.specs.Pumps.{keep}
+use Rattle.stream_netdev.specs.Offers.{pumped_of}
 use Rattle.slirp_core.specs.State.{SlirpState}
-use Rattle.slirp_core.specs.declared.sending.Pumped.{Pumped}
+use Rattle.stream_netdev.specs.declared.Pumped.{Pumped}
 use Rattle.slirp_laws.specs.Errands.{errand_left}
 use Rattle.slirp_laws.proofs.Deeds.{FlowsLetWrite, writes}
 use Rattle.slirp_core.proofs.Guests.{guests_stay, of_guests}

@@ -32,7 +32,7 @@ use Rattle.slirp_laws.specs.Datagrams.{Fate, Ignored, Refused, ForLeases, ForFil
 use Rattle.tftp_server.specs.Transfers.{Files, settled}
 use Rattle.slirp_laws.specs.Laws.{Lawful, May, is_closing, is_nothing, joins}
 use Rattle.run_laws.specs.Sockets.{next_number}
-use Rattle.spliced_flows.specs.Stands.{InWork}
+use Rattle.flows_follow.specs.Stands.{InWork}
 use Rattle.slirp_laws.specs.Relayed.{associations}
 use Rattle.slirp_laws.proofs.Deeds.{reads_on}
 use Rattle.stream_netdev.specs.Frames.{ended, Pieces, Reads}

@@ -10,8 +10,8 @@ use Rattle.tcp_flows.specs.Settled.{AreSettled, IsInTime}
 use Rattle.tcp_flows.proofs.Settling.{are_settled}
 use Rattle.slirp_core.specs.Holds.{AfterPump, Holds, Standing, flowing}
 use Rattle.slirp_core.specs.State.{SlirpState}
-use Rattle.slirp_core.specs.declared.sending.Pumped.{Pumped}
-use Rattle.slirp_core.specs.declared.sending.Pumped.TheVariants.{Clear}
+use Rattle.stream_netdev.specs.declared.Pumped.{Pumped}
+use Rattle.stream_netdev.specs.declared.Pumped.TheVariants.{Clear}
 
 -- all flows of the record are settled where those of the slots are clear
 pub pumped_settled : {a b : Telling} (config : Config) (at : Standing) (now : ℕ) (old new : SlirpState) (link next : LinkState) (result : Pumped) → result ≡ Clear → new.moment ≡ now

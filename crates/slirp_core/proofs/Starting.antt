@@ -50,11 +50,11 @@ use Rattle.slirp_core.proofs.Services.{none_due_for_services, services_as, servi
 use Rattle.slirp_core.proofs.Waitings.{fragments_dropped}
 use Rattle.flow_table.specs.Slots.{all_free}
 use Rattle.flow_table.specs.declared.Slot.TheVariants.{Free}
-use Rattle.core_flows.specs.FlowsHold.{FlowsState}
-use Rattle.core_flows.proofs.Beginning.{seats_begin}
+use Rattle.flows_follow.specs.FlowsHold.{FlowsState}
+use Rattle.flows_follow.proofs.Beginning.{seats_begin}
 use Rattle.flow_splice.specs.Splice.{Splice}
-use Rattle.spliced_flows.specs.Core.{CoreHolds, Following, number_of}
-use Rattle.spliced_flows.proofs.Options.{true_false}
+use Rattle.flows_follow.specs.Core.{CoreHolds, Following, number_of}
+use Rattle.flows_follow.proofs.Options.{true_false}
 use Rattle.tcp_flows.specs.Kept.{IsFor, Kept}
 use Rattle.tcp_flows.specs.Reading.{NoneInSlots}
 use Rattle.slirp_core.proofs.Flows.{flows_ask_nothing, flows_stay, flows_stay_open, flows_told}

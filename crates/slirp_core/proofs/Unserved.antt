@@ -9,8 +9,8 @@ use Rattle.poll_list.specs.declared.Who.TheVariants.{Link, Listener, Tcp, Udp}
 use Rattle.world_face.specs.Frames.{tail}
 use Rattle.world_face.specs.Journal.{Entry}
 use Rattle.host_policy.specs.Addresses.{Config}
-use Rattle.core_flows.proofs.Seats.{differ as slots_differ, same_or_not}
-use Rattle.core_flows.proofs.Tables.{get_set_other}
+use Rattle.flows_follow.proofs.Seats.{differ as slots_differ, same_or_not}
+use Rattle.flows_follow.proofs.Tables.{get_set_other}
 use Rattle.flow_laws.specs.Flow.{is_closed}
 use Rattle.flow_splice.specs.Splice.{Splice, is_open}
 use Rattle.record_flows.specs.Book.{book}
@@ -19,9 +19,9 @@ use Rattle.run_laws.specs.Sockets.{Kind, Association, DnsSocket, Forward, Flow a
 use Rattle.slirp_laws.specs.Answers.{is_out, left, may_go_again, serving}
 use Rattle.slirp_laws.specs.Laws.{Lawful, is_nothing}
 use Rattle.slirp_laws.proofs.Bools.{equal, first_of, same, second_of}
-use Rattle.spliced_flows.proofs.Options.{true_false}
-use Rattle.spliced_flows.proofs.Sockets.{open_has_socket, open_is_young}
-use Rattle.spliced_flows.specs.Core.{number_of}
+use Rattle.flows_follow.proofs.Options.{true_false}
+use Rattle.flows_follow.proofs.Sockets.{open_has_socket, open_is_young}
+use Rattle.flows_follow.specs.Core.{number_of}
 use Rattle.stream_netdev.specs.State.{LinkState}
 use Rattle.tcp_flows.specs.Kept.{Kept}
 use Rattle.tcp_flows.specs.Reading.{HasSocket, IsOpenAt, NoneOpen, Stays}

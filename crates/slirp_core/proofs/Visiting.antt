@@ -27,7 +27,7 @@ use Rattle.run_laws.specs.Shape.{is_ended, is_over, is_working}
 use Rattle.host_policy.specs.declared.Proto.TheVariants.{Tcp}
 use Rattle.dns_relay.specs.Questions.{numbers as question_numbers, without as question_without}
 use Rattle.run_laws.specs.Sockets.{Flow as OfFlow, Listener as OfListener, is_among, is_association, is_listener, kind_of, next_number, number_for_peer, open_sockets, with_peer}
-use Rattle.core_flows.specs.Seats.{in_use_slots}
+use Rattle.flows_follow.specs.Seats.{in_use_slots}
 use Rattle.slirp_laws.specs.Agenda.{agenda, all_wanted, is_to_read, wanted_of}
 use Rattle.slirp_laws.specs.Errands.{errand_left}
 use Rattle.slirp_laws.specs.Laws.{May, carries, is_least, may_leave, may_part, parts, takes_peers}
@@ -35,9 +35,9 @@ use Rattle.slirp_laws.specs.Names.{kind_for}
 use Rattle.slirp_laws.proofs.Bools.{among_last, among_without, and_both, or_second, same, second_of}
 use Rattle.slirp_laws.proofs.Deeds.{accepts, closes, this_one}
 use Rattle.stream_netdev.specs.State.{LinkState}
-use Rattle.spliced_flows.specs.Stands.{InWork}
-use Rattle.spliced_flows.proofs.Calling.{due_is as due_for_a_flow}
-use Rattle.spliced_flows.proofs.Known.{known_was_taught}
+use Rattle.flows_follow.specs.Stands.{InWork}
+use Rattle.flows_follow.proofs.Calling.{due_is as due_for_a_flow}
+use Rattle.flows_follow.proofs.Known.{known_was_taught}
 use Rattle.tcp_flows.specs.Kept.{Kept}
 use Rattle.tcp_flows.specs.Runs.{Between, Welcomes}
 use Rattle.port_forward.specs.Opened.{Opened}

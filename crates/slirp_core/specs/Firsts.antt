@@ -2,7 +2,7 @@
 use Rattle.std.specs.Prelude.{◌≡◌, ℕ, ◌+◌, ◌≤◌, true, List, [], length, Option, Some, None}
 use Rattle.flow_splice.specs.Splice.{Splice}
 use Rattle.run_laws.specs.Sockets.{is_among}
-use Rattle.spliced_flows.specs.Core.{number_of}
+use Rattle.flows_follow.specs.Core.{number_of}
 use Rattle.tcp_flows.specs.Reading.{IsFirst, IsOpenAt, NoneIsAbove}
 use Rattle.udp_assoc.specs.Associations.{IsLeast, numbers}
 use Rattle.udp_assoc.specs.declared.assocs.Association.{Association}

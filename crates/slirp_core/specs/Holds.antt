@@ -37,10 +37,10 @@ use Rattle.slirp_core.specs.Services.{OfServices}
 use Rattle.slirp_core.specs.Sockets.{IsRising}
 use Rattle.slirp_core.specs.State.{SlirpState, serving_of}
 use Rattle.slirp_core.specs.Waiting.{OfFragments}
-use Rattle.slirp_core.specs.declared.sending.Pumped.{Pumped}
-use Rattle.slirp_core.specs.declared.sending.Pumped.TheVariants.{Clear, Blocked, Failed}
-use Rattle.spliced_flows.specs.Asked.{AreAsked}
-use Rattle.spliced_flows.specs.Core.{CoreHolds, number_of}
+use Rattle.stream_netdev.specs.declared.Pumped.{Pumped}
+use Rattle.stream_netdev.specs.declared.Pumped.TheVariants.{Clear, Blocked, Failed}
+use Rattle.flows_follow.specs.Asked.{AreAsked}
+use Rattle.flows_follow.specs.Core.{CoreHolds, number_of}
 use Rattle.tcp_flows.specs.Kept.{IsFor, Kept}
 use Rattle.tcp_flows.specs.Reading.{AllClear, HasSocket, IsOpenAt, NoneInSlots}
 use Rattle.tcp_flows.specs.Runs.{Brings}

@@ -1,4 +1,5 @@
 pub mod Calm
+pub mod Came
 pub mod Carrying
 pub mod Connecting
 pub mod Counts

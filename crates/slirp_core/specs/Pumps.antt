@@ -12,28 +12,12 @@ use Rattle.dns_relay.specs.declared.Question.{Question}
 use Rattle.host_policy.specs.declared.Proto.TheVariants.{Tcp as OverTcp, Udp as OverUdp}
 use Rattle.stream_netdev.specs.declared.Offered.{Offered}
 use Rattle.stream_netdev.specs.declared.Offered.TheVariants.{Taken, Blocked as OfferBlocked, Failed as OfferFailed}
-use Rattle.flow_splice.specs.declared.Pumped.{Pumped as PumpedFlows}
-use Rattle.flow_splice.specs.declared.Pumped.TheVariants.{Clear as FlowsClear, Blocked as FlowsBlocked, Failed as FlowsFailed}
-use Rattle.core_flows.specs.Seats.{in_use_slots}
+use Rattle.flows_follow.specs.Seats.{in_use_slots}
 use Rattle.tcp_flows.specs.Reading.{AreWantsOf}
 use Rattle.waiting_flows.specs.Wants.{link_want, listener_want, socket_wants}
 use Rattle.slirp_core.specs.Forwards.{sockets_over}
 use Rattle.slirp_core.specs.Holds.{carriers, holders_of}
 use Rattle.slirp_core.specs.State.{SlirpState}
-use Rattle.slirp_core.specs.declared.sending.Pumped.{Pumped}
-use Rattle.slirp_core.specs.declared.sending.Pumped.TheVariants.{Clear, Blocked, Failed}
-
--- what an offer comes to, where the link is then blocked or not
-abbrev pub pumped_of : Offered → Bool → Pumped
-pumped_of Taken blocked = if blocked then Blocked else Clear
-pumped_of OfferBlocked blocked = if blocked then Blocked else Clear
-pumped_of OfferFailed blocked = Failed
-
--- what a pump of flows comes to
-abbrev pub pumped_flows : PumpedFlows → Pumped
-pumped_flows FlowsClear = Clear
-pumped_flows FlowsBlocked = Blocked
-pumped_flows FlowsFailed = Failed
 
 -- the frames that are left after an offer of the first one
 abbrev pub keep : Offered → List (List ℕ) → List (List ℕ)

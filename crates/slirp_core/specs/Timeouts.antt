@@ -9,7 +9,7 @@ use Rattle.halves_follow.specs.Bounds.{IsBy}
 use Rattle.record_flows.specs.Book.{book}
 use Rattle.flow_splice.specs.Splice.{Splice}
 use Rattle.run_duties.specs.Times.{of_flows}
-use Rattle.spliced_flows.specs.Core.{CoreHolds}
+use Rattle.flows_follow.specs.Core.{CoreHolds}
 use Rattle.tcp_flows.specs.Reading.{AllClear, IsDue, IsDueAfter, NoneDue, NoneDueAfter}
 use Rattle.tcp_flows.specs.Waits.{IsForSome}
 use Rattle.slirp_core.specs.Pumps.{question_left, time_left}

@@ -6,7 +6,7 @@ use Rattle.arp_table.specs.Table.{mac_of as learnt_for}
 use Rattle.world_face.specs.Journal.{Accept, Close, Entry}
 use Rattle.world_face.specs.declared.Accepted.{Accepted}
 use Rattle.host_policy.specs.declared.Proto.TheVariants.{Tcp}
-use Rattle.core_flows.specs.Seats.{in_use_slots}
+use Rattle.flows_follow.specs.Seats.{in_use_slots}
 use Rattle.record_flows.specs.Book.{tuple_for}
 use Rattle.tcp_flows.specs.Runs.{Welcomes}
 use Rattle.slirp_core.specs.Forwards.{is_over}

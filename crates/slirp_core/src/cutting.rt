@@ -34,7 +34,7 @@ const IP_HEAD: usize = 20;
 const LIFE: u8 = 64;
 
 /// How a datagram is cut: its course and protocol, the octets of its body, the part that is next, and how many there are from that one on.
-#[derive(Clone, Copy, Debug, PartialEq, Eq)]
+#[derive(Clone, Copy)]
 pub struct Plan {
     pub course: Course,
     pub proto: u8,

@@ -29,7 +29,7 @@ const ALL_HOSTS: Ip4 = Ip4(0xffff_ffff);
 const QUOTED: usize = 8;
 
 /// A datagram of a guest: the hardware address from which its frame came, its endpoints, its payload, and what an unreachable quotes of it.
-#[derive(Clone, Copy, Debug, PartialEq, Eq)]
+#[derive(Clone, Copy)]
 pub struct DatagramView<'a> {
     pub mac: Mac,
     pub from: Endpoint,
@@ -39,14 +39,14 @@ pub struct DatagramView<'a> {
 }
 
 /// A datagram that goes out, and where.
-#[derive(Clone, Copy, Debug, PartialEq, Eq)]
+#[derive(Clone, Copy)]
 pub struct ErrandView<'a> {
     pub datagram: DatagramView<'a>,
     pub to: Endpoint,
 }
 
 /// What becomes of a datagram.
-#[derive(Clone, Copy, Debug, PartialEq, Eq)]
+#[derive(Clone, Copy)]
 pub enum Outcome {
     Ignored,
     /// The guest is told that it may go nowhere.

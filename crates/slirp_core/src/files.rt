@@ -23,9 +23,9 @@ impl Slirp {
     ghost use Rattle.slirp_core.specs.Files.{ServesFile};
     ghost use Rattle.slirp_core.specs.Holds.{AsksFile, Holds, Standing, flowing};
 
-    /// A packet for the server of files is served: the calls on files that it asks for are made, one after another, and what the guest is told is owed from
-    /// now on (RFC 1350, 2 to 7).
-    pub fn take_file<W: World>(&mut self, world: &mut W, datagram: &DatagramView<'_>)
+    // A packet for the server of files is served: the calls on files that it asks for are made, one after another, and what the guest is told is owed from
+    // now on (RFC 1350, 2 to 7).
+    pub(crate) fn take_file<W: World>(&mut self, world: &mut W, datagram: &DatagramView<'_>)
         requires none { self.old.pending ≡ [] }
         ensures makes { (config : Config) (at : Standing) (link : LinkState) → Brings (W.tells world.old) (W.tells world.new)
             (AsksFile config at self.old self.old.flows link (datagram_of datagram.now)) (Holds config at self.new (flowing false self.new.flows) link) }

@@ -23,10 +23,10 @@ impl Slirp {
     ghost use Rattle.slirp_core.specs.Holds.{Holds, flowing, standing};
     ghost use Rattle.slirp_core.specs.Marks.{KeepsMarks};
     ghost use Rattle.port_forward.specs.Adding.{fault_of};
-    ghost use Rattle.core_flows.specs.Seats.{in_use_slots};
+    ghost use Rattle.flows_follow.specs.Seats.{in_use_slots};
     ghost use Rattle.record_flows.specs.Book.{book, is_refused, tuple_for};
     ghost use Rattle.host_policy.specs.Targets.{is_hidden};
-    ghost use Rattle.spliced_flows.specs.Core.{CoreHolds};
+    ghost use Rattle.flows_follow.specs.Core.{CoreHolds};
     ghost use Rattle.tcp_flows.specs.Reading.{NoneUses};
     ghost use Rattle.run_duties.specs.Serving.{is_left_to_read};
     ghost use Rattle.slirp_core.specs.Visits.{AsksForPeer, ClosesOne, Treats, is_awaited};

@@ -15,7 +15,7 @@ use net_octets::{Ip4, Mac};
 pub const LONGEST_ASSEMBLED: usize = 65_575;
 
 /// A datagram that was joined: the hardware address of the frame by which it was whole, its fields, and how many octets its header and its body have, which stand in this order at the front of a buffer.
-#[derive(Clone, Copy, Debug, PartialEq, Eq)]
+#[derive(Clone, Copy)]
 pub struct Assembled {
     pub mac: Mac,
     pub ident: u16,
@@ -28,7 +28,7 @@ pub struct Assembled {
 }
 
 /// What a frame brought.
-#[derive(Clone, Copy, Debug, PartialEq, Eq)]
+#[derive(Clone, Copy)]
 pub enum Brought<'a> {
     /// Nothing that is still to be done.
     Nothing,

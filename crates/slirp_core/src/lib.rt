@@ -7,7 +7,6 @@ mod datagrams;
 mod files;
 mod forwards;
 mod fragments;
-mod hosts;
 mod icmp;
 mod network;
 mod outgoing;
@@ -18,8 +17,6 @@ mod timeouts;
 mod udp;
 mod wants;
 
-pub use fragments::{Assembled, Brought, LONGEST_ASSEMBLED};
+pub use fragments::LONGEST_ASSEMBLED;
 pub use network::Slirp;
-pub use sending::Pumped;
-pub use tcp::{SegmentView, StrayLot, Task};
 pub use wants::TurnWants;

@@ -69,7 +69,7 @@ impl Model for Slirp {
 
 impl Slirp {
     ghost use Rattle.dhcp_server.specs.declared.leases.Lease.TheVariants.{Free};
-    ghost use Rattle.std.specs.Prelude.{replicate, slice_get, false, Bool, ℕ, List, ◌≤◌, ◌+◌, IfOk, IfSome, Some, None, min, max};
+    ghost use Rattle.std.specs.Prelude.{replicate, slice_get, false, Bool, ℕ, List, ◌∷◌, ◌≤◌, ◌+◌, IfOk, IfSome, Some, None, min, max};
     ghost use Rattle.std.specs.Option.{option_map};
     ghost use Rattle.host_policy.specs.Addresses.{Config};
     ghost use Rattle.host_policy.specs.Ranges.{IsSound};
@@ -94,15 +94,21 @@ impl Slirp {
     ghost use Rattle.flow_splice.specs.Splice.{Splice};
     ghost use Rattle.flow_splice.specs.Wants.{connect_end};
     ghost use Rattle.connection_follows.specs.Holding.{is_connects};
-    ghost use Rattle.spliced_flows.specs.Core.{CoreHolds, number_of};
+    ghost use Rattle.flows_follow.specs.Core.{CoreHolds, number_of};
     ghost use Rattle.udp_assoc.specs.Associations.{IsLeast, numbers};
     ghost use Rattle.dns_relay.specs.Relaying.{IsLeast as IsLeastAsked};
     ghost use Rattle.run_laws.specs.Sockets.{is_among};
     ghost use Rattle.slirp_core.specs.Firsts.{IsFlowFirst, IsQuestionFirst, NoFlowFirst, NoQuestionFirst, open_count};
     ghost use Rattle.stream_netdev.specs.State.{LinkState};
     ghost use Rattle.slirp_core.specs.Datagrams.{errand_of, FitsErrand, Lies};
+    ghost use Rattle.poll_list.specs.declared.Want.{Want as AnItem};
+    ghost use Rattle.poll_list.specs.declared.Who.TheVariants.{Link as TheLink};
+    ghost use Rattle.slirp_laws.specs.Agenda.{is_to_read, wanted_of};
+    ghost use Rattle.slirp_core.specs.Came.{FrameCame};
+    ghost use Rattle.slirp_core.specs.Counts.{AreGrown};
+    ghost use Rattle.slirp_core.specs.Marks.{KeepsMarks};
     ghost use Rattle.tftp_server.specs.Transfers.{are_left};
-    ghost use Rattle.slirp_core.specs.Holds.{Standing, after, carriers, flowing, Holds, holders_of, ClosesAll, ClosesNext};
+    ghost use Rattle.slirp_core.specs.Holds.{Standing, after, carriers, flowing, Holds, holders_of, standing, ClosesAll, ClosesNext};
 
     /// A network in which no guest is known, no socket is open and nothing is owed, with room for as many flows of TCP as the settings say. It takes all the memory that it will ever need.
     pub fn new(alloc: Global, c: &SlirpConfig) -> Result<Slirp, NoMemory>
@@ -154,8 +160,34 @@ impl Slirp {
         self.moment = told.min(LAST_MOMENT).max(self.moment);
     }
 
-    /// Takes in a frame: its sender is learnt, what it asks for is owed from now on, and a datagram that goes out is answered, to be sent by `relay`, one for the server of files, to be served by `take_file`, or a segment, to be heard by `take_segment`. A part of a datagram is kept until all have come; with the last of them the datagram is copied to `room`, 65,575 octets, and `complete` takes it in.
-    pub fn input<'a>(&mut self, frame: &'a [u8], room: &mut [u8]) -> Brought<'a>
+    /// Takes in a frame that came on the link, where nothing is left to be sent: its sender is learnt, what it asks for is owed from now on, its datagram goes
+    /// out or is served, and its segment is handed to its flow. A part of a datagram is kept until all have come; with the last of them the datagram is joined
+    /// in `room`, 65,575 octets, and taken in.
+    pub fn input<W: World>(&mut self, world: &mut W, frame: &[u8], room: &mut [u8])
+        requires none { self.old.pending ≡ [] }
+        requires room { length room.old ≡ 65575 }
+        requires number { self.old.number + 1 < 2 ^ 64 }
+        // Where the reads of the link have just brought the frame, all stands as it must after them and the calls that it asks for.
+        ensures makes { (config : Config) (count : ℕ) (wants : List AnItem) (item : AnItem) (items : List AnItem) (link : LinkState) → is_to_read TheLink (wanted_of wants item) ≡ true → Brings (W.tells world.old) (W.tells world.new)
+            (FrameCame config (standing count wants (item ∷ items)) self.old link frame.now) (Holds config (standing count wants items) self.new (flowing false self.new.flows) link) }
+        ensures marks { KeepsMarks self.old.number self.old.flows self.new.flows }
+        ensures counts { AreGrown (W.tells world.old).faults (W.tells world.new).faults }
+        ensures config { self.new.config ≡ self.old.config }
+        ensures number { self.new.number ≤ self.old.number + 1 }
+        ensures turn { self.new.flows.turn ≡ self.old.flows.turn }
+        ensures room { length room.new ≡ 65575 }
+    {
+        let brought = self.take_frame(frame, room);
+        match self.complete(brought, room) {
+            Some(Task::Errand(errand)) => self.relay(world, &errand),
+            Some(Task::File(datagram)) => self.take_file(world, &datagram),
+            Some(Task::Segment(segment)) => self.take_segment(world, &segment),
+            None => {}
+        }
+    }
+
+    // A frame's sender is learnt, and what it asks for is owed from now on. Answers what is still to be done, or where the datagram lies, in `room`, that its part makes whole.
+    fn take_frame<'a>(&mut self, frame: &'a [u8], room: &mut [u8]) -> Brought<'a>
         requires { length room.old ≡ 65575 }
         ensures request { (held : List PartSet) → IsHeld self.old.parts held
             → brought_request self.old.config result room.new ≡ request_for_udp self.old.config (udp_in self.old.config self.old.moment (young self.old.moment held) frame.now) }
@@ -183,8 +215,8 @@ impl Slirp {
         }
     }
 
-    /// Takes in what a frame brought, where it made a datagram whole: `octets` are those to which that was copied. A datagram that goes out is answered, one that is to be served, or a segment that is to be heard.
-    pub fn complete<'a>(&mut self, brought: Brought<'a>, octets: &'a [u8]) -> Option<Task<'a>>
+    // Takes in what a frame brought, where it made a datagram whole: `octets` are those to which that was copied.
+    fn complete<'a>(&mut self, brought: Brought<'a>, octets: &'a [u8]) -> Option<Task<'a>>
         requires { FitsBrought self.old.config brought self.old.pending (length octets.now) }
         ensures request { option_and_then request_for result ≡ brought_request self.old.config brought.entry octets.now }
         ensures segment { option_and_then segment_for result ≡ brought_segment self.old.config brought.entry octets.now }

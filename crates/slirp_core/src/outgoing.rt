@@ -42,7 +42,7 @@ pub struct Outgoing {
 }
 
 /// Between whom a datagram goes, which one it is, and how many octets of IPv4 a frame carries.
-#[derive(Clone, Copy, Debug, PartialEq, Eq)]
+#[derive(Clone, Copy)]
 pub struct Course {
     /// The guest's hardware address.
     pub to_mac: Mac,

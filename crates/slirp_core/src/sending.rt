@@ -1,27 +1,14 @@
 // What is owed and isn't out yet, and the pump that sends it.
 ghost use Rattle.std.specs.Prelude.{[], ◌≡◌, ◌<◌, ◌≤◌, length};
 ghost use Rattle.slirp_laws.specs.Answers.{our_mac};
-ghost use Rattle.slirp_core.specs.Pumps.{pumped_of, pumped_flows};
 
 use crate::arp::our_mac;
 use crate::network::Slirp;
 use crate::outgoing::{Course, datagrams_in};
-use flow_splice::Pumped as PumpedFlows;
 use host_policy::Policy;
 use net_octets::{Ip4, Mac};
-use stream_netdev::{Link, Offered};
+use stream_netdev::{Link, Offered, Pumped, outcome};
 use world_face::World;
-
-/// What a pump came to.
-#[derive(Clone, Copy, Debug, PartialEq, Eq)]
-pub enum Pumped {
-    /// All that is owed is out.
-    Clear,
-    /// The link takes no more for now.
-    Blocked,
-    /// The link failed.
-    Failed,
-}
 
 impl Slirp {
     ghost use Rattle.world_face.specs.Tells.{Rose};
@@ -34,7 +21,7 @@ impl Slirp {
     ghost use Rattle.slirp_core.specs.Holds.{Standing, flowing, Holds, AfterPump, Leaves, LeavesBehind, LeavesNone, LeavesRest};
     ghost use Rattle.std.specs.Prelude.{ℕ, Bool, List, None, true};
     ghost use Rattle.world_face.specs.Journal.{Entry};
-    ghost use Rattle.spliced_flows.specs.Core.{CoreHolds};
+    ghost use Rattle.flows_follow.specs.Core.{CoreHolds};
     ghost use Rattle.tcp_flows.specs.Reading.{AreTold, HaveSlots};
     ghost use Rattle.tcp_flows.specs.Settled.{AreSettled, ConnectYet, IsInTime};
     ghost use Rattle.slirp_core.specs.Calm.{AreClear};
@@ -108,10 +95,8 @@ impl Slirp {
         ensures marks { KeepsMarks self.old.number self.old.flows self.new.flows }
         ensures others { self.new ≡ record self.old { sent = self.new.sent; flows = self.new.flows } }
     {
-        let pumped = self
-            .flows
-            .pump(world, link, &mut self.sent, &self.guests, self.moment);
-        pumped_flows(pumped)
+        self.flows
+            .pump(world, link, &mut self.sent, &self.guests, self.moment)
     }
 
     // Sends the rest of the frame before, then the pending ones.
@@ -222,27 +207,5 @@ pub(crate) fn course(policy: &Policy, ident: u16, to_mac: Mac, from: Ip4, to: Ip
         from,
         to,
         mtu: policy.mtu(),
-    }
-}
-
-// What an offer comes to.
-fn outcome(offered: Offered, blocked: bool) -> Pumped
-    ensures { result ≡ pumped_of offered blocked }
-{
-    match offered {
-        Offered::Taken | Offered::Blocked if blocked => Pumped::Blocked,
-        Offered::Taken | Offered::Blocked => Pumped::Clear,
-        Offered::Failed => Pumped::Failed,
-    }
-}
-
-// What a pump of flows comes to.
-fn pumped_flows(pumped: PumpedFlows) -> Pumped
-    ensures { result ≡ pumped_flows pumped }
-{
-    match pumped {
-        PumpedFlows::Clear => Pumped::Clear,
-        PumpedFlows::Blocked => Pumped::Blocked,
-        PumpedFlows::Failed => Pumped::Failed,
     }
 }

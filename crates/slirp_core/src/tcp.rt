@@ -1,15 +1,15 @@
-// Segments of TCP: each to its flow; what is no flow's is answered by a reset, or the host connects for it (RFC 9293, 3.10.7).
+// Segments of TCP: each to its flow, and reports of their sockets; what is no flow's is answered by a reset, or the host connects for it (RFC 9293, 3.10.7).
 ghost use Rattle.std.specs.Prelude.{[], ◌≡◌, ◌≤◌, ◌+◌, ◌<◌, ◌%◌, ◌^◌, ◌∷◌, List, ℕ, length, nat_lt, true, false, Some, None, IfSome};
 ghost use Rattle.std.specs.Option.{option_and_then, option_map};
 ghost use Rattle.ipv4_head.specs.Ip.{Ip, ip_of};
 ghost use Rattle.tcp_segment.specs.Tcp.{numbers_of, read_tcp, tcp_of};
-ghost use Rattle.core_flows.specs.Seats.{in_use_slots};
+ghost use Rattle.flows_follow.specs.Seats.{in_use_slots};
 ghost use Rattle.record_flows.specs.Lots.{is_opening, lot_by, reset_to};
 ghost use Rattle.host_policy.specs.declared.Proto.TheVariants.{Tcp as OverTcp};
 ghost use Rattle.record_flows.specs.Segments.{segment_of};
 ghost use Rattle.host_policy.specs.Addresses.{Config};
 ghost use Rattle.host_policy.specs.Targets.{target};
-ghost use Rattle.spliced_flows.specs.Stands.{lot_without};
+ghost use Rattle.flows_follow.specs.Stands.{lot_without};
 ghost use Rattle.slirp_core.specs.Packets.{is_segment};
 ghost use Rattle.slirp_core.specs.Segments.{FitsTask, coming, coming_of, request_for, lot_of, segment_for};
 
@@ -28,7 +28,7 @@ use world_face::{Made, World};
 pub const TCP: u8 = 6;
 
 /// A segment of a guest: the hardware address from which its frame came, the two ends between which it goes, and the segment.
-#[derive(Clone, Copy, Debug, PartialEq, Eq)]
+#[derive(Clone, Copy)]
 pub struct SegmentView<'a> {
     pub mac: Mac,
     pub ends: Tuple,
@@ -36,7 +36,7 @@ pub struct SegmentView<'a> {
 }
 
 /// What a frame asks for beyond its answers.
-#[derive(Clone, Copy, Debug, PartialEq, Eq)]
+#[derive(Clone, Copy)]
 pub enum Task<'a> {
     /// A datagram goes out.
     Errand(ErrandView<'a>),
@@ -47,7 +47,7 @@ pub enum Task<'a> {
 }
 
 /// What becomes of a segment without a flow.
-#[derive(Clone, Copy, Debug, PartialEq, Eq)]
+#[derive(Clone, Copy)]
 pub enum StrayLot {
     /// Nothing.
     Dropped,
@@ -60,14 +60,24 @@ pub enum StrayLot {
 impl Slirp {
     ghost use Rattle.slirp_laws.specs.Answers.{frames_of, reset_for};
     ghost use Rattle.slirp_core.specs.Counts.{AreGrown};
-    ghost use Rattle.slirp_core.specs.Holds.{Standing, Holds, Comes, flowing};
+    ghost use Rattle.slirp_core.specs.Holds.{Standing, Holds, Comes, flowing, standing};
     ghost use Rattle.slirp_core.specs.Marks.{KeepsMarks};
     ghost use Rattle.stream_netdev.specs.State.{LinkState};
     ghost use Rattle.world_face.specs.Tells.{Brings};
+    ghost use Rattle.flow_splice.specs.Splice.{Splice};
+    ghost use Rattle.poll_list.specs.declared.Want.{Want as AnItem};
+    ghost use Rattle.poll_list.specs.declared.Who.TheVariants.{Tcp};
+    ghost use Rattle.slirp_laws.specs.Agenda.{wanted_of};
+    ghost use Rattle.tcp_flows.specs.Fronts.{IsFrontOf};
+    ghost use Rattle.world_face.specs.Journal.{Entry};
+    ghost use Rattle.flows_follow.specs.Core.{number_of};
+    ghost use Rattle.tcp_flows.specs.Reading.{HasSocket, IsOpenAt, NoneOpen, Stays};
+    ghost use Rattle.tcp_flows.specs.Told.{ServesOnce};
+    ghost use Rattle.std.specs.Prelude.{◌++◌, Bool, IfNone, drop, min, slice_set, take};
 
-    /// A guest's segment is handed to its flow. One that is no flow's is answered by a reset or ignored, or the host connects for it, where it begins a
-    /// connection that the policy allows and there is room for a flow more.
-    pub fn take_segment<W: World>(&mut self, world: &mut W, came: &SegmentView<'_>)
+    // A guest's segment is handed to its flow. One that is no flow's is answered by a reset or ignored, or the host connects for it, where it begins a
+    // connection that the policy allows and there is room for a flow more.
+    pub(crate) fn take_segment<W: World>(&mut self, world: &mut W, came: &SegmentView<'_>)
         requires none { self.old.pending ≡ [] }
         requires body { length came.now.segment.body.now ≤ 65515 }
         requires number { self.old.number + 1 < 2 ^ 64 }
@@ -81,7 +91,7 @@ impl Slirp {
     {
         match self
             .flows
-            .segment(world, self.moment, &came.ends, &came.segment)
+            .take_segment(world, self.moment, &came.ends, &came.segment)
         {
             Heard::Taken => {}
             Heard::Strange => self.turn_away(came),
@@ -100,6 +110,40 @@ impl Slirp {
                 }
             },
         }
+    }
+
+    /// The socket of a flow was reported ready in these directions, which were wanted: its flow is told, once a turn. Nothing is left of the report then.
+    pub fn take_report<W: World>(&mut self, world: &mut W, number: u64, read: bool, write: bool)
+        ensures makes { (config : Config) (count : ℕ) (wants : List AnItem) (item : AnItem) (items : List AnItem) (link : LinkState)
+            → wanted_of wants item ≡ record { of = Tcp number; read = read; write = write } → Brings (W.tells world.old) (W.tells world.new)
+            (Holds config (standing count wants (item ∷ items)) self.old (flowing false self.old.flows) link)
+            (λ past. Holds config (standing count wants items) self.new (flowing false self.new.flows) link past
+            × ServesOnce config number read write self.old.flows past) }
+        ensures counts { AreGrown (W.tells world.old).faults (W.tells world.new).faults }
+        ensures others { self.new ≡ record self.old { flows = self.new.flows } }
+        ensures turn { self.new.flows.turn ≡ self.old.flows.turn }
+        // It is marked as served in this turn; where no open socket has the number nothing changes.
+        ensures told { (k : ℕ) (p : Splice) → IsOpenAt self.old.flows.flows.parts k p → number_of p ≡ number
+            → self.new.flows.served ≡ slice_set self.old.flows.served k self.old.flows.turn }
+        ensures untold { NoneOpen number self.old.flows.flows.parts → self.new ≡ self.old }
+        ensures stays { Stays self.old.flows self.new.flows }
+    {
+        self.flows
+            .host_ready(world, self.moment, number, read, write);
+    }
+
+    /// Copies the octets of the guest that the host didn't take yet from the flow of a socket to the start of `into`, the oldest first, as many as fit, and
+    /// answers how many. `None` exactly where no flow's open socket has the number.
+    pub fn held(&self, number: u64, into: &mut [u8]) -> Option<usize>
+        ensures none { IfNone result (NoneOpen number self.now.flows.flows.parts) }
+        ensures held { IfSome result (λ count. HasSocket number self.now.flows.flows.parts (λ p. (count ≡ min (length into.old) (length p.up.held))
+            × (into.new ≡ take count p.up.held ++ drop count into.old))) }
+        ensures unchanged { IfNone result (into.new ≡ into.old) }
+        // Of an honest guest they are what came from where the host stopped, and reach to what was acknowledged at least, where they fit.
+        ensures front { (config : Config) (at : Standing) (aged : Bool) (link : LinkState) (past : List Entry) → Holds config at self.now (flowing aged self.now.flows) link past
+            → IfSome result (λ count. IsFrontOf config number (length into.old) count (take count into.new) past) }
+    {
+        self.flows.held(number, into)
     }
 
     // The reset that answers a segment is owed from now on.

@@ -5,7 +5,7 @@ ghost use Rattle.ipv4_head.specs.Sets.{PartSet};
 ghost use Rattle.slirp_core.specs.Fragments.{IsHeld};
 ghost use Rattle.slirp_core.specs.Pumps.{question_left, time_left};
 ghost use Rattle.slirp_core.specs.Timeouts.{IsFileTime, IsFlowTime, IsPartTime, SuitsFlows, sooner};
-ghost use Rattle.spliced_flows.specs.Core.{CoreHolds};
+ghost use Rattle.flows_follow.specs.Core.{CoreHolds};
 ghost use Rattle.world_face.specs.Journal.{Entry};
 
 use crate::network::Slirp;

@@ -95,9 +95,9 @@ impl Slirp {
         }
     }
 
-    /// Sends a guest's datagram: a question to the name server on a socket of its own; any other on the first port of the host that is given to its port, else on the
-    /// socket of its port. Where there is none one is opened; where 512 are open the longest unused one of its kind is closed before.
-    pub fn relay<W: World>(&mut self, world: &mut W, errand: &ErrandView<'_>)
+    // Sends a guest's datagram: a question to the name server on a socket of its own; any other on the first port of the host that is given to its port, else on the
+    // socket of its port. Where there is none one is opened; where 512 are open the longest unused one of its kind is closed before.
+    pub(crate) fn relay<W: World>(&mut self, world: &mut W, errand: &ErrandView<'_>)
         requires none { self.old.pending ≡ [] }
         requires fits { FitsErrand self.old.config errand.now }
         requires number { self.old.number + 1 < 2 ^ 64 }
@@ -177,7 +177,7 @@ impl Slirp {
 
     /// Receives a datagram on a socket: it is owed to the guest of the socket from now on; on that of a question where it answers it, and the socket is closed then.
     /// `into` is the room for it, 65,507 octets.
-    pub fn hear<W: World>(&mut self, world: &mut W, number: u64, into: &mut [u8])
+    pub fn receive_datagram<W: World>(&mut self, world: &mut W, number: u64, into: &mut [u8])
         requires none { self.old.pending ≡ [] }
         requires room { length into.old ≡ 65507 }
         // Where the socket is open a datagram is asked for on it, once.
@@ -193,14 +193,14 @@ impl Slirp {
         ensures room { length into.new ≡ 65507 }
     {
         if self.questions.has(number) {
-            self.hear_answer(world, number, into)
+            self.receive_answer(world, number, into)
         } else {
-            self.hear_peer(world, number, into)
+            self.receive_from_peer(world, number, into)
         }
     }
 
     // Receives a datagram on the socket of a question.
-    fn hear_answer<W: World>(&mut self, world: &mut W, number: u64, into: &mut [u8])
+    fn receive_answer<W: World>(&mut self, world: &mut W, number: u64, into: &mut [u8])
         requires none { self.old.pending ≡ [] }
         requires room { length into.old ≡ 65507 }
         requires asked { is_some (question_numbered number self.old.questions) ≡ true }
@@ -218,7 +218,7 @@ impl Slirp {
     }
 
     // Receives a datagram on the socket of a port of the host that is given to a guest, or of an association.
-    fn hear_peer<W: World>(&mut self, world: &mut W, number: u64, into: &mut [u8])
+    fn receive_from_peer<W: World>(&mut self, world: &mut W, number: u64, into: &mut [u8])
         requires none { self.old.pending ≡ [] }
         requires room { length into.old ≡ 65507 }
         requires unasked { is_some (question_numbered number self.old.questions) ≡ false }

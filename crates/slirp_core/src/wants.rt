@@ -6,7 +6,7 @@ ghost use Rattle.tcp_flows.specs.Reading.{AreWantsOf};
 ghost use Rattle.tcp_flows.specs.Waits.{AreWaitedFor};
 ghost use Rattle.host_policy.specs.Addresses.{Config};
 ghost use Rattle.world_face.specs.Journal.{Entry};
-ghost use Rattle.spliced_flows.specs.Core.{CoreHolds, number_of};
+ghost use Rattle.flows_follow.specs.Core.{CoreHolds, number_of};
 ghost use Rattle.poll_list.specs.Listing.{AreWants};
 ghost use Rattle.slirp_core.specs.Pumps.{TcpOnce, into, merged};
 ghost use Rattle.waiting_flows.specs.Wants.{link_want, listener_want, socket_wants, udp_want};

@@ -1,12 +1,12 @@
 // A flow for a peer that was accepted calls its guest. What other flows do is shown by whole runs (`worked_runs`).
 ghost use Rattle.std.specs.Prelude.{◌≡◌, ◌≤◌, ◌^◌, [], IfOk};
 
-use flow_splice::{Place, Pumped, Spliced};
+use flow_splice::{Place, Spliced};
 use net_octets::Mac;
 use seq_space::Seq;
 use std::alloc::{AllocError, Global};
 use std::test::Fail;
-use stream_netdev::Link;
+use stream_netdev::{Link, Pumped};
 use tcp_guest::Conn;
 use world_face::{
     Accepted, Endpoint, FileSize, Got, Io, Ip4, Joined, LinkAt, Made, ReadyList, Sent, Sink,

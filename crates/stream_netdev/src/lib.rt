@@ -10,7 +10,7 @@ ghost use Rattle.std.specs.Prelude.{◌≡◌, ℕ, ◌+◌, ◌-◌, ◌^◌, �
 ghost use Rattle.world_face.specs.Journal.{LinkRead, count_of};
 ghost use Rattle.world_face.specs.Tells.{Answers, Rose};
 ghost use Rattle.world_face.specs.Frames.{spelling};
-ghost use Rattle.stream_netdev.specs.Offers.{offered};
+ghost use Rattle.stream_netdev.specs.Offers.{offered, pumped_of};
 
 use net_octets::NoMemory;
 use std::alloc::Global;
@@ -40,6 +40,17 @@ pub enum Arrived {
 pub enum Offered {
     Taken,
     Blocked,
+    Failed,
+}
+
+/// What sending what is owed came to.
+#[derive(Clone, Copy, Debug, PartialEq, Eq)]
+pub enum Pumped {
+    /// All of it is out.
+    Clear,
+    /// The link takes no more for now.
+    Blocked,
+    /// The link failed.
     Failed,
 }
 
@@ -342,4 +353,15 @@ fn spell(into: &mut [u8], frame: &[u8])
     let length = (frame.len() as u32).to_be_bytes();
     into[..4].copy_from_slice(&length);
     into[4..4 + frame.len()].copy_from_slice(frame);
+}
+
+/// What an offer comes to, where the link is then blocked or not.
+pub fn outcome(offered: Offered, blocked: bool) -> Pumped
+    ensures { result ≡ pumped_of offered blocked }
+{
+    match offered {
+        Offered::Taken | Offered::Blocked if blocked => Pumped::Blocked,
+        Offered::Taken | Offered::Blocked => Pumped::Clear,
+        Offered::Failed => Pumped::Failed,
+    }
 }

@@ -19,16 +19,16 @@ use Rattle.record_flows.specs.Book.{book, scene, turned}
 use Rattle.record_flows.specs.Doings.{Doing, Nothing, Comes, Goes, Seeks, Pauses, Joins, Visits, Calls, Shuts, by_call, comes, doing, doing_by, ended_by, goes, joined, joins, read_by, seeks, visits, written_by}
 use Rattle.record_flows.specs.Flows.{Book, Flow, Scene, flow_of, is_on, is_numbered, is_strange, sends, shuts, tell, with_event}
 use Rattle.record_flows.specs.Segments.{OnTuple, asked_in, segment_came, segment_in}
-use Rattle.core_flows.specs.Only.{AreOf, IsOf}
-use Rattle.core_flows.proofs.Seats.{differ, same_or_not}
-use Rattle.core_flows.proofs.Tables.{get_set_other, get_set_same}
+use Rattle.flows_follow.specs.Only.{AreOf, IsOf}
+use Rattle.flows_follow.proofs.Seats.{differ, same_or_not}
+use Rattle.flows_follow.proofs.Tables.{get_set_other, get_set_same}
 use Rattle.slirp_laws.specs.Answers.{left}
 use Rattle.slirp_laws.specs.Sending.{accepted_for, requests, requests_by, times}
 use Rattle.slirp_laws.proofs.Bools.{turned as swapped}
 use Rattle.flow_splice.specs.Splice.{Splice}
-use Rattle.spliced_flows.specs.Asked.{AreAsked, accepted_numbers, sum_of}
-use Rattle.spliced_flows.specs.Core.{number_of}
-use Rattle.spliced_flows.proofs.Options.{none_some}
+use Rattle.flows_follow.specs.Asked.{AreAsked, accepted_numbers, sum_of}
+use Rattle.flows_follow.specs.Core.{number_of}
+use Rattle.flows_follow.proofs.Options.{none_some}
 
 -- ---- what was asked for
 

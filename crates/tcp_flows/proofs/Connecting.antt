@@ -8,16 +8,16 @@ use Rattle.flow_laws.specs.Flow.{has_connected, is_accepted, is_closed, is_conne
 use Rattle.flow_laws.proofs.Grows.{accepted_stays, closed_stays, connected_stays}
 use Rattle.record_flows.specs.Laws.{flow_settings}
 use Rattle.connection_follows.specs.Holding.{is_connects}
-use Rattle.core_flows.specs.FlowsHold.{FlowsState}
-use Rattle.core_flows.proofs.Seats.{differ, same_or_not}
-use Rattle.core_flows.proofs.Tables.{get_set_other, get_set_same}
+use Rattle.flows_follow.specs.FlowsHold.{FlowsState}
+use Rattle.flows_follow.proofs.Seats.{differ, same_or_not}
+use Rattle.flows_follow.proofs.Tables.{get_set_other, get_set_same}
 use Rattle.flow_splice.specs.Sends.{IsPumped, Sends}
 use Rattle.flow_splice.specs.Serves.{Serves}
 use Rattle.flow_splice.specs.Splice.{Splice, is_open}
 use Rattle.flow_splice.specs.Wants.{connect_end}
 use Rattle.flow_splice.specs.declared.Place.TheVariants.{Empty}
 use Rattle.flow_splice.proofs.Opened.{open_is}
-use Rattle.spliced_flows.specs.Core.{CoreHolds}
+use Rattle.flows_follow.specs.Core.{CoreHolds}
 use Rattle.tcp_flows.specs.Reading.{IsOpenAt}
 use Rattle.tcp_flows.specs.Settled.{ConnectYet, ConnectedBefore, ConnectsYet, HasStory}
 use Rattle.tcp_flows.proofs.Ahead.{StandYet}

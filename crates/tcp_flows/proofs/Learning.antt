@@ -13,21 +13,21 @@ use Rattle.flow_table.specs.declared.Tuple.{Tuple}
 use Rattle.flow_laws.specs.Close.{is_in_use}
 use Rattle.record_flows.specs.Flows.{Flow}
 use Rattle.record_flows.specs.Laws.{flow_settings}
-use Rattle.core_flows.specs.FlowsHold.{FlowsState, rests_at}
-use Rattle.core_flows.specs.Seats.{IsSlotOf}
-use Rattle.core_flows.proofs.Seats.{differ, same_or_not}
-use Rattle.core_flows.proofs.Tables.{get_set_at, get_set_other}
+use Rattle.flows_follow.specs.FlowsHold.{FlowsState, rests_at}
+use Rattle.flows_follow.specs.Seats.{IsSlotOf}
+use Rattle.flows_follow.proofs.Seats.{differ, same_or_not}
+use Rattle.flows_follow.proofs.Tables.{get_set_at, get_set_other}
 use Rattle.flow_splice.specs.Ahead.{IsAhead}
 use Rattle.flow_splice.specs.Follows.{FollowsAt}
 use Rattle.flow_splice.specs.Sends.{learnt, or_known}
 use Rattle.flow_splice.specs.Splice.{Splice, is_open}
 use Rattle.flow_splice.specs.declared.Place.{Place}
 use Rattle.flow_splice.specs.declared.Place.TheVariants.{Empty, InUse, Resting}
-use Rattle.spliced_flows.specs.Asked.{AreAsked}
-use Rattle.spliced_flows.specs.Core.{CoreHolds, ends_of, number_of}
-use Rattle.spliced_flows.specs.Stands.{slot_at}
-use Rattle.spliced_flows.proofs.Options.{none_some, some_same, true_false}
-use Rattle.spliced_flows.proofs.Told.{core_told}
+use Rattle.flows_follow.specs.Asked.{AreAsked}
+use Rattle.flows_follow.specs.Core.{CoreHolds, ends_of, number_of}
+use Rattle.flows_follow.specs.Stands.{slot_at}
+use Rattle.flows_follow.proofs.Options.{none_some, some_same, true_false}
+use Rattle.flows_follow.proofs.Told.{core_told}
 use Rattle.tcp_flows.specs.Kept.{IsFor, Kept, flows_of, part_at, part_of, slot_of}
 use Rattle.tcp_flows.specs.Reading.{HaveLearnt, AreTold, IsOpenAt, NoneInSlots, learnt_from}
 use Rattle.tcp_flows.specs.Rows.{Moves, MovesAt, count, is_seeking, seeks_at, table_at, waits_of}

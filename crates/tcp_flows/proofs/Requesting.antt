@@ -21,9 +21,9 @@ use Rattle.flow_splice.specs.Hosts.{is_for_reading, is_for_writing, shuts}
 use Rattle.flow_splice.specs.Shapes.{IsHostWork, ends, gives, is_at_most_a_close, is_reading, is_writing}
 use Rattle.flow_splice.specs.Splice.{Face, Splice}
 use Rattle.flow_splice.specs.declared.Place.TheVariants.{Empty}
-use Rattle.spliced_flows.specs.Asked.{AreAsked, accepted_numbers}
-use Rattle.spliced_flows.specs.Core.{number_of}
-use Rattle.spliced_flows.proofs.ReadBack.{asks_none, four_off}
+use Rattle.flows_follow.specs.Asked.{AreAsked, accepted_numbers}
+use Rattle.flows_follow.specs.Core.{number_of}
+use Rattle.flows_follow.proofs.ReadBack.{asks_none, four_off}
 use Rattle.tcp_flows.specs.Kept.{part_of}
 use Rattle.tcp_flows.proofs.Asking.{asked_from, asked_then, has_frame, is_frame, told_numbers}
 use Rattle.tcp_flows.proofs.Keeping.{part_back}

@@ -15,14 +15,14 @@ use Rattle.record_flows.specs.Flows.{Flow, flow_of}
 use Rattle.record_flows.specs.Laws.{flow_settings}
 use Rattle.slirp_laws.specs.Laws.{Lawful}
 use Rattle.slirp_laws.proofs.Bools.{among_without, first_of, same}
-use Rattle.core_flows.specs.FlowsHold.{FlowsState, rests_at}
-use Rattle.core_flows.specs.Only.{AreOf, IsOf}
+use Rattle.flows_follow.specs.FlowsHold.{FlowsState, rests_at}
+use Rattle.flows_follow.specs.Only.{AreOf, IsOf}
 use Rattle.flow_splice.specs.Hosts.{ServesReport, is_for_writing, reads_or_shuts, some_is}
 use Rattle.flow_splice.specs.Splice.{Splice, is_open}
 use Rattle.flow_splice.specs.Wants.{reads, writes}
 use Rattle.flow_splice.proofs.Promises.{wants_are}
-use Rattle.spliced_flows.specs.Core.{CoreHolds, Following, number_of}
-use Rattle.spliced_flows.proofs.Sockets.{open_has_socket}
+use Rattle.flows_follow.specs.Core.{CoreHolds, Following, number_of}
+use Rattle.flows_follow.proofs.Sockets.{open_has_socket}
 use Rattle.run_duties.specs.Said.{some_writes}
 use Rattle.run_duties.specs.Serving.{is_left_to_read, is_left_to_write}
 use Rattle.run_duties.specs.Waiting.{is_read, is_written, reads_flow, writes_flow}

@@ -9,14 +9,14 @@ use Rattle.flow_table.specs.declared.Slot.TheVariants.{Free, InUse as SlotInUse,
 use Rattle.flow_table.specs.declared.Tuple.{Tuple}
 use Rattle.record_flows.specs.Book.{book}
 use Rattle.record_flows.specs.Flows.{is_used, uses}
-use Rattle.core_flows.specs.FlowsHold.{FlowsState, rests_at}
+use Rattle.flows_follow.specs.FlowsHold.{FlowsState, rests_at}
 use Rattle.flow_splice.specs.Splice.{Splice, is_in_use}
 use Rattle.flow_splice.specs.declared.Place.{Place}
 use Rattle.flow_splice.specs.declared.Place.TheVariants.{Empty, InUse, Resting}
-use Rattle.spliced_flows.specs.Core.{CoreHolds, Following, number_of}
-use Rattle.spliced_flows.specs.Stands.{slot_at}
-use Rattle.spliced_flows.proofs.Looking.{none_used, slot_rests, slot_used}
-use Rattle.spliced_flows.proofs.Options.{none_some, some_same, true_false}
+use Rattle.flows_follow.specs.Core.{CoreHolds, Following, number_of}
+use Rattle.flows_follow.specs.Stands.{slot_at}
+use Rattle.flows_follow.proofs.Looking.{none_used, slot_rests, slot_used}
+use Rattle.flows_follow.proofs.Options.{none_some, some_same, true_false}
 use Rattle.tcp_flows.specs.Reading.{NoneUses}
 
 module _ (slots : List Slot) (t : Tuple) where

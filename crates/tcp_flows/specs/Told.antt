@@ -5,7 +5,7 @@ use Rattle.world_face.specs.Journal.{Entry}
 use Rattle.host_policy.specs.Addresses.{Config}
 use Rattle.flow_splice.specs.Splice.{Splice}
 use Rattle.run_duties.specs.Serving.{is_left_to_read, is_left_to_write}
-use Rattle.spliced_flows.specs.Core.{number_of}
+use Rattle.flows_follow.specs.Core.{number_of}
 use Rattle.tcp_flows.specs.Kept.{Kept}
 use Rattle.tcp_flows.specs.Reading.{IsOpenAt}
 

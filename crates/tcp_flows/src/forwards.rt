@@ -1,6 +1,6 @@
 // Peers come to ports of the host that are given to guests, and guests' hardware addresses are learnt.
 ghost use Rattle.std.specs.Prelude.{◌≡◌, ℕ, ◌+◌, ◌-◌, ◌^◌, ◌<◌, ◌≤◌, List, [], length, option_map, slice_get, slice_set, true, false, Some};
-ghost use Rattle.core_flows.specs.Seats.{in_use_slots};
+ghost use Rattle.flows_follow.specs.Seats.{in_use_slots};
 ghost use Rattle.flow_laws.specs.Flow.{first_number};
 ghost use Rattle.flow_table.specs.Slots.{NoneHas};
 ghost use Rattle.flow_table.specs.declared.Slot.TheVariants.{InUse as SlotInUse};
@@ -23,7 +23,7 @@ impl TcpFlows {
     ghost use Rattle.record_flows.specs.Book.{book};
     ghost use Rattle.record_flows.specs.Flows.{is_used};
     ghost use Rattle.host_policy.specs.Addresses.{Config};
-    ghost use Rattle.spliced_flows.specs.Core.{CoreHolds, number_of};
+    ghost use Rattle.flows_follow.specs.Core.{CoreHolds, number_of};
     ghost use Rattle.std.specs.Prelude.{Bool, Option};
     ghost use Rattle.tcp_flows.specs.Kept.{with_flows};
     ghost use Rattle.tcp_flows.specs.Reading.{HaveLearnt, AreTold, NoneInSlots, NoneUses, Stays, StaysBut, learnt_from};

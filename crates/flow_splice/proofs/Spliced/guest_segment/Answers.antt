@@ -13,13 +13,13 @@ returns-in-Resting-clause-makes g c =
     let f : Splice = c.args.self.now in
     let tcp : Tcp = tcp_of c.args.seg.now in
     let since : ℕ = c.in-Resting.since in
-    makes_none _ _ (subst (λ (x : Splice). Hears f x tcp c.args.now []) (sym c.hear_at_rest.ensures.heard) (hears_at_rest f c.args.now since tcp (sym c.place.ensures ∙ c.in-Resting.is)), refl)
+    makes_none _ _ (subst (λ (x : Splice). Hears f x tcp c.args.now []) (sym c.take_at_rest.ensures.heard) (hears_at_rest f c.args.now since tcp (sym c.place.ensures ∙ c.in-Resting.is)), refl)
 
 pub returns-in-Resting-clause-same : goal.returns-in-Resting-clause-same
 returns-in-Resting-clause-same g c =
     let f : Splice = c.args.self.now in
     let tcp : Tcp = tcp_of c.args.seg.now in
-    subst (λ (x : Splice). IsAsOld f x) (sym c.hear_at_rest.ensures.heard) (at_rest_as_old (ends_rest f.conn tcp) f c.in-Resting.since tcp c.args.now)
+    subst (λ (x : Splice). IsAsOld f x) (sym c.take_at_rest.ensures.heard) (at_rest_as_old (ends_rest f.conn tcp) f c.in-Resting.since tcp c.args.now)
 
 pub returns-in_default : goal.returns-in_default
 returns-in_default g c =

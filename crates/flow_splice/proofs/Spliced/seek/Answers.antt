@@ -10,7 +10,7 @@ use Rattle.flow_splice.specs.Frames.{request_frame}
 use Rattle.flow_splice.specs.Sends.{Sends, SendsOn, asked, asks_now}
 use Rattle.flow_splice.specs.Shapes.{IsPumpWork}
 use Rattle.flow_splice.specs.Splice.{Splice}
-use Rattle.flow_splice.specs.declared.Pumped.{Pumped}
+use Rattle.stream_netdev.specs.declared.Pumped.{Pumped}
 use Rattle.flow_splice.proofs.Asking.{requests}
 use Rattle.flow_splice.proofs.Marking.{makes_allowed, sends_none}
 use Rattle.flow_splice.proofs.Shaping.{request_works}

@@ -10,13 +10,14 @@ use Rattle.tcp_guest.specs.Owing.{owed_of}
 use Rattle.tcp_guest.specs.declared.Owed.{Owed}
 use Rattle.connection_follows.specs.Sending.{segment_out}
 use Rattle.flow_splice.specs.Frames.{segment_frame}
-use Rattle.flow_splice.specs.Sends.{Marks, Sends, pumped_of, takes_part_at}
+use Rattle.flow_splice.specs.Sends.{Marks, Sends, takes_part_at}
+use Rattle.stream_netdev.specs.Offers.{pumped_of}
 use Rattle.flow_splice.specs.Shapes.{IsPumpWork}
 use Rattle.flow_splice.specs.Splice.{Splice}
 use Rattle.flow_splice.specs.declared.Place.{Place}
 use Rattle.flow_splice.specs.declared.Place.TheVariants.{Empty, InUse, Resting}
-use Rattle.flow_splice.specs.declared.Pumped.{Pumped}
-use Rattle.flow_splice.specs.declared.Pumped.TheVariants.{Clear, Blocked as PumpBlocked}
+use Rattle.stream_netdev.specs.declared.Pumped.{Pumped}
+use Rattle.stream_netdev.specs.declared.Pumped.TheVariants.{Clear, Blocked as PumpBlocked}
 use Rattle.flow_splice.proofs.Ahead.{marks_early}
 use Rattle.flow_splice.proofs.Going.{sends}
 use Rattle.flow_splice.proofs.Marking.{closes_keep, makes_allowed, marks_less, marks_stay}

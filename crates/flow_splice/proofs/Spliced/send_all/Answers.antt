@@ -2,8 +2,8 @@ use Rattle.std.proofs.Common.{refl, arith, subst, ◌∙◌}
 use Rattle.world_face.proofs.Telling.{makes_none, makes_then}
 use Rattle.flow_splice.specs.Shapes.{IsPumpWork}
 use Rattle.flow_splice.specs.Splice.{Splice}
-use Rattle.flow_splice.specs.declared.Pumped.{Pumped}
-use Rattle.flow_splice.specs.declared.Pumped.TheVariants.{Clear, Blocked, Failed}
+use Rattle.stream_netdev.specs.declared.Pumped.{Pumped}
+use Rattle.stream_netdev.specs.declared.Pumped.TheVariants.{Clear, Blocked, Failed}
 use Rattle.flow_splice.proofs.Coming.{as_old_then}
 use Rattle.flow_splice.proofs.Marking.{sends_none, sends_then}
 use Rattle.flow_splice.proofs.Shaping.{works_then}

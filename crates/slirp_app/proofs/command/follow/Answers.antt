@@ -7,7 +7,8 @@ use Rattle.slirp_config.specs.Meaning.{said}
 use Rattle.slirp_config.specs.declared.Command.{Command}
 use Rattle.slirp_app.specs.Causes.{Caused}
 use Rattle.slirp_app.specs.Doing.{Does}
-use Rattle.slirp_app.specs.Fetching.{MayFetch}
+use Rattle.app_edges.specs.Fetching.{MayFetch}
+use Rattle.slirp_app.proofs.Courses.{drives_read, serves_nothing, serves_read}
 use Rattle.slirp_app.proofs.command.follow.Goals as goal
 
 pub returns-in-Replay-clause-does : goal.returns-in-Replay-clause-does
@@ -25,3 +26,12 @@ returns-in-Drive-clause-does g c =
 pub returns-in-Serve-clause-does : goal.returns-in-Serve-clause-does
 returns-in-Serve-clause-does g c =
     subst (λ (k : Command). Does (said k) c.serve.result (g.W.World.tells c.args.world.now) (g.W.World.tells c.serve.new.world) (g.K.Sink.holds c.args.out.now) (g.K.Sink.holds c.serve.new.out)) (sym c.in-Serve.is) c.serve.ensures.serves
+
+pub returns-in-Serve-clause-run : goal.returns-in-Serve-clause-run
+returns-in-Serve-clause-run g c = serves_read _ _ _ c.serve.result _ _ _ _ c.serve.ensures.serves
+
+pub returns-in-Serve-clause-nothing : goal.returns-in-Serve-clause-nothing
+returns-in-Serve-clause-nothing g c = serves_nothing _ _ _ c.serve.result _ _ _ _ c.serve.ensures.serves
+
+pub returns-in-Drive-clause-run : goal.returns-in-Drive-clause-run
+returns-in-Drive-clause-run g c = drives_read _ c.drive.ensures.ends

@@ -5,7 +5,7 @@ use Rattle.slirp_config.specs.Meaning.{HasPlace, Means, said}
 use Rattle.slirp_config.specs.declared.Command.{Command}
 use Rattle.slirp_config.specs.declared.WordFault.{WordFault}
 use Rattle.slirp_app.specs.Doing.{Course, Meant}
-use Rattle.slirp_app.specs.declared.status.Outcome.{Outcome}
+use Rattle.app_edges.specs.declared.status.Outcome.{Outcome}
 use Rattle.slirp_app.proofs.Courses.{built, can_be_done, none_broken, one_meaning, refused_course}
 use Rattle.slirp_app.proofs.command.run_words.Goals as goal
 

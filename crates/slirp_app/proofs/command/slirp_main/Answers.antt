@@ -2,8 +2,8 @@ use Rattle.std.proofs.Common.{◌≡◌, ◌↔◌, ◌⊎◌, IsTrue, map, sym,
 use Rattle.std.specs.String.{string_bytes}
 use Rattle.slirp_config.specs.Meaning.{Drives, Meaning, Means, Replays, Serves}
 use Rattle.slirp_app.specs.Doing.{DrivesRun, ReplaysFile}
-use Rattle.slirp_app.specs.Statuses.{code_of, is_unrun}
-use Rattle.slirp_app.specs.Texts.{Got, told_text}
+use Rattle.app_edges.specs.Statuses.{code_of, is_unrun}
+use Rattle.app_edges.specs.Texts.{Got, told_text}
 use Rattle.slirp_app.proofs.Causing as causing
 use Rattle.slirp_app.proofs.Courses as courses
 use Rattle.slirp_app.proofs.command.slirp_main.Goals as goal

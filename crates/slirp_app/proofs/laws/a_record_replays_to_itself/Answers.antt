@@ -1,4 +1,4 @@
-use Rattle.slirp_app.specs.Texts.{Got}
+use Rattle.app_edges.specs.Texts.{Got}
 use Rattle.slirp_app.proofs.Repeated.{departs, prints_all, prints_first, prints_recorded}
 use Rattle.slirp_app.proofs.laws.a_record_replays_to_itself.Goals as goal
 

@@ -1,4 +1,4 @@
-use Rattle.slirp_app.specs.Texts.{Got}
+use Rattle.app_edges.specs.Texts.{Got}
 use Rattle.slirp_app.proofs.Following.{comes_to_done, follows_file}
 use Rattle.slirp_app.proofs.Lined.{can_be_followed}
 use Rattle.slirp_app.proofs.laws.a_schedule_that_can_be_followed_is_followed_to_its_end.Goals as goal

@@ -4,25 +4,21 @@ use Rattle.world_face.specs.Puts.{added}
 use Rattle.world_face.specs.Tells.{Makes}
 use Rattle.host_policy.specs.Addresses.{Config}
 use Rattle.host_policy.specs.Settings.{settings}
-use Rattle.slirp_laws.specs.Laws.{Lawful}
-use Rattle.slirp_laws.specs.Laws.{Finished}
-use Rattle.run_laws.specs.Shape.{phase}
-use Rattle.run_duties.specs.Duties.{Dutiful}
-use Rattle.serve_loop.specs.Ends.{end_of}
 use Rattle.replay.specs.Script.{script_tells}
 use Rattle.replay.specs.Text.{text}
-use Rattle.slirp_app.specs.Ran.{end_line}
+use Rattle.app_edges.specs.Texts.{end_line}
+use Rattle.slirp_app.specs.Serving.{IsRun}
 use Rattle.slirp_app.proofs.Followed.{replayed}
 use Rattle.slirp_app.proofs.replaying.run.Goals as goal
 
 pub returns-in-Ok-put_record-clause-came : goal.returns-in-Ok-put_record-clause-came
 returns-in-Ok-put_record-clause-came g c =
-    let new = c.serve-end.new.world in
-    let end = c.serve-end.result in
-    let makes = subst (λ (k : Config). Makes (script_tells c.args.script) (script_tells new) (λ made. Lawful k made × Dutiful k made × Finished k made × (end ≡ end_of k (phase k made)))) c.in-Ok.ensures.config c.serve-end.ensures.makes in
+    let new = c.run_service-done.new.world in
+    let done = c.run_service-done.result in
+    let runs = subst (λ (k : Config). Makes (script_tells c.args.script) (script_tells new) (IsRun k done)) c.in-Ok.ensures.config c.run_service-done.ensures.runs in
     let put = c.put_record.ensures.ok (ap is_ok c.in-Ok-put_record.is) ∙ ap (λ n. added (text (script_tells new).kept ++ end_line n) (g.K.Sink.holds c.args.out.now)) c.code.ensures in
     let left = c.ended-outcome.ensures in
-    replayed (settings c.args.config.now) c.args.script new end c.ended-outcome.result (g.K.Sink.holds c.args.out.now) (g.K.Sink.holds c.put_record.new.out) c.requires.fresh left.lives left.ceased left.fits_none left.within left.readable put makes
+    replayed (settings c.args.config.now) c.args.script new done c.ended-outcome.result (g.K.Sink.holds c.args.out.now) (g.K.Sink.holds c.put_record.new.out) c.requires.fresh left.lives left.ceased left.fits_none left.within left.readable put runs
 
 pub returns-clause-refused : goal.returns-clause-refused
 returns-clause-refused g c is = c.put_record.ensures.err (ap is_err c.in-Err.is)

@@ -1,5 +1,24 @@
-use Rattle.drive_world.proofs.Faulting.{passes_on}
+use Rattle.std.proofs.Common.{refl, rules}
+use Rattle.drive_world.proofs.Faulting.{counted_by, fails_here, given_here, passed_on, passes_on, put_off_here}
+use Rattle.drive_world.specs.declared.fault.Kind.TheVariants.{Socket}
 use Rattle.drive_world.proofs.fault.FaultWorldWorld.udp_recv.Goals as goal
 
-pub returns-in-Some-Short-clause-passes : goal.returns-in-Some-Short-clause-passes
-returns-in-Some-Short-clause-passes g c no_fault none_later = passes_on _ _ _ _ c.self.view_is _ _ _ c.udp_recv.ensures c.count.ensures.counted
+pub returns-in-Fails-clause-answers : goal.returns-in-Fails-clause-answers
+returns-in-Fails-clause-answers g c = fails_here g.W.World.tells _ _ _ c.self.view_is _ Socket _ (c.in-Fails.ensures.fails refl) refl refl refl refl (search rules)
+
+pub returns-in-Fails-clause-fails : goal.returns-in-Fails-clause-fails
+returns-in-Fails-clause-fails g c is = (refl, given_here g.W.World.tells _ _ _ c.self.view_is _ Socket (c.in-Fails.ensures.fails refl).1)
+
+pub returns-in-IsPutOff-clause-answers : goal.returns-in-IsPutOff-clause-answers
+returns-in-IsPutOff-clause-answers g c = put_off_here g.W.World.tells _ _ _ c.self.view_is _ Socket _ (c.in-IsPutOff.ensures.put_off refl) refl refl refl refl (search rules)
+
+pub returns-in-IsPutOff-clause-waits : goal.returns-in-IsPutOff-clause-waits
+returns-in-IsPutOff-clause-waits g c is = (refl, given_here g.W.World.tells _ _ _ c.self.view_is _ Socket (c.in-IsPutOff.ensures.put_off refl).1)
+
+pub returns-in-IsCut-clause-answers : goal.returns-in-IsCut-clause-answers
+returns-in-IsCut-clause-answers g c =
+    passed_on g.W.World.tells _ _ _ c.self.view_is _ _ _ c.udp_recv.ensures (counted_by _ _ c.in-IsCut.is c.course.ensures.cut c.course.ensures.passes)
+
+pub returns-in-IsCut-clause-passes : goal.returns-in-IsCut-clause-passes
+returns-in-IsCut-clause-passes g c no_fault none_later =
+    passes_on g.W.World.tells _ _ _ c.self.view_is _ _ _ c.udp_recv.ensures (counted_by _ _ c.in-IsCut.is c.course.ensures.cut c.course.ensures.passes)

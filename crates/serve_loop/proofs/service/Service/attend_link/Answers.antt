@@ -4,8 +4,9 @@ use Rattle.poll_list.specs.declared.Want.{Want}
 use Rattle.poll_list.specs.declared.Who.TheVariants.{Link as TheLink}
 use Rattle.world_face.proofs.Telling.{brings_as, brings_none, brings_then}
 use Rattle.slirp_core.specs.Holds.{standing}
+use Rattle.slirp_core.proofs.Telling.{from_more}
 use Rattle.serve_loop.specs.Turns.{is_read_now, still}
-use Rattle.serve_loop.proofs.Attending.{from_more, link_passed, link_serves, pump_serves}
+use Rattle.serve_loop.proofs.Attending.{link_passed, link_serves, pump_serves}
 use Rattle.serve_loop.proofs.Counted.{counted_after}
 use Rattle.serve_loop.proofs.Turning.{of_link, read_counts, read_now}
 use Rattle.serve_loop.proofs.service.Service.attend_link.Goals as goal
@@ -16,13 +17,13 @@ returns-in-Again-clause-makes g c config count items wanted =
     let item = c.args.item.now in
     let slirp = c.args.self.now.slirp in
     let link = c.args.self.now.link in
-    let mid = c.receive.new.self in
+    let mid = c.receive_frame.new.self in
     let new = c.pump.new.self in
     let now = read_now c.args.to_read item (sym c.is_read_now.ensures ∙ c.if-is_read_now.true) in
     brings_then
-    (link_serves config count wants items item slirp mid.slirp link mid.link (g.W.World.tells c.args.world.now) (g.W.World.tells c.receive.new.world) c.args.to_read c.requires.of wanted c.in-Again.ensures.marks
+    (link_serves config count wants items item slirp mid.slirp link mid.link (g.W.World.tells c.args.world.now) (g.W.World.tells c.receive_frame.new.world) c.args.to_read c.requires.of wanted c.in-Again.ensures.marks
     (brings_as (c.in-Again.ensures.makes config count wants item items (of_link wants item c.requires.of now.1 (wanted now.0))) (λ past after. (after.0, after.1 refl))))
-    (pump_serves config count wants items c.pump.result (still c.args.to_read item) mid.slirp new.slirp mid.link new.link (g.W.World.tells c.receive.new.world) (g.W.World.tells c.pump.new.world) c.pump.ensures.marks c.pump.ensures.sent (c.pump.ensures.makes config (standing count wants items) false))
+    (pump_serves config count wants items c.pump.result (still c.args.to_read item) mid.slirp new.slirp mid.link new.link (g.W.World.tells c.receive_frame.new.world) (g.W.World.tells c.pump.new.world) c.pump.ensures.marks c.pump.ensures.sent (c.pump.ensures.makes config (standing count wants items) false))
 
 pub returns-in-Ended-clause-makes : goal.returns-in-Ended-clause-makes
 returns-in-Ended-clause-makes g c config count items wanted =
@@ -30,8 +31,8 @@ returns-in-Ended-clause-makes g c config count items wanted =
     from_more _ _ _ _ _ (λ past serves. (serves.holds, serves.can_take))
     (brings_as (c.in-Ended.ensures.makes config count c.args.self.now.wants c.args.item.now items (of_link c.args.self.now.wants c.args.item.now c.requires.of now.1 (wanted now.0))) (λ past after. after.0))
 
-pub returns-in-Again-clause-faults : goal.returns-in-Again-clause-faults
-returns-in-Again-clause-faults g c = counted_after c.pump.result (g.W.World.tells c.args.world.now).faults (g.W.World.tells c.receive.new.world).faults (g.W.World.tells c.pump.new.world).faults c.in-Again.ensures.faults c.pump.ensures.faults
+pub returns-in-Again-clause-step : goal.returns-in-Again-clause-step
+returns-in-Again-clause-step g c = record { counted = counted_after c.pump.result (g.W.World.tells c.args.world.now).faults (g.W.World.tells c.receive_frame.new.world).faults (g.W.World.tells c.pump.new.world).faults c.in-Again.ensures.step.counted c.pump.ensures.step.counted; on = c.pump.ensures.step.on }
 
 pub returns-in-Again-clause-passed : goal.returns-in-Again-clause-passed
 returns-in-Again-clause-passed g c wanted passed =

@@ -7,7 +7,8 @@ use Rattle.world_face.proofs.Telling.{brings_none, brings_then}
 use Rattle.run_duties.specs.Waiting.{is_written}
 use Rattle.run_duties.proofs.Serving.{unwritten}
 use Rattle.slirp_core.specs.Holds.{standing}
-use Rattle.serve_loop.proofs.Attending.{from_more, pump_serves, socket_passed, socket_serves}
+use Rattle.slirp_core.proofs.Telling.{from_more}
+use Rattle.serve_loop.proofs.Attending.{pump_serves, socket_passed, socket_serves}
 use Rattle.serve_loop.proofs.Left.{true_false}
 use Rattle.serve_loop.specs.Served.{ServiceState}
 use Rattle.serve_loop.specs.Turns.{AfterItem, ServesNow}

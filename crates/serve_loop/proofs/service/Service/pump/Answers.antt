@@ -1,4 +1,4 @@
-use Rattle.std.proofs.Common.{◌≡◌, ℕ, ap, false, sym, ◌∙◌, subst}
+use Rattle.std.proofs.Common.{rules, ◌≡◌, ℕ, ap, false, sym, ◌∙◌, subst}
 use Rattle.world_face.specs.Tells.{Brings}
 use Rattle.world_face.proofs.Telling.{brings_as}
 use Rattle.serve_loop.specs.Ends.{IsCounted}
@@ -22,10 +22,10 @@ returns-clause-makes g c config at aged =
     subst (λ t. AfterTurn t config at aged new.self new.link past) (sym c.turn_of.ensures) (pumped c.pump-pumped.result config at aged new.self new.link past after)) in
     subst (λ (s : ServiceState). Brings (g.W.World.tells c.args.world.now) (g.W.World.tells new.world) (HoldsNow config at aged s.slirp s.link) (AfterTurn c.turn_of.result config at aged new.self new.link)) c.self.view_is made
 
-pub returns-clause-faults : goal.returns-clause-faults
-returns-clause-faults g c =
+pub returns-clause-step : goal.returns-clause-step
+returns-clause-step g c =
     let more = grown _ _ _ (c.pump-pumped.ensures.makes c.args.self.now.slirp.config (after 0) false).counted in
-    subst (λ t. IsCounted t (g.W.World.tells c.args.world.now).faults (g.W.World.tells c.pump-pumped.new.world).faults) (sym c.turn_of.ensures) (pump_counted c.pump-pumped.result _ _ more c.pump-pumped.ensures.failed)
+    record { counted = subst (λ t. IsCounted t (g.W.World.tells c.args.world.now).faults (g.W.World.tells c.pump-pumped.new.world).faults) (sym c.turn_of.ensures) (pump_counted c.pump-pumped.result _ _ more c.pump-pumped.ensures.failed); on = search rules }
 
 pub returns-clause-sent : goal.returns-clause-sent
 returns-clause-sent g c again = sent_by c.pump-pumped.result c.pump-pumped.new.self c.pump-pumped.new.link c.pump-pumped.ensures.leaves (sym c.turn_of.ensures ∙ again)

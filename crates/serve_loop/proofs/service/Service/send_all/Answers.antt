@@ -32,8 +32,8 @@ loop-self-init g c =
       calm = c.in_default.ensures.calm refl;
       young = λ young. c.in_default.ensures.young (subst AreYoung (sym c.send_again.ensures.others) (subst (λ (s : ServiceState). AreYoung s.slirp) (sym c.self.view_is) young));
       untold = λ none. none_told c.send_again.new.self.number c.send_again.new.self new.self.slirp c.in_default.ensures.marks (subst NoneTold (sym c.send_again.ensures.others) (subst (λ (s : ServiceState). NoneTold s.slirp) (sym c.self.view_is) none));
-      counts = c.in_default.ensures.faults;
-      on = c.in_default.ensures.on;
+      counts = c.in_default.ensures.step.counted;
+      on = c.in_default.ensures.step.on;
       config = search rules;
       number = search rules;
       turns = search rules;
@@ -48,7 +48,7 @@ loop-self-preserved g c =
       makes = λ config at. brings_then (before.invariant.makes config at)
           (subst (λ (s : ServiceState). Brings (g.W.World.tells before.world) (g.W.World.tells new.world) (HoldsNow config at true s.slirp s.link) (HoldsNow config at true new.self.slirp new.self.link)) c.self-in-loop-self.view_is
           (brings_then (brings_none (λ past holds. c.send_again-in-loop-self.ensures.holds config at link past holds)) (c.in-Again.ensures.makes config at true)));
-      counts = grown_then (g.W.World.tells c.args.world.now).faults (g.W.World.tells before.world).faults (g.W.World.tells new.world).faults before.invariant.counts c.in-Again.ensures.faults;
+      counts = grown_then (g.W.World.tells c.args.world.now).faults (g.W.World.tells before.world).faults (g.W.World.tells new.world).faults before.invariant.counts c.in-Again.ensures.step.counted;
       sent = c.in-Again.ensures.sent refl;
       connects = λ config at past holds early.
           let made = before.invariant.makes config at in
@@ -59,7 +59,7 @@ loop-self-preserved g c =
       young = λ young. c.in-Again.ensures.young (subst AreYoung (sym c.send_again-in-loop-self.ensures.others) (subst (λ (s : ServiceState). AreYoung s.slirp) (sym c.self-in-loop-self.view_is) (before.invariant.young young)));
       untold = λ none. none_told c.send_again-in-loop-self.new.self.number c.send_again-in-loop-self.new.self new.self.slirp c.in-Again.ensures.marks
           (subst NoneTold (sym c.send_again-in-loop-self.ensures.others) (subst (λ (s : ServiceState). NoneTold s.slirp) (sym c.self-in-loop-self.view_is) (before.invariant.untold none)));
-      on = c.in-Again.ensures.on;
+      on = c.in-Again.ensures.step.on;
       config = search rules;
       number = search rules;
       turns = search rules;

@@ -16,7 +16,7 @@ pub loop-count-init : goal.loop-count-init
 loop-count-init g c = record {
   makes = c.in_default.ensures.makes;
   calm = c.in_default.ensures.calm refl;
-  on = c.in_default.ensures.on;
+  on = c.in_default.ensures.step.on;
   config = c.in_default.ensures.config;
   number = omega (arith, c.in_default.ensures.number);
   turns = omega (arith, c.in_default.ensures.turns);
@@ -37,11 +37,11 @@ loop-count-preserved g c =
     record {
       makes = makes_from c.loop-count.invariant.makes (c.in-Again.ensures.makes config c.loop-count._count few);
       calm = c.in-Again.ensures.calm refl;
-      on = c.in-Again.ensures.on;
+      on = c.in-Again.ensures.step.on;
       config = c.in-Again.ensures.config ∙ c.loop-count.invariant.config;
       number = omega (arith, c.in-Again.ensures.number, c.loop-count.invariant.number);
       turns = omega (arith, c.in-Again.ensures.turns, c.loop-count.invariant.turns);
-      counts = grown_then (g.W.World.tells c.args.world.now).faults (g.W.World.tells c.loop-count.world).faults (g.W.World.tells c.turn.new.world).faults c.loop-count.invariant.counts c.in-Again.ensures.faults;
+      counts = grown_then (g.W.World.tells c.args.world.now).faults (g.W.World.tells c.loop-count.world).faults (g.W.World.tells c.turn.new.world).faults c.loop-count.invariant.counts c.in-Again.ensures.step.counted;
     }
 
 pub returns-in-Ended-clause-makes : goal.returns-in-Ended-clause-makes
@@ -67,7 +67,7 @@ pub returns-in-Ended-turn-clause-attended : goal.returns-in-Ended-turn-clause-at
 returns-in-Ended-turn-clause-attended g c = attended c.args.self.now.slirp.config c.in-Ended-turn.end _ _ (returns-in-Ended-turn-clause-makes g c)
 
 pub returns-in-Ended-turn-clause-faults : goal.returns-in-Ended-turn-clause-faults
-returns-in-Ended-turn-clause-faults g c = end_after c.in-Ended-turn.end (g.W.World.tells c.args.world.now).faults (g.W.World.tells c.loop-count.world).faults (g.W.World.tells c.turn.new.world).faults c.loop-count.invariant.counts c.in-Ended-turn.ensures.faults
+returns-in-Ended-turn-clause-faults g c = end_after c.in-Ended-turn.end (g.W.World.tells c.args.world.now).faults (g.W.World.tells c.loop-count.world).faults (g.W.World.tells c.turn.new.world).faults c.loop-count.invariant.counts c.in-Ended-turn.ensures.step.counted
 
 pub returns-clause-makes : goal.returns-clause-makes
 returns-clause-makes g c =

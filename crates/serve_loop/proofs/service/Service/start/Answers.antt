@@ -1,4 +1,4 @@
-use Rattle.std.proofs.Common.{◌∷◌, false, length, refl, sym, ◌∙◌, ap, subst}
+use Rattle.std.proofs.Common.{rules, ◌∷◌, false, length, refl, sym, ◌∙◌, ap, subst}
 use Rattle.world_face.specs.Journal.{Now}
 use Rattle.world_face.specs.Tells.{Makes}
 use Rattle.world_face.proofs.Telling.{makes_as, makes_next}
@@ -37,8 +37,8 @@ returns-clause-makes g c =
     (λ made opens allowed. subst (λ (s : SlirpState). HoldsNow config (after 0) false s i.link (Now told ∷ made)) (sym c.tell_moment.ensures) (started config i.slirp i.link told made allowed opens)))
     (λ made holds. (holds, (none_waited config 0 false c.tell_moment.new.self i.link made refl holds, none_reported config made holds.clock.counted)))
 
-pub returns-clause-on : goal.returns-clause-on
-returns-clause-on g c = subst (λ (l : LinkState). ReadsOn (under_way l)) (sym c.in_default.ensures.link ∙ sym (ap (λ (s : ServiceState). s.link) c.self.view_is)) (reads_new c.args.self.now c.requires)
+pub returns-clause-step : goal.returns-clause-step
+returns-clause-step g c = record { counted = search rules; on = subst (λ (l : LinkState). ReadsOn (under_way l)) (sym c.in_default.ensures.link ∙ sym (ap (λ (s : ServiceState). s.link) c.self.view_is)) (reads_new c.args.self.now c.requires) }
 
 pub returns-clause-calm : goal.returns-clause-calm
 returns-clause-calm g c again =

@@ -36,16 +36,16 @@ returns-in-Ended-clause-makes g c config count few =
     subst (λ (s : ServiceState). Brings (g.W.World.tells c.args.world.now) (g.W.World.tells new.world) (AttendsNow config (after count) false s.slirp s.link) (AttendsAfterTaking (TurnEnded c.in-Ended.end) config count new.self.slirp new.self.link)) c.self.view_is
     (brings_then (attends_on Again config (after count) (after count) false true c.self.inside.slirp c.tick.new.self c.self.inside.link c.self.inside.link (g.W.World.tells c.args.world.now) (g.W.World.tells c.tick.new.world) refl (c.tick.ensures.makes config count c.self.inside.link few)) (brings_as (attends_on (TurnEnded c.in-Ended.end) config (after count) (after count) true true c.tick.new.self c.send_all.new.self.slirp c.self.inside.link c.send_all.new.self.link (g.W.World.tells c.tick.new.world) (g.W.World.tells c.send_all.new.world) refl (c.in-Ended.ensures.makes config (after count))) (λ past ended. ((count, ended.0), ended.1))))
 
-pub returns-in-Again-clause-faults : goal.returns-in-Again-clause-faults
-returns-in-Again-clause-faults g c =
+pub returns-in-Again-clause-step : goal.returns-in-Again-clause-step
+returns-in-Again-clause-step g c =
     let ticked = grown _ _ _ c.tick.ensures.rising.counted in
-    counted_after c.wake.result (g.W.World.tells c.args.world.now).faults (g.W.World.tells c.tick.new.world).faults (g.W.World.tells c.wake.new.world).faults ticked
-    (counted_after c.wake.result (g.W.World.tells c.tick.new.world).faults (g.W.World.tells c.send_all.new.world).faults (g.W.World.tells c.wake.new.world).faults c.in-Again.ensures.faults c.wake.ensures.faults)
+    let after = counted_after c.wake.result (g.W.World.tells c.tick.new.world).faults (g.W.World.tells c.send_all.new.world).faults (g.W.World.tells c.wake.new.world).faults c.in-Again.ensures.step.counted c.wake.ensures.step.counted in
+    record { counted = counted_after c.wake.result (g.W.World.tells c.args.world.now).faults (g.W.World.tells c.tick.new.world).faults (g.W.World.tells c.wake.new.world).faults ticked after; on = c.wake.ensures.step.on }
 
-pub returns-in-Ended-clause-faults : goal.returns-in-Ended-clause-faults
-returns-in-Ended-clause-faults g c =
+pub returns-in-Ended-clause-step : goal.returns-in-Ended-clause-step
+returns-in-Ended-clause-step g c =
     let ticked = grown _ _ _ c.tick.ensures.rising.counted in
-    end_after c.in-Ended.end (g.W.World.tells c.args.world.now).faults (g.W.World.tells c.tick.new.world).faults (g.W.World.tells c.send_all.new.world).faults ticked c.in-Ended.ensures.faults
+    record { counted = end_after c.in-Ended.end (g.W.World.tells c.args.world.now).faults (g.W.World.tells c.tick.new.world).faults (g.W.World.tells c.send_all.new.world).faults ticked c.in-Ended.ensures.step.counted; on = tt }
 
 pub wake-requires-clause-young : goal.wake-requires-clause-young
 wake-requires-clause-young g c = c.in-Again.ensures.young (c.tick.ensures.none, c.tick.ensures.unasked, c.tick.ensures.fresh)

@@ -22,6 +22,6 @@ returns-in-Ended-clause-makes g c config count few =
     (c.in-Ended.ensures.makes config count few))
     (brings_from c.close_all.ensures.makes (λ made all past ended. attends_to config end slirp.forwards (holders_of slirp) made past (ran config ended.0.0 end slirp.forwards (holders_of slirp) past ended.0.1) ended.1 all))
 
-pub returns-in-Ended-clause-faults : goal.returns-in-Ended-clause-faults
-returns-in-Ended-clause-faults g c =
-    end_before c.in-Ended.end (g.W.World.tells c.args.world.now).faults (g.W.World.tells c.take_turn.new.world).faults (g.W.World.tells c.close_all.new.world).faults c.in-Ended.ensures.faults (grown _ _ _ c.close_all.ensures.makes.counted)
+pub returns-in-Ended-clause-step : goal.returns-in-Ended-clause-step
+returns-in-Ended-clause-step g c =
+    record { counted = end_before c.in-Ended.end (g.W.World.tells c.args.world.now).faults (g.W.World.tells c.take_turn.new.world).faults (g.W.World.tells c.close_all.new.world).faults c.in-Ended.ensures.step.counted (grown _ _ _ c.close_all.ensures.makes.counted); on = tt }

@@ -19,5 +19,5 @@ returns-in-Stopped-clause-makes g c config count few = brings_as (c.in-Stopped.e
 pub returns-in-Failed-clause-makes : goal.returns-in-Failed-clause-makes
 returns-in-Failed-clause-makes g c config count few = brings_as (c.in-Failed.ensures.makes config count few) (λ past ended. (ended_as config (count + 1) WaitFailed c.sleep.new.self.slirp.forwards (holders_of c.sleep.new.self.slirp) past ended.0, ended.1))
 
-pub returns-in-Ready-clause-faults : goal.returns-in-Ready-clause-faults
-returns-in-Ready-clause-faults g c = counted_after c.work.result (g.W.World.tells c.args.world.now).faults (g.W.World.tells c.sleep.new.world).faults (g.W.World.tells c.work.new.world).faults c.in-Ready.ensures.counts c.work.ensures.faults
+pub returns-in-Ready-clause-step : goal.returns-in-Ready-clause-step
+returns-in-Ready-clause-step g c = record { counted = counted_after c.work.result (g.W.World.tells c.args.world.now).faults (g.W.World.tells c.sleep.new.world).faults (g.W.World.tells c.work.new.world).faults c.in-Ready.ensures.counts c.work.ensures.step.counted; on = c.work.ensures.step.on }

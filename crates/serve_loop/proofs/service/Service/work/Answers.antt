@@ -47,9 +47,9 @@ returns-in-Ended-clause-makes g c config count =
     (ServesNow config count wants l old.to_read old.self.slirp old.self.link)) next (old.invariant.makes config count) in
     brings_as (brings_then before served) (λ past ended. (ended, tt))
 
-pub returns-in-Ended-clause-faults : goal.returns-in-Ended-clause-faults
-returns-in-Ended-clause-faults g c =
-    end_after c.in-Ended.end (g.W.World.tells c.args.world.now).faults (g.W.World.tells c.loop-place.world).faults (g.W.World.tells c.attend.new.world).faults c.loop-place.invariant.counts c.in-Ended.ensures.faults
+pub returns-in-Ended-clause-step : goal.returns-in-Ended-clause-step
+returns-in-Ended-clause-step g c =
+    record { counted = end_after c.in-Ended.end (g.W.World.tells c.args.world.now).faults (g.W.World.tells c.loop-place.world).faults (g.W.World.tells c.attend.new.world).faults c.loop-place.invariant.counts c.in-Ended.ensures.step.counted; on = tt }
 
 pub loop-place-preserved : goal.loop-place-preserved
 loop-place-preserved g c =
@@ -72,12 +72,12 @@ loop-place-preserved g c =
           subst (λ to_read. Brings (g.W.World.tells c.args.world.now) (g.W.World.tells new.world) (ServesNow config count wants c.args.self.now.ready (is_frame_due wants c.args.self.now.ready) c.args.self.now.slirp c.args.self.now.link)
           (ServesNow config count wants rest to_read new.self.slirp new.self.link)) (sym c.still-to_read.ensures) (brings_then before served);
       reads = λ is. old.invariant.reads (still_reads old.to_read c.item-item.result (sym c.still-to_read.ensures ∙ is));
-      counts = grown_then (g.W.World.tells c.args.world.now).faults (g.W.World.tells old.world).faults (g.W.World.tells new.world).faults old.invariant.counts c.in-Again.ensures.faults;
-      on = c.in-Again.ensures.on;
-      config = c.in-Again.ensures.config ∙ old.invariant.config;
+      counts = grown_then (g.W.World.tells c.args.world.now).faults (g.W.World.tells old.world).faults (g.W.World.tells new.world).faults old.invariant.counts c.in-Again.ensures.step.counted;
+      on = c.in-Again.ensures.step.on;
+      config = c.in-Again.ensures.stays.config ∙ old.invariant.config;
       number = omega (arith, c.in-Again.ensures.number, old.invariant.number);
-      turns = c.in-Again.ensures.turns ∙ old.invariant.turns;
-      reports = (c.in-Again.ensures.reports.0 ∙ old.invariant.reports.0, c.in-Again.ensures.reports.1 ∙ old.invariant.reports.1);
+      turns = c.in-Again.ensures.stays.turn ∙ old.invariant.turns;
+      reports = (c.in-Again.ensures.stays.wants ∙ old.invariant.reports.0, c.in-Again.ensures.stays.ready ∙ old.invariant.reports.1);
       calm = calm_now;
       passed = λ all.
           let before = old.invariant.passed all in

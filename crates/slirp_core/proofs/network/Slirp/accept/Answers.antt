@@ -11,9 +11,9 @@ use Rattle.world_face.specs.declared.Accepted.TheVariants.{From}
 use Rattle.world_face.specs.Tells.{Answers, Brings}
 use Rattle.world_face.proofs.Telling.{brings_none, makes_one, makes_then}
 use Rattle.host_policy.specs.Addresses.{Config}
-use Rattle.core_flows.specs.Seats.{in_use_slots}
+use Rattle.flows_follow.specs.Seats.{in_use_slots}
 use Rattle.record_flows.specs.Book.{book, is_refused}
-use Rattle.spliced_flows.specs.Core.{CoreHolds}
+use Rattle.flows_follow.specs.Core.{CoreHolds}
 use Rattle.run_duties.specs.Serving.{is_left_to_read}
 use Rattle.slirp_core.specs.Holds.{Holds, flowing, standing}
 use Rattle.slirp_core.specs.State.{SlirpState}

@@ -1,6 +1,6 @@
 use Rattle.std.proofs.Common.{refl, subst}
 use Rattle.dns_relay.specs.Questions.{numbers as question_numbers}
-use Rattle.spliced_flows.specs.Core.{number_of}
+use Rattle.flows_follow.specs.Core.{number_of}
 use Rattle.udp_assoc.specs.Associations.{numbers}
 use Rattle.slirp_core.specs.Firsts.{IsFlowFirst, NoFlowFirst}
 use Rattle.slirp_core.specs.Holds.{Holders, carriers, holders_of}

@@ -1,44 +1,97 @@
-use Rattle.std.proofs.Common.{◌≡◌, List, ◌∙◌, subst}
-use Rattle.ether_frame.specs.Ether.{ether_of}
-use Rattle.ipv4_head.specs.Sets.{PartSet, young}
-use Rattle.run_laws.specs.Fragments.{fragment_in, with_fragment}
-use Rattle.slirp_core.specs.Fragments.{IsHeld, after_frame, brought_request, brought_segment, taken_on}
-use Rattle.slirp_core.specs.Packets.{request_for_udp, udp_in}
-use Rattle.slirp_core.specs.Segments.{segment_in}
+use Rattle.std.proofs.Common.{◌≡◌, false, [], Some, None, refl, ap, subst}
+use Rattle.std.specs.Option.{option_and_then}
+use Rattle.world_face.proofs.Telling.{brings_none}
+use Rattle.slirp_core.specs.Datagrams.{datagram_of, errand_of}
+use Rattle.slirp_core.specs.Fragments.{brought_request, brought_segment}
+use Rattle.slirp_core.specs.Holds.{standing}
+use Rattle.slirp_core.specs.Packets.{ToSend, ToServe}
+use Rattle.slirp_core.specs.Segments.{coming_of, request_for, segment_for}
 use Rattle.slirp_core.specs.State.{SlirpState}
-use Rattle.slirp_core.proofs.Taking.{frame_of_packet, request_of_packet, fragment_of_packet, segment_of_packet}
+use Rattle.slirp_core.specs.declared.tcp.Task.{Task}
+use Rattle.slirp_core.proofs.Brought.{asks_then, errand_left, file_left, owes_then, segment_left, segment_then, waits_then}
+use Rattle.slirp_core.proofs.Counted.{grown}
+use Rattle.slirp_core.proofs.Telling.{from_more}
 use Rattle.slirp_core.proofs.network.Slirp.input.Goals as goal
 
-pub returns-then-ether-eq-IPV4-clause-request : goal.returns-then-ether-eq-IPV4-clause-request
-returns-then-ether-eq-IPV4-clause-request c =
-    let i = c.self.inside in
-    let slirp : SlirpState = record { config = i.policy; known = i.guests; sent = i.sent; pending = i.outgoing; moment = i.moment; number = i.number; associations = i.associations.list; questions = i.questions.list; parts = i.reasm; flows = i.flows; leases = i.leases.leases; forwards = i.forwards; transfers = i.files.transfers } in
-    let frame = c.args.frame.now in
-    subst (λ (s : SlirpState). (held : List PartSet) → IsHeld s.parts held → brought_request s.config c.take_ip.result c.take_ip.new.room ≡ request_for_udp s.config (udp_in s.config s.moment (young s.moment held) frame)) c.self.view_is
-    (λ held h. (c.take_ip.ensures.arrives held h).request ∙ request_of_packet slirp c.take_ip.new.self.parts (young slirp.moment held) frame (ether_of c.in-Ok.ether) c.in-Ok.ensures.fields c.if-ether-eq-IPV4.true)
+pub relay-requires-clause-none : goal.relay-requires-clause-none
+relay-requires-clause-none g c = c.in-Some-Errand.ensures.none
 
-pub returns-then-ether-eq-IPV4-clause-segment : goal.returns-then-ether-eq-IPV4-clause-segment
-returns-then-ether-eq-IPV4-clause-segment c =
-    let i = c.self.inside in
-    let slirp : SlirpState = record { config = i.policy; known = i.guests; sent = i.sent; pending = i.outgoing; moment = i.moment; number = i.number; associations = i.associations.list; questions = i.questions.list; parts = i.reasm; flows = i.flows; leases = i.leases.leases; forwards = i.forwards; transfers = i.files.transfers } in
-    let frame = c.args.frame.now in
-    subst (λ (s : SlirpState). (held : List PartSet) → IsHeld s.parts held → brought_segment s.config c.take_ip.result c.take_ip.new.room ≡ segment_in s.config s.moment (young s.moment held) frame) c.self.view_is
-    (λ held h. (c.take_ip.ensures.arrives held h).segment ∙ segment_of_packet slirp c.take_ip.new.self.parts (young slirp.moment held) frame (ether_of c.in-Ok.ether) c.in-Ok.ensures.fields c.if-ether-eq-IPV4.true)
+pub take_segment-requires-clause-none : goal.take_segment-requires-clause-none
+take_segment-requires-clause-none g c = c.in-Some-Segment.ensures.none
 
-pub returns-then-ether-eq-IPV4-clause-changes : goal.returns-then-ether-eq-IPV4-clause-changes
-returns-then-ether-eq-IPV4-clause-changes c =
-    let i = c.self.inside in
-    let slirp : SlirpState = record { config = i.policy; known = i.guests; sent = i.sent; pending = i.outgoing; moment = i.moment; number = i.number; associations = i.associations.list; questions = i.questions.list; parts = i.reasm; flows = i.flows; leases = i.leases.leases; forwards = i.forwards; transfers = i.files.transfers } in
+pub returns-in-Some-Errand-clause-makes : goal.returns-in-Some-Errand-clause-makes
+returns-in-Some-Errand-clause-makes g c config count wants item items link reads_it =
+    let slirp = c.args.self.now in
     let frame = c.args.frame.now in
-    let new = c.take_ip.new.self in
-    subst (λ (s : SlirpState). (held : List PartSet) → IsHeld s.parts held → taken_on new c.take_ip.result c.take_ip.new.room ≡ after_frame s.config s (young s.moment held) new.parts frame) c.self.view_is
-    (λ held h. (c.take_ip.ensures.arrives held h).changes ∙ frame_of_packet slirp new.parts (young slirp.moment held) frame (ether_of c.in-Ok.ether) c.in-Ok.ensures.fields c.if-ether-eq-IPV4.true)
+    let mid = c.take_frame-brought.new.self in
+    let done = c.complete.new.self in
+    let brought = c.take_frame-brought.result in
+    let room = c.take_frame-brought.new.room in
+    let settings : mid.config ≡ slirp.config = ap (λ (s : SlirpState). s.config) c.take_frame-brought.ensures.others in
+    let parts : done.parts ≡ mid.parts = ap (λ (s : SlirpState). s.parts) c.in-Some-Errand.ensures.others in
+    let owes = owes_then slirp mid done frame brought room c.in-Some-Errand.ensures.changes parts c.take_frame-brought.ensures.changes in
+    let waits = waits_then slirp mid done frame brought room parts c.take_frame-brought.ensures.parts in
+    let asks = subst (λ (t : Task). option_and_then request_for (Some t) ≡ brought_request mid.config brought room) c.in-Some-Errand.field-0-is c.in-Some-Errand.ensures.request in
+    let brings = subst (λ (t : Task). option_and_then segment_for (Some t) ≡ brought_segment mid.config brought room) c.in-Some-Errand.field-0-is c.in-Some-Errand.ensures.segment in
+    let errand = errand_of c.in-Some-Errand.errand in
+    from_more _ _ _ _ _ (errand_left config count wants item items reads_it slirp done link frame c.requires.none owes waits (Some (ToSend errand)) refl
+    (asks_then slirp mid done frame brought room (Some (ToSend errand)) settings asks c.take_frame-brought.ensures.request)
+    (segment_then slirp mid done frame brought room None settings brings c.take_frame-brought.ensures.segment))
+    (c.relay.ensures.makes config (standing count wants items) false link)
 
-pub returns-then-ether-eq-IPV4-clause-parts : goal.returns-then-ether-eq-IPV4-clause-parts
-returns-then-ether-eq-IPV4-clause-parts c =
-    let i = c.self.inside in
-    let slirp : SlirpState = record { config = i.policy; known = i.guests; sent = i.sent; pending = i.outgoing; moment = i.moment; number = i.number; associations = i.associations.list; questions = i.questions.list; parts = i.reasm; flows = i.flows; leases = i.leases.leases; forwards = i.forwards; transfers = i.files.transfers } in
+pub returns-in-Some-File-clause-makes : goal.returns-in-Some-File-clause-makes
+returns-in-Some-File-clause-makes g c config count wants item items link reads_it =
+    let slirp = c.args.self.now in
     let frame = c.args.frame.now in
-    let new = c.take_ip.new.self in
-    subst (λ (s : SlirpState). (held : List PartSet) → IsHeld s.parts held → IsHeld new.parts (with_fragment s.moment (fragment_in s.config frame) held)) c.self.view_is
-    (λ held h. subst (λ o. IsHeld new.parts (with_fragment slirp.moment o held)) (fragment_of_packet slirp new.parts (young slirp.moment held) frame (ether_of c.in-Ok.ether) c.in-Ok.ensures.fields c.if-ether-eq-IPV4.true) (c.take_ip.ensures.arrives held h).parts)
+    let mid = c.take_frame-brought.new.self in
+    let done = c.complete.new.self in
+    let brought = c.take_frame-brought.result in
+    let room = c.take_frame-brought.new.room in
+    let settings : mid.config ≡ slirp.config = ap (λ (s : SlirpState). s.config) c.take_frame-brought.ensures.others in
+    let parts : done.parts ≡ mid.parts = ap (λ (s : SlirpState). s.parts) c.in-Some-File.ensures.others in
+    let owes = owes_then slirp mid done frame brought room c.in-Some-File.ensures.changes parts c.take_frame-brought.ensures.changes in
+    let waits = waits_then slirp mid done frame brought room parts c.take_frame-brought.ensures.parts in
+    let asks = subst (λ (t : Task). option_and_then request_for (Some t) ≡ brought_request mid.config brought room) c.in-Some-File.field-0-is c.in-Some-File.ensures.request in
+    let brings = subst (λ (t : Task). option_and_then segment_for (Some t) ≡ brought_segment mid.config brought room) c.in-Some-File.field-0-is c.in-Some-File.ensures.segment in
+    let d = datagram_of c.in-Some-File.datagram in
+    from_more _ _ _ _ _ (file_left config count wants item items reads_it slirp done link frame c.requires.none owes waits d
+    (asks_then slirp mid done frame brought room (Some (ToServe d)) settings asks c.take_frame-brought.ensures.request))
+    (c.take_file.ensures.makes config (standing count wants items) link)
+
+pub returns-in-Some-Segment-clause-makes : goal.returns-in-Some-Segment-clause-makes
+returns-in-Some-Segment-clause-makes g c config count wants item items link reads_it =
+    let slirp = c.args.self.now in
+    let frame = c.args.frame.now in
+    let mid = c.take_frame-brought.new.self in
+    let done = c.complete.new.self in
+    let brought = c.take_frame-brought.result in
+    let room = c.take_frame-brought.new.room in
+    let settings : mid.config ≡ slirp.config = ap (λ (s : SlirpState). s.config) c.take_frame-brought.ensures.others in
+    let parts : done.parts ≡ mid.parts = ap (λ (s : SlirpState). s.parts) c.in-Some-Segment.ensures.others in
+    let owes = owes_then slirp mid done frame brought room c.in-Some-Segment.ensures.changes parts c.take_frame-brought.ensures.changes in
+    let waits = waits_then slirp mid done frame brought room parts c.take_frame-brought.ensures.parts in
+    let asks = subst (λ (t : Task). option_and_then request_for (Some t) ≡ brought_request mid.config brought room) c.in-Some-Segment.field-0-is c.in-Some-Segment.ensures.request in
+    let brings = subst (λ (t : Task). option_and_then segment_for (Some t) ≡ brought_segment mid.config brought room) c.in-Some-Segment.field-0-is c.in-Some-Segment.ensures.segment in
+    let coming = coming_of c.in-Some-Segment.segment in
+    from_more _ _ _ _ _ (segment_left config count wants item items reads_it slirp done link frame c.requires.none owes waits coming
+    (segment_then slirp mid done frame brought room (Some coming) settings brings c.take_frame-brought.ensures.segment))
+    (c.take_segment.ensures.makes config (standing count wants items) link)
+
+pub returns-in-None-clause-makes : goal.returns-in-None-clause-makes
+returns-in-None-clause-makes g c config count wants item items link reads_it =
+    let slirp = c.args.self.now in
+    let frame = c.args.frame.now in
+    let mid = c.take_frame-brought.new.self in
+    let done = c.complete.new.self in
+    let brought = c.take_frame-brought.result in
+    let room = c.take_frame-brought.new.room in
+    let settings : mid.config ≡ slirp.config = ap (λ (s : SlirpState). s.config) c.take_frame-brought.ensures.others in
+    let parts : done.parts ≡ mid.parts = ap (λ (s : SlirpState). s.parts) c.in-None.ensures.others in
+    let owes = owes_then slirp mid done frame brought room c.in-None.ensures.changes parts c.take_frame-brought.ensures.changes in
+    let waits = waits_then slirp mid done frame brought room parts c.take_frame-brought.ensures.parts in
+    brings_none (λ past came. errand_left config count wants item items reads_it slirp done link frame c.requires.none owes waits None refl
+    (asks_then slirp mid done frame brought room None settings c.in-None.ensures.request c.take_frame-brought.ensures.request)
+    (segment_then slirp mid done frame brought room None settings c.in-None.ensures.segment c.take_frame-brought.ensures.segment) past came)
+
+pub returns-in-Some-Errand-clause-counts : goal.returns-in-Some-Errand-clause-counts
+returns-in-Some-Errand-clause-counts g c = grown _ _ _ (c.relay.ensures.makes c.args.self.now.config (standing 0 [] []) false (record { octets = []; whole = false; tail = []; blocked = false })).counted

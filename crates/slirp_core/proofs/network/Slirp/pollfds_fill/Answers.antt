@@ -4,7 +4,7 @@ use Rattle.dns_relay.specs.Questions.{numbers as question_numbers}
 use Rattle.poll_list.specs.declared.Want.{Want}
 use Rattle.world_face.specs.Journal.{Entry}
 use Rattle.host_policy.specs.Addresses.{Config}
-use Rattle.spliced_flows.specs.Core.{CoreHolds}
+use Rattle.flows_follow.specs.Core.{CoreHolds}
 use Rattle.tcp_flows.specs.Reading.{AreWantsOf}
 use Rattle.tcp_flows.specs.Waits.{AreWaitedFor}
 use Rattle.udp_assoc.specs.Associations.{numbers}

@@ -2,13 +2,13 @@ use Rattle.std.proofs.Common.{[], ◌≡◌, ◌∙◌, ℕ, None, true, ap, ref
 use Rattle.world_face.proofs.Counting.{rose_after}
 use Rattle.world_face.proofs.Telling.{brings_none, brings_then}
 use Rattle.std.specs.Prelude.{false}
-use Rattle.spliced_flows.specs.Core.{CoreHolds}
+use Rattle.flows_follow.specs.Core.{CoreHolds}
 use Rattle.tcp_flows.specs.Kept.{Kept}
 use Rattle.tcp_flows.specs.Reading.{AreTold}
 use Rattle.tcp_flows.specs.Settled.{ConnectYet, IsInTime}
 use Rattle.slirp_core.specs.Holds.{Leaves, standing}
 use Rattle.slirp_core.specs.State.{SlirpState}
-use Rattle.slirp_core.specs.declared.sending.Pumped.{Pumped}
+use Rattle.stream_netdev.specs.declared.Pumped.{Pumped}
 use Rattle.slirp_core.proofs.Counted.{grown}
 use Rattle.slirp_core.proofs.Connecting.{connect_then}
 use Rattle.slirp_core.proofs.Settling.{pumped_settled}

@@ -1,7 +1,7 @@
 use Rattle.std.proofs.Common.{ℕ, List, ◌∷◌, ◌++◌, drop, ◌∙◌, ap, sym, subst}
 use Rattle.slirp_core.specs.Holds.{AfterPump, flowing}
 use Rattle.slirp_core.proofs.Telling.{brings_allowed}
-use Rattle.slirp_core.specs.Pumps.{pumped_of}
+use Rattle.stream_netdev.specs.Offers.{pumped_of}
 use Rattle.slirp_core.specs.State.{SlirpState}
 use Rattle.slirp_core.proofs.Pumping.{after_offer}
 use Rattle.slirp_core.proofs.network.Slirp.pump_next.Goals as goal

@@ -1,7 +1,7 @@
 use Rattle.std.proofs.Common.{length, ◌<◌, ◌∙◌, ap, arith}
 use Rattle.slirp_core.specs.Holds.{flowing}
 use Rattle.slirp_core.proofs.Telling.{brings_allowed}
-use Rattle.slirp_core.specs.Pumps.{pumped_of}
+use Rattle.stream_netdev.specs.Offers.{pumped_of}
 use Rattle.slirp_core.proofs.Pumping.{after_flush}
 use Rattle.slirp_core.proofs.network.Slirp.pump_rest.Goals as goal
 

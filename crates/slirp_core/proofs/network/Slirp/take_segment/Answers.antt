@@ -6,8 +6,8 @@ use Rattle.world_face.proofs.Telling.{makes_next}
 use Rattle.host_policy.specs.Addresses.{Config}
 use Rattle.slirp_laws.specs.Answers.{frames_of, reset_for}
 use Rattle.udp_assoc.proofs.Below.{below_up}
-use Rattle.core_flows.specs.Seats.{in_use_slots}
-use Rattle.spliced_flows.specs.Stands.{lot_without}
+use Rattle.flows_follow.specs.Seats.{in_use_slots}
+use Rattle.flows_follow.specs.Stands.{lot_without}
 use Rattle.tcp_flows.specs.Kept.{Kept}
 use Rattle.tcp_flows.specs.Runs.{Hears}
 use Rattle.tcp_flows.specs.declared.guest.Heard.TheVariants.{Alone}
@@ -28,8 +28,8 @@ returns-in-Taken-clause-makes g c config at link =
     let i = c.self.inside in
     let slirp : SlirpState = record { config = i.policy; known = i.guests; sent = i.sent; pending = i.outgoing; moment = i.moment; number = i.number; associations = i.associations.list; questions = i.questions.list; parts = i.reasm; flows = i.flows; leases = i.leases.leases; forwards = i.forwards; transfers = i.files.transfers } in
     let coming = coming_of c.args.came.now in
-    let new = c.segment.new.self in
-    subst (λ (s : SlirpState). Brings (g.W.World.tells c.args.world.now) (g.W.World.tells c.segment.new.world) (Comes config at s s.flows link coming) (Holds config at (record slirp { flows = new }) (flowing false new) link)) c.self.view_is
+    let new = c.take_segment.new.self in
+    subst (λ (s : SlirpState). Brings (g.W.World.tells c.args.world.now) (g.W.World.tells c.take_segment.new.world) (Comes config at s s.flows link coming) (Holds config at (record slirp { flows = new }) (flowing false new) link)) c.self.view_is
     (brings_allowed c.in-Taken.ensures.makes (λ made hears allowed past comes.
     flows_put config at slirp new (flowing false new) link _ (heard_taken config at slirp i.flows link coming past comes made new allowed hears)))
 
@@ -39,8 +39,8 @@ returns-in-Strange-clause-makes g c config at link =
     let i = c.self.inside in
     let slirp : SlirpState = record { config = i.policy; known = i.guests; sent = i.sent; pending = i.outgoing; moment = i.moment; number = i.number; associations = i.associations.list; questions = i.questions.list; parts = i.reasm; flows = i.flows; leases = i.leases.leases; forwards = i.forwards; transfers = i.files.transfers } in
     let coming = coming_of c.args.came.now in
-    let new = c.segment.new.self in
-    subst (λ (s : SlirpState). Brings (g.W.World.tells c.args.world.now) (g.W.World.tells c.segment.new.world) (Comes config at s s.flows link coming) (Holds config at c.turn_away.new.self (flowing false c.turn_away.new.self.flows) link)) c.self.view_is
+    let new = c.take_segment.new.self in
+    subst (λ (s : SlirpState). Brings (g.W.World.tells c.args.world.now) (g.W.World.tells c.take_segment.new.world) (Comes config at s s.flows link coming) (Holds config at c.turn_away.new.self (flowing false c.turn_away.new.self.flows) link)) c.self.view_is
     (brings_allowed c.in-Strange.ensures.makes (λ made hears allowed past comes.
     subst (λ (s : SlirpState). Holds config at s (flowing false s.flows) link (made ++ past)) (sym c.turn_away.ensures)
     (flows_put config at _ new (flowing false new) link _ (heard_strange config at slirp i.flows link coming past comes made new allowed hears))))
@@ -51,8 +51,8 @@ returns-in-Dropped-clause-makes g c config at link =
     let i = c.self.inside in
     let slirp : SlirpState = record { config = i.policy; known = i.guests; sent = i.sent; pending = i.outgoing; moment = i.moment; number = i.number; associations = i.associations.list; questions = i.questions.list; parts = i.reasm; flows = i.flows; leases = i.leases.leases; forwards = i.forwards; transfers = i.files.transfers } in
     let coming = coming_of c.args.came.now in
-    let new = c.segment.new.self in
-    subst (λ (s : SlirpState). Brings (g.W.World.tells c.args.world.now) (g.W.World.tells c.segment.new.world) (Comes config at s s.flows link coming) (Holds config at (record slirp { flows = new }) (flowing false new) link)) c.self.view_is
+    let new = c.take_segment.new.self in
+    subst (λ (s : SlirpState). Brings (g.W.World.tells c.args.world.now) (g.W.World.tells c.take_segment.new.world) (Comes config at s s.flows link coming) (Holds config at (record slirp { flows = new }) (flowing false new) link)) c.self.view_is
     (brings_allowed c.in-Alone.ensures.makes (λ made hears allowed past comes.
     flows_put config at slirp new (flowing false new) link _
     (alone_dropped config at slirp i.flows link coming past comes made new allowed hears (ap (λ (k : Config). lot_without k (nat_lt (in_use_slots new.flows.table.slots) (length new.flows.table.slots)) coming.on) (sym comes.guests.settings) ∙ sym c.in-Dropped.ensures))))
@@ -63,8 +63,8 @@ returns-in-Reset-clause-makes g c config at link =
     let i = c.self.inside in
     let slirp : SlirpState = record { config = i.policy; known = i.guests; sent = i.sent; pending = i.outgoing; moment = i.moment; number = i.number; associations = i.associations.list; questions = i.questions.list; parts = i.reasm; flows = i.flows; leases = i.leases.leases; forwards = i.forwards; transfers = i.files.transfers } in
     let coming = coming_of c.args.came.now in
-    let new = c.segment.new.self in
-    subst (λ (s : SlirpState). Brings (g.W.World.tells c.args.world.now) (g.W.World.tells c.segment.new.world) (Comes config at s s.flows link coming) (Holds config at c.turn_away-in-Reset.new.self (flowing false c.turn_away-in-Reset.new.self.flows) link)) c.self.view_is
+    let new = c.take_segment.new.self in
+    subst (λ (s : SlirpState). Brings (g.W.World.tells c.args.world.now) (g.W.World.tells c.take_segment.new.world) (Comes config at s s.flows link coming) (Holds config at c.turn_away-in-Reset.new.self (flowing false c.turn_away-in-Reset.new.self.flows) link)) c.self.view_is
     (brings_allowed c.in-Alone.ensures.makes (λ made hears allowed past comes.
     subst (λ (s : SlirpState). Holds config at s (flowing false s.flows) link (made ++ past)) (sym c.turn_away-in-Reset.ensures)
     (flows_put config at _ new (flowing false new) link _
@@ -80,7 +80,7 @@ returns-in-Done-clause-makes g c config at link =
     let i = c.self.inside in
     let slirp : SlirpState = record { config = i.policy; known = i.guests; sent = i.sent; pending = i.outgoing; moment = i.moment; number = i.number; associations = i.associations.list; questions = i.questions.list; parts = i.reasm; flows = i.flows; leases = i.leases.leases; forwards = i.forwards; transfers = i.files.transfers } in
     let coming = coming_of c.args.came.now in
-    let new = c.segment.new.self in
+    let new = c.take_segment.new.self in
     let to = c.in-Connects.to in
     let begun = c.begin.new.self in
     let e = Connect i.number to Done in
@@ -101,7 +101,7 @@ returns-in-Failed-clause-makes g c config at link =
     let i = c.self.inside in
     let slirp : SlirpState = record { config = i.policy; known = i.guests; sent = i.sent; pending = i.outgoing; moment = i.moment; number = i.number; associations = i.associations.list; questions = i.questions.list; parts = i.reasm; flows = i.flows; leases = i.leases.leases; forwards = i.forwards; transfers = i.files.transfers } in
     let coming = coming_of c.args.came.now in
-    let new = c.segment.new.self in
+    let new = c.take_segment.new.self in
     let to = c.in-Connects.to in
     let e = Connect i.number to Failed in
     let P : List Entry → Type 0 = Hears slirp.moment i.flows new coming.on.tuple coming.tcp Alone in
@@ -127,14 +127,14 @@ pub begin-requires-clause-none : goal.begin-requires-clause-none
 begin-requires-clause-none g c = c.in-Alone.ensures.none refl
 
 pub begin-requires-clause-above : goal.begin-requires-clause-above
-begin-requires-clause-above g c = (drawn_stay c.self.inside.number c.self.inside.flows c.segment.new.self c.in-Alone.ensures.stays c.self.invariant.3).below
+begin-requires-clause-above g c = (drawn_stay c.self.inside.number c.self.inside.flows c.take_segment.new.self c.in-Alone.ensures.stays c.self.invariant.3).below
 
 -- ---- what is kept keeps its invariants
 
 pub invariant_of-self-in-Reset : goal.invariant_of-self-in-Reset
 invariant_of-self-in-Reset g c =
     let i = c.self.inside in
-    (c.self.invariant.0, c.self.invariant.1, c.self.invariant.2, drawn_stay i.number i.flows c.segment.new.self c.in-Alone.ensures.stays c.self.invariant.3, c.self.invariant.4, c.self.invariant.5, c.self.invariant.6, c.self.invariant.7)
+    (c.self.invariant.0, c.self.invariant.1, c.self.invariant.2, drawn_stay i.number i.flows c.take_segment.new.self c.in-Alone.ensures.stays c.self.invariant.3, c.self.invariant.4, c.self.invariant.5, c.self.invariant.6, c.self.invariant.7)
 
 pub invariant_of-self-in-Failed : goal.invariant_of-self-in-Failed
 invariant_of-self-in-Failed g c =
@@ -142,7 +142,7 @@ invariant_of-self-in-Failed g c =
       below_up i.number i.associations.list c.self.invariant.0,
       c.self.invariant.1,
       c.self.invariant.2,
-      drawn_up i.number (i.number + 1) c.segment.new.self (omega arith) (drawn_stay i.number i.flows c.segment.new.self c.in-Alone.ensures.stays c.self.invariant.3),
+      drawn_up i.number (i.number + 1) c.take_segment.new.self (omega arith) (drawn_stay i.number i.flows c.take_segment.new.self c.in-Alone.ensures.stays c.self.invariant.3),
       c.self.invariant.4,
       c.self.invariant.5,
       asked_up i.number (i.number + 1) i.policy i.questions (omega arith) c.self.invariant.6,
@@ -155,7 +155,7 @@ invariant_of-self-in-Done g c =
       below_up i.number i.associations.list c.self.invariant.0,
       c.self.invariant.1,
       c.self.invariant.2,
-      drawn_begun i.number c.segment.new.self c.begin.new.self c.begin.ensures.slots c.begin.ensures.opened c.begin.ensures.numbers (drawn_stay i.number i.flows c.segment.new.self c.in-Alone.ensures.stays c.self.invariant.3),
+      drawn_begun i.number c.take_segment.new.self c.begin.new.self c.begin.ensures.slots c.begin.ensures.opened c.begin.ensures.numbers (drawn_stay i.number i.flows c.take_segment.new.self c.in-Alone.ensures.stays c.self.invariant.3),
       c.self.invariant.4,
       c.self.invariant.5,
       asked_up i.number (i.number + 1) i.policy i.questions (omega arith) c.self.invariant.6,
@@ -167,40 +167,40 @@ invariant_of-self-in-Done g c =
 pub returns-in-Taken-clause-marks : goal.returns-in-Taken-clause-marks
 returns-in-Taken-clause-marks g c =
     let i = c.self.inside in
-    subst (λ (s : SlirpState). KeepsMarks s.number s.flows c.segment.new.self) c.self.view_is
-    (marks_stay i.number i.flows c.segment.new.self c.in-Taken.ensures.served c.in-Taken.ensures.turn c.in-Taken.ensures.stays)
+    subst (λ (s : SlirpState). KeepsMarks s.number s.flows c.take_segment.new.self) c.self.view_is
+    (marks_stay i.number i.flows c.take_segment.new.self c.in-Taken.ensures.served c.in-Taken.ensures.turn c.in-Taken.ensures.stays)
 
 pub returns-in-Strange-clause-marks : goal.returns-in-Strange-clause-marks
 returns-in-Strange-clause-marks g c =
     let i = c.self.inside in
     subst (λ (s : SlirpState). KeepsMarks s.number s.flows c.turn_away.new.self.flows) c.self.view_is
     (subst (λ (k : Kept). KeepsMarks i.number i.flows k) (sym (ap (λ (s : SlirpState). s.flows) c.turn_away.ensures))
-    (marks_stay i.number i.flows c.segment.new.self c.in-Strange.ensures.served c.in-Strange.ensures.turn c.in-Strange.ensures.stays))
+    (marks_stay i.number i.flows c.take_segment.new.self c.in-Strange.ensures.served c.in-Strange.ensures.turn c.in-Strange.ensures.stays))
 
 pub returns-in-Dropped-clause-marks : goal.returns-in-Dropped-clause-marks
 returns-in-Dropped-clause-marks g c =
     let i = c.self.inside in
-    subst (λ (s : SlirpState). KeepsMarks s.number s.flows c.segment.new.self) c.self.view_is
-    (marks_stay i.number i.flows c.segment.new.self c.in-Alone.ensures.served c.in-Alone.ensures.turn c.in-Alone.ensures.stays)
+    subst (λ (s : SlirpState). KeepsMarks s.number s.flows c.take_segment.new.self) c.self.view_is
+    (marks_stay i.number i.flows c.take_segment.new.self c.in-Alone.ensures.served c.in-Alone.ensures.turn c.in-Alone.ensures.stays)
 
 pub returns-in-Reset-clause-marks : goal.returns-in-Reset-clause-marks
 returns-in-Reset-clause-marks g c =
     let i = c.self.inside in
     subst (λ (s : SlirpState). KeepsMarks s.number s.flows c.turn_away-in-Reset.new.self.flows) c.self.view_is
     (subst (λ (k : Kept). KeepsMarks i.number i.flows k) (sym (ap (λ (s : SlirpState). s.flows) c.turn_away-in-Reset.ensures))
-    (marks_stay i.number i.flows c.segment.new.self c.in-Alone.ensures.served c.in-Alone.ensures.turn c.in-Alone.ensures.stays))
+    (marks_stay i.number i.flows c.take_segment.new.self c.in-Alone.ensures.served c.in-Alone.ensures.turn c.in-Alone.ensures.stays))
 
 pub returns-in-Done-clause-marks : goal.returns-in-Done-clause-marks
 returns-in-Done-clause-marks g c =
     let i = c.self.inside in
     subst (λ (s : SlirpState). KeepsMarks s.number s.flows c.begin.new.self) c.self.view_is
-    (marks_then i.number i.number i.flows c.segment.new.self c.begin.new.self (omega arith)
-    (marks_stay i.number i.flows c.segment.new.self c.in-Alone.ensures.served c.in-Alone.ensures.turn c.in-Alone.ensures.stays)
-    (marks_begun i.number c.segment.new.self c.begin.new.self c.begin.ensures.served c.begin.ensures.turn c.begin.ensures.numbers))
+    (marks_then i.number i.number i.flows c.take_segment.new.self c.begin.new.self (omega arith)
+    (marks_stay i.number i.flows c.take_segment.new.self c.in-Alone.ensures.served c.in-Alone.ensures.turn c.in-Alone.ensures.stays)
+    (marks_begun i.number c.take_segment.new.self c.begin.new.self c.begin.ensures.served c.begin.ensures.turn c.begin.ensures.numbers))
 
 pub returns-in-Failed-clause-marks : goal.returns-in-Failed-clause-marks
 returns-in-Failed-clause-marks g c =
     let i = c.self.inside in
     subst (λ (s : SlirpState). KeepsMarks s.number s.flows c.turn_away-in-Failed.new.self.flows) c.self.view_is
     (subst (λ (k : Kept). KeepsMarks i.number i.flows k) (sym (ap (λ (s : SlirpState). s.flows) c.turn_away-in-Failed.ensures))
-    (marks_stay i.number i.flows c.segment.new.self c.in-Alone.ensures.served c.in-Alone.ensures.turn c.in-Alone.ensures.stays))
+    (marks_stay i.number i.flows c.take_segment.new.self c.in-Alone.ensures.served c.in-Alone.ensures.turn c.in-Alone.ensures.stays))

@@ -1,7 +1,7 @@
 use Rattle.std.proofs.Common.{List, ◌++◌, None, false, true, ap, subst, sym}
 use Rattle.world_face.specs.Tells.{Brings, Makes}
 use Rattle.world_face.proofs.Telling.{makes_as}
-use Rattle.spliced_flows.specs.Core.{CoreHolds}
+use Rattle.flows_follow.specs.Core.{CoreHolds}
 use Rattle.tcp_flows.specs.Runs.{ClosesRising}
 use Rattle.tcp_flows.specs.Reading.{AreTold}
 use Rattle.tcp_flows.specs.Settled.{OwesNoAck}

@@ -1,7 +1,7 @@
 use Rattle.std.proofs.Common.{ℕ, ◌-◌, Bool, List, Option, None, Some, true, ap, refl, subst}
 use Rattle.world_face.specs.Journal.{Entry}
 use Rattle.host_policy.specs.Addresses.{Config}
-use Rattle.spliced_flows.specs.Core.{CoreHolds}
+use Rattle.flows_follow.specs.Core.{CoreHolds}
 use Rattle.slirp_core.specs.State.{SlirpState}
 use Rattle.slirp_core.specs.Timeouts.{SuitsFlows}
 use Rattle.slirp_core.proofs.Bounding.{suits_after, suits_due}

@@ -5,7 +5,7 @@ use Rattle.flow_table.specs.Slots.{NoneHas}
 use Rattle.flow_table.specs.declared.Slot.TheVariants.{InUse as SlotInUse}
 use Rattle.flow_table.specs.declared.Tuple.{Tuple}
 use Rattle.flow_splice.specs.Splice.{Splice, is_in_use}
-use Rattle.spliced_flows.specs.Stands.{slot_at}
+use Rattle.flows_follow.specs.Stands.{slot_at}
 use Rattle.tcp_flows.specs.Kept.{Kept, part_of, slot_of}
 use Rattle.tcp_flows.specs.Reading.{NoneUses}
 use Rattle.tcp_flows.proofs.Hearing.{tuple_back}

@@ -3,8 +3,8 @@ use Rattle.std.proofs.lemmas.List.{length-set, map-set}
 use Rattle.std.proofs.lemmas.Option.{slice_get_within}
 use Rattle.tcp_transmit.specs.Transmission.{octets_read}
 use Rattle.flow_splice.specs.Splice.{Splice}
-use Rattle.spliced_flows.specs.Core.{ends_of}
-use Rattle.spliced_flows.proofs.Options.{some_same}
+use Rattle.flows_follow.specs.Core.{ends_of}
+use Rattle.flows_follow.proofs.Options.{some_same}
 use Rattle.tcp_flows.specs.Kept.{Kept, part_of}
 use Rattle.tcp_flows.specs.Reading.{learnt_from}
 use Rattle.tcp_flows.specs.Rows.{table_at}

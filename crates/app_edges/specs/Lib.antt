@@ -1,0 +1,4 @@
+pub mod Fetching
+pub mod Statuses
+pub mod Texts
+pub mod Writers

@@ -1,0 +1,13 @@
+//! Where the program meets its outside: a schedule is read from a file, the record of a run is put, and what the program came to is told.
+#![tactic(auto)]
+
+mod fetching;
+mod gathering;
+mod record;
+mod status;
+mod std_sink;
+
+pub use fetching::{Unread, read_file};
+pub use record::put_record;
+pub use status::Outcome;
+pub use std_sink::StdSink;

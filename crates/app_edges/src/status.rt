@@ -1,0 +1,166 @@
+// The statuses of the program, and their texts.
+#![tactic(auto, using(replay::proofs::Putting::puts_then, replay::proofs::Putting::puts_failed, replay::proofs::Putting::added_none))]
+
+ghost use Rattle.std.specs.Prelude.{◌≡◌, ◌++◌, [], codes, decimal};
+ghost use Rattle.replay.specs.Names.{name_text};
+ghost use Rattle.world_face.specs.Puts.{Puts};
+ghost use Rattle.app_edges.specs.Statuses.{code_of};
+ghost use Rattle.app_edges.specs.Texts.{text_of, told_text, wanted_text};
+ghost use Rattle.app_edges.specs.declared.status.Outcome.TheVariants.{Diverged as IsDiverged};
+
+use host_policy::Field;
+use itoa::Buffer;
+use replay::{CallName, Divergence};
+use world_face::{Failed, Sink};
+
+/// What the program came to.
+#[derive(Clone, Copy)]
+pub enum Outcome {
+    Done,
+    Usage,
+    /// This field of the settings isn't in its range.
+    BadConfig(Field),
+    ScheduleRead,
+    /// Each line has a reading, but the room for stars passes its limit.
+    ScheduleTooLarge,
+    ScheduleLine(u64),
+    Diverged(Divergence),
+    FrameTooLong(u32),
+    FrameCut(usize),
+    LinkFault,
+    WaitFault,
+    TurnsSpent(u64),
+    /// The host refused the forward with this number, counted from 0.
+    ListenRefused(usize),
+    SinkFault,
+    NoMemory,
+}
+
+impl Outcome {
+    /// The status with which the program ends.
+    pub fn code(&self) -> u8
+        ensures { result ≡ code_of self.now }
+    {
+        match self {
+            Outcome::Done => 0,
+            Outcome::Usage => 1,
+            Outcome::BadConfig(_) => 2,
+            Outcome::ScheduleRead | Outcome::ScheduleTooLarge => 3,
+            Outcome::ScheduleLine(_) => 4,
+            Outcome::Diverged(_) => 5,
+            Outcome::FrameTooLong(_) => 6,
+            Outcome::FrameCut(_) => 7,
+            Outcome::LinkFault => 8,
+            Outcome::WaitFault => 9,
+            Outcome::TurnsSpent(_) => 10,
+            Outcome::ListenRefused(_) => 11,
+            Outcome::SinkFault => 12,
+            Outcome::NoMemory => 13,
+        }
+    }
+
+    /// Puts the text that tells it, with a line feed. There is none where all went well or a sink failed.
+    pub fn tell<E: Sink>(&self, err: &mut E) -> Result<(), Failed>
+        ensures text { Puts (E.holds err.old) (E.holds err.new) (E.faults err.old) (E.faults err.new) (told_text self.now) result }
+        ensures silent { text_of self.now ≡ [] → (E.holds err.new ≡ E.holds err.old) × (E.faults err.new ≡ E.faults err.old) }
+    {
+        match self {
+            Outcome::Done | Outcome::SinkFault => Ok(()),
+            Outcome::Usage => err.put(USAGE),
+            Outcome::BadConfig(field) => {
+                tell_named(err, b"slirpd: config: ", field.name(), b"\n")
+            }
+            Outcome::ScheduleRead | Outcome::ScheduleTooLarge => {
+                err.put(b"slirpd: schedule cannot be read\n")
+            }
+            Outcome::ScheduleLine(line) => tell_number(
+                err,
+                b"slirpd: schedule line ",
+                *line,
+                b"\n",
+            ),
+            Outcome::Diverged(divergence) => tell_divergence(err, *divergence),
+            Outcome::FrameTooLong(length) => tell_number(
+                err,
+                b"slirpd: frame of ",
+                *length as u64,
+                b" octets\n",
+            ),
+            Outcome::FrameCut(octets) => tell_number(
+                err,
+                b"slirpd: link ended inside a frame, ",
+                *octets as u64,
+                b" octets\n",
+            ),
+            Outcome::LinkFault => err.put(b"slirpd: link fault\n"),
+            Outcome::WaitFault => err.put(b"slirpd: wait fault\n"),
+            Outcome::TurnsSpent(turns) => tell_number(err, b"slirpd: ", *turns, b" turns spent\n"),
+            Outcome::ListenRefused(forward) => tell_number(
+                err,
+                b"slirpd: forward ",
+                *forward as u64,
+                b" refused\n",
+            ),
+            Outcome::NoMemory => err.put(b"slirpd: out of memory\n"),
+        }
+    }
+}
+
+const USAGE: &[u8] =
+    b"usage: slirpd serve --link AT [OPTIONS] [RULE]... | replay FILE [OPTIONS] [RULE]... | drive NUMBER OCTETS\n";
+
+// A name between two texts.
+fn tell_named<E: Sink>(err: &mut E, before: &[u8], name: &str, after: &[u8]) -> Result<(), Failed>
+    ensures { Puts (E.holds err.old) (E.holds err.new) (E.faults err.old) (E.faults err.new) (before.now ++ name.now ++ after.now) result }
+{
+    err.put(before)?;
+    err.put(name.as_bytes())?;
+    err.put(after)
+}
+
+// A number between two texts.
+fn tell_number<E: Sink>(err: &mut E, before: &[u8], number: u64, after: &[u8]) -> Result<(), Failed>
+    ensures { Puts (E.holds err.old) (E.holds err.new) (E.faults err.old) (E.faults err.new) (before.now ++ decimal number ++ after.now) result }
+{
+    let mut digits = Buffer::new();
+    err.put(before)?;
+    err.put(digits.format(number).as_bytes())?;
+    err.put(after)
+}
+
+fn tell_divergence<E: Sink>(err: &mut E, divergence: Divergence) -> Result<(), Failed>
+    ensures { Puts (E.holds err.old) (E.holds err.new) (E.faults err.old) (E.faults err.new) (told_text (IsDiverged divergence)) result }
+{
+    tell_number(
+        err,
+        b"slirpd: diverged at line ",
+        divergence.line,
+        b": made ",
+    )?;
+    put_name(err, divergence.made)?;
+    tell_wanted(err, divergence.wanted)?;
+    err.put(b"\n")
+}
+
+// The call of the line that stands next, if one is left.
+fn tell_wanted<E: Sink>(err: &mut E, wanted: Option<CallName>) -> Result<(), Failed>
+    ensures { Puts (E.holds err.old) (E.holds err.new) (E.faults err.old) (E.faults err.new) (wanted_text wanted) result }
+{
+    match wanted {
+        Some(wanted) => tell_name(err, wanted),
+        None => err.put(b", no line left"),
+    }
+}
+
+fn tell_name<E: Sink>(err: &mut E, wanted: CallName) -> Result<(), Failed>
+    ensures { Puts (E.holds err.old) (E.holds err.new) (E.faults err.old) (E.faults err.new) (codes ", schedule has " ++ name_text wanted) result }
+{
+    err.put(b", schedule has ")?;
+    put_name(err, wanted)
+}
+
+fn put_name<E: Sink>(err: &mut E, call: CallName) -> Result<(), Failed>
+    ensures { Puts (E.holds err.old) (E.holds err.new) (E.faults err.old) (E.faults err.new) (name_text call) result }
+{
+    err.put(call.name().as_bytes())
+}

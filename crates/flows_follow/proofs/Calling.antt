@@ -1,0 +1,256 @@
+-- Calls on the socket of a flow: each may come, and is the flow's event.
+use Rattle.std.proofs.Common.{◌≡◌, ℕ, ◌&&◌, ◌||◌, not, Bool, true, false, List, [], ◌∷◌, ◌++◌, is_some, MatchOption, Option, Some, None, if◌then◌else◌, IsTrue, inl, inr, refl, sym, ◌∙◌, ap, subst}
+use Rattle.poll_list.specs.Listing.{reads, writes}
+use Rattle.poll_list.specs.declared.Who.TheVariants.{Tcp}
+use Rattle.world_face.specs.Journal.{Entry, Call, Close, CallConnected, CallTcpRead, CallTcpWrite, CallTcpEnd, CallClose}
+use Rattle.host_policy.specs.Addresses.{Config}
+use Rattle.run_laws.specs.Moments.{moment}
+use Rattle.run_laws.specs.Shape.{Phase, due_in, is_ended, is_over, is_working, phase}
+use Rattle.run_laws.specs.Sockets.{Kind, Association, DnsSocket, Forward, Listener, Flow as AFlow, is_among, is_flow, kind_of, next_number, open_sockets}
+use Rattle.flow_laws.specs.Event.{Segment, Event, Closes, At, Story}
+use Rattle.flow_laws.specs.Close.{connects_too_long, ended_first, finds_no_guest, follows_reset, gives_up, host_failed, is_done, newest_rst, rests_since}
+use Rattle.flow_laws.specs.Flow.{is_closed}
+use Rattle.flow_laws.specs.Lawful.{Act, AskConnected, Write, EndHost, Read, HasCause, May as MayOfOne}
+use Rattle.flow_laws.specs.Dutiful.{Must as MustOfOne, MustClose, read_size}
+use Rattle.record_flows.specs.Book.{after_close as rests_after, book, rest, scene, turned}
+use Rattle.record_flows.specs.Doings.{Calls, Shuts, doing}
+use Rattle.record_flows.specs.Flows.{Flow, closing, comes_directly, fails, flow_of, guest_is_known, shuts, with_event}
+use Rattle.record_flows.specs.Laws.{AsksForRoom, ClosesAtOnce, MayAct, MayFlow, MayShut, MayTouch, MustAct, MustTouch, NoneMustClose, flow_settings}
+use Rattle.record_flows.specs.Lots.{due_by, due_for_flows}
+use Rattle.record_flows.specs.Said.{Differ}
+use Rattle.record_flows.proofs.Apart.{own_call, own_close}
+use Rattle.flows_follow.specs.Only.{IsOf}
+use Rattle.flows_follow.proofs.Only.{number_of_found, only_happens}
+use Rattle.flows_follow.proofs.Seats.{owner_id, same_or_not}
+use Rattle.slirp_laws.specs.Agenda.{agenda}
+use Rattle.slirp_laws.specs.Asking.{step, step_of}
+use Rattle.slirp_laws.specs.Datagrams.{due_for}
+use Rattle.slirp_laws.specs.Laws.{May, MayDue, due, due_for_services, has_just_written, is_closing, is_least, joins, may_leave, may_part, parts, unless_due}
+use Rattle.slirp_laws.specs.Names.{kind_for}
+use Rattle.slirp_laws.proofs.Sorts.{same_flow}
+use Rattle.slirp_laws.proofs.Bools.{and_both, first_of, second_of}
+use Rattle.slirp_laws.proofs.Deeds.{any_one, closes, gathered, this_one}
+use Rattle.flow_splice.specs.Splice.{Face}
+use Rattle.flows_follow.specs.Stands.{HasFlow, InWork, close_if, with_rest}
+use Rattle.flows_follow.proofs.Options.{some_same}
+
+-- ---- what is due
+
+-- in a turn in which no datagram asks for a call, flows alone do
+pub due_is : (config : Config) (past : List Entry) → InWork config past → due config past ≡ due_for_flows config (book config past) (next_number past)
+due_is config past work =
+    let flows = due_for_flows config (book config past) (next_number past) in
+    let services = due_for_services config past in
+    ap (λ (p : Phase). unless_due (due_in p past) (unless_due (due_for config (step config past) (next_number past)) (unless_due services flows))) work.working
+    ∙ ap (λ e. unless_due (due_for config (step_of config past e) (next_number past)) (unless_due services flows)) work.errand
+    ∙ ap (λ o. unless_due o flows) work.services
+
+module _ (config : Config) (face : Face) (f : Flow) (past : List Entry) (work : InWork config past) (has : HasFlow config face f past) where
+  -- after a call that failed the close is due, and else nothing
+  pub close_due : due config past ≡ close_if (host_failed f.story) face.number
+  close_due = due_is config past work ∙ has.due
+
+  none_due : host_failed f.story ≡ false → due config past ≡ None
+  none_due well = close_due ∙ ap (λ b. close_if b face.number) well
+
+  flows_due : host_failed f.story ≡ false → due_for_flows config (book config past) (next_number past) ≡ None
+  flows_due well = has.due ∙ ap (λ b. close_if b face.number) well
+
+  on_yet : (not (is_closing config past) || false) ≡ true
+  on_yet = ap (λ (c : Bool). not c || false) work.open_yet
+
+  working : is_working (phase config past) ≡ true
+  working = ap is_working work.working
+
+  -- where this flow needn't be closed none must be
+  pub none_must_close : (MustClose f.story → ⊥) → NoneMustClose config past
+  none_must_close stay number g found must = elim (same_or_not number face.number) [
+    | inl same ↦ stay (subst (λ (h : Flow). MustClose h.story) (some_same g f (sym (ap (λ n. flow_of n (book config past).flows) (sym same) ∙ found) ∙ has.found)) must)
+    | inr other ↦ has.others number g other found must
+  ]
+
+  -- the flows' sentence, of a call on the socket that isn't a close
+  flows_let : (call : Call) (act : Act) → host_failed f.story ≡ false → (MustClose f.story → ⊥) → (MayAct (flow_settings config) (moment past) (flow_of face.number (book config past).flows) act → MayTouch config past call)
+      → (MustAct (flow_settings config) (moment past) (flow_of face.number (book config past).flows) act → MustTouch config past call)
+      → MayOfOne (flow_settings config) f.story (moment past) act → MustOfOne (flow_settings config) f.story (moment past) act → MayFlow config past call
+  flows_let call act well stay touch so may must = record {
+    due = subst (λ o. MatchOption o (Unit {0}) (λ d. call ≡ d)) (sym (flows_due well)) tt;
+    touches = touch (subst (λ o. MayAct (flow_settings config) (moment past) o act) (sym has.found) may);
+    must = so (subst (λ o. MustAct (flow_settings config) (moment past) o act) (sym has.found) must);
+    at_once = λ number g found closes. absurd (none_must_close stay number g found closes);
+  }
+
+  -- each of them may come where the story allows it and the report is there
+  pub may_look : MayOfOne (flow_settings config) f.story (moment past) AskConnected → MustOfOne (flow_settings config) f.story (moment past) AskConnected → writes (Tcp face.number) (agenda past) ≡ true → May config past (CallConnected face.number)
+  may_look may must reported =
+      gathered config past (CallConnected face.number) tt (any_one config past (CallConnected face.number) (none_due may.closes_after_failure)) working (has.socket may.calls_open_socket) reported refl on_yet
+      (flows_let (CallConnected face.number) AskConnected may.closes_after_failure must.closes_after_reset (λ m. m) (λ m. m) may must)
+
+  pub may_give : (octets : List ℕ) → MayOfOne (flow_settings config) f.story (moment past) (Write octets) → MustOfOne (flow_settings config) f.story (moment past) (Write octets) → writes (Tcp face.number) (agenda past) ≡ true → May config past (CallTcpWrite face.number octets)
+  may_give octets may must reported =
+      gathered config past (CallTcpWrite face.number octets) tt (any_one config past (CallTcpWrite face.number octets) (none_due may.closes_after_failure)) working (has.socket may.calls_open_socket) reported refl on_yet
+      (flows_let (CallTcpWrite face.number octets) (Write octets) may.closes_after_failure must.closes_after_reset (λ m. m) (λ m. m) may must)
+
+  pub may_end : MayOfOne (flow_settings config) f.story (moment past) EndHost → MustOfOne (flow_settings config) f.story (moment past) EndHost → (writes (Tcp face.number) (agenda past) || has_just_written face.number past) ≡ true → May config past (CallTcpEnd face.number)
+  may_end may must reported =
+      gathered config past (CallTcpEnd face.number) tt (any_one config past (CallTcpEnd face.number) (none_due may.closes_after_failure)) working (has.socket may.calls_open_socket) reported refl on_yet
+      (flows_let (CallTcpEnd face.number) EndHost may.closes_after_failure must.closes_after_reset (λ m. m) (λ m. m) may must)
+
+  pub may_take : (asked : ℕ) → asked ≡ read_size (flow_settings config) f.story → MayOfOne (flow_settings config) f.story (moment past) Read → MustOfOne (flow_settings config) f.story (moment past) Read → reads (Tcp face.number) (agenda past) ≡ true → May config past (CallTcpRead face.number asked)
+  may_take asked size may must reported =
+      gathered config past (CallTcpRead face.number asked) tt (any_one config past (CallTcpRead face.number asked) (none_due may.closes_after_failure)) working (has.socket may.calls_open_socket) reported refl on_yet
+      (flows_let (CallTcpRead face.number asked) Read may.closes_after_failure must.closes_after_reset (λ m. m) (λ m. (m, subst (λ o. AsksForRoom (flow_settings config) o asked) (sym has.found) size)) may must)
+
+  -- ---- what the record has of the flow then
+
+  -- an event that closes nothing
+  pub record IsCall (ev : Event) : Type 0 where
+    pub failed : (m : ℕ) (story : Story) → host_failed (At m ev ∷ story) ≡ fails ev
+    pub closed : (m : ℕ) (story : Story) → is_closed (At m ev ∷ story) ≡ is_closed story
+    pub rests : (m : ℕ) (story : Story) → rests_since (At m ev ∷ story) ≡ rests_since story
+
+  due_after : (t : Bool) (number : ℕ) → due_by (if t then Some face.number else None) None number ≡ close_if t face.number
+  due_after true number = refl
+  due_after false number = refl
+
+  pub after_call : (e : Entry) (ev : Event) → doing config past e ≡ Calls face.number ev → IsCall ev → joins (e ∷ past) face.number ≡ joins past face.number → Differ (book config past).flows
+      → HasFlow config face (with_event (moment past) ev f) (e ∷ past)
+  after_call e ev is call same differ =
+      let new : book config (e ∷ past) ≡ turned config (scene config past) (Calls face.number ev) (book config past) = ap (λ d. turned config (scene config past) d (book config past)) is in
+      let only = only_happens config (scene config past) face.number (book config past) differ (doing config past e) (subst (IsOf face.number (book config past)) (sym is) refl) in
+      record {
+        found = ap (λ b. flow_of face.number b.flows) new ∙ own_call config (scene config past) (book config past) face.number ev f has.found;
+        guest = has.guest;
+        other = has.other;
+        owned = owner_id f.tuple (book config (e ∷ past)).flows (book config past).flows only.same ∙ has.owned;
+        socket = λ open_yet. same ∙ has.socket (sym (call.closed (moment past) f.story) ∙ open_yet);
+        due = ap (λ b. due_for_flows config b (next_number (e ∷ past))) new ∙ due_after (fails ev) (next_number (e ∷ past)) ∙ ap (λ t. close_if t face.number) (sym (call.failed (moment past) f.story));
+        others = λ number g other found. has.others number g other (sym (only.apart number other) ∙ found);
+      }
+
+  -- ---- a close
+
+  kind_is : (o : Option Kind) → is_flow o ≡ true → o ≡ Some AFlow
+  kind_is None is = cc
+  kind_is (Some Association) is = cc
+  kind_is (Some DnsSocket) is = cc
+  kind_is (Some Forward) is = cc
+  kind_is (Some Listener) is = cc
+  kind_is (Some AFlow) is = refl
+
+  some_rst : (o : Option Segment) (P : Segment → Type 0) → MatchOption o ⊥ P → is_some o ≡ true
+  some_rst None P is = absurd is
+  some_rst (Some seg) P is = refl
+
+  -- the cause of a close, as a test
+  by_first : (a h g r d : Bool) → IsTrue (a || false || h || g) → (a || h || g || r || d) ≡ true
+  by_first true h g r d is = refl
+  by_first false true g r d is = refl
+  by_first false false true r d is = refl
+  by_first false false false r d is = cc
+
+  by_second : (a h g r d : Bool) → IsTrue r → (a || h || g || r || d) ≡ true
+  by_second true h g r d is = refl
+  by_second false true g r d is = refl
+  by_second false false true r d is = refl
+  by_second false false false true d is = refl
+  by_second false false false false d is = cc
+
+  by_third : (a h g r d : Bool) → d ≡ true → (a || h || g || r || d) ≡ true
+  by_third true h g r d is = refl
+  by_third false true g r d is = refl
+  by_third false false true r d is = refl
+  by_third false false false true d is = refl
+  by_third false false false false d is = is
+
+  pub may_leave_then : HasCause (comes_directly (book config past).came f) false (guest_is_known (scene config past) f) (moment past) f.story
+      → may_leave (scene config past) (book config past) face.number (Some f) ≡ true
+  may_leave_then cause = by cause
+    where
+      a : Bool
+      a = is_done f.story
+
+      h : Bool
+      h = host_failed f.story
+
+      g : Bool
+      g = finds_no_guest (guest_is_known (scene config past) f) (moment past) f.story
+
+      r : Bool
+      r = not (follows_reset (comes_directly (book config past).came f) f.story) && (gives_up (moment past) f.story || connects_too_long (moment past) f.story)
+
+      d : Bool
+      d = comes_directly (book config past).came f && is_some (newest_rst f.story)
+
+      by : HasCause (comes_directly (book config past).came f) false (guest_is_known (scene config past) f) (moment past) f.story → (a || h || g || r || d) ≡ true
+      by (inl first) = by_first a h g r d first
+      by (inr (inl second)) = by_second a h g r d second
+      by (inr (inr third)) = by_third a h g r d (and_both (comes_directly (book config past).came f) (is_some (newest_rst f.story)) third.0 (some_rst (newest_rst f.story) _ third.1))
+
+  module _ (cause : HasCause (comes_directly (book config past).came f) false (guest_is_known (scene config past) f) (moment past) f.story) (open_yet : is_closed f.story ≡ false) where
+    -- the socket is one that may part, so this close isn't the first of the closing
+    pub may_part_then : parts config past face.number ≡ true
+    may_part_then =
+        ap (may_part config past face.number)
+        (kind_is (kind_for config face.number past) (same_flow config face.number past ∙ second_of (is_among face.number (open_sockets past)) (is_flow (kind_of face.number past)) (has.socket open_yet)))
+        ∙ ap (may_leave (scene config past) (book config past) face.number) has.found
+        ∙ may_leave_then cause
+
+    closes_it : (closing part ended least : Bool) → closing ≡ false → part ≡ true → (if closing then least else part || (ended && least)) ≡ true
+    closes_it true part ended least none is = cc
+    closes_it false true ended least none is = refl
+    closes_it false false ended least none is = cc
+
+    close_is_due : (b : Bool) → host_failed f.story ≡ b → MayDue config past (CallClose face.number)
+    close_is_due true is = this_one config past (CallClose face.number) (close_due ∙ ap (λ t. close_if t face.number) is)
+    close_is_due false is = any_one config past (CallClose face.number) (none_due is)
+
+    flows_close : (b : Bool) → host_failed f.story ≡ b → MatchOption (due_for_flows config (book config past) (next_number past)) (Unit {0}) (λ d. CallClose face.number ≡ d)
+    flows_close true is = subst (λ o. MatchOption o (Unit {0}) (λ d. CallClose face.number ≡ d)) (sym (has.due ∙ ap (λ t. close_if t face.number) is)) refl
+    flows_close false is = subst (λ o. MatchOption o (Unit {0}) (λ d. CallClose face.number ≡ d)) (sym (flows_due is)) tt
+
+    -- it alone may be the one that must be closed
+    closes_only : ClosesAtOnce config past (CallClose face.number)
+    closes_only number g found must = elim (same_or_not number face.number) [
+      | inl same ↦ ap CallClose (sym same)
+      | inr other ↦ absurd (has.others number g other found must)
+    ]
+
+    pub may_shut : MayOfOne (flow_settings config) f.story (moment past) (closing (scene config past) (book config past).came f) → May config past (CallClose face.number)
+    may_shut may =
+        closes config past face.number (close_is_due (host_failed f.story) refl) (ap (λ p. is_working p || is_over p) work.working)
+        (and_both (is_among face.number (open_sockets past)) _ (first_of (is_among face.number (open_sockets past)) (is_flow (kind_of face.number past)) (has.socket open_yet))
+        (closes_it (is_closing config past) (parts config past face.number) (is_ended config past) (is_least face.number (open_sockets past)) work.open_yet may_part_then))
+        (record { due = flows_close (host_failed f.story) refl; touches = subst (MayShut (flow_settings config) (scene config past) (book config past).came) (sym has.found) may; must = tt; at_once = closes_only })
+
+  -- the record has it closed then, and it asks for nothing
+  pub after_close : Differ (book config past).flows → HasFlow config face (shuts (scene config past) (book config past).came f) (Close face.number ∷ past)
+  after_close differ =
+      let only = only_happens config (scene config past) face.number (book config past) differ (Shuts face.number) refl in
+      record {
+        found = own_close config (scene config past) (book config past) face.number f has.found;
+        guest = has.guest;
+        other = has.other;
+        owned = owner_id f.tuple (book config (Close face.number ∷ past)).flows (book config past).flows only.same ∙ has.owned;
+        socket = λ open_yet. cc;
+        due = refl;
+        others = λ number g other found. has.others number g other (sym (only.apart number other) ∙ found);
+      }
+
+  -- and it is the last of those that rest, where its story says that it rests
+  by_rest : (b : Bool) (now : ℕ) → f.number ≡ face.number → (if is_some (if b then Some now else None) then (book config past).rests ++ rest f.number now ∷ [] else (book config past).rests)
+      ≡ with_rest (if b then Some now else None) face.number (book config past).rests
+  by_rest true now number = ap (λ n. (book config past).rests ++ rest n now ∷ []) number
+  by_rest false now number = refl
+
+  pub rests_closed : Differ (book config past).flows → (now : ℕ) (directly ended known : Bool) → moment past ≡ now → shuts (scene config past) (book config past).came f ≡ with_event now (Closes directly ended known) f
+      → (book config (Close face.number ∷ past)).rests ≡ with_rest (rests_since (At now (Closes directly ended known) ∷ f.story)) face.number (book config past).rests
+  rests_closed differ now directly ended known at shuts_is =
+      ap (λ m. rests_after m (flow_of face.number (book config (Close face.number ∷ past)).flows) (book config past).rests) at
+      ∙ ap (λ o. rests_after now o (book config past).rests) ((after_close differ).found ∙ ap Some shuts_is)
+      ∙ by_rest (is_done f.story && not (follows_reset directly f.story) && ended_first f.story) now (number_of_found face.number (book config past).flows f has.found)
+
+  -- and if so, since now
+  pub since_now : (b : Bool) (now m : ℕ) → (if b then Some now else None) ≡ Some m → m ≡ now
+  since_now true now m is = cc
+  since_now false now m is = cc

@@ -1,0 +1,144 @@
+-- A segment of a flow comes: it is the flow's event, and after it the flow is closed or nothing is called; and so at a tick.
+use Rattle.std.proofs.Common.{◌≡◌, ℕ, ◌==◌, ◌||◌, Bool, true, false, cond, List, [], ◌∷◌, ◌++◌, Option, Some, None, option_map, if◌then◌else◌, ◌⊎◌, inl, inr, refl, sym, ◌∙◌, ap, subst}
+use Rattle.net_octets.specs.declared.Mac.{Mac}
+use Rattle.world_face.specs.Journal.{Entry, Close, CallConnect}
+use Rattle.host_policy.specs.Addresses.{Config}
+use Rattle.host_policy.specs.Targets.{same_endpoint}
+use Rattle.flow_table.specs.declared.Tuple.{Tuple}
+use Rattle.run_laws.specs.Happenings.{Arrival, happens}
+use Rattle.run_laws.specs.Moments.{moment}
+use Rattle.run_laws.specs.Sockets.{next_number}
+use Rattle.flow_laws.specs.Event.{Event, Arrives, Closes, At, Story}
+use Rattle.flow_laws.specs.Close.{is_in_use}
+use Rattle.flow_laws.specs.Lawful.{HasCause}
+use Rattle.record_flows.specs.Book.{book, scene, turned}
+use Rattle.record_flows.specs.Doings.{Comes, comes, doing, doing_by}
+use Rattle.record_flows.specs.Flows.{Flow, Book, came_on, comes_directly, flow_of, is_on, is_resting, is_used, owner, tell, uses, with_event}
+use Rattle.record_flows.specs.Laws.{flow_settings}
+use Rattle.record_flows.specs.Lots.{Lot, OfFlow, asked_for, due_for_flows, lot}
+use Rattle.record_flows.specs.Said.{Differ}
+use Rattle.record_flows.specs.Segments.{OnTuple, same_tuple, segment_came}
+use Rattle.record_flows.specs.Touching.{has_number}
+use Rattle.record_flows.proofs.Apart.{own_arrival}
+use Rattle.flows_follow.specs.Only.{IsOf, Only}
+use Rattle.flows_follow.proofs.Only.{number_of_found, only_happens}
+use Rattle.flows_follow.proofs.Seats.{owner_id}
+use Rattle.slirp_laws.specs.Agenda.{agenda}
+use Rattle.slirp_laws.specs.Laws.{joins}
+use Rattle.slirp_laws.proofs.Bools.{and_both, or_second, same}
+use Rattle.slirp_laws.proofs.Longest.{same_port}
+use Rattle.flow_splice.specs.Splice.{Face}
+use Rattle.flow_splice.specs.Entries.{AreEvents}
+use Rattle.flow_splice.specs.Shapes.{is_at_most_a_close}
+use Rattle.flows_follow.specs.Core.{ends_of}
+use Rattle.flows_follow.specs.Stands.{HasFlow, IsInOrder}
+use Rattle.flows_follow.proofs.Hosting.{Called, Ready, none_made, or_first, shut_it}
+use Rattle.flows_follow.proofs.Writing.{ends_are, owner_is}
+
+-- ---- a segment comes
+
+-- a segment that came is what the entry is to flows
+pub comes_by : (config : Config) (past : List Entry) (e : Entry) (on : OnTuple) → segment_came (happens config past e).came ≡ Some on → doing config past e ≡ Comes on
+comes_by config past e on is = by (happens config past e).came is
+  where
+    by : (came : Option Arrival) → segment_came came ≡ Some on → doing_by came (happens config past e).went (happens config past e).call ≡ Comes on
+    by None is = cc
+    by (Some arrival) is = ap comes is
+
+-- the owner of two ends has the event
+owner_told : (now : ℕ) (ev : Event) (t : Tuple) (f : Flow) (flows : List Flow) → owner t flows ≡ Some f → owner t (tell (is_on t) (with_event now ev) flows) ≡ Some (with_event now ev f)
+owner_told now ev t f [] is = cc
+owner_told now ev t f (g ∷ flows) is = by (is_on t g) refl is (owner_told now ev t f flows)
+  where
+    by : (b : Bool) → is_on t g ≡ b → cond b (Some g) (owner t flows) ≡ Some f → (owner t flows ≡ Some f → owner t (tell (is_on t) (with_event now ev) flows) ≡ Some (with_event now ev f))
+        → owner t (if b then with_event now ev g ∷ flows else g ∷ tell (is_on t) (with_event now ev) flows) ≡ Some (with_event now ev f)
+    by true on is rest = ap (λ c. cond c (Some (with_event now ev g)) (owner t flows)) on ∙ ap (option_map (with_event now ev)) is
+    by false off is rest = ap (λ c. cond c (Some g) (owner t (tell (is_on t) (with_event now ev) flows))) off ∙ rest is
+
+same_ends : (t : Tuple) → same_tuple t t ≡ true
+same_ends t = and_both (same_endpoint t.guest t.guest) (same_endpoint t.other t.other) (same_port t.guest) (same_port t.other)
+
+module _ (config : Config) (face : Face) (f : Flow) (past : List Entry) (e : Entry) (on : OnTuple) (has : HasFlow config face f past) (differ : Differ (book config past).flows)
+    (is : doing config past e ≡ Comes on) (ends : on.tuple ≡ ends_of face) where
+  -- the flow, with the segment
+  abbrev pub after : Flow
+  after = with_event (moment past) (Arrives on.segment) f
+
+  abbrev then_book : Book
+  then_book = turned config (scene config past) (Comes on) (book config past)
+
+  new : book config (e ∷ past) ≡ then_book
+  new = ap (λ d. turned config (scene config past) d (book config past)) is
+
+  number : f.number ≡ face.number
+  number = number_of_found face.number (book config past).flows f has.found
+
+  owner_here : owner on.tuple (book config past).flows ≡ Some f
+  owner_here = ap (λ t. owner t (book config past).flows) ends ∙ owner_is config face f past has differ
+
+  of_segment : IsOf face.number (book config past) (Comes on)
+  of_segment = ap (has_number face.number) owner_here ∙ ap (λ m. m == face.number) number ∙ same face.number
+
+  -- it is of this flow
+  pub of_arrival : IsOf face.number (book config past) (doing config past e)
+  of_arrival = subst (IsOf face.number (book config past)) (sym is) of_segment
+
+  only : Only face.number (book config past).flows (book config (e ∷ past)).flows
+  only = only_happens config (scene config past) face.number (book config past) differ (doing config past e) of_arrival
+
+  owner_then : owner on.tuple then_book.flows ≡ Some after
+  owner_then = owner_told (moment past) (Arrives on.segment) on.tuple f (book config past).flows owner_here
+
+  -- it came directly before
+  pub came_directly : comes_directly (book config (e ∷ past)).came after ≡ true
+  came_directly = ap (λ b. came_on f.tuple b.came) new ∙ ap (λ t. same_tuple t f.tuple) (ends ∙ sym (ends_are config face f past has)) ∙ same_ends f.tuple
+
+  -- a segment of a flow that is in use or rests asks for nothing
+  none_asked : (is_in_use f.story ≡ true) ⊎ (is_resting on.tuple (book config (e ∷ past)) ≡ true) → asked_for (lot config then_book on) ≡ None
+  none_asked why = by (is_used on.tuple then_book.flows || is_resting on.tuple then_book) _ (either why)
+    where
+      by : (b : Bool) (other : Lot) → b ≡ true → asked_for (if b then OfFlow else other) ≡ None
+      by true other is = refl
+      by false other is = cc
+
+      either : (is_in_use f.story ≡ true) ⊎ (is_resting on.tuple (book config (e ∷ past)) ≡ true) → (is_used on.tuple then_book.flows || is_resting on.tuple then_book) ≡ true
+      either (inl in_use) = or_first (is_used on.tuple then_book.flows) (is_resting on.tuple then_book) (ap uses owner_then ∙ in_use)
+      either (inr rests) = or_second (is_used on.tuple then_book.flows) (is_resting on.tuple then_book) (ap (is_resting on.tuple) (sym new) ∙ rests)
+
+  -- the record has the flow with it
+  pub after_arrival : joins (e ∷ past) face.number ≡ joins past face.number → (is_in_use f.story ≡ true) ⊎ (is_resting on.tuple (book config (e ∷ past)) ≡ true) → HasFlow config face after (e ∷ past)
+  after_arrival same_socket why = record {
+    found = ap (λ b. flow_of face.number b.flows) new
+        ∙ subst (λ m. flow_of m then_book.flows ≡ Some after) number
+        (own_arrival config (scene config past) (book config past) on f owner_here (subst (λ m. flow_of m (book config past).flows ≡ Some f) (sym number) has.found));
+    guest = has.guest;
+    other = has.other;
+    owned = owner_id f.tuple (book config (e ∷ past)).flows (book config past).flows only.same ∙ has.owned;
+    socket = λ open_yet. same_socket ∙ has.socket open_yet;
+    due = ap (λ b. due_for_flows config b (next_number (e ∷ past))) new ∙ ap (option_map (CallConnect (next_number (e ∷ past)))) (none_asked why);
+    others = λ m g other found. has.others m g other (sym (only.apart m other) ∙ found);
+  }
+
+-- ---- it is closed, or nothing is called
+
+module _ (config : Config) (face : Face) (mac : Option Mac) (f : Flow) (past : List Entry) (ident now : ℕ) (directly ended known : Bool) where
+  abbrev Makes : List Entry → Story → Type 0
+  Makes made beats = AreEvents (flow_settings config) face mac directly ended known ident now f.story made beats
+
+  module _ (ready : Ready config face f past now ended known) (came : comes_directly (book config past).came f ≡ directly) where
+    -- after a segment of the flow, or at a tick
+    pub closes_or_not : (made : List Entry) (beats : Story) → is_at_most_a_close made ≡ true → Makes made beats → IsInOrder (flow_settings config) (beats ++ f.story) → Called config face f past now ended known made beats
+    closes_or_not [] beats is are lawful = subst (Called config face f past now ended known []) (sym are) (none_made config face f past now ended known ready)
+    closes_or_not (Close socket ∷ []) beats is (rest, none, (number, is_beats, cause)) lawful =
+        let now_none : beats ≡ At now (Closes directly ended known) ∷ [] = is_beats ∙ ap (λ r. At now (Closes directly ended known) ∷ r) none in
+        let now_lawful = subst (λ b. IsInOrder (flow_settings config) (b ++ f.story)) now_none lawful in
+        subst (λ n. Called config face f past now ended known (Close n ∷ []) beats) (sym number)
+        (subst (Called config face f past now ended known (Close face.number ∷ [])) (sym now_none)
+        (shut_it config face f past now ended known [] [] (none_made config face f past now ended known ready) directly came (subst (λ r. HasCause directly false known now (r ++ f.story)) none cause) now_lawful.0.0))
+    closes_or_not (_ ∷ made) beats is are lawful = absurd cc
+
+  -- the reports are as they were
+  pub same_reports : (made : List Entry) → is_at_most_a_close made ≡ true → agenda (made ++ past) ≡ agenda past
+  same_reports [] is = refl
+  same_reports (Close socket ∷ []) is = refl
+  same_reports (_ ∷ made) is = absurd cc

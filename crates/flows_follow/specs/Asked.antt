@@ -1,0 +1,24 @@
+-- How often the guests of accepted flows were asked for, against what each flow has asked.
+use Rattle.std.specs.Prelude.{◌≡◌, ℕ, ◌+◌, ◌≤◌, List, [], ◌∷◌, map, slice_get, Option, Some}
+use Rattle.world_face.specs.Journal.{Entry}
+use Rattle.host_policy.specs.Addresses.{Config}
+use Rattle.record_flows.specs.Book.{book}
+use Rattle.record_flows.specs.Flows.{Flow}
+use Rattle.slirp_laws.specs.Sending.{accepted_for, requests, times}
+use Rattle.flow_splice.specs.Splice.{Splice}
+use Rattle.flows_follow.specs.Core.{number_of}
+
+abbrev pub sum_of : (ℕ → ℕ) → List ℕ → ℕ
+sum_of asks [] = 0
+sum_of asks (n ∷ ns) = asks n + sum_of asks ns
+
+-- the numbers of the flows that were accepted for a guest
+abbrev pub accepted_numbers : ℕ → List Flow → List ℕ
+accepted_numbers guest flows = map (λ (f : Flow). f.number) (accepted_for guest flows)
+
+-- Each flow that was accepted asked so often, nine times at most, and no part less often than it counts; and no guest was asked for more often than its flows did in all.
+pub record AreAsked (config : Config) (parts : List (Option Splice)) (past : List Entry) : Type 0 where
+  pub asks : ℕ → ℕ
+  pub few : (n : ℕ) → asks n ≤ 9
+  pub own : (k : ℕ) (p : Splice) → slice_get parts k ≡ Some (Some p) → asks (number_of p) ≤ p.asked
+  pub counted : (guest : ℕ) → times guest (requests config past) ≤ sum_of asks (accepted_numbers guest (book config past).flows)

@@ -1,0 +1,44 @@
+use Rattle.std.proofs.Common.{◌≡◌, List, ◌∙◌, subst}
+use Rattle.ether_frame.specs.Ether.{ether_of}
+use Rattle.ipv4_head.specs.Sets.{PartSet, young}
+use Rattle.run_laws.specs.Fragments.{fragment_in, with_fragment}
+use Rattle.slirp_core.specs.Fragments.{IsHeld, after_frame, brought_request, brought_segment, taken_on}
+use Rattle.slirp_core.specs.Packets.{request_for_udp, udp_in}
+use Rattle.slirp_core.specs.Segments.{segment_in}
+use Rattle.slirp_core.specs.State.{SlirpState}
+use Rattle.slirp_core.proofs.Taking.{frame_of_packet, request_of_packet, fragment_of_packet, segment_of_packet}
+use Rattle.slirp_core.proofs.network.Slirp.take_frame.Goals as goal
+
+pub returns-then-ether-eq-IPV4-clause-request : goal.returns-then-ether-eq-IPV4-clause-request
+returns-then-ether-eq-IPV4-clause-request c =
+    let i = c.self.inside in
+    let slirp : SlirpState = record { config = i.policy; known = i.guests; sent = i.sent; pending = i.outgoing; moment = i.moment; number = i.number; associations = i.associations.list; questions = i.questions.list; parts = i.reasm; flows = i.flows; leases = i.leases.leases; forwards = i.forwards; transfers = i.files.transfers } in
+    let frame = c.args.frame.now in
+    subst (λ (s : SlirpState). (held : List PartSet) → IsHeld s.parts held → brought_request s.config c.take_ip.result c.take_ip.new.room ≡ request_for_udp s.config (udp_in s.config s.moment (young s.moment held) frame)) c.self.view_is
+    (λ held h. (c.take_ip.ensures.arrives held h).request ∙ request_of_packet slirp c.take_ip.new.self.parts (young slirp.moment held) frame (ether_of c.in-Ok.ether) c.in-Ok.ensures.fields c.if-ether-eq-IPV4.true)
+
+pub returns-then-ether-eq-IPV4-clause-segment : goal.returns-then-ether-eq-IPV4-clause-segment
+returns-then-ether-eq-IPV4-clause-segment c =
+    let i = c.self.inside in
+    let slirp : SlirpState = record { config = i.policy; known = i.guests; sent = i.sent; pending = i.outgoing; moment = i.moment; number = i.number; associations = i.associations.list; questions = i.questions.list; parts = i.reasm; flows = i.flows; leases = i.leases.leases; forwards = i.forwards; transfers = i.files.transfers } in
+    let frame = c.args.frame.now in
+    subst (λ (s : SlirpState). (held : List PartSet) → IsHeld s.parts held → brought_segment s.config c.take_ip.result c.take_ip.new.room ≡ segment_in s.config s.moment (young s.moment held) frame) c.self.view_is
+    (λ held h. (c.take_ip.ensures.arrives held h).segment ∙ segment_of_packet slirp c.take_ip.new.self.parts (young slirp.moment held) frame (ether_of c.in-Ok.ether) c.in-Ok.ensures.fields c.if-ether-eq-IPV4.true)
+
+pub returns-then-ether-eq-IPV4-clause-changes : goal.returns-then-ether-eq-IPV4-clause-changes
+returns-then-ether-eq-IPV4-clause-changes c =
+    let i = c.self.inside in
+    let slirp : SlirpState = record { config = i.policy; known = i.guests; sent = i.sent; pending = i.outgoing; moment = i.moment; number = i.number; associations = i.associations.list; questions = i.questions.list; parts = i.reasm; flows = i.flows; leases = i.leases.leases; forwards = i.forwards; transfers = i.files.transfers } in
+    let frame = c.args.frame.now in
+    let new = c.take_ip.new.self in
+    subst (λ (s : SlirpState). (held : List PartSet) → IsHeld s.parts held → taken_on new c.take_ip.result c.take_ip.new.room ≡ after_frame s.config s (young s.moment held) new.parts frame) c.self.view_is
+    (λ held h. (c.take_ip.ensures.arrives held h).changes ∙ frame_of_packet slirp new.parts (young slirp.moment held) frame (ether_of c.in-Ok.ether) c.in-Ok.ensures.fields c.if-ether-eq-IPV4.true)
+
+pub returns-then-ether-eq-IPV4-clause-parts : goal.returns-then-ether-eq-IPV4-clause-parts
+returns-then-ether-eq-IPV4-clause-parts c =
+    let i = c.self.inside in
+    let slirp : SlirpState = record { config = i.policy; known = i.guests; sent = i.sent; pending = i.outgoing; moment = i.moment; number = i.number; associations = i.associations.list; questions = i.questions.list; parts = i.reasm; flows = i.flows; leases = i.leases.leases; forwards = i.forwards; transfers = i.files.transfers } in
+    let frame = c.args.frame.now in
+    let new = c.take_ip.new.self in
+    subst (λ (s : SlirpState). (held : List PartSet) → IsHeld s.parts held → IsHeld new.parts (with_fragment s.moment (fragment_in s.config frame) held)) c.self.view_is
+    (λ held h. subst (λ o. IsHeld new.parts (with_fragment slirp.moment o held)) (fragment_of_packet slirp new.parts (young slirp.moment held) frame (ether_of c.in-Ok.ether) c.in-Ok.ensures.fields c.if-ether-eq-IPV4.true) (c.take_ip.ensures.arrives held h).parts)
