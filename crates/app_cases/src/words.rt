@@ -1,7 +1,9 @@
 // Words that no line of a file can hold. All others are cases of `worked_runs` and `worked_words`.
+use slirp_app::out_of_memory;
 use slirp_config::{WordFault, read_words};
 use std::alloc::Global;
 use std::test::Fail;
+use world_face::VecSink;
 
 // Whether the words have no reading.
 fn unread(alloc: Global, words: &[&str]) -> Result<bool, Fail> {
@@ -55,5 +57,13 @@ fn a_word_of_a_megabyte_has_no_reading(rt: HostRuntime) -> Result<(), Fail> {
     ] {
         assert!(rt; unread(rt.alloc(), words)?);
     }
+    Ok(())
+}
+
+#[test]
+fn no_memory_for_the_words(rt: HostRuntime) -> Result<(), Fail> {
+    let mut err = VecSink::open(rt.alloc(), 4096, None)?;
+    assert_eq!(rt; out_of_memory(&mut err), 13);
+    assert_eq!(rt; err.octets(), b"slirpd: out of memory\n".as_slice());
     Ok(())
 }

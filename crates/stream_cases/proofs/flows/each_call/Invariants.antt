@@ -1,4 +1,0 @@
-use Rattle.stream_cases.proofs.flows.each_call.Given as goal
-
-abbrev pub ghosts-find_from : goal.ghosts-find_from
-ghosts-find_from g a = record { name = a.blank.name; parts = a.blank.parts }
