@@ -1,5 +1,5 @@
 // A sink that gathers what is put, and hands it on in few puts.
-#![tactic(auto, using(replay::proofs::Putting::puts_then, replay::proofs::Putting::puts_failed, replay::proofs::Putting::added_none))]
+#![tactic(auto, using(world_face::proofs::Putting::puts_then, world_face::proofs::Putting::puts_failed, replay::proofs::Putting::added_none))]
 
 ghost use Rattle.std.specs.Prelude.{◌≡◌, ◌+◌, ◌-◌, ◌≤◌, [], ◌++◌, length, IsOk, nat_eq};
 ghost use Rattle.world_face.specs.Puts.{Puts, added};
@@ -129,8 +129,10 @@ impl<K: Sink> Sink for Gathering<K> {
 
     /// A piece that fits is gathered, and nothing is handed on.
     fn put(&mut self, octets: &[u8]) -> Result<(), Failed>
-        ensures puts { Puts (added self.old.gathered (K.holds self.old.sink)) (added self.new.gathered (K.holds self.new.sink)) (K.faults self.old.sink) (K.faults self.new.sink) octets.now result }
-        ensures fits { length self.old.gathered + length octets.now ≤ 16384 → IsOk result × (self.new.gathered ≡ self.old.gathered ++ octets.now) × (self.new.sink ≡ self.old.sink) }
+        ensures puts { Puts (added self.old.gathered (K.holds self.old.sink)) (added self.new.gathered (K.holds self.new.sink)) (K.faults self.old.sink)
+            (K.faults self.new.sink) octets.now result }
+        ensures fits { length self.old.gathered + length octets.now ≤ 16384 → IsOk result × (self.new.gathered ≡ self.old.gathered ++ octets.now)
+            × (self.new.sink ≡ self.old.sink) }
     {
         if self.gathered.room() < octets.len() {
             self.flush()?;

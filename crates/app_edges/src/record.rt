@@ -18,9 +18,10 @@ pub fn put_record<K: Sink>(script: &ScriptWorld, status: u8, out: &mut K) -> Res
     replace_with(out, (script, status), gather_record)
 }
 
-// The same for a sink that is handed over, and back.
+// Puts the record into a sink that is handed over and comes back.
 fn gather_record<K: Sink>(sink: K, run: (&ScriptWorld, u8)) -> (K, Result<(), Failed>)
-    ensures { Puts (K.holds sink) (K.holds result.0) (K.faults sink) (K.faults result.0) (text (script_tells run.entry.0.now).kept ++ end_line run.entry.1) result.1 }
+    ensures { Puts (K.holds sink) (K.holds result.0) (K.faults sink) (K.faults result.0)
+        (text (script_tells run.entry.0.now).kept ++ end_line run.entry.1) result.1 }
 {
     let (script, status) = run;
     let mut gathering = Gathering::over(sink);

@@ -1,5 +1,5 @@
 // The statuses of the program, and their texts.
-#![tactic(auto, using(replay::proofs::Putting::puts_then, replay::proofs::Putting::puts_failed, replay::proofs::Putting::added_none))]
+#![tactic(auto, using(world_face::proofs::Putting::puts_then, world_face::proofs::Putting::puts_failed, replay::proofs::Putting::added_none))]
 
 ghost use Rattle.std.specs.Prelude.{◌≡◌, ◌++◌, [], codes, decimal};
 ghost use Rattle.replay.specs.Names.{name_text};

@@ -86,13 +86,24 @@ pub fn encode(v: &ArpView, into: &mut [u8]) -> Result<usize, NoRoom>
     if into.len() < LENGTH {
         return Err(NoRoom);
     }
+    Ok(write(v, into))
+}
+
+/// Writes a packet at the front of `into`, which has the room for it, and answers its length in octets. Past the packet
+/// `into` is unchanged.
+pub fn write(v: &ArpView, into: &mut [u8]) -> usize
+    requires room { 28 ≤ length into.old }
+    ensures written { into.new ≡ arp_octets (arp_of v.now) ++ drop result into.old }
+    ensures length { result ≡ 28 }
+    ensures packet { IsArp (take result into.new) (arp_of v.now) }
+{
     let (sender, target) = (v.sender_ip.0, v.target_ip.0);
     into[..8].copy_from_slice(&[0, 1, 8, 0, 6, 4, 0, operation(v.reply)]);
     into[8..14].copy_from_slice(&v.sender_mac.0);
     BigEndian::write_u32(&mut into[14..18], sender);
     into[18..24].copy_from_slice(&v.target_mac.0);
     BigEndian::write_u32(&mut into[24..LENGTH], target);
-    Ok(LENGTH)
+    LENGTH
 }
 
 /// What a packet does: 1 asks, 2 answers.

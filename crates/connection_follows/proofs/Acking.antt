@@ -21,32 +21,12 @@ use Rattle.flow_laws.specs.Lawful.{is_overdue, is_prompted, repeats}
 use Rattle.halves_follow.specs.Resends.{Resends}
 use Rattle.halves_follow.specs.Sends.{Keeps, Outward}
 use Rattle.halves_follow.proofs.Gone.{bare_goes}
-use Rattle.connection_follows.specs.Holding.{Gives, Holds, IsOpened, is_calls, is_connects, is_live}
+use Rattle.connection_follows.specs.Holding.{Gives, Holds, is_calls, is_connects, is_live}
 use Rattle.connection_follows.specs.Seen.{count_of, outward_of, resending_of, timer_of}
 use Rattle.connection_follows.specs.Sending.{segment_out}
 use Rattle.connection_follows.proofs.Counting.{counts_on}
 use Rattle.connection_follows.proofs.Leaving.{leaves_goes, leaves_kept, leaves_received, stands}
-use Rattle.connection_follows.proofs.Quiet.{opened_on}
-
--- what was told changes nothing of how far it is opened
-pub opened_told : (s : Settings) (c : Connection) (up : Upward) (shift : ℕ) (past : Story) → IsOpened s c past → IsOpened s (told c up shift) past
-opened_told s c up shift past o = record {
-  live = o.live;
-  ours = o.ours;
-  connects = o.connects;
-  out = o.out;
-  unsent = o.unsent;
-  sent = o.sent;
-  answered = o.answered;
-  owes = o.owes;
-  calls = o.calls;
-  quiet = λ is. refl;
-  called = o.called;
-  theirs = o.theirs;
-  scale = o.scale;
-  mss = o.mss;
-  calling = o.calling;
-}
+use Rattle.connection_follows.proofs.Quiet.{opened_on, opened_told}
 
 -- numbers are under way as before, where no more was sent
 pub way_same : (past next : Story) (o q : Outward) → Keeps o (host past) → Keeps q (host next) → q.sent ≡ o.sent → q.acked ≡ o.acked → answered (host next) ≡ answered (host past) → syn_is_out next ≡ syn_is_out past

@@ -20,9 +20,9 @@ use Rattle.flow_laws.specs.Host.{acked, answered, is_acceptable, not_past_sent, 
 use Rattle.flow_laws.specs.Flow.{confirms, greets, host, is_closed, is_heeded, next_number as number_after, our_number, syn_is_out, their_number}
 use Rattle.flow_laws.specs.Close.{renews}
 use Rattle.flow_laws.proofs.Sides.{our_first_is}
+use Rattle.flow_laws.specs.Segments.{segment_of}
 use Rattle.halves_follow.proofs.Segments.{number_from}
 use Rattle.connection_follows.specs.Holding.{Holds, is_calls, is_connects, is_live}
-use Rattle.connection_follows.specs.Seen.{segment_of}
 use Rattle.connection_follows.proofs.Unheeded.{stays}
 use Rattle.connection_follows.proofs.Watching.{synchronized_is}
 

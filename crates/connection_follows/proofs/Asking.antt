@@ -15,7 +15,7 @@ use Rattle.halves_follow.proofs.Resent.{IsQuiet}
 use Rattle.connection_follows.specs.Holding.{Goes, Holds, is_calls, is_connects}
 use Rattle.connection_follows.specs.Same.{SameGuest, SameHost, SameStart}
 use Rattle.connection_follows.proofs.Going.{comes, does, nothing_to_close}
-use Rattle.connection_follows.proofs.Quiet.{awaits_on, gives_as, gives_on, opened_on, receives_on}
+use Rattle.connection_follows.proofs.Quiet.{awaits_on, gives_as, gives_on, opened_on, receives_beside, receives_on}
 
 module _ (s : Settings) (c : Connection) (up : Upward) (down : Downward) (past : Story) (now m : ℕ) (on : now ≤ m) where
   -- an event that leaves everything as it is
@@ -90,19 +90,7 @@ module _ (s : Settings) (c : Connection) (up : Upward) (down : Downward) (past :
           calling = λ no. absurd cc;
         };
         awaits = λ no. absurd cc;
-        receives = λ no. record {
-          follows = r.follows;
-          due = r.due;
-          once = r.once;
-          ends = r.ends;
-          current = r.current;
-          sure = r.sure;
-          host_ended = r.host_ended;
-          told = r.told;
-          answered = r.answered;
-          prompted = r.prompted;
-          updated = λ none yes. absurd cc;
-        };
+        receives = λ no. receives_beside s c (record c { stage = stage.Answers; syn_owed = true }) up (At m Connected ∷ past) (λ yes. absurd cc) r;
         gives = gives_as s c (record c { stage = stage.Answers; syn_owed = true }) down (At m Connected ∷ past) m (sym opening) refl refl refl refl
             (λ owed gone opening_now. let not_it = sym gone ∙ unsent in absurd cc) (λ owed. refl) g;
       }

@@ -21,7 +21,8 @@ use Rattle.connection_follows.specs.Seen.{part_of}
 use Rattle.connection_follows.specs.Sending.{segment_out}
 use Rattle.connection_follows.proofs.Going.{does}
 use Rattle.connection_follows.proofs.Leaving.{granted}
-use Rattle.connection_follows.proofs.Syns.{gone_once, syn_gives, syn_reason}
+use Rattle.connection_follows.proofs.Quiet.{awaits_beside}
+use Rattle.connection_follows.proofs.Syns.{opened_gone, syn_gives, syn_reason}
 use Rattle.connection_follows.proofs.Telling.{least_same}
 
 module _ (s : Settings) (c : Connection) (up : Upward) (down : Downward) (past : Story) (now m : ℕ) (on : now ≤ m) (late : m ≤ 2 ^ 62) (h : Holds s c up down past now)
@@ -69,45 +70,13 @@ module _ (s : Settings) (c : Connection) (up : Upward) (down : Downward) (past :
 
   pub syn_goes_out : HasBuffers (syn_gone c m) up down → Holds s (syn_gone c m) up down (At m (Departs seg) ∷ past) m
   syn_goes_out buffers =
-      let o = h.opened in
-      let a = h.awaits calls in
       record {
         suits = record { ring = h.suits.ring; congestion = h.suits.congestion; scales = h.suits.scales; few = h.suits.few };
         buffers = buffers;
         within = h.within;
         goes = goes_now;
-        opened = record {
-          live = o.live;
-          ours = o.ours;
-          connects = o.connects;
-          out = sym (gone_once c.sendings);
-          unsent = λ is. let not_it = sym is ∙ ap (λ (st : Stage). is_connects st) at in absurd cc;
-          sent = λ is. gone_once c.sendings;
-          answered = o.answered;
-          owes = λ apart yet none. let not_it = sym none ∙ gone_once c.sendings in absurd cc;
-          calls = o.calls;
-          quiet = o.quiet;
-          called = λ is apart. gone_once c.sendings;
-          theirs = o.theirs;
-          scale = o.scale;
-          mss = o.mss;
-          calling = o.calling;
-        };
-        awaits = λ is. record {
-          theirs = a.theirs;
-          guest = a.guest;
-          received = a.received;
-          held = a.held;
-          kept = a.kept;
-          ack_owed = a.ack_owed;
-          told = a.told;
-          edge = a.edge;
-          host_ended = a.host_ended;
-          untold = a.untold;
-          end_acknowledged = a.end_acknowledged;
-          ours_first = a.ours_first;
-          unasked = a.unasked;
-        };
+        opened = opened_gone s c past (At m (Departs seg) ∷ past) m (ap (λ (st : Stage). is_connects st) at) refl refl refl refl refl refl h.opened;
+        awaits = λ is. awaits_beside s c (syn_gone c m) up past (At m (Departs seg) ∷ past) refl refl refl refl refl (h.awaits is);
         receives = λ is. let not_it = sym is ∙ calls in absurd cc;
         gives = syn_gives s c down up past now m seg on late h opening refl refl;
       }

@@ -20,14 +20,15 @@ use Rattle.flow_laws.specs.Flow.{confirms, greets, guest, host, syn_is_out, thei
 use Rattle.flow_laws.specs.Windows.{mss}
 use Rattle.flow_laws.specs.Dutiful.{MustClose}
 use Rattle.flow_laws.proofs.Sides.{guest_greeted, guest_unknown}
+use Rattle.flow_laws.specs.Segments.{segment_of}
 use Rattle.halves_follow.specs.Ends.{Ends}
 use Rattle.halves_follow.specs.Follows.{Follows}
 use Rattle.halves_follow.specs.Part.{Part, part}
 use Rattle.halves_follow.proofs.Greeted.{greets_ends, greets_follows}
 use Rattle.connection_follows.specs.Holding.{Goes, Holds, Receives, is_calls}
-use Rattle.connection_follows.specs.Seen.{kept_at, segment_of}
+use Rattle.connection_follows.specs.Seen.{kept_at}
 use Rattle.connection_follows.proofs.Going.{comes as comes_on, nothing_to_close}
-use Rattle.connection_follows.proofs.Quiet.{opened_on}
+use Rattle.connection_follows.proofs.Quiet.{awaits_beside, opened_on}
 use Rattle.connection_follows.proofs.Unheeded.{answered_same, follows_owed, gives_after}
 
 pub unknown_is : (o : Option Segment) → o ≡ None → is_some (option_map (λ (seg : Segment). seg.number) o) ≡ false
@@ -78,7 +79,6 @@ module _ (s : Settings) (c : Connection) (up : Upward) (down : Downward) (past :
 
     pub waits_on : HasBuffers c up down → Holds s c up down after m
     waits_on buffers =
-        let a = h.awaits calls in
         let g = gives_after s c up down past now m seg on h none c.syn_owed c.ack_owed (λ so. so) in
         record {
           suits = h.suits;
@@ -86,21 +86,7 @@ module _ (s : Settings) (c : Connection) (up : Upward) (down : Downward) (past :
           within = h.within;
           goes = comes_on s past now m (Arrives seg) h.goes on (λ so. so) refl h.goes.open_yet refl free;
           opened = opened_on s c past after (record { ours = refl; connecting = refl; out = refl; accepted = refl; theirs = still_unknown; unasked = refl }) (answered_same s c up down past now m seg on h none) h.opened;
-          awaits = λ is. record {
-            theirs = still_unknown ∙ a.theirs;
-            guest = same_guest ∙ a.guest;
-            received = a.received;
-            held = a.held;
-            kept = a.kept;
-            ack_owed = a.ack_owed;
-            told = a.told;
-            edge = a.edge;
-            host_ended = a.host_ended;
-            untold = a.untold;
-            end_acknowledged = a.end_acknowledged;
-            ours_first = a.ours_first;
-            unasked = a.unasked;
-          };
+          awaits = λ is. awaits_beside s c c up past after still_unknown same_guest refl refl refl (h.awaits is);
           receives = λ is. let not_it = sym is ∙ calls in absurd cc;
           gives = g;
         }

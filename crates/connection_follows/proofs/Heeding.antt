@@ -31,17 +31,18 @@ use Rattle.flow_laws.specs.Host.{Down, acked, answered, is_acceptable, not_past_
 use Rattle.flow_laws.specs.Flow.{confirms, greets, host, is_closed, is_heeded, is_under_way, next_number as number_after, our_number, syn_is_out, their_number, their_syn}
 use Rattle.flow_laws.specs.Windows.{is_scaled, their_scale, their_shift, their_window}
 use Rattle.flow_laws.proofs.Sides.{host_confirmed}
+use Rattle.flow_laws.specs.Segments.{segment_of}
 use Rattle.halves_follow.specs.Resends.{Resends}
 use Rattle.halves_follow.specs.Sends.{Keeps}
 use Rattle.halves_follow.proofs.Reasons.{by_arrival}
 use Rattle.halves_follow.proofs.SendSteps.{place_of_number}
 use Rattle.halves_follow.proofs.Sendings.{rises}
 use Rattle.connection_follows.specs.Holding.{CountsSince, Gives, Goes, Holds, IsOpened, Receives, Suits, is_calls, is_connects}
-use Rattle.connection_follows.specs.Seen.{count_of, outward_of, segment_of, timer_of, window_by}
+use Rattle.connection_follows.specs.Seen.{count_of, outward_of, timer_of, window_by}
 use Rattle.connection_follows.proofs.Confirming.{answered_now, far_is, heard_counts, heard_fin, heard_keeps, heard_runs, heard_steady, heard_told, not_past, old_is, place_same, syn_heard_runs}
 use Rattle.connection_follows.proofs.Going.{comes as comes_on, nothing_to_close}
 use Rattle.connection_follows.proofs.Hearing.{heard_alone, heard_by, heard_stays, seen_as}
-use Rattle.connection_follows.proofs.Quiet.{gives_as, opened_on, same_mss}
+use Rattle.connection_follows.proofs.Quiet.{gives_as, opened_beside, opened_on, same_mss}
 use Rattle.connection_follows.proofs.Taking.{taken_receives}
 use Rattle.connection_follows.proofs.Unheeded.{gives_after, stays, syn_stays}
 use Rattle.connection_follows.proofs.Watching.{gives_watched, under_way_is, watched_mss}
@@ -221,23 +222,7 @@ module _ (s : Settings) (c : Connection) (up : Upward) (down : Downward) (past :
   opened_all : (tr : Transmission) (owed fa : Bool) → tr.mss ≡ t.mss → answered (host after) ≡ true → IsOpened s (with_all tr owed fa) after
   opened_all tr owed fa most answered_is =
       let o = opened_on s c past after (record { ours = refl; connecting = refl; out = refl; accepted = refl; theirs = same_syn; unasked = refl }) (answered_is ∙ sym ans) h.opened in
-      record {
-        live = o.live;
-        ours = o.ours;
-        connects = o.connects;
-        out = o.out;
-        unsent = o.unsent;
-        sent = o.sent;
-        answered = o.answered;
-        owes = o.owes;
-        calls = o.calls;
-        quiet = λ is. let not_it = sym (synchronized_connects c.stage synchronized) ∙ is in absurd cc;
-        called = o.called;
-        theirs = o.theirs;
-        scale = o.scale;
-        mss = λ is. most ∙ o.mss is;
-        calling = λ is. most ∙ o.calling is;
-      }
+      opened_beside s c (with_all tr owed fa) after refl most (λ is. is) (λ is. let not_it = sym (synchronized_connects c.stage synchronized) ∙ is in absurd cc) o
 
   -- an acknowledgement that counts
   module _ (ok : is_accepted_ack seen ≡ true) where

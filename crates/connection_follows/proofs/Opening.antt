@@ -8,11 +8,12 @@ use Rattle.tcp_guest.specs.Connection.{HasBuffers, from_guest, to_guest}
 use Rattle.flow_laws.specs.Settings.{Settings}
 use Rattle.flow_laws.specs.Event.{Connects, Accepts, At}
 use Rattle.flow_laws.specs.Windows.{mss}
+use Rattle.flow_laws.specs.Segments.{segment_of}
 use Rattle.halves_follow.proofs.InTime.{opens, accepts}
 use Rattle.halves_follow.proofs.Rests.{opens_ends}
 use Rattle.halves_follow.proofs.Steps.{opened}
 use Rattle.connection_follows.specs.Holding.{Goes, Holds}
-use Rattle.connection_follows.specs.Seen.{part_of, segment_of}
+use Rattle.connection_follows.specs.Seen.{part_of}
 use Rattle.connection_follows.proofs.Going.{nothing_to_close}
 
 steady_at_rest : IsSteady at_rest

@@ -36,9 +36,8 @@ use Rattle.connection_follows.specs.Holding.{Gives, Holds, is_calls}
 use Rattle.connection_follows.specs.Seen.{count_of, outward_of, timer_by, timer_of}
 use Rattle.connection_follows.specs.Sending.{octets_of, segment_out}
 use Rattle.connection_follows.proofs.Counting.{counts_on, now_counts, sent_counts}
-use Rattle.connection_follows.proofs.Acking.{opened_told}
 use Rattle.connection_follows.proofs.Leaving.{leaves_goes, leaves_kept, leaves_received, near_sent, read_is, stands}
-use Rattle.connection_follows.proofs.Quiet.{opened_on, opened_sending, receives_sending}
+use Rattle.connection_follows.proofs.Quiet.{opened_on, opened_sending, opened_told, receives_sending}
 use Rattle.connection_follows.proofs.Watching.{under_way_is}
 
 -- ---- what is owed

@@ -1,17 +1,19 @@
 -- Events that leave a part of the story as it is.
-use Rattle.std.proofs.Common.{refl, ◌≡◌, ℕ, ◌<◌, ◌≤◌, List, ◌∷◌, Bool, true, Option, None, Some, if◌then◌else◌, IsTrue, nat_eq, ◌+◌, min, max, unwrap_or, ◌-◌, ap, subst, sym, ◌∙◌}
+use Rattle.std.proofs.Common.{refl, ◌≡◌, ℕ, ◌<◌, ◌≤◌, List, ◌∷◌, Bool, true, false, Option, None, Some, if◌then◌else◌, IsTrue, nat_eq, ◌+◌, min, max, unwrap_or, ◌-◌, ap, subst, sym, ◌∙◌}
 use Rattle.retransmit.specs.Resending.{IsSteady, Resending, is_expired, is_off}
 use Rattle.sock_buffers.specs.Downward.{Downward}
 use Rattle.sock_buffers.specs.Upward.{Upward}
 use Rattle.tcp_transmit.specs.Transmission.{Transmission, is_owed_again, is_sent, octets_read}
-use Rattle.tcp_guest.specs.Connection.{Connection, has_gone, is_opening, shift_of}
+use Rattle.tcp_guest.specs.Connection.{Connection, has_gone, is_opening, shift_of, is_synchronized}
+use Rattle.tcp_guest.specs.Owing.{told}
 use Rattle.tcp_guest.specs.declared.Sendings.{Sendings}
 use Rattle.flow_laws.specs.Settings.{Settings}
 use Rattle.flow_laws.specs.Event.{Segment, Event, At, Story}
 use Rattle.flow_laws.specs.Guest.{AckIsDue, Honest, Up, was_acked}
 use Rattle.flow_laws.specs.Host.{Down, answered}
-use Rattle.flow_laws.specs.Flow.{host, is_accepted, is_under_way, their_number, their_syn, syn_is_out}
-use Rattle.flow_laws.specs.Windows.{mss, their_scale}
+use Rattle.flow_laws.specs.Flow.{guest, has_connected, host, is_accepted, is_under_way, their_number, their_syn, syn_is_out}
+use Rattle.flow_laws.specs.Windows.{mss, right_edge, their_scale}
+use Rattle.flow_laws.specs.Close.{host_was_ended}
 use Rattle.halves_follow.specs.Ends.{IsCurrent}
 use Rattle.halves_follow.specs.Follows.{Follows}
 use Rattle.halves_follow.specs.Received.{received as taken_of}
@@ -20,7 +22,7 @@ use Rattle.halves_follow.specs.Sends.{Keeps}
 use Rattle.halves_follow.proofs.Reasons.{reason_stays, reason_later}
 use Rattle.halves_follow.proofs.Resent.{IsQuiet, later, quiet}
 use Rattle.halves_follow.proofs.Rests.{quiet_ends}
-use Rattle.connection_follows.specs.Holding.{Awaits, CountsSince, Gives, Holds, IsOpened, Receives}
+use Rattle.connection_follows.specs.Holding.{Awaits, CountsSince, Gives, Holds, IsOpened, Receives, is_calls, is_connects}
 use Rattle.connection_follows.specs.Same.{SameGuest, SameHost, SameStart}
 use Rattle.connection_follows.specs.Seen.{count_of, outward_of, part_of, resending_of, timer_of, window_by}
 use Rattle.connection_follows.proofs.Counting.{counts_on, quiet_same}
@@ -60,23 +62,6 @@ opened_on s c past next same answered_is o = record {
 }
 
 -- ---- the guest's stream stays
-
-pub awaits_on : (s : Settings) (c : Connection) (up : Upward) (past next : Story) → SameStart past next → SameGuest s past next → Awaits s c up past → Awaits s c up next
-awaits_on s c up past next start same a = record {
-  theirs = start.theirs ∙ a.theirs;
-  guest = same.guest ∙ a.guest;
-  received = a.received;
-  held = a.held;
-  kept = a.kept;
-  ack_owed = a.ack_owed;
-  told = a.told;
-  edge = same.edge ∙ a.edge;
-  host_ended = a.host_ended;
-  untold = same.ended ∙ a.untold;
-  end_acknowledged = a.end_acknowledged;
-  ours_first = a.ours_first;
-  unasked = start.unasked ∙ a.unasked;
-}
 
 pub receives_on : (s : Settings) (c : Connection) (up : Upward) (past : Story) (m : ℕ) (e : Event) → IsQuiet e → is_accepted (At m e ∷ past) ≡ is_accepted past → SameGuest s past (At m e ∷ past)
     → Receives s c up past → Receives s c up (At m e ∷ past)
@@ -173,10 +158,35 @@ gives_as s c d down past now open_is t_is syn_is gone_is fin_is reason still g =
   again = λ owed under. g.again (ap (λ (t : Transmission). is_owed_again t) (sym t_is) ∙ owed) (subst (λ (t : Transmission). t.acked < t.sent) t_is under);
 }
 
--- ---- another sending half
+-- ---- another connection of which a part is the same
 
-pub receives_sending : (s : Settings) (c : Connection) (t : Transmission) (up : Upward) (past : Story) → Receives s c up past → Receives s (record c { transmission = t }) up past
-receives_sending s c t up past r = record {
+-- how far it is opened
+pub opened_beside : (s : Settings) (c d : Connection) (past : Story) → d.received.first ≡ c.received.first → d.transmission.mss ≡ c.transmission.mss → (c.syn_owed ≡ true → d.syn_owed ≡ true)
+    → (is_connects c.stage ≡ true → d.ack_owed ≡ false) → IsOpened s c past → IsOpened s (record d { ours = c.ours; stage = c.stage; sendings = c.sendings; scale = c.scale }) past
+opened_beside s c d past first most owed quiet o = record {
+  live = o.live;
+  ours = o.ours;
+  connects = o.connects;
+  out = o.out;
+  unsent = o.unsent;
+  sent = o.sent;
+  answered = o.answered;
+  owes = λ apart opening none. owed (o.owes apart opening none);
+  calls = o.calls;
+  quiet = quiet;
+  called = o.called;
+  theirs = o.theirs ∙ ap (λ (n : ℕ). if is_calls c.stage then None else Some n) (sym first);
+  scale = o.scale;
+  mss = λ is. most ∙ o.mss is;
+  calling = λ is. most ∙ o.calling is;
+}
+
+-- what it keeps of the guest's stream, where another stage, sending half and SYN are those of a second connection
+abbrev pub beside : (c d : Connection) → Connection
+beside c d = record c { stage = d.stage; transmission = d.transmission; syn = d.syn; sendings = d.sendings; syn_owed = d.syn_owed }
+
+pub receives_beside : (s : Settings) (c d : Connection) (up : Upward) (past : Story) → (is_synchronized d.stage ≡ true → is_synchronized c.stage ≡ true) → Receives s c up past → Receives s (beside c d) up past
+receives_beside s c d up past still r = record {
   follows = r.follows;
   due = r.due;
   once = r.once;
@@ -187,44 +197,44 @@ receives_sending s c t up past r = record {
   told = r.told;
   answered = r.answered;
   prompted = r.prompted;
-  updated = r.updated;
+  updated = λ none yes. r.updated none (still yes);
 }
 
-pub awaits_sending : (s : Settings) (c : Connection) (t : Transmission) (up : Upward) (past : Story) → Awaits s c up past → Awaits s (record c { transmission = t }) up past
-awaits_sending s c t up past a = record {
-  theirs = a.theirs;
-  guest = a.guest;
+pub awaits_beside : (s : Settings) (c d : Connection) (up : Upward) (past next : Story) → their_syn next ≡ their_syn past → guest next ≡ guest past → right_edge s next ≡ right_edge s past
+    → host_was_ended next ≡ host_was_ended past → has_connected next ≡ has_connected past → Awaits s c up past → Awaits s (beside c d) up next
+awaits_beside s c d up past next theirs_is guest_is edge_is ended_is asked_is a = record {
+  theirs = theirs_is ∙ a.theirs;
+  guest = guest_is ∙ a.guest;
   received = a.received;
   held = a.held;
   kept = a.kept;
   ack_owed = a.ack_owed;
   told = a.told;
-  edge = a.edge;
+  edge = edge_is ∙ a.edge;
   host_ended = a.host_ended;
-  untold = a.untold;
+  untold = ended_is ∙ a.untold;
   end_acknowledged = a.end_acknowledged;
   ours_first = a.ours_first;
-  unasked = a.unasked;
+  unasked = asked_is ∙ a.unasked;
 }
 
+pub awaits_on : (s : Settings) (c : Connection) (up : Upward) (past next : Story) → SameStart past next → SameGuest s past next → Awaits s c up past → Awaits s c up next
+awaits_on s c up past next start same a = awaits_beside s c c up past next start.theirs same.guest same.edge same.ended start.unasked a
+
+-- ---- another sending half
+
+pub receives_sending : (s : Settings) (c : Connection) (t : Transmission) (up : Upward) (past : Story) → Receives s c up past → Receives s (record c { transmission = t }) up past
+receives_sending s c t up past r = receives_beside s c (record c { transmission = t }) up past (λ is. is) r
+
+pub awaits_sending : (s : Settings) (c : Connection) (t : Transmission) (up : Upward) (past : Story) → Awaits s c up past → Awaits s (record c { transmission = t }) up past
+awaits_sending s c t up past a = awaits_beside s c (record c { transmission = t }) up past past refl refl refl refl refl a
+
 pub opened_sending : (s : Settings) (c : Connection) (t : Transmission) (past : Story) → t.mss ≡ c.transmission.mss → IsOpened s c past → IsOpened s (record c { transmission = t }) past
-opened_sending s c t past most o = record {
-  live = o.live;
-  ours = o.ours;
-  connects = o.connects;
-  out = o.out;
-  unsent = o.unsent;
-  sent = o.sent;
-  answered = o.answered;
-  owes = o.owes;
-  calls = o.calls;
-  quiet = o.quiet;
-  called = o.called;
-  theirs = o.theirs;
-  scale = o.scale;
-  mss = λ is. most ∙ o.mss is;
-  calling = λ is. most ∙ o.calling is;
-}
+opened_sending s c t past most o = opened_beside s c (record c { transmission = t }) past refl most (λ is. is) o.quiet o
+
+-- what was told changes nothing of how far it is opened
+pub opened_told : (s : Settings) (c : Connection) (up : Upward) (shift : ℕ) (past : Story) → IsOpened s c past → IsOpened s (told c up shift) past
+opened_told s c up shift past o = opened_beside s c (told c up shift) past refl refl (λ is. is) (λ is. refl) o
 
 -- another size of pieces
 pub gives_most : (s : Settings) (c : Connection) (k : ℕ) (down : Downward) (past : Story) (now : ℕ) → Gives s c down past now → Gives s (record c { transmission = record c.transmission { mss = k } }) down past now

@@ -32,6 +32,7 @@ use Rattle.flow_laws.specs.Lawful.{IsPiece, May, Send, is_overdue, is_prompted, 
 use Rattle.flow_laws.specs.Dutiful.{MustClose, TellsRoom, fin_is_answered}
 use Rattle.flow_laws.proofs.Scaled.{opens_once}
 use Rattle.flow_laws.proofs.Sides.{guest_acked, guest_closed}
+use Rattle.flow_laws.specs.Segments.{segment_of}
 use Rattle.halves_follow.specs.Ends.{Ends}
 use Rattle.halves_follow.specs.Follows.{Follows}
 use Rattle.halves_follow.specs.Sends.{Outward}
@@ -43,7 +44,7 @@ use Rattle.halves_follow.proofs.Rests.{rest_goes_on, rest_next}
 use Rattle.halves_follow.proofs.SendSteps.{place_of_number}
 use Rattle.halves_follow.proofs.Steps.{acked}
 use Rattle.connection_follows.specs.Over.{IsResting}
-use Rattle.connection_follows.specs.Seen.{part_of, segment_of}
+use Rattle.connection_follows.specs.Seen.{part_of}
 use Rattle.connection_follows.specs.Sending.{segment_out}
 use Rattle.connection_follows.proofs.Closing.{runs_on}
 use Rattle.connection_follows.proofs.Coming.{none_owed}

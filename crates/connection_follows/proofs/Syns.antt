@@ -7,7 +7,7 @@ use Rattle.retransmit.proofs.Steady.{steady_second, steady_sent}
 use Rattle.sock_buffers.specs.Downward.{Downward}
 use Rattle.sock_buffers.specs.Upward.{Upward}
 use Rattle.tcp_receive.specs.Received.{next_number, places_taken}
-use Rattle.tcp_guest.specs.Connection.{Connection, HasBuffers, has_gone, is_opening, is_synchronized, once_more}
+use Rattle.tcp_guest.specs.Connection.{Connection, HasBuffers, has_gone, is_opening, is_synchronized, once_more, shift_of}
 use Rattle.tcp_guest.specs.Owing.{scale_if, syn_gone, told}
 use Rattle.tcp_guest.specs.Windows.{least_shift}
 use Rattle.tcp_guest.specs.declared.Owed.TheVariants.{SynAck}
@@ -18,7 +18,7 @@ use Rattle.tcp_guest.specs.declared.Stage.TheVariants as stage
 use Rattle.flow_laws.specs.Settings.{Settings}
 use Rattle.flow_laws.specs.Event.{At, Departs, Segment, Story}
 use Rattle.flow_laws.specs.Host.{Down, acked, answered, our_place, sent}
-use Rattle.flow_laws.specs.Flow.{add_if, host, is_closed, is_under_way, next_number as number_after, syn_is_out, syn_sendings}
+use Rattle.flow_laws.specs.Flow.{add_if, host, is_accepted, is_closed, is_connecting, is_under_way, next_number as number_after, our_number, syn_is_out, syn_sendings, their_syn}
 use Rattle.flow_laws.specs.Windows.{is_scaled, least_shift as least_told}
 use Rattle.flow_laws.specs.Close.{fin_is_out}
 use Rattle.flow_laws.specs.Lawful.{OpensWithSyn, Send, SendsAgainWithReason, SendsItsOptions, is_overdue, is_prompted, repeats}
@@ -29,13 +29,13 @@ use Rattle.halves_follow.proofs.Acts.{may_send, must_send}
 use Rattle.halves_follow.proofs.Reasons.{reason_later, syn_may_go}
 use Rattle.halves_follow.proofs.Sendings.{rises}
 use Rattle.halves_follow.proofs.SynGone.{syn_again, syn_anyway, syn_goes}
-use Rattle.connection_follows.specs.Holding.{Gives, Goes, Holds, is_calls, is_connects}
+use Rattle.connection_follows.specs.Holding.{Gives, Goes, Holds, IsOpened, is_calls, is_connects}
 use Rattle.connection_follows.specs.Seen.{count_of, outward_of, timer_by, timer_of}
 use Rattle.connection_follows.specs.Sending.{segment_out}
 use Rattle.connection_follows.proofs.Counting.{counts_on}
 use Rattle.connection_follows.proofs.Going.{does}
 use Rattle.connection_follows.proofs.Leaving.{granted}
-use Rattle.connection_follows.proofs.Quiet.{gives_as}
+use Rattle.connection_follows.proofs.Quiet.{gives_as, opened_told, receives_beside, same_mss, same_number, same_scale}
 use Rattle.connection_follows.proofs.Telling.{acknowledges, least_same, scaled_is, tells, tells_room, theirs}
 use Rattle.connection_follows.proofs.Watching.{opening_is, syn_under_way}
 
@@ -43,6 +43,27 @@ pub gone_once : (n : Sendings) → has_gone (once_more n) ≡ true
 gone_once Never = refl
 gone_once Once = refl
 gone_once Again = refl
+
+-- how far the connection is opened, once our SYN is out
+pub opened_gone : (s : Settings) (c : Connection) (past next : Story) (m : ℕ) → is_connects c.stage ≡ false → syn_is_out next ≡ true → our_number next ≡ our_number past → is_connecting next ≡ is_connecting past
+    → answered (host next) ≡ answered (host past) → is_accepted next ≡ is_accepted past → their_syn next ≡ their_syn past → IsOpened s c past → IsOpened s (syn_gone c m) next
+opened_gone s c past next m apart out_is ours_is connects_is answered_is accepted_is theirs_is o = record {
+  live = o.live;
+  ours = ours_is ∙ o.ours;
+  connects = connects_is ∙ o.connects;
+  out = out_is ∙ sym (gone_once c.sendings);
+  unsent = λ is. let not_it = sym is ∙ apart in absurd cc;
+  sent = λ is. gone_once c.sendings;
+  answered = answered_is ∙ o.answered;
+  owes = λ other yet none. let not_it = sym none ∙ gone_once c.sendings in absurd cc;
+  calls = λ is. accepted_is ∙ o.calls is;
+  quiet = o.quiet;
+  called = λ is other. gone_once c.sendings;
+  theirs = same_number past next theirs_is ∙ o.theirs;
+  scale = o.scale ∙ ap shift_of (sym (same_scale past next theirs_is));
+  mss = λ is. o.mss is ∙ sym (same_mss s past next theirs_is);
+  calling = o.calling;
+}
 
 -- our SYN went out at a moment
 syn_sent : (past : Story) → syn_is_out past ≡ true → 0 < length (syn_sendings past)
@@ -222,7 +243,6 @@ module _ (s : Settings) (c : Connection) (up : Upward) (down : Downward) (past :
 
   pub syn_ack_goes : HasBuffers (told (syn_gone c m) up 0) up down → Holds s (told (syn_gone c m) up 0) up down (At m (Departs seg) ∷ past) m
   syn_ack_goes buffers =
-      let o = h.opened in
       let r = tells s c up past now m seg h.suits h.goes h.opened known h.gives.fin_out (h.receives known) refl refl refl 0 refl refl
       (λ is. let not_it = sym is ∙ ap (λ (st : Stage). is_synchronized st) at in absurd cc) in
       let g = syn_gives s c down up past now m seg on late h opening refl refl in
@@ -231,36 +251,9 @@ module _ (s : Settings) (c : Connection) (up : Upward) (down : Downward) (past :
         buffers = buffers;
         within = h.within;
         goes = goes_now;
-        opened = record {
-          live = o.live;
-          ours = o.ours;
-          connects = o.connects;
-          out = sym (gone_once c.sendings);
-          unsent = λ is. let not_it = sym is ∙ ap (λ (st : Stage). is_connects st) at in absurd cc;
-          sent = λ is. gone_once c.sendings;
-          answered = o.answered;
-          owes = λ apart yet none. let not_it = sym none ∙ gone_once c.sendings in absurd cc;
-          calls = o.calls;
-          quiet = λ is. refl;
-          called = λ is apart. gone_once c.sendings;
-          theirs = o.theirs;
-          scale = o.scale;
-          mss = o.mss;
-          calling = o.calling;
-        };
+        opened = opened_told s (syn_gone c m) up 0 (At m (Departs seg) ∷ past)
+            (opened_gone s c past (At m (Departs seg) ∷ past) m (ap (λ (st : Stage). is_connects st) at) refl refl refl refl refl refl h.opened);
         awaits = λ is. let not_it = sym is ∙ known in absurd cc;
-        receives = λ is. record {
-          follows = r.follows;
-          due = r.due;
-          once = r.once;
-          ends = r.ends;
-          current = r.current;
-          sure = r.sure;
-          host_ended = r.host_ended;
-          told = r.told;
-          answered = r.answered;
-          prompted = r.prompted;
-          updated = λ none so. let not_it = sym so ∙ ap (λ (st : Stage). is_synchronized st) at in absurd cc;
-        };
+        receives = λ is. receives_beside s (told c up 0) (told (syn_gone c m) up 0) up (At m (Departs seg) ∷ past) (λ so. so) r;
         gives = gives_as s (syn_gone c m) (told (syn_gone c m) up 0) down (At m (Departs seg) ∷ past) m refl refl refl refl refl (λ so gone yet. absurd cc) (λ so. so) g;
       }

@@ -19,6 +19,7 @@ use Rattle.flow_laws.specs.Flow.{guest, is_closed, is_heeded, is_plain, their_nu
 use Rattle.flow_laws.specs.Dutiful.{fin_is_answered}
 use Rattle.flow_laws.proofs.Sides.{guest_came}
 use Rattle.flow_laws.proofs.Streams.{earlier}
+use Rattle.flow_laws.specs.Segments.{segment_of}
 use Rattle.halves_follow.specs.Ends.{Ends, IsCurrent}
 use Rattle.halves_follow.specs.Follows.{Follows}
 use Rattle.halves_follow.specs.Part.{Part, part}
@@ -28,7 +29,7 @@ use Rattle.halves_follow.proofs.EndSteps.{heeds}
 use Rattle.halves_follow.proofs.Resets.{came_current}
 use Rattle.halves_follow.proofs.Taking.{came}
 use Rattle.connection_follows.specs.Holding.{Receives}
-use Rattle.connection_follows.specs.Seen.{kept_at, part_of, segment_of}
+use Rattle.connection_follows.specs.Seen.{kept_at, part_of}
 use Rattle.connection_follows.proofs.Coming.{brings, count_now, counted, end_is, held_now, keeps_now, none_owed, sized, taken_now, takes_all, takes_none}
 
 or_off : (a b : Bool) → b ≡ false → (a || b) ≡ a

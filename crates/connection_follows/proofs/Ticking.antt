@@ -24,7 +24,7 @@ use Rattle.halves_follow.proofs.Resent.{counted, expires_now}
 use Rattle.connection_follows.specs.Holding.{CountsSince, Holds}
 use Rattle.connection_follows.specs.Seen.{count_of, outward_of, resending_of, timer_by, timer_of, window_by}
 use Rattle.connection_follows.proofs.Counting.{expired_counts}
-use Rattle.connection_follows.proofs.Quiet.{opened_sending, receives_sending, awaits_sending}
+use Rattle.connection_follows.proofs.Quiet.{awaits_beside, awaits_sending, opened_beside, opened_sending, receives_beside, receives_sending}
 use Rattle.connection_follows.proofs.Watching.{syn_under_way, under_way_is}
 
 some_is : (a b : ℕ) → Some a ≡ Some b → a ≡ b
@@ -95,58 +95,16 @@ module _ (s : Settings) (c : Connection) (up : Upward) (down : Downward) (past :
     -- it is owed again
     pub syn_expires : is_given_up c.syn ≡ false → HasBuffers (record c { syn = resend_expired c.syn; syn_owed = true }) up down → Holds s (record c { syn = resend_expired c.syn; syn_owed = true }) up down past now
     syn_expires fresh buffers =
-        let o = h.opened in
+        let again : Connection = record c { syn = resend_expired c.syn; syn_owed = true } in
         let g = h.gives in
         record {
           suits = record { ring = h.suits.ring; congestion = h.suits.congestion; scales = h.suits.scales; few = h.suits.few };
           buffers = buffers;
           within = h.within;
           goes = h.goes;
-          opened = record {
-            live = o.live;
-            ours = o.ours;
-            connects = o.connects;
-            out = o.out;
-            unsent = o.unsent;
-            sent = o.sent;
-            answered = o.answered;
-            owes = λ apart yet none. refl;
-            calls = o.calls;
-            quiet = o.quiet;
-            called = o.called;
-            theirs = o.theirs;
-            scale = o.scale;
-            mss = o.mss;
-            calling = o.calling;
-          };
-          awaits = λ is. let a = h.awaits is in record {
-            theirs = a.theirs;
-            guest = a.guest;
-            received = a.received;
-            held = a.held;
-            kept = a.kept;
-            ack_owed = a.ack_owed;
-            told = a.told;
-            edge = a.edge;
-            host_ended = a.host_ended;
-            untold = a.untold;
-            end_acknowledged = a.end_acknowledged;
-            ours_first = a.ours_first;
-            unasked = a.unasked;
-          };
-          receives = λ is. let r = h.receives is in record {
-            follows = r.follows;
-            due = r.due;
-            once = r.once;
-            ends = r.ends;
-            current = r.current;
-            sure = r.sure;
-            host_ended = r.host_ended;
-            told = r.told;
-            answered = r.answered;
-            prompted = r.prompted;
-            updated = r.updated;
-          };
+          opened = opened_beside s c again past refl refl (λ is. refl) h.opened.quiet h.opened;
+          awaits = λ is. awaits_beside s c again up past past refl refl refl refl refl (h.awaits is);
+          receives = λ is. receives_beside s c again up past (λ so. so) (h.receives is);
           gives = record {
             keeps = g.keeps;
             fin_acked = g.fin_acked;

@@ -32,7 +32,7 @@ use Rattle.connection_follows.specs.Seen.{count_of, outward_of, part_of, resendi
 use Rattle.connection_follows.proofs.Counting.{counts_on, unmoved_at}
 use Rattle.connection_follows.proofs.Acking.{way_same}
 use Rattle.connection_follows.proofs.Going.{comes}
-use Rattle.connection_follows.proofs.Quiet.{opened_on}
+use Rattle.connection_follows.proofs.Quiet.{opened_beside, opened_on}
 
 -- more is owed
 pub follows_owed : (ring : ℕ) (p : Part) (owed : Bool) (past : List Up) → (owed ≡ false → p.ack_owed ≡ false) → Follows ring p past → Follows ring (record p { ack_owed = owed }) past
@@ -199,23 +199,7 @@ module _ (s : Settings) (c : Connection) (up : Upward) (down : Downward) (past :
           buffers = buffers;
           within = h.within;
           goes = comes s past now m (Arrives seg) h.goes on (λ so. so) refl h.goes.open_yet refl free;
-          opened = record {
-            live = o.live;
-            ours = o.ours;
-            connects = o.connects;
-            out = o.out;
-            unsent = o.unsent;
-            sent = o.sent;
-            answered = o.answered;
-            owes = λ apart_now yet not_gone. keeps_syn (o.owes apart_now yet not_gone);
-            calls = o.calls;
-            quiet = λ is. calm is;
-            called = o.called;
-            theirs = o.theirs;
-            scale = o.scale;
-            mss = o.mss;
-            calling = o.calling;
-          };
+          opened = opened_beside s c (record c { syn_owed = syn_owed; ack_owed = ack_owed }) after refl refl keeps_syn calm o;
           awaits = λ is. let not_it = sym is ∙ known in absurd cc;
           receives = λ is. receives_by syn_owed ack_owed only fresh (is_plain seg) refl;
           gives = gives_after syn_owed ack_owed keeps_syn;

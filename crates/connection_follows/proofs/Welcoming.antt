@@ -25,12 +25,13 @@ use Rattle.flow_laws.specs.Event.{Arrives, At, Segment, Story}
 use Rattle.flow_laws.specs.Host.{answered, is_acceptable, our_place}
 use Rattle.flow_laws.specs.Flow.{confirms, greets, host, syn_is_out, their_number, their_syn}
 use Rattle.flow_laws.specs.Windows.{is_scaled, their_scale, their_window}
+use Rattle.flow_laws.specs.Segments.{segment_of}
 use Rattle.halves_follow.specs.Sends.{Keeps}
 use Rattle.halves_follow.proofs.Reasons.{by_arrival}
 use Rattle.halves_follow.proofs.SendSteps.{place_of_number}
 use Rattle.halves_follow.proofs.Sendings.{rises}
 use Rattle.connection_follows.specs.Holding.{CountsSince, Gives, Holds, IsOpened, Receives, is_calls, is_connects, is_live}
-use Rattle.connection_follows.specs.Seen.{outward_of, segment_of, window_by}
+use Rattle.connection_follows.specs.Seen.{outward_of, window_by}
 use Rattle.connection_follows.proofs.Confirming.{answered_now, heard_counts, heard_fin, heard_keeps, heard_steady, heard_told, place_same, syn_heard_runs}
 use Rattle.connection_follows.proofs.Greeting.{goes_greeted, greeted_receives, known_now, most_now, unknown, unknown_is}
 use Rattle.connection_follows.proofs.Hearing.{heard_alone, heard_by, heard_stays, seen_as}

@@ -21,7 +21,7 @@ use Rattle.halves_follow.proofs.Wanting.{offers}
 use Rattle.connection_follows.specs.Holding.{Holds, Receives, is_calls, without}
 use Rattle.connection_follows.specs.Seen.{part_of}
 use Rattle.connection_follows.proofs.Going.{does}
-use Rattle.connection_follows.proofs.Quiet.{gives_as, gives_on, opened_on}
+use Rattle.connection_follows.proofs.Quiet.{gives_as, gives_on, opened_beside, opened_on}
 
 -- an offer that prompted nothing wrote nothing
 unwritten : (n k : ℕ) (held : List ℕ) → n ≤ k → k ≤ length held → (nat_lt 0 n && not (is_empty (take k held))) ≡ false → n ≡ 0
@@ -108,23 +108,7 @@ module _ (s : Settings) (c : Connection) (up : Upward) (down : Downward) (past :
         buffers = buffers;
         within = h.within;
         goes = does s past now m EndsHost EndHost h.goes on (λ o. o) refl (may_end s past m (t.1, t.2) h.goes.well h.goes.open_yet) (must_end s past m h.goes.free) h.goes.open_yet refl refl;
-        opened = record {
-          live = o.live;
-          ours = o.ours;
-          connects = o.connects;
-          out = o.out;
-          unsent = o.unsent;
-          sent = o.sent;
-          answered = o.answered;
-          owes = o.owes;
-          calls = o.calls;
-          quiet = o.quiet;
-          called = o.called;
-          theirs = o.theirs;
-          scale = o.scale;
-          mss = o.mss;
-          calling = o.calling;
-        };
+        opened = opened_beside s c (record c { host_ended = true }) (At m EndsHost ∷ past) refl refl (λ is. is) o.quiet o;
         awaits = λ is. let not_it = sym is ∙ known in absurd cc;
         receives = λ is. ended_receives none ended untold r;
         gives = gives_as s c (record c { host_ended = true }) down (At m EndsHost ∷ past) m refl refl refl refl refl (λ owed gone opening. g.syn_again opening owed gone) (λ so. so) g;

@@ -6,32 +6,15 @@ use Rattle.retransmit.specs.declared.Timer.TheVariants.{Off as StandsStill, Sinc
 use Rattle.sock_buffers.specs.Downward.{Downward}
 use Rattle.sock_buffers.specs.Kept.{Octets, octet_at}
 use Rattle.sock_buffers.specs.Upward.{Upward}
-use Rattle.tcp_segment.specs.Tcp.{Tcp, has}
-use Rattle.tcp_segment.specs.declared.TheConstants.{SYN, FIN, RST, ACK}
 use Rattle.tcp_transmit.specs.Transmission.{Transmission}
 use Rattle.tcp_transmit.specs.declared.Window.{Window}
 use Rattle.tcp_guest.specs.Connection.{Connection, is_opening}
 use Rattle.tcp_guest.specs.Hosts.{is_open}
-use Rattle.flow_laws.specs.Event.{Segment}
+pub use Rattle.flow_laws.specs.Segments.{segment_of}
 use Rattle.flow_laws.specs.Windows.{Window as ToldWindow}
 use Rattle.halves_follow.specs.Part.{Part, part}
 use Rattle.halves_follow.specs.Resends.{Timer as FlowTimer, Off, Until, Expired}
 use Rattle.halves_follow.specs.Sends.{Outward}
-
--- a segment of the guest, as the flow's story has it
-abbrev pub segment_of : Tcp → Segment
-segment_of tcp = record {
-  number = tcp.seq;
-  acknowledgement = tcp.ack;
-  ack = has ACK tcp.flags;
-  syn = has SYN tcp.flags;
-  rst = has RST tcp.flags;
-  fin = has FIN tcp.flags;
-  window = tcp.window;
-  mss = tcp.mss;
-  scale = tcp.scale;
-  octets = tcp.body;
-}
 
 -- the octets that are kept past a gap, by their places in the guest's stream
 abbrev pub kept_at : ℕ → Octets → ℕ → Option ℕ

@@ -162,33 +162,3 @@ fn half_of(mss: u16, flight: u64) -> u64
 {
     (flight / 2).max(2 * u64::from(mss))
 }
-
-#[cfg(test)]
-mod tests {
-    use super::*;
-
-    #[test]
-    fn the_first_window(rt: HostRuntime) {
-        for (mss, window) in [
-            (1, 4),
-            (1_095, 4_380),
-            (1_096, 3_288),
-            (2_190, 6_570),
-            (2_191, 4_382),
-        ] {
-            assert_eq!(rt; Cwnd::new(mss, false).window(), window);
-            assert_eq!(rt; Cwnd::new(mss, true).window(), u64::from(mss));
-        }
-    }
-
-    #[test]
-    fn each_call(rt: HostRuntime) {
-        let mut cwnd = Cwnd::new(1_460, false);
-        assert_eq!(rt; (cwnd.mss(), cwnd.window()), (1_460, 4_380));
-        cwnd.acked(1_460);
-        assert_eq!(rt; cwnd.window(), 5_840);
-        assert!(rt; !cwnd.duplicate(5_840));
-        cwnd.expired(10_000, false);
-        assert_eq!(rt; cwnd.window(), 1_460);
-    }
-}

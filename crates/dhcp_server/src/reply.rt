@@ -342,10 +342,7 @@ fn put(table: &Table<10>, code: u8, body: &[u8], into: &mut [u8], at: usize) -> 
     ensures written { Adds into.old at into.new result (put_octets form ((code, body.now) ∷ [])) }
     ensures end { result ≡ at + 2 + length body.now }
 {
-    match table.put(code, body, &mut into[at..]) {
-        Some(length) => at + length,
-        None => unreachable!(),
-    }
+    at + table.write(code, body, &mut into[at..])
 }
 
 // Writes a number of four octets.

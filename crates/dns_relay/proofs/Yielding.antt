@@ -5,7 +5,7 @@ use Rattle.world_face.specs.Journal.{Close}
 use Rattle.dns_relay.specs.Questions.{is_numbered, most_questions, without}
 use Rattle.dns_relay.specs.Relaying.{calls_for_room}
 use Rattle.dns_relay.specs.declared.Question.{Question}
-use Rattle.dns_relay.proofs.Counting.{same}
+use Rattle.udp_assoc.proofs.Ordering.{same}
 
 no_more : (n : ℕ) (list : List Question) → length (without n list) ≤ length list
 no_more n [] = omega arith

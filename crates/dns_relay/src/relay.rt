@@ -64,7 +64,12 @@ impl Relay {
     /// No socket is open. Sockets will be opened at port 0, where the system chooses the port: at `outbound` where the settings have it, else at 0.0.0.0, every
     /// address; where the resolver is on the host itself, in 127/8, at 0.0.0.0. All room for questions is in the value itself, so nothing is taken later.
     pub fn new(c: &SlirpConfig) -> Relay
-        ensures { result ≡ record { bind = bind_for (settings c.now); resolver = (settings c.now).resolver; name_server = (settings c.now).vnameserver; list = [] } }
+        ensures { result ≡ record {
+          bind = bind_for (settings c.now);
+          resolver = (settings c.now).resolver;
+          name_server = (settings c.now).vnameserver;
+          list = [];
+        } }
     {
         Relay {
             bind: bind_for(c),
@@ -140,7 +145,8 @@ impl Relay {
         requires numbers { number.old + 1 < 2 ^ 64 }
         requires above { All (λ n. n < number.old) (numbers self.old.list) }
         requires room { length self.old.list < most_questions }
-        ensures opens { Makes (W.tells world.old) (W.tells world.new) (OpensFor self.old.bind (asked_of asked.now) now number.old self.old.list self.new.list result) }
+        ensures opens { Makes (W.tells world.old) (W.tells world.new)
+            (OpensFor self.old.bind (asked_of asked.now) now number.old self.old.list self.new.list result) }
         ensures rest { self.new ≡ record self.old { list = self.new.list } }
         ensures next { number.new ≡ number.old + 1 }
     {
@@ -195,14 +201,16 @@ impl Relay {
             return Reply::Nothing;
         };
         match world.udp_recv(s, into) {
-            Got::From(peer, length) => self.hear(world, now, &question, peer, &into[..length]),
+            Got::From(peer, length) => {
+                self.receive_answer(world, now, &question, peer, &into[..length])
+            }
             Got::NotYet => Reply::Nothing,
             Got::Failed => Reply::Nothing,
         }
     }
 
     // A datagram of a peer came on the socket of a question, which is used by it.
-    fn hear<W: World>(
+    fn receive_answer<W: World>(
         &mut self,
         world: &mut W,
         now: u64,
@@ -210,11 +218,12 @@ impl Relay {
         peer: Endpoint,
         octets: &[u8],
     ) -> Reply
-        ensures calls { Makes (W.tells world.old) (W.tells world.new) (λ made. made ≡ calls_after self.old question.now (From peer (length octets.now)) octets.now) }
+        ensures calls { Makes (W.tells world.old) (W.tells world.new)
+            (λ made. made ≡ calls_after self.old question.now (From peer (length octets.now)) octets.now) }
         ensures list { self.new ≡ record self.old { list = list_after self.old now question.now (From peer (length octets.now)) octets.now } }
         ensures reply { result ≡ passed self.old question.now (From peer (length octets.now)) octets.now }
     {
-        self.list.heard(question.number, now);
+        self.list.received(question.number, now);
         if !is_answered(self.resolver, question, peer, octets) {
             return Reply::Nothing;
         }

@@ -200,7 +200,7 @@ pub counted_by : {A B C D : Type 0} (p q : Plan) → A ⊎ B → (A → C × (q 
 counted_by p q (inl a) first second = (first a).1
 counted_by p q (inr b) first second = (second b).1
 
--- The same for a World and a plan that are fields: what they were is what the whole was.
+-- A World and a plan that are fields: what they were is what the whole was.
 module _ {W : Type 0} (tells : W → Telling) (was : W) (p : Plan) (now : Faulted W) (is : ◌≡◌ {A = Faulted W} (record { inner = was; plan = p }) now) where
   pub passes_on : (new : W) (q : Plan) (e : Entry) → Answers (tells was) (tells new) e → q ≡ counted p → Passes tells now (record { inner = new; plan = q }) e
   passes_on new q e answers next = subst (λ (w : Faulted W). Passes tells w (record { inner = new; plan = q }) e) is (record { answers = answers; plan = next })

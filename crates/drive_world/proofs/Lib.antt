@@ -1,4 +1,2 @@
 mod Faulting
-mod Picking
-mod Putting
 mod Sizes

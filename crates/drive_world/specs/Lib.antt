@@ -1,4 +1,3 @@
 pub mod Draws
 pub mod Faults
-pub mod Picks
 pub mod Runs

@@ -196,7 +196,8 @@ impl<W: World> World for FaultWorld<W> {
         requires some { AreWants wants.now.items }
         requires few { length wants.now.items ≤ most_wants }
         requires room { most_ready ≤ ready.old.capacity }
-        ensures answers { Answers (tells_over self.old.plan (W.tells self.old.inner)) (tells_over self.new.plan (W.tells self.new.inner)) (Wait wants.now.items timeout result ready.new.items) }
+        ensures answers { Answers (tells_over self.old.plan (W.tells self.old.inner)) (tells_over self.new.plan (W.tells self.new.inner))
+            (Wait wants.now.items timeout result ready.new.items) }
         ensures capacity { ready.new.capacity ≡ ready.old.capacity }
         ensures fails { due self.old.plan ≡ Some Fail → (result ≡ WaitFailed) × (self.new ≡ record self.old { plan = given_to kind.Wait self.old.plan }) }
         ensures passes { due self.old.plan ≢ Some Fail → Passes W.tells self.old self.new (Wait wants.now.items timeout result ready.new.items) }
@@ -211,7 +212,8 @@ impl<W: World> World for FaultWorld<W> {
 
     fn link_open(&mut self, at: &LinkAt) -> Made
         requires { IsPlace (place_of at.now) }
-        ensures answers { Answers (tells_over self.old.plan (W.tells self.old.inner)) (tells_over self.new.plan (W.tells self.new.inner)) (LinkOpen (place_of at.now) result) }
+        ensures answers { Answers (tells_over self.old.plan (W.tells self.old.inner)) (tells_over self.new.plan (W.tells self.new.inner))
+            (LinkOpen (place_of at.now) result) }
         ensures fails { due self.old.plan ≡ Some Fail → (result ≡ MadeFailed) × (self.new ≡ record self.old { plan = given_to kind.Link self.old.plan }) }
         ensures passes { due self.old.plan ≢ Some Fail → Passes W.tells self.old self.new (LinkOpen (place_of at.now) result) }
     {
@@ -224,10 +226,12 @@ impl<W: World> World for FaultWorld<W> {
 
     fn link_read(&mut self, into: &mut [u8]) -> Io
         requires { 0 < length into.old }
-        ensures answers { Answers (tells_over self.old.plan (W.tells self.old.inner)) (tells_over self.new.plan (W.tells self.new.inner)) (LinkRead (length into.old) result (filled result into.new)) }
+        ensures answers { Answers (tells_over self.old.plan (W.tells self.old.inner)) (tells_over self.new.plan (W.tells self.new.inner))
+            (LinkRead (length into.old) result (filled result into.new)) }
         ensures fails { due self.old.plan ≡ Some Fail → (result ≡ IoFailed) × (self.new ≡ record self.old { plan = given_to kind.Link self.old.plan }) }
         ensures waits { due self.old.plan ≡ Some Later → (result ≡ IoLater) × (self.new ≡ record self.old { plan = given_to kind.Link self.old.plan }) }
-        ensures falls_short { due self.old.plan ≡ Some Short → FallsShort W.tells kind.Link (length into.old) result self.old self.new (LinkRead 1 result (filled result into.new)) }
+        ensures falls_short { due self.old.plan ≡ Some Short → FallsShort W.tells kind.Link (length into.old) result self.old self.new
+            (LinkRead 1 result (filled result into.new)) }
         ensures passes { due self.old.plan ≡ None → Passes W.tells self.old self.new (LinkRead (length into.old) result (filled result into.new)) }
     {
         match self.plan.course(Kind::Link) {
@@ -245,10 +249,12 @@ impl<W: World> World for FaultWorld<W> {
     fn link_write(&mut self, from: &[u8]) -> Io
         requires some { 0 < length from.now }
         requires fits { length from.now ≤ most_to_link }
-        ensures answers { Answers (tells_over self.old.plan (W.tells self.old.inner)) (tells_over self.new.plan (W.tells self.new.inner)) (LinkWrite from.now result) }
+        ensures answers { Answers (tells_over self.old.plan (W.tells self.old.inner)) (tells_over self.new.plan (W.tells self.new.inner))
+            (LinkWrite from.now result) }
         ensures fails { due self.old.plan ≡ Some Fail → (result ≡ IoFailed) × (self.new ≡ record self.old { plan = given_to kind.Link self.old.plan }) }
         ensures waits { due self.old.plan ≡ Some Later → (result ≡ IoLater) × (self.new ≡ record self.old { plan = given_to kind.Link self.old.plan }) }
-        ensures falls_short { due self.old.plan ≡ Some Short → FallsShort W.tells kind.Link (length from.now) result self.old self.new (LinkWrite (take 1 from.now) result) }
+        ensures falls_short { due self.old.plan ≡ Some Short → FallsShort W.tells kind.Link (length from.now) result self.old self.new
+            (LinkWrite (take 1 from.now) result) }
         ensures passes { due self.old.plan ≡ None → Passes W.tells self.old self.new (LinkWrite from.now result) }
     {
         match self.plan.course(Kind::Link) {
@@ -264,7 +270,8 @@ impl<W: World> World for FaultWorld<W> {
     }
 
     fn connect(&mut self, c: u64, to: Endpoint) -> Made
-        ensures answers { Answers (tells_over self.old.plan (W.tells self.old.inner)) (tells_over self.new.plan (W.tells self.new.inner)) (Connect c to result) }
+        ensures answers { Answers (tells_over self.old.plan (W.tells self.old.inner)) (tells_over self.new.plan (W.tells self.new.inner))
+            (Connect c to result) }
         ensures fails { due self.old.plan ≡ Some Fail → (result ≡ MadeFailed) × (self.new ≡ record self.old { plan = given_to kind.Socket self.old.plan }) }
         ensures passes { due self.old.plan ≢ Some Fail → Passes W.tells self.old self.new (Connect c to result) }
     {
@@ -315,10 +322,12 @@ impl<W: World> World for FaultWorld<W> {
 
     fn tcp_read(&mut self, c: u64, into: &mut [u8]) -> Io
         requires { 0 < length into.old }
-        ensures answers { Answers (tells_over self.old.plan (W.tells self.old.inner)) (tells_over self.new.plan (W.tells self.new.inner)) (TcpRead c (length into.old) result (filled result into.new)) }
+        ensures answers { Answers (tells_over self.old.plan (W.tells self.old.inner)) (tells_over self.new.plan (W.tells self.new.inner))
+            (TcpRead c (length into.old) result (filled result into.new)) }
         ensures fails { due self.old.plan ≡ Some Fail → (result ≡ IoFailed) × (self.new ≡ record self.old { plan = given_to kind.Socket self.old.plan }) }
         ensures waits { due self.old.plan ≡ Some Later → (result ≡ IoLater) × (self.new ≡ record self.old { plan = given_to kind.Socket self.old.plan }) }
-        ensures falls_short { due self.old.plan ≡ Some Short → FallsShort W.tells kind.Socket (length into.old) result self.old self.new (TcpRead c 1 result (filled result into.new)) }
+        ensures falls_short { due self.old.plan ≡ Some Short → FallsShort W.tells kind.Socket (length into.old) result self.old self.new
+            (TcpRead c 1 result (filled result into.new)) }
         ensures passes { due self.old.plan ≡ None → Passes W.tells self.old self.new (TcpRead c (length into.old) result (filled result into.new)) }
     {
         match self.plan.course(Kind::Socket) {
@@ -336,10 +345,12 @@ impl<W: World> World for FaultWorld<W> {
     fn tcp_write(&mut self, c: u64, from: &[u8]) -> Io
         requires some { 0 < length from.now }
         requires fits { length from.now ≤ most_to_flow }
-        ensures answers { Answers (tells_over self.old.plan (W.tells self.old.inner)) (tells_over self.new.plan (W.tells self.new.inner)) (TcpWrite c from.now result) }
+        ensures answers { Answers (tells_over self.old.plan (W.tells self.old.inner)) (tells_over self.new.plan (W.tells self.new.inner))
+            (TcpWrite c from.now result) }
         ensures fails { due self.old.plan ≡ Some Fail → (result ≡ IoFailed) × (self.new ≡ record self.old { plan = given_to kind.Socket self.old.plan }) }
         ensures waits { due self.old.plan ≡ Some Later → (result ≡ IoLater) × (self.new ≡ record self.old { plan = given_to kind.Socket self.old.plan }) }
-        ensures falls_short { due self.old.plan ≡ Some Short → FallsShort W.tells kind.Socket (length from.now) result self.old self.new (TcpWrite c (take 1 from.now) result) }
+        ensures falls_short { due self.old.plan ≡ Some Short → FallsShort W.tells kind.Socket (length from.now) result self.old self.new
+            (TcpWrite c (take 1 from.now) result) }
         ensures passes { due self.old.plan ≡ None → Passes W.tells self.old self.new (TcpWrite c from.now result) }
     {
         match self.plan.course(Kind::Socket) {
@@ -375,7 +386,8 @@ impl<W: World> World for FaultWorld<W> {
     }
 
     fn udp_open(&mut self, s: u64, at: Endpoint) -> Made
-        ensures answers { Answers (tells_over self.old.plan (W.tells self.old.inner)) (tells_over self.new.plan (W.tells self.new.inner)) (UdpOpen s at result) }
+        ensures answers { Answers (tells_over self.old.plan (W.tells self.old.inner)) (tells_over self.new.plan (W.tells self.new.inner))
+            (UdpOpen s at result) }
         ensures fails { due self.old.plan ≡ Some Fail → (result ≡ MadeFailed) × (self.new ≡ record self.old { plan = given_to kind.Socket self.old.plan }) }
         ensures passes { due self.old.plan ≢ Some Fail → Passes W.tells self.old self.new (UdpOpen s at result) }
     {
@@ -388,7 +400,8 @@ impl<W: World> World for FaultWorld<W> {
 
     fn udp_send(&mut self, s: u64, to: Endpoint, from: &[u8]) -> Sent
         requires { length from.now ≤ most_to_udp }
-        ensures answers { Answers (tells_over self.old.plan (W.tells self.old.inner)) (tells_over self.new.plan (W.tells self.new.inner)) (UdpSend s to from.now result) }
+        ensures answers { Answers (tells_over self.old.plan (W.tells self.old.inner)) (tells_over self.new.plan (W.tells self.new.inner))
+            (UdpSend s to from.now result) }
         ensures fails { due self.old.plan ≡ Some Fail → (result ≡ SentFailed) × (self.new ≡ record self.old { plan = given_to kind.Socket self.old.plan }) }
         ensures waits { due self.old.plan ≡ Some Later → (result ≡ SentLater) × (self.new ≡ record self.old { plan = given_to kind.Socket self.old.plan }) }
         ensures passes { due self.old.plan ≢ Some Fail → due self.old.plan ≢ Some Later → Passes W.tells self.old self.new (UdpSend s to from.now result) }
@@ -402,10 +415,12 @@ impl<W: World> World for FaultWorld<W> {
 
     fn udp_recv(&mut self, s: u64, into: &mut [u8]) -> Got
         requires { 0 < length into.old }
-        ensures answers { Answers (tells_over self.old.plan (W.tells self.old.inner)) (tells_over self.new.plan (W.tells self.new.inner)) (UdpRecv s (length into.old) result (filled_got result into.new)) }
+        ensures answers { Answers (tells_over self.old.plan (W.tells self.old.inner)) (tells_over self.new.plan (W.tells self.new.inner))
+            (UdpRecv s (length into.old) result (filled_got result into.new)) }
         ensures fails { due self.old.plan ≡ Some Fail → (result ≡ GotFailed) × (self.new ≡ record self.old { plan = given_to kind.Socket self.old.plan }) }
         ensures waits { due self.old.plan ≡ Some Later → (result ≡ GotLater) × (self.new ≡ record self.old { plan = given_to kind.Socket self.old.plan }) }
-        ensures passes { due self.old.plan ≢ Some Fail → due self.old.plan ≢ Some Later → Passes W.tells self.old self.new (UdpRecv s (length into.old) result (filled_got result into.new)) }
+        ensures passes { due self.old.plan ≢ Some Fail → due self.old.plan ≢ Some Later
+            → Passes W.tells self.old self.new (UdpRecv s (length into.old) result (filled_got result into.new)) }
     {
         match self.plan.course(Kind::Socket) {
             Course::Fails => Got::Failed,
@@ -417,7 +432,8 @@ impl<W: World> World for FaultWorld<W> {
     fn file_len(&mut self, name: &str) -> FileSize
         requires some { 0 < length name.now }
         requires fits { length name.now ≤ most_name }
-        ensures answers { Answers (tells_over self.old.plan (W.tells self.old.inner)) (tells_over self.new.plan (W.tells self.new.inner)) (FileLen name.now result) }
+        ensures answers { Answers (tells_over self.old.plan (W.tells self.old.inner)) (tells_over self.new.plan (W.tells self.new.inner))
+            (FileLen name.now result) }
         ensures fails { due self.old.plan ≡ Some Fail → (result ≡ SizeFailed) × (self.new ≡ record self.old { plan = given_to kind.File self.old.plan }) }
         ensures passes { due self.old.plan ≢ Some Fail → Passes W.tells self.old self.new (FileLen name.now result) }
     {
@@ -432,10 +448,13 @@ impl<W: World> World for FaultWorld<W> {
         requires some { 0 < length name.now }
         requires fits { length name.now ≤ most_name }
         requires room { 0 < length into.old }
-        ensures answers { Answers (tells_over self.old.plan (W.tells self.old.inner)) (tells_over self.new.plan (W.tells self.new.inner)) (FileRead name.now at (length into.old) result (filled result into.new)) }
+        ensures answers { Answers (tells_over self.old.plan (W.tells self.old.inner)) (tells_over self.new.plan (W.tells self.new.inner))
+            (FileRead name.now at (length into.old) result (filled result into.new)) }
         ensures fails { due self.old.plan ≡ Some Fail → (result ≡ IoFailed) × (self.new ≡ record self.old { plan = given_to kind.File self.old.plan }) }
-        ensures falls_short { due self.old.plan ≡ Some Short → FallsShort W.tells kind.File (length into.old) result self.old self.new (FileRead name.now at 1 result (filled result into.new)) }
-        ensures passes { due self.old.plan ≢ Some Fail → due self.old.plan ≢ Some Short → Passes W.tells self.old self.new (FileRead name.now at (length into.old) result (filled result into.new)) }
+        ensures falls_short { due self.old.plan ≡ Some Short → FallsShort W.tells kind.File (length into.old) result self.old self.new
+            (FileRead name.now at 1 result (filled result into.new)) }
+        ensures passes { due self.old.plan ≢ Some Fail → due self.old.plan ≢ Some Short
+            → Passes W.tells self.old self.new (FileRead name.now at (length into.old) result (filled result into.new)) }
     {
         match self.plan.count() {
             Some(How::Fail) => {

@@ -53,7 +53,7 @@ pub enum Owed {
 
 /// What came of a segment: what is owed for it, and from which place on its octets come next. Past its end none do.
 #[derive(Clone, Copy)]
-pub struct Heard {
+pub struct Came {
     pub owed: Owed,
     pub from: usize,
 }
@@ -136,18 +136,18 @@ impl Flow {
     }
 
     /// Takes a segment of the other side (RFC 9293, 3.10.7).
-    pub fn hear(&mut self, segment: &TcpView<'_>) -> Heard {
+    pub fn take_segment(&mut self, segment: &TcpView<'_>) -> Came {
         if self.reset {
             return nothing(Owed::Nothing);
         }
         if self.acknowledged == 0 {
-            return nothing(self.hear_first(segment));
+            return nothing(self.take_first(segment));
         }
-        self.hear_later(segment)
+        self.take_later(segment)
     }
 
     // While its SYN isn't acknowledged (3.10.7.3).
-    fn hear_first(&mut self, segment: &TcpView<'_>) -> Owed {
+    fn take_first(&mut self, segment: &TcpView<'_>) -> Owed {
         let acknowledges = self.under_way == 1 && segment.ack == number_of(1);
         if !segment.is_ack() || !acknowledges {
             return Owed::Nothing;
@@ -166,20 +166,20 @@ impl Flow {
     }
 
     // Once both sides have begun (3.10.7.4).
-    fn hear_later(&mut self, segment: &TcpView<'_>) -> Heard {
+    fn take_later(&mut self, segment: &TcpView<'_>) -> Came {
         if segment.is_rst() {
-            nothing(self.hear_reset(segment.seq))
+            nothing(self.take_reset(segment.seq))
         } else if segment.is_syn() {
             nothing(Owed::Word)
         } else if segment.is_ack() {
-            self.hear_acknowledgement(segment)
+            self.take_acknowledgement(segment)
         } else {
             nothing(Owed::Nothing)
         }
     }
 
     // A reset with this number: one that comes next ends it, another in the window is asked about.
-    fn hear_reset(&mut self, number: Seq) -> Owed {
+    fn take_reset(&mut self, number: Seq) -> Owed {
         let distance = ahead(number, self.expected);
         if distance == 0 {
             self.end();
@@ -192,32 +192,32 @@ impl Flow {
     }
 
     // A segment that acknowledges, and may bring octets. An old one acknowledges nothing, and tells no window.
-    fn hear_acknowledgement(&mut self, segment: &TcpView<'_>) -> Heard {
+    fn take_acknowledgement(&mut self, segment: &TcpView<'_>) -> Came {
         let moved = segment.ack.0.wrapping_sub(number_of(self.acknowledged).0);
         if moved.cast_signed() < 0 {
-            return self.take(segment);
+            return self.take_octets(segment);
         }
         if moved > self.under_way {
             return nothing(Owed::Word);
         }
         self.window = segment.window;
         if moved == 0 {
-            return self.take(segment);
+            return self.take_octets(segment);
         }
         self.advance(moved);
-        let heard = self.take(segment);
+        let came = self.take_octets(segment);
         if self.is_all_acknowledged() {
-            heard
+            came
         } else {
-            Heard {
+            Came {
                 owed: Owed::Piece,
-                ..heard
+                ..came
             }
         }
     }
 
     // Takes the octets that come next, and the end after them.
-    fn take(&mut self, segment: &TcpView<'_>) -> Heard {
+    fn take_octets(&mut self, segment: &TcpView<'_>) -> Came {
         let size = segment.body.len();
         let past = self.expected.0.wrapping_sub(segment.seq.0) as usize;
         let fits = past <= size && !self.end_taken;
@@ -228,7 +228,7 @@ impl Flow {
         } else {
             Owed::Nothing
         };
-        Heard { owed, from }
+        Came { owed, from }
     }
 
     // So many octets came next, and the end after them or not.
@@ -260,8 +260,8 @@ fn number_of(count: u32) -> Seq {
 }
 
 // A segment that brings no octets.
-fn nothing(owed: Owed) -> Heard {
-    Heard {
+fn nothing(owed: Owed) -> Came {
+    Came {
         owed,
         from: usize::MAX,
     }

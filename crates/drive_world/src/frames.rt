@@ -4,10 +4,11 @@ ghost use Rattle.std.specs.Prelude.{◌≤◌, ◌<◌, ◌+◌, ◌^◌, length
 use crate::reporting::fill;
 use ether_frame::EtherView;
 use ipv4_head::IpView;
-use net_octets::{Endpoint, Ip4, Mac, NoMemory};
+use net_octets::{Endpoint, IPV4_KIND, Ip4, Mac, NoMemory, TCP_PROTO};
 use seq_space::Seq;
 use std::alloc::Global;
 use tcp_segment::TcpView;
+use world_face::MOST_TO_LINK;
 
 pub const GUEST: Ip4 = Ip4(0x0a00020f);
 
@@ -20,17 +21,10 @@ const GUEST_MAC: Mac = Mac([0x52, 0x54, 0x00, 0x12, 0x34, 0x56]);
 
 const NETWORK_MAC: Mac = Mac([0x52, 0x55, 10, 0, 2, 2]);
 
-const KIND_IPV4: u16 = 0x0800;
-
-const PROTOCOL_TCP: u8 = 6;
-
 const TIME_TO_LIVE: u8 = 64;
 
 /// The octets of the length before a frame.
 const LENGTH: usize = 4;
-
-/// The most octets of a frame with its length.
-const MOST: usize = 1518;
 
 /// The most octets that a segment of the guest carries, and that it has with its header and options.
 pub const MOST_BODY: usize = 1000;
@@ -42,7 +36,7 @@ const MOST_SEGMENT: usize = MOST_BODY + 28;
 pub struct Frame {
     pub flow: usize,
     pub count: usize,
-    pub octets: [u8; MOST],
+    pub octets: [u8; MOST_TO_LINK],
 }
 
 impl Frame {
@@ -50,7 +44,7 @@ impl Frame {
         Frame {
             flow: 0,
             count: 0,
-            octets: [0; MOST],
+            octets: [0; MOST_TO_LINK],
         }
     }
 
@@ -58,7 +52,7 @@ impl Frame {
     pub fn add(&mut self, octets: &[u8]) {
         let place = self.count;
         let end = place.saturating_add(octets.len());
-        if end > MOST {
+        if end > MOST_TO_LINK {
             self.count = 0;
             return;
         }
@@ -108,7 +102,7 @@ impl Frame {
         let ether = EtherView {
             to: NETWORK_MAC,
             from: GUEST_MAC,
-            kind: KIND_IPV4,
+            kind: IPV4_KIND,
             body: packet,
         };
         let Ok(size) = ether_frame::encode(&ether, &mut self.octets[LENGTH..]) else {
@@ -139,7 +133,7 @@ fn write_datagram(segment: &[u8], into: &mut [u8]) -> Option<usize>
         more: false,
         offset: 0,
         ttl: TIME_TO_LIVE,
-        proto: PROTOCOL_TCP,
+        proto: TCP_PROTO,
         from: GUEST,
         to: SERVER.addr,
         head: &[],
@@ -162,7 +156,7 @@ fn packet_in(carried: &[u8]) -> Option<&[u8]> {
     let Ok(ether) = ether_frame::decode(carried.get(LENGTH..)?) else {
         return None;
     };
-    (ether.kind == KIND_IPV4).then_some(ether.body)
+    (ether.kind == IPV4_KIND).then_some(ether.body)
 }
 
 // The octets of a segment in a whole datagram of the server to the guest.
@@ -173,7 +167,7 @@ fn octets_in(packet: &[u8]) -> Option<&[u8]>
         return None;
     };
     let whole = !datagram.more && datagram.offset == 0;
-    if datagram.proto != PROTOCOL_TCP || datagram.to != GUEST || !whole {
+    if datagram.proto != TCP_PROTO || datagram.to != GUEST || !whole {
         return None;
     }
     if datagram.from != SERVER.addr || datagram.body.len() > 65535 {

@@ -3,6 +3,7 @@ use crate::flow::{FIRST_PORT, Flow, Owed};
 use crate::frames::{Frame, segment_in};
 use crate::pattern::Pattern;
 use crate::road::Road;
+use world_face::sooner;
 
 /// How many connections the guest has.
 pub const FLOWS: usize = 8;
@@ -40,7 +41,13 @@ impl Guest {
     }
 
     /// Takes what the link carries, and sends what it owes for it.
-    pub fn hear(&mut self, now: u64, carried: &[u8], pattern: &Pattern, road: &mut Road) -> Taken {
+    pub fn take_frame(
+        &mut self,
+        now: u64,
+        carried: &[u8],
+        pattern: &Pattern,
+        road: &mut Road,
+    ) -> Taken {
         let Some(segment) = segment_in(carried) else {
             return NOTHING_TAKEN;
         };
@@ -49,11 +56,11 @@ impl Guest {
             return NOTHING_TAKEN;
         };
         let place = flow.taken;
-        let heard = flow.hear(&segment);
-        if let Some(frame) = frame_owed(flow, heard.owed, number, now, pattern) {
+        let came = flow.take_segment(&segment);
+        if let Some(frame) = frame_owed(flow, came.owed, number, now, pattern) {
             road.send(&frame);
         }
-        match segment.body.get(heard.from..) {
+        match segment.body.get(came.from..) {
             Some(octets) => Taken {
                 count: octets.len() as u64,
                 wrong: pattern.differing(place, octets),
@@ -101,14 +108,5 @@ fn frame_owed(
         Owed::Nothing => None,
         Owed::Word => Frame::carrying(number, &flow.word()),
         Owed::Piece => Frame::carrying(number, &flow.piece(now, pattern)?),
-    }
-}
-
-/// The sooner of two moments.
-pub fn sooner(first: Option<u64>, second: Option<u64>) -> Option<u64> {
-    match (first, second) {
-        (Some(one), Some(other)) => Some(one.min(other)),
-        (Some(one), None) => Some(one),
-        (None, other) => other,
     }
 }

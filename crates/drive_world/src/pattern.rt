@@ -1,12 +1,10 @@
 // What the streams carry: octet i is i modulo 251.
 use net_octets::NoMemory;
 use std::alloc::Global;
+use world_face::MOST_TO_FLOW;
 
 /// After so many octets a stream begins anew.
 pub const PERIOD: usize = 251;
-
-/// The most octets that are compared or sent at once.
-const MOST: usize = 16384;
 
 /// A stretch of a stream that holds each part of up to 16,384 octets.
 #[derive(Drop)]
@@ -16,7 +14,7 @@ pub struct Pattern {
 
 impl Pattern {
     pub fn open(alloc: Global) -> Result<Pattern, NoMemory> {
-        let Ok(mut octets) = Vec::with_capacity(alloc, MOST + PERIOD) else {
+        let Ok(mut octets) = Vec::with_capacity(alloc, MOST_TO_FLOW + PERIOD) else {
             return Err(NoMemory);
         };
         for _ in 0..66 {

@@ -6,7 +6,7 @@ ghost use Rattle.world_face.specs.Journal.{MayWait};
 ghost use Rattle.world_face.specs.Limits.{most_ready, most_wants};
 ghost use Rattle.world_face.specs.declared.Waited.TheVariants.{Ready};
 ghost use Rattle.world_face.specs.declared.Io.TheVariants.{Done, NotYet};
-ghost use Rattle.drive_world.specs.Picks.{IsPart, IsPickedFrom, GoesOn, Adds};
+ghost use Rattle.poll_list.specs.Picks.{IsPart, IsPickedFrom, GoesOn, Adds};
 
 use crate::host::Host;
 use poll_list::{ReadyList, Want, Wants, Who};

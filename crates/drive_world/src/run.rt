@@ -1,5 +1,5 @@
 // What a run came to, and its text.
-#![tactic(auto, using(crate::proofs::Putting::puts_then, crate::proofs::Putting::puts_failed))]
+#![tactic(auto, using(world_face::proofs::Putting::puts_then, world_face::proofs::Putting::puts_failed))]
 
 ghost use Rattle.std.specs.Prelude.{◌≡◌, codes, decimal};
 ghost use Rattle.world_face.specs.Puts.{Puts};

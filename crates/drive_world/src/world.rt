@@ -8,7 +8,7 @@ ghost use Rattle.world_face.specs.declared.Waited.TheVariants.{Ready};
 ghost use Rattle.drive_world.specs.Runs.{CountsDown};
 
 use crate::frames::Frame;
-use crate::guest::{Guest, sooner};
+use crate::guest::Guest;
 use crate::host::Host;
 use crate::pattern::Pattern;
 use crate::reporting::{moved, report};
@@ -19,7 +19,7 @@ use std::alloc::Global;
 use std::marker::Model;
 use world_face::{
     Accepted, Endpoint, Failed, FileSize, Got, Io, Joined, LinkAt, Made, ReadyList, Sent, Sink,
-    Waited, Wants, World,
+    Waited, Wants, World, sooner,
 };
 
 /// At this wait the run is stopped.
@@ -115,24 +115,24 @@ impl Outside {
         true
     }
 
-    // The guest hears a frame.
-    fn hear(&mut self, carried: &[u8], run: &mut Run)
+    // The guest takes a frame.
+    fn take_frame(&mut self, carried: &[u8], run: &mut Run)
         ensures { CountsDown run.old run.new }
     {
         let taken = self
             .guest
-            .hear(self.clock, carried, &self.pattern, &mut self.road);
+            .take_frame(self.clock, carried, &self.pattern, &mut self.road);
         run.down = run.down.saturating_add(taken.count);
         run.wrong = run.wrong.saturating_add(taken.wrong);
     }
 
-    // The guest hears those that were held back.
-    fn hear_late(&mut self, run: &mut Run)
+    // The guest takes those that were held back.
+    fn take_late(&mut self, run: &mut Run)
         ensures { CountsDown run.old run.new }
     {
         for _ in 0..self.road.late_count() {
             if let Some(frame) = self.road.late() {
-                self.hear(frame.carried(), run);
+                self.take_frame(frame.carried(), run);
             }
         }
     }
@@ -155,10 +155,10 @@ impl Outside {
     {
         let times = self.road.bring(frame);
         for _ in 0..times {
-            self.hear(frame.carried(), run);
+            self.take_frame(frame.carried(), run);
         }
         if times > 0 {
-            self.hear_late(run);
+            self.take_late(run);
         }
     }
 
@@ -178,7 +178,7 @@ impl Outside {
             None => {}
         }
         self.road.release();
-        self.hear_late(run);
+        self.take_late(run);
         self.tick();
         true
     }
@@ -421,7 +421,8 @@ impl World for DriveWorld {
         requires some { 0 < length _name.now }
         requires fits { length _name.now ≤ most_name }
         requires room { 0 < length _into.old }
-        ensures answers { Answers (tells_of self.old.number) (tells_of self.new.number) (FileRead _name.now _at (length _into.old) result (filled result _into.new)) }
+        ensures answers { Answers (tells_of self.old.number) (tells_of self.new.number)
+            (FileRead _name.now _at (length _into.old) result (filled result _into.new)) }
         ensures same { self.new ≡ self.old }
     {
         Io::End

@@ -6,7 +6,6 @@ use Rattle.retransmit.specs.Resending.{due_of as resend_due}
 use Rattle.tcp_guest.specs.Connection.{has_gone, is_opening, is_synchronized}
 use Rattle.tcp_guest.specs.Owing.{ack_if, owed_by, owed_of}
 use Rattle.tcp_guest.specs.Timing.{due_by as conn_due_by, due_of as conn_due}
-use Rattle.tcp_guest.specs.declared.Owed.{Owed}
 use Rattle.tcp_guest.specs.declared.Owed.TheVariants.{Syn, SynAck}
 use Rattle.tcp_guest.specs.declared.Stage.{Stage}
 use Rattle.tcp_guest.specs.declared.Stage.TheVariants as stage
@@ -21,21 +20,14 @@ use Rattle.connection_follows.proofs.Bounds.{from_first, from_if, from_second, o
 use Rattle.connection_follows.proofs.Settling.{not_expired}
 use Rattle.connection_follows.proofs.Watching.{syn_under_way}
 use Rattle.flow_splice.specs.Follows.{Follows, FollowsAt, IsOpen}
-use Rattle.flow_splice.specs.Sends.{IsClear, IsClearBy, takes_part_at}
+use Rattle.flow_splice.specs.Sends.{IsClear, IsClearBy}
 use Rattle.flow_splice.specs.Splice.{Splice, is_in_use, is_open}
 use Rattle.flow_splice.specs.Wants.{connect_end, due_of, seeks}
+use Rattle.flow_splice.proofs.Stages.{calls_opens, if_none, in_use, no_connecting, no_way, takes}
 use Rattle.flow_splice.specs.declared.Place.{Place}
 use Rattle.flow_splice.specs.declared.Place.TheVariants.{Empty, InUse, Resting}
 
 -- ---- once its socket was closed
-
-no_way : (a b : Bool) → b ≡ true → (a && not b) ≡ false
-no_way true b is = ap not is
-no_way false b is = refl
-
-no_connecting : (a b : Bool) → b ≡ true → not (a || b) ≡ false
-no_connecting true b is = refl
-no_connecting false b is = ap not is
 
 shut_by : (f : Splice) (past : Story) → is_closed past ≡ true → IsBy (due_of f) (connect_deadline past) × IsBy (due_of f) (resend_deadline past)
 shut_by f past shut = (
@@ -49,10 +41,6 @@ shut_from f past shut =
     (sym (ap (λ (b : Bool). if b then (if is_connects f.conn.stage then Some (connect_end f) else (if seeks f then Some f.ask_at else conn_due f.conn)) else None) shut)) tt
 
 -- ---- while it is open
-
-if_none : (b : Bool) (w : Owed) → (if b then Some w else None) ≡ None → b ≡ false
-if_none true w is = absurd cc
-if_none false w is = refl
 
 module _ (s : Settings) (f : Splice) (past : Story) (now : ℕ) (o : IsOpen s f past now) (open_yet : is_open f ≡ true) where
   due_open : due_of f ≡ (if is_connects f.conn.stage then Some (connect_end f) else (if seeks f then Some f.ask_at else conn_due f.conn))
@@ -81,15 +69,6 @@ module _ (s : Settings) (f : Splice) (past : Story) (now : ℕ) (o : IsOpen s f 
   none_by : is_opening f.conn.stage ≡ true → has_gone f.conn.sendings ≡ false → IsBy (due_of f) (resend_deadline past)
   none_by opening unsent =
       subst (λ (b : Bool). IsBy (due_of f) (moment_if (b && not (is_closed past)) (waits_since past + 60000))) (sym (syn_under_way s f.conn past o.holds.opened opening ∙ unsent)) tt
-
-  calls_opens : (t : Stage) → is_calls t ≡ true → is_opening t ≡ true
-  calls_opens stage.Connects is = absurd cc
-  calls_opens stage.Calls is = refl
-  calls_opens stage.Answers is = absurd cc
-  calls_opens stage.Synchronized is = absurd cc
-  calls_opens stage.Rests is = absurd cc
-  calls_opens (stage.Resets seq ack) is = absurd cc
-  calls_opens stage.Gone is = absurd cc
 
   known_seeks : (mac : Mac) → f.mac ≡ Some mac → seeks f ≡ false
   known_seeks mac is = ap (λ (m : Option Mac). not (is_some m) && nat_lt 0 f.asked) is
@@ -130,17 +109,8 @@ module _ (s : Settings) (f : Splice) (past : Story) (now : ℕ) (o : IsOpen s f 
   pub open_by_resend : IsClear f → IsBy (due_of f) (resend_deadline past)
   open_by_resend clear = by f.mac refl clear
     where
-      takes : (p : Place) (q : Option Owed) → is_in_use p ≡ true → takes_part_at p q ≡ None → q ≡ None
-      takes Empty q is none = absurd cc
-      takes InUse q is none = none
-      takes (Resting since) q is none = absurd cc
-
-      in_use : (a b : Bool) → (a && not b) ≡ true → a ≡ true
-      in_use true b is = refl
-      in_use false b is = absurd cc
-
       by : (m : Option Mac) → f.mac ≡ m → IsClearBy m f → IsBy (due_of f) (resend_deadline past)
-      by None is some = let two = o.unsent is in none_by (calls_opens f.conn.stage two.0) two.1
+      by None is some = let two = o.unsent is in none_by (calls_opens f.conn.stage two.0).0 two.1
       by (Some mac) is none = known_by (known_seeks mac is) (takes f.place (owed_of f.conn f.up f.down) (in_use (is_in_use f.place) f.shut open_yet) none)
 
   -- ---- at least

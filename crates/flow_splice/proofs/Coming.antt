@@ -1,5 +1,5 @@
 -- A segment of the guest arrives at a flow whose socket is open.
-use Rattle.std.proofs.Common.{refl, ◌≡◌, ℕ, List, Bool, true, false, if◌then◌else◌, ap, ◌∙◌}
+use Rattle.std.proofs.Common.{refl, ◌≡◌, ℕ, List, Bool, true, false, if◌then◌else◌, ◌∙◌}
 use Rattle.sock_buffers.specs.Downward.{Downward}
 use Rattle.sock_buffers.specs.Upward.{Upward}
 use Rattle.tcp_receive.specs.Received.{up_after}
@@ -16,6 +16,7 @@ use Rattle.connection_follows.proofs.Coming.{sized}
 use Rattle.flow_splice.specs.Guests.{heard}
 use Rattle.flow_splice.specs.Hosts.{IsAsOld, Sees, ends}
 use Rattle.flow_splice.specs.Splice.{Splice}
+use Rattle.flow_splice.specs.Stays.{Stays}
 use Rattle.flow_splice.proofs.Shutting.{settled_over}
 use Rattle.world_face.specs.Journal.{Entry}
 
@@ -68,13 +69,11 @@ heard_as_old f tcp now = record {
 pub heard_written : (f : Splice) (tcp : Tcp) (now : ℕ) → (heard f tcp now).up.written ≡ f.up.written
 heard_written f tcp now = (up_stays (verdict_of f.conn f.up tcp) f.conn f.up f.down tcp).1
 
-pub sees_as_old : (b : Bool) (mid new : Splice) (now : ℕ) (made : List Entry) → Sees b mid new now made → IsAsOld mid new
-sees_as_old true mid new now made sees = rw sees.1 (record { face = refl; mac = refl; since = refl; asked = refl; ask_at = refl; up_size = refl; down_size = refl; mru = refl })
-sees_as_old false mid new now made sees = rw sees.1 (record { face = refl; mac = refl; since = refl; asked = refl; ask_at = refl; up_size = refl; down_size = refl; mru = refl })
-
-pub sees_up : (b : Bool) (mid new : Splice) (now : ℕ) (made : List Entry) → Sees b mid new now made → new.up ≡ mid.up
-sees_up true mid new now made sees = ap (λ (f : Splice). f.up) sees.1
-sees_up false mid new now made sees = ap (λ (f : Splice). f.up) sees.1
+pub sees_stays : (b : Bool) (mid new : Splice) (now : ℕ) (made : List Entry) → Sees b mid new now made → Stays mid new
+sees_stays true mid new now made sees =
+    rw sees.1 (record { same = record { face = refl; mac = refl; since = refl; asked = refl; ask_at = refl; up_size = refl; down_size = refl; mru = refl }; up = refl; down = refl })
+sees_stays false mid new now made sees =
+    rw sees.1 (record { same = record { face = refl; mac = refl; since = refl; asked = refl; ask_at = refl; up_size = refl; down_size = refl; mru = refl }; up = refl; down = refl })
 
 pub as_old_then : (old mid new : Splice) → IsAsOld old mid → IsAsOld mid new → IsAsOld old new
 as_old_then old mid new a b = record {
@@ -87,6 +86,9 @@ as_old_then old mid new a b = record {
   down_size = b.down_size ∙ a.down_size;
   mru = b.mru ∙ a.mru;
 }
+
+pub stays_then : (old mid new : Splice) → Stays old mid → Stays mid new → Stays old new
+stays_then old mid new a b = record { same = as_old_then old mid new a.same b.same; up = b.up ∙ a.up; down = b.down ∙ a.down }
 
 -- ---- a change that ends the connection
 

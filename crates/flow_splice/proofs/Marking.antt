@@ -19,23 +19,21 @@ use Rattle.flow_splice.specs.Follows.{Follows}
 use Rattle.flow_splice.specs.Hosts.{IsAsOld, Sees, ends}
 use Rattle.flow_splice.specs.Left.{left}
 use Rattle.flow_splice.specs.Sends.{GoesOut, Marks, SendsOn, went_out}
+use Rattle.flow_splice.specs.Stays.{Stays}
 use Rattle.flow_splice.specs.Splice.{Face, Splice, closed, is_in_use, is_open}
 use Rattle.flow_splice.proofs.Events.{events_then, ident_both}
 use Rattle.flow_splice.proofs.Lessening.{less}
 use Rattle.flow_splice.proofs.Opened.{follows_later}
 
-pub record Stays (old new : Splice) (made : List Entry) : Type 0 where
-  pub as_old : IsAsOld old new
-  pub up : new.up ≡ old.up
-  pub down : new.down ≡ old.down
+-- what is left once the flow knows what became of an offer
+pub record Marked (old new : Splice) (made : List Entry) : Type 0 where
+  pub stays : Stays old new
   pub closes : (made ≡ []) ⊎ ((n : ℕ) × (made ≡ Close n ∷ []))
   pub shut : is_open old ≡ false → is_open new ≡ false
 
-same_of : (f x new : Splice) (made : List Entry) → IsAsOld f x → x.up ≡ f.up → x.down ≡ f.down → new ≡ x → (made ≡ []) ⊎ ((n : ℕ) × (made ≡ Close n ∷ [])) → (is_open f ≡ false → is_open x ≡ false) → Stays f new made
+same_of : (f x new : Splice) (made : List Entry) → IsAsOld f x → x.up ≡ f.up → x.down ≡ f.down → new ≡ x → (made ≡ []) ⊎ ((n : ℕ) × (made ≡ Close n ∷ [])) → (is_open f ≡ false → is_open x ≡ false) → Marked f new made
 same_of f x new made as_old up down is closes shut = record {
-  as_old = subst (λ (y : Splice). IsAsOld f y) (sym is) as_old;
-  up = ap (λ (y : Splice). y.up) is ∙ up;
-  down = ap (λ (y : Splice). y.down) is ∙ down;
+  stays = record { same = subst (λ (y : Splice). IsAsOld f y) (sym is) as_old; up = ap (λ (y : Splice). y.up) is ∙ up; down = ap (λ (y : Splice). y.down) is ∙ down };
   closes = closes;
   shut = λ is_shut. ap is_open is ∙ shut is_shut;
 }
@@ -47,19 +45,19 @@ never_both false = refl
 as_it_is : (f : Splice) → IsAsOld f f
 as_it_is f = record { face = refl; mac = refl; since = refl; asked = refl; ask_at = refl; up_size = refl; down_size = refl; mru = refl }
 
-out_stays : (b : Bool) (what : Owed) (f new : Splice) (now : ℕ) (made : List Entry) → GoesOut b what f new now made → Stays f new made
+out_stays : (b : Bool) (what : Owed) (f new : Splice) (now : ℕ) (made : List Entry) → GoesOut b what f new now made → Marked f new made
 out_stays true what f new now made is =
     same_of f (record (went_out f what now) { place = new.place }) new made (record { face = refl; mac = refl; since = refl; asked = refl; ask_at = refl; up_size = refl; down_size = refl; mru = refl }) refl refl
     (is.1 ∙ ap (λ p. record (went_out f what now) { place = p }) (sym (ap (λ (y : Splice). y.place) is.1))) (inl is.0)
     (λ is_shut. ap (λ p. is_in_use p && not f.shut) (ap (λ (y : Splice). y.place) is.1))
 out_stays false what f new now made is = by (ends (change_gone what f.conn f.up now)) is
   where
-    by : (e : Bool) → Sees e (went_out f what now) new now made → Stays f new made
+    by : (e : Bool) → Sees e (went_out f what now) new now made → Marked f new made
     by true sees = same_of f (closed (went_out f what now) now) new made (record { face = refl; mac = refl; since = refl; asked = refl; ask_at = refl; up_size = refl; down_size = refl; mru = refl }) refl refl sees.1 (inr (f.face.number, sees.0))
         (λ is_shut. never_both (is_in_use (closed (went_out f what now) now).place))
     by false sees = same_of f (went_out f what now) new made (record { face = refl; mac = refl; since = refl; asked = refl; ask_at = refl; up_size = refl; down_size = refl; mru = refl }) refl refl sees.1 (inl sees.0) (λ is_shut. is_shut)
 
-pub marks_stay : (o : Offered) (what : Owed) (f new : Splice) (now : ℕ) (made : List Entry) → Marks o what f new now made → Stays f new made
+pub marks_stay : (o : Offered) (what : Owed) (f new : Splice) (now : ℕ) (made : List Entry) → Marks o what f new now made → Marked f new made
 marks_stay Taken what f new now made marks = out_stays (is_rst what) what f new now made marks
 marks_stay Blocked what f new now made marks = same_of f f new made (as_it_is f) refl refl marks.1 (inl marks.0) (λ is_shut. is_shut)
 marks_stay Failed what f new now made marks = same_of f f new made (as_it_is f) refl refl marks.1 (inl marks.0) (λ is_shut. is_shut)
@@ -72,7 +70,7 @@ left_of x new conn up down =
 pub marks_less : (what : Owed) (f new : Splice) (now : ℕ) (made : List Entry) → HasBuffers f.conn f.up f.down → owed_of f.conn f.up f.down ≡ Some what → Marks Taken what f new now made → left new < left f
 marks_less what f new now made buffers owed marks =
     let fewer = less f.conn f.up f.down now buffers what owed in
-    let stays = marks_stay Taken what f new now made marks in
+    let stays = (marks_stay Taken what f new now made marks).stays in
     let same = left_of (went_out f what now) new (conn_is (is_rst what) marks) stays.up stays.down in
     omega (arith, fewer, same)
   where

@@ -9,7 +9,6 @@ use Rattle.tcp_guest.specs.Connection.{Connection, has_gone, is_opening, is_sync
 use Rattle.tcp_guest.specs.Hosts.{is_open as is_host_open}
 use Rattle.tcp_guest.specs.Owing.{ack_if, owed_by, owed_of}
 use Rattle.tcp_guest.specs.Timing.{due_by}
-use Rattle.tcp_guest.specs.declared.Owed.{Owed}
 use Rattle.tcp_guest.specs.declared.Owed.TheVariants.{Syn, SynAck}
 use Rattle.tcp_guest.specs.declared.Stage.{Stage}
 use Rattle.tcp_guest.specs.declared.Stage.TheVariants as stage
@@ -35,6 +34,7 @@ use Rattle.flow_splice.specs.Sends.{IsClear, IsClearBy, takes_part_at}
 use Rattle.flow_splice.specs.Splice.{Splice, is_at_rest, is_in_use, is_open}
 use Rattle.flow_splice.specs.Wants.{connect_end, may_read, may_write, reads, writes}
 use Rattle.flow_splice.proofs.Restless.{open_none, owing_none}
+use Rattle.flow_splice.proofs.Stages.{calls_opens, if_none, in_use, no_connecting, no_way, takes}
 use Rattle.flow_splice.specs.declared.Place.{Place}
 use Rattle.flow_splice.specs.declared.Place.TheVariants.{Empty, InUse, Resting}
 
@@ -131,16 +131,8 @@ module _ (in_time : Type 0) (s : Settings) (past : Story) (now : ℕ) (known res
     window = λ honest is. absurd (closed_not (answered (host past)) (is_closed past) shut is);
     resends = λ early. subst (λ (b : Bool). AreAhead now (moment_if b (waits_since past + 60000))) (sym (no_way (is_under_way past) (is_closed past) shut)) tt;
   }
-    where
-      no_way : (a b : Bool) → b ≡ true → (a && not b) ≡ false
-      no_way true b is = ap not is
-      no_way false b is = refl
 
 -- ---- at a wait, while it is open
-
-if_none : (b : Bool) (w : Owed) → (if b then Some w else None) ≡ None → b ≡ false
-if_none true w is = absurd cc
-if_none false w is = refl
 
 off_none : (tm : Timer) (w : ℕ) → is_off tm ≡ true → (at : ℕ) → due_by_timer tm w ≡ Some at → ⊥
 off_none timer.Off w is at due = cc
@@ -192,15 +184,6 @@ module _ (s : Settings) (f : Splice) (past : Story) (now : ℕ) (known : Bool) (
   open_settled : is_open f ≡ true → (f.mac ≡ None → known ≡ false) → IsClearBy f.mac f → IsSettledIf (IsAhead f.conn now) s past known false now
   open_settled open_yet unknown clear = by f.mac refl clear
     where
-      takes : (p : Place) (q : Option Owed) → is_in_use p ≡ true → takes_part_at p q ≡ None → q ≡ None
-      takes Empty q is none = absurd cc
-      takes InUse q is none = none
-      takes (Resting since) q is none = absurd cc
-
-      in_use : (a b : Bool) → (a && not b) ≡ true → a ≡ true
-      in_use true b is = refl
-      in_use false b is = absurd cc
-
       by : (m : Option Mac) → f.mac ≡ m → IsClearBy m f → IsSettledIf (IsAhead f.conn now) s past known false now
       by None is some =
           let two = o.unsent is in
@@ -245,10 +228,6 @@ closed_waits past now shut = record {
   closes = λ honest done. shut;
   connects = subst (λ (b : Bool). AreAhead now (moment_if b (opened_at past + 75000))) (sym (no_connecting (is_accepted past || has_connected past) (is_closed past) shut)) tt;
 }
-  where
-    no_connecting : (a b : Bool) → b ≡ true → not (a || b) ≡ false
-    no_connecting true b is = refl
-    no_connecting false b is = ap not is
 
 pub waited_is : (s : Settings) (f : Splice) (past : Story) (now : ℕ) → Follows s f past now → (is_open f ≡ true → is_connects f.conn.stage ≡ true → now < connect_end f) → MayWait past now
 waited_is s f past now h early = by f.place f.shut refl refl h
@@ -256,15 +235,6 @@ waited_is s f past now h early = by f.place f.shut refl refl h
     open_waits : is_open f ≡ true → IsOpen s f past now → MayWait past now
     open_waits open_yet o = by_calls (is_calls f.conn.stage) refl
       where
-        connects_none : (st : Stage) → is_calls st ≡ true → is_connects st ≡ false
-        connects_none stage.Connects is = absurd cc
-        connects_none stage.Calls is = refl
-        connects_none stage.Answers is = absurd cc
-        connects_none stage.Synchronized is = absurd cc
-        connects_none stage.Rests is = absurd cc
-        connects_none (stage.Resets seq ack) is = absurd cc
-        connects_none stage.Gone is = absurd cc
-
         not_done : (a b d : Bool) → a ≡ false → IsTrue (a && b && d) → ⊥
         not_done true b d is so = absurd cc
         not_done false b d is so = absurd cc
@@ -272,7 +242,7 @@ waited_is s f past now h early = by f.place f.shut refl refl h
         by_calls : (b : Bool) → is_calls f.conn.stage ≡ b → MayWait past now
         by_calls true calls = record {
           closes = λ honest done. absurd (not_done (host_was_ended past) (our_fin_is_acked past) (fin_was_acknowledged past) (o.holds.awaits calls).untold done);
-          connects = subst (λ (e : Bool). AreAhead now (moment_if e (opened_at past + 75000))) (sym (o.holds.opened.connects ∙ connects_none f.conn.stage calls)) tt;
+          connects = subst (λ (e : Bool). AreAhead now (moment_if e (opened_at past + 75000))) (sym (o.holds.opened.connects ∙ (calls_opens f.conn.stage calls).1)) tt;
         }
         by_calls false reached = may_wait s f.conn f.up f.down past now o.holds reached o.unfinished (λ connects. let soon = early open_yet connects in let since = o.since in omega (arith, soon, since))
 

@@ -1,7 +1,7 @@
 -- The frames of a flow.
 use Rattle.std.specs.Prelude.{◌≡◌, ℕ, ◌+◌, ◌^◌, ◌<◌, ◌≤◌, length, List, [], ◌∷◌, Bool, false, not, IfSome, if◌then◌else◌}
 use Rattle.net_octets.specs.Kinds.{arp_kind, ipv4_kind, tcp_proto}
-use Rattle.net_octets.specs.Octets.{four}
+use Rattle.net_octets.specs.Octets.{four, our_mac}
 use Rattle.net_octets.specs.declared.Mac.{Mac}
 use Rattle.arp_table.specs.Arp.{Arp, arp_octets}
 use Rattle.ether_frame.specs.Ether.{ether_octets}
@@ -15,10 +15,6 @@ use Rattle.flow_laws.specs.Event.{Segment}
 use Rattle.flow_laws.specs.Guest.{is_empty}
 use Rattle.connection_follows.specs.Sending.{carried, mss_in}
 use Rattle.flow_splice.specs.Splice.{Face}
-
--- our hardware address: 52:55, and then the octets of an address of ours
-abbrev pub our_mac : ℕ → List ℕ
-our_mac addr = 82 ∷ 85 ∷ four addr
 
 abbrev pub bit_if : Bool → ℕ → ℕ
 bit_if b n = if b then n else 0

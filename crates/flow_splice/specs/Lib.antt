@@ -1,5 +1,6 @@
 pub mod Splice
 pub mod Hosts
+pub mod Stays
 pub mod Held
 pub mod Guests
 pub mod Wants

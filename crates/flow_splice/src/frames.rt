@@ -10,31 +10,26 @@ ghost use Rattle.sock_buffers.specs.Downward.{Downward};
 ghost use Rattle.tcp_guest.specs.declared.Head.{Head as Header};
 ghost use Rattle.tcp_segment.specs.Tcp.{head_octets, mss_octets, scale_octets, tcp_length, tcp_octets, tcp_of, words_of as words_by};
 ghost use Rattle.connection_follows.specs.Sending.{carried, mss_in, with_head};
-ghost use Rattle.flow_splice.specs.Frames.{IsHeld, IsSized, bit_if, flags_of, frame_length, our_mac as our_mac_by, request_frame, segment_frame, tcp_out};
+ghost use Rattle.flow_splice.specs.Frames.{IsHeld, IsSized, bit_if, flags_of, frame_length, request_frame, segment_frame, tcp_out};
 ghost use Rattle.net_octets.specs.declared.Endpoint.{Endpoint as AnEndpoint};
+ghost use Rattle.net_octets.specs.Sizes.{most_frame};
+ghost use Rattle.net_octets.specs.Octets.{our_mac};
 
 use arp_table::ArpView;
 use byteorder::{BigEndian, ByteOrder};
 use ether_frame::EtherView;
-use net_octets::{Endpoint, Ip4, Mac, checksum, checksum_after, pseudo};
+use net_octets::{
+    ARP_KIND, Endpoint, IPV4_KIND, Ip4, Mac, TCP_PROTO, checksum, checksum_after, pseudo,
+};
 use sock_buffers::Down;
 use tcp_guest::{Head, Owed};
 use tcp_segment::{ACK, FIN, PSH, RST, SYN, TcpView};
-
-/// The kind of a frame that carries IPv4 (RFC 894).
-const IPV4: u16 = 0x0800;
-
-/// The kind of a frame that carries ARP (RFC 826).
-const ARP: u16 = 0x0806;
 
 /// The hardware address of everyone.
 const EVERYONE: Mac = Mac([255; 6]);
 
 /// The hardware address of nobody.
 const NOBODY: Mac = Mac([0; 6]);
-
-/// The number of TCP in an IPv4 header.
-const TCP: u8 = 6;
 
 /// The octets of the headers of Ethernet and IPv4.
 const FRONT: usize = 34;
@@ -50,14 +45,6 @@ pub(crate) struct Route {
     pub(crate) vhost: Ip4,
     pub(crate) mac: Mac,
     pub(crate) ident: u16,
-}
-
-/// Our hardware address for an address of ours: 52:55, and then its octets.
-fn our_mac(address: Ip4) -> Mac
-    ensures { result.0 ≡ our_mac_by address.0 }
-{
-    let [a, b, c, d] = address.0.to_be_bytes();
-    Mac([0x52, 0x55, a, b, c, d])
 }
 
 /// How many octets of the host a segment carries.
@@ -205,7 +192,7 @@ fn write_segment(v: &TcpView<'_>, from: Ip4, to: Ip4, what: &Owed, down: &Down, 
     let options = options(v.mss, v.scale);
     let options_size = mss_size(v.mss) + scale_size(v.scale);
     put(&header(v), &options[..options_size], what, down, segment);
-    let start = pseudo(from, to, TCP, segment.len() as u16);
+    let start = pseudo(from, to, TCP_PROTO, segment.len() as u16);
     let sum = checksum_after(start, segment);
     BigEndian::write_u16(&mut segment[16..18], sum);
 }
@@ -221,14 +208,14 @@ fn ip_header(route: &Route, size: u16, sum: u16) -> [u8; 20]
     BigEndian::write_u16(&mut head[2..4], 20 + size);
     BigEndian::write_u16(&mut head[4..6], ident);
     head[8] = 64;
-    head[9] = TCP;
+    head[9] = TCP_PROTO;
     BigEndian::write_u16(&mut head[10..12], sum);
     BigEndian::write_u32(&mut head[12..16], from);
     BigEndian::write_u32(&mut head[16..], to);
     head
 }
 
-/// The same with the sum that holds.
+/// The header of a datagram with so many octets behind it, with the sum that holds.
 fn summed_header(route: &Route, size: u16) -> [u8; 20]
     requires { size ≤ 1488 }
     ensures { result ≡ summed_head 64 route.now.ident 0 tcp_proto route.now.other.addr.0 route.now.guest.addr.0 size }
@@ -240,19 +227,17 @@ fn summed_header(route: &Route, size: u16) -> [u8; 20]
 /// Writes the header of a frame at the front of `into`.
 fn put_ether(route: &Route, into: &mut [u8])
     requires { 14 ≤ length into.old }
-    ensures written { into.new ≡ ether_octets route.now.mac.0 (our_mac_by route.now.vhost.0) ipv4_kind [] ++ drop 14 into.old }
+    ensures written { into.new ≡ ether_octets route.now.mac.0 (our_mac route.now.vhost.0) ipv4_kind [] ++ drop 14 into.old }
     ensures six { length route.now.mac.0 ≡ 6 }
 {
     let to = route.mac;
     let ether = EtherView {
         to,
-        from: our_mac(route.vhost),
-        kind: IPV4,
+        from: Mac::of_ours(route.vhost),
+        kind: IPV4_KIND,
         body: &[],
     };
-    let Ok(_) = ether_frame::encode(&ether, into) else {
-        unreachable!()
-    };
+    ether_frame::write(&ether, into);
 }
 
 /// The octets that a segment takes.
@@ -268,8 +253,8 @@ fn write_at(route: &Route, v: &TcpView<'_>, what: &Owed, down: &Down, size: usiz
     requires held { IsHeld down.now what.now }
     requires size { size ≡ tcp_length (record (tcp_of v.now) { body = carried down.now what.now }) }
     requires fits { size ≤ 1480 }
-    requires room { 1514 ≤ length into.old }
-    ensures written { into.new ≡ ((ether_octets route.now.mac.0 (our_mac_by route.now.vhost.0) ipv4_kind []
+    requires room { most_frame ≤ length into.old }
+    ensures written { into.new ≡ ((ether_octets route.now.mac.0 (our_mac route.now.vhost.0) ipv4_kind []
         ++ summed_head 64 route.now.ident 0 tcp_proto route.now.other.addr.0 route.now.guest.addr.0 size)
         ++ tcp_octets route.now.other.addr.0 route.now.guest.addr.0 (record (tcp_of v.now) { body = carried down.now what.now }))
         ++ drop (34 + size) into.old }
@@ -299,12 +284,12 @@ pub(crate) fn write_frame(
 ) -> usize
     requires held { IsHeld down.now what.now }
     requires mru { 40 ≤ mru }
-    requires fits { frame_length head.now mru down.now what.now ≤ 1514 }
-    requires room { 1514 ≤ length into.old }
+    requires fits { frame_length head.now mru down.now what.now ≤ most_frame }
+    requires room { most_frame ≤ length into.old }
     ensures frame { (number : ℕ) → take result into.new ≡ segment_frame
         (record { guest = route.now.guest; other = route.now.other; number = number; vhost = route.now.vhost }) route.now.mac route.now.ident
         (with_head head.now mru down.now what.now) }
-    ensures short { result ≤ 1514 }
+    ensures short { result ≤ most_frame }
     ensures room { length into.new ≡ length into.old }
     ensures sized { (number : ℕ) → IsSized (record { guest = route.now.guest; other = route.now.other; number = number; vhost = route.now.vhost })
         route.now.mac route.now.ident (with_head head.now mru down.now what.now) }
@@ -321,13 +306,13 @@ pub(crate) fn write_frame(
 
 /// Writes the frame of a request for a guest's hardware address (RFC 826) at the front of `into`, and answers its length.
 pub(crate) fn write_request(vhost: Ip4, guest: Ip4, into: &mut [u8]) -> usize
-    requires room { 1514 ≤ length into.old }
+    requires room { most_frame ≤ length into.old }
     ensures frame { (other at : AnEndpoint) (number : ℕ) → take result into.new
         ≡ request_frame (record { guest = record { addr = guest; port = at.port }; other = other; number = number; vhost = vhost }) }
-    ensures short { result ≤ 1514 }
+    ensures short { result ≤ most_frame }
     ensures room { length into.new ≡ length into.old }
 {
-    let ours = our_mac(vhost);
+    let ours = Mac::of_ours(vhost);
     let mut packet = [0; 28];
     let request = ArpView {
         reply: false,
@@ -336,17 +321,12 @@ pub(crate) fn write_request(vhost: Ip4, guest: Ip4, into: &mut [u8]) -> usize
         target_mac: NOBODY,
         target_ip: guest,
     };
-    let Ok(written) = arp_table::encode(&request, &mut packet) else {
-        unreachable!()
-    };
+    let written = arp_table::write(&request, &mut packet);
     let ether = EtherView {
         to: EVERYONE,
         from: ours,
-        kind: ARP,
+        kind: ARP_KIND,
         body: &packet[..written],
     };
-    let Ok(length) = ether_frame::encode(&ether, into) else {
-        unreachable!()
-    };
-    length
+    ether_frame::write(&ether, into)
 }

@@ -16,7 +16,7 @@ use world_face::World;
 
 impl Spliced {
     ghost use Rattle.flow_splice.specs.Guests.{Hears, ends_rest as ends_rest_by, heard, heard_at_rest, is_unfit, renews, turns_away};
-    ghost use Rattle.flow_splice.specs.Hosts.{IsAsOld};
+    ghost use Rattle.flow_splice.specs.Stays.{StaysButHeard};
     ghost use Rattle.flow_splice.specs.Shapes.{is_at_most_a_close};
     ghost use Rattle.flow_splice.specs.Splice.{is_at_rest, is_open as is_open_by};
     ghost use Rattle.flow_splice.specs.declared.Place.TheVariants.{Empty, Resting};
@@ -28,11 +28,10 @@ impl Spliced {
         requires now { now ≤ 2 ^ 62 }
         requires body { length seg.now.body.now ≤ 65535 }
         requires few { self.old.up.written + length seg.now.body.now + 2 ^ 21 < 2 ^ 62 }
-        ensures makes { Makes (W.tells world.old) (W.tells world.new) (λ made. Hears self.old self.new (tcp_of seg.now) now made × (is_at_most_a_close made ≡ true)) }
+        ensures makes { Makes (W.tells world.old) (W.tells world.new)
+            (λ made. Hears self.old self.new (tcp_of seg.now) now made × (is_at_most_a_close made ≡ true)) }
         ensures unfit { result ≡ turns_away self.old (tcp_of seg.now) now }
-        ensures same { IsAsOld self.old self.new }
-        ensures up { self.new.up.written ≡ self.old.up.written }
-        ensures down { octets_read self.new.down ≡ octets_read self.old.down }
+        ensures stays { StaysButHeard self.old self.new }
         ensures rests { (since : ℕ) → self.old.place ≡ Resting since → self.new ≡ heard_at_rest self.old since (tcp_of seg.now) now }
         ensures closed { is_open_by self.old ≡ false → is_at_rest self.old.place ≡ false → self.new ≡ self.old }
         ensures quiet { is_open_by self.old ≡ false → W.tells world.new ≡ W.tells world.old }
@@ -52,11 +51,10 @@ impl Spliced {
         requires body { length seg.now.body.now ≤ 65535 }
         requires few { self.old.up.written + length seg.now.body.now + 2 ^ 21 < 2 ^ 62 }
         requires open_yet { is_open_by self.old ≡ true }
-        ensures makes { Makes (W.tells world.old) (W.tells world.new) (λ made. Hears self.old self.new (tcp_of seg.now) now made × (is_at_most_a_close made ≡ true)) }
+        ensures makes { Makes (W.tells world.old) (W.tells world.new)
+            (λ made. Hears self.old self.new (tcp_of seg.now) now made × (is_at_most_a_close made ≡ true)) }
         ensures unfit { result ≡ is_unfit (change_at self.old.conn self.old.up self.old.down (tcp_of seg.now) now) }
-        ensures same { IsAsOld self.old self.new }
-        ensures up { self.new.up.written ≡ self.old.up.written }
-        ensures down { octets_read self.new.down ≡ octets_read self.old.down }
+        ensures stays { StaysButHeard self.old self.new }
     {
         let change = self.take_in(now, seg);
         self.see(world, now, change);

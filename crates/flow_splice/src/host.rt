@@ -6,20 +6,21 @@ ghost use Rattle.tcp_guest.specs.Hosts.{connected_by, host_ended, is_open as is_
 ghost use Rattle.tcp_guest.specs.Segments.{settled, settling};
 ghost use Rattle.tcp_guest.specs.declared.Change.{Change as Changes};
 ghost use Rattle.tcp_transmit.specs.Transmission.{octets_read};
-ghost use Rattle.world_face.specs.Journal.{Connected, TcpRead, TcpWrite, TcpEnd, Close, count_of};
+ghost use Rattle.world_face.specs.Journal.{TcpRead, TcpWrite, Close, count_of};
 ghost use Rattle.world_face.specs.Tells.{Answers, Makes};
 ghost use Rattle.connection_follows.specs.Holding.{is_connects, without};
 ghost use Rattle.flow_splice.specs.Hosts.{IsRead, gives_octets};
 
-use crate::{MOST, Spliced};
+use crate::Spliced;
 use sock_buffers::Down;
 use tcp_guest::{Change, Conn, HostNews};
-use world_face::{Io, Joined, Made, World};
+use world_face::{Io, Joined, MOST_TO_FLOW, Made, World};
 
 impl Spliced {
     ghost use Rattle.flow_splice.specs.Splice.{closed, is_open as is_open_by};
     ghost use Rattle.flow_splice.specs.Serves.{GoesOn};
-    ghost use Rattle.flow_splice.specs.Hosts.{IsAsOld, PassesEnd, ReadsOn, ServesReport, is_for_reading, is_for_writing, some_is};
+    ghost use Rattle.flow_splice.specs.Hosts.{PassesEnd, ReadsOn, ServesReport, is_for_reading, is_for_writing, some_is};
+    ghost use Rattle.flow_splice.specs.Stays.{Stays, StaysButRead, StaysButServed, StaysButWritten};
     ghost use Rattle.flow_splice.specs.Shapes.{IsHostWork, is_ending, is_reading, is_writing};
     ghost use Rattle.flow_splice.specs.Wants.{may_end, owes_octets as owes_octets_by, reads, writes};
 
@@ -32,9 +33,7 @@ impl Spliced {
         // Each direction that was reported is served; reading, unless a call for writing closed the socket before it.
         ensures makes { Makes (W.tells world.old) (W.tells world.new)
             (λ made. GoesOn self.old self.new false now made × IsHostWork read write made × ServesReport read write self.old made) }
-        ensures same { IsAsOld self.old self.new }
-        ensures up { self.new.up.written ≤ self.old.up.written + 16384 }
-        ensures down { octets_read self.new.down ≤ octets_read self.old.down + 16384 }
+        ensures stays { StaysButServed self.old self.new }
         // After a report for writing the guest's end isn't held back in a flow that had connected.
         ensures passes_end { write ≡ true → is_connects self.old.conn.stage ≡ false → PassesEnd self.new }
         ensures closed { is_open_by self.old ≡ false → self.new ≡ self.old }
@@ -49,9 +48,7 @@ impl Spliced {
         ensures makes { Makes (W.tells world.old) (W.tells world.new)
             (λ made. GoesOn self.old self.new false now made × (is_writing made ≡ true) × (ready ≡ false → made ≡ [])
             × (ready ≡ true → writes self.old ≡ true → some_is is_for_writing made ≡ true) × ReadsOn self.old self.new made) }
-        ensures same { IsAsOld self.old self.new }
-        ensures up { self.new.up.written ≤ self.old.up.written + 16384 }
-        ensures down { self.new.down ≡ self.old.down }
+        ensures stays { StaysButWritten self.old self.new }
         ensures idle { ready ≡ false → (self.new ≡ self.old) × (W.tells world.new ≡ W.tells world.old) }
         ensures passes_end { ready ≡ true → is_connects self.old.conn.stage ≡ false → PassesEnd self.new }
         ensures closed { is_open_by self.old ≡ false → self.new ≡ self.old }
@@ -75,9 +72,7 @@ impl Spliced {
         ensures makes { Makes (W.tells world.old) (W.tells world.new)
             (λ made. GoesOn self.old self.new false now made × (is_reading made ≡ true) × (ready ≡ false → made ≡ [])
             × (ready ≡ true → reads self.old ≡ true → some_is is_for_reading made ≡ true)) }
-        ensures same { IsAsOld self.old self.new }
-        ensures up { self.new.up ≡ self.old.up }
-        ensures down { octets_read self.new.down ≤ octets_read self.old.down + 16384 }
+        ensures stays { StaysButRead self.old self.new }
         ensures passes_end { PassesEnd self.old → PassesEnd self.new }
         ensures closed { is_open_by self.old ≡ false → self.new ≡ self.old }
     {
@@ -95,24 +90,16 @@ impl Spliced {
         requires connects { is_connects self.old.conn.stage ≡ true }
         ensures makes { Makes (W.tells world.old) (W.tells world.new)
             (λ made. GoesOn self.old self.new false now made × (is_writing made ≡ true) × (some_is is_for_writing made ≡ true)) }
-        ensures same { IsAsOld self.old self.new }
-        ensures up { self.new.up ≡ self.old.up }
-        ensures down { self.new.down ≡ self.old.down }
+        ensures stays { Stays self.old self.new }
     {
-        match self.ask(world) {
+        match world.connected(self.number) {
             Joined::Yes => self.join(now),
             Joined::NotYet => {}
             Joined::Failed => self.fail(world, now),
         }
     }
 
-    fn ask<W: World>(&self, world: &mut W) -> Joined
-        ensures { Answers (W.tells world.old) (W.tells world.new) (Connected self.now.face.number result) }
-    {
-        world.connected(self.number)
-    }
-
-    // It has.
+    // It has connected.
     fn join(&mut self, now: u64)
         requires now { now ≤ 2 ^ 62 }
         ensures change { self.new ≡ record self.old { conn = connected_by self.old.conn.stage self.old.conn } }
@@ -150,10 +137,9 @@ impl Spliced {
         requires connected { is_connects self.old.conn.stage ≡ false }
         requires owes { owes_octets_by self.old ≡ true }
         ensures makes { Makes (W.tells world.old) (W.tells world.new)
-            (λ made. GoesOn self.old self.new false now made × (is_writing made ≡ true) × (some_is is_for_writing made ≡ true) × ReadsOn self.old self.new made) }
-        ensures same { IsAsOld self.old self.new }
-        ensures up { self.new.up.written ≤ self.old.up.written + 16384 }
-        ensures down { self.new.down ≡ self.old.down }
+            (λ made. GoesOn self.old self.new false now made × (is_writing made ≡ true) × (some_is is_for_writing made ≡ true)
+            × ReadsOn self.old self.new made) }
+        ensures stays { StaysButWritten self.old self.new }
         ensures passes_end { PassesEnd self.new }
     {
         match self.offer(world) {
@@ -181,10 +167,9 @@ impl Spliced {
         requires now { now ≤ 2 ^ 62 }
         requires open_yet { is_open_by self.old ≡ true }
         requires connected { is_connects self.old.conn.stage ≡ false }
-        ensures makes { Makes (W.tells world.old) (W.tells world.new) (λ made. GoesOn self.old self.new false now made × (is_ending made ≡ true) × ReadsOn self.old self.new made) }
-        ensures same { IsAsOld self.old self.new }
-        ensures up { self.new.up ≡ self.old.up }
-        ensures down { self.new.down ≡ self.old.down }
+        ensures makes { Makes (W.tells world.old) (W.tells world.new)
+            (λ made. GoesOn self.old self.new false now made × (is_ending made ≡ true) × ReadsOn self.old self.new made) }
+        ensures stays { Stays self.old self.new }
         ensures passes_end { PassesEnd self.new }
     {
         if !self.owes_octets() && self.owes_end() {
@@ -200,25 +185,18 @@ impl Spliced {
         requires all { owes_octets_by self.old ≡ false }
         requires ends { may_end self.old ≡ true }
         ensures makes { Makes (W.tells world.old) (W.tells world.new)
-            (λ made. GoesOn self.old self.new false now made × (is_ending made ≡ true) × (some_is is_for_writing made ≡ true) × ReadsOn self.old self.new made) }
-        ensures same { IsAsOld self.old self.new }
-        ensures up { self.new.up ≡ self.old.up }
-        ensures down { self.new.down ≡ self.old.down }
+            (λ made. GoesOn self.old self.new false now made × (is_ending made ≡ true) × (some_is is_for_writing made ≡ true)
+            × ReadsOn self.old self.new made) }
+        ensures stays { Stays self.old self.new }
         ensures passes_end { PassesEnd self.new }
     {
-        match self.offer_end(world) {
+        match world.tcp_end(self.number) {
             Made::Done => {
                 let change = self.mark_ended(now);
                 self.see(world, now, change);
             }
             Made::Failed => self.fail(world, now),
         }
-    }
-
-    fn offer_end<W: World>(&self, world: &mut W) -> Made
-        ensures { Answers (W.tells world.old) (W.tells world.new) (TcpEnd self.now.face.number result) }
-    {
-        world.tcp_end(self.number)
     }
 
     // The host was told the guest's end.
@@ -240,7 +218,8 @@ impl Spliced {
 impl Spliced {
     ghost use Rattle.flow_splice.specs.Splice.{is_open as is_open_by};
     ghost use Rattle.flow_splice.specs.Serves.{GoesOn};
-    ghost use Rattle.flow_splice.specs.Hosts.{IsAsOld, PassesEnd, is_for_reading, read_by, some_is};
+    ghost use Rattle.flow_splice.specs.Hosts.{PassesEnd, is_for_reading, read_by, some_is};
+    ghost use Rattle.flow_splice.specs.Stays.{StaysButRead};
     ghost use Rattle.flow_splice.specs.Shapes.{is_reading};
     ghost use Rattle.flow_splice.specs.Wants.{may_read as may_read_by};
 
@@ -252,9 +231,7 @@ impl Spliced {
         requires few { octets_read self.old.down + 16384 < 2 ^ 62 }
         ensures makes { Makes (W.tells world.old) (W.tells world.new)
             (λ made. GoesOn self.old self.new false now made × (is_reading made ≡ true) × (some_is is_for_reading made ≡ true)) }
-        ensures same { IsAsOld self.old self.new }
-        ensures up { self.new.up ≡ self.old.up }
-        ensures down { octets_read self.new.down ≤ octets_read self.old.down + 16384 }
+        ensures stays { StaysButRead self.old self.new }
         ensures passes_end { PassesEnd self.old → PassesEnd self.new }
     {
         match self.ask_octets(world, now) {
@@ -318,7 +295,7 @@ fn read_into<W: World>(
     ensures buffers { (up : Upward) → HasBuffers conn.old up down.old → HasBuffers conn.new up down.new }
     ensures size { length buffer.new ≡ 16384 }
 {
-    let asked = down.room().min(MOST);
+    let asked = down.room().min(MOST_TO_FLOW);
     let answer = read_part(world, number, buffer, asked);
     if gives_octets(answer) {
         conn.more(down, &buffer[..answer.count()], now);

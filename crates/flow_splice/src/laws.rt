@@ -48,6 +48,7 @@ pub fn held_octets_go_on_with_what_was_written()
 /// A place is in use exactly as long as the flow has its tuple. It rests exactly where the flow does by its own story, since the same moment.
 pub fn a_place_is_in_use_as_long_as_its_flow_has_its_tuple()
     ensures in_use { (s : Settings) (f : Splice) (past : Story) (now : ℕ) → Follows s f past now → is_in_use f.place ≡ is_in_use_by_law past }
-    ensures rests { (s : Settings) (f : Splice) (past : Story) (now since : ℕ) → Follows s f past now → f.place ≡ Resting since → rests_since past ≡ Some since }
+    ensures rests { (s : Settings) (f : Splice) (past : Story) (now since : ℕ) → Follows s f past now → f.place ≡ Resting since
+        → rests_since past ≡ Some since }
     ensures rests_none { (s : Settings) (f : Splice) (past : Story) (now : ℕ) → Follows s f past now → is_at_rest f.place ≡ false → rests_since past ≡ None }
 {}

@@ -35,10 +35,7 @@ use sock_buffers::{Down, Up};
 use std::alloc::Global;
 use std::marker::Model;
 use tcp_guest::{Change, Conn};
-use world_face::World;
-
-/// The most octets that one call on a socket moves.
-const MOST: usize = 16384;
+use world_face::{MOST_TO_FLOW, World};
 
 /// How long a socket may take to connect, in milliseconds.
 const CONNECTS_FOR: u64 = 75_000;
@@ -135,7 +132,7 @@ impl Spliced {
         let (Ok(up), Ok(down)) = (Up::open(alloc, ring), Down::open(alloc, ring)) else {
             return Err(NoMemory);
         };
-        let Ok(buffer) = vec![in alloc; 0; MOST] else {
+        let Ok(buffer) = vec![in alloc; 0; MOST_TO_FLOW] else {
             return Err(NoMemory);
         };
         Ok(Spliced {

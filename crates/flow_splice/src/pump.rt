@@ -13,6 +13,7 @@ ghost use Rattle.flow_laws.specs.Settings.{Settings};
 ghost use Rattle.flow_laws.specs.Event.{Story};
 ghost use Rattle.halves_follow.specs.Resends.{least_wait};
 ghost use Rattle.net_octets.specs.declared.Endpoint.{Endpoint};
+ghost use Rattle.net_octets.specs.Sizes.{most_frame};
 
 use crate::frames::{Route, write_frame, write_request};
 use crate::time::REQUESTS;
@@ -82,8 +83,8 @@ fn offer_frame<W: World>(
 ) -> Offered
     requires held { IsHeld down.now what.now }
     requires mru { 40 ≤ mru }
-    requires fits { frame_length head.now mru down.now what.now ≤ 1514 }
-    requires room { 1514 ≤ length buffer.old }
+    requires fits { frame_length head.now mru down.now what.now ≤ most_frame }
+    requires room { most_frame ≤ length buffer.old }
     requires none { link.old.tail ≡ [] }
     requires free { link.old.blocked ≡ false }
     ensures makes { (number : ℕ) → Makes (W.tells world.old) (W.tells world.new) (λ made.
@@ -157,7 +158,7 @@ impl Spliced {
     ghost use Rattle.flow_splice.specs.Ahead.{IsAhead, IsEarly};
     ghost use Rattle.flow_splice.specs.Asks.{AsksOnce};
     ghost use Rattle.flow_splice.specs.Follows.{Follows};
-    ghost use Rattle.flow_splice.specs.Hosts.{IsAsOld};
+    ghost use Rattle.flow_splice.specs.Stays.{Stays};
     ghost use Rattle.flow_splice.specs.Left.{left};
     ghost use Rattle.flow_splice.specs.Shapes.{IsPumpWork};
     ghost use Rattle.flow_splice.specs.Splice.{is_open as is_open_by};
@@ -179,7 +180,8 @@ impl Spliced {
     ) -> Pumped
         requires now { now ≤ 2 ^ 62 }
         requires tail { link.old.blocked ≡ false → link.old.tail ≡ [] }
-        ensures makes { Makes (W.tells world.old) (W.tells world.new) (λ made. SendsOn self.old self.new link.old link.new ident.old ident.new now made × IsPumpWork result made
+        ensures makes { Makes (W.tells world.old) (W.tells world.new)
+            (λ made. SendsOn self.old self.new link.old link.new ident.old ident.new now made × IsPumpWork result made
             × AsksOnce (or_known mac self.old.mac) self.old self.new now made) }
         ensures blocked { result ≡ Blocked → link.new.blocked ≡ true }
         ensures free { result ≡ Clear → (link.new.blocked ≡ false) × (link.new.tail ≡ []) }
@@ -236,7 +238,8 @@ impl Spliced {
         requires free { link.old.blocked ≡ false }
         requires unknown { self.old.mac ≡ None }
         ensures makes { Makes (W.tells world.old) (W.tells world.new) (λ made.
-            ((first : ℕ) → first < 2 ^ 16 → SendsOn self.old self.new link.old link.new first first now made) × IsPumpWork result made × AsksOnce None self.old self.new now made) }
+            ((first : ℕ) → first < 2 ^ 16 → SendsOn self.old self.new link.old link.new first first now made) × IsPumpWork result made
+            × AsksOnce None self.old self.new now made) }
         ensures blocked { result ≡ Blocked → link.new.blocked ≡ true }
         ensures free { result ≡ Clear → (link.new.blocked ≡ false) × (link.new.tail ≡ []) }
         ensures failed { result ≡ Failed → Rose (W.tells world.old).faults.link (W.tells world.new).faults.link }
@@ -301,15 +304,14 @@ impl Spliced {
         requires none { link.old.tail ≡ [] }
         requires free { link.old.blocked ≡ false }
         requires mac { self.old.mac ≡ Some mac }
-        ensures makes { Makes (W.tells world.old) (W.tells world.new) (λ made. SendsOn self.old self.new link.old link.new ident.old ident.new now made × IsPumpWork result made) }
+        ensures makes { Makes (W.tells world.old) (W.tells world.new)
+            (λ made. SendsOn self.old self.new link.old link.new ident.old ident.new now made × IsPumpWork result made) }
         ensures blocked { result ≡ Blocked → link.new.blocked ≡ true }
         ensures free { result ≡ Clear → (link.new.blocked ≡ false) × (link.new.tail ≡ []) }
         ensures failed { result ≡ Failed → Rose (W.tells world.old).faults.link (W.tells world.new).faults.link }
         ensures clear { result ≡ Clear → takes_part self.new (owed_of self.new.conn self.new.up self.new.down) ≡ None }
         ensures same { under_way link.new ≡ under_way link.old }
-        ensures as_old { IsAsOld self.old self.new }
-        ensures up { self.new.up ≡ self.old.up }
-        ensures down { self.new.down ≡ self.old.down }
+        ensures stays { Stays self.old self.new }
         ensures closed { is_open_by self.old ≡ false → is_open_by self.new ≡ false }
         ensures early { IsEarly now self.old.conn → IsEarly now self.new.conn }
     {
@@ -339,15 +341,14 @@ impl Spliced {
         requires free { link.old.blocked ≡ false }
         requires mac { self.old.mac ≡ Some mac }
         requires owed { takes_part self.old (owed_of self.old.conn self.old.up self.old.down) ≡ Some what.now }
-        ensures makes { Makes (W.tells world.old) (W.tells world.new) (λ made. SendsOn self.old self.new link.old link.new ident.old ident.new now made × IsPumpWork result made) }
+        ensures makes { Makes (W.tells world.old) (W.tells world.new)
+            (λ made. SendsOn self.old self.new link.old link.new ident.old ident.new now made × IsPumpWork result made) }
         ensures blocked { result ≡ Blocked → link.new.blocked ≡ true }
         ensures free { result ≡ Clear → (link.new.blocked ≡ false) × (link.new.tail ≡ []) }
         ensures failed { result ≡ Failed → Rose (W.tells world.old).faults.link (W.tells world.new).faults.link }
         ensures less { result ≡ Clear → left self.new < left self.old }
         ensures same { under_way link.new ≡ under_way link.old }
-        ensures as_old { IsAsOld self.old self.new }
-        ensures up { self.new.up ≡ self.old.up }
-        ensures down { self.new.down ≡ self.old.down }
+        ensures stays { Stays self.old self.new }
         ensures closed { is_open_by self.old ≡ false → is_open_by self.new ≡ false }
         ensures early { IsEarly now self.old.conn → IsEarly now self.new.conn }
     {
@@ -374,7 +375,7 @@ fn offer_arp<W: World>(
     guest: Ip4,
     buffer: &mut [u8],
 ) -> Offered
-    requires room { 1514 ≤ length buffer.old }
+    requires room { most_frame ≤ length buffer.old }
     requires none { link.old.tail ≡ [] }
     requires free { link.old.blocked ≡ false }
     ensures makes { (other at : Endpoint) (number : ℕ) → Makes (W.tells world.old) (W.tells world.new) (λ made.

@@ -18,7 +18,7 @@ pub(crate) const REQUESTS: u8 = 9;
 impl Spliced {
     ghost use Rattle.flow_splice.specs.Ahead.{IsAhead};
     ghost use Rattle.flow_splice.specs.Follows.{Follows};
-    ghost use Rattle.flow_splice.specs.Hosts.{IsAsOld};
+    ghost use Rattle.flow_splice.specs.Stays.{Stays};
     ghost use Rattle.flow_splice.specs.Serves.{GoesOnYet, TicksOn};
     ghost use Rattle.flow_splice.specs.Shapes.{is_at_most_a_close};
     ghost use Rattle.flow_splice.specs.Splice.{is_open as is_open_by};
@@ -32,9 +32,7 @@ impl Spliced {
     pub fn tick<W: World>(&mut self, world: &mut W, now: u64)
         requires now { now ≤ 2 ^ 62 }
         ensures makes { Makes (W.tells world.old) (W.tells world.new) (λ made. TicksOn self.old self.new now made × (is_at_most_a_close made ≡ true)) }
-        ensures same { IsAsOld self.old self.new }
-        ensures up { self.new.up ≡ self.old.up }
-        ensures down { self.new.down ≡ self.old.down }
+        ensures stays { Stays self.old self.new }
         ensures in_time { is_open_by self.new ≡ true → is_connects self.new.conn.stage ≡ true → now < connect_end_by self.new }
         // A flow that calls a guest still has requests or waits left.
         ensures waits { is_open_by self.old ≡ true → is_connects self.old.conn.stage ≡ false → seeks_by self.old ≡ true → is_open_by self.new ≡ true
@@ -43,7 +41,8 @@ impl Spliced {
         ensures again { is_open_by self.old ≡ true → is_connects self.old.conn.stage ≡ false → seeks_by self.old ≡ false → is_open_by self.new ≡ true
             → self.new ≡ record self.old { conn = after_tick self.old.conn now } }
         // The connection's timer isn't due then, unless an acknowledgement is owed.
-        ensures ahead { (s : Settings) (past : Story) (before : ℕ) → Follows s self.old past before → self.old.conn.ack_owed ≡ false → IsAhead self.new.conn now }
+        ensures ahead { (s : Settings) (past : Story) (before : ℕ) → Follows s self.old past before → self.old.conn.ack_owed ≡ false
+            → IsAhead self.new.conn now }
         ensures closed { is_open_by self.old ≡ false → self.new ≡ self.old }
     {
         if !self.is_open() {
@@ -64,9 +63,7 @@ impl Spliced {
         requires open_yet { is_open_by self.old ≡ true }
         requires connects { is_connects self.old.conn.stage ≡ true }
         ensures makes { Makes (W.tells world.old) (W.tells world.new) (λ made. GoesOnYet self.old self.new now made × (is_at_most_a_close made ≡ true)) }
-        ensures same { IsAsOld self.old self.new }
-        ensures up { self.new.up ≡ self.old.up }
-        ensures down { self.new.down ≡ self.old.down }
+        ensures stays { Stays self.old self.new }
         ensures in_time { is_open_by self.new ≡ true → now < connect_end_by self.new }
         ensures conn { (self.new.conn ≡ self.old.conn) ⊎ (self.new.conn ≡ reset self.old.conn) }
     {
@@ -81,9 +78,7 @@ impl Spliced {
         requires open_yet { is_open_by self.old ≡ true }
         requires seeks { seeks_by self.old ≡ true }
         ensures makes { Makes (W.tells world.old) (W.tells world.new) (λ made. TicksOn self.old self.new now made × (is_at_most_a_close made ≡ true)) }
-        ensures same { IsAsOld self.old self.new }
-        ensures up { self.new.up ≡ self.old.up }
-        ensures down { self.new.down ≡ self.old.down }
+        ensures stays { Stays self.old self.new }
         ensures stage { is_open_by self.new ≡ true → self.new.conn.stage ≡ self.old.conn.stage }
         ensures conn { (self.new.conn ≡ self.old.conn) ⊎ (self.new.conn ≡ reset self.old.conn) }
         ensures waits { is_open_by self.new ≡ true → (nat_eq self.new.asked 9 && nat_le self.new.ask_at now) ≡ false }
@@ -105,9 +100,7 @@ impl Spliced {
         requires now { now ≤ 2 ^ 62 }
         requires open_yet { is_open_by self.old ≡ true }
         ensures makes { Makes (W.tells world.old) (W.tells world.new) (λ made. GoesOnYet self.old self.new now made × (is_at_most_a_close made ≡ true)) }
-        ensures same { IsAsOld self.old self.new }
-        ensures up { self.new.up ≡ self.old.up }
-        ensures down { self.new.down ≡ self.old.down }
+        ensures stays { Stays self.old self.new }
         ensures stage { is_open_by self.new ≡ true → self.new.conn.stage ≡ self.old.conn.stage }
         ensures again { is_open_by self.new ≡ true → self.new ≡ record self.old { conn = after_tick self.old.conn now } }
         ensures conn { self.new.conn ≡ after_tick self.old.conn now }

@@ -6,13 +6,13 @@ use Rattle.std.proofs.lemmas.List.{length-replicate}
 use Rattle.std.proofs.lemmas.List.FromFn.{length-range_with_len, get_or-range_with_len}
 use Rattle.std.proofs.lemmas.Option.{same_Some, slice_get_within, slice_get-get_or}
 use Rattle.std.proofs.Common.{zero-add}
+use Rattle.row_lists.proofs.Places.{set_from, set_to, set_at}
 use Rattle.flow_table.specs.declared.Slot.{Slot}
 use Rattle.flow_table.specs.declared.Slot.TheVariants.{Free}
 use Rattle.flow_table.specs.declared.Tuple.{Tuple}
 use Rattle.flow_table.specs.Slots.{HasTuple, IsFree, NoneIsFree, Once, Stands}
 use Rattle.flow_table.specs.Rows.{AreFree}
 use Rattle.flow_table.proofs.Keeping.{at_end, before_end, of_end, once_at_end, once_in_range, in_range, has_within}
-use Rattle.flow_table.proofs.Lists.{set_from, set_to, set_at}
 use Rattle.flow_table.proofs.Tuples.{free_has_not}
 
 free_at : (n k : ℕ) → k < n → IsFree (replicate n Free) k

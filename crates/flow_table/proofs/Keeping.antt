@@ -89,25 +89,25 @@ first_place (z ∷ xs) k zero h = let e : (z == k) ≡ true = eq-eqb z k cc in r
 first_place (z ∷ xs) k (suc i) h = elim (eqb_tells z k) [ inl same ↦ rw same.0 (ap Some same.1) | inr other ↦ rw other.0 (subst (λ n. slice_get (z ∷ xs) n ≡ Some k) (one_more (position_or_len (λ o. o == k) xs)) (first_place xs k i h)) ]
 
 -- an order stays one where a number goes to its end
-pub moved_kept : (slots : List Slot) (turns : List ℕ) (k : ℕ) → k < length slots → AreKept slots turns → AreKept slots (moved_last k turns)
-moved_kept slots turns k fits kept =
-    let at = position_or_len (λ other. other == k) turns in
+pub moved_kept : (slots : List Slot) (rest_order : List ℕ) (k : ℕ) → k < length slots → AreKept slots rest_order → AreKept slots (moved_last k rest_order)
+moved_kept slots rest_order k fits kept =
+    let at = position_or_len (λ other. other == k) rest_order in
     let stood = kept.all k fits in
-    let stands = first_place turns k stood.0 stood.1 in
+    let stands = first_place rest_order k stood.0 stood.1 in
     record {
       apart = kept.apart;
-      within = λ i x h. elim (of_end (remove turns at) k i x h) [ inl s ↦ let t = of_removed turns at s.0 x s.1 in kept.within t.0 x t.1 | inr e ↦ subst (λ n. n < length slots) (sym e) fits ];
+      within = λ i x h. elim (of_end (remove rest_order at) k i x h) [ inl s ↦ let t = of_removed rest_order at s.0 x s.1 in kept.within t.0 x t.1 | inr e ↦ subst (λ n. n < length slots) (sym e) fits ];
       all = λ x small. let s = kept.all x small in
-          elim (in_removed turns at s.0 x s.1) [
-            | inl e ↦ subst (λ n. Stands (moved_last k turns) n) (same_Some k x (sym stands ∙ ap (slice_get turns) (sym e) ∙ s.1)) (at_end (remove turns at) k)
-            | inr t ↦ before_end (remove turns at) k t.0 x t.1
+          elim (in_removed rest_order at s.0 x s.1) [
+            | inl e ↦ subst (λ n. Stands (moved_last k rest_order) n) (same_Some k x (sym stands ∙ ap (slice_get rest_order) (sym e) ∙ s.1)) (at_end (remove rest_order at) k)
+            | inr t ↦ before_end (remove rest_order at) k t.0 x t.1
           ];
-      once = once_at_end (remove turns at) k (once_removed turns at kept.once) (gone turns at k kept.once stands);
+      once = once_at_end (remove rest_order at) k (once_removed rest_order at kept.once) (gone rest_order at k kept.once stands);
     }
 
 -- a slot gets a content whose tuple no other slot has
-pub set_kept : (slots : List Slot) (turns : List ℕ) (k : ℕ) (s : Slot) → ((other : ℕ) (t : Tuple) → tuple_of s ≡ Some t → HasTuple slots other t → other ≡ k) → AreKept slots turns → AreKept (slice_set slots k s) turns
-set_kept slots turns k s alone kept =
+pub set_kept : (slots : List Slot) (rest_order : List ℕ) (k : ℕ) (s : Slot) → ((other : ℕ) (t : Tuple) → tuple_of s ≡ Some t → HasTuple slots other t → other ≡ k) → AreKept slots rest_order → AreKept (slice_set slots k s) rest_order
+set_kept slots rest_order k s alone kept =
     let long = length-set slots k s in
     record {
       apart = λ one other t h g.
@@ -120,7 +120,7 @@ set_kept slots turns k s alone kept =
       once = kept.once;
     }
 
--- numbers in turn
+-- the numbers of all slots, by number
 pub in_range : (from n i x : ℕ) → slice_get (range_with_len from n) i ≡ Some x → x ≡ from + i
 in_range from n i x h = let w = slice_get_within (range_with_len from n) i x h in
     let long = length-range_with_len from n in
@@ -158,19 +158,19 @@ pub tuple_is_read : (slots : List Slot) (k : ℕ) (s : Slot) (t : Tuple) → Has
 tuple_is_read slots k s t has read = sym (ap (option_and_then tuple_of) (slice_get_read slots (length slots) k s refl (has_within slots k t has) read)) ∙ has
 
 -- a slot that came to rest
-pub rested_is : (slots : List Slot) (turns new : List ℕ) (now : Flows) (k since : ℕ) (t u : Tuple) → flows slots turns ≡ now → HasTuple slots k u → new ≡ moved_last k turns → HasTuple now.slots k t
-    → flows (slice_set slots k (Resting u since)) new ≡ flows (slice_set now.slots k (Resting t since)) (moved_last k now.turns)
-rested_is slots turns new now k since t u view has moved asked =
+pub rested_is : (slots : List Slot) (rest_order new : List ℕ) (now : Flows) (k since : ℕ) (t u : Tuple) → flows slots rest_order ≡ now → HasTuple slots k u → new ≡ moved_last k rest_order → HasTuple now.slots k t
+    → flows (slice_set slots k (Resting u since)) new ≡ flows (slice_set now.slots k (Resting t since)) (moved_last k now.rest_order)
+rested_is slots rest_order new now k since t u view has moved asked =
     let had : HasTuple slots k t = subst (λ (f : Flows). HasTuple f.slots k t) (sym view) asked in
     let same : u ≡ t = same_Some u t (sym has ∙ had) in
     ap (λ (x : List ℕ). flows (slice_set slots k (Resting u since)) x) moved
-    ∙ ap (λ (x : Tuple). flows (slice_set slots k (Resting x since)) (moved_last k turns)) same
-    ∙ ap (λ (f : Flows). flows (slice_set f.slots k (Resting t since)) (moved_last k f.turns)) view
+    ∙ ap (λ (x : Tuple). flows (slice_set slots k (Resting x since)) (moved_last k rest_order)) same
+    ∙ ap (λ (f : Flows). flows (slice_set f.slots k (Resting t since)) (moved_last k f.rest_order)) view
 
 -- and what holds then
-pub rested_kept : (slots : List Slot) (turns : List ℕ) (k since : ℕ) (u : Tuple) → HasTuple slots k u → AreKept slots turns → AreKept (slice_set slots k (Resting u since)) (moved_last k turns)
-rested_kept slots turns k since u has kept =
+pub rested_kept : (slots : List Slot) (rest_order : List ℕ) (k since : ℕ) (u : Tuple) → HasTuple slots k u → AreKept slots rest_order → AreKept (slice_set slots k (Resting u since)) (moved_last k rest_order)
+rested_kept slots rest_order k since u has kept =
     let fits = has_within slots k u has in
-    set_kept slots (moved_last k turns) k (Resting u since)
+    set_kept slots (moved_last k rest_order) k (Resting u since)
     (λ other t is h. kept.apart other k t h (has ∙ is))
-    (moved_kept slots turns k fits kept)
+    (moved_kept slots rest_order k fits kept)

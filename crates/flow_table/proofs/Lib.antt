@@ -1,7 +1,6 @@
 pub mod Finding
 pub mod Freeing
 pub mod Keeping
-pub mod Lists
 pub mod Resting
 pub mod Searching
 pub mod Tables

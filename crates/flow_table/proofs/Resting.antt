@@ -4,6 +4,7 @@ use Rattle.std.specs.Prelude.{slice_get, slice_set}
 use Rattle.std.specs.List.{insert, remove, position_or_len}
 use Rattle.std.proofs.lemmas.Bool.{cases_eq}
 use Rattle.std.proofs.lemmas.Option.{same_Some, slice_get_within, slice_get-get_or, get_or_from_slice_get}
+use Rattle.row_lists.proofs.Places.{set_from, set_to, set_at, removed_from, removed_to, inserted_from, inserted_at, inserted_to}
 use Rattle.flow_table.specs.declared.Rest.{Rest}
 use Rattle.flow_table.specs.declared.Slot.{Slot}
 use Rattle.flow_table.specs.declared.Slot.TheVariants.{Free, Resting}
@@ -11,22 +12,21 @@ use Rattle.flow_table.specs.declared.Tuple.{Tuple}
 use Rattle.flow_table.specs.Slots.{AreKept, HasRestedLongest, NoneRests, RestsSince, Stands, StandsBefore, flows, moved_last}
 use Rattle.flow_table.specs.Rows.{AreRests, DoNotFall, IsFirstAfter, IsLonger, rest_of}
 use Rattle.flow_table.proofs.Keeping.{first_place, gone}
-use Rattle.flow_table.proofs.Lists.{set_from, set_to, set_at, removed_from, removed_to, inserted_from, inserted_at, inserted_to}
 
 no_rest : (n k : ℕ) (t : Tuple) (since : ℕ) → RestsSince (replicate n Free) k t since → ⊥
 no_rest zero k t since h = cc
 no_rest (suc n) zero t since h = cc
 no_rest (suc n) (suc k) t since h = no_rest n k t since h
 
-pub no_rests : (n : ℕ) (turns : List ℕ) → AreRests (replicate n Free) turns []
-no_rests n turns = record {
+pub no_rests : (n : ℕ) (rest_order : List ℕ) → AreRests (replicate n Free) rest_order []
+no_rests n rest_order = record {
   has = λ i r h. cc;
   all = λ k t since h. absurd (no_rest n k t since h);
   order = λ i j a b less h g. cc;
 }
 
-pub do_not_fall : (slots : List Slot) (turns : List ℕ) (rests : List Rest) → AreRests slots turns rests → DoNotFall rests
-do_not_fall slots turns rests are i j d le within =
+pub do_not_fall : (slots : List Slot) (rest_order : List ℕ) (rests : List Rest) → AreRests slots rest_order rests → DoNotFall rests
+do_not_fall slots rest_order rests are i j d le within =
     elim (cases_eq i j) [
       | inl same ↦ omega (arith, ap (λ k. (get_or rests k d).since) same)
       | inr other ↦ (are.order i j (get_or rests i d) (get_or rests j d) (omega (arith, le, other)) (slice_get-get_or rests i d (omega (arith, le, within))) (slice_get-get_or rests j d within)).since
@@ -36,20 +36,20 @@ one_rest : (slots : List Slot) (k : ℕ) (t u : Tuple) (since moment : ℕ) → 
 one_rest slots k t u since moment h g = let e = same_Some (Resting t since) (Resting u moment) (sym h ∙ g) in cc
 
 -- no slot stands twice
-pub rests_once : (turns : List ℕ) (rests : List Rest) (i j : ℕ) (a b : Rest) → ((i j : ℕ) (a b : Rest) → i < j → slice_get rests i ≡ Some a → slice_get rests j ≡ Some b → IsLonger turns a b) → slice_get rests i ≡ Some a → slice_get rests j ≡ Some b → a.slot ≡ b.slot → i ≡ j
-rests_once turns rests i j a b order h g same =
+pub rests_once : (rest_order : List ℕ) (rests : List Rest) (i j : ℕ) (a b : Rest) → ((i j : ℕ) (a b : Rest) → i < j → slice_get rests i ≡ Some a → slice_get rests j ≡ Some b → IsLonger rest_order a b) → slice_get rests i ≡ Some a → slice_get rests j ≡ Some b → a.slot ≡ b.slot → i ≡ j
+rests_once rest_order rests i j a b order h g same =
     let not_below : i < j → ⊥ = λ less. (order i j a b less h g).other same in
     let not_above : j < i → ⊥ = λ less. (order j i b a less g h).other (sym same) in
     omega (arith, not_below, not_above)
 
 -- a slot stops to rest
-pub rests_removed : (slots : List Slot) (turns : List ℕ) (rests : List Rest) (place : ℕ) (r : Rest) → slice_get rests place ≡ Some r → AreRests slots turns rests → AreRests (slice_set slots r.slot Free) turns (remove rests place)
-rests_removed slots turns rests place r stands are = record {
+pub rests_removed : (slots : List Slot) (rest_order : List ℕ) (rests : List Rest) (place : ℕ) (r : Rest) → slice_get rests place ≡ Some r → AreRests slots rest_order rests → AreRests (slice_set slots r.slot Free) rest_order (remove rests place)
+rests_removed slots rest_order rests place r stands are = record {
   has = λ i x h.
       let from = removed_from rests place i x h in
       let had = are.has from.0 x from.1.0 in
       let moved : from.0 ≢ place = λ same. omega (arith, from.1.1, same) in
-      (had.0, set_to slots r.slot x.slot Free (Resting had.0 x.since) had.1 (λ same. moved (rests_once turns rests from.0 place x r are.order from.1.0 stands same)));
+      (had.0, set_to slots r.slot x.slot Free (Resting had.0 x.since) had.1 (λ same. moved (rests_once rest_order rests from.0 place x r are.order from.1.0 stands same)));
   all = λ k t since h.
       elim (set_from slots r.slot k Free (Resting t since) h) [
         | inl p ↦ absurd (let e = p.1 in cc)
@@ -64,8 +64,8 @@ rests_removed slots turns rests place r stands are = record {
 }
 
 -- a slot that doesn't rest is written, and doesn't rest then
-pub rests_quiet : (slots : List Slot) (turns : List ℕ) (rests : List Rest) (k : ℕ) (s : Slot) → ((t : Tuple) (since : ℕ) → RestsSince slots k t since → ⊥) → ((t : Tuple) (since : ℕ) → Resting t since ≡ s → ⊥) → AreRests slots turns rests → AreRests (slice_set slots k s) turns rests
-rests_quiet slots turns rests k s quiet still are = record {
+pub rests_quiet : (slots : List Slot) (rest_order : List ℕ) (rests : List Rest) (k : ℕ) (s : Slot) → ((t : Tuple) (since : ℕ) → RestsSince slots k t since → ⊥) → ((t : Tuple) (since : ℕ) → Resting t since ≡ s → ⊥) → AreRests slots rest_order rests → AreRests (slice_set slots k s) rest_order rests
+rests_quiet slots rest_order rests k s quiet still are = record {
   has = λ i x h. let had = are.has i x h in (had.0, set_to slots k x.slot s (Resting had.0 x.since) had.1 (λ same. quiet had.0 x.since (subst (λ n. RestsSince slots n had.0 x.since) same had.1)));
   all = λ j t since h. elim (set_from slots k j s (Resting t since) h) [ inl p ↦ absurd (still t since p.1) | inr p ↦ are.all j t since p.1 ];
   order = are.order;
@@ -107,16 +107,16 @@ stands_before_last xs y a i none is j h =
     ]
 
 -- a slot comes to rest
-pub rests_inserted : (slots : List Slot) (turns : List ℕ) (rests : List Rest) (place k since : ℕ) (t : Tuple) → k < length slots → AreKept slots turns → IsFirstAfter rests since place
-    → AreRests (slice_set slots k Free) turns rests → AreRests (slice_set slots k (Resting t since)) (moved_last k turns) (insert rests place (rest_of k since))
-rests_inserted slots turns rests place k since t fits kept at are =
+pub rests_inserted : (slots : List Slot) (rest_order : List ℕ) (rests : List Rest) (place k since : ℕ) (t : Tuple) → k < length slots → AreKept slots rest_order → IsFirstAfter rests since place
+    → AreRests (slice_set slots k Free) rest_order rests → AreRests (slice_set slots k (Resting t since)) (moved_last k rest_order) (insert rests place (rest_of k since))
+rests_inserted slots rest_order rests place k since t fits kept at are =
     let le = at.within in
     let new = rest_of k since in
     let s = Resting t since in
-    let n = position_or_len (λ other. other == k) turns in
+    let n = position_or_len (λ other. other == k) rest_order in
     let stood = kept.all k fits in
-    let here = first_place turns k stood.0 stood.1 in
-    let left = gone turns n k kept.once here in
+    let here = first_place rest_order k stood.0 stood.1 in
+    let left = gone rest_order n k kept.once here in
     -- a slot in the row isn't this one
     let apart : (i : ℕ) (x : Rest) → slice_get rests i ≡ Some x → x.slot ≢ k =
     λ i x h same. let had = are.has i x h in let e = sym (set_at slots k Free fits) ∙ subst (λ m. RestsSince (slice_set slots k Free) m had.0 x.since) same had.1 in absurd (let f = same_Some Free (Resting had.0 x.since) e in cc) in
@@ -151,18 +151,18 @@ rests_inserted slots turns rests place k since t fits kept at are =
                   let own = ap (λ (y : Rest). y.slot) q.1 in
                   let other = apart p.0 a p.1.0 in
                   let had = was p.0 a p.1.0 in
-                  let turn = kept.all a.slot (slice_get_within slots a.slot (Resting had.0 a.since) had.1) in
-                  let stays : turn.0 ≢ n = λ same. other (same_Some a.slot k (sym turn.1 ∙ ap (slice_get turns) same ∙ here)) in
-                  let to = removed_to turns n turn.0 a.slot turn.1 stays in
+                  let stood_at = kept.all a.slot (slice_get_within slots a.slot (Resting had.0 a.since) had.1) in
+                  let stays : stood_at.0 ≢ n = λ same. other (same_Some a.slot k (sym stood_at.1 ∙ ap (slice_get rest_order) same ∙ here)) in
+                  let to = removed_to rest_order n stood_at.0 a.slot stood_at.1 stays in
                   record {
                     since = omega (arith, earlier, mine);
-                    first = λ tie. subst (StandsBefore (moved_last k turns) a.slot) (sym own) (stands_before_last (remove turns n) k a.slot to.0 left to.1.0);
+                    first = λ tie. subst (StandsBefore (moved_last k rest_order) a.slot) (sym own) (stands_before_last (remove rest_order n) k a.slot to.0 left to.1.0);
                     other = λ same. other (same ∙ own);
                   }
               | inr q ↦ let both = are.order p.0 q.0 a b (omega (arith, p.1.1, q.1.1, less)) p.1.0 q.1.0 in
                   record {
                     since = both.since;
-                    first = λ tie. stands_appended (remove turns n) k a.slot b.slot (apart q.0 b q.1.0) (stands_removed turns n k a.slot b.slot here (apart p.0 a p.1.0) (both.first tie));
+                    first = λ tie. stands_appended (remove rest_order n) k a.slot b.slot (apart q.0 b q.1.0) (stands_removed rest_order n k a.slot b.slot here (apart p.0 a p.1.0) (both.first tie));
                     other = both.other;
                   }
             ]
@@ -170,8 +170,8 @@ rests_inserted slots turns rests place k since t fits kept at are =
     }
 
 -- the first of the row has rested longest
-pub longest_is_first : (slots : List Slot) (turns : List ℕ) (rests : List Rest) (r : Rest) → slice_get rests 0 ≡ Some r → AreRests slots turns rests → HasRestedLongest (flows slots turns) r.slot
-longest_is_first slots turns rests r is are =
+pub longest_is_first : (slots : List Slot) (rest_order : List ℕ) (rests : List Rest) (r : Rest) → slice_get rests 0 ≡ Some r → AreRests slots rest_order rests → HasRestedLongest (flows slots rest_order) r.slot
+longest_is_first slots rest_order rests r is are =
     let had = are.has 0 r is in
     record {
       tuple = had.0;
@@ -191,15 +191,15 @@ longest_is_first slots turns rests r is are =
           ];
     }
 
-pub none_rests : (slots : List Slot) (turns : List ℕ) → AreRests slots turns [] → NoneRests slots
-none_rests slots turns are k t since h = cc ((are.all k t since h).1)
+pub none_rests : (slots : List Slot) (rest_order : List ℕ) → AreRests slots rest_order [] → NoneRests slots
+none_rests slots rest_order are k t since h = cc ((are.all k t since h).1)
 
 -- a slot that rests stops, by what was read and by what was taken out
-pub rest_ended : (slots : List Slot) (rests left : List Rest) (k since place : ℕ) (t : Tuple) → slice_get rests place ≡ Some (rest_of k since) → left ≡ remove rests place → (turns : List ℕ) → AreRests slots turns rests → AreRests (slice_set slots k Free) turns left
-rest_ended slots rests left k since place t stands is turns are = subst (AreRests (slice_set slots k Free) turns) (sym is) (rests_removed slots turns rests place (rest_of k since) stands are)
+pub rest_ended : (slots : List Slot) (rests left : List Rest) (k since place : ℕ) (t : Tuple) → slice_get rests place ≡ Some (rest_of k since) → left ≡ remove rests place → (rest_order : List ℕ) → AreRests slots rest_order rests → AreRests (slice_set slots k Free) rest_order left
+rest_ended slots rests left k since place t stands is rest_order are = subst (AreRests (slice_set slots k Free) rest_order) (sym is) (rests_removed slots rest_order rests place (rest_of k since) stands are)
 
 pub read_rest : (slots : List Slot) (d : Slot) (k since : ℕ) (t : Tuple) → k < length slots → get_or slots k d ≡ Resting t since → RestsSince slots k t since
 read_rest slots d k since t within is = slice_get-get_or slots k d within ∙ ap Some is
 
-pub no_rest_ended : (slots : List Slot) (d : Slot) (k : ℕ) (rests : List Rest) → k < length slots → ((t : Tuple) (since : ℕ) → get_or slots k d ≡ Resting t since → ⊥) → (turns : List ℕ) → AreRests slots turns rests → AreRests (slice_set slots k Free) turns rests
-no_rest_ended slots d k rests within never turns are = rests_quiet slots turns rests k Free (λ t since h. never t since (get_or_from_slice_get slots k (Resting t since) d h)) (λ t since h. cc) are
+pub no_rest_ended : (slots : List Slot) (d : Slot) (k : ℕ) (rests : List Rest) → k < length slots → ((t : Tuple) (since : ℕ) → get_or slots k d ≡ Resting t since → ⊥) → (rest_order : List ℕ) → AreRests slots rest_order rests → AreRests (slice_set slots k Free) rest_order rests
+no_rest_ended slots d k rests within never rest_order are = rests_quiet slots rest_order rests k Free (λ t since h. never t since (get_or_from_slice_get slots k (Resting t since) d h)) (λ t since h. cc) are

@@ -1,33 +1,31 @@
 -- A table and its rows after each call.
-use Rattle.std.proofs.Common.{◌≡◌, ◌≢◌, ℕ, ◌+◌, ◌<◌, ◌≤◌, ◌^◌, List, [], ◌∷◌, ◌++◌, length, get_or, Option, Some, None, inl, inr, zero, suc, refl, sym, ap, ◌∙◌, subst, arith, replicate, true, false, eqb, length-set, length-append}
-use Rattle.std.specs.Prelude.{slice_get, slice_set, map, IfSome, IfNone}
-use Rattle.std.specs.List.{insert, range_with_len, list_any}
+use Rattle.std.proofs.Common.{◌≡◌, ◌≢◌, ℕ, ◌+◌, ◌<◌, ◌≤◌, ◌^◌, List, [], ◌∷◌, ◌++◌, length, Option, Some, None, inl, inr, zero, suc, refl, sym, ap, ◌∙◌, subst, arith, replicate, length-set, length-append}
+use Rattle.std.specs.Prelude.{slice_get, slice_set, IfSome, IfNone}
+use Rattle.std.specs.List.{insert, range_with_len}
 use Rattle.std.proofs.Math.Nat.{pow-succ'}
-use Rattle.std.proofs.lemmas.Bool.Decides.{eqb_tells, Decides-eqb}
-use Rattle.std.proofs.lemmas.List.{length-map, length-replicate}
+use Rattle.std.proofs.lemmas.List.{length-replicate}
 use Rattle.std.proofs.lemmas.List.Edits.{length-insert}
 use Rattle.std.proofs.lemmas.List.FromFn.{length-range_with_len}
-use Rattle.std.proofs.lemmas.Map.Made.{IsDistinct-from_AllPairs}
-use Rattle.std.proofs.lemmas.Map.Steps.{length-le_from_distinct_below}
-use Rattle.std.proofs.lemmas.Option.{same_Some, slice_get_within, slice_get-get_or}
+use Rattle.std.proofs.lemmas.Option.{slice_get_within}
+use Rattle.row_lists.proofs.Counts.{fewer_than}
+use Rattle.row_lists.proofs.Places.{set_at, set_twice}
 use Rattle.flow_table.specs.declared.Entry.{Entry}
 use Rattle.flow_table.specs.declared.Rest.{Rest}
 use Rattle.flow_table.specs.declared.Slot.{Slot}
 use Rattle.flow_table.specs.declared.Slot.TheVariants.{Free, InUse, Resting}
 use Rattle.flow_table.specs.declared.Tuple.{Tuple}
 use Rattle.flow_table.specs.Slots.{AreKept, HasTuple, NoneHas, RestsSince, moved_last}
-use Rattle.flow_table.specs.Rows.{AreEntries, AreFree, AreRests, BelongsAt, IsFirstAfter, IsLonger, IsSlotIn, IsTable, IsVacated, entry_of, rest_of}
+use Rattle.flow_table.specs.Rows.{AreEntries, AreFree, AreRests, BelongsAt, IsFirstAfter, IsSlotIn, IsTable, IsVacated, entry_of, rest_of}
 use Rattle.flow_table.proofs.Freeing.{all_are_free, freed, last_taken, still_free}
 use Rattle.flow_table.proofs.Keeping.{has_within, moved_kept, set_kept, start_kept}
-use Rattle.flow_table.proofs.Lists.{set_at, set_twice}
 use Rattle.flow_table.proofs.Resting.{no_rests, rests_inserted, rests_quiet}
 use Rattle.flow_table.proofs.Tuples.{entries_inserted, entries_same, has_set, no_entries, no_tuple}
 
-pub start_table : (n : ℕ) (slots : List Slot) (turns free : List ℕ) (entries : List Entry) (rests : List Rest) (ce cr cf : ℕ) → slots ≡ replicate n Free → turns ≡ range_with_len 0 n → free ≡ range_with_len 0 n → entries ≡ [] → rests ≡ [] → n ≤ ce → n ≤ cr → n ≤ cf → IsTable slots turns entries rests free ce cr cf
-start_table n slots turns free entries rests ce cr cf is in_turn all_free none no_one e r f =
+pub start_table : (n : ℕ) (slots : List Slot) (rest_order free : List ℕ) (entries : List Entry) (rests : List Rest) (ce cr cf : ℕ) → slots ≡ replicate n Free → rest_order ≡ range_with_len 0 n → free ≡ range_with_len 0 n → entries ≡ [] → rests ≡ [] → n ≤ ce → n ≤ cr → n ≤ cf → IsTable slots rest_order entries rests free ce cr cf
+start_table n slots rest_order free entries rests ce cr cf is by_number all_free none no_one e r f =
     let size = length-replicate n Free in
     let long = length-range_with_len 0 n in
-    rw (is, in_turn, all_free, none, no_one) (record {
+    rw (is, by_number, all_free, none, no_one) (record {
       kept = start_kept n;
       by_tuple = no_entries n;
       by_rest = no_rests n (range_with_len 0 n);
@@ -43,9 +41,9 @@ pub slot_has : (slots : List Slot) (entries : List Entry) (t : Tuple) (found : O
 slot_has slots entries t None are is = tt
 slot_has slots entries t (Some slot) are is = are.has is.0 (entry_of t slot) is.1
 
-pub slot_alone : (slots : List Slot) (turns : List ℕ) (entries : List Entry) (t : Tuple) (found : Option ℕ) → AreKept slots turns → AreEntries slots entries → IsSlotIn entries t found → IfSome found (λ slot. (other : ℕ) → HasTuple slots other t → other ≡ slot)
-slot_alone slots turns entries t None kept are is = tt
-slot_alone slots turns entries t (Some slot) kept are is = λ other h. kept.apart other slot t h (are.has is.0 (entry_of t slot) is.1)
+pub slot_alone : (slots : List Slot) (rest_order : List ℕ) (entries : List Entry) (t : Tuple) (found : Option ℕ) → AreKept slots rest_order → AreEntries slots entries → IsSlotIn entries t found → IfSome found (λ slot. (other : ℕ) → HasTuple slots other t → other ≡ slot)
+slot_alone slots rest_order entries t None kept are is = tt
+slot_alone slots rest_order entries t (Some slot) kept are is = λ other h. kept.apart other slot t h (are.has is.0 (entry_of t slot) is.1)
 
 pub none_has : (slots : List Slot) (entries : List Entry) (t : Tuple) (found : Option ℕ) → AreEntries slots entries → IsSlotIn entries t found → IfNone found (NoneHas slots t)
 none_has slots entries t None are is = λ k h. let w = are.all k t h in is w.0 k w.1
@@ -65,16 +63,16 @@ few_steps entries free slots before after count few k enough =
     positive (suc k) = let p = pow-succ' 2 k in let h = positive k in omega (arith, p, h)
 
 -- a slot is freed
-pub freed_table : (slots : List Slot) (turns free free_new : List ℕ) (entries entries_new : List Entry) (rests rests_new : List Rest) (k : ℕ) (t : Tuple) (ce cr cf ce_new cr_new cf_new : ℕ) → IsTable slots turns entries rests free ce cr cf → HasTuple slots k t
-    → AreEntries (slice_set slots k Free) entries_new → length entries_new + 1 ≡ length entries → ((turns : List ℕ) → AreRests slots turns rests → AreRests (slice_set slots k Free) turns rests_new) → free_new ≡ free ++ k ∷ [] → ce_new ≡ ce → cr_new ≡ cr → cf ≤ cf_new
-    → IsTable (slice_set slots k Free) turns entries_new rests_new free_new ce_new cr_new cf_new
-freed_table slots turns free free_new entries entries_new rests rests_new k t ce cr cf ce_new cr_new cf_new table had by_tuple fewer by_rest pushed e r f =
+pub freed_table : (slots : List Slot) (rest_order free free_new : List ℕ) (entries entries_new : List Entry) (rests rests_new : List Rest) (k : ℕ) (t : Tuple) (ce cr cf ce_new cr_new cf_new : ℕ) → IsTable slots rest_order entries rests free ce cr cf → HasTuple slots k t
+    → AreEntries (slice_set slots k Free) entries_new → length entries_new + 1 ≡ length entries → ((rest_order : List ℕ) → AreRests slots rest_order rests → AreRests (slice_set slots k Free) rest_order rests_new) → free_new ≡ free ++ k ∷ [] → ce_new ≡ ce → cr_new ≡ cr → cf ≤ cf_new
+    → IsTable (slice_set slots k Free) rest_order entries_new rests_new free_new ce_new cr_new cf_new
+freed_table slots rest_order free free_new entries entries_new rests rests_new k t ce cr cf ce_new cr_new cf_new table had by_tuple fewer by_rest pushed e r f =
     let size = length-set slots k Free in
     let more = ap (λ (x : List ℕ). length x) pushed ∙ length-append free (k ∷ []) in
     record {
-      kept = set_kept slots turns k Free (λ other u is h. absurd (no_tuple u is)) table.kept;
+      kept = set_kept slots rest_order k Free (λ other u is h. absurd (no_tuple u is)) table.kept;
       by_tuple = by_tuple;
-      by_rest = by_rest turns table.by_rest;
+      by_rest = by_rest rest_order table.by_rest;
       are_free = subst (λ (x : List ℕ). AreFree (slice_set slots k Free) x) (sym pushed) (freed slots free k t table.are_free had);
       count = omega (arith, table.count, fewer, more, size);
       entries_fit = omega (arith, size, e, table.entries_fit);
@@ -83,8 +81,8 @@ freed_table slots turns free free_new entries entries_new rests rests_new k t ce
     }
 
 -- nothing was taken
-pub same_table : (slots : List Slot) (turns free free_new : List ℕ) (entries entries_new : List Entry) (rests rests_new : List Rest) (ce cr cf ce_new cr_new cf_new : ℕ) → IsTable slots turns entries rests free ce cr cf → entries_new ≡ entries → rests_new ≡ rests → free_new ≡ free → ce_new ≡ ce → cr_new ≡ cr → cf_new ≡ cf → IsTable slots turns entries_new rests_new free_new ce_new cr_new cf_new
-same_table slots turns free free_new entries entries_new rests rests_new ce cr cf ce_new cr_new cf_new table e r f a b c = rw (e, r, f, a, b, c) table
+pub same_table : (slots : List Slot) (rest_order free free_new : List ℕ) (entries entries_new : List Entry) (rests rests_new : List Rest) (ce cr cf ce_new cr_new cf_new : ℕ) → IsTable slots rest_order entries rests free ce cr cf → entries_new ≡ entries → rests_new ≡ rests → free_new ≡ free → ce_new ≡ ce → cr_new ≡ cr → cf_new ≡ cf → IsTable slots rest_order entries_new rests_new free_new ce_new cr_new cf_new
+same_table slots rest_order free free_new entries entries_new rests rests_new ce cr cf ce_new cr_new cf_new table e r f a b c = rw (e, r, f, a, b, c) table
 
 -- none has the tuple where one slot is free
 pub none_has_then : (slots : List Slot) (k : ℕ) (t : Tuple) → NoneHas slots t → NoneHas (slice_set slots k Free) t
@@ -94,10 +92,10 @@ busy : (t : Tuple) → Free ≡ InUse t → ⊥
 busy t e = cc
 
 -- a slot is taken
-pub taken_table : (slots : List Slot) (turns free free_new : List ℕ) (entries entries_left entries_new : List Entry) (rests rests_new : List Rest) (k place : ℕ) (t : Tuple) (ce cr cf ce_new cr_new cf_new : ℕ) → IsTable slots turns entries rests free ce cr cf → NoneHas slots t
+pub taken_table : (slots : List Slot) (rest_order free free_new : List ℕ) (entries entries_left entries_new : List Entry) (rests rests_new : List Rest) (k place : ℕ) (t : Tuple) (ce cr cf ce_new cr_new cf_new : ℕ) → IsTable slots rest_order entries rests free ce cr cf → NoneHas slots t
     → IsVacated slots k rests entries_left rests_new free_new → length entries_left + length free_new + 1 ≡ length entries + length free → BelongsAt entries_left place t → entries_new ≡ insert entries_left place (entry_of t k) → ce ≤ ce_new → cr_new ≡ cr → cf_new ≡ cf
-    → IsTable (slice_set slots k (InUse t)) turns entries_new rests_new free_new ce_new cr_new cf_new
-taken_table slots turns free free_new entries entries_left entries_new rests rests_new k place t ce cr cf ce_new cr_new cf_new table none out count belongs is e r f =
+    → IsTable (slice_set slots k (InUse t)) rest_order entries_new rests_new free_new ce_new cr_new cf_new
+taken_table slots rest_order free free_new entries entries_left entries_new rests rests_new k place t ce cr cf ce_new cr_new cf_new table none out count belongs is e r f =
     let empty = slice_set slots k Free in
     let size = length-set slots k (InUse t) in
     let sized = length-set slots k Free in
@@ -105,9 +103,9 @@ taken_table slots turns free free_new entries entries_left entries_new rests res
     let twice = set_twice slots k Free (InUse t) in
     let more = ap (λ (x : List Entry). length x) is ∙ length-insert entries_left place (entry_of t k) belongs.within in
     record {
-      kept = set_kept slots turns k (InUse t) (λ other u same h. absurd (none other (h ∙ sym same))) table.kept;
+      kept = set_kept slots rest_order k (InUse t) (λ other u same h. absurd (none other (h ∙ sym same))) table.kept;
       by_tuple = subst (λ (x : List Entry). AreEntries (slice_set slots k (InUse t)) x) (sym is) (subst (λ (s : List Slot). AreEntries s (insert entries_left place (entry_of t k))) twice (entries_inserted empty entries_left place k t fits (set_at slots k Free out.within) belongs out.by_tuple));
-      by_rest = subst (λ (s : List Slot). AreRests s turns rests_new) twice (rests_quiet empty turns rests_new k (InUse t) (λ u since h. let e = sym (set_at slots k Free out.within) ∙ h in cc) (λ u since h. cc) (out.by_rest turns table.by_rest));
+      by_rest = subst (λ (s : List Slot). AreRests s rest_order rests_new) twice (rests_quiet empty rest_order rests_new k (InUse t) (λ u since h. let e = sym (set_at slots k Free out.within) ∙ h in cc) (λ u since h. cc) (out.by_rest rest_order table.by_rest));
       are_free = subst (λ (s : List Slot). AreFree s free_new) twice (last_taken empty free_new k (InUse t) (busy t) out.freed);
       count = omega (arith, table.count, count, more, size);
       entries_fit = omega (arith, size, e, table.entries_fit);
@@ -116,57 +114,29 @@ taken_table slots turns free free_new entries entries_left entries_new rests res
     }
 
 -- there is room for one more rest
-map_at : (rests : List Rest) (i x : ℕ) → slice_get (map (λ (r : Rest). r.slot) rests) i ≡ Some x → (r : Rest) × ((slice_get rests i ≡ Some r) × (r.slot ≡ x))
-map_at [] i x h = cc
-map_at (r ∷ rests) zero x h = (r, (refl, same_Some r.slot x h))
-map_at (r ∷ rests) (suc i) x h = map_at rests i x h
-
-any_at : (q : ℕ) (xs : List ℕ) → list_any (eqb q) xs ≡ true → (i : ℕ) × (slice_get xs i ≡ Some q)
-any_at q [] h = cc
-any_at q (x ∷ xs) h = elim (eqb_tells q x) [ inl p ↦ (0, ap Some (sym p.1)) | inr p ↦ let r = any_at q xs (rest q x xs p.0 h) in (suc r.0, r.1) ]
-  where
-    rest : (q x : ℕ) (xs : List ℕ) → eqb q x ≡ false → list_any (eqb q) (x ∷ xs) ≡ true → list_any (eqb q) xs ≡ true
-    rest q x xs other h = rw other at h
-
-pub rests_below : (slots : List Slot) (turns : List ℕ) (rests : List Rest) (k : ℕ) → k < length slots → AreRests (slice_set slots k Free) turns rests → length rests < length slots
-rests_below slots turns rests k fits are =
-    let slots_of = map (λ (r : Rest). r.slot) rests in
-    let all = k ∷ slots_of in
+pub rests_below : (slots : List Slot) (rest_order : List ℕ) (rests : List Rest) (k : ℕ) → k < length slots → AreRests (slice_set slots k Free) rest_order rests → length rests < length slots
+rests_below slots rest_order rests k fits are =
     let size = length-set slots k Free in
     let apart : (i : ℕ) (r : Rest) → slice_get rests i ≡ Some r → r.slot ≢ k =
     λ i r h same. let had = are.has i r h in let e = sym (set_at slots k Free fits) ∙ subst (λ m. RestsSince (slice_set slots k Free) m had.0 r.since) same had.1 in cc in
     let within : (i : ℕ) (r : Rest) → slice_get rests i ≡ Some r → r.slot < length slots =
     λ i r h. let had = are.has i r h in let w = slice_get_within (slice_set slots k Free) r.slot (Resting had.0 r.since) had.1 in omega (arith, w, size) in
-    let differ : (i j : ℕ) → i < j → (x : ℕ) → slice_get all i ≡ Some x → slice_get all j ≡ Some x → ⊥ = all_differ turns rests k apart are.order in
-    let few = length-le_from_distinct_below all (length slots) (IsDistinct-from_AllPairs Decides-eqb all (λ i j d less inside e. differ i j less (get_or all i d) (slice_get-get_or all i d (omega (arith, less, inside))) (slice_get-get_or all j d inside ∙ ap Some (sym e))))
-    (λ q h. let w = any_at q all h in all_within (length slots) rests k fits within w.0 q w.1) in
-    let same = length-map rests (λ (r : Rest). r.slot) in
-    omega (arith, few, same)
-  where
-    all_within : (n : ℕ) (rests : List Rest) (k : ℕ) → k < n → ((i : ℕ) (r : Rest) → slice_get rests i ≡ Some r → r.slot < n) → (i x : ℕ) → slice_get (k ∷ map (λ (r : Rest). r.slot) rests) i ≡ Some x → x < n
-    all_within n rests k fits within zero x h = omega (arith, fits, same_Some k x h)
-    all_within n rests k fits within (suc i) x h = let w = map_at rests i x h in let small = within i w.0 w.1.0 in omega (arith, small, w.1.1)
-
-    all_differ : (turns : List ℕ) (rests : List Rest) (k : ℕ) → ((i : ℕ) (r : Rest) → slice_get rests i ≡ Some r → r.slot ≢ k) → ((i j : ℕ) (a b : Rest) → i < j → slice_get rests i ≡ Some a → slice_get rests j ≡ Some b → IsLonger turns a b) → (i j : ℕ) → i < j → (x : ℕ) → slice_get (k ∷ map (λ (r : Rest). r.slot) rests) i ≡ Some x → slice_get (k ∷ map (λ (r : Rest). r.slot) rests) j ≡ Some x → ⊥
-    all_differ turns rests k apart order i zero less x h g = omega (arith, less)
-    all_differ turns rests k apart order zero (suc j) less x h g = let w = map_at rests j x g in apart j w.0 w.1.0 (w.1.1 ∙ sym (same_Some k x h))
-    all_differ turns rests k apart order (suc i) (suc j) less x h g =
-        let v = map_at rests i x h in
-        let w = map_at rests j x g in
-        (order i j v.0 w.0 (omega (arith, less)) v.1.0 w.1.0).other (v.1.1 ∙ sym w.1.1)
+    let other : (i j : ℕ) (a b : Rest) → i < j → slice_get rests i ≡ Some a → slice_get rests j ≡ Some b → a.slot ≢ b.slot =
+    λ i j a b less h g. (are.order i j a b less h g).other in
+    fewer_than (λ (r : Rest). r.slot) rests (length slots) k fits within apart other
 
 -- a slot comes to rest
-pub rested_table : (slots : List Slot) (turns turns_new free : List ℕ) (entries : List Entry) (rests rests_left rests_new : List Rest) (k since place : ℕ) (t : Tuple) (ce cr cf cr_new : ℕ) → IsTable slots turns entries rests free ce cr cf → HasTuple slots k t
-    → ((turns : List ℕ) → AreRests slots turns rests → AreRests (slice_set slots k Free) turns rests_left) → IsFirstAfter rests_left since place → rests_new ≡ insert rests_left place (rest_of k since) → turns_new ≡ moved_last k turns → cr ≤ cr_new
-    → IsTable (slice_set slots k (Resting t since)) turns_new entries rests_new free ce cr_new cf
-rested_table slots turns turns_new free entries rests rests_left rests_new k since place t ce cr cf cr_new table had ended at is moved r =
+pub rested_table : (slots : List Slot) (rest_order rest_order_new free : List ℕ) (entries : List Entry) (rests rests_left rests_new : List Rest) (k since place : ℕ) (t : Tuple) (ce cr cf cr_new : ℕ) → IsTable slots rest_order entries rests free ce cr cf → HasTuple slots k t
+    → ((rest_order : List ℕ) → AreRests slots rest_order rests → AreRests (slice_set slots k Free) rest_order rests_left) → IsFirstAfter rests_left since place → rests_new ≡ insert rests_left place (rest_of k since) → rest_order_new ≡ moved_last k rest_order → cr ≤ cr_new
+    → IsTable (slice_set slots k (Resting t since)) rest_order_new entries rests_new free ce cr_new cf
+rested_table slots rest_order rest_order_new free entries rests rests_left rests_new k since place t ce cr cf cr_new table had ended at is moved r =
     let fits = has_within slots k t had in
     let s = Resting t since in
     let size = length-set slots k s in
     record {
-      kept = subst (AreKept (slice_set slots k s)) (sym moved) (set_kept slots (moved_last k turns) k s (λ other u same h. table.kept.apart other k u h (had ∙ same)) (moved_kept slots turns k fits table.kept));
+      kept = subst (AreKept (slice_set slots k s)) (sym moved) (set_kept slots (moved_last k rest_order) k s (λ other u same h. table.kept.apart other k u h (had ∙ same)) (moved_kept slots rest_order k fits table.kept));
       by_tuple = entries_same slots entries k s t had refl fits table.by_tuple;
-      by_rest = subst (λ (x : List Rest). AreRests (slice_set slots k s) turns_new x) (sym is) (subst (λ (x : List ℕ). AreRests (slice_set slots k s) x (insert rests_left place (rest_of k since))) (sym moved) (rests_inserted slots turns rests_left place k since t fits table.kept at (ended turns table.by_rest)));
+      by_rest = subst (λ (x : List Rest). AreRests (slice_set slots k s) rest_order_new x) (sym is) (subst (λ (x : List ℕ). AreRests (slice_set slots k s) x (insert rests_left place (rest_of k since))) (sym moved) (rests_inserted slots rest_order rests_left place k since t fits table.kept at (ended rest_order table.by_rest)));
       are_free = still_free slots free k s t had (λ e. cc) table.are_free;
       count = omega (arith, table.count, size);
       entries_fit = omega (arith, size, table.entries_fit);

@@ -2,6 +2,7 @@
 use Rattle.std.proofs.Common.{◌≡◌, ℕ, List, [], ◌∷◌, ◌++◌, length, Some, inl, inr, refl, sym, ap, ◌∙◌, subst, arith}
 use Rattle.std.specs.Prelude.{slice_get, slice_set}
 use Rattle.std.proofs.lemmas.Option.{slice_get_within}
+use Rattle.row_lists.proofs.Places.{set_same}
 use Rattle.flow_table.specs.declared.Entry.{Entry}
 use Rattle.flow_table.specs.declared.Rest.{Rest}
 use Rattle.flow_table.specs.declared.Slot.{Slot}
@@ -10,7 +11,6 @@ use Rattle.flow_table.specs.Slots.{IsFree}
 use Rattle.flow_table.specs.Rows.{AreEntries, AreFree, AreRests, IsVacated}
 use Rattle.flow_table.proofs.Freeing.{freed, none_is_free}
 use Rattle.flow_table.proofs.Keeping.{at_end}
-use Rattle.flow_table.proofs.Lists.{set_same}
 use Rattle.flow_table.proofs.Resting.{longest_is_first}
 use Rattle.flow_table.proofs.Tuples.{has_at}
 
@@ -22,21 +22,21 @@ vacated_free slots entries rests free left k is by_tuple are =
     let same = sym (set_same slots k Free empty) in
     record {
       within = slice_get_within slots k Free empty;
-      may = λ turns kept rest. inl empty;
+      may = λ rest_order kept rest. inl empty;
       by_tuple = subst (λ (s : List Slot). AreEntries s entries) same by_tuple;
-      by_rest = λ turns rest. subst (λ (s : List Slot). AreRests s turns rests) same rest;
+      by_rest = λ rest_order rest. subst (λ (s : List Slot). AreRests s rest_order rests) same rest;
       freed = subst (λ (s : List Slot). AreFree s (left ++ k ∷ [])) same whole;
     }
 
-pub vacated_rest : (slots : List Slot) (entries : List Entry) (rests left : List Rest) (free free_left : List ℕ) (r : Rest) → free ≡ [] → free_left ≡ [] → slice_get rests 0 ≡ Some r → (turns : List ℕ) × AreRests slots turns rests
-    → AreEntries (slice_set slots r.slot Free) entries → ((turns : List ℕ) → AreRests slots turns rests → AreRests (slice_set slots r.slot Free) turns left) → AreFree slots free → IsVacated slots r.slot rests entries left free_left
+pub vacated_rest : (slots : List Slot) (entries : List Entry) (rests left : List Rest) (free free_left : List ℕ) (r : Rest) → free ≡ [] → free_left ≡ [] → slice_get rests 0 ≡ Some r → (rest_order : List ℕ) × AreRests slots rest_order rests
+    → AreEntries (slice_set slots r.slot Free) entries → ((rest_order : List ℕ) → AreRests slots rest_order rests → AreRests (slice_set slots r.slot Free) rest_order left) → AreFree slots free → IsVacated slots r.slot rests entries left free_left
 vacated_rest slots entries rests left free free_left r none none_left first some by_tuple by_rest are =
     let nothing = subst (AreFree slots) none are in
     let had = some.1.has 0 r first in
     let has = has_at slots r.slot (Resting had.0 r.since) had.0 had.1 refl in
     record {
       within = slice_get_within slots r.slot (Resting had.0 r.since) had.1;
-      may = λ turns kept rest. inr (none_is_free slots nothing, longest_is_first slots turns rests r first rest);
+      may = λ rest_order kept rest. inr (none_is_free slots nothing, longest_is_first slots rest_order rests r first rest);
       by_tuple = by_tuple;
       by_rest = by_rest;
       freed = subst (λ (f : List ℕ). AreFree (slice_set slots r.slot Free) (f ++ r.slot ∷ [])) (sym none_left) (freed slots [] r.slot had.0 nothing has);

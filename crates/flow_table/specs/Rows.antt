@@ -67,16 +67,16 @@ abbrev pub rest_of : ℕ → ℕ → Rest
 rest_of slot since = record { slot = slot; since = since }
 
 -- the one rests longer, or as long and came to rest first
-pub record IsLonger (turns : List ℕ) (a b : Rest) : Type 0 where
+pub record IsLonger (rest_order : List ℕ) (a b : Rest) : Type 0 where
   pub since : a.since ≤ b.since
-  pub first : a.since ≡ b.since → StandsBefore turns a.slot b.slot
+  pub first : a.since ≡ b.since → StandsBefore rest_order a.slot b.slot
   pub other : a.slot ≢ b.slot
 
 -- each slot at rest stands once in the row, before those that rest less long
-pub record AreRests (slots : List Slot) (turns : List ℕ) (rests : List Rest) : Type 0 where
+pub record AreRests (slots : List Slot) (rest_order : List ℕ) (rests : List Rest) : Type 0 where
   pub has : (i : ℕ) (r : Rest) → slice_get rests i ≡ Some r → (t : Tuple) × RestsSince slots r.slot t r.since
   pub all : (k : ℕ) (t : Tuple) (since : ℕ) → RestsSince slots k t since → (i : ℕ) × (slice_get rests i ≡ Some (rest_of k since))
-  pub order : (i j : ℕ) (a b : Rest) → i < j → slice_get rests i ≡ Some a → slice_get rests j ≡ Some b → IsLonger turns a b
+  pub order : (i j : ℕ) (a b : Rest) → i < j → slice_get rests i ≡ Some a → slice_get rests j ≡ Some b → IsLonger rest_order a b
 
 -- none rests since an earlier moment than one before it
 abbrev pub DoNotFall : List Rest → Type 0
@@ -97,16 +97,16 @@ pub record IsFirstAfter (rests : List Rest) (since place : ℕ) : Type 0 where
 -- a slot that could be taken stands in neither row, and isn't among the free ones any more, whose order is free
 pub record IsVacated (slots : List Slot) (slot : ℕ) (rests : List Rest) (entries_left : List Entry) (rests_left : List Rest) (free_left : List ℕ) : Type 0 where
   pub within : slot < length slots
-  pub may : (turns : List ℕ) → AreKept slots turns → AreRests slots turns rests → MayBeTaken (flows slots turns) slot
+  pub may : (rest_order : List ℕ) → AreKept slots rest_order → AreRests slots rest_order rests → MayBeTaken (flows slots rest_order) slot
   pub by_tuple : AreEntries (slice_set slots slot Free) entries_left
-  pub by_rest : (turns : List ℕ) → AreRests slots turns rests → AreRests (slice_set slots slot Free) turns rests_left
+  pub by_rest : (rest_order : List ℕ) → AreRests slots rest_order rests → AreRests (slice_set slots slot Free) rest_order rests_left
   pub freed : AreFree (slice_set slots slot Free) (free_left ++ slot ∷ [])
 
 -- what always holds of a table and its rows, which have room for all slots
-pub record IsTable (slots : List Slot) (turns : List ℕ) (entries : List Entry) (rests : List Rest) (free : List ℕ) (entries_room rests_room free_room : ℕ) : Type 0 where
-  pub kept : AreKept slots turns
+pub record IsTable (slots : List Slot) (rest_order : List ℕ) (entries : List Entry) (rests : List Rest) (free : List ℕ) (entries_room rests_room free_room : ℕ) : Type 0 where
+  pub kept : AreKept slots rest_order
   pub by_tuple : AreEntries slots entries
-  pub by_rest : AreRests slots turns rests
+  pub by_rest : AreRests slots rest_order rests
   pub are_free : AreFree slots free
   pub count : length entries + length free ≡ length slots
   pub entries_fit : length slots ≤ entries_room

@@ -8,10 +8,10 @@ use Rattle.flow_table.specs.declared.Tuple.{Tuple}
 -- the slots, and their numbers in the order in which each last came to rest, the latest last
 pub record Flows : Type 0 where
   pub slots : List Slot
-  pub turns : List ℕ
+  pub rest_order : List ℕ
 
 abbrev pub flows : List Slot → List ℕ → Flows
-flows slots turns = record { slots = slots; turns = turns }
+flows slots rest_order = record { slots = slots; rest_order = rest_order }
 
 -- what a slot is
 abbrev pub IsFree : List Slot → ℕ → Type 0
@@ -43,11 +43,11 @@ NoneRests slots = (k : ℕ) (t : Tuple) (since : ℕ) → RestsSince slots k t s
 
 -- a number stands in a list
 abbrev pub Stands : List ℕ → ℕ → Type 0
-Stands turns k = (i : ℕ) × (slice_get turns i ≡ Some k)
+Stands rest_order k = (i : ℕ) × (slice_get rest_order i ≡ Some k)
 
 -- it stands there at or before each place of another
 abbrev pub StandsBefore : List ℕ → ℕ → ℕ → Type 0
-StandsBefore turns k other = (j : ℕ) → slice_get turns j ≡ Some other → (i : ℕ) × ((i ≤ j) × (slice_get turns i ≡ Some k))
+StandsBefore rest_order k other = (j : ℕ) → slice_get rest_order j ≡ Some other → (i : ℕ) × ((i ≤ j) × (slice_get rest_order i ≡ Some k))
 
 -- the slot that has rested longest: no other rests since an earlier moment, and each that rests since the same came to rest later
 pub record HasRestedLongest (f : Flows) (k : ℕ) : Type 0 where
@@ -55,7 +55,7 @@ pub record HasRestedLongest (f : Flows) (k : ℕ) : Type 0 where
   pub since : ℕ
   pub rests : RestsSince f.slots k tuple since
   pub longest : (other : ℕ) (t : Tuple) (moment : ℕ) → RestsSince f.slots other t moment → since ≤ moment
-  pub first : (other : ℕ) (t : Tuple) → RestsSince f.slots other t since → StandsBefore f.turns k other
+  pub first : (other : ℕ) (t : Tuple) → RestsSince f.slots other t since → StandsBefore f.rest_order k other
 
 -- a free slot, or else the one that has rested longest
 abbrev pub MayBeTaken : Flows → ℕ → Type 0
@@ -67,20 +67,20 @@ all_free n = flows (replicate n Free) (range_with_len 0 n)
 
 -- a number goes to the end of a list
 abbrev pub moved_last : ℕ → List ℕ → List ℕ
-moved_last k turns = remove turns (position_or_len (λ other. other == k) turns) ++ k ∷ []
+moved_last k rest_order = remove rest_order (position_or_len (λ other. other == k) rest_order) ++ k ∷ []
 
 -- a slot has another content, and the order stays
 abbrev pub with_slot : Flows → ℕ → Slot → Flows
-with_slot f k s = flows (slice_set f.slots k s) f.turns
+with_slot f k s = flows (slice_set f.slots k s) f.rest_order
 
 -- no number stands twice
 abbrev pub Once : List ℕ → Type 0
 Once [] = Unit {0}
-Once (k ∷ turns) = (Stands turns k → ⊥) × Once turns
+Once (k ∷ rest_order) = (Stands rest_order k → ⊥) × Once rest_order
 
 -- what always holds: no two slots have the same tuple, and the order has each slot's number once and no other
-pub record AreKept (slots : List Slot) (turns : List ℕ) : Type 0 where
+pub record AreKept (slots : List Slot) (rest_order : List ℕ) : Type 0 where
   pub apart : (k other : ℕ) (t : Tuple) → HasTuple slots k t → HasTuple slots other t → k ≡ other
-  pub within : (i k : ℕ) → slice_get turns i ≡ Some k → k < length slots
-  pub all : (k : ℕ) → k < length slots → Stands turns k
-  pub once : Once turns
+  pub within : (i k : ℕ) → slice_get rest_order i ≡ Some k → k < length slots
+  pub all : (k : ℕ) → k < length slots → Stands rest_order k
+  pub once : Once rest_order

@@ -1,19 +1,24 @@
 //! A table of the flows of a network: which slot has which two ends, and which slot is taken next.
 #![tactic(auto)]
 
-ghost use Rattle.std.specs.Prelude.{◌≡◌, ◌==◌, ℕ, ◌+◌, ◌^◌, ◌<◌, ◌≤◌, List, [], ◌∷◌, ◌++◌, length, slice_get, slice_set, vec_len, IfOk, IfSome, IfNone, Some};
+ghost use Rattle.std.specs.Prelude.{◌≡◌, ℕ, ◌+◌, ◌^◌, ◌<◌, ◌≤◌, List, [], ◌∷◌, ◌++◌, length, slice_set, vec_len, IfOk, IfSome, IfNone, Some};
 ghost use Rattle.flow_table.specs.declared.Tuple.{Tuple};
 ghost use Rattle.flow_table.specs.declared.Slot.TheVariants.{Free, InUse, Resting};
-ghost use Rattle.flow_table.specs.Slots.{AreKept, HasTuple, HasSome, NoneHas, NoneIsFree, NoneRests, MayBeTaken, Stands, all_free, flows, moved_last, tuple_of, with_slot};
-ghost use Rattle.flow_table.specs.Rows.{AreEntries, AreFree, AreRests, BelongsAt, DoNotFall, IsFirstAfter, IsFirstSince, IsPlaceOf, IsSlotIn, IsVacated, Rise, StandsAt, entry_of, tuple_cmp};
-ghost use Rattle.std.specs.List.{position, range_with_len, insert, remove};
+ghost use Rattle.flow_table.specs.Slots.{AreKept, HasTuple, HasSome, NoneHas, NoneIsFree, NoneRests, MayBeTaken, all_free, flows, moved_last, tuple_of, with_slot};
+ghost use Rattle.flow_table.specs.Rows.{AreEntries, AreFree, AreRests, IsVacated, tuple_cmp};
+ghost use Rattle.std.specs.List.{range_with_len};
 ghost use Rattle.std.specs.Ordering.{nat_cmp, ordering_then};
 ghost use Rattle.std.specs.Vec.{vec_capacity};
 
+mod entries;
+mod rests;
+
+use entries::{insert_entry, place_of, remove_entry, search, slot_found};
 use net_octets::{Endpoint, NoMemory};
+use rests::{end_rest, insert_rest, move_last};
 use std::alloc::{AllocError, Global};
 use std::cmp::Ordering;
-use std::marker::{Brand, Model};
+use std::marker::Model;
 use std::sync::ledger::{Blank, Book, Ledger, Share};
 
 /// The two ends of a flow: the guest's, and the other that the guest sees.
@@ -119,7 +124,7 @@ pub enum Slot {
 #[derive(Drop)]
 pub struct FlowTable {
     slots: Vec<Slot>,
-    turns: Vec<usize>,
+    rest_order: Vec<usize>,
     entries: Vec<Entry>,
     rests: Vec<Rest>,
     free: Vec<usize>,
@@ -132,9 +137,9 @@ impl Model for FlowTable {
 
     ghost Value = { Flows };
 
-    ghost view = { λ table. flows table.slots.items table.turns.items };
+    ghost view = { λ table. flows table.slots.items table.rest_order.items };
 
-    ghost invariant = { λ table. IsTable table.slots.items table.turns.items table.entries.items table.rests.items table.free.items
+    ghost invariant = { λ table. IsTable table.slots.items table.rest_order.items table.entries.items table.rests.items table.free.items
         (vec_capacity table.entries) (vec_capacity table.rests) (vec_capacity table.free) };
 }
 
@@ -147,10 +152,10 @@ impl FlowTable {
         requires { 1 ≤ slots }
         ensures { IfOk result (λ table. table ≡ all_free slots) }
     {
-        let Ok(turns) = in_turn(alloc, slots) else {
+        let Ok(rest_order) = slot_numbers(alloc, slots) else {
             return Err(NoMemory);
         };
-        let Ok(free) = in_turn(alloc, slots) else {
+        let Ok(free) = slot_numbers(alloc, slots) else {
             return Err(NoMemory);
         };
         let Ok(entries) = Vec::with_capacity(alloc, slots) else {
@@ -164,7 +169,7 @@ impl FlowTable {
         };
         Ok(FlowTable {
             slots,
-            turns,
+            rest_order,
             entries,
             rests,
             free,
@@ -178,14 +183,14 @@ impl FlowTable {
             → other ≡ slot) }
         ensures none { IfNone result (NoneHas self.now.slots t.now) }
         // No two slots have one tuple, and each slot's number stands once in the order of rests.
-        ensures kept { AreKept self.now.slots self.now.turns }
+        ensures kept { AreKept self.now.slots self.now.rest_order }
     {
         let found = place_of(&self.entries, t);
         slot_found(&self.entries, found)
     }
 
-    /// The same by the same walk, whose comparisons are counted: at most one more than the logarithm
-    /// of the number of slots to base 2, rounded up.
+    /// The slot that has the tuple, found by the walk of `find`, whose comparisons are counted: at most one
+    /// more than the logarithm of the number of slots to base 2, rounded up.
     pub fn find_counted<L: Ledger>(&self, t: &Tuple, steps: &mut Steps<L>) -> Option<usize>
         ensures found { IfSome result (λ slot. HasTuple self.now.slots slot t.now) }
         ensures alone { IfSome result (λ slot. (other : ℕ) → HasTuple self.now.slots other t.now
@@ -226,13 +231,13 @@ impl FlowTable {
         requires { HasSome self.old.slots slot }
         ensures { (t : Tuple) → HasTuple self.old.slots slot t
             → self.new ≡ flows (slice_set self.old.slots slot (Resting t since))
-            (moved_last slot self.old.turns) }
+            (moved_last slot self.old.rest_order) }
     {
         if let Some(tuple) = self.slots[slot].tuple() {
             end_rest(&self.slots, &mut self.rests, slot);
             insert_rest(&mut self.rests, Rest { slot, since });
             self.slots[slot] = Slot::Resting(tuple, since);
-            move_last(&mut self.turns, slot);
+            move_last(&mut self.rest_order, slot);
         }
     }
 
@@ -261,68 +266,15 @@ impl Slot {
 }
 
 /// The numbers of so many slots, by number.
-fn in_turn(alloc: Global, slots: usize) -> Result<Vec<usize>, AllocError>
-    ensures items { IfOk result (λ turns. turns.items ≡ range_with_len 0 slots) }
-    ensures room { IfOk result (λ turns. slots ≤ vec_capacity turns) }
+fn slot_numbers(alloc: Global, slots: usize) -> Result<Vec<usize>, AllocError>
+    ensures items { IfOk result (λ numbers. numbers.items ≡ range_with_len 0 slots) }
+    ensures room { IfOk result (λ numbers. slots ≤ vec_capacity numbers) }
 {
-    let mut turns = vec![in alloc; 0; slots]?;
-    for (k, turn) in turns.iter_mut().enumerate() {
-        *turn = k;
+    let mut numbers = vec![in alloc; 0; slots]?;
+    for (k, number) in numbers.iter_mut().enumerate() {
+        *number = k;
     }
-    Ok(turns)
-}
-
-/// Where a tuple stands in the row, or where it would.
-fn search<L: Ledger>(entries: &[Entry], t: &Tuple, steps: &mut Steps<L>) -> Result<usize, usize>
-    requires { Rise entries.now }
-    ensures place { IsPlaceOf entries.now t.now result }
-    ensures few { (k : ℕ) → length entries.now < 2 ^ k → steps.new ≤ steps.old + k }
-{
-    let mut low = 0;
-    let mut size = entries.len();
-    while size > 0 {
-        let half = size / 2;
-        let middle = low + half;
-        match entries[middle].tuple.order(t, steps) {
-            Ordering::Equal => return Ok(middle),
-            Ordering::Less => {
-                low = middle + 1;
-                size -= half + 1;
-            }
-            Ordering::Greater => size = half,
-        }
-    }
-    Err(low)
-}
-
-/// The slot of what was found.
-fn slot_found(entries: &[Entry], found: Result<usize, usize>) -> Option<usize>
-    requires { (t : Tuple) × IsPlaceOf entries.now t found }
-    ensures { (t : Tuple) → IsPlaceOf entries.now t found → IsSlotIn entries.now t result }
-{
-    match found {
-        Ok(place) => Some(entries[place].slot),
-        Err(_) => None,
-    }
-}
-
-/// The same as `search`, and nothing is counted.
-fn place_of(entries: &[Entry], t: &Tuple) -> Result<usize, usize>
-    requires { Rise entries.now }
-    ensures { IsPlaceOf entries.now t.now result }
-{
-    place_from::<Brand>(entries, t, Blank::new(1))
-}
-
-fn place_from<L: Ledger>(entries: &[Entry], t: &Tuple, blank: Blank) -> Result<usize, usize>
-    requires rise { Rise entries.now }
-    requires name { blank.name ≡ L.name }
-    requires parts { blank.parts ≡ L.parts }
-    requires some { 0 < blank.parts }
-    ensures { IsPlaceOf entries.now t.now result }
-{
-    let mut steps = Steps::<L>::open(blank);
-    search(entries, t, &mut steps)
+    Ok(numbers)
 }
 
 /// Takes a slot that may be taken: a free one, or else the one that has rested longest, which
@@ -334,7 +286,7 @@ fn vacate(
     free: &mut Vec<usize>,
 ) -> Option<usize>
     requires entries { AreEntries slots.now entries.old.items }
-    requires rests { (turns : List ℕ) × AreRests slots.now turns rests.old.items }
+    requires rests { (rest_order : List ℕ) × AreRests slots.now rest_order rests.old.items }
     requires free { AreFree slots.now free.old.items }
     ensures none { IfNone result (NoneIsFree slots.now) }
     ensures resting { IfNone result (NoneRests slots.now) }
@@ -358,12 +310,12 @@ fn vacate(
 /// Takes a slot out of both rows.
 fn release(slots: &[Slot], entries: &mut Vec<Entry>, rests: &mut Vec<Rest>, slot: usize)
     requires entries { AreEntries slots.now entries.old.items }
-    requires rests { (turns : List ℕ) × AreRests slots.now turns rests.old.items }
+    requires rests { (rest_order : List ℕ) × AreRests slots.now rest_order rests.old.items }
     requires some { HasSome slots.now slot }
     ensures entries { AreEntries (slice_set slots.now slot Free) entries.new.items }
     ensures one { length entries.new.items + 1 ≡ length entries.old.items }
-    ensures rests { (turns : List ℕ) → AreRests slots.now turns rests.old.items
-        → AreRests (slice_set slots.now slot Free) turns rests.new.items }
+    ensures rests { (rest_order : List ℕ) → AreRests slots.now rest_order rests.old.items
+        → AreRests (slice_set slots.now slot Free) rest_order rests.new.items }
     ensures room { vec_capacity entries.new ≡ vec_capacity entries.old }
     ensures bed { vec_capacity rests.new ≡ vec_capacity rests.old }
 {
@@ -373,103 +325,6 @@ fn release(slots: &[Slot], entries: &mut Vec<Entry>, rests: &mut Vec<Rest>, slot
     }
 }
 
-/// Puts a tuple into its place in the row.
-fn insert_entry(entries: &mut Vec<Entry>, entry: Entry)
-    requires rise { Rise entries.old.items }
-    requires room { vec_len entries.old < vec_capacity entries.old }
-    requires new { (i k : ℕ) → slice_get entries.old.items i ≡ Some (entry_of entry.tuple k) → ⊥ }
-    ensures place { (place : ℕ) × (BelongsAt entries.old.items place entry.tuple
-        × (entries.new.items ≡ insert entries.old.items place entry)) }
-    ensures room { vec_capacity entries.old ≤ vec_capacity entries.new }
-{
-    if let Err(place) = place_of(entries, &entry.tuple) {
-        let _ = entries.insert(place, entry);
-    }
-}
-
-/// Takes a tuple out of the row.
-fn remove_entry(entries: &mut Vec<Entry>, t: &Tuple)
-    requires rise { Rise entries.old.items }
-    requires there { (i : ℕ) × StandsAt entries.old.items i t.now }
-    ensures place { (place : ℕ) × (StandsAt entries.old.items place t.now
-        × (entries.new.items ≡ remove entries.old.items place)) }
-    ensures room { vec_capacity entries.new ≡ vec_capacity entries.old }
-{
-    if let Ok(place) = place_of(entries, t) {
-        let _ = entries.remove(place);
-    }
-}
-
-/// Takes a slot out of the row of rests, where it rests.
-fn end_rest(slots: &[Slot], rests: &mut Vec<Rest>, slot: usize)
-    requires within { slot < length slots.now }
-    requires rests { (turns : List ℕ) × AreRests slots.now turns rests.old.items }
-    ensures rests { (turns : List ℕ) → AreRests slots.now turns rests.old.items
-        → AreRests (slice_set slots.now slot Free) turns rests.new.items }
-    ensures room { vec_capacity rests.new ≡ vec_capacity rests.old }
-{
-    if let Slot::Resting(_, since) = slots[slot] {
-        remove_rest(rests, Rest { slot, since });
-    }
-}
-
-/// Takes a rest out of the row.
-fn remove_rest(rests: &mut Vec<Rest>, rest: Rest)
-    requires order { DoNotFall rests.old.items }
-    requires there { (i : ℕ) × (slice_get rests.old.items i ≡ Some rest) }
-    ensures place { (place : ℕ) × ((slice_get rests.old.items place ≡ Some rest)
-        × (rests.new.items ≡ remove rests.old.items place)) }
-    ensures room { vec_capacity rests.new ≡ vec_capacity rests.old }
-{
-    if let Some(place) = rest_among(rests, rest) {
-        let _ = rests.remove(place);
-    }
-}
-
-/// Where a rest stands.
-fn rest_among(rests: &[Rest], rest: Rest) -> Option<usize>
-    requires { DoNotFall rests.now }
-    ensures found { IfSome result (λ place. slice_get rests.now place ≡ Some rest) }
-    ensures none { IfNone result ((i : ℕ) → slice_get rests.now i ≡ Some rest → ⊥) }
-{
-    let mut place = first_since(rests, rest.since);
-    while place < rests.len() && rests[place].since == rest.since {
-        if rests[place].slot == rest.slot {
-            return Some(place);
-        }
-        place += 1;
-    }
-    None
-}
-
-/// The first place of those that don't rest longer than since this moment.
-fn first_since(rests: &[Rest], since: u64) -> usize
-    requires { DoNotFall rests.now }
-    ensures { IsFirstSince rests.now since result }
-{
-    rests.partition_point(|rest| rest.since < since)
-}
-
-/// The first place of those that rest since a later moment.
-fn first_after(rests: &[Rest], since: u64) -> usize
-    requires { DoNotFall rests.now }
-    ensures { IsFirstAfter rests.now since result }
-{
-    rests.partition_point(|rest| rest.since <= since)
-}
-
-/// Puts a rest into the row, behind those that rest as long.
-fn insert_rest(rests: &mut Vec<Rest>, rest: Rest)
-    requires order { DoNotFall rests.old.items }
-    requires room { vec_len rests.old < vec_capacity rests.old }
-    ensures place { (place : ℕ) × (IsFirstAfter rests.old.items rest.since place
-        × (rests.new.items ≡ insert rests.old.items place rest)) }
-    ensures room { vec_capacity rests.old ≤ vec_capacity rests.new }
-{
-    let place = first_after(rests, rest.since);
-    let _ = rests.insert(place, rest);
-}
-
 /// Puts a slot to the free ones.
 fn give_back(free: &mut Vec<usize>, slot: usize)
     requires { vec_len free.old < vec_capacity free.old }
@@ -477,21 +332,4 @@ fn give_back(free: &mut Vec<usize>, slot: usize)
     ensures room { vec_capacity free.old ≤ vec_capacity free.new }
 {
     let _ = free.push(slot);
-}
-
-/// Puts a number behind all others.
-fn move_last(turns: &mut [usize], slot: usize)
-    requires { Stands turns.old slot }
-    ensures { turns.new ≡ moved_last slot turns.old }
-{
-    if let Some(at) = place_in(turns, slot) {
-        turns[at..].rotate_left(1);
-    }
-}
-
-/// The first place of a number.
-fn place_in(turns: &[usize], slot: usize) -> Option<usize>
-    ensures { result ≡ position (λ other. other == slot) turns.now }
-{
-    turns.iter().position(|turn| *turn == slot)
 }

@@ -1,5 +1,5 @@
 -- A peer comes to a port of the host that is given to a guest: the flow that begins has a slot of the core; or its socket is closed next.
-use Rattle.std.proofs.Common.{arith, ◌≡◌, ℕ, zero, suc, ◌+◌, ◌==◌, not, Bool, true, false, cond, List, [], ◌∷◌, length, set, slice_get, if◌then◌else◌, Option, Some, None, option_map, option_and_then, ◌⊎◌, inl, inr, refl, sym, ◌∙◌, ap, subst}
+use Rattle.std.proofs.Common.{arith, ◌≡◌, ℕ, zero, suc, ◌+◌, ◌==◌, not, Bool, true, false, cond, List, [], ◌∷◌, length, set, slice_get, if◌then◌else◌, Option, Some, None, option_map, option_and_then, inl, inr, refl, sym, ◌∙◌, ap, subst}
 use Rattle.std.specs.Prelude.{Contains}
 use Rattle.std.proofs.lemmas.Bool.Decides.{nat_tests}
 use Rattle.std.proofs.lemmas.List.{length-set}
@@ -10,11 +10,11 @@ use Rattle.world_face.specs.declared.Accepted.TheVariants.{From}
 use Rattle.host_policy.specs.Addresses.{Config}
 use Rattle.run_laws.specs.Moments.{moment}
 use Rattle.run_laws.specs.Sockets.{next_number}
-use Rattle.flow_table.specs.Slots.{AreKept, Flows, HasTuple, IsFree, MayBeTaken, NoneHas, flows, tuple_of}
+use Rattle.flow_table.specs.Slots.{AreKept, HasTuple, MayBeTaken, NoneHas, flows, tuple_of}
 use Rattle.flow_table.specs.declared.Slot.{Slot}
 use Rattle.flow_table.specs.declared.Slot.TheVariants.{Free, InUse, Resting}
 use Rattle.flow_table.specs.declared.Tuple.{Tuple}
-use Rattle.flow_laws.specs.Event.{Accepts, At, Story}
+use Rattle.flow_laws.specs.Event.{Accepts, At}
 use Rattle.flow_laws.specs.Close.{is_in_use}
 use Rattle.flow_laws.specs.Flow.{first_number}
 use Rattle.record_flows.specs.Book.{book, doom, is_refused, make_room, opens, port_of, tuple_for, visits_for, without}
@@ -22,7 +22,7 @@ use Rattle.record_flows.specs.Flows.{Book, Flow, Rest, flow_of, owner, rests_amo
 use Rattle.record_flows.specs.Lots.{due_for_flows}
 use Rattle.record_flows.specs.Taught.{taught}
 use Rattle.flows_follow.specs.FlowsHold.{FlowsState}
-use Rattle.flows_follow.specs.Seats.{IsSlotOf, Seats, number_at}
+use Rattle.flows_follow.specs.Seats.{Seats, number_at}
 use Rattle.flows_follow.proofs.Holding.{taught_on}
 use Rattle.flows_follow.proofs.Joining.{seats_joined}
 use Rattle.flows_follow.proofs.Only.{only_none}
@@ -35,30 +35,9 @@ use Rattle.flows_follow.proofs.Waking.{seats_woken}
 use Rattle.slirp_laws.proofs.Bools.{same}
 use Rattle.flow_splice.specs.Splice.{Splice}
 use Rattle.flows_follow.specs.Core.{CoreHolds, Following, mac_of, number_of}
-use Rattle.flows_follow.proofs.Joined.{state_with}
+use Rattle.flows_follow.proofs.Joined.{has_none, state_with}
 use Rattle.flows_follow.proofs.Looking.{none_rests, slot_of, slot_rests}
 use Rattle.flows_follow.proofs.Options.{none_some, some_same}
-
--- a slot that is free has no part
-has_none : {P : Type 0} (number : P → ℕ) (Follows : P → Story → Type 0) (table : Flows) (parts : List (Option P)) (next : ℕ) (all : List Flow) (rests : List Rest) → Seats number Follows table parts next all rests
-    → length parts ≡ length table.slots → (k : ℕ) → slice_get parts k ≡ Some None ⊎ (IsFree table.slots k → ⊥)
-has_none {P} number Follows table parts next all rests seats sizes k = by (slice_get parts k) refl
-  where
-    both : {X Y : Type 0} (xs : List X) (ys : List Y) (k : ℕ) (y : Y) → length xs ≡ length ys → slice_get ys k ≡ Some y → slice_get xs k ≡ None → ⊥
-    both xs [] k y is at none = cc
-    both [] (z ∷ ys) k y is at none = cc
-    both (x ∷ xs) (z ∷ ys) zero y is at none = cc
-    both (x ∷ xs) (z ∷ ys) (suc k) y is at none = both xs ys k y (less is) at none
-      where
-        less : suc (length xs) ≡ suc (length ys) → length xs ≡ length ys
-        less is = cc
-
-    by : (o : Option (Option P)) → slice_get parts k ≡ o → slice_get parts k ≡ Some None ⊎ (IsFree table.slots k → ⊥)
-    by (Some None) is = inl is
-    by (Some (Some p)) is =
-        let seat = seats.seated k p is in
-        inr (λ free. subst (λ (s : Slot). IsSlotOf rests seat.0 s) (some_same seat.1 Free (sym seat.5 ∙ free)) seat.6)
-    by None is = inr (λ free. both parts table.slots k Free sizes free is)
 
 -- once the flow of a slot that rests on two ends has left it, no slot has them
 pub none_left : (slots : List Slot) (turns : List ℕ) (k : ℕ) (t : Tuple) (since : ℕ) → AreKept slots turns → slice_get slots k ≡ Some (Resting t since) → NoneHas (set slots k Free) t
@@ -114,7 +93,7 @@ module _ (config : Config) (state : FlowsState Splice) (past : List Entry) (now 
 
     -- ---- the flow stands in a slot, and the others do that stood before, but for some that left
 
-    module _ (parts : List (Option Splice)) (stay : (j : ℕ) (r : Splice) → slice_get parts j ≡ Some (Some r) → slice_get state.parts j ≡ Some (Some r)) (k : ℕ) (q : Splice) (numbered : number_of q ≡ number)
+    module _ (parts : List (Option Splice)) (stay : (j : ℕ) (r : Splice) → slice_get parts j ≡ Some (Some r) → slice_get state.slots j ≡ Some (Some r)) (k : ℕ) (q : Splice) (numbered : number_of q ≡ number)
         (learnt : (m : Mac) → q.mac ≡ Some m → Contains (taught config past) (guest.addr, m)) where
       -- the new flow's address was learnt, and the others' as before
       learnt_then : (j : ℕ) (r : Splice) (h : Flow) (m : Mac) → slice_get (set parts k (Some q)) j ≡ Some (Some r) → flow_of (number_of r) (book config later).flows ≡ Some h → r.mac ≡ Some m → Contains (taught config later) (h.tuple.guest.addr, m)
@@ -125,7 +104,7 @@ module _ (config : Config) (state : FlowsState Splice) (past : List Entry) (now 
             some_same h _ (sym found ∙ ap (λ n. flow_of n (book config later).flows) (ap number_of one ∙ numbered) ∙ ap (flow_of number) flows_then ∙ first_of_all) in
             subst (λ (y : Flow). Contains (taught config later) (y.tuple.guest.addr, m)) (sym new) (learnt m (ap mac_of (sym one) ∙ is_mac))
         | inr other ↦
-            let was_here : slice_get state.parts j ≡ Some (Some r) = stay j r (sym (get_set_other parts k j (Some q) (differ j k other)) ∙ here) in
+            let was_here : slice_get state.slots j ≡ Some (Some r) = stay j r (sym (get_set_other parts k j (Some q) (differ j k other)) ∙ here) in
             let seat = holds.seats.seated j r was_here in
             let apart : (number_of r == number) ≡ false = older (number_of r) (λ same. cc (sym (holds.seats.fresh number (omega arith)) ∙ ap (λ n. flow_of n (book config past).flows) (sym same) ∙ seat.2)) in
             let old : flow_of (number_of r) (book config past).flows ≡ Some h =
@@ -155,39 +134,39 @@ module _ (config : Config) (state : FlowsState Splice) (past : List Entry) (now 
           first_of_all : flow_of number (begun_flow ∷ (book config past).flows) ≡ Some begun_flow
           first_of_all = ap (λ b. cond b (Some begun_flow) (flow_of number (book config past).flows)) (same number)
 
-      core_opened : (slots : List Slot) → length slots ≡ length state.table.slots → Seats number_of (Following config now) (flows slots state.table.turns) (set parts k (Some q)) (suc number) opened.flows opened.rests
-          → CoreHolds config now false None (record { table = flows slots state.table.turns; parts = set parts k (Some q); opened = suc state.opened }) later
+      core_opened : (slots : List Slot) → length slots ≡ length state.table.slots → Seats number_of (Following config now) (flows slots state.table.rest_order) (set parts k (Some q)) (suc number) opened.flows opened.rests
+          → CoreHolds config now false None (record { table = flows slots state.table.rest_order; slots = set parts k (Some q); opened = suc state.opened }) later
       core_opened slots long seats = record {
-        seats = subst (λ n. Seats number_of (Following config now) (flows slots state.table.turns) (set parts k (Some q)) n (book config later).flows (book config later).rests) (one_more number)
-            (subst (λ (b : Book). Seats number_of (Following config now) (flows slots state.table.turns) (set parts k (Some q)) (suc number) b.flows b.rests) (sym book_is) seats);
+        seats = subst (λ n. Seats number_of (Following config now) (flows slots state.table.rest_order) (set parts k (Some q)) n (book config later).flows (book config later).rests) (one_more number)
+            (subst (λ (b : Book). Seats number_of (Following config now) (flows slots state.table.rest_order) (set parts k (Some q)) (suc number) b.flows b.rests) (sym book_is) seats);
         slots = long ∙ holds.slots;
         opened = ap (λ (b : Book). length b.flows) book_is ∙ ap suc holds.opened;
         asked = ap (λ b. due_for_flows config b (next_number later)) book_is;
         learnt = learnt_then;
       }
 
-    module _ (kept : AreKept state.table.slots state.table.turns) (sizes : length state.parts ≡ length state.table.slots) where
+    module _ (kept : AreKept state.table.slots state.table.rest_order) (sizes : length state.slots ≡ length state.table.slots) where
       -- ---- no slot has the two ends
 
       module _ (none : NoneHas state.table.slots ends) (k : ℕ) (taken : MayBeTaken state.table k) (q : Splice) (numbered : number_of q ≡ number)
           (follows : Following config now q (At now (Accepts (first_number now state.opened)) ∷ []))
           (learnt : (m : Mac) → q.mac ≡ Some m → Contains (taught config past) (guest.addr, m)) where
-        seats_then : Seats number_of (Following config now) (flows (set state.table.slots k (InUse ends)) state.table.turns) (set state.parts k (Some q)) (suc number) opened.flows opened.rests
+        seats_then : Seats number_of (Following config now) (flows (set state.table.slots k (InUse ends)) state.table.rest_order) (set state.slots k (Some q)) (suc number) opened.flows opened.rests
         seats_then =
-            seats_joined number_of (Following config now) state.table state.parts number config (book config past) holds.seats kept sizes holds.slots (rests_rise config past).0
+            seats_joined number_of (Following config now) state.table state.slots number config (book config past) holds.seats kept sizes holds.slots (rests_rise config past).0
             k q now ends (Accepts (first_number now state.opened)) none
-            (none_rests number_of (Following config now) state.table state.parts number (book config past).flows (book config past).rests holds.seats sizes ends none)
-            taken (has_none number_of (Following config now) state.table state.parts number (book config past).flows (book config past).rests holds.seats sizes k) numbered refl follows
+            (none_rests number_of (Following config now) state.table state.slots number (book config past).flows (book config past).rests holds.seats sizes ends none)
+            taken (has_none number_of (Following config now) state.table state.slots number (book config past).flows (book config past).rests holds.seats sizes k) numbered refl follows
 
         -- the core's relation holds after it
         pub core_accepted : CoreHolds config now false None (state_with state k ends q) later
-        core_accepted = core_opened state.parts (λ j r here. here) k q numbered learnt (set state.table.slots k (InUse ends)) (length-set state.table.slots k (InUse ends)) seats_then
+        core_accepted = core_opened state.slots (λ j r here. here) k q numbered learnt (set state.table.slots k (InUse ends)) (length-set state.table.slots k (InUse ends)) seats_then
 
       -- ---- the flow of a slot rests on them: it leaves its slot first
 
-      module _ (i : ℕ) (p : Splice) (since : ℕ) (at : slice_get state.parts i ≡ Some (Some p)) (slot : slice_get state.table.slots i ≡ Some (Resting ends since)) where
+      module _ (i : ℕ) (p : Splice) (since : ℕ) (at : slice_get state.slots i ≡ Some (Some p)) (slot : slice_get state.table.slots i ≡ Some (Resting ends since)) where
         abbrev pub left_state : FlowsState Splice
-        left_state = record { table = flows (set state.table.slots i Free) state.table.turns; parts = set state.parts i None; opened = state.opened }
+        left_state = record { table = flows (set state.table.slots i Free) state.table.rest_order; slots = set state.slots i None; opened = state.opened }
 
         abbrev all : List Flow
         all = (book config past).flows
@@ -195,8 +174,8 @@ module _ (config : Config) (state : FlowsState Splice) (past : List Entry) (now 
         abbrev rests : List Rest
         rests = (book config past).rests
 
-        resting : (r : Splice) × (f : Flow) × (slice_get state.parts i ≡ Some (Some r)) × (flow_of (number_of r) all ≡ Some f) × (owner ends all ≡ Some f) × (is_in_use f.story ≡ false) × (rests_among rests (owner ends all) ≡ true)
-        resting = slot_rests number_of (Following config now) state.table state.parts number all rests holds.seats sizes i ends since slot
+        resting : (r : Splice) × (f : Flow) × (slice_get state.slots i ≡ Some (Some r)) × (flow_of (number_of r) all ≡ Some f) × (owner ends all ≡ Some f) × (is_in_use f.story ≡ false) × (rests_among rests (owner ends all) ≡ true)
+        resting = slot_rests number_of (Following config now) state.table state.slots number all rests holds.seats sizes i ends since slot
 
         found : flow_of (number_of p) all ≡ Some resting.1
         found = ap (λ (x : Splice). flow_of (number_of x) all) (some_same p resting.0 (some_same (Some p) (Some resting.0) (sym at ∙ resting.2))) ∙ resting.3
@@ -204,11 +183,11 @@ module _ (config : Config) (state : FlowsState Splice) (past : List Entry) (now 
         unused : uses (flow_of (number_of p) all) ≡ false
         unused = ap uses found ∙ resting.5
 
-        seats_left : Seats number_of (Following config now) left_state.table left_state.parts number all (without (number_of p) rests)
-        seats_left = seats_woken number_of (Following config now) state.table state.parts number all all rests i p ends since at slot unused unused (only_none (number_of p) all) holds.seats
+        seats_left : Seats number_of (Following config now) left_state.table left_state.slots number all (without (number_of p) rests)
+        seats_left = seats_woken number_of (Following config now) state.table state.slots number all all rests i p ends since at slot unused unused (only_none (number_of p) all) holds.seats
 
-        sizes_left : length left_state.parts ≡ length left_state.table.slots
-        sizes_left = length-set state.parts i None ∙ sizes ∙ sym (length-set state.table.slots i Free)
+        sizes_left : length left_state.slots ≡ length left_state.table.slots
+        sizes_left = length-set state.slots i None ∙ sizes ∙ sym (length-set state.table.slots i Free)
 
         module _ (k : ℕ) (taken : MayBeTaken left_state.table k) (q : Splice) (numbered : number_of q ≡ number)
             (follows : Following config now q (At now (Accepts (first_number now state.opened)) ∷ []))
@@ -216,18 +195,18 @@ module _ (config : Config) (state : FlowsState Splice) (past : List Entry) (now 
           free : slice_get left_state.table.slots k ≡ Some Free
           free = elim taken [ inl is ↦ is | inr not ↦ absurd (not.0 i (get_set_at state.table.slots i (Resting ends since) Free slot)) ]
 
-          empty_there : slice_get left_state.parts k ≡ Some None
-          empty_there = elim (has_none number_of (Following config now) left_state.table left_state.parts number all (without (number_of p) rests) seats_left sizes_left k) [ inl is ↦ is | inr not ↦ absurd (not free) ]
+          empty_there : slice_get left_state.slots k ≡ Some None
+          empty_there = elim (has_none number_of (Following config now) left_state.table left_state.slots number all (without (number_of p) rests) seats_left sizes_left k) [ inl is ↦ is | inr not ↦ absurd (not free) ]
 
-          nobody : (j n : ℕ) → number_at number_of left_state.parts j ≡ Some n → option_map (λ (g : Flow). g.tuple) (flow_of n all) ≡ Some ends → ⊥
+          nobody : (j n : ℕ) → number_at number_of left_state.slots j ≡ Some n → option_map (λ (g : Flow). g.tuple) (flow_of n all) ≡ Some ends → ⊥
           nobody j n has is_on = by (flow_of n all) refl is_on
             where
               by : (o : Option Flow) → flow_of n all ≡ o → option_map (λ (g : Flow). g.tuple) o ≡ Some ends → ⊥
               by None is none = none_some none
               by (Some g) is on =
-                  none_left state.table.slots state.table.turns i ends since kept slot j
+                  none_left state.table.slots state.table.rest_order i ends since kept slot j
                   (subst (HasTuple left_state.table.slots j) (some_same g.tuple ends on)
-                  (slot_of number_of (Following config now) left_state.table left_state.parts number all (without (number_of p) rests) seats_left sizes_left j n g has is))
+                  (slot_of number_of (Following config now) left_state.table left_state.slots number all (without (number_of p) rests) seats_left sizes_left j n g has is))
 
           room : opened.rests ≡ without (number_of p) rests
           room =
@@ -237,15 +216,15 @@ module _ (config : Config) (state : FlowsState Splice) (past : List Entry) (now 
               ∙ room_own config resting.1 (book config past) (ap (rests_among rests) (sym resting.4) ∙ resting.6)
               ∙ ap (λ n. without n rests) same_flow
 
-          seats_again : Seats number_of (Following config now) (flows (set left_state.table.slots k (InUse ends)) state.table.turns) (set left_state.parts k (Some q)) (suc number) opened.flows opened.rests
+          seats_again : Seats number_of (Following config now) (flows (set left_state.table.slots k (InUse ends)) state.table.rest_order) (set left_state.slots k (Some q)) (suc number) opened.flows opened.rests
           seats_again =
-              subst (Seats number_of (Following config now) (flows (set left_state.table.slots k (InUse ends)) state.table.turns) (set left_state.parts k (Some q)) (suc number) opened.flows) (sym room)
-              (seats_opened number_of (Following config now) left_state.table left_state.parts number all (without (number_of p) rests) k q begun_flow free empty_there refl numbered refl follows nobody seats_left)
+              subst (Seats number_of (Following config now) (flows (set left_state.table.slots k (InUse ends)) state.table.rest_order) (set left_state.slots k (Some q)) (suc number) opened.flows) (sym room)
+              (seats_opened number_of (Following config now) left_state.table left_state.slots number all (without (number_of p) rests) k q begun_flow free empty_there refl numbered refl follows nobody seats_left)
 
-          stay : (j : ℕ) (r : Splice) → slice_get left_state.parts j ≡ Some (Some r) → slice_get state.parts j ≡ Some (Some r)
+          stay : (j : ℕ) (r : Splice) → slice_get left_state.slots j ≡ Some (Some r) → slice_get state.slots j ≡ Some (Some r)
           stay j r here = elim (same_or_not j i) [
-            | inl at_i ↦ absurd (gone (sym (ap (slice_get left_state.parts) at_i ∙ get_set_at state.parts i (Some p) None at) ∙ here))
-            | inr other ↦ sym (get_set_other state.parts i j None (differ j i other)) ∙ here
+            | inl at_i ↦ absurd (gone (sym (ap (slice_get left_state.slots) at_i ∙ get_set_at state.slots i (Some p) None at) ∙ here))
+            | inr other ↦ sym (get_set_other state.slots i j None (differ j i other)) ∙ here
           ]
             where
               gone : ◌≡◌ {A = Option (Option Splice)} (Some None) (Some (Some r)) → ⊥
@@ -253,4 +232,4 @@ module _ (config : Config) (state : FlowsState Splice) (past : List Entry) (now 
 
           pub core_accepted_again : CoreHolds config now false None (state_with left_state k ends q) later
           core_accepted_again =
-              core_opened left_state.parts stay k q numbered learnt (set left_state.table.slots k (InUse ends)) (length-set left_state.table.slots k (InUse ends) ∙ length-set state.table.slots i Free) seats_again
+              core_opened left_state.slots stay k q numbered learnt (set left_state.table.slots k (InUse ends)) (length-set left_state.table.slots k (InUse ends) ∙ length-set state.table.slots i Free) seats_again

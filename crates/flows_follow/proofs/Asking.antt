@@ -125,7 +125,7 @@ module _ (config : Config) (face : Face) (f : Flow) (past : List Entry) (n : ℕ
 
   -- ---- the slots
 
-  module _ (aged : Bool) (state : FlowsState Splice) (holds : CoreHolds config (moment past) aged None state past) (k : ℕ) (p q : Splice) (at : slice_get state.parts k ≡ Some (Some p)) (numbered : number_of p ≡ n)
+  module _ (aged : Bool) (state : FlowsState Splice) (holds : CoreHolds config (moment past) aged None state past) (k : ℕ) (p q : Splice) (at : slice_get state.slots k ≡ Some (Some p)) (numbered : number_of p ≡ n)
       (same_number : number_of q ≡ number_of p) (same_mac : q.mac ≡ p.mac) (used : is_in_use f.story ≡ true) (follows : Following config (moment past) q (At (moment past) AsksAddress ∷ f.story)) (count : ℕ) where
     abbrev later : List Entry
     later = LinkWrite octets (Done count) ∷ past
@@ -148,20 +148,20 @@ module _ (config : Config) (face : Face) (f : Flow) (past : List Entry) (n : ℕ
         ∙ ap (option_map (seeks_for now guest)) was ∙ ap (λ (b : Bool). Some (if b then told else f)) mine
 
     abbrev pub state_asked : FlowsState Splice
-    state_asked = record { table = state.table; parts = set state.parts k (Some q); opened = state.opened }
+    state_asked = record { table = state.table; slots = set state.slots k (Some q); opened = state.opened }
 
-    learnt_asked : (j : ℕ) (r : Splice) (g : Flow) (m : Mac) → slice_get (set state.parts k (Some q)) j ≡ Some (Some r) → flow_of (number_of r) (book config later).flows ≡ Some g → mac_of r ≡ Some m
+    learnt_asked : (j : ℕ) (r : Splice) (g : Flow) (m : Mac) → slice_get (set state.slots k (Some q)) j ≡ Some (Some r) → flow_of (number_of r) (book config later).flows ≡ Some g → mac_of r ≡ Some m
         → Contains (taught config later) (g.tuple.guest.addr, m)
     learnt_asked j r g m here found is_mac = elim (same_or_not j k) [
       | inl at_k ↦
-          let it : r ≡ q = some_same r q (get_set_same state.parts k (Some p) (Some q) (Some r) at (subst (λ i. slice_get (set state.parts k (Some q)) i ≡ Some (Some r)) at_k here)) in
+          let it : r ≡ q = some_same r q (get_set_same state.slots k (Some p) (Some q) (Some r) at (subst (λ i. slice_get (set state.slots k (Some q)) i ≡ Some (Some r)) at_k here)) in
           sought.learnt k p g m at (ap (λ i. flow_of i (book config later).flows) (sym same_number ∙ ap number_of (sym it)) ∙ found) (sym same_mac ∙ ap mac_of (sym it) ∙ is_mac)
-      | inr other ↦ sought.learnt j r g m (sym (get_set_other state.parts k j (Some q) (differ j k other)) ∙ here) found is_mac
+      | inr other ↦ sought.learnt j r g m (sym (get_set_other state.slots k j (Some q) (differ j k other)) ∙ here) found is_mac
     ]
 
     pub core_asked : CoreHolds config now aged None state_asked later
     core_asked = record {
-      seats = seats_one number_of (Following config now) state.table state.parts (next_number later) (book config later).flows (book config later).flows (rests_at aged config later) k p q told told at same_number told_is used told_is used follows
+      seats = seats_one number_of (Following config now) state.table state.slots (next_number later) (book config later).flows (book config later).flows (rests_at aged config later) k p q told told at same_number told_is used told_is used follows
           (record { same = refl; apart = λ other not. refl; differ = λ is. is; used = refl }) sought.seats;
       slots = sought.slots;
       opened = sought.opened;

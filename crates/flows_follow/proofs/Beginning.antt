@@ -62,7 +62,7 @@ module _ {P : Type 0} (number : P → ℕ) (Follows : P → Story → Type 0) (n
     numbers = λ k j m one two. absurd (nobody k m one);
     owned = λ k m t one is. absurd (nobody k m one);
     found = λ m is. absurd (not_both is);
-    order = sym (none_rest (all_free n).slots (all_free n).turns);
+    order = sym (none_rest (all_free n).slots (all_free n).rest_order);
     counted = sym (none_used n);
     differ = tt;
     fresh = λ m past. refl;

@@ -250,11 +250,11 @@ filtered F (x ∷ xs) = by_option (F x) ∙ ap (λ n. if_some (F x) + n) (filter
 
 -- as many flows rest as slots
 pub rests_counted : {P : Type 0} (number : P → ℕ) (Follows : P → Story → Type 0) (table : Flows) (parts : List (Option P)) (next : ℕ) (flows : List Flow) (rests : List Rest)
-    → Seats number Follows table parts next flows rests → AreKept table.slots table.turns → length parts ≡ length table.slots → length rests ≡ resting_slots table.slots
+    → Seats number Follows table parts next flows rests → AreKept table.slots table.rest_order → length parts ≡ length table.slots → length rests ≡ resting_slots table.slots
 rests_counted {P} number Follows table parts next flows rests seats kept sizes =
-    lengths rests ∙ ap length seats.order ∙ filtered F table.turns
-    ∙ sum_is (λ k. if_some (F k)) (length table.slots) table.turns (each_once table.turns kept.once)
-    (λ k is. let at = among_stands k table.turns is in kept.within at.0 k at.1) (λ k is. stands_among k table.turns (kept.all k is))
+    lengths rests ∙ ap length seats.order ∙ filtered F table.rest_order
+    ∙ sum_is (λ k. if_some (F k)) (length table.slots) table.rest_order (each_once table.rest_order kept.once)
+    (λ k is. let at = among_stands k table.rest_order is in kept.within at.0 k at.1) (λ k is. stands_among k table.rest_order (kept.all k is))
     ∙ sum_same (λ k. if_some (F k)) (λ k. one_at_rest (slice_get table.slots k)) (length table.slots) same ∙ resting_sum table.slots
   where
     F : ℕ → Option ℕ
@@ -287,7 +287,7 @@ rests_counted {P} number Follows table parts next flows rests seats kept sizes =
 
 -- Where no slot is free the flows that are in use or rest are as many as slots, and fewer where one is.
 pub full : {P : Type 0} (number : P → ℕ) (Follows : P → Story → Type 0) (table : Flows) (parts : List (Option P)) (next : ℕ) (flows : List Flow) (rests : List Rest)
-    → Seats number Follows table parts next flows rests → AreKept table.slots table.turns → length parts ≡ length table.slots → NoneIsFree table.slots
+    → Seats number Follows table parts next flows rests → AreKept table.slots table.rest_order → length parts ≡ length table.slots → NoneIsFree table.slots
     → used flows + length rests ≡ length table.slots
 full number Follows table parts next flows rests seats kept sizes none =
     sums (used flows) (in_use_slots table.slots) (length rests) (resting_slots table.slots) seats.counted
@@ -297,7 +297,7 @@ full number Follows table parts next flows rests seats kept sizes none =
     sums a b c d one two = omega (arith, one, two)
 
 pub has_room : {P : Type 0} (number : P → ℕ) (Follows : P → Story → Type 0) (table : Flows) (parts : List (Option P)) (next : ℕ) (flows : List Flow) (rests : List Rest) (k : ℕ)
-    → Seats number Follows table parts next flows rests → AreKept table.slots table.turns → length parts ≡ length table.slots → IsFree table.slots k
+    → Seats number Follows table parts next flows rests → AreKept table.slots table.rest_order → length parts ≡ length table.slots → IsFree table.slots k
     → used flows + length rests < length table.slots
 has_room number Follows table parts next flows rests k seats kept sizes free =
     sums (used flows) (in_use_slots table.slots) (length rests) (resting_slots table.slots) (length table.slots) seats.counted

@@ -1,5 +1,5 @@
 -- A flow is no longer in use and doesn't rest: its slot is free.
-use Rattle.std.proofs.Common.{◌≡◌, ℕ, zero, suc, ◌+◌, ◌==◌, true, false, List, [], ◌∷◌, set, slice_get, Option, Some, None, inl, inr, refl, sym, ◌∙◌, ap, arith}
+use Rattle.std.proofs.Common.{◌≡◌, ℕ, zero, suc, ◌+◌, true, false, List, [], ◌∷◌, set, slice_get, Option, Some, None, inl, inr, refl, sym, ◌∙◌, ap, arith}
 use Rattle.std.specs.Prelude.{filter_map}
 use Rattle.flow_table.specs.Slots.{Flows, flows}
 use Rattle.flow_table.specs.declared.Slot.{Slot}
@@ -9,9 +9,10 @@ use Rattle.flow_laws.specs.Event.{Story}
 use Rattle.record_flows.specs.Flows.{Flow, Rest, flow_of, uses, used}
 use Rattle.flows_follow.specs.Only.{one_if, Only}
 use Rattle.flows_follow.specs.Seats.{number_in, number_at, rests_at, count_used, in_use_slots, Seats}
-use Rattle.flows_follow.proofs.Opening.{none_some, some_same}
-use Rattle.flows_follow.proofs.Seats.{same_or_not, differ, found_id, owner_id}
+use Rattle.flows_follow.proofs.Opening.{some_same}
+use Rattle.flows_follow.proofs.Seats.{same_or_not, differ}
 use Rattle.flows_follow.proofs.Tables.{get_set_at, get_set_other}
+use Rattle.flows_follow.proofs.Vacated.{empty_others, found_others, fresh_others, numbers_others, owned_others, seated_others}
 
 used_freed : (slots : List Slot) (k : ℕ) (t : Tuple) → slice_get slots k ≡ Some (InUse t) → suc (in_use_slots (set slots k Free)) ≡ in_use_slots slots
 used_freed [] k t at = absurd cc
@@ -34,57 +35,21 @@ same_less a b c d one two three = omega (arith, one, two, three)
 module _ {P : Type 0} (number : P → ℕ) (Follows : P → Story → Type 0) (table : Flows) (parts : List (Option P)) (next : ℕ) (old new : List Flow) (rests : List Rest) where
   pub seats_freed : (k : ℕ) (p : P) (f : Flow) (t : Tuple) → slice_get parts k ≡ Some (Some p) → slice_get table.slots k ≡ Some (InUse t)
       → flow_of (number p) old ≡ Some f → uses (flow_of (number p) old) ≡ true → uses (flow_of (number p) new) ≡ false → Only (number p) old new
-      → Seats number Follows table parts next old rests → Seats number Follows (flows (set table.slots k Free) table.turns) (set parts k None) next new rests
+      → Seats number Follows table parts next old rests → Seats number Follows (flows (set table.slots k Free) table.rest_order) (set parts k None) next new rests
   seats_freed k p f t at slot was was_used is_unused only seats =
-      let stays : (n : ℕ) → (n == number p) ≡ false → flow_of n new ≡ flow_of n old = only.apart in
-      let here_is : number_at number parts k ≡ Some (number p) = ap (number_in number) at in
-      let kept : (j : ℕ) → (j == k) ≡ false → number_at number (set parts k None) j ≡ number_at number parts j = λ j other. ap (number_in number) (get_set_other parts k j None (differ j k other)) in
-      let gone : (j : ℕ) → j ≡ k → number_at number (set parts k None) j ≡ None = λ j same. ap (λ i. number_at number (set parts k None) i) same ∙ ap (number_in number) (get_set_at parts k (Some p) None at) in
-      let elsewhere : (j n : ℕ) → number_at number (set parts k None) j ≡ Some n → (j == k) ≡ false = λ j n has. elim (same_or_not j k) [
-        | inl same ↦ absurd (none_some (sym (gone j same) ∙ has))
-        | inr not ↦ not
-      ] in
-      let others : (j n : ℕ) → number_at number parts j ≡ Some n → (j == k) ≡ false → (n == number p) ≡ false = λ j n has other. elim (same_or_not n (number p)) [
-        | inl same ↦ absurd (differ j k other (seats.numbers j k (number p) (has ∙ ap Some same) here_is))
-        | inr not ↦ not
-      ] in
       record {
-        seated = λ j r here.
-            let other = elsewhere j (number r) (ap (number_in number) here) in
-            let was_here : slice_get parts j ≡ Some (Some r) = sym (get_set_other parts k j None (differ j k other)) ∙ here in
-            let seat = seats.seated j r was_here in
-            (seat.0, seat.1, stays (number r) (others j (number r) (ap (number_in number) was_here) other) ∙ seat.2, seat.3, seat.4, get_set_other table.slots k j Free (differ j k other) ∙ seat.5, seat.6);
-        empty = λ j nothing. elim (same_or_not j k) [
-          | inl same ↦ ap (slice_get (set table.slots k Free)) same ∙ get_set_at table.slots k (InUse t) Free slot
-          | inr other ↦ get_set_other table.slots k j Free (differ j k other) ∙ seats.empty j (sym (get_set_other parts k j None (differ j k other)) ∙ nothing)
-        ];
-        numbers = λ i j n at_i at_j. seats.numbers i j n (sym (kept i (elsewhere i n at_i)) ∙ at_i) (sym (kept j (elsewhere j n at_j)) ∙ at_j);
-        owned = λ j n t here is_on. owner_id t new old only.same ∙ seats.owned j n t (sym (kept j (elsewhere j n here)) ∙ here) (sym (found_id n new old only.same) ∙ is_on);
-        found = λ n in_use. elim (same_or_not n (number p)) [
-          | inl same ↦ absurd (not_used (sym is_unused ∙ ap (λ m. uses (flow_of m new)) (sym same) ∙ in_use))
-          | inr other ↦
-              let had = seats.found n (ap uses (sym (stays n other)) ∙ in_use) in
-              (had.0, kept had.0 (not_here had.0 n had.1 other here_is) ∙ had.1)
-        ];
-        order = seats.order ∙ (λ i. filter_map (λ j. sym (as_before j) i) table.turns);
+        seated = λ j r here. let seat = seated_others number Follows table parts next old new rests k p at is_unused only seats j r here in (seat.0, seat.1, seat.2, seat.3, seat.4, seat.5, seat.6);
+        empty = empty_others number Follows table parts next old new rests k p at is_unused only seats (InUse t) slot;
+        numbers = numbers_others number Follows table parts next old new rests k p at is_unused only seats;
+        owned = owned_others number Follows table parts next old new rests k p at is_unused only seats;
+        found = found_others number Follows table parts next old new rests k p at is_unused only seats;
+        order = seats.order ∙ (λ i. filter_map (λ j. sym (as_before j) i) table.rest_order);
         counted = same_less (used new) (used old) (in_use_slots table.slots) (in_use_slots (set table.slots k Free))
             (one_less (used new) (used old) (flow_of (number p) old) (flow_of (number p) new) only.used was_used is_unused) seats.counted (used_freed table.slots k t slot);
         differ = only.differ seats.differ;
-        fresh = λ n past. elim (same_or_not n (number p)) [
-          | inl same ↦ absurd (none_some (sym (seats.fresh n past) ∙ ap (λ m. flow_of m old) same ∙ was))
-          | inr other ↦ stays n other ∙ seats.fresh n past
-        ];
+        fresh = fresh_others number Follows table parts next old new rests k p at is_unused only seats f was;
       }
     where
-      not_used : false ≡ true → ⊥
-      not_used is = cc
-
-      not_here : (j n : ℕ) → number_at number parts j ≡ Some n → (n == number p) ≡ false → number_at number parts k ≡ Some (number p) → (j == k) ≡ false
-      not_here j n has other here = elim (same_or_not j k) [
-        | inl same ↦ absurd (differ n (number p) other (some_same n (number p) (sym has ∙ ap (number_at number parts) same ∙ here)))
-        | inr not ↦ not
-      ]
-
       as_before : (j : ℕ) → rests_at (slice_get (set table.slots k Free) j) (number_at number (set parts k None) j) ≡ rests_at (slice_get table.slots j) (number_at number parts j)
       as_before j = elim (same_or_not j k) [
         | inl same ↦

@@ -66,8 +66,8 @@ of_then config n past (d ∷ made) e one are =
     (subst (λ (l : List Entry). IsOf n (book config l) (doing config l d)) (sym (append_assoc made (e ∷ []) past)) are.0, of_then config n past made e one are.1)
 
 module _ (config : Config) (state : FlowsState Splice) (past : List Entry) (now : ℕ) (holds : CoreHolds config now false None state past) (moment_is : moment past ≡ now) (lawful_before : Lawful config past)
-    (k : ℕ) (p q : Splice) (t : Tuple) (f : Flow) (at : slice_get state.parts k ≡ Some (Some p)) (slot : slice_get state.table.slots k ≡ Some (slot_at p.place t)) (same : q.face ≡ p.face)
-    (was : flow_of (number_of p) (book config past).flows ≡ Some f) (ends : f.tuple ≡ ends_of p.face) (once : Once state.table.turns)
+    (k : ℕ) (p q : Splice) (t : Tuple) (f : Flow) (at : slice_get state.slots k ≡ Some (Some p)) (slot : slice_get state.table.slots k ≡ Some (slot_at p.place t)) (same : q.face ≡ p.face)
+    (was : flow_of (number_of p) (book config past).flows ≡ Some f) (ends : f.tuple ≡ ends_of p.face) (once : Once state.table.rest_order)
     (e : Entry) (on : OnTuple) (comes : doing config past e ≡ Comes on) (on_ends : on.tuple ≡ ends_of p.face) (next_is : next_number (e ∷ past) ≡ next_number past)
     (learnt : (m : Mac) → q.mac ≡ Some m → Contains (taught config (e ∷ past)) (f.tuple.guest.addr, m)) where
   has : HasFlow config p.face f past
@@ -183,13 +183,13 @@ module _ (config : Config) (state : FlowsState Splice) (past : List Entry) (now 
 
   -- the slots and parts, once the slot of a flow that rested follows its place; a segment that renews the rest has it rest anew, as the last
   abbrev pub rested_at : Place → (again : Bool) → Seated
-  rested_at Empty again = record { table = flows (set state.table.slots k Free) state.table.turns; parts = set state.parts k None }
-  rested_at Used again = record { table = state.table; parts = state.parts }
-  rested_at (Rests since) true = record { table = flows (set state.table.slots k (Resting t since)) (moved_last k state.table.turns); parts = set state.parts k (Some q) }
-  rested_at (Rests since) false = record { table = state.table; parts = set state.parts k (Some q) }
+  rested_at Empty again = record { table = flows (set state.table.slots k Free) state.table.rest_order; slots = set state.slots k None }
+  rested_at Used again = record { table = state.table; slots = state.slots }
+  rested_at (Rests since) true = record { table = flows (set state.table.slots k (Resting t since)) (moved_last k state.table.rest_order); slots = set state.slots k (Some q) }
+  rested_at (Rests since) false = record { table = state.table; slots = set state.slots k (Some q) }
 
   abbrev pub state_rested : FlowsState Splice
-  state_rested = record { table = (rested_at q.place (renews on.segment)).table; parts = (rested_at q.place (renews on.segment)).parts; opened = state.opened }
+  state_rested = record { table = (rested_at q.place (renews on.segment)).table; slots = (rested_at q.place (renews on.segment)).slots; opened = state.opened }
 
   module _ (since : ℕ) (at_rest : p.place ≡ Rests since) (follows : Following config now q beat) where
     here : slice_get state.table.slots k ≡ Some (Resting t since)
@@ -231,7 +231,7 @@ module _ (config : Config) (state : FlowsState Splice) (past : List Entry) (now 
     since_then = ap (λ o. if ends_rest f.story on.segment then None else renewed (renews on.segment) now o) begun
 
     abbrev Goal : Seated → Type 0
-    Goal x = Seats number_of (Following config now) x.table x.parts (next_number past) (book config (e ∷ past)).flows (book config (e ∷ past)).rests
+    Goal x = Seats number_of (Following config now) x.table x.slots (next_number past) (book config (e ∷ past)).flows (book config (e ∷ past)).rests
 
     follow_place : Following config now q told.story
     follow_place = follows
@@ -239,9 +239,9 @@ module _ (config : Config) (state : FlowsState Splice) (past : List Entry) (now 
     -- it left
     left_it : q.place ≡ Empty → (b : Bool) → ends_rest f.story on.segment ≡ b → Goal (rested_at Empty (renews on.segment))
     left_it place true ends_it =
-        subst (λ (r : List Rest). Seats number_of (Following config now) (flows (set state.table.slots k Free) state.table.turns) (set state.parts k None) (next_number past) (book config (e ∷ past)).flows r)
+        subst (λ (r : List Rest). Seats number_of (Following config now) (flows (set state.table.slots k Free) state.table.rest_order) (set state.slots k None) (next_number past) (book config (e ∷ past)).flows r)
         (sym (rests_by ∙ ap (λ b. if b then without (number_of p) (book config past).rests else (if renews on.segment then without (number_of p) (book config past).rests ++ (rest (number_of p) now ∷ []) else (book config past).rests)) ends_it))
-        (seats_woken number_of (Following config now) state.table state.parts (next_number past) (book config past).flows (book config (e ∷ past)).flows (book config past).rests k p t since at here unused_before (ap uses told_is ∙ unused_then) only holds.seats)
+        (seats_woken number_of (Following config now) state.table state.slots (next_number past) (book config past).flows (book config (e ∷ past)).flows (book config past).rests k p t since at here unused_before (ap uses told_is ∙ unused_then) only holds.seats)
     left_it place false not_yet =
         let none = rest_none (flow_settings config) q beat now follows (ap is_at_rest place) in
         let some = since_then ∙ ap (λ b. if b then None else renewed (renews on.segment) now (Some since)) not_yet in
@@ -258,17 +258,17 @@ module _ (config : Config) (state : FlowsState Splice) (past : List Entry) (now 
     rests_on_it m place false not_yet true again =
         let is : rests_since beat ≡ Some now = since_then ∙ ap (λ b. if b then None else renewed (renews on.segment) now (Some since)) not_yet ∙ ap (λ b. renewed b now (Some since)) again in
         let m_is : m ≡ now = some_same m now (sym (rest_is (flow_settings config) q beat now m follows place) ∙ is) in
-        subst (λ (r : List Rest). Seats number_of (Following config now) (flows (set state.table.slots k (Resting t m)) (moved_last k state.table.turns)) (set state.parts k (Some q)) (next_number past) (book config (e ∷ past)).flows r)
+        subst (λ (r : List Rest). Seats number_of (Following config now) (flows (set state.table.slots k (Resting t m)) (moved_last k state.table.rest_order)) (set state.slots k (Some q)) (next_number past) (book config (e ∷ past)).flows r)
         (ap (λ n. without (number_of p) (book config past).rests ++ (rest (number_of p) n ∷ [])) m_is
         ∙ sym (rests_by ∙ ap (λ b. if b then without (number_of p) (book config past).rests else (if renews on.segment then without (number_of p) (book config past).rests ++ (rest (number_of p) now ∷ []) else (book config past).rests)) not_yet
         ∙ ap (λ b. if b then without (number_of p) (book config past).rests ++ (rest (number_of p) now ∷ []) else (book config past).rests) again))
-        (seats_renewed number_of (Following config now) state.table state.parts (next_number past) (book config past).flows (book config (e ∷ past)).flows (book config past).rests k p q told t since m at here
+        (seats_renewed number_of (Following config now) state.table state.slots (next_number past) (book config past).flows (book config (e ∷ past)).flows (book config past).rests k p q told t since m at here
         (ap (λ (x : Face). x.number) same) unused_before told_is unused_then follow_place only once holds.seats)
     rests_on_it m place false not_yet false again =
-        subst (λ (r : List Rest). Seats number_of (Following config now) state.table (set state.parts k (Some q)) (next_number past) (book config (e ∷ past)).flows r)
+        subst (λ (r : List Rest). Seats number_of (Following config now) state.table (set state.slots k (Some q)) (next_number past) (book config (e ∷ past)).flows r)
         (sym (rests_by ∙ ap (λ b. if b then without (number_of p) (book config past).rests else (if renews on.segment then without (number_of p) (book config past).rests ++ (rest (number_of p) now ∷ []) else (book config past).rests)) not_yet
         ∙ ap (λ b. if b then without (number_of p) (book config past).rests ++ (rest (number_of p) now ∷ []) else (book config past).rests) again))
-        (seats_kept number_of (Following config now) state.table state.parts (next_number past) (book config past).flows (book config (e ∷ past)).flows (book config past).rests k p q f told t since at here
+        (seats_kept number_of (Following config now) state.table state.slots (next_number past) (book config past).flows (book config (e ∷ past)).flows (book config past).rests k p q f told t since at here
         (ap (λ (x : Face). x.number) same) was slot_here.2 told_is unused_then follow_place only holds.seats)
 
     by_place : (x : Place) → q.place ≡ x → (r : Bool) → renews on.segment ≡ r → Goal (rested_at x r)
@@ -287,16 +287,16 @@ module _ (config : Config) (state : FlowsState Splice) (past : List Entry) (now 
     size_then (Rests m) true = length-set state.table.slots k (Resting t m)
     size_then (Rests m) false = refl
 
-    learnt_set : (x : Option Splice) → ((r : Splice) → x ≡ Some r → r ≡ q) → (j : ℕ) (r : Splice) (h : Flow) (m : Mac) → slice_get (set state.parts k x) j ≡ Some (Some r) → flow_of (number_of r) (book config (e ∷ past)).flows ≡ Some h → r.mac ≡ Some m
+    learnt_set : (x : Option Splice) → ((r : Splice) → x ≡ Some r → r ≡ q) → (j : ℕ) (r : Splice) (h : Flow) (m : Mac) → slice_get (set state.slots k x) j ≡ Some (Some r) → flow_of (number_of r) (book config (e ∷ past)).flows ≡ Some h → r.mac ≡ Some m
         → Contains (taught config (e ∷ past)) (h.tuple.guest.addr, m)
     learnt_set x only_q j r h m has_r found is_mac = elim (same_or_not j k) [
       | inl at_k ↦
-          let one : r ≡ q = only_q r (sym (get_set_same state.parts k (Some p) x (Some r) at (subst (λ i. slice_get (set state.parts k x) i ≡ Some (Some r)) at_k has_r))) in
+          let one : r ≡ q = only_q r (sym (get_set_same state.slots k (Some p) x (Some r) at (subst (λ i. slice_get (set state.slots k x) i ≡ Some (Some r)) at_k has_r))) in
           let number : number_of r ≡ number_of p = ap number_of one ∙ ap (λ (y : Face). y.number) same in
           let this : h ≡ told = some_same h told (sym found ∙ ap (λ n. flow_of n (book config (e ∷ past)).flows) number ∙ told_is) in
           subst (λ (y : Flow). Contains (taught config (e ∷ past)) (y.tuple.guest.addr, m)) (sym this) (learnt m (ap mac_of (sym one) ∙ is_mac))
       | inr other ↦
-          let was_here : slice_get state.parts j ≡ Some (Some r) = sym (get_set_other state.parts k j x (differ j k other)) ∙ has_r in
+          let was_here : slice_get state.slots j ≡ Some (Some r) = sym (get_set_other state.slots k j x (differ j k other)) ∙ has_r in
           let apart : (number_of r == number_of p) ≡ false = not_one j k (number_of r) (number_of p) other (λ one. holds.seats.numbers j k (number_of p) (ap (number_in number_of) was_here ∙ ap Some one) (ap (number_in number_of) at)) in
           taught_on config past (e ∷ []) (h.tuple.guest.addr, m) (holds.learnt j r h m was_here (sym (only.apart (number_of r) apart) ∙ found) is_mac)
     ]
@@ -304,7 +304,7 @@ module _ (config : Config) (state : FlowsState Splice) (past : List Entry) (now 
         not_one : (j k m n : ℕ) → (j == k) ≡ false → (m ≡ n → j ≡ k) → (m == n) ≡ false
         not_one j k m n other one = elim (same_or_not m n) [ inl is ↦ absurd (differ j k other (one is)) | inr not ↦ not ]
 
-    learnt_then : (x : Place) (r : Bool) → q.place ≡ x → (j : ℕ) (s : Splice) (h : Flow) (m : Mac) → slice_get (rested_at x r).parts j ≡ Some (Some s) → flow_of (number_of s) (book config (e ∷ past)).flows ≡ Some h → s.mac ≡ Some m
+    learnt_then : (x : Place) (r : Bool) → q.place ≡ x → (j : ℕ) (s : Splice) (h : Flow) (m : Mac) → slice_get (rested_at x r).slots j ≡ Some (Some s) → flow_of (number_of s) (book config (e ∷ past)).flows ≡ Some h → s.mac ≡ Some m
         → Contains (taught config (e ∷ past)) (h.tuple.guest.addr, m)
     learnt_then Empty r place = learnt_set None (λ s is. cc)
     learnt_then (Rests m) true place = learnt_set (Some q) (λ s is. cc)
@@ -319,7 +319,7 @@ module _ (config : Config) (state : FlowsState Splice) (past : List Entry) (now 
     -- the core's relation holds after the segment, with the call that it asks for where it ended the rest
     pub core_rested : CoreHolds config now false (due_for_flows config (book config (e ∷ past)) (next_number (e ∷ past))) state_rested (e ∷ past)
     core_rested = record {
-      seats = subst (λ n. Seats number_of (Following config now) state_rested.table state_rested.parts n (book config (e ∷ past)).flows (book config (e ∷ past)).rests) (sym next_is) (by_place q.place refl (renews on.segment) refl);
+      seats = subst (λ n. Seats number_of (Following config now) state_rested.table state_rested.slots n (book config (e ∷ past)).flows (book config (e ∷ past)).rests) (sym next_is) (by_place q.place refl (renews on.segment) refl);
       slots = size_then q.place (renews on.segment) ∙ holds.slots;
       opened = as_many (book config (e ∷ past)).flows (book config past).flows only.same ∙ holds.opened;
       asked = refl;

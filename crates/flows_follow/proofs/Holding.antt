@@ -46,7 +46,7 @@ as_many (f ∷ a) (g ∷ b) same = ap suc (as_many a b (head_same f g a b same).
 module _ {P : Type 0} (number : P → ℕ) (mac : P → Option Mac) (Follows : P → Story → Type 0) (config : Config) (state : FlowsState P) where
   -- The flow at k had the part p and has q; it is in use, and all that was made is of it.
   pub hold_one : (task new_task : Option Call) (past made : List Entry) (k : ℕ) (p q : P) (f g : Flow)
-      → slice_get state.parts k ≡ Some (Some p) → number q ≡ number p
+      → slice_get state.slots k ≡ Some (Some p) → number q ≡ number p
       → flow_of (number p) (book config past).flows ≡ Some f → is_in_use f.story ≡ true
       → AreOf config (number p) past made → StaysInUse config (number p) past made
       → ((h : Flow) → (h.number == number p) ≡ true → rests_among (book config past).rests (Some h) ≡ false)
@@ -55,32 +55,32 @@ module _ {P : Type 0} (number : P → ℕ) (mac : P → Option Mac) (Follows : P
       → next_number (made ++ past) ≡ next_number past
       → due_for_flows config (book config (made ++ past)) (next_number (made ++ past)) ≡ new_task
       → FlowsHold number mac Follows config false task state past
-      → FlowsHold number mac Follows config false new_task (record { table = state.table; parts = set state.parts k (Some q); opened = state.opened }) (made ++ past)
+      → FlowsHold number mac Follows config false new_task (record { table = state.table; slots = set state.slots k (Some q); opened = state.opened }) (made ++ past)
   hold_one task new_task past made k p q f g at same was was_used are uses awake is is_used follows learnt numbers asks holds =
       let only = only_made config (number p) past made holds.seats.differ are in
       let rests = stays_out config (number p) past made are uses awake in
       record {
-        seats = subst (λ n. Seats number Follows state.table (set state.parts k (Some q)) n (book config (made ++ past)).flows (book config (made ++ past)).rests) (sym numbers)
-            (subst (λ (r : List Rest). Seats number Follows state.table (set state.parts k (Some q)) (next_number past) (book config (made ++ past)).flows r) (sym rests)
-            (seats_one number Follows state.table state.parts (next_number past) (book config past).flows (book config (made ++ past)).flows (book config past).rests k p q f g at same was was_used is is_used follows only holds.seats));
+        seats = subst (λ n. Seats number Follows state.table (set state.slots k (Some q)) n (book config (made ++ past)).flows (book config (made ++ past)).rests) (sym numbers)
+            (subst (λ (r : List Rest). Seats number Follows state.table (set state.slots k (Some q)) (next_number past) (book config (made ++ past)).flows r) (sym rests)
+            (seats_one number Follows state.table state.slots (next_number past) (book config past).flows (book config (made ++ past)).flows (book config past).rests k p q f g at same was was_used is is_used follows only holds.seats));
         slots = holds.slots;
         opened = as_many (book config (made ++ past)).flows (book config past).flows only.same ∙ holds.opened;
         asked = asks;
         learnt = λ j r h m here found is_mac. elim (same_or_not j k) [
           | inl at_k ↦
-              let one : r ≡ q = part_here k p q r at (subst (λ i. slice_get (set state.parts k (Some q)) i ≡ Some (Some r)) at_k here) in
+              let one : r ≡ q = part_here k p q r at (subst (λ i. slice_get (set state.slots k (Some q)) i ≡ Some (Some r)) at_k here) in
               let this : flow_of (number p) (book config (made ++ past)).flows ≡ Some h = ap (λ n. flow_of n (book config (made ++ past)).flows) (sym same ∙ ap number (sym one)) ∙ found in
               let guest : f.tuple.guest.addr ≡ h.tuple.guest.addr = same_guests f h (sym (ap (option_map (λ (x : Flow). x.tuple)) this) ∙ found_id (number p) (book config (made ++ past)).flows (book config past).flows only.same ∙ ap (option_map (λ (x : Flow). x.tuple)) was) in
               subst (λ (a : Ip4). Contains (taught config (made ++ past)) (a, m)) guest (learnt m (ap mac (sym one) ∙ is_mac))
           | inr other ↦
-              let was_here : slice_get state.parts j ≡ Some (Some r) = sym (get_set_other state.parts k j (Some q) (differ j k other)) ∙ here in
+              let was_here : slice_get state.slots j ≡ Some (Some r) = sym (get_set_other state.slots k j (Some q) (differ j k other)) ∙ here in
               let apart : (number r == number p) ≡ false = not_one j k (number r) (number p) other (λ one. holds.seats.numbers j k (number p) (ap (number_in number) was_here ∙ ap Some one) (ap (number_in number) at)) in
               taught_on config past made (h.tuple.guest.addr, m) (holds.learnt j r h m was_here (sym (only.apart (number r) apart) ∙ found) is_mac)
         ];
       }
     where
-      part_here : (k : ℕ) (p q r : P) → slice_get state.parts k ≡ Some (Some p) → slice_get (set state.parts k (Some q)) k ≡ Some (Some r) → r ≡ q
-      part_here k p q r at here = let one : Some r ≡ Some q = get_set_same state.parts k (Some p) (Some q) (Some r) at here in cc
+      part_here : (k : ℕ) (p q r : P) → slice_get state.slots k ≡ Some (Some p) → slice_get (set state.slots k (Some q)) k ≡ Some (Some r) → r ≡ q
+      part_here k p q r at here = let one : Some r ≡ Some q = get_set_same state.slots k (Some p) (Some q) (Some r) at here in cc
 
       same_guests : (f h : Flow) → Some h.tuple ≡ Some f.tuple → f.tuple.guest.addr ≡ h.tuple.guest.addr
       same_guests f h is = let tuples : f.tuple ≡ h.tuple = cc in ap (λ (t : Tuple). t.guest.addr) tuples

@@ -421,7 +421,7 @@ either false b is = inr is
 
 -- ---- the report
 
-skipped : (item : Want) (items all : List Want) → IsLast (item ∷ items) all → IsLast items all
+pub skipped : (item : Want) (items all : List Want) → IsLast (item ∷ items) all → IsLast items all
 skipped item items all (before, is) = (before ++ (item ∷ []), is ∙ moved before)
   where
     moved : (xs : List Want) → xs ++ (item ∷ items) ≡ (xs ++ (item ∷ [])) ++ items

@@ -10,14 +10,14 @@ use Rattle.world_face.specs.declared.Made.TheVariants.{Done}
 use Rattle.host_policy.specs.Addresses.{Config}
 use Rattle.run_laws.specs.Moments.{moment}
 use Rattle.run_laws.specs.Sockets.{next_number}
-use Rattle.flow_table.specs.Slots.{AreKept, IsFree, MayBeTaken, NoneHas, flows}
+use Rattle.flow_table.specs.Slots.{AreKept, IsFree, MayBeTaken, NoneHas, flows, Flows}
 use Rattle.flow_table.specs.declared.Slot.{Slot}
 use Rattle.flow_table.specs.declared.Slot.TheVariants.{Free, InUse}
 use Rattle.flow_table.specs.declared.Tuple.{Tuple}
-use Rattle.flow_laws.specs.Event.{Connects, At}
+use Rattle.flow_laws.specs.Event.{Connects, At, Story}
 use Rattle.flow_laws.specs.Flow.{first_number}
 use Rattle.record_flows.specs.Book.{book, joins_for, opens}
-use Rattle.record_flows.specs.Flows.{Book, Flow, flow_of}
+use Rattle.record_flows.specs.Flows.{Book, Flow, flow_of, Rest}
 use Rattle.record_flows.specs.Lots.{due_for_flows}
 use Rattle.record_flows.specs.Segments.{OnTuple}
 use Rattle.record_flows.specs.Taught.{taught}
@@ -39,9 +39,30 @@ use Rattle.flows_follow.proofs.Looking.{none_rests}
 use Rattle.flows_follow.proofs.Options.{some_same}
 use Rattle.flows_follow.proofs.Staying.{core_stays}
 
+-- a slot that is free has no part
+pub has_none : {P : Type 0} (number : P → ℕ) (Follows : P → Story → Type 0) (table : Flows) (parts : List (Option P)) (next : ℕ) (all : List Flow) (rests : List Rest) → Seats number Follows table parts next all rests
+    → length parts ≡ length table.slots → (k : ℕ) → slice_get parts k ≡ Some None ⊎ (IsFree table.slots k → ⊥)
+has_none {P} number Follows table parts next all rests seats sizes k = by (slice_get parts k) refl
+  where
+    both : {X Y : Type 0} (xs : List X) (ys : List Y) (k : ℕ) (y : Y) → length xs ≡ length ys → slice_get ys k ≡ Some y → slice_get xs k ≡ None → ⊥
+    both xs [] k y is at none = cc
+    both [] (z ∷ ys) k y is at none = cc
+    both (x ∷ xs) (z ∷ ys) zero y is at none = cc
+    both (x ∷ xs) (z ∷ ys) (suc k) y is at none = both xs ys k y (less is) at none
+      where
+        less : suc (length xs) ≡ suc (length ys) → length xs ≡ length ys
+        less is = cc
+
+    by : (o : Option (Option P)) → slice_get parts k ≡ o → slice_get parts k ≡ Some None ⊎ (IsFree table.slots k → ⊥)
+    by (Some None) is = inl is
+    by (Some (Some p)) is =
+        let seat = seats.seated k p is in
+        inr (λ free. subst (λ (s : Slot). IsSlotOf rests seat.0 s) (some_same seat.1 Free (sym seat.5 ∙ free)) seat.6)
+    by None is = inr (λ free. both parts table.slots k Free sizes free is)
+
 -- the state after a flow more, in a slot
 abbrev pub state_with : FlowsState Splice → (k : ℕ) → Tuple → Splice → FlowsState Splice
-state_with state k t q = record { table = flows (set state.table.slots k (InUse t)) state.table.turns; parts = set state.parts k (Some q); opened = suc state.opened }
+state_with state k t q = record { table = flows (set state.table.slots k (InUse t)) state.table.rest_order; slots = set state.slots k (Some q); opened = suc state.opened }
 
 module _ (config : Config) (state : FlowsState Splice) (past : List Entry) (now : ℕ) (to : Endpoint)
     (holds : CoreHolds config now false (Some (CallConnect (next_number past) to)) state past) (work : InWork config past) (lawful : Lawful config past) where
@@ -55,30 +76,10 @@ module _ (config : Config) (state : FlowsState Splice) (past : List Entry) (now 
       (ap (λ (c : Bool). not c || false) work.open_yet)
       (record { due = subst (λ o. MatchOption o (Unit {0}) (λ d. CallConnect (next_number past) to ≡ d)) (sym holds.asked) refl; touches = holds.asked; must = tt; at_once = λ number f found must. absurd (core_stays config now false (Some (CallConnect (next_number past) to)) state past holds number f found must) })
 
-  module _ (moment_is : moment past ≡ now) (on : OnTuple) (came : (book config past).came ≡ Some on) (kept : AreKept state.table.slots state.table.turns) (sizes : length state.parts ≡ length state.table.slots)
+  module _ (moment_is : moment past ≡ now) (on : OnTuple) (came : (book config past).came ≡ Some on) (kept : AreKept state.table.slots state.table.rest_order) (sizes : length state.slots ≡ length state.table.slots)
       (none : NoneHas state.table.slots on.tuple) (k : ℕ) (taken : MayBeTaken state.table k) (q : Splice) (numbered : number_of q ≡ next_number past)
       (follows : Following config now q (At now (Connects (first_number now state.opened) on.segment) ∷ []))
       (learnt : (m : Mac) → q.mac ≡ Some m → Contains (taught config past) (on.tuple.guest.addr, m)) where
-    -- a slot that is free has no part
-    has_none : slice_get state.parts k ≡ Some None ⊎ (IsFree state.table.slots k → ⊥)
-    has_none = by (slice_get state.parts k) refl
-      where
-        both : {X Y : Type 0} (xs : List X) (ys : List Y) (k : ℕ) (y : Y) → length xs ≡ length ys → slice_get ys k ≡ Some y → slice_get xs k ≡ None → ⊥
-        both xs [] k y is at none = cc
-        both [] (z ∷ ys) k y is at none = cc
-        both (x ∷ xs) (z ∷ ys) zero y is at none = cc
-        both (x ∷ xs) (z ∷ ys) (suc k) y is at none = both xs ys k y (less is) at none
-          where
-            less : suc (length xs) ≡ suc (length ys) → length xs ≡ length ys
-            less is = cc
-
-        by : (o : Option (Option Splice)) → slice_get state.parts k ≡ o → slice_get state.parts k ≡ Some None ⊎ (IsFree state.table.slots k → ⊥)
-        by (Some None) is = inl is
-        by (Some (Some p)) is =
-            let seat = holds.seats.seated k p is in
-            inr (λ free. subst (λ (s : Slot). IsSlotOf (book config past).rests seat.0 s) (some_same seat.1 Free (sym seat.5 ∙ free)) seat.6)
-        by None is = inr (λ free. both state.parts state.table.slots k Free sizes free is)
-
     -- the book of the record then
     abbrev later : List Entry
     later = Connect (next_number past) to Done ∷ past
@@ -92,26 +93,26 @@ module _ (config : Config) (state : FlowsState Splice) (past : List Entry) (now 
         ∙ ap (λ m. opens config m (next_number past) on.tuple (Connects (first_number m (length (book config past).flows)) on.segment) (book config past)) moment_is
         ∙ ap (λ n. opens config now (next_number past) on.tuple (Connects (first_number now n) on.segment) (book config past)) holds.opened
 
-    seats_then : Seats number_of (Following config now) (flows (set state.table.slots k (InUse on.tuple)) state.table.turns) (set state.parts k (Some q)) (suc (next_number past)) opened.flows opened.rests
+    seats_then : Seats number_of (Following config now) (flows (set state.table.slots k (InUse on.tuple)) state.table.rest_order) (set state.slots k (Some q)) (suc (next_number past)) opened.flows opened.rests
     seats_then =
-        seats_joined number_of (Following config now) state.table state.parts (next_number past) config (book config past) holds.seats kept sizes holds.slots (rests_rise config past).0
+        seats_joined number_of (Following config now) state.table state.slots (next_number past) config (book config past) holds.seats kept sizes holds.slots (rests_rise config past).0
         k q now on.tuple (Connects (first_number now state.opened) on.segment) none
-        (none_rests number_of (Following config now) state.table state.parts (next_number past) (book config past).flows (book config past).rests holds.seats sizes on.tuple none)
-        taken has_none numbered refl follows
+        (none_rests number_of (Following config now) state.table state.slots (next_number past) (book config past).flows (book config past).rests holds.seats sizes on.tuple none)
+        taken (has_none number_of (Following config now) state.table state.slots (next_number past) (book config past).flows (book config past).rests holds.seats sizes k) numbered refl follows
 
     one_more : (n : ℕ) → suc n ≡ n + 1
     one_more n = omega arith
 
     -- the new flow's address was learnt, and the others' as before
-    learnt_then : (j : ℕ) (r : Splice) (h : Flow) (m : Mac) → slice_get (set state.parts k (Some q)) j ≡ Some (Some r) → flow_of (number_of r) (book config later).flows ≡ Some h → r.mac ≡ Some m → Contains (taught config later) (h.tuple.guest.addr, m)
+    learnt_then : (j : ℕ) (r : Splice) (h : Flow) (m : Mac) → slice_get (set state.slots k (Some q)) j ≡ Some (Some r) → flow_of (number_of r) (book config later).flows ≡ Some h → r.mac ≡ Some m → Contains (taught config later) (h.tuple.guest.addr, m)
     learnt_then j r h m here found is_mac = elim (same_or_not j k) [
       | inl at_k ↦
-          let one : r ≡ q = this_part r (subst (λ i. slice_get (set state.parts k (Some q)) i ≡ Some (Some r)) at_k here) in
+          let one : r ≡ q = this_part r (subst (λ i. slice_get (set state.slots k (Some q)) i ≡ Some (Some r)) at_k here) in
           let new : h ≡ record { number = next_number past; tuple = on.tuple; story = At now (Connects (first_number now state.opened) on.segment) ∷ [] } =
           some_same h _ (sym found ∙ ap (λ n. flow_of n (book config later).flows) (ap number_of one ∙ numbered) ∙ ap (λ (b : Book). flow_of (next_number past) b.flows) book_is ∙ first_of_all) in
           subst (λ (y : Flow). Contains (taught config later) (y.tuple.guest.addr, m)) (sym new) (learnt m (ap mac_of (sym one) ∙ is_mac))
       | inr other ↦
-          let was_here : slice_get state.parts j ≡ Some (Some r) = sym (get_set_other state.parts k j (Some q) (differ j k other)) ∙ here in
+          let was_here : slice_get state.slots j ≡ Some (Some r) = sym (get_set_other state.slots k j (Some q) (differ j k other)) ∙ here in
           let seat = holds.seats.seated j r was_here in
           let apart : (number_of r == next_number past) ≡ false = older (number_of r) (λ same. cc (sym (holds.seats.fresh (next_number past) (omega arith)) ∙ ap (λ n. flow_of n (book config past).flows) (sym same) ∙ seat.2)) in
           let old : flow_of (number_of r) (book config past).flows ≡ Some h =
@@ -120,17 +121,17 @@ module _ (config : Config) (state : FlowsState Splice) (past : List Entry) (now 
           taught_on config past (Connect (next_number past) to Done ∷ []) (h.tuple.guest.addr, m) (holds.learnt j r h m was_here old is_mac)
     ]
       where
-        this_part : (r : Splice) → slice_get (set state.parts k (Some q)) k ≡ Some (Some r) → r ≡ q
-        this_part r has = by (slice_get state.parts k) refl
+        this_part : (r : Splice) → slice_get (set state.slots k (Some q)) k ≡ Some (Some r) → r ≡ q
+        this_part r has = by (slice_get state.slots k) refl
           where
             outside : {X : Type 0} (xs : List X) (k : ℕ) (x : X) → slice_get xs k ≡ None → slice_get (set xs k x) k ≡ None
             outside [] k x none = refl
             outside (y ∷ xs) zero x none = cc
             outside (y ∷ xs) (suc k) x none = outside xs k x none
 
-            by : (o : Option (Option Splice)) → slice_get state.parts k ≡ o → r ≡ q
-            by (Some p) is = some_same r q (get_set_same state.parts k p (Some q) (Some r) is has)
-            by None is = cc (sym (outside state.parts k (Some q) is) ∙ has)
+            by : (o : Option (Option Splice)) → slice_get state.slots k ≡ o → r ≡ q
+            by (Some p) is = some_same r q (get_set_same state.slots k p (Some q) (Some r) is has)
+            by None is = cc (sym (outside state.slots k (Some q) is) ∙ has)
 
         older : (a : ℕ) → (a ≡ next_number past → ⊥) → (a == next_number past) ≡ false
         older a not = elim (same_or_not a (next_number past)) [ inl is ↦ absurd (not is) | inr other ↦ other ]
@@ -144,8 +145,8 @@ module _ (config : Config) (state : FlowsState Splice) (past : List Entry) (now 
     -- the core's relation holds after it
     pub core_joined : CoreHolds config now false None (state_with state k on.tuple q) later
     core_joined = record {
-      seats = subst (λ n. Seats number_of (Following config now) (state_with state k on.tuple q).table (state_with state k on.tuple q).parts n (book config later).flows (book config later).rests) (one_more (next_number past))
-          (subst (λ (b : Book). Seats number_of (Following config now) (state_with state k on.tuple q).table (state_with state k on.tuple q).parts (suc (next_number past)) b.flows b.rests) (sym book_is) seats_then);
+      seats = subst (λ n. Seats number_of (Following config now) (state_with state k on.tuple q).table (state_with state k on.tuple q).slots n (book config later).flows (book config later).rests) (one_more (next_number past))
+          (subst (λ (b : Book). Seats number_of (Following config now) (state_with state k on.tuple q).table (state_with state k on.tuple q).slots (suc (next_number past)) b.flows b.rests) (sym book_is) seats_then);
       slots = length-set state.table.slots k (InUse on.tuple) ∙ holds.slots;
       opened = ap (λ (b : Book). length b.flows) book_is ∙ ap suc holds.opened;
       asked = ap (λ b. due_for_flows config b (next_number later)) book_is;

@@ -24,10 +24,10 @@ same_ip a b is = λ i. record { 0 = is i }
 
 -- ---- members of a list
 
-at_head : {X : Type 0} (x : X) (xs : List X) → Contains (x ∷ xs) x
+pub at_head : {X : Type 0} (x : X) (xs : List X) → Contains (x ∷ xs) x
 at_head x xs = (0, omega arith, refl)
 
-behind_head : {X : Type 0} (x y : X) (xs : List X) → Contains xs y → Contains (x ∷ xs) y
+pub behind_head : {X : Type 0} (x y : X) (xs : List X) → Contains xs y → Contains (x ∷ xs) y
 behind_head x y xs c = (suc c.0, omega (arith, c.1), c.2)
 
 -- the first that passes a test is one of them, and passes it

@@ -34,9 +34,9 @@ module _ {P : Type 0} (number : P → ℕ) (Follows : P → Story → Type 0) (t
   -- a flow that is no longer in use rests in a free slot
   pub seats_laid : (k : ℕ) (q : P) (g : Flow) (t : Tuple) (m : ℕ) → slice_get table.slots k ≡ Some Free → slice_get parts k ≡ Some None
       → flow_of (number q) all ≡ Some g → g.tuple ≡ t → is_in_use g.story ≡ false → Follows q g.story
-      → option_map (λ (f : Flow). f.number) (owner t all) ≡ Some (number q) → ((j : ℕ) → number_at number parts j ≡ Some (number q) → ⊥) → Once table.turns
+      → option_map (λ (f : Flow). f.number) (owner t all) ≡ Some (number q) → ((j : ℕ) → number_at number parts j ≡ Some (number q) → ⊥) → Once table.rest_order
       → Seats number Follows table parts next all rests
-      → Seats number Follows (flows (set table.slots k (Resting t m)) (moved_last k table.turns)) (set parts k (Some q)) next all (rests ++ rest (number q) m ∷ [])
+      → Seats number Follows (flows (set table.slots k (Resting t m)) (moved_last k table.rest_order)) (set parts k (Some q)) next all (rests ++ rest (number q) m ∷ [])
   seats_laid k q g t m free none found_g g_tuple unused follows own nobody once seats =
       let kept : (j : ℕ) → (j == k) ≡ false → number_at number (set parts k (Some q)) j ≡ number_at number parts j = λ j other. ap (number_in number) (get_set_other parts k j (Some q) (differ j k other)) in
       let put : (j : ℕ) → j ≡ k → number_at number (set parts k (Some q)) j ≡ Some (number q) = λ j at_k. ap (λ i. number_at number (set parts k (Some q)) i) at_k ∙ ap (number_in number) (get_set_at parts k None (Some q) none) in
@@ -84,7 +84,7 @@ module _ {P : Type 0} (number : P → ℕ) (Follows : P → Story → Type 0) (t
             (had.0, kept had.0 (elsewhere had.0 n had.1) ∙ had.1);
         order = numbers_last rests (rest (number q) m) ∙ ap (λ l. l ++ number q ∷ []) seats.order
             ∙ sym (comes_last (λ j. rests_at (slice_get table.slots j) (number_at number parts j)) (λ j. rests_at (slice_get (set table.slots k (Resting t m)) j) (number_at number (set parts k (Some q)) j))
-            k (number q) table.turns once (ap (λ s. rests_at s (number_at number parts k)) free)
+            k (number q) table.rest_order once (ap (λ s. rests_at s (number_at number parts k)) free)
             (ap (λ s. rests_at s (number_at number (set parts k (Some q)) k)) (get_set_at table.slots k Free (Resting t m) free) ∙ put k refl)
             (λ j other. ap (λ s. rests_at s (number_at number (set parts k (Some q)) j)) (get_set_other table.slots k j (Resting t m) (differ j k other)) ∙ ap (rests_at (slice_get table.slots j)) (kept j other)));
         counted = seats.counted ∙ sym (used_laid table.slots k t m free);
@@ -101,9 +101,9 @@ module _ {P : Type 0} (number : P → ℕ) (Follows : P → Story → Type 0) (t
 -- A segment renews a rest: the flow that rests is told it, and is the last of those that rest.
 pub seats_renewed : {P : Type 0} (number : P → ℕ) (Follows : P → Story → Type 0) (table : Flows) (parts : List (Option P)) (next : ℕ) (old new : List Flow) (rests : List Rest)
     (k : ℕ) (p q : P) (g : Flow) (t : Tuple) (since m : ℕ) → slice_get parts k ≡ Some (Some p) → slice_get table.slots k ≡ Some (Resting t since) → number q ≡ number p
-    → uses (flow_of (number p) old) ≡ false → flow_of (number p) new ≡ Some g → is_in_use g.story ≡ false → Follows q g.story → Only (number p) old new → Once table.turns
+    → uses (flow_of (number p) old) ≡ false → flow_of (number p) new ≡ Some g → is_in_use g.story ≡ false → Follows q g.story → Only (number p) old new → Once table.rest_order
     → Seats number Follows table parts next old rests
-    → Seats number Follows (flows (set table.slots k (Resting t m)) (moved_last k table.turns)) (set parts k (Some q)) next new (without (number p) rests ++ rest (number p) m ∷ [])
+    → Seats number Follows (flows (set table.slots k (Resting t m)) (moved_last k table.rest_order)) (set parts k (Some q)) next new (without (number p) rests ++ rest (number p) m ∷ [])
 seats_renewed {P} number Follows table parts next old new rests k p q g t since m at slot same was_unused is unused follows only once seats =
     let woken = seats_woken number Follows table parts next old new rests k p t since at slot was_unused (ap uses is ∙ unused) only seats in
     let seat = seats.seated k p at in
@@ -112,12 +112,12 @@ seats_renewed {P} number Follows table parts next old new rests k p q g t since 
     let was_on : option_map (λ (f : Flow). f.tuple) (flow_of (number p) old) ≡ Some t = ap (option_map (λ (f : Flow). f.tuple)) seat.2 ∙ ap Some of_it.0 in
     let is_on : g.tuple ≡ t = some_same g.tuple t (sym (ap (option_map (λ (f : Flow). f.tuple)) is) ∙ found_id (number p) new old only.same ∙ was_on) in
     let own : option_map (λ (f : Flow). f.number) (owner t new) ≡ Some (number p) = owner_id t new old only.same ∙ seats.owned k (number p) t (ap (number_in number) at) was_on in
-    let laid = seats_laid number Follows (flows (set table.slots k Free) table.turns) (set parts k None) next new (without (number p) rests) k q g t m
+    let laid = seats_laid number Follows (flows (set table.slots k Free) table.rest_order) (set parts k None) next new (without (number p) rests) k q g t m
     (get_set_at table.slots k (Resting t since) Free slot) (get_set_at parts k (Some p) None at) (ap (λ n. flow_of n new) same ∙ is) is_on unused follows
     (own ∙ ap Some (sym same)) (λ j has. alone j (has ∙ ap Some same)) once woken in
-    subst (λ (l : List Slot). Seats number Follows (flows l (moved_last k table.turns)) (set parts k (Some q)) next new (without (number p) rests ++ rest (number p) m ∷ [])) (set_twice table.slots k Free (Resting t m))
-    (subst (λ (l : List (Option P)). Seats number Follows (flows (set (set table.slots k Free) k (Resting t m)) (moved_last k table.turns)) l next new (without (number p) rests ++ rest (number p) m ∷ [])) (set_twice parts k None (Some q))
-    (subst (λ n. Seats number Follows (flows (set (set table.slots k Free) k (Resting t m)) (moved_last k table.turns)) (set (set parts k None) k (Some q)) next new (without (number p) rests ++ rest n m ∷ [])) same laid))
+    subst (λ (l : List Slot). Seats number Follows (flows l (moved_last k table.rest_order)) (set parts k (Some q)) next new (without (number p) rests ++ rest (number p) m ∷ [])) (set_twice table.slots k Free (Resting t m))
+    (subst (λ (l : List (Option P)). Seats number Follows (flows (set (set table.slots k Free) k (Resting t m)) (moved_last k table.rest_order)) l next new (without (number p) rests ++ rest (number p) m ∷ [])) (set_twice parts k None (Some q))
+    (subst (λ n. Seats number Follows (flows (set (set table.slots k Free) k (Resting t m)) (moved_last k table.rest_order)) (set (set parts k None) k (Some q)) next new (without (number p) rests ++ rest n m ∷ [])) same laid))
   where
     alone : (j : ℕ) → number_at number (set parts k None) j ≡ Some (number p) → ⊥
     alone j has = elim (same_or_not j k) [

@@ -1,4 +1,5 @@
 pub mod Seeking
+pub mod Vacated
 pub mod Freeing
 pub mod Holding
 pub mod Only

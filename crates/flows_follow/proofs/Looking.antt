@@ -107,7 +107,7 @@ module _ {P : Type 0} (number : P → ℕ) (Follows : P → Story → Type 0) (t
     awake None is true r = cc
     awake (Some f) is true r =
         let among = ap (is_among f.number) (sym seats.order) ∙ among_rests f.number rests r in
-        let had = given (λ k. rests_at (slice_get table.slots k) (number_at number parts k)) f.number table.turns among in
+        let had = given (λ k. rests_at (slice_get table.slots k) (number_at number parts k)) f.number table.rest_order among in
         absurd (none had.0 (slot_of had.0 f.number f (by (slice_get table.slots had.0) had.1) (owner_found t f is) ∙ ap Some (owner_has t flows f is)))
       where
         by : {o : Option ℕ} (s : Option Slot) → rests_at s o ≡ Some f.number → o ≡ Some f.number

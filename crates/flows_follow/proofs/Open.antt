@@ -286,17 +286,17 @@ open_place s p story now follows open_yet = by p.place p.shut follows
 
 -- a flow that isn't closed has its slot, and is open there
 pub open_seat : (config : Config) (now : ℕ) (aged : Bool) (task : Option Call) (state : FlowsState Splice) (past : List Entry) (n : ℕ) (f : Flow) → CoreHolds config now aged task state past
-    → flow_of n (book config past).flows ≡ Some f → is_closed f.story ≡ false → (k : ℕ) × (p : Splice) × (slice_get state.parts k ≡ Some (Some p)) × (is_open p ≡ true) × (number_of p ≡ n)
+    → flow_of n (book config past).flows ≡ Some f → is_closed f.story ≡ false → (k : ℕ) × (p : Splice) × (slice_get state.slots k ≡ Some (Some p)) × (is_open p ≡ true) × (number_of p ≡ n)
 open_seat config now aged task state past n f holds found open_yet =
     let had = holds.seats.found n (ap uses found ∙ ap (λ b. not b || owes_reset f.story) open_yet) in
-    let part = part_of number_of (slice_get state.parts had.0) n had.1 in
+    let part = part_of number_of (slice_get state.slots had.0) n had.1 in
     let seat = holds.seats.seated had.0 part.0 part.1 in
     let one : seat.0 ≡ f = some_same seat.0 f (sym seat.2 ∙ ap (λ m. flow_of m (book config past).flows) part.2 ∙ found) in
     (had.0, part.0, part.1, open_place (flow_settings config) part.0 seat.0.story now seat.4 (ap (λ (g : Flow). is_closed g.story) one ∙ open_yet), part.2)
 
 -- and only such are open there
 pub seat_open : (config : Config) (now : ℕ) (aged : Bool) (task : Option Call) (state : FlowsState Splice) (past : List Entry) → CoreHolds config now aged task state past → Lawful config past
-    → (k : ℕ) (p : Splice) → slice_get state.parts k ≡ Some (Some p) → is_open p ≡ true → joins past (number_of p) ≡ true
+    → (k : ℕ) (p : Splice) → slice_get state.slots k ≡ Some (Some p) → is_open p ≡ true → joins past (number_of p) ≡ true
 seat_open config now aged task state past holds lawful k p here is =
     let seat = holds.seats.seated k p here in
     open_has_socket config past (number_of p) seat.0 lawful seat.2 (open_is (flow_settings config) p seat.0.story now is seat.4).holds.goes.open_yet

@@ -81,7 +81,7 @@ module _ {P : Type 0} (number : P → ℕ) (Follows : P → Story → Type 0) (t
   pub seats_opened : (k : ℕ) (q : P) (f : Flow) → slice_get table.slots k ≡ Some Free → slice_get parts k ≡ Some None → f.number ≡ next → number q ≡ next → is_in_use f.story ≡ true → Follows q f.story
       → ((j n : ℕ) → number_at number parts j ≡ Some n → option_map (λ (g : Flow). g.tuple) (flow_of n old) ≡ Some f.tuple → ⊥)
       → Seats number Follows table parts next old rests
-      → Seats number Follows (flows (set table.slots k (InUse f.tuple)) table.turns) (set parts k (Some q)) (suc next) (f ∷ old) rests
+      → Seats number Follows (flows (set table.slots k (InUse f.tuple)) table.rest_order) (set parts k (Some q)) (suc next) (f ∷ old) rests
   seats_opened k q f free none f_next q_next in_use follows nobody seats =
       let here_is : (f.number == next) ≡ true = ap (λ n. n == next) f_next ∙ number_is next in
       let others : (n : ℕ) → (n == next) ≡ false → flow_of n (f ∷ old) ≡ flow_of n old =
@@ -139,7 +139,7 @@ module _ {P : Type 0} (number : P → ℕ) (Follows : P → Story → Type 0) (t
               let had = seats.found n (sym (ap uses (others n other)) ∙ used_is) in
               (had.0, kept had.0 (elsewhere had.0 n had.1) ∙ had.1)
         ];
-        order = seats.order ∙ (λ i. filter_map (λ j. sym (as_before j) i) table.turns);
+        order = seats.order ∙ (λ i. filter_map (λ j. sym (as_before j) i) table.rest_order);
         counted = ap (λ b. length (cond b (f ∷ filter (λ (g : Flow). is_in_use g.story) old) (filter (λ (g : Flow). is_in_use g.story) old))) in_use ∙ ap suc seats.counted ∙ sym (used_put table.slots k f.tuple free);
         differ = (seats.fresh f.number (subst (λ n. next ≤ n) (sym f_next) (omega arith)), seats.differ);
         fresh = λ n past. others n (later n past) ∙ seats.fresh n (omega (arith, past));

@@ -79,9 +79,9 @@ module _ {P : Type 0} (number : P → ℕ) (mac : P → Option Mac) (F G : P →
       let new : book config (e ∷ past) ≡ quiet (book config past) = ap (λ d. turned config (scene config past) d (book config past)) is in
       let flows_are : (book config (e ∷ past)).flows ≡ (book config past).flows = ap (λ (b : Book). b.flows) new in
       record {
-        seats = subst (λ (r : List Rest). Seats number G state.table state.parts (next_number (e ∷ past)) (book config (e ∷ past)).flows r) (sym same)
-            (subst (λ (l : List Flow). Seats number G state.table state.parts (next_number (e ∷ past)) l (rests_at aged config past)) (sym flows_are)
-            (seats_on number F G state.table state.parts (next_number past) (next_number (e ∷ past)) (book config past).flows (rests_at aged config past) on goes holds.seats));
+        seats = subst (λ (r : List Rest). Seats number G state.table state.slots (next_number (e ∷ past)) (book config (e ∷ past)).flows r) (sym same)
+            (subst (λ (l : List Flow). Seats number G state.table state.slots (next_number (e ∷ past)) l (rests_at aged config past)) (sym flows_are)
+            (seats_on number F G state.table state.slots (next_number past) (next_number (e ∷ past)) (book config past).flows (rests_at aged config past) on goes holds.seats));
         slots = holds.slots;
         opened = ap (λ (l : List Flow). length l) flows_are ∙ holds.opened;
         asked = ap (λ b. due_for_flows config b (next_number (e ∷ past))) new;
@@ -92,7 +92,7 @@ module _ {P : Type 0} (number : P → ℕ) (mac : P → Option Mac) (F G : P →
   pub holds_paused : (wants : List Want) (timeout : Option ℕ) (answer : Waited) (ready : List Want) (task : Option Call) → ((p : P) (story : Story) → F p story → G p story)
       → FlowsHold number mac F config true task state past → FlowsHold number mac G config false None state (Wait wants timeout answer ready ∷ past)
   holds_paused wants timeout answer ready task goes holds = record {
-    seats = seats_on number F G state.table state.parts (next_number past) (next_number past) (book config past).flows (rests_at true config past) (omega arith) goes holds.seats;
+    seats = seats_on number F G state.table state.slots (next_number past) (next_number past) (book config past).flows (rests_at true config past) (omega arith) goes holds.seats;
     slots = holds.slots;
     opened = holds.opened;
     asked = refl;

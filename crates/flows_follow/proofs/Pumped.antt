@@ -56,12 +56,12 @@ use Rattle.flows_follow.proofs.Options.{none_some, some_same}
 
 -- the slots and parts, once the slot at a place follows the flow that was there
 abbrev pub seated_at : Place → Flows → List (Option Splice) → (k : ℕ) → Tuple → Splice → Seated
-seated_at Empty table parts k t q = record { table = table; parts = parts }
+seated_at Empty table parts k t q = record { table = table; slots = parts }
 seated_at At table parts k t q = seated_from_use table parts k t q q.place
-seated_at (Rests since) table parts k t q = record { table = table; parts = set parts k (Some q) }
+seated_at (Rests since) table parts k t q = record { table = table; slots = set parts k (Some q) }
 
 abbrev pub state_at : FlowsState Splice → (k : ℕ) → Tuple → Splice → Splice → FlowsState Splice
-state_at state k t p q = record { table = (seated_at p.place state.table state.parts k t q).table; parts = (seated_at p.place state.table state.parts k t q).parts; opened = state.opened }
+state_at state k t p q = record { table = (seated_at p.place state.table state.slots k t q).table; slots = (seated_at p.place state.table state.slots k t q).slots; opened = state.opened }
 
 -- a rest that begins now is young
 young_now : (now number : ℕ) → is_young now (rest number now) ≡ true
@@ -88,8 +88,8 @@ closed_by true o is = refl
 closed_by false o is = cc
 
 module _ (config : Config) (state : FlowsState Splice) (past : List Entry) (now : ℕ) (aged : Bool) (task : Option Call) (holds : CoreHolds config now aged task state past) (moment_is : moment past ≡ now) (lawful : Lawful config past)
-    (k : ℕ) (p q : Splice) (t : Tuple) (f : Flow) (at : slice_get state.parts k ≡ Some (Some p)) (slot : slice_get state.table.slots k ≡ Some (slot_at p.place t)) (same : q.face ≡ p.face)
-    (was : flow_of (number_of p) (book config past).flows ≡ Some f) (once : Once state.table.turns)
+    (k : ℕ) (p q : Splice) (t : Tuple) (f : Flow) (at : slice_get state.slots k ≡ Some (Some p)) (slot : slice_get state.table.slots k ≡ Some (slot_at p.place t)) (same : q.face ≡ p.face)
+    (was : flow_of (number_of p) (book config past).flows ≡ Some f) (once : Once state.table.rest_order)
     (made : List Entry) (beats : Story) (called : Called config p.face f past now made beats) (follows : Following config now q (beats ++ f.story))
     (learnt : (m : Mac) → q.mac ≡ Some m → Contains (taught config (made ++ past)) (f.tuple.guest.addr, m)) where
   abbrev g : Flow
@@ -144,7 +144,7 @@ module _ (config : Config) (state : FlowsState Splice) (past : List Entry) (now 
       aged_same aged (called.rests_on shut) ∙ ap (λ x. with_rest x (number_of p) old_rests) (sym none)
 
   abbrev Goal : FlowsState Splice → Type 0
-  Goal new = Seats number_of (Following config now) new.table new.parts (next_number past) (book config (made ++ past)).flows new_rests
+  Goal new = Seats number_of (Following config now) new.table new.slots (next_number past) (book config (made ++ past)).flows new_rests
 
   -- it rested: so it does
   rests_yet : (since : ℕ) → p.place ≡ Rests since → rests_since f.story ≡ Some since → is_closed f.story ≡ true → (x : Place) → q.place ≡ x → q.place ≡ Rests since
@@ -156,24 +156,24 @@ module _ (config : Config) (state : FlowsState Splice) (past : List Entry) (now 
       let same_m : m ≡ since = some_same m since (sym (rest_is (flow_settings config) q g.story now m follows here) ∙ called.rests_still shut ∙ is) in
       here ∙ ap Rests same_m
 
-  by_place : (x : Place) → p.place ≡ x → Goal (record { table = (seated_at x state.table state.parts k t q).table; parts = (seated_at x state.table state.parts k t q).parts; opened = state.opened })
+  by_place : (x : Place) → p.place ≡ x → Goal (record { table = (seated_at x state.table state.slots k t q).table; slots = (seated_at x state.table state.slots k t q).slots; opened = state.opened })
   by_place Empty place = absurd (slot_is Free (slot ∙ ap (λ x. Some (slot_at x t)) place))
   by_place At place =
       let here : slice_get state.table.slots k ≡ Some (InUse t) = slot ∙ ap (λ x. Some (slot_at x t)) place in
       let of_it = slot_is (InUse t) here in
-      settled_from_use (flow_settings config) now state.table state.parts (next_number past) (book config past).flows (book config (made ++ past)).flows old_rests new_rests
+      settled_from_use (flow_settings config) now state.table state.slots (next_number past) (book config past).flows (book config (made ++ past)).flows old_rests new_rests
       k p q f g t at (ap (λ (x : Face). x.number) same) was called.found follows only holds.seats here of_it.0 of_it.1 once q.place refl (from_use of_it.1 (is_closed f.story) refl)
   by_place (Rests since) place =
       let here : slice_get state.table.slots k ≡ Some (Resting t since) = slot ∙ ap (λ x. Some (slot_at x t)) place in
       let of_it = slot_is (Resting t since) here in
       let shut : is_closed f.story ≡ true = closed_by (is_closed f.story) (owes_reset f.story) of_it.2 in
-      settled_at_rest (flow_settings config) now state.table state.parts (next_number past) (book config past).flows (book config (made ++ past)).flows old_rests new_rests
+      settled_at_rest (flow_settings config) now state.table state.slots (next_number past) (book config past).flows (book config (made ++ past)).flows old_rests new_rests
       k p q f g t at (ap (λ (x : Face). x.number) same) was called.found follows only holds.seats since here of_it.2
       (rests_yet since place (rest_is (flow_settings config) p f.story now since followed place) shut q.place refl) (aged_same aged (called.rests_on shut))
 
   -- ---- the whole relation
 
-  size_of : (x y : Place) → length (seated_at x state.table state.parts k t (record q { place = y })).table.slots ≡ length state.table.slots
+  size_of : (x y : Place) → length (seated_at x state.table state.slots k t (record q { place = y })).table.slots ≡ length state.table.slots
   size_of Empty y = refl
   size_of At At = refl
   size_of At (Rests since) = length-set state.table.slots k (Resting t since)
@@ -181,16 +181,16 @@ module _ (config : Config) (state : FlowsState Splice) (past : List Entry) (now 
   size_of (Rests since) y = refl
 
   -- each part has its address from a frame of its guest
-  learnt_in : (x : Option Splice) → ((r : Splice) → x ≡ Some r → r ≡ q) → (j : ℕ) (r : Splice) (h : Flow) (m : Mac) → slice_get (set state.parts k x) j ≡ Some (Some r) → flow_of (number_of r) (book config (made ++ past)).flows ≡ Some h → r.mac ≡ Some m
+  learnt_in : (x : Option Splice) → ((r : Splice) → x ≡ Some r → r ≡ q) → (j : ℕ) (r : Splice) (h : Flow) (m : Mac) → slice_get (set state.slots k x) j ≡ Some (Some r) → flow_of (number_of r) (book config (made ++ past)).flows ≡ Some h → r.mac ≡ Some m
       → Contains (taught config (made ++ past)) (h.tuple.guest.addr, m)
   learnt_in x only_q j r h m here found is_mac = elim (same_or_not j k) [
     | inl at_k ↦
-        let one : r ≡ q = only_q r (sym (get_set_same state.parts k (Some p) x (Some r) at (subst (λ i. slice_get (set state.parts k x) i ≡ Some (Some r)) at_k here))) in
+        let one : r ≡ q = only_q r (sym (get_set_same state.slots k (Some p) x (Some r) at (subst (λ i. slice_get (set state.slots k x) i ≡ Some (Some r)) at_k here))) in
         let number : number_of r ≡ number_of p = ap number_of one ∙ ap (λ (y : Face). y.number) same in
         let this : h ≡ g = some_same h g (sym found ∙ ap (λ n. flow_of n (book config (made ++ past)).flows) number ∙ called.found) in
         subst (λ (y : Flow). Contains (taught config (made ++ past)) (y.tuple.guest.addr, m)) (sym this) (learnt m (ap mac_of (sym one) ∙ is_mac))
     | inr other ↦
-        let was_here : slice_get state.parts j ≡ Some (Some r) = sym (get_set_other state.parts k j x (differ j k other)) ∙ here in
+        let was_here : slice_get state.slots j ≡ Some (Some r) = sym (get_set_other state.slots k j x (differ j k other)) ∙ here in
         let apart : (number_of r == number_of p) ≡ false = not_one j k (number_of r) (number_of p) other (λ one. holds.seats.numbers j k (number_of p) (ap (number_in number_of) was_here ∙ ap Some one) (ap (number_in number_of) at)) in
         taught_on config past made (h.tuple.guest.addr, m) (holds.learnt j r h m was_here (sym (only.apart (number_of r) apart) ∙ found) is_mac)
   ]
@@ -198,22 +198,22 @@ module _ (config : Config) (state : FlowsState Splice) (past : List Entry) (now 
       not_one : (j k m n : ℕ) → (j == k) ≡ false → (m ≡ n → j ≡ k) → (m == n) ≡ false
       not_one j k m n other one = elim (same_or_not m n) [ inl same ↦ absurd (differ j k other (one same)) | inr not ↦ not ]
 
-  learnt_then : (x y : Place) → p.place ≡ x → q.place ≡ y → (j : ℕ) (r : Splice) (h : Flow) (m : Mac) → slice_get (seated_at x state.table state.parts k t q).parts j ≡ Some (Some r) → flow_of (number_of r) (book config (made ++ past)).flows ≡ Some h → r.mac ≡ Some m
+  learnt_then : (x y : Place) → p.place ≡ x → q.place ≡ y → (j : ℕ) (r : Splice) (h : Flow) (m : Mac) → slice_get (seated_at x state.table state.slots k t q).slots j ≡ Some (Some r) → flow_of (number_of r) (book config (made ++ past)).flows ≡ Some h → r.mac ≡ Some m
       → Contains (taught config (made ++ past)) (h.tuple.guest.addr, m)
   learnt_then Empty y was_at is_at = absurd (slot_is Free (slot ∙ ap (λ x. Some (slot_at x t)) was_at))
   learnt_then At y was_at is_at = by y is_at
     where
-      by : (y : Place) → q.place ≡ y → (j : ℕ) (r : Splice) (h : Flow) (m : Mac) → slice_get (seated_from_use state.table state.parts k t q q.place).parts j ≡ Some (Some r) → flow_of (number_of r) (book config (made ++ past)).flows ≡ Some h → r.mac ≡ Some m
+      by : (y : Place) → q.place ≡ y → (j : ℕ) (r : Splice) (h : Flow) (m : Mac) → slice_get (seated_from_use state.table state.slots k t q q.place).slots j ≡ Some (Some r) → flow_of (number_of r) (book config (made ++ past)).flows ≡ Some h → r.mac ≡ Some m
           → Contains (taught config (made ++ past)) (h.tuple.guest.addr, m)
-      by At here = λ j r h m has. learnt_in (Some q) (λ r is. cc) j r h m (subst (λ z. slice_get (seated_from_use state.table state.parts k t q z).parts j ≡ Some (Some r)) here has)
-      by (Rests since) here = λ j r h m has. learnt_in (Some q) (λ r is. cc) j r h m (subst (λ z. slice_get (seated_from_use state.table state.parts k t q z).parts j ≡ Some (Some r)) here has)
-      by Empty here = λ j r h m has. learnt_in None (λ r is. cc) j r h m (subst (λ z. slice_get (seated_from_use state.table state.parts k t q z).parts j ≡ Some (Some r)) here has)
+      by At here = λ j r h m has. learnt_in (Some q) (λ r is. cc) j r h m (subst (λ z. slice_get (seated_from_use state.table state.slots k t q z).slots j ≡ Some (Some r)) here has)
+      by (Rests since) here = λ j r h m has. learnt_in (Some q) (λ r is. cc) j r h m (subst (λ z. slice_get (seated_from_use state.table state.slots k t q z).slots j ≡ Some (Some r)) here has)
+      by Empty here = λ j r h m has. learnt_in None (λ r is. cc) j r h m (subst (λ z. slice_get (seated_from_use state.table state.slots k t q z).slots j ≡ Some (Some r)) here has)
   learnt_then (Rests since) y was_at is_at = learnt_in (Some q) (λ r is. cc)
 
   -- the core's relation goes on
   pub core_called : CoreHolds config now aged None (state_at state k t p q) (made ++ past)
   core_called = record {
-    seats = subst (λ n. Seats number_of (Following config now) (state_at state k t p q).table (state_at state k t p q).parts n (book config (made ++ past)).flows new_rests) (sym called.next) (by_place p.place refl);
+    seats = subst (λ n. Seats number_of (Following config now) (state_at state k t p q).table (state_at state k t p q).slots n (book config (made ++ past)).flows new_rests) (sym called.next) (by_place p.place refl);
     slots = size_of p.place q.place ∙ holds.slots;
     opened = as_many (book config (made ++ past)).flows (book config past).flows only.same ∙ holds.opened;
     asked = called.asks;
@@ -240,7 +240,7 @@ ident_fits n = omega arith
 
 -- what the flow of a slot has in the record, by the core's relation, where no call is asked for
 module _ (config : Config) (state : FlowsState Splice) (past : List Entry) (now : ℕ) (aged : Bool) (holds : CoreHolds config now aged None state past) (lawful : Lawful config past)
-    (k : ℕ) (p : Splice) (f : Flow) (at : slice_get state.parts k ≡ Some (Some p)) (was : flow_of (number_of p) (book config past).flows ≡ Some f) (ends : f.tuple ≡ ends_of p.face) where
+    (k : ℕ) (p : Splice) (f : Flow) (at : slice_get state.slots k ≡ Some (Some p)) (was : flow_of (number_of p) (book config past).flows ≡ Some f) (ends : f.tuple ≡ ends_of p.face) where
   -- no call on it failed, or its close would be due
   well_now : (b : Bool) → host_failed f.story ≡ b → b ≡ false
   well_now false is = refl
@@ -266,8 +266,8 @@ module _ (config : Config) (state : FlowsState Splice) (past : List Entry) (now 
   }
 
 module _ (config : Config) (state : FlowsState Splice) (past : List Entry) (now : ℕ) (aged : Bool) (holds : CoreHolds config now aged None state past) (moment_is : moment past ≡ now) (lawful : Lawful config past) (work : InWork config past)
-    (k : ℕ) (p q : Splice) (t : Tuple) (f : Flow) (at : slice_get state.parts k ≡ Some (Some p)) (slot : slice_get state.table.slots k ≡ Some (slot_at p.place t)) (ends : f.tuple ≡ ends_of p.face) (same : q.face ≡ p.face)
-    (was : flow_of (number_of p) (book config past).flows ≡ Some f) (once : Once state.table.turns) (vhost : config.vhost ≡ p.face.vhost.0)
+    (k : ℕ) (p q : Splice) (t : Tuple) (f : Flow) (at : slice_get state.slots k ≡ Some (Some p)) (slot : slice_get state.table.slots k ≡ Some (slot_at p.place t)) (ends : f.tuple ≡ ends_of p.face) (same : q.face ≡ p.face)
+    (was : flow_of (number_of p) (book config past).flows ≡ Some f) (once : Once state.table.rest_order) (vhost : config.vhost ≡ p.face.vhost.0)
     (to : Mac) (mac_is : q.mac ≡ Some to) (taught_is : Contains (taught config past) (f.tuple.guest.addr, to)) (learnt : list_any (is_pair (address p.face.guest) to.0) (taught config past) ≡ true)
     (latest : is_latest to.0 (learnt_for p.face.guest.addr (known_guests config past)) ≡ true)
     (nothing : left config past ≡ []) (clear : is_blocked past ≡ false → tail past ≡ []) (first : ℕ) (first_is : identification past ≡ first) where

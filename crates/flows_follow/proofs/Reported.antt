@@ -29,8 +29,8 @@ use Rattle.flows_follow.proofs.Hosting.{Called as CalledThen, Heard, Ready, hear
 use Rattle.flows_follow.proofs.Pumped.{Called, core_called, core_has, state_at}
 
 module _ (config : Config) (state : FlowsState Splice) (past : List Entry) (now : ℕ) (aged : Bool) (holds : CoreHolds config now aged None state past) (moment_is : moment past ≡ now) (lawful : Lawful config past) (work : InWork config past)
-    (k : ℕ) (p q : Splice) (t : Tuple) (f : Flow) (at : slice_get state.parts k ≡ Some (Some p)) (slot : slice_get state.table.slots k ≡ Some (slot_at p.place t)) (same : q.face ≡ p.face)
-    (was : flow_of (number_of p) (book config past).flows ≡ Some f) (ends : f.tuple ≡ ends_of p.face) (once : Once state.table.turns) (learnt : (m : Mac) → q.mac ≡ Some m → Contains (taught config past) (f.tuple.guest.addr, m))
+    (k : ℕ) (p q : Splice) (t : Tuple) (f : Flow) (at : slice_get state.slots k ≡ Some (Some p)) (slot : slice_get state.table.slots k ≡ Some (slot_at p.place t)) (same : q.face ≡ p.face)
+    (was : flow_of (number_of p) (book config past).flows ≡ Some f) (ends : f.tuple ≡ ends_of p.face) (once : Once state.table.rest_order) (learnt : (m : Mac) → q.mac ≡ Some m → Contains (taught config past) (f.tuple.guest.addr, m))
     (mac : Option Mac) (ident : ℕ) (made : List Entry) (beats : Story) (follows : Following config now q (beats ++ f.story)) where
   abbrev pub ended : Bool
   ended = comes_last (scene config past) f

@@ -1,25 +1,23 @@
 -- The first frame that is left, where a segment is read in it, is the reset that answers what came last.
-use Rattle.std.proofs.Common.{◌≡◌, ℕ, ◌+◌, ◌-◌, ◌/◌, ◌%◌, ◌^◌, ◌<◌, ◌≤◌, ◌==◌, ◌&&◌, not, Bool, true, false, List, [], ◌∷◌, length, take, drop, Option, Some, None, option_and_then, if◌then◌else◌, refl, sym, ◌∙◌, ap, subst, arith}
+use Rattle.std.proofs.Common.{◌≡◌, ℕ, ◌+◌, ◌-◌, ◌^◌, ◌<◌, ◌≤◌, ◌==◌, ◌&&◌, not, Bool, true, false, List, [], ◌∷◌, length, take, drop, Option, Some, None, if◌then◌else◌, refl, sym, ◌∙◌, ap, subst, arith}
 use Rattle.std.proofs.lemmas.List.{take_all}
 use Rattle.std.proofs.lemmas.Nat.{from_be_bytes-to_be_bytes_2, from_be_bytes-to_be_bytes_4}
-use Rattle.std.proofs.lemmas.Option.{cond_some}
 use Rattle.net_octets.specs.declared.Endpoint.{Endpoint}
-use Rattle.net_octets.specs.Kinds.{icmp_proto, ipv4_kind, tcp_proto, udp_proto}
-use Rattle.net_octets.specs.Octets.{four_at, one_at, part, two_at}
+use Rattle.net_octets.specs.Kinds.{icmp_proto, tcp_proto, udp_proto}
+use Rattle.net_octets.specs.Octets.{one_at, part, two_at, our_mac}
 use Rattle.world_face.specs.Journal.{Entry, AreAllowed}
 use Rattle.host_policy.specs.Addresses.{Config, address, is_ours}
 use Rattle.host_policy.specs.Targets.{is_hidden}
-use Rattle.ether_frame.specs.Ether.{Ether, read_ether}
-use Rattle.ipv4_head.specs.Ip.{Ip, head_length, ip_octets, is_ip, is_unbroken, read_ip}
+use Rattle.ipv4_head.specs.Ip.{Ip, ip_octets, is_unbroken, read_ip}
 use Rattle.icmp_echo.specs.Icmp.{Icmp, echo, unreachable, other as another}
 use Rattle.tcp_segment.specs.declared.TheConstants.{ACK}
 use Rattle.tcp_segment.specs.Tcp.{Tcp, has, read_tcp, tcp_octets}
 use Rattle.flow_table.specs.declared.Tuple.{Tuple}
 use Rattle.flow_laws.specs.Event.{Segment}
 use Rattle.record_flows.specs.Lots.{reset_to}
-use Rattle.record_flows.specs.Segments.{OnTuple, from_guest, segment_by, segment_in, tcp_of, to_guest, went_by, went_of}
+use Rattle.record_flows.specs.Segments.{OnTuple, from_guest, segment_by, segment_in, tcp_of, to_guest}
 use Rattle.run_laws.specs.Packets.{Datagram, Packet, Unheard, ArpPacket, Message, DatagramPacket, Segment as SegmentPacket}
-use Rattle.slirp_laws.specs.Answers.{Serving, answers_of, served_file, told_of_files, Answer, ArpAnswer, IpAnswer, arp_reply, frames_for, is_untold, left, no_network, our_mac, owed_for_fate, owed_for_icmp, owed_for_packet, owed_for_segment, part_frame, reply_for, told_about, uncut}
+use Rattle.slirp_laws.specs.Answers.{Serving, answers_of, served_file, told_of_files, Answer, ArpAnswer, IpAnswer, arp_reply, frames_for, is_untold, left, no_network, owed_for_fate, owed_for_icmp, owed_for_packet, owed_for_segment, part_frame, reply_for, told_about, uncut}
 use Rattle.slirp_laws.specs.Datagrams.{Fate, Ignored, Refused, ForLeases, ForFiles, GoesTo, fate}
 use Rattle.slirp_laws.specs.Leasing.{Sending, lease_reply}
 use Rattle.tftp_server.specs.Transfers.{Said}
@@ -34,7 +32,9 @@ use Rattle.slirp_laws.proofs.Numbers.{carries_no_arp, ident_fits, reads_cut}
 use Rattle.slirp_laws.proofs.Owing.{next_left, out_six}
 use Rattle.slirp_laws.proofs.ReadBack.{only_cut, unbroken_is}
 use Rattle.slirp_laws.proofs.Reading.{AllAnswers, SixAnswer, all_if, carried_ip}
-use Rattle.flows_follow.proofs.Within.{AreEnds, EndsOf, IsTuple, ends_last, read_field}
+use Rattle.slirp_laws.proofs.Strays.{both_tests, carries_one, read_field}
+use Rattle.slirp_laws.proofs.Spelt.{spelt}
+use Rattle.flows_follow.proofs.Within.{AreEnds, EndsOf, IsTuple, ends_last}
 
 -- ---- which answers carry segments
 
@@ -127,24 +127,6 @@ owed_is config past a owed =
 
 -- ---- a reset as it is read
 
--- a frame in which a segment is read carries a datagram
-of_datagram : (frame : List ℕ) (on : OnTuple) (ether : Ether) (o : Option Ip) → read_ether frame ≡ Some ether → (ether.kind == ipv4_kind) ≡ true → read_ip ether.body ≡ o → option_and_then (went_by ether.to) o ≡ Some on
-    → (ip : Ip) × Carries frame ip
-of_datagram frame on ether None framed kind holds is = cc
-of_datagram frame on ether (Some ip) framed kind holds is = (ip, record { ether = ether; framed = framed; kind = equal ether.kind ipv4_kind kind; holds = holds })
-
-of_kind : (frame : List ℕ) (on : OnTuple) (ether : Ether) (b : Bool) → read_ether frame ≡ Some ether → (ether.kind == ipv4_kind) ≡ b → (if b then option_and_then (went_by ether.to) (read_ip ether.body) else None) ≡ Some on
-    → (ip : Ip) × Carries frame ip
-of_kind frame on ether true framed kind is = of_datagram frame on ether (read_ip ether.body) framed kind refl is
-of_kind frame on ether false framed kind is = cc
-
-of_ether : (frame : List ℕ) (on : OnTuple) (o : Option Ether) → read_ether frame ≡ o → option_and_then went_of o ≡ Some on → (ip : Ip) × Carries frame ip
-of_ether frame on None framed is = cc
-of_ether frame on (Some ether) framed is = of_kind frame on ether (ether.kind == ipv4_kind) framed refl is
-
-carries_one : (frame : List ℕ) (on : OnTuple) → segment_in frame ≡ Some on → (ip : Ip) × Carries frame ip
-carries_one frame on is = of_ether frame on (read_ether frame) refl is
-
 -- a datagram is read as it was written
 record IpBack (source guest : ℕ) (body : List ℕ) (ip : Ip) : Type 0 where
   its_source : ip.from ≡ source
@@ -154,22 +136,13 @@ record IpBack (source guest : ℕ) (body : List ℕ) (ip : Ip) : Type 0 where
 ip_back : (ident proto source guest : ℕ) (body : List ℕ) (ip : Ip) → source < 2 ^ 32 → guest < 2 ^ 32 → 20 + length body < 2 ^ 16 → read_ip (ip_octets ident 0 proto source guest body) ≡ Some ip → IpBack source guest body ip
 ip_back ident proto source guest body ip source_fits guest_fits fits is =
     let octets = ip_octets ident 0 proto source guest body in
-    let found = cond_some (is_ip octets) (record {
-      ident = two_at octets 4;
-      more = (two_at octets 6 / 2 ^ 13) % 2 == 1;
-      place = two_at octets 6 % 2 ^ 13;
-      proto = one_at octets 9;
-      from = four_at octets 12;
-      to = four_at octets 16;
-      head = take (head_length octets) octets;
-      body = part octets (head_length octets) (two_at octets 2 - head_length octets);
-    }) ip is in
+    let found = spelt octets ip is in
     let size : two_at octets 2 ≡ 20 + length body = from_be_bytes-to_be_bytes_2 (20 + length body) fits in
     let rest : 20 + length body - 20 ≡ length body = omega arith in
     record {
-      its_source = ap (λ (i : Ip). i.from) (sym found.1) ∙ from_be_bytes-to_be_bytes_4 source source_fits;
-      its_guest = ap (λ (i : Ip). i.to) (sym found.1) ∙ from_be_bytes-to_be_bytes_4 guest guest_fits;
-      its_body = ap (λ (i : Ip). i.body) (sym found.1) ∙ ap (λ n. part octets 20 (n - 20)) size ∙ ap (λ n. take n body) rest ∙ take_all (length body) body (omega arith);
+      its_source = ap (λ (i : Ip). i.from) (sym found) ∙ from_be_bytes-to_be_bytes_4 source source_fits;
+      its_guest = ap (λ (i : Ip). i.to) (sym found) ∙ from_be_bytes-to_be_bytes_4 guest guest_fits;
+      its_body = ap (λ (i : Ip). i.body) (sym found) ∙ ap (λ n. part octets 20 (n - 20)) size ∙ ap (λ n. take n body) rest ∙ take_all (length body) body (omega arith);
     }
 
 -- ports and flags of a reset
@@ -194,10 +167,6 @@ module _ (source guest : ℕ) (tuple : Tuple) (seg : Segment) where
       by : (b : Bool) → seg.ack ≡ b → two_at (tcp_octets source guest (reset_to tuple seg)) 2 ≡ tuple.guest.port
       by true is = ap (λ (b : Bool). two_at (tcp_octets source guest (reset_to tuple (record seg { ack = b }))) 2) is ∙ from_be_bytes-to_be_bytes_2 tuple.guest.port fits
       by false is = ap (λ (b : Bool). two_at (tcp_octets source guest (reset_to tuple (record seg { ack = b }))) 2) is ∙ from_be_bytes-to_be_bytes_2 tuple.guest.port fits
-
-both_tests : (b : Bool) (o : Option Tcp) (tcp : Tcp) → (if b then o else None) ≡ Some tcp → (b ≡ true) × (o ≡ Some tcp)
-both_tests true o tcp is = (refl, is)
-both_tests false o tcp is = cc
 
 -- the reset that answers a segment, as it is read: on the same two ends, and with ACK where the segment had none
 pub record Answering (o : Option OnTuple) (on : OnTuple) : Type 0 where

@@ -84,7 +84,7 @@ number_put number parts k p q at same j = elim (same_or_not j k) [
 
 resting_put : {P : Type 0} (number : P → ℕ) (table : Flows) (parts parts_new : List (Option P)) → ((j : ℕ) → number_at number parts_new j ≡ number_at number parts j)
     → resting_numbers number table parts_new ≡ resting_numbers number table parts
-resting_put number table parts parts_new same = λ i. filter_map (λ k. rests_at (slice_get table.slots k) (same k i)) table.turns
+resting_put number table parts parts_new same = λ i. filter_map (λ k. rests_at (slice_get table.slots k) (same k i)) table.rest_order
 
 used_kept : (new_used old_used : ℕ) (o n : Option Flow) → new_used + one_if (uses o) ≡ old_used + one_if (uses n) → uses o ≡ true → uses n ≡ true → new_used ≡ old_used
 used_kept new_used old_used o n is was now =

@@ -80,7 +80,7 @@ module _ {P : Type 0} (number : P → ℕ) (Follows : P → Story → Type 0) (t
           | inl here ↦ (k, put k ∙ ap (number_in number) at ∙ ap Some (sym here))
           | inr other ↦ let had = seats.found n (ap uses (sym (stays n other)) ∙ in_use) in (had.0, put had.0 ∙ had.1)
         ];
-        order = seats.order ∙ (λ i. filter_map (λ j. rests_at (slice_get table.slots j) (sym (put j) i)) table.turns);
+        order = seats.order ∙ (λ i. filter_map (λ j. rests_at (slice_get table.slots j) (sym (put j) i)) table.rest_order);
         counted = same_used (used new) (used old) (flow_of (number p) old) (flow_of (number p) new) only.used (ap uses was ∙ was_unused) (ap uses is ∙ unused) ∙ seats.counted;
         differ = only.differ seats.differ;
         fresh = λ n past. elim (same_or_not n (number p)) [
@@ -103,13 +103,13 @@ module _ {P : Type 0} (number : P → ℕ) (Follows : P → Story → Type 0) (t
 -- the slots and parts of a core, once the slot at a place follows the flow
 pub record Seated : Type 0 where
   pub table : Flows
-  pub parts : List (Option Splice)
+  pub slots : List (Option Splice)
 
 -- a flow that was in use: it is, or comes to rest, or leaves its slot
 abbrev pub seated_from_use : Flows → List (Option Splice) → (k : ℕ) → Tuple → Splice → Place → Seated
-seated_from_use table parts k t q At = record { table = table; parts = set parts k (Some q) }
-seated_from_use table parts k t q (Rests since) = record { table = flows (set table.slots k (Resting t since)) (moved_last k table.turns); parts = set parts k (Some q) }
-seated_from_use table parts k t q Empty = record { table = flows (set table.slots k Free) table.turns; parts = set parts k None }
+seated_from_use table parts k t q At = record { table = table; slots = set parts k (Some q) }
+seated_from_use table parts k t q (Rests since) = record { table = flows (set table.slots k (Resting t since)) (moved_last k table.rest_order); slots = set parts k (Some q) }
+seated_from_use table parts k t q Empty = record { table = flows (set table.slots k Free) table.rest_order; slots = set parts k None }
 
 module _ (s : Settings) (now : ℕ) (table : Flows) (parts : List (Option Splice)) (next : ℕ) (old new : List Flow) (rests new_rests : List Rest) where
   abbrev Follow : Splice → Story → Type 0
@@ -119,25 +119,25 @@ module _ (s : Settings) (now : ℕ) (table : Flows) (parts : List (Option Splice
       (was : flow_of (number_of p) old ≡ Some f) (is : flow_of (number_of p) new ≡ Some g) (follows : Follow q g.story) (only : Only (number_of p) old new)
       (seats : Seats number_of Follow table parts next old rests) where
     -- it was in use
-    module _ (slot : slice_get table.slots k ≡ Some (InUse t)) (tuple : f.tuple ≡ t) (was_used : is_in_use f.story ≡ true) (once : Once table.turns) where
+    module _ (slot : slice_get table.slots k ≡ Some (InUse t)) (tuple : f.tuple ≡ t) (was_used : is_in_use f.story ≡ true) (once : Once table.rest_order) where
       used_by : (b : Bool) → is_used_at q.place ≡ b → is_in_use g.story ≡ b
       used_by b place = sym (place_is s q g.story now follows) ∙ place
 
       pub settled_from_use : (x : Place) → q.place ≡ x
           → ((g_rests : Option ℕ) → rests_since g.story ≡ g_rests → new_rests ≡ with_rest g_rests (number_of p) rests)
-          → Seats number_of Follow (seated_from_use table parts k t q x).table (seated_from_use table parts k t q x).parts next new new_rests
+          → Seats number_of Follow (seated_from_use table parts k t q x).table (seated_from_use table parts k t q x).slots next new new_rests
       settled_from_use At place rests_are =
           let used_is = used_by true (ap is_used_at place) in
           subst (λ (r : List Rest). Seats number_of Follow table (set parts k (Some q)) next new r) (sym (rests_are None (in_use_awake g.story used_is)))
           (seats_one number_of Follow table parts next old new rests k p q f g at same was was_used is used_is follows only seats)
       settled_from_use (Rests since) place rests_are =
           let unused = used_by false (ap is_used_at place) in
-          subst (λ (r : List Rest). Seats number_of Follow (flows (set table.slots k (Resting t since)) (moved_last k table.turns)) (set parts k (Some q)) next new r)
+          subst (λ (r : List Rest). Seats number_of Follow (flows (set table.slots k (Resting t since)) (moved_last k table.rest_order)) (set parts k (Some q)) next new r)
           (sym (rests_are (Some since) (rest_is s q g.story now since follows place)))
           (seats_retired number_of Follow table parts next old new rests k p q f g t since at slot same once was tuple (ap uses was ∙ was_used) is (ap uses is ∙ unused) follows only seats)
       settled_from_use Empty place rests_are =
           let unused = used_by false (ap is_used_at place) in
-          subst (λ (r : List Rest). Seats number_of Follow (flows (set table.slots k Free) table.turns) (set parts k None) next new r)
+          subst (λ (r : List Rest). Seats number_of Follow (flows (set table.slots k Free) table.rest_order) (set parts k None) next new r)
           (sym (rests_are None (rest_none s q g.story now follows (ap is_at_rest place))))
           (seats_freed number_of Follow table parts next old new rests k p f t at slot was (ap uses was ∙ was_used) (ap uses is ∙ unused) only seats)
 

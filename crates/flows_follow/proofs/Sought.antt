@@ -47,12 +47,12 @@ module _ {P : Type 0} (number : P → ℕ) (mac : P → Option Mac) (F : P → S
       by_test true = asked
       by_test false = unasked
 
-  seats_told : Seats number F state.table state.parts (next_number past) (map (seeks_for now guest) (book config past).flows) (rests_at aged config past)
+  seats_told : Seats number F state.table state.slots (next_number past) (map (seeks_for now guest) (book config past).flows) (rests_at aged config past)
   seats_told =
-      seats_asked now guest number F state.table state.parts (next_number past) (book config past).flows (rests_at aged config past)
+      seats_asked now guest number F state.table state.slots (next_number past) (book config past).flows (rests_at aged config past)
       goes_on holds.seats
 
-  learnt_told : (k : ℕ) (p : P) (h : Flow) (m : Mac) → slice_get state.parts k ≡ Some (Some p) → flow_of (number p) (book config (e ∷ past)).flows ≡ Some h → mac p ≡ Some m → Contains (taught config (e ∷ past)) (h.tuple.guest.addr, m)
+  learnt_told : (k : ℕ) (p : P) (h : Flow) (m : Mac) → slice_get state.slots k ≡ Some (Some p) → flow_of (number p) (book config (e ∷ past)).flows ≡ Some h → mac p ≡ Some m → Contains (taught config (e ∷ past)) (h.tuple.guest.addr, m)
   learnt_told k p h m here found is_mac = by (flow_of (number p) (book config past).flows) refl
     where
       was : option_map (seeks_for now guest) (flow_of (number p) (book config past).flows) ≡ Some h
@@ -68,9 +68,9 @@ module _ {P : Type 0} (number : P → ℕ) (mac : P → Option Mac) (F : P → S
 
   pub holds_sought : FlowsHold number mac F config aged None state (e ∷ past)
   holds_sought = record {
-    seats = subst (λ (n : ℕ). Seats number F state.table state.parts n (book config (e ∷ past)).flows (rests_at aged config (e ∷ past))) (sym next)
-        (subst (λ (l : List Rest). Seats number F state.table state.parts (next_number past) (book config (e ∷ past)).flows l) (sym (rests_are aged))
-        (subst (λ (l : List Flow). Seats number F state.table state.parts (next_number past) l (rests_at aged config past)) (sym flows_are) seats_told));
+    seats = subst (λ (n : ℕ). Seats number F state.table state.slots n (book config (e ∷ past)).flows (rests_at aged config (e ∷ past))) (sym next)
+        (subst (λ (l : List Rest). Seats number F state.table state.slots (next_number past) (book config (e ∷ past)).flows l) (sym (rests_are aged))
+        (subst (λ (l : List Flow). Seats number F state.table state.slots (next_number past) l (rests_at aged config past)) (sym flows_are) seats_told));
     slots = holds.slots;
     opened = ap (λ (l : List Flow). length l) flows_are ∙ length-map (book config past).flows (seeks_for now guest) ∙ holds.opened;
     asked = ap (λ (b : Book). due_for_flows config b (next_number (e ∷ past))) book_is;

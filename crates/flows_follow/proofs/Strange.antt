@@ -528,9 +528,9 @@ module _ (config : Config) (past : List Entry) (frame : List ℕ) (rest : List (
         let rests_are : rests_at aged config (e ∷ past) ≡ rests_at aged config past =
         ap (λ (b : Book). if aged then filter (is_young (moment (e ∷ past))) b.rests else b.rests) new ∙ ap (λ (m : ℕ). if aged then filter (is_young m) (book config past).rests else (book config past).rests) at in
         record {
-          seats = subst (λ (n : ℕ). Seats number F state.table state.parts n (book config (e ∷ past)).flows (rests_at aged config (e ∷ past))) (sym next)
-              (subst (λ (r : List Rest). Seats number F state.table state.parts (next_socket past) (book config (e ∷ past)).flows r) (sym rests_are)
-              (subst (λ (l : List Flow). Seats number F state.table state.parts (next_socket past) l (rests_at aged config past)) (sym flows_are) holds.seats));
+          seats = subst (λ (n : ℕ). Seats number F state.table state.slots n (book config (e ∷ past)).flows (rests_at aged config (e ∷ past))) (sym next)
+              (subst (λ (r : List Rest). Seats number F state.table state.slots (next_socket past) (book config (e ∷ past)).flows r) (sym rests_are)
+              (subst (λ (l : List Flow). Seats number F state.table state.slots (next_socket past) l (rests_at aged config past)) (sym flows_are) holds.seats));
           slots = holds.slots;
           opened = ap (λ (l : List Flow). length l) flows_are ∙ holds.opened;
           asked = ap (λ b. due_for_flows config b (next_socket (e ∷ past))) new;

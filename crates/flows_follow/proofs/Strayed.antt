@@ -69,7 +69,7 @@ owner_told t change keeps (g ∷ flows) f is = by (is_on t g) refl is (owner_tol
     by true on is go_on = let one : g ≡ f = cc in ap (λ u. cond (same_tuple u t) (Some (change g)) (owner t flows)) (keeps g) ∙ ap (λ b. cond b (Some (change g)) (owner t flows)) on ∙ ap (λ h. Some (change h)) one
     by false off is go_on = ap (λ b. cond b (Some g) (owner t (tell (is_on t) change flows))) off ∙ go_on is
 
-module _ (config : Config) (state : FlowsState Splice) (past : List Entry) (now : ℕ) (task : Option Call) (holds : CoreHolds config now false task state past) (sizes : length state.parts ≡ length state.table.slots)
+module _ (config : Config) (state : FlowsState Splice) (past : List Entry) (now : ℕ) (task : Option Call) (holds : CoreHolds config now false task state past) (sizes : length state.slots ≡ length state.table.slots)
     (e : Entry) (on : OnTuple) (comes : doing config past e ≡ Comes on) (none : NoneHas state.table.slots on.tuple) (next_is : next_number (e ∷ past) ≡ next_number past) where
   abbrev old : Book
   old = book config past
@@ -81,10 +81,10 @@ module _ (config : Config) (state : FlowsState Splice) (past : List Entry) (now 
   book_is = ap (λ d. turned config (scene config past) d old) comes
 
   unused : is_used on.tuple old.flows ≡ false
-  unused = none_used number_of (Following config now) state.table state.parts (next_number past) old.flows old.rests holds.seats sizes on.tuple none
+  unused = none_used number_of (Following config now) state.table state.slots (next_number past) old.flows old.rests holds.seats sizes on.tuple none
 
   awake : rests_among old.rests (owner on.tuple old.flows) ≡ false
-  awake = none_rests number_of (Following config now) state.table state.parts (next_number past) old.flows old.rests holds.seats sizes on.tuple none
+  awake = none_rests number_of (Following config now) state.table state.slots (next_number past) old.flows old.rests holds.seats sizes on.tuple none
 
   -- those that rest do so as before
   rests_are : then_book.rests ≡ old.rests
@@ -95,16 +95,16 @@ module _ (config : Config) (state : FlowsState Splice) (past : List Entry) (now 
       by (Some f) not_one = ap (λ b. if not b then old.rests else (if ends_rest f.story on.segment then without f.number old.rests else (if renews on.segment then without f.number old.rests ++ (rest f.number (moment past) ∷ []) else old.rests))) not_one
 
   -- no part has the number of the owner, if there is one
-  nobody : (f : Flow) → owner on.tuple old.flows ≡ Some f → (k : ℕ) → number_at number_of state.parts k ≡ Some f.number → ⊥
+  nobody : (f : Flow) → owner on.tuple old.flows ≡ Some f → (k : ℕ) → number_at number_of state.slots k ≡ Some f.number → ⊥
   nobody f is k at =
-      none k (slot_of number_of (Following config now) state.table state.parts (next_number past) old.flows old.rests holds.seats sizes k f.number f at (found_by (is_on on.tuple) old.flows f holds.seats.differ is) ∙ ap Some (owner_has on.tuple old.flows f is))
+      none k (slot_of number_of (Following config now) state.table state.slots (next_number past) old.flows old.rests holds.seats sizes k f.number f at (found_by (is_on on.tuple) old.flows f holds.seats.differ is) ∙ ap Some (owner_has on.tuple old.flows f is))
 
   tells : (o : Option Flow) → owner on.tuple old.flows ≡ o
-      → Seats number_of (Following config now) state.table state.parts (next_number past) then_book.flows old.rests × (used then_book.flows ≡ used old.flows) × (length then_book.flows ≡ length old.flows) × (is_used on.tuple then_book.flows ≡ false)
+      → Seats number_of (Following config now) state.table state.slots (next_number past) then_book.flows old.rests × (used then_book.flows ≡ used old.flows) × (length then_book.flows ≡ length old.flows) × (is_used on.tuple then_book.flows ≡ false)
       × (rests_among old.rests (owner on.tuple then_book.flows) ≡ false)
   tells None is =
       let same : then_book.flows ≡ old.flows = tell_none (is_on on.tuple) (with_event (moment past) (Arrives on.segment)) old.flows is in (
-        subst (λ (l : List Flow). Seats number_of (Following config now) state.table state.parts (next_number past) l old.rests) (sym same) holds.seats,
+        subst (λ (l : List Flow). Seats number_of (Following config now) state.table state.slots (next_number past) l old.rests) (sym same) holds.seats,
         ap used same,
         ap (λ (l : List Flow). length l) same,
         ap (is_used on.tuple) same ∙ unused,
@@ -117,7 +117,7 @@ module _ (config : Config) (state : FlowsState Splice) (past : List Entry) (now 
       let only = only_happens config (scene config past) f.number old holds.seats.differ (Comes on) of in
       let alike : uses (flow_of f.number then_book.flows) ≡ uses (flow_of f.number old.flows) = ap uses told ∙ sym (ap uses found) in
       let own : owner on.tuple then_book.flows ≡ Some (with_event (moment past) (Arrives on.segment) f) = owner_told on.tuple (with_event (moment past) (Arrives on.segment)) (λ g. refl) old.flows f is in (
-        seats_apart number_of (Following config now) state.table state.parts (next_number past) old.flows then_book.flows old.rests f.number (nobody f is) alike only
+        seats_apart number_of (Following config now) state.table state.slots (next_number past) old.flows then_book.flows old.rests f.number (nobody f is) alike only
             (λ later. absurd (none_some (sym (holds.seats.fresh f.number later) ∙ found))) holds.seats,
         used_alike (used then_book.flows) (used old.flows) (flow_of f.number old.flows) (flow_of f.number then_book.flows) only.used alike,
         as_many then_book.flows old.flows only.same,
@@ -125,23 +125,23 @@ module _ (config : Config) (state : FlowsState Splice) (past : List Entry) (now 
         ap (rests_among old.rests) own ∙ sym (ap (rests_among old.rests) is) ∙ awake,
       )
 
-  said : Seats number_of (Following config now) state.table state.parts (next_number past) then_book.flows old.rests × (used then_book.flows ≡ used old.flows) × (length then_book.flows ≡ length old.flows) × (is_used on.tuple then_book.flows ≡ false)
+  said : Seats number_of (Following config now) state.table state.slots (next_number past) then_book.flows old.rests × (used then_book.flows ≡ used old.flows) × (length then_book.flows ≡ length old.flows) × (is_used on.tuple then_book.flows ≡ false)
       × (rests_among old.rests (owner on.tuple then_book.flows) ≡ false)
   said = tells (owner on.tuple old.flows) refl
 
   -- the core's relation holds then, with the call that the segment asks for
   pub core_strayed : CoreHolds config now false (due_for_flows config (book config (e ∷ past)) (next_number (e ∷ past))) state (e ∷ past)
   core_strayed = record {
-    seats = subst (λ n. Seats number_of (Following config now) state.table state.parts n (book config (e ∷ past)).flows (book config (e ∷ past)).rests) (sym next_is)
-        (subst (λ (b : Book). Seats number_of (Following config now) state.table state.parts (next_number past) b.flows b.rests) (sym book_is)
-        (subst (λ (r : List Rest). Seats number_of (Following config now) state.table state.parts (next_number past) then_book.flows r) (sym rests_are) said.0));
+    seats = subst (λ n. Seats number_of (Following config now) state.table state.slots n (book config (e ∷ past)).flows (book config (e ∷ past)).rests) (sym next_is)
+        (subst (λ (b : Book). Seats number_of (Following config now) state.table state.slots (next_number past) b.flows b.rests) (sym book_is)
+        (subst (λ (r : List Rest). Seats number_of (Following config now) state.table state.slots (next_number past) then_book.flows r) (sym rests_are) said.0));
     slots = holds.slots;
     opened = ap (λ (b : Book). length b.flows) book_is ∙ said.2 ∙ holds.opened;
     asked = refl;
     learnt = λ k p f m at found is_mac. stray_learnt k p f m at (ap (λ (b : Book). flow_of (number_of p) b.flows) (sym book_is) ∙ found) is_mac;
   }
     where
-      stray_learnt : (k : ℕ) (p : Splice) (f : Flow) (m : Mac) → slice_get state.parts k ≡ Some (Some p) → flow_of (number_of p) then_book.flows ≡ Some f → p.mac ≡ Some m → Contains (taught config (e ∷ past)) (f.tuple.guest.addr, m)
+      stray_learnt : (k : ℕ) (p : Splice) (f : Flow) (m : Mac) → slice_get state.slots k ≡ Some (Some p) → flow_of (number_of p) then_book.flows ≡ Some f → p.mac ≡ Some m → Contains (taught config (e ∷ past)) (f.tuple.guest.addr, m)
       stray_learnt k p f m at found is_mac =
           let was = holds.seats.seated k p at in
           let is = said.0.seated k p at in

@@ -25,15 +25,15 @@ module _ {P : Type 0} (number : P → ℕ) (Follows : P → Story → Type 0) (t
   opened_in : (k : ℕ) (p : P) (q : P) (f : Flow) (s : Slot) (left : List Rest) → slice_get table.slots k ≡ Some s → slice_get parts k ≡ Some (Some p)
       → f.number ≡ next → number q ≡ next → is_in_use f.story ≡ true → Follows q f.story
       → ((j n : ℕ) → (j == k) ≡ false → number_at number parts j ≡ Some n → option_map (λ (g : Flow). g.tuple) (flow_of n old) ≡ Some f.tuple → ⊥)
-      → Seats number Follows (flows (set table.slots k Free) table.turns) (set parts k None) next old left
-      → Seats number Follows (flows (set table.slots k (InUse f.tuple)) table.turns) (set parts k (Some q)) (suc next) (f ∷ old) left
+      → Seats number Follows (flows (set table.slots k Free) table.rest_order) (set parts k None) next old left
+      → Seats number Follows (flows (set table.slots k (InUse f.tuple)) table.rest_order) (set parts k (Some q)) (suc next) (f ∷ old) left
   opened_in k p q f s left slot at f_next q_next in_use follows nobody freed =
       let none : slice_get (set parts k None) k ≡ Some None = get_set_at parts k (Some p) None at in
       let free : slice_get (set table.slots k Free) k ≡ Some Free = get_set_at table.slots k s Free slot in
-      let opened = seats_opened number Follows (flows (set table.slots k Free) table.turns) (set parts k None) next old left k q f free none f_next q_next in_use follows
+      let opened = seats_opened number Follows (flows (set table.slots k Free) table.rest_order) (set parts k None) next old left k q f free none f_next q_next in_use follows
       (λ j n has is_on. elsewhere j n has is_on) freed in
-      subst (λ (l : List Slot). Seats number Follows (flows l table.turns) (set parts k (Some q)) (suc next) (f ∷ old) left) (set_twice table.slots k Free (InUse f.tuple))
-      (subst (λ (l : List (Option P)). Seats number Follows (flows (set (set table.slots k Free) k (InUse f.tuple)) table.turns) l (suc next) (f ∷ old) left) (set_twice parts k None (Some q)) opened)
+      subst (λ (l : List Slot). Seats number Follows (flows l table.rest_order) (set parts k (Some q)) (suc next) (f ∷ old) left) (set_twice table.slots k Free (InUse f.tuple))
+      (subst (λ (l : List (Option P)). Seats number Follows (flows (set (set table.slots k Free) k (InUse f.tuple)) table.rest_order) l (suc next) (f ∷ old) left) (set_twice parts k None (Some q)) opened)
     where
       elsewhere : (j n : ℕ) → number_at number (set parts k None) j ≡ Some n → option_map (λ (g : Flow). g.tuple) (flow_of n old) ≡ Some f.tuple → ⊥
       elsewhere j n has is_on = elim (same_or_not j k) [
@@ -42,10 +42,10 @@ module _ {P : Type 0} (number : P → ℕ) (Follows : P → Story → Type 0) (t
       ]
 
   -- No slot is free and none has the tuple: the slot that has rested longest is taken.
-  pub seats_taken_longest : (k : ℕ) (q : P) (f : Flow) → length parts ≡ length table.slots → AreKept table.slots table.turns → Rise rests → HasRestedLongest table k
+  pub seats_taken_longest : (k : ℕ) (q : P) (f : Flow) → length parts ≡ length table.slots → AreKept table.slots table.rest_order → Rise rests → HasRestedLongest table k
       → f.number ≡ next → number q ≡ next → is_in_use f.story ≡ true → Follows q f.story
       → ((j n : ℕ) → number_at number parts j ≡ Some n → option_map (λ (g : Flow). g.tuple) (flow_of n old) ≡ Some f.tuple → ⊥)
-      → Seats number Follows (flows (set table.slots k (InUse f.tuple)) table.turns) (set parts k (Some q)) (suc next) (f ∷ old) (drop 1 rests)
+      → Seats number Follows (flows (set table.slots k (InUse f.tuple)) table.rest_order) (set parts k (Some q)) (suc next) (f ∷ old) (drop 1 rests)
   seats_taken_longest k q f sizes kept rise longest f_next q_next in_use follows nobody =
       let p = seats_part number Follows table parts next old rests seats kept k sizes rise longest in
       opened_in k p.0 q f (Resting longest.tuple longest.since) (drop 1 rests) longest.rests p.1 f_next q_next in_use follows (λ j n other. nobody j n)
@@ -54,7 +54,7 @@ module _ {P : Type 0} (number : P → ℕ) (Follows : P → Story → Type 0) (t
   -- A flow rests on the tuple: its slot is taken.
   pub seats_taken_own : (k : ℕ) (p q : P) (f : Flow) (since : ℕ) → slice_get parts k ≡ Some (Some p) → slice_get table.slots k ≡ Some (Resting f.tuple since)
       → f.number ≡ next → number q ≡ next → is_in_use f.story ≡ true → Follows q f.story
-      → Seats number Follows (flows (set table.slots k (InUse f.tuple)) table.turns) (set parts k (Some q)) (suc next) (f ∷ old) (without (number p) rests)
+      → Seats number Follows (flows (set table.slots k (InUse f.tuple)) table.rest_order) (set parts k (Some q)) (suc next) (f ∷ old) (without (number p) rests)
   seats_taken_own k p q f since at slot f_next q_next in_use follows =
       let seat = seats.seated k p at in
       let slot_is : seat.1 ≡ Resting f.tuple since = some_same seat.1 (Resting f.tuple since) (sym seat.5 ∙ slot) in
@@ -78,7 +78,7 @@ pub room_own : (config : Config) (f : Flow) (b : Book) → rests_among b.rests (
 room_own config f b rests = ap (λ t. if t then without f.number b.rests else with_room config b) rests
 
 module _ {P : Type 0} (number : P → ℕ) (Follows : P → Story → Type 0) (table : Flows) (parts : List (Option P)) (next : ℕ) (config : Config) (b : Book)
-    (seats : Seats number Follows table parts next b.flows b.rests) (kept : AreKept table.slots table.turns) (sizes : length parts ≡ length table.slots) (slots : length table.slots ≡ config.flows) where
+    (seats : Seats number Follows table parts next b.flows b.rests) (kept : AreKept table.slots table.rest_order) (sizes : length parts ≡ length table.slots) (slots : length table.slots ≡ config.flows) where
   -- where a slot is free no rest ends
   pub room_free : (k : ℕ) → IsFree table.slots k → with_room config b ≡ b.rests
   room_free k free = ap (λ t. if t then drop 1 b.rests else b.rests)

@@ -14,8 +14,9 @@ use Rattle.record_flows.specs.Flows.{Flow, Rest, flow_of, uses, used}
 use Rattle.flows_follow.specs.Only.{one_if, Only}
 use Rattle.flows_follow.specs.Seats.{IsSlotOf, number_in, number_at, rests_at, count_used, in_use_slots, Seats}
 use Rattle.flows_follow.proofs.Opening.{none_some, some_same}
-use Rattle.flows_follow.proofs.Seats.{same_or_not, differ, found_id, owner_id}
+use Rattle.flows_follow.proofs.Seats.{same_or_not, differ}
 use Rattle.flows_follow.proofs.Tables.{get_set_at, get_set_other}
+use Rattle.flows_follow.proofs.Vacated.{empty_others, found_others, fresh_others, numbers_others, owned_others, seated_others, stays}
 
 pub used_woken : (slots : List Slot) (k : ℕ) (t : Tuple) (m : ℕ) → slice_get slots k ≡ Some (Resting t m) → in_use_slots (set slots k Free) ≡ in_use_slots slots
 used_woken [] k t m at = absurd cc
@@ -81,68 +82,27 @@ same_used new_used old_used o n is was now =
 module _ {P : Type 0} (number : P → ℕ) (Follows : P → Story → Type 0) (table : Flows) (parts : List (Option P)) (next : ℕ) (old new : List Flow) (rests : List Rest) where
   pub seats_woken : (k : ℕ) (p : P) (t : Tuple) (m : ℕ) → slice_get parts k ≡ Some (Some p) → slice_get table.slots k ≡ Some (Resting t m)
       → uses (flow_of (number p) old) ≡ false → uses (flow_of (number p) new) ≡ false → Only (number p) old new
-      → Seats number Follows table parts next old rests → Seats number Follows (flows (set table.slots k Free) table.turns) (set parts k None) next new (without (number p) rests)
+      → Seats number Follows table parts next old rests → Seats number Follows (flows (set table.slots k Free) table.rest_order) (set parts k None) next new (without (number p) rests)
   seats_woken k p t m at slot was_unused is_unused only seats =
-      let stays : (n : ℕ) → (n == number p) ≡ false → flow_of n new ≡ flow_of n old = only.apart in
-      let here_is : number_at number parts k ≡ Some (number p) = ap (number_in number) at in
-      let stay : (j : ℕ) → (j == k) ≡ false → number_at number (set parts k None) j ≡ number_at number parts j = λ j other. ap (number_in number) (get_set_other parts k j None (differ j k other)) in
-      let gone : (j : ℕ) → j ≡ k → number_at number (set parts k None) j ≡ None = λ j same. ap (λ i. number_at number (set parts k None) i) same ∙ ap (number_in number) (get_set_at parts k (Some p) None at) in
-      let elsewhere : (j n : ℕ) → number_at number (set parts k None) j ≡ Some n → (j == k) ≡ false = λ j n has. elim (same_or_not j k) [
-        | inl same ↦ absurd (none_some (sym (gone j same) ∙ has))
-        | inr not ↦ not
-      ] in
-      let others : (j n : ℕ) → number_at number parts j ≡ Some n → (j == k) ≡ false → (n == number p) ≡ false = λ j n has other. elim (same_or_not n (number p)) [
-        | inl same ↦ absurd (differ j k other (seats.numbers j k (number p) (has ∙ ap Some same) here_is))
-        | inr not ↦ not
-      ] in
+      let here : number_at number parts k ≡ Some (number p) = ap (number_in number) at in
       record {
-        seated = λ j r here.
-            let other = elsewhere j (number r) (ap (number_in number) here) in
-            let was_here : slice_get parts j ≡ Some (Some r) = sym (get_set_other parts k j None (differ j k other)) ∙ here in
-            let seat = seats.seated j r was_here in
-            let apart = others j (number r) (ap (number_in number) was_here) other in (
-              seat.0,
-              seat.1,
-              stays (number r) apart ∙ seat.2,
-              seat.3,
-              seat.4,
-              get_set_other table.slots k j Free (differ j k other) ∙ seat.5,
-              slot_less rests (number p) seat.0 seat.1 (ap (λ n. n == number p) seat.3 ∙ apart) seat.6,
-            );
-        empty = λ j nothing. elim (same_or_not j k) [
-          | inl same ↦ ap (slice_get (set table.slots k Free)) same ∙ get_set_at table.slots k (Resting t m) Free slot
-          | inr other ↦ get_set_other table.slots k j Free (differ j k other) ∙ seats.empty j (sym (get_set_other parts k j None (differ j k other)) ∙ nothing)
-        ];
-        numbers = λ i j n at_i at_j. seats.numbers i j n (sym (stay i (elsewhere i n at_i)) ∙ at_i) (sym (stay j (elsewhere j n at_j)) ∙ at_j);
-        owned = λ j n t here is_on. owner_id t new old only.same ∙ seats.owned j n t (sym (stay j (elsewhere j n here)) ∙ here) (sym (found_id n new old only.same) ∙ is_on);
-        found = λ n in_use. elim (same_or_not n (number p)) [
-          | inl same ↦ absurd (not_used (sym is_unused ∙ ap (λ x. uses (flow_of x new)) (sym same) ∙ in_use))
-          | inr other ↦
-              let had = seats.found n (ap uses (sym (stays n other)) ∙ in_use) in
-              (had.0, stay had.0 (not_here had.0 n had.1 other here_is) ∙ had.1)
-        ];
+        seated = λ j r is.
+            let seat = seated_others number Follows table parts next old new rests k p at is_unused only seats j r is in
+            (seat.0, seat.1, seat.2, seat.3, seat.4, seat.5, slot_less rests (number p) seat.0 seat.1 (ap (λ n. n == number p) seat.3 ∙ seat.7) seat.6);
+        empty = empty_others number Follows table parts next old new rests k p at is_unused only seats (Resting t m) slot;
+        numbers = numbers_others number Follows table parts next old new rests k p at is_unused only seats;
+        owned = owned_others number Follows table parts next old new rests k p at is_unused only seats;
+        found = found_others number Follows table parts next old new rests k p at is_unused only seats;
         order = without_numbers (number p) rests ∙ ap (others_of (number p)) seats.order
             ∙ left_out (λ j. rests_at (slice_get table.slots j) (number_at number parts j)) (λ j. rests_at (slice_get (set table.slots k Free) j) (number_at number (set parts k None) j)) k (number p)
-            (ap (λ s. rests_at s (number_at number parts k)) slot ∙ here_is) (ap (λ s. rests_at s (number_at number (set parts k None) k)) (get_set_at table.slots k (Resting t m) Free slot))
-            (λ j other. ap (λ s. rests_at s (number_at number (set parts k None) j)) (get_set_other table.slots k j Free (differ j k other)) ∙ ap (rests_at (slice_get table.slots j)) (stay j other))
-            (λ j other gives. differ j k other (seats.numbers j k (number p) (of_slot (slice_get table.slots j) (number_at number parts j) gives) here_is)) table.turns;
+            (ap (λ s. rests_at s (number_at number parts k)) slot ∙ here) (ap (λ s. rests_at s (number_at number (set parts k None) k)) (get_set_at table.slots k (Resting t m) Free slot))
+            (λ j other. ap (λ s. rests_at s (number_at number (set parts k None) j)) (get_set_other table.slots k j Free (differ j k other)) ∙ ap (rests_at (slice_get table.slots j)) (stays number Follows table parts next old new rests k p at is_unused only seats j other))
+            (λ j other gives. differ j k other (seats.numbers j k (number p) (of_slot (slice_get table.slots j) (number_at number parts j) gives) here)) table.rest_order;
         counted = same_used (used new) (used old) (flow_of (number p) old) (flow_of (number p) new) only.used was_unused is_unused ∙ seats.counted ∙ sym (used_woken table.slots k t m slot);
         differ = only.differ seats.differ;
-        fresh = λ n past. elim (same_or_not n (number p)) [
-          | inl same ↦ let seat = seats.seated k p at in absurd (none_some (sym (seats.fresh n past) ∙ ap (λ x. flow_of x old) same ∙ seat.2))
-          | inr other ↦ stays n other ∙ seats.fresh n past
-        ];
+        fresh = let seat = seats.seated k p at in fresh_others number Follows table parts next old new rests k p at is_unused only seats seat.0 seat.2;
       }
     where
-      not_used : false ≡ true → ⊥
-      not_used is = cc
-
-      not_here : (j n : ℕ) → number_at number parts j ≡ Some n → (n == number p) ≡ false → number_at number parts k ≡ Some (number p) → (j == k) ≡ false
-      not_here j n has other here = elim (same_or_not j k) [
-        | inl same ↦ absurd (differ n (number p) other (some_same n (number p) (sym has ∙ ap (number_at number parts) same ∙ here)))
-        | inr not ↦ not
-      ]
-
       of_slot : (s : Option Slot) (o : Option ℕ) → rests_at s o ≡ Some (number p) → o ≡ Some (number p)
       of_slot None o is = absurd (none_some is)
       of_slot (Some Free) o is = absurd (none_some is)

@@ -147,7 +147,7 @@ least_first r rests x rise has = by_place has.0 has.1 has.2
     by_place (suc k) within at = from_first r.since rests x k rise.0 (omega (arith, within)) at
 
 module _ {P : Type 0} (number : P → ℕ) (Follows : P → Story → Type 0) (table : Flows) (parts : List (Option P)) (next : ℕ) (all : List Flow) (rests : List Rest)
-    (seats : Seats number Follows table parts next all rests) (kept : AreKept table.slots table.turns) where
+    (seats : Seats number Follows table parts next all rests) (kept : AreKept table.slots table.rest_order) where
   abbrev F : ℕ → Option ℕ
   F k = rests_at (slice_get table.slots k) (number_at number parts k)
 
@@ -180,7 +180,7 @@ module _ {P : Type 0} (number : P → ℕ) (Follows : P → Story → Type 0) (t
   apart i j n one two = seats.numbers i j n (giver i n (slice_get table.slots i) refl one).3 (giver j n (slice_get table.slots j) refl two).3
 
   once : Once (map (λ (r : Rest). r.number) rests)
-  once = subst Once (sym seats.order) (given_once F apart table.turns (each_once table.turns kept.once))
+  once = subst Once (sym seats.order) (given_once F apart table.rest_order (each_once table.rest_order kept.once))
 
   not_none : {X : Type 0} (o : Option X) (x : X) → o ≡ Some x → o ≡ None → ⊥
   not_none o x is none = none_some (sym none ∙ is)
@@ -193,7 +193,7 @@ module _ {P : Type 0} (number : P → ℕ) (Follows : P → Story → Type 0) (t
   first_slot : (k : ℕ) (t : Tuple) (since : ℕ) (p : P) (r : Rest) (behind : List Rest) → rests ≡ r ∷ behind → Rise rests → RestsSince table.slots k t since → slice_get parts k ≡ Some (Some p)
       → Contains rests (record { number = number p; since = since }) → HasRestedLongest table k → number p ≡ r.number
   first_slot k t since p r behind is rise rests_is at has longest =
-      let found = first_found F table.turns r.number (map (λ (x : Rest). x.number) behind) (sym seats.order ∙ ap (map (λ (x : Rest). x.number)) is) in
+      let found = first_found F table.rest_order r.number (map (λ (x : Rest). x.number) behind) (sym seats.order ∙ ap (map (λ (x : Rest). x.number)) is) in
       let i = found.0 in
       let j = found.1 in
       let gave = giver j r.number (slice_get table.slots j) refl found.3 in
@@ -220,11 +220,11 @@ module _ {P : Type 0} (number : P → ℕ) (Follows : P → Story → Type 0) (t
       below : (a b : ℕ) → a ≤ b → (a == b) ≡ false → a < b
       below a b le not = grind (arith, nat_tests, le, not)
 
-      by_place : (i2 i j : ℕ) → slice_get table.turns i ≡ Some j → F j ≡ Some r.number → ((i3 j3 : ℕ) → i3 < i → slice_get table.turns i3 ≡ Some j3 → F j3 ≡ None)
-          → i2 ≤ i → slice_get table.turns i2 ≡ Some k → F k ≡ Some (number p) → number p ≡ r.number
+      by_place : (i2 i j : ℕ) → slice_get table.rest_order i ≡ Some j → F j ≡ Some r.number → ((i3 j3 : ℕ) → i3 < i → slice_get table.rest_order i3 ≡ Some j3 → F j3 ≡ None)
+          → i2 ≤ i → slice_get table.rest_order i2 ≡ Some k → F k ≡ Some (number p) → number p ≡ r.number
       by_place i2 i j at_j gives earlier le at_k gives_k = elim (same_or_not i2 i) [
         | inl same ↦
-            let one : k ≡ j = some_same k j (sym at_k ∙ ap (slice_get table.turns) same ∙ at_j) in
+            let one : k ≡ j = some_same k j (sym at_k ∙ ap (slice_get table.rest_order) same ∙ at_j) in
             some_same (number p) r.number (sym gives_k ∙ ap F one ∙ gives)
         | inr other ↦ absurd (none_some (sym (earlier i2 k (below i2 i le other) at_k) ∙ gives_k))
       ]
@@ -243,7 +243,7 @@ module _ {P : Type 0} (number : P → ℕ) (Follows : P → Story → Type 0) (t
 
   -- It gives way: its slot is free, and the first of those that rest rests no longer.
   pub seats_yielded : (k : ℕ) → length parts ≡ length table.slots → Rise rests → HasRestedLongest table k
-      → Seats number Follows (flows (set table.slots k Free) table.turns) (set parts k None) next all (drop 1 rests)
+      → Seats number Follows (flows (set table.slots k Free) table.rest_order) (set parts k None) next all (drop 1 rests)
   seats_yielded k sizes rise longest =
       let p = seats_part k sizes rise longest in
       by_rests rests refl p.0 p.1 p.2 p.3
@@ -252,11 +252,11 @@ module _ {P : Type 0} (number : P → ℕ) (Follows : P → Story → Type 0) (t
       empty_has_none x has = absurd (omega (arith, has.1))
 
       by_rests : (l : List Rest) → rests ≡ l → (p : P) → slice_get parts k ≡ Some (Some p) → Contains rests (record { number = number p; since = longest.since }) → uses (flow_of (number p) all) ≡ false
-          → Seats number Follows (flows (set table.slots k Free) table.turns) (set parts k None) next all (drop 1 rests)
+          → Seats number Follows (flows (set table.slots k Free) table.rest_order) (set parts k None) next all (drop 1 rests)
       by_rests [] is p at has unused = absurd (empty_has_none (record { number = number p; since = longest.since }) (subst (λ (l : List Rest). Contains l (record { number = number p; since = longest.since })) is has))
       by_rests (r ∷ behind) is p at has unused =
           let same : number p ≡ r.number = first_slot k longest.tuple longest.since p r behind is rise longest.rests at has longest in
           let left : without (number p) rests ≡ drop 1 rests =
           ap (λ n. without n rests) same ∙ ap (without r.number) is ∙ without_first r behind (subst (λ (l : List Rest). Once (map (λ (y : Rest). y.number) l)) is once) ∙ sym (ap (drop 1) is) in
-          subst (λ (l : List Rest). Seats number Follows (flows (set table.slots k Free) table.turns) (set parts k None) next all l) left
+          subst (λ (l : List Rest). Seats number Follows (flows (set table.slots k Free) table.rest_order) (set parts k None) next all l) left
           (seats_woken number Follows table parts next all all rests k p longest.tuple longest.since at longest.rests unused unused (only_none (number p) all) seats)

@@ -38,7 +38,7 @@ rests_at (Some (Resting t since)) n = n
 rests_at _ n = None
 
 abbrev pub resting_numbers : {P : Type 0} → (P → ℕ) → Flows → List (Option P) → List ℕ
-resting_numbers number table parts = filter_map (λ k. rests_at (slice_get table.slots k) (number_at number parts k)) table.turns
+resting_numbers number table parts = filter_map (λ k. rests_at (slice_get table.slots k) (number_at number parts k)) table.rest_order
 
 -- no number stands twice
 abbrev pub Once : List ℕ → Type 0

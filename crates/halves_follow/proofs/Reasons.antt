@@ -45,9 +45,26 @@ long_ago now (m ∷ ms) some late = yes_it (m + 1000) now late
     yes_it : (a b : ℕ) → a ≤ b → nat_le a b ≡ true
     yes_it a b low = grind (arith, nat_tests)
 
--- with one, our SYN may go again
+all_true : (a b c : Bool) → IsTrue (a || b || c || true)
+all_true true b c = refl
+all_true false true c = refl
+all_true false false true = refl
+all_true false false false = refl
+
+three_true : (a b d : Bool) → IsTrue (a || b || true || d)
+three_true true b d = refl
+three_true false true d = refl
+three_true false false d = refl
+
+-- what a reason is in the law: the oldest place is overdue, or the guest prompted it
+goes_again : (past : Story) (m : ℕ) (seg : Segment) (prompted overdue : Bool) → (newest_of (oldest_sendings past) + 1000 ≤ m) ⊎ IsTrue prompted → (newest_of (oldest_sendings past) + 1000 ≤ m → overdue ≡ true)
+    → IsTrue (seg.rst || not (repeats past seg) || prompted || overdue)
+goes_again past m seg prompted overdue (inl old) late = rw (late old) (all_true seg.rst (not (repeats past seg)) prompted)
+goes_again past m seg prompted overdue (inr came) late = rw came (three_true seg.rst (not (repeats past seg)) overdue)
+
+-- where there is a reason our SYN may go again
 pub syn_may_go : (past : Story) (m : ℕ) (seg : Segment) → seg.syn ≡ true → answered (host past) ≡ false → 0 < length (syn_sendings past) → HasReason past m → SendsAgainWithReason past m (Send seg)
-syn_may_go past m seg syn unanswered some reason = by (is_prompted past) (is_overdue m past seg) reason late
+syn_may_go past m seg syn unanswered some reason = goes_again past m seg (is_prompted past) (is_overdue m past seg) reason late
   where
     times : oldest_sendings past ≡ syn_sendings past
     times = pick (answered (host past)) unanswered
@@ -58,25 +75,10 @@ syn_may_go past m seg syn unanswered some reason = by (is_prompted past) (is_ove
     late : newest_of (oldest_sendings past) + 1000 ≤ m → is_overdue m past seg ≡ true
     late old = rw syn (long_ago m (syn_sendings past) some (subst (λ (l : List ℕ). newest_of l + 1000 ≤ m) times old))
 
-    all_true : (a b c : Bool) → IsTrue (a || b || c || true)
-    all_true true b c = refl
-    all_true false true c = refl
-    all_true false false true = refl
-    all_true false false false = refl
-
-    three_true : (a b d : Bool) → IsTrue (a || b || true || d)
-    three_true true b d = refl
-    three_true false true d = refl
-    three_true false false d = refl
-
-    by : (p o : Bool) → (newest_of (oldest_sendings past) + 1000 ≤ m) ⊎ IsTrue p → (newest_of (oldest_sendings past) + 1000 ≤ m → o ≡ true) → IsTrue (seg.rst || not (repeats past seg) || p || o)
-    by p o (inl old) f = rw (f old) (all_true seg.rst (not (repeats past seg)) p)
-    by p o (inr came) f = rw came (three_true seg.rst (not (repeats past seg)) o)
-
--- and so may the oldest place
+-- where there is a reason the oldest place may go again
 pub oldest_may_go : (past : Story) (m : ℕ) (seg : Segment) → seg.syn ≡ false → (is_empty seg.octets && not seg.fin) ≡ false → answered (host past) ≡ true → our_place (host past) seg.number ≡ pos (acked (host past))
     → 0 < length (sendings past (acked (host past))) → HasReason past m → SendsAgainWithReason past m (Send seg)
-oldest_may_go past m seg syn full ans place some reason = by (is_prompted past) (is_overdue m past seg) reason late
+oldest_may_go past m seg syn full ans place some reason = goes_again past m seg (is_prompted past) (is_overdue m past seg) reason late
   where
     times : oldest_sendings past ≡ sendings past (acked (host past))
     times = pick (answered (host past)) ans
@@ -86,18 +88,3 @@ oldest_may_go past m seg syn full ans place some reason = by (is_prompted past) 
 
     late : newest_of (oldest_sendings past) + 1000 ≤ m → is_overdue m past seg ≡ true
     late old = rw (syn, full, place) (long_ago m (sendings past (acked (host past))) some (subst (λ (l : List ℕ). newest_of l + 1000 ≤ m) times old))
-
-    all_true : (a b c : Bool) → IsTrue (a || b || c || true)
-    all_true true b c = refl
-    all_true false true c = refl
-    all_true false false true = refl
-    all_true false false false = refl
-
-    three_true : (a b d : Bool) → IsTrue (a || b || true || d)
-    three_true true b d = refl
-    three_true false true d = refl
-    three_true false false d = refl
-
-    by : (p o : Bool) → (newest_of (oldest_sendings past) + 1000 ≤ m) ⊎ IsTrue p → (newest_of (oldest_sendings past) + 1000 ≤ m → o ≡ true) → IsTrue (seg.rst || not (repeats past seg) || p || o)
-    by p o (inl old) f = rw (f old) (all_true seg.rst (not (repeats past seg)) p)
-    by p o (inr came) f = rw came (three_true seg.rst (not (repeats past seg)) o)

@@ -225,7 +225,7 @@ impl SlirpConfig {
         }
     }
 
-    /// The same settings once more.
+    /// A copy of the settings.
     pub fn copied(&self) -> SlirpConfig
         ensures { settings result ≡ settings self.now }
     {
@@ -467,7 +467,7 @@ impl SlirpConfig {
     }
 }
 
-// The same list once more.
+// A copy of a list.
 fn copy_of<T: Copy + Default, const N: usize>(list: &ArrayVec<T, N>) -> ArrayVec<T, N>
     ensures { result.items ≡ list.now.items }
 {

@@ -89,9 +89,35 @@ pub fn encode(v: &IcmpView<'_>, into: &mut [u8]) -> Result<usize, NoRoom>
     ensures room { IsOk result ↔ (length (icmp_octets (icmp_of v.now)) ≤ length into.old) }
     ensures unchanged { OnErr result (into.new ≡ into.old) }
 {
+    if into.len() < length_of(v) {
+        return Err(NoRoom);
+    }
+    Ok(write(v, into))
+}
+
+/// Writes a message at the front of `into`, which has the room for it, and answers its length in octets, at most 65,535.
+/// Another message isn't of the kind and code of an echo or an unreachable, and has 8 octets. Past the message `into` is
+/// unchanged.
+pub fn write(v: &IcmpView<'_>, into: &mut [u8]) -> usize
+    requires size { length (icmp_with 0 (icmp_of v.now)) ≤ 65535 }
+    requires kind { CanWrite (icmp_of v.now) }
+    requires room { length (icmp_octets (icmp_of v.now)) ≤ length into.old }
+    ensures written { into.new ≡ icmp_octets (icmp_of v.now) ++ drop result into.old }
+    ensures length { result ≡ length (icmp_octets (icmp_of v.now)) }
+    ensures packet { (g : IsIcmp (take result into.new) (icmp_of v.now))
+        × IsPlain (take result into.new) (icmp_of v.now) g }
+{
     let parts = parts_of(v);
     let sum = checksum_after(words_of(&parts), parts.body);
     write_packet(&head(&parts, sum), parts.body, into)
+}
+
+/// The octets that a message takes.
+fn length_of(v: &IcmpView<'_>) -> usize
+    requires size { length (icmp_with 0 (icmp_of v.now)) ≤ 65535 }
+    ensures { result ≡ length (icmp_octets (icmp_of v.now)) }
+{
+    HEAD + parts_of(v).body.len()
 }
 
 /// The grammar of messages holds of octets and fields exactly where these fields are read.

@@ -113,6 +113,24 @@ pub fn encode(v: &IpView<'_>, into: &mut [u8]) -> Result<usize, NoRoom>
     ensures room { IsOk result ↔ (20 + length v.now.body.now ≤ length into.old) }
     ensures unchanged { OnErr result (into.new ≡ into.old) }
 {
+    if into.len() < HEAD + v.body.len() {
+        return Err(NoRoom);
+    }
+    Ok(write(v, into))
+}
+
+/// Writes a datagram at the front of `into`, which has the room for it, as `encode` does, and answers its length in
+/// octets. Past the datagram `into` is unchanged.
+pub fn write(v: &IpView<'_>, into: &mut [u8]) -> usize
+    requires size { 20 + length v.now.body.now < 2 ^ 16 }
+    requires place { v.now.offset < 2 ^ 13 }
+    requires room { 20 + length v.now.body.now ≤ length into.old }
+    ensures written { into.new
+        ≡ ip_with v.now.ttl v.now.ident (fragment_of v.now.more v.now.offset) v.now.proto v.now.from.0
+        v.now.to.0 v.now.body.now ++ drop result into.old }
+    ensures length { result ≡ 20 + length v.now.body.now }
+    ensures packet { IsDatagram (take result into.new) v.now.ttl (sent v.now) }
+{
     let sum = checksum(&head(v, 0));
     write_packet(&head(v, sum), v.body, into)
 }

@@ -2,6 +2,7 @@ ghost use Rattle.std.specs.Prelude.{◌≡◌, ◌+◌, ◌-◌, ◌^◌, ◌<�
 ghost use Rattle.ipv4_head.specs.Ip.{ip_of};
 ghost use Rattle.ipv4_head.specs.Sets.{end_of, is_same_key, part_of, whole_head};
 ghost use Rattle.ipv4_reasm.specs.Areas.{Gathered, after_part, begun, does_clash, is_full, joined_in, key_by, with_head, with_joined, with_kept, with_octets};
+ghost use Rattle.net_octets.specs.Sizes.{most_carried};
 
 use crate::holes::Holes;
 use byteorder::{BigEndian, ByteOrder};
@@ -96,7 +97,7 @@ impl Area {
 
     /// Whether a part can't be of the same datagram as those that are here.
     pub fn clashes(&self, v: &IpView<'_>) -> bool
-        requires { end_of (part_of v.now) ≤ 65515 }
+        requires { end_of (part_of v.now) ≤ most_carried }
         ensures { result ≡ does_clash self.now (part_of v.now) }
     {
         !self.holes.has_hole(v)
@@ -105,7 +106,7 @@ impl Area {
     /// Puts a part with its octets here, which lies in a hole. Answers whether the datagram is
     /// whole with it.
     pub fn put(&mut self, v: &IpView<'_>) -> bool
-        requires end { end_of (part_of v.now) ≤ 65515 }
+        requires end { end_of (part_of v.now) ≤ most_carried }
         requires head { 20 ≤ length v.now.head.now }
         requires short { length v.now.head.now ≤ 60 }
         requires some { 0 < length v.now.body.now }
@@ -124,7 +125,7 @@ impl Area {
 
     /// Puts a part with its octets here, which lies in a hole.
     fn keep(&mut self, v: &IpView<'_>)
-        requires end { end_of (part_of v.now) ≤ 65515 }
+        requires end { end_of (part_of v.now) ≤ most_carried }
         requires head { 20 ≤ length v.now.head.now }
         requires short { length v.now.head.now ≤ 60 }
         requires some { 0 < length v.now.body.now }
@@ -139,7 +140,7 @@ impl Area {
 
     /// Puts the octets of a part here, and takes them out of the hole in which they lie.
     fn put_octets(&mut self, v: &IpView<'_>)
-        requires end { end_of (part_of v.now) ≤ 65515 }
+        requires end { end_of (part_of v.now) ≤ most_carried }
         requires some { 0 < length v.now.body.now }
         requires free { does_clash self.old (part_of v.now) ≡ false }
         ensures { self.new ≡ with_octets self.old (part_of v.now) }
@@ -180,7 +181,7 @@ impl Area {
     pub fn datagram(&self) -> IpView<'_>
         ensures datagram { ip_of result ≡ joined_in self.now }
         ensures life { result.ttl ≡ self.now.life }
-        ensures body { length result.body.now ≤ 65515 }
+        ensures body { length result.body.now ≤ most_carried }
         ensures head { length result.head.now ≤ 60 }
     {
         IpView {
@@ -247,7 +248,7 @@ fn write_whole_head(head: &[u8], size: usize, into: &mut [u8])
     requires short { 20 ≤ length head.now }
     requires long { length head.now ≤ 60 }
     requires room { length head.now ≤ length into.old }
-    requires size { size ≤ 65515 }
+    requires size { size ≤ most_carried }
     ensures { into.new ≡ whole_head head.now size ++ drop (length head.now) into.old }
 {
     let into = &mut into[..head.len()];
@@ -260,7 +261,7 @@ fn fit_head(head: &[u8], size: usize, into: &mut [u8])
     requires short { 20 ≤ length head.now }
     requires long { length head.now ≤ 60 }
     requires copy { into.old ≡ head.now }
-    requires size { size ≤ 65515 }
+    requires size { size ≤ most_carried }
     ensures { into.new ≡ whole_head head.now size }
 {
     let total = (head.len() + size).min(65_535) as u16;

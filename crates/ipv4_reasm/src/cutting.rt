@@ -2,6 +2,7 @@ ghost use Rattle.std.specs.Prelude.{◌≡◌, ℕ, ◌+◌, ◌<◌, ◌≤◌,
 ghost use Rattle.std.specs.Option.{option_map};
 ghost use Rattle.ipv4_head.specs.Sets.{Joined, Joins, Part, Waits, key_of, outcome_among, part_of};
 ghost use Rattle.ipv4_head.specs.Cuts.{AreCuts, cut_of, cut_start, is_cut};
+ghost use Rattle.net_octets.specs.Sizes.{most_carried};
 
 use ipv4_head::IpView;
 
@@ -17,7 +18,7 @@ pub fn cut<'a>(datagram: &IpView<'a>, mtu: usize, k: usize) -> Option<IpView<'a>
     requires mtu { 28 ≤ mtu }
     requires offset { datagram.now.offset ≡ 0 }
     requires more { datagram.now.more ≡ false }
-    requires size { length datagram.now.body.now ≤ 65515 }
+    requires size { length datagram.now.body.now ≤ most_carried }
     ensures part { option_map part_of result ≡ cut_of mtu (part_of datagram.now) k }
     ensures key { IfSome result (λ v. key_of v ≡ key_of datagram.now) }
     // With its header of 20 octets it fits a frame, and its place the field.
@@ -39,7 +40,7 @@ pub fn cut<'a>(datagram: &IpView<'a>, mtu: usize, k: usize) -> Option<IpView<'a>
 /// Where the `k`-th of the fragments of `size` octets begins.
 fn start_of(size: usize, mtu: usize, k: usize) -> Option<usize>
     requires mtu { 28 ≤ mtu }
-    requires size { size ≤ 65515 }
+    requires size { size ≤ most_carried }
     ensures start { result ≡ (if is_cut mtu size k then Some (cut_start mtu k) else None) }
     ensures within { IfSome result (λ start. start ≤ size) }
 {
@@ -62,9 +63,9 @@ pub fn cuts_join()
     ensures join { (mtu : ℕ) (whole : Part) (parts : List Part) → 28 ≤ mtu
         → AreCuts mtu whole parts → Joins parts whole.body }
     ensures waits { (mtu : ℕ) (whole : Part) (before : List Part) (p q : Part) (after : List Part) → 28 ≤ mtu
-        → 0 < length whole.body → length whole.body ≤ 65515
+        → 0 < length whole.body → length whole.body ≤ most_carried
         → AreCuts mtu whole ((before ++ p ∷ []) ++ q ∷ after) → outcome_among p before ≡ Waits }
     ensures whole { (mtu : ℕ) (whole : Part) (before : List Part) (p : Part) → 28 ≤ mtu
-        → 0 < length whole.body → length whole.body ≤ 65515
+        → 0 < length whole.body → length whole.body ≤ most_carried
         → AreCuts mtu whole (before ++ p ∷ []) → outcome_among p before ≡ Joined }
 {}

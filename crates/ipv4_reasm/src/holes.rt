@@ -5,6 +5,7 @@ ghost use Rattle.ipv4_reasm.specs.declared.holes.Hole.{Hole};
 ghost use Rattle.std.specs.Vec.{vec_capacity};
 ghost use Rattle.ipv4_head.specs.Sets.{end_of, part_of};
 ghost use Rattle.ipv4_reasm.specs.Holes.{all_open, filled, has_hole, left_before, left_behind, lies_in, listed, unit_end, Rise};
+ghost use Rattle.net_octets.specs.Sizes.{most_carried};
 
 use ipv4_head::IpView;
 use net_octets::NoMemory;
@@ -69,7 +70,7 @@ impl Holes {
 
     /// Whether a part lies in a hole.
     pub fn has_hole(&self, v: &IpView<'_>) -> bool
-        requires { end_of (part_of v.now) ≤ 65515 }
+        requires { end_of (part_of v.now) ≤ most_carried }
         ensures { result ≡ has_hole (part_of v.now) self.now }
     {
         place_of(&self.row, v).is_some()
@@ -78,7 +79,7 @@ impl Holes {
     /// Takes what a part brings out of the hole in which it lies.
     pub fn fill(&mut self, v: &IpView<'_>)
         requires some { 0 < length v.now.body.now }
-        requires end { end_of (part_of v.now) ≤ 65515 }
+        requires end { end_of (part_of v.now) ≤ most_carried }
         requires hole { has_hole (part_of v.now) self.old ≡ true }
         ensures { self.new ≡ filled (part_of v.now) self.old }
     {
@@ -92,7 +93,7 @@ impl Holes {
 impl Hole {
     /// Whether a part lies in it: the last part of a datagram only where it is endless.
     fn takes(&self, v: &IpView<'_>) -> bool
-        requires { end_of (part_of v.now) ≤ 65515 }
+        requires { end_of (part_of v.now) ≤ most_carried }
         ensures { result ≡ lies_in (part_of v.now) self.now }
     {
         let end = unit_end(v);
@@ -115,7 +116,7 @@ impl Hole {
 
     /// What is left of it behind a part, of which nothing follows the last one.
     fn behind(&self, v: &IpView<'_>) -> Option<Hole>
-        requires { end_of (part_of v.now) ≤ 65515 }
+        requires { end_of (part_of v.now) ≤ most_carried }
         ensures { result ≡ left_behind (part_of v.now) self.now }
     {
         let end = unit_end(v);
@@ -132,7 +133,7 @@ impl Hole {
 
 /// The first unit behind those of a part.
 fn unit_end(v: &IpView<'_>) -> u16
-    requires { end_of (part_of v.now) ≤ 65515 }
+    requires { end_of (part_of v.now) ≤ most_carried }
     ensures { result ≡ unit_end (part_of v.now) }
 {
     let units = (v.body.len() + 7) / 8;
@@ -152,7 +153,7 @@ fn begun_by(holes: &[Hole], place: u16) -> usize
 /// The place of the hole in which a part lies: it is the last that doesn't begin behind the part.
 fn place_of(holes: &[Hole], v: &IpView<'_>) -> Option<usize>
     requires rise { Rise 0 holes.now }
-    requires end { end_of (part_of v.now) ≤ 65515 }
+    requires end { end_of (part_of v.now) ≤ most_carried }
     ensures { result ≡ position (lies_in (part_of v.now)) holes.now }
 {
     let last = begun_by(holes, v.offset).checked_sub(1)?;

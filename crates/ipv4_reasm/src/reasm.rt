@@ -5,18 +5,16 @@ ghost use Rattle.ipv4_head.specs.Sets.{IsJoined, Joined, Joins, Key, Part, PartS
 ghost use Rattle.ipv4_reasm.specs.Areas.{Gathered, StandFor, after_part, begun, does_clash, is_full, is_recent, joined_in, key_by, place_in, roomy, with_kept};
 ghost use Rattle.ipv4_reasm.specs.declared.reasm.Added.TheVariants.{Overlap, Whole};
 ghost use Rattle.ipv4_reasm.specs.Answers.{IsAnswered, IsFirstDue, IsLeastDue, IsWholeAt, answer_of, said};
+ghost use Rattle.net_octets.specs.Sizes.{most_carried};
 
 use crate::area::{Area, DatagramKey, end_of};
 use ipv4_head::IpView;
-use net_octets::NoMemory;
+use net_octets::{MOST_CARRIED, NoMemory};
 use std::alloc::Global;
 use std::marker::Model;
 
 /// How many datagrams can wait for parts.
 const SETS: usize = 16;
-
-/// The greatest length of a datagram's body.
-const LONGEST: usize = 65_515;
 
 /// What became of a part.
 #[derive(Clone, Copy, Debug, PartialEq, Eq)]
@@ -100,7 +98,7 @@ impl Reasm {
         requires { area < length self.now }
         ensures joined { (sets : List PartSet) (s : PartSet) → StandFor self.now sets
             → slice_get sets area ≡ Some s → is_whole s.parts ≡ true → IsJoined s (ip_of result) result.ttl }
-        ensures body { length result.body.now ≤ 65515 }
+        ensures body { length result.body.now ≤ most_carried }
         ensures head { length result.head.now ≤ 60 }
     {
         let area = &self.areas[area];
@@ -193,7 +191,7 @@ impl Reasm {
     /// Whether a part can't be of the datagram in an area.
     fn clashes(&self, i: usize, part: &IpView<'_>) -> bool
         requires area { i < length self.now }
-        requires end { end_of (part_of part.now) ≤ 65515 }
+        requires end { end_of (part_of part.now) ≤ most_carried }
         ensures { (g : Gathered) → slice_get self.now i ≡ Some g → result ≡ does_clash g (part_of part.now) }
     {
         let area = &self.areas[i];
@@ -203,7 +201,7 @@ impl Reasm {
     /// Puts a part into an area.
     fn put(&mut self, i: usize, part: &IpView<'_>) -> bool
         requires area { i < length self.old }
-        requires end { end_of (part_of part.now) ≤ 65515 }
+        requires end { end_of (part_of part.now) ≤ most_carried }
         requires head { 20 ≤ length part.now.head.now }
         requires short { length part.now.head.now ≤ 60 }
         requires some { 0 < length part.now.body.now }
@@ -222,7 +220,7 @@ impl Reasm {
     /// Puts a part to those of its datagram in an area, or drops them where they clash.
     fn join(&mut self, i: usize, part: &IpView<'_>) -> Added
         requires area { i < length self.old }
-        requires end { end_of (part_of part.now) ≤ 65515 }
+        requires end { end_of (part_of part.now) ≤ most_carried }
         requires head { 20 ≤ length part.now.head.now }
         requires short { length part.now.head.now ≤ 60 }
         requires some { 0 < length part.now.body.now }
@@ -244,7 +242,7 @@ impl Reasm {
     /// Begins an area for the first part of a datagram.
     fn start(&mut self, now: u64, key: DatagramKey, part: &IpView<'_>) -> Added
         requires moment { now ≤ 2 ^ 62 }
-        requires end { end_of (part_of part.now) ≤ 65515 }
+        requires end { end_of (part_of part.now) ≤ most_carried }
         requires head { 20 ≤ length part.now.head.now }
         requires short { length part.now.head.now ≤ 60 }
         requires some { 0 < length part.now.body.now }
@@ -271,7 +269,7 @@ impl Reasm {
         if is_uneven(part) {
             return Added::Uneven;
         }
-        if end_of(part) > LONGEST {
+        if end_of(part) > MOST_CARRIED {
             return Added::TooLong;
         }
         self.gather(now, part)

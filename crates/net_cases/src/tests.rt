@@ -86,7 +86,7 @@ fn shown<R: Net<Listener = TcpListener, Stream = TcpStream> + Files + Alloc<A = 
     Ok(count)
 }
 
-/// The same, of a new World.
+/// How many cases a new World shows.
 fn shown_of_one<
     R: Net<Listener = TcpListener, Stream = TcpStream> + Wait + Files + Clock + Alloc<A = Global>,
 >(rt: &R, asker: &mut Asker, cases: &[Case]) -> Result<usize, Fail> {
@@ -94,7 +94,7 @@ fn shown_of_one<
     shown(rt, asker, &mut world, cases)
 }
 
-/// The same, of one after the other.
+/// How many cases new Worlds show, each its own, one after the other.
 fn shown_of<
     R: Net<Listener = TcpListener, Stream = TcpStream> + Wait + Files + Clock + Alloc<A = Global>,
 >(rt: &R, asker: &mut Asker, worlds: &[&[Case]]) -> Result<usize, Fail> {

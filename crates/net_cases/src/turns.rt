@@ -80,7 +80,7 @@ fn told_by_a_wait<W: World>(
     Some(told)
 }
 
-/// The same of three waits.
+/// How many items were told after three more waits; None where one told another than the next.
 fn told_by_three<W: World>(
     world: &mut W,
     wants: &Wants,

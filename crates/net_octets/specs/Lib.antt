@@ -1,3 +1,4 @@
 pub mod Kinds
 pub mod Octets
 pub mod Quads
+pub mod Sizes

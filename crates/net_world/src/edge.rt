@@ -2,7 +2,7 @@
 ghost use Rattle.std.specs.Prelude.{◌≡◌, ◌≤◌, ◌<◌, false, [], length};
 ghost use Rattle.std.specs.Bool.{OnFalse};
 ghost use Rattle.poll_list.specs.Listing.{AreWants};
-ghost use Rattle.net_world.specs.Picks.{IsPickedFrom};
+ghost use Rattle.poll_list.specs.Picks.{IsPickedFrom};
 ghost use Rattle.world_face.specs.Journal.{MayRead, MayWrite, MayWait};
 ghost use Rattle.world_face.specs.Limits.{most_ready, most_wants};
 
@@ -137,35 +137,34 @@ impl Edge {
         ensures capacity { ready.new.capacity ≡ ready.old.capacity }
     {
         self.link.turn(is_link_read(wants.items()));
-        let waited = self.answer(rt, wants, timeout, ready);
+        let is_answered = self.answer(rt, wants, timeout, ready);
         self.sockets.go_on(ready.items());
-        waited
+        if is_answered {
+            Waited::Ready
+        } else {
+            Waited::Failed
+        }
     }
 
-    // The same, where it was settled whether short frames wait, but for whose turn it is next.
+    // What a wait is told, once it is settled whether short frames wait. False where the system can't be asked.
     fn answer<R: Net + Files + Clock>(
         &mut self,
         rt: &R,
         wants: &Wants,
         timeout: Option<u64>,
         ready: &mut ReadyList,
-    ) -> Waited
-        requires some { AreWants wants.now.items }
-        requires few { length wants.now.items ≤ most_wants }
-        requires room { most_ready ≤ ready.old.capacity }
-        ensures answer { MayWait wants.now.items result ready.new.items }
+    ) -> bool
+        requires { length wants.now.items ≤ ready.old.capacity }
         ensures picked { IsPickedFrom wants.now.items ready.new.items }
+        ensures none { OnFalse result (ready.new.items ≡ []) }
+        ensures few { length ready.new.items ≤ length wants.now.items }
         ensures capacity { ready.new.capacity ≡ ready.old.capacity }
     {
         if self.offer_first(wants, ready) {
-            return Waited::Ready;
+            return true;
         }
         self.answered = 0;
-        if self.ask_until_ready(rt, wants, timeout, ready) {
-            Waited::Ready
-        } else {
-            Waited::Failed
-        }
+        self.ask_until_ready(rt, wants, timeout, ready)
     }
 
     // What is told before the system is asked, and whether something is: what is known to be ready, a fixed number of times. Where nothing is, or it was told that often, no short frame waits any longer: if one does, what is known is told once more, with the link for writing, so that the frame goes out by the write that comes before the system is asked.

@@ -7,15 +7,12 @@ use octet_buffer::again;
 use std::fs::{File, Files, OpenFile};
 use std::io::{ErrorKind, Seek, SeekFrom};
 use std::{fs, io};
-use world_face::{FileSize, Io};
-
-/// The greatest name of a file.
-const LONGEST: usize = 1280;
+use world_face::{FileSize, Io, MOST_NAME};
 
 /// The file that was measured or read last stays open, so that it is one file from its length to its end, whatever is put in its place meanwhile.
 #[derive(Drop)]
 pub(crate) struct OpenedFile<R: Files> {
-    name: ArrayString<LONGEST>,
+    name: ArrayString<MOST_NAME>,
     file: Option<R::File>,
 }
 

@@ -3,7 +3,7 @@ ghost use Rattle.std.specs.Prelude.{◌≡◌, ℕ, ◌+◌, ◌<◌, ◌≤◌,
 ghost use Rattle.poll_list.specs.declared.Want.{Want};
 ghost use Rattle.poll_list.specs.Listing.{same_who};
 ghost use Rattle.poll_list.specs.declared.Who.TheVariants.{Link};
-ghost use Rattle.net_world.specs.Picks.{IsPart, IsPickedFrom, GoesOn, Adds, Begins, BeginsWithLink, part_in, as_list};
+ghost use Rattle.poll_list.specs.Picks.{IsPart, IsPickedFrom, GoesOn, Adds, Begins, BeginsWithLink, part_in, as_list};
 
 use crate::sockets::{Known, Listed, Sockets, rank};
 use poll_list::{ReadyList, Want, Wants, Who};

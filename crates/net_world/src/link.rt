@@ -16,7 +16,7 @@ use std::alloc::Global;
 use std::fs::Files;
 use std::io;
 use std::net::Net;
-use world_face::{Io, LinkAt};
+use world_face::{Io, LinkAt, MOST_TO_LINK};
 
 /// The token of the link.
 pub(crate) const LINK: Token = Token(usize::MAX);
@@ -26,9 +26,6 @@ const AHEAD: usize = 131_072;
 
 /// How many octets are gathered before they are written.
 const ROOM: usize = 262_144;
-
-/// The greatest frame out, with its length.
-const LONGEST: usize = 1518;
 
 /// The room that 16,384 octets take, the most that is read from a connection at once, in frames of 536 octets of them and 58 of headers and length. A guest may ask for shorter ones (RFC 9293, 3.7.1): then some of them find no room, and are made once there is.
 const FRAMED: usize = 18_432;
@@ -180,7 +177,7 @@ impl Link {
 
     /// Whether a write would be taken.
     pub fn is_writable(&self) -> bool {
-        self.broken || (self.outbox.room() >= LONGEST && !self.pace.holds())
+        self.broken || (self.outbox.room() >= MOST_TO_LINK && !self.pace.holds())
     }
 
     /// How many sockets may be read before what was gathered is written, so that the frames of what comes from a connection find room. A broken link holds none back: what comes then finds the fault.

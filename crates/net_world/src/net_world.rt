@@ -80,7 +80,7 @@ impl<'a, R: Net + Wait + Files + Clock> World for NetWorld<'a, R> {
     ghost use Rattle.world_face.specs.Limits.{most_ready, most_to_link, most_to_flow, most_to_udp, most_wants, most_name};
     ghost use Rattle.world_face.specs.Tells.{Answers};
     ghost use Rattle.net_world.specs.Faults.{raised, tells_faults};
-    ghost use Rattle.net_world.specs.Picks.{IsPickedFrom};
+    ghost use Rattle.poll_list.specs.Picks.{IsPickedFrom};
 
     ghost tells = { tells_faults };
 

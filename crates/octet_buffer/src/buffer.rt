@@ -113,7 +113,8 @@ impl Buffer {
     /// That of the call, and nothing came.
     pub fn fill<T: Read>(&mut self, source: &mut T) -> io::Result<usize>
         // What came is what the source gave, and it gave no more.
-        ensures came { IfOk result (λ count. (came : List ℕ) × (length came ≡ count) × (self.new.octets ≡ self.old.octets ++ came) × Consumes (T.remaining source.old) (T.remaining source.new) came) }
+        ensures came { IfOk result (λ count. (came : List ℕ) × (length came ≡ count) × (self.new.octets ≡ self.old.octets ++ came)
+            × Consumes (T.remaining source.old) (T.remaining source.new) came) }
         ensures room { IfOk result (λ count. self.new.room + count ≡ self.old.room) }
         ensures size { IfOk result (λ _. self.new.size ≡ self.old.size) }
         // Where there was room, nothing comes only at the end.
@@ -160,7 +161,8 @@ fn write_part(into: &mut [u8], from: usize, octets: &[u8])
 // Reads octets into the part from a place on.
 fn read_part<T: Read>(source: &mut T, into: &mut [u8], from: usize) -> io::Result<usize>
     requires { from ≤ length into.old }
-    ensures came { IfOk result (λ count. (came : List ℕ) × (length came ≡ count) × (take (from + count) into.new ≡ take from into.old ++ came) × Consumes (T.remaining source.old) (T.remaining source.new) came) }
+    ensures came { IfOk result (λ count. (came : List ℕ) × (length came ≡ count) × (take (from + count) into.new ≡ take from into.old ++ came)
+        × Consumes (T.remaining source.old) (T.remaining source.new) came) }
     ensures fits { IfOk result (λ count. from + count ≤ length into.old) }
     ensures ended { IfOk result (λ count. count ≡ 0 → from < length into.old → IsAtEnd (T.remaining source.new)) }
     ensures same { take from into.new ≡ take from into.old }

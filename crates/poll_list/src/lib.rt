@@ -149,25 +149,3 @@ impl ReadyList {
         self.list.items()
     }
 }
-
-#[cfg(test)]
-mod tests {
-    use super::*;
-    use std::test::Fail;
-
-    #[test]
-    fn a_list_holds_what_was_added(rt: HostRuntime) -> Result<(), Fail> {
-        let link = Want {
-            of: Who::Link,
-            read: true,
-            write: false,
-        };
-        let mut wants = Wants::open(rt.alloc(), 1)?;
-        wants.add(link);
-        assert_eq!(rt; wants.items().len(), 1);
-        let mut ready = ReadyList::open(rt.alloc(), 1)?;
-        ready.add(link);
-        assert_eq!(rt; ready.items().len(), 1);
-        Ok(())
-    }
-}

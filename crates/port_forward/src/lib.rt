@@ -91,7 +91,8 @@ impl Forwards {
     ) -> Result<(), FwdFault>
         requires host_port { forward.host.port ≢ 0 }
         requires guest_port { forward.guest.port ≢ 0 }
-        ensures adds { Makes (W.tells world.old) (W.tells world.new) (Adds (fault_of policy.now forward self.old) forward number self.old self.new (result_err result)) }
+        ensures adds { Makes (W.tells world.old) (W.tells world.new)
+            (Adds (fault_of policy.now forward self.old) forward number self.old self.new (result_err result)) }
         ensures counted { result_err result ≡ Some Refused → Rose (W.tells world.old).faults.socket (W.tells world.new).faults.socket }
     {
         let port = port_of(forward.proto, forward.host);
@@ -156,7 +157,8 @@ impl Forwards {
     ) -> Result<(), NotThere>
         ensures list { self.new ≡ without proto host self.old }
         ensures one { IsOk result → length self.new + 1 ≡ length self.old }
-        ensures there { (number : ℕ) → socket_at proto host self.old ≡ Some number → IsOk result × Makes (W.tells world.old) (W.tells world.new) (λ made. made ≡ Close number ∷ []) }
+        ensures there { (number : ℕ) → socket_at proto host self.old ≡ Some number → IsOk result
+            × Makes (W.tells world.old) (W.tells world.new) (λ made. made ≡ Close number ∷ []) }
         ensures not_there { socket_at proto host self.old ≡ None → IsErr result × (W.tells world.new ≡ W.tells world.old) }
     {
         let port = port_of(proto, host);

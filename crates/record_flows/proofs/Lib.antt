@@ -10,6 +10,7 @@ pub mod Laws
 pub mod Newest
 pub mod Checks
 pub mod Writing
+pub mod Openings
 pub mod TcpRows
 pub mod TcpWraps
 pub mod TcpWrites

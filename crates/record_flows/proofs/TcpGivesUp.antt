@@ -1,33 +1,23 @@
 -- A run with TCP written out: a guest that answers nothing.
-use Rattle.std.proofs.Common.{true, false, List, [], ◌∷◌, Some, None, refl}
+use Rattle.std.proofs.Common.{true, false, List, [], ◌∷◌, ◌++◌, Some, None, refl}
 use Rattle.poll_list.specs.declared.Who.TheVariants.{Link, Tcp}
 use Rattle.world_face.specs.declared.Io.TheVariants.{Done}
-use Rattle.world_face.specs.declared.Made.TheVariants.{Done as MadeDone}
-use Rattle.world_face.specs.declared.Joined.TheVariants.{Yes}
 use Rattle.world_face.specs.declared.Waited.TheVariants.{Ready, Stop}
-use Rattle.world_face.specs.Journal.{Entry, Now, Wait, LinkRead, LinkWrite, Connect, Connected, Close}
+use Rattle.world_face.specs.Journal.{Entry, Now, Wait, LinkWrite, Close}
 use Rattle.world_face.specs.Frames.{spelling, missing, is_too_long, spelt_length}
 use Rattle.tlv_table.specs.Reading.{read_on}
-use Rattle.host_policy.specs.Addresses.{endpoint}
 use Rattle.host_policy.specs.Settings.{usual}
 use Rattle.record_flows.specs.Laws.{KeepsFlows}
 use Rattle.record_flows.proofs.Checks.{is_sound}
 use Rattle.record_flows.proofs.Writing.{hex, want, run}
+use Rattle.record_flows.proofs.Openings.{called, connected_at}
 
 -- the SYN-ACK goes out nine times, then a reset
 abbrev pub given_up : List Entry
 given_up =
-    Now 0
-    ∷ Wait (want Link true false ∷ []) None Ready (want Link true false ∷ [])
-    ∷ Now 1000
-    ∷ LinkRead 4 (Done 4) (hex "0000003a")
-    ∷ LinkRead 58 (Done 58) (hex "52550a00020252540012345608004500002c000300004006acb30a00020fc00002070fa00050000003e8000000006002ffffb6380000020405b4")
-    ∷ Connect 0 (endpoint 3221225991 80) MadeDone
-    ∷ Wait (want Link true false ∷ want (Tcp 0) false true ∷ []) (Some 75000) Ready (want (Tcp 0) false true ∷ [])
-    ∷ Now 1010
-    ∷ Connected 0 Yes
-    ∷ LinkWrite (hex "0000003a52540012345652550a00020208004500002c000000004006acb6c00002070a00020f00500fa00003d090000003e96012ffffe5930000020405b4") (Done 62)
-    ∷ Wait (want Link true false ∷ want (Tcp 0) true false ∷ []) (Some 1000) Ready []
+    called
+    ++ connected_at 1010
+    ++ Wait (want Link true false ∷ want (Tcp 0) true false ∷ []) (Some 1000) Ready []
     ∷ Now 2010
     ∷ LinkWrite (hex "0000003a52540012345652550a00020208004500002c000100004006acb5c00002070a00020f00500fa00003d090000003e96012ffffe5930000020405b4") (Done 62)
     ∷ Wait (want Link true false ∷ want (Tcp 0) true false ∷ []) (Some 2000) Ready []

@@ -1,11 +1,10 @@
 -- Runs with TCP written out: a host that connects late, and one that does not.
-use Rattle.std.proofs.Common.{◌≡◌, true, false, List, [], ◌∷◌, take, Some, None, refl}
+use Rattle.std.proofs.Common.{◌≡◌, true, false, List, [], ◌∷◌, ◌++◌, take, Some, None, refl}
 use Rattle.poll_list.specs.declared.Who.TheVariants.{Link, Tcp}
 use Rattle.world_face.specs.declared.Io.TheVariants.{Done}
-use Rattle.world_face.specs.declared.Made.TheVariants.{Done as MadeDone}
-use Rattle.world_face.specs.declared.Joined.TheVariants.{Yes, NotYet as NotYetJoined, Failed as JoinFailed}
+use Rattle.world_face.specs.declared.Joined.TheVariants.{NotYet as NotYetJoined, Failed as JoinFailed}
 use Rattle.world_face.specs.declared.Waited.TheVariants.{Ready, Stop}
-use Rattle.world_face.specs.Journal.{Entry, Now, Wait, LinkRead, LinkWrite, Connect, Connected, Close, CallWait, CallLinkWrite, CallConnect}
+use Rattle.world_face.specs.Journal.{Entry, Now, Wait, LinkWrite, Connected, Close, CallWait, CallLinkWrite, CallConnect}
 use Rattle.world_face.specs.Frames.{spelling, missing, is_too_long, spelt_length}
 use Rattle.tlv_table.specs.Reading.{read_on}
 use Rattle.host_policy.specs.Addresses.{endpoint}
@@ -14,24 +13,17 @@ use Rattle.record_flows.specs.Check.{may_flow}
 use Rattle.record_flows.specs.Laws.{KeepsFlows}
 use Rattle.record_flows.proofs.Checks.{is_sound}
 use Rattle.record_flows.proofs.Writing.{hex, want, run}
+use Rattle.record_flows.proofs.Openings.{called, connected_at}
 
 -- the host connects at the second question
 abbrev pub late : List Entry
 late =
-    Now 0
-    ∷ Wait (want Link true false ∷ []) None Ready (want Link true false ∷ [])
-    ∷ Now 1000
-    ∷ LinkRead 4 (Done 4) (hex "0000003a")
-    ∷ LinkRead 58 (Done 58) (hex "52550a00020252540012345608004500002c000300004006acb30a00020fc00002070fa00050000003e8000000006002ffffb6380000020405b4")
-    ∷ Connect 0 (endpoint 3221225991 80) MadeDone
-    ∷ Wait (want Link true false ∷ want (Tcp 0) false true ∷ []) (Some 75000) Ready (want (Tcp 0) false true ∷ [])
-    ∷ Now 1004
+    called
+    ++ Now 1004
     ∷ Connected 0 NotYetJoined
     ∷ Wait (want Link true false ∷ want (Tcp 0) false true ∷ []) (Some 74996) Ready (want (Tcp 0) false true ∷ [])
-    ∷ Now 1010
-    ∷ Connected 0 Yes
-    ∷ LinkWrite (hex "0000003a52540012345652550a00020208004500002c000000004006acb6c00002070a00020f00500fa00003d090000003e96012ffffe5930000020405b4") (Done 62)
-    ∷ Wait (want Link true false ∷ want (Tcp 0) true false ∷ []) (Some 1000) Stop []
+    ∷ connected_at 1010
+    ++ Wait (want Link true false ∷ want (Tcp 0) true false ∷ []) (Some 1000) Stop []
     ∷ Close 0
     ∷ []
 
@@ -39,17 +31,11 @@ late_keeps : KeepsFlows usual (run late)
 unfolding missing spelling is_too_long spelt_length read_on
 late_keeps = is_sound usual (run late) refl
 
--- it fails: the socket is closed, and the guest gets a reset
+-- a connection fails: the socket is closed, and the guest gets a reset
 abbrev pub unconnected : List Entry
 unconnected =
-    Now 0
-    ∷ Wait (want Link true false ∷ []) None Ready (want Link true false ∷ [])
-    ∷ Now 1000
-    ∷ LinkRead 4 (Done 4) (hex "0000003a")
-    ∷ LinkRead 58 (Done 58) (hex "52550a00020252540012345608004500002c000300004006acb30a00020fc00002070fa00050000003e8000000006002ffffb6380000020405b4")
-    ∷ Connect 0 (endpoint 3221225991 80) MadeDone
-    ∷ Wait (want Link true false ∷ want (Tcp 0) false true ∷ []) (Some 75000) Ready (want (Tcp 0) false true ∷ [])
-    ∷ Now 1004
+    called
+    ++ Now 1004
     ∷ Connected 0 JoinFailed
     ∷ Close 0
     ∷ LinkWrite (hex "0000003652540012345652550a000202080045000028000000004006acbac00002070a00020f00500fa000000000000003e950140000cde10000") (Done 58)

@@ -6,10 +6,10 @@ use Rattle.host_policy.specs.Targets.{same_endpoint}
 use Rattle.ether_frame.specs.Ether.{Ether, read_ether}
 use Rattle.arp_table.specs.Arp.{Arp, read_arp}
 use Rattle.ipv4_head.specs.Ip.{Ip, read_ip, is_unbroken}
-use Rattle.tcp_segment.specs.Tcp.{Tcp, has, read_tcp}
-use Rattle.tcp_segment.specs.declared.TheConstants.{SYN, FIN, RST, ACK}
+use Rattle.tcp_segment.specs.Tcp.{Tcp, read_tcp}
 use Rattle.flow_table.specs.declared.Tuple.{Tuple}
 use Rattle.flow_laws.specs.Event.{Segment}
+pub use Rattle.flow_laws.specs.Segments.{segment_of}
 use Rattle.run_laws.specs.Happenings.{Arrival}
 use Rattle.run_laws.specs.Packets.{Packet, Segment as SegmentPacket}
 
@@ -21,21 +21,6 @@ pub record OnTuple : Type 0 where
 
 abbrev pub same_tuple : Tuple → Tuple → Bool
 same_tuple a b = same_endpoint a.guest b.guest && same_endpoint a.other b.other
-
--- what a flow's story has of a segment (RFC 9293, 3.1)
-abbrev pub segment_of : Tcp → Segment
-segment_of tcp = record {
-  number = tcp.seq;
-  acknowledgement = tcp.ack;
-  ack = has ACK tcp.flags;
-  syn = has SYN tcp.flags;
-  rst = has RST tcp.flags;
-  fin = has FIN tcp.flags;
-  window = tcp.window;
-  mss = tcp.mss;
-  scale = tcp.scale;
-  octets = tcp.body;
-}
 
 -- between the guest that it comes from and the end that it goes to
 abbrev pub from_guest : List ℕ → Ip → Tcp → OnTuple

@@ -19,8 +19,10 @@ use Rattle.world_face.specs.declared.FileSize.TheVariants.{Length, Missing, Fail
 use Rattle.world_face.specs.declared.Waited.{Waited}
 use Rattle.world_face.specs.declared.Waited.TheVariants.{Ready, Stop, Failed as WaitFailed}
 use Rattle.world_face.specs.Journal.{MayAccept, MayMeasure, Leaves, LeavesGot, Entry, call_of, Now, Wait, LinkOpen, LinkRead, LinkWrite, Connect, Connected, Listen, Accept, TcpRead, TcpWrite, TcpEnd, Close, UdpOpen, UdpSend, UdpRecv, FileLen, FileRead}
-use Rattle.replay.specs.Text.{hexadecimal, endpoint_text, joined_text, made_text, waited_text, read_text, written_text, joined_answer, accepted_text, sent_text, got_text, size_text, call_text, answer_text, line_text}
-use Rattle.replay.proofs.Parting.{is_word, is_plain, is_line, fit_append, fit_weaker, word_is_line, plain_is_line, decimal_word, hexadecimal_word}
+use Rattle.address_text.specs.Texts.{endpoint_text}
+use Rattle.address_text.proofs.Parting.{fit_append, fit_weaker}
+use Rattle.replay.specs.Text.{hexadecimal, joined_text, made_text, waited_text, read_text, written_text, joined_answer, accepted_text, sent_text, got_text, size_text, call_text, answer_text, line_text}
+use Rattle.replay.proofs.Parting.{is_word, is_plain, is_line, word_is_line, plain_is_line, decimal_word, hexadecimal_word}
 use Rattle.replay.proofs.Words.{endpoint_word, joined_word}
 use Rattle.replay.proofs.Calls.{call_plain, name_word, spaced}
 use Rattle.replay.specs.Names.{name_of, name_text}
@@ -119,7 +121,7 @@ then_more e r = ap (λ t. t ++ r) (line_form e) ∙ append_assoc ((call_text (ca
 pub some_line : (e : Entry) (r : List ℕ) → [] ≡ line_text e ++ r → ⊥
 some_line e r is = omega (arith, length-append ((call_text (call_of e) ++ 32 ∷ []) ++ 61 ∷ 32 ∷ answer_text e) (10 ∷ r), ap length (is ∙ then_more e r))
 
--- The same of a schedule's line.
+-- A schedule's line without its line feed.
 abbrev pub row_body : Row → List ℕ
 row_body row = (said_call row ++ 32 ∷ []) ++ 61 ∷ 32 ∷ said_answer row
 

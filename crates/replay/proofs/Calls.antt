@@ -5,8 +5,10 @@ use Rattle.world_face.specs.Journal.{Call, CallNow, CallWait, CallLinkOpen, Call
 use Rattle.replay.specs.declared.CallName.{CallName}
 use Rattle.replay.specs.declared.CallName.TheVariants.{Now, Wait, LinkOpen, LinkRead, LinkWrite, Connect, Connected, Listen, Accept, TcpRead, TcpWrite, TcpEnd, Close, UdpOpen, UdpSend, UdpRecv, FileLen, FileRead}
 use Rattle.replay.specs.Names.{name_text, name_of}
-use Rattle.replay.specs.Text.{hexadecimal, endpoint_text, wants_text, timeout_text, place_text, call_text}
-use Rattle.replay.proofs.Parting.{is_word, is_plain, fit_append, fit_weaker, word_is_plain, decimal_word, hexadecimal_word}
+use Rattle.address_text.specs.Texts.{endpoint_text, place_text}
+use Rattle.address_text.proofs.Parting.{fit_append, fit_weaker}
+use Rattle.replay.specs.Text.{hexadecimal, wants_text, timeout_text, call_text}
+use Rattle.replay.proofs.Parting.{is_word, is_plain, word_is_plain, decimal_word, hexadecimal_word}
 use Rattle.replay.proofs.Words.{endpoint_word, wants_word, timeout_word, place_octets}
 use Rattle.replay.specs.Range.{InRange}
 

@@ -7,13 +7,13 @@ pub mod Following
 pub mod Joining
 pub mod Lower
 pub mod Measuring
+pub mod Naming
 pub mod Parting
 pub mod Putting
 pub mod Refusing
 pub mod Rowing
 pub mod Sayable
 pub mod Scheduling
-pub mod Splitting
 pub mod Starring
 pub mod Words
 pub mod Unreading

@@ -8,13 +8,14 @@ use Rattle.replay.specs.declared.ScriptFault.TheVariants.{Line as AtLine, NoMemo
 use Rattle.replay.specs.Names.{name_of, name_text}
 use Rattle.replay.specs.Range.{InRange}
 use Rattle.replay.specs.Rows.{Row, IsReadable, AreReadable, TakesTooMuch, most_room, room_of, row_room, rooms, row_text, said_answer, said_call, schedule_text}
-use Rattle.replay.specs.Spelling.{is_other}
-use Rattle.replay.specs.Text.{call_text, hexadecimal, place_text, timeout_text}
+use Rattle.address_text.specs.Texts.{is_other, place_text}
+use Rattle.address_text.proofs.Parting.{fit_weaker, parts_once}
+use Rattle.replay.specs.Text.{call_text, hexadecimal, timeout_text}
 use Rattle.std.proofs.Common.{decimal}
 use Rattle.replay.specs.Unread.{IsFirstUnread}
 use Rattle.replay.proofs.Bodies.{row_body, row_then, said_plain, some_row}
 use Rattle.replay.proofs.Calls.{args_text, name_word, same_name}
-use Rattle.replay.proofs.Parting.{is_word, is_plain, fit_weaker, parts_once, decimal_word, hexadecimal_word}
+use Rattle.replay.proofs.Parting.{is_word, is_plain, decimal_word, hexadecimal_word}
 use Rattle.replay.proofs.Refusing.{call_parts, last_same, no_space, plain_no_sign}
 use Rattle.replay.proofs.Starring.{no_digit, no_pair}
 use Rattle.replay.proofs.Unreading.{all_read, no_feed}

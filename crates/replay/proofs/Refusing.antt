@@ -1,12 +1,7 @@
--- Why a text that was refused spells nothing in range: the parts of numbers, octets, endpoints and wants.
-use Rattle.std.proofs.Common.{◌≡◌, ◌≢◌, ℕ, zero, suc, ◌+◌, ◌/◌, ◌%◌, ◌^◌, ◌<◌, ◌≤◌, Bool, true, false, cond, ◌&&◌, ◌||◌, eqb, ltb, List, [], ◌∷◌, ◌++◌, length, take, get_or, slice_index, position, decimal, Option, Some, None, Result, Ok, Err, codes, refl, sym, ◌∙◌, ap, subst, arith, append_assoc, length-append}
-use Rattle.std.specs.List.{list_all, position_or_len, prefix_len}
-use Rattle.std.specs.Str.{IsUtf8}
-use Rattle.std.specs.Str.Parse.{without_leading_plus}
+-- Why a text that was refused spells nothing in range: the parts of octets and wants.
+use Rattle.std.proofs.Common.{◌≡◌, ◌≢◌, ℕ, zero, suc, ◌+◌, ◌/◌, ◌%◌, ◌^◌, ◌<◌, true, false, cond, ◌&&◌, ◌||◌, List, [], ◌∷◌, ◌++◌, length, get_or, slice_index, decimal, Option, Result, Ok, Err, codes, refl, sym, ◌∙◌, ap, subst, arith, append_assoc, length-append}
+use Rattle.std.specs.List.{list_all}
 use Rattle.std.proofs.lemmas.Bool.Decides.{nat_tests}
-use Rattle.std.proofs.lemmas.List.{take_all}
-use Rattle.std.proofs.lemmas.Str.{IsUtf8-from_ascii}
-use Rattle.std.proofs.lemmas.Fmt.{decimal_is_IsNumeral, decimal_injective, decimal_nonempty, decimal_digit, first_decimal, IsAscii-decimal}
 use Rattle.hex.specs.Hex.{encode_with, lower_digits, decode_of}
 use Rattle.hex.proofs.HexLemmas.{decode_of-encode_lower, decode_of-ok, length-encode_with}
 use Rattle.net_octets.specs.declared.Endpoint.{Endpoint}
@@ -16,96 +11,20 @@ use Rattle.world_face.specs.Journal.{AreOctets, IsEndpoint, IsNumber, IsPlace, I
 use Rattle.replay.specs.Names.{name_text, name_of}
 use Rattle.replay.specs.declared.CallName.TheVariants as names
 use Rattle.std.proofs.lemmas.List.Elements.{All-head, All-tail, All-cons, All-nil}
-use Rattle.replay.specs.Spelling.{is_lower, is_other, IsReadAs, IsWritten, Says}
-use Rattle.replay.specs.Text.{hexadecimal, endpoint_text, who_text, direction_text, want_text, joined_text, wants_text, timeout_text, place_text, call_text}
+use Rattle.address_text.specs.Texts.{is_other, endpoint_text, place_text}
+use Rattle.address_text.proofs.Parting.{fit_weaker, parts_once, both, pair, digit_is_no_colon, no_part}
+use Rattle.replay.specs.Spelling.{is_lower, IsWritten, Says}
+use Rattle.replay.specs.Text.{hexadecimal, who_text, direction_text, want_text, joined_text, wants_text, timeout_text, call_text}
 use Rattle.replay.proofs.Calls.{args_text, named, name_word}
 use Rattle.replay.specs.Rows.{Row, IsReadable, row_text, said_answer, said_call}
 use Rattle.replay.proofs.Bodies.{row_body, row_form, said_plain}
 use Rattle.replay.specs.declared.CallName.{CallName}
-use Rattle.replay.proofs.Parting.{is_digit, is_word, is_plain, word_is_no_space, fit_weaker, parts_once, both, pair, decimal_digits, digit_is_no_dot, digit_is_no_colon, digit_is_no_comma}
-use Rattle.replay.proofs.Words.{address, endpoint_form, address_fits, who_fits, want_form, want_fits, head_of, bytes}
+use Rattle.replay.proofs.Parting.{is_word, is_plain, word_is_no_space, digit_is_no_comma}
+use Rattle.replay.proofs.Words.{who_fits, want_form, want_fits, head_of, bytes}
 
 -- a refusal that is handed on
 pub same_fault : {X Y E : Type 0} {d e : E} → ◌≡◌ {A = Result X E} (Err d) (Err e) → ◌≡◌ {A = Result Y E} (Err d) (Err e)
 same_fault is = cc
-
--- parts
-own_octet : (octet : ℕ) → is_other octet octet ≡ false
-own_octet octet = grind (arith, nat_tests)
-
--- where an octet stands nowhere, no part ends with it
-pub no_part : (octet : ℕ) (text a r : List ℕ) → list_all (is_other octet) text ≡ true → text ≡ a ++ octet ∷ r → ⊥
-no_part octet [] [] r h is = cc is
-no_part octet [] (y ∷ a) r h is = cc is
-no_part octet (x ∷ text) [] r h is =
-    let here : x ≡ octet = cc in
-    let no : is_other octet x ≡ false = subst (λ (c : ℕ). is_other octet c ≡ false) (sym here) (own_octet octet) in
-    absurd (cc (sym (both (is_other octet x) (list_all (is_other octet) text) h).0 ∙ no))
-no_part octet (x ∷ text) (y ∷ a) r h is =
-    let tail : text ≡ a ++ octet ∷ r = cc in
-    no_part octet text a r (both (is_other octet x) (list_all (is_other octet) text) h).1 tail
-
-front_fits : (p : ℕ → Bool) (text : List ℕ) → list_all p (take (prefix_len p text) text) ≡ true
-front_fits p [] = refl
-front_fits p (x ∷ xs) = elim (p x) as (λ b. p x ≡ b → list_all p (take (cond b (1 + prefix_len p xs) 0) (x ∷ xs)) ≡ true) [
-  | true ↦ λ is. let one : 1 + prefix_len p xs ≡ suc (prefix_len p xs) = omega arith in rw one (pair (p x) (list_all p (take (prefix_len p xs) xs)) is (front_fits p xs))
-  | false ↦ λ is. refl
-] refl
-
-before_place : (octet : ℕ) (text : List ℕ) → list_all (is_other octet) (take (position_or_len (λ x. eqb x octet) text) text) ≡ true
-before_place octet text = front_fits (is_other octet) text
-
-some_place : (n m at : ℕ) → cond (ltb n m) (Some n) None ≡ Some at → n ≡ at
-some_place n m at is = grind arith
-
-no_place : (n m : ℕ) → cond (ltb n m) (Some n) None ≡ None → m ≤ n
-no_place n m is = grind (arith, nat_tests)
-
-pub first_lacks : (octet at : ℕ) (text : List ℕ) → position (λ x. eqb x octet) text ≡ Some at → list_all (is_other octet) (take at text) ≡ true
-first_lacks octet at text is = subst (λ (n : ℕ). list_all (is_other octet) (take n text) ≡ true) (some_place (position_or_len (λ x. eqb x octet) text) (length text) at is) (before_place octet text)
-
-pub text_lacks : (octet : ℕ) (text : List ℕ) → position (λ x. eqb x octet) text ≡ None → list_all (is_other octet) text ≡ true
-text_lacks octet text is =
-    subst (λ (t : List ℕ). list_all (is_other octet) t ≡ true) (take_all (position_or_len (λ x. eqb x octet) text) text (no_place (position_or_len (λ x. eqb x octet) text) (length text) is)) (before_place octet text)
-
--- numbers
-pub number_some : (text : List ℕ) (n : ℕ) → n < 2 ^ 64 → text ≡ decimal n → 0 < length text
-number_some text n small is = subst (λ (t : List ℕ). 0 < length t) (sym is) (decimal_nonempty n small)
-
-pub zero_text : decimal 0 ≡ 48 ∷ []
-zero_text = decimal_digit 0 (omega arith)
-
-starts : (n : ℕ) → n < 2 ^ 64 → 48 ≤ get_or (decimal n) 0 0
-starts zero small = subst (λ (t : List ℕ). 48 ≤ get_or t 0 0) (sym zero_text) (omega arith)
-starts (suc n) small = let first = first_decimal (suc n) (omega arith) small in omega (arith, first)
-
--- no sign stands first
-pub number_unsigned : (text : List ℕ) (n : ℕ) → n < 2 ^ 64 → text ≡ decimal n → get_or text 0 0 ≡ 43 → ⊥
-number_unsigned text n small is plus = let first = subst (λ (t : List ℕ). 48 ≤ get_or t 0 0) (sym is) (starts n small) in omega (arith, first)
-
-needless : (n : ℕ) → n < 2 ^ 64 → get_or (decimal n) 0 0 ≡ 48 → 1 < length (decimal n) → ⊥
-needless zero small first long = let one : length (decimal 0) ≡ 1 = ap length zero_text in omega (arith, one, long)
-needless (suc n) small first long = let above = first_decimal (suc n) (omega arith) small in omega (arith, above)
-
-pub number_needed : (text : List ℕ) (n : ℕ) → n < 2 ^ 64 → text ≡ decimal n → (eqb (get_or text 0 0) 48 && ltb 1 (length text) ≡ true) → ⊥
-number_needed text n small is led =
-    let h = both (eqb (get_or text 0 0) 48) (ltb 1 (length text)) led in
-    let first : get_or text 0 0 ≡ 48 = grind (arith, nat_tests, h.0) in
-    let long : 1 < length text = grind (arith, nat_tests, h.1) in
-    needless n small (ap (λ (t : List ℕ). get_or t 0 0) (sym is) ∙ first) (subst (λ (t : List ℕ). 1 < length t) is long)
-
-pub number_utf8 : (text : List ℕ) (n : ℕ) → n < 2 ^ 64 → text ≡ decimal n → IsUtf8 text
-number_utf8 text n small is = subst IsUtf8 (sym is) (IsUtf8-from_ascii (decimal n) (IsAscii-decimal n small))
-
-pub number_parsed : (text : List ℕ) (n : ℕ) → n < 2 ^ 64 → text ≡ decimal n → IsReadAs text None → ⊥
-number_parsed text n small is none =
-    let plain : without_leading_plus (decimal n) ≡ decimal n = grind (arith, nat_tests, starts n small) in
-    let read : IsReadAs (decimal n) None = subst (λ (t : List ℕ). IsReadAs t None) is none in
-    let numeral = decimal_is_IsNumeral n small in
-    grind (arith, read, numeral, plain, small)
-
-pub number_over : (n m : ℕ) (text : List ℕ) → n < 2 ^ 64 → text ≡ decimal n → m < n → (k : ℕ) → k ≤ m → text ≡ decimal k → ⊥
-number_over n m text small is over k under spelt = let same = decimal_injective n k small (omega arith) (sym is ∙ spelt) in omega (arith, same)
 
 -- octets
 glyph_lower : (v : ℕ) → v < 16 → is_lower (slice_index lower_digits v) ≡ true
@@ -161,31 +80,6 @@ all_small (x ∷ xs) h = All-cons (λ octet. octet < 2 ^ 8) x xs (h 0) (all_smal
 
 pub octets_small : (text octets : List ℕ) → decode_of text ≡ Ok octets → AreOctets octets
 octets_small text octets is = all_small octets (decode_of-ok text octets is).3
-
--- endpoints
-no_dot : (k : ℕ) → k < 2 ^ 64 → list_all (is_other 46) (decimal k) ≡ true
-no_dot k small = fit_weaker is_digit (is_other 46) digit_is_no_dot (decimal k) (decimal_digits k small)
-
-dotted : (text one after tail : List ℕ) (k : ℕ) → k < 2 ^ 64 → text ≡ one ++ 46 ∷ after → list_all (is_other 46) one ≡ true → text ≡ decimal k ++ 46 ∷ tail → (one ≡ decimal k) × (after ≡ tail)
-dotted text one after tail k small split lacks is = parts_once 46 (is_other 46) refl one (decimal k) after tail lacks (no_dot k small) (sym split ∙ is)
-
-pub address_of : (text first last : List ℕ) → text ≡ first ++ 58 ∷ last → list_all (is_other 58) first ≡ true → (at : Endpoint) → IsEndpoint at → text ≡ endpoint_text at → (first ≡ address at.addr.0) × (last ≡ decimal at.port)
-address_of text first last split lacks at h is = parts_once 58 (is_other 58) refl first (address at.addr.0) last (decimal at.port) lacks (address_fits (is_other 58) digit_is_no_colon refl at.addr.0 h.0) (sym split ∙ is ∙ endpoint_form at)
-
-pub after_first : (text one after : List ℕ) (n : ℕ) → n < 2 ^ 32 → text ≡ one ++ 46 ∷ after → list_all (is_other 46) one ≡ true → text ≡ address n → (one ≡ decimal (n / 2 ^ 24)) × (after ≡ decimal (n / 2 ^ 16 % 2 ^ 8) ++ 46 ∷ (decimal (n / 2 ^ 8 % 2 ^ 8) ++ 46 ∷ decimal (n % 2 ^ 8)))
-after_first text one after n small split lacks is = dotted text one after _ (n / 2 ^ 24) (omega arith) split lacks is
-
-pub after_second : (text two after : List ℕ) (n : ℕ) → text ≡ two ++ 46 ∷ after → list_all (is_other 46) two ≡ true → text ≡ decimal (n / 2 ^ 16 % 2 ^ 8) ++ 46 ∷ (decimal (n / 2 ^ 8 % 2 ^ 8) ++ 46 ∷ decimal (n % 2 ^ 8)) → (two ≡ decimal (n / 2 ^ 16 % 2 ^ 8)) × (after ≡ decimal (n / 2 ^ 8 % 2 ^ 8) ++ 46 ∷ decimal (n % 2 ^ 8))
-after_second text two after n split lacks is = dotted text two after _ (n / 2 ^ 16 % 2 ^ 8) (omega arith) split lacks is
-
-pub after_third : (text three four : List ℕ) (n : ℕ) → text ≡ three ++ 46 ∷ four → list_all (is_other 46) three ≡ true → text ≡ decimal (n / 2 ^ 8 % 2 ^ 8) ++ 46 ∷ decimal (n % 2 ^ 8) → (three ≡ decimal (n / 2 ^ 8 % 2 ^ 8)) × (four ≡ decimal (n % 2 ^ 8))
-after_third text three four n split lacks is = dotted text three four _ (n / 2 ^ 8 % 2 ^ 8) (omega arith) split lacks is
-
-pub first_under : (n : ℕ) → n < 2 ^ 32 → n / 2 ^ 24 < 256
-first_under n small = omega arith
-
-pub part_under : (n : ℕ) → n % 2 ^ 8 < 256
-part_under n = omega arith
 
 -- wants
 pub one_want : (w : Want) (ws : List Want) → are_wants (w ∷ ws) ≡ true → are_wants (w ∷ []) ≡ true

@@ -12,9 +12,11 @@ use Rattle.replay.specs.Names.{name_of, name_text}
 use Rattle.replay.specs.Range.{InRange, AnswersInRange, IsSayable}
 use Rattle.replay.specs.Rows.{Row, IsReadable, TakesAll, said_call}
 use Rattle.replay.specs.Spelling.{IsSpelt, IsWritten, HasArguments, SaidArguments, Says, SaysRow, is_write, blank_args, given_args, counted_answer}
-use Rattle.replay.specs.Text.{answer_text, call_text, written_text, hexadecimal, endpoint_text, place_text}
-use Rattle.replay.proofs.Parting.{first, is_digit, decimal_digits}
-use Rattle.replay.proofs.Refusing.{zero_text}
+use Rattle.address_text.specs.Texts.{address_text, endpoint_text, place_text}
+use Rattle.address_text.proofs.Parting.{is_digit, decimal_digits}
+use Rattle.address_text.proofs.Numbers.{zero_text}
+use Rattle.replay.specs.Text.{answer_text, call_text, written_text, hexadecimal}
+use Rattle.replay.proofs.Parting.{first}
 use Rattle.replay.proofs.Rowing.{answer_kept}
 use Rattle.hex.specs.Hex.{encode_with, lower_digits}
 use Rattle.hex.proofs.HexLemmas.{length-encode_with}
@@ -45,7 +47,7 @@ blank names.FileLen = CallFileLen []
 blank names.FileRead = CallFileRead [] 0 0
 
 nowhere_text : endpoint_text nowhere ≡ codes "0.0.0.0:0"
-unfolding endpoint_text
+unfolding endpoint_text address_text
 nowhere_text = rw zero_text refl
 
 name_blank : (n : CallName) → name_of (blank n) ≡ n

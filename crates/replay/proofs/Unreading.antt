@@ -5,14 +5,14 @@ use Rattle.std.proofs.lemmas.Bool.Decides.{nat_tests}
 use Rattle.std.proofs.lemmas.List.{length-map}
 use Rattle.replay.specs.Lines.{row_of, rows_of}
 use Rattle.replay.specs.Rows.{Row, IsReadable, AreReadable, row_text, schedule_text}
-use Rattle.replay.specs.Spelling.{is_other}
+use Rattle.address_text.specs.Texts.{is_other}
+use Rattle.address_text.proofs.Parting.{fit_weaker, parts_once, no_part}
 use Rattle.replay.specs.Unread.{IsFirstUnread}
 use Rattle.replay.specs.declared.row.Row.{Row as ARow}
 use Rattle.replay.specs.declared.ScriptFault.{ScriptFault}
 use Rattle.replay.specs.declared.ScriptFault.TheVariants.{Line as AtLine, NoMemory, TooLarge}
-use Rattle.replay.proofs.Parting.{is_line, fit_weaker, parts_once}
+use Rattle.replay.proofs.Parting.{is_line}
 use Rattle.replay.proofs.Bodies.{row_body, row_form, row_line, row_then, some_row}
-use Rattle.replay.proofs.Refusing.{no_part}
 
 readable_push : (rows : List ARow) (row : ARow) → AreReadable (rows_of rows) → IsReadable (row_of row) → AreReadable (rows_of (rows ++ row ∷ []))
 readable_push [] row hs h = (h, tt)

@@ -1,5 +1,5 @@
 -- Of what octets the parts of a line are.
-use Rattle.std.proofs.Common.{◌≡◌, inl, inr, ℕ, ◌/◌, ◌%◌, ◌^◌, ◌<◌, Bool, true, false, ◌&&◌, ◌||◌, List, [], ◌∷◌, ◌++◌, length, get_or, decimal, Option, Some, None, Result, codes, refl, sym, ◌∙◌, ap, subst, arith, append_assoc}
+use Rattle.std.proofs.Common.{◌≡◌, inl, inr, ℕ, ◌^◌, ◌<◌, Bool, true, false, ◌&&◌, ◌||◌, List, [], ◌∷◌, ◌++◌, length, get_or, decimal, Option, Some, None, Result, codes, refl, sym, ◌∙◌, ap, arith, append_assoc}
 use Rattle.std.specs.List.{list_all}
 use Rattle.std.specs.Result.{result_unwrap_or}
 use Rattle.std.proofs.lemmas.List.Elements.{All-get_or, All-append, All-cons, All-nil}
@@ -15,9 +15,12 @@ use Rattle.poll_list.specs.declared.Who.TheVariants.{Link, Listener, Udp, Tcp}
 use Rattle.poll_list.specs.declared.Want.{Want}
 use Rattle.poll_list.specs.Listing.{are_wants, is_who}
 use Rattle.world_face.specs.Journal.{AreOctets, IsEndpoint, IsPlace, IsTimeout, Place, AtPath, AtEndpoint}
-use Rattle.replay.specs.Text.{hexadecimal, endpoint_text, who_text, direction_text, want_text, joined_text, wants_text, timeout_text, place_text}
+use Rattle.address_text.specs.Texts.{endpoint_text, place_text}
+use Rattle.address_text.proofs.Addresses.{address, address_fits, endpoint_form}
+use Rattle.address_text.proofs.Parting.{is_digit, fit_append, fit_weaker, both, pair, decimal_digits}
+use Rattle.replay.specs.Text.{hexadecimal, who_text, direction_text, want_text, joined_text, wants_text, timeout_text}
 use Rattle.replay.proofs.Joining.{each_text}
-use Rattle.replay.proofs.Parting.{is_digit, is_word, fit_append, fit_weaker, both, pair, first, is_small, decimal_digits, digit_is_word, decimal_word}
+use Rattle.replay.proofs.Parting.{is_word, first, is_small, digit_is_word, decimal_word}
 
 -- octets
 pub bytes : (xs : List ℕ) → AreOctets xs → IsBytes xs
@@ -27,25 +30,6 @@ bytes xs h i = elim (cases_lt i (length xs)) [
 ]
 
 -- endpoints
-pub form : (first second third fourth port : List ℕ) → (((((((first ++ 46 ∷ []) ++ second) ++ 46 ∷ []) ++ third) ++ 46 ∷ []) ++ fourth) ++ 58 ∷ []) ++ port ≡ ((first ++ 46 ∷ (second ++ 46 ∷ (third ++ 46 ∷ fourth))) ++ 58 ∷ port)
-form first second third fourth port = simp append_assoc
-
-abbrev pub address : ℕ → List ℕ
-address n = decimal (n / 2 ^ 24) ++ 46 ∷ (decimal (n / 2 ^ 16 % 2 ^ 8) ++ 46 ∷ (decimal (n / 2 ^ 8 % 2 ^ 8) ++ 46 ∷ decimal (n % 2 ^ 8)))
-
-pub endpoint_form : (e : Endpoint) → endpoint_text e ≡ address e.addr.0 ++ 58 ∷ decimal e.port
-unfolding endpoint_text
-endpoint_form e = form (decimal (e.addr.0 / 2 ^ 24)) (decimal (e.addr.0 / 2 ^ 16 % 2 ^ 8)) (decimal (e.addr.0 / 2 ^ 8 % 2 ^ 8)) (decimal (e.addr.0 % 2 ^ 8)) (decimal e.port)
-
--- four parts of a kind in which dots stand
-pub address_fits : (p : ℕ → Bool) → ((c : ℕ) → is_digit c ≡ true → p c ≡ true) → p 46 ≡ true → (n : ℕ) → n < 2 ^ 32 → list_all p (address n) ≡ true
-address_fits p digits dot n small =
-    let d = λ (k : ℕ) (h : k < 2 ^ 64). fit_weaker is_digit p digits (decimal k) (decimal_digits k h) in
-    let dotted = λ (a b : List ℕ) (ha : list_all p a ≡ true) (hb : list_all p b ≡ true). fit_append p a (46 ∷ b) ha (subst (λ (x : Bool). x && list_all p b ≡ true) (sym dot) hb) in
-    dotted (decimal (n / 2 ^ 24)) _ (d (n / 2 ^ 24) (omega arith))
-    (dotted (decimal (n / 2 ^ 16 % 2 ^ 8)) _ (d (n / 2 ^ 16 % 2 ^ 8) (omega arith))
-    (dotted (decimal (n / 2 ^ 8 % 2 ^ 8)) (decimal (n % 2 ^ 8)) (d (n / 2 ^ 8 % 2 ^ 8) (omega arith)) (d (n % 2 ^ 8) (omega arith))))
-
 pub endpoint_word : (e : Endpoint) → IsEndpoint e → list_all is_word (endpoint_text e) ≡ true
 endpoint_word e h = rw (endpoint_form e) (fit_append is_word (address e.addr.0) (58 ∷ decimal e.port) (address_fits is_word digit_is_word refl e.addr.0 h.0) (decimal_word e.port (omega (arith, h.1))))
 

@@ -1,5 +1,5 @@
 -- The names of the calls.
-use Rattle.std.specs.Prelude.{ℕ, List, codes}
+use Rattle.std.specs.Prelude.{ℕ, Bool, List, bytes_eq, codes}
 use Rattle.world_face.specs.Journal.{Call, CallNow, CallWait, CallLinkOpen, CallLinkRead, CallLinkWrite, CallConnect, CallConnected, CallListen, CallAccept, CallTcpRead, CallTcpWrite, CallTcpEnd, CallClose, CallUdpOpen, CallUdpSend, CallUdpRecv, CallFileLen, CallFileRead}
 use Rattle.replay.specs.declared.CallName.{CallName}
 use Rattle.replay.specs.declared.CallName.TheVariants.{Now, Wait, LinkOpen, LinkRead, LinkWrite, Connect, Connected, Listen, Accept, TcpRead, TcpWrite, TcpEnd, Close, UdpOpen, UdpSend, UdpRecv, FileLen, FileRead}
@@ -24,6 +24,10 @@ name_text UdpSend = codes "usend"
 name_text UdpRecv = codes "urecv"
 name_text FileLen = codes "flen"
 name_text FileRead = codes "fread"
+
+-- this text is the name
+abbrev pub is_named : List ℕ → CallName → Bool
+is_named text name = bytes_eq text (name_text name)
 
 abbrev pub name_of : Call → CallName
 name_of CallNow = Now

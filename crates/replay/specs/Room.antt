@@ -1,6 +1,7 @@
 -- What a starred line has room for.
 use Rattle.std.specs.Prelude.{◌≡◌, ℕ, ◌≤◌, true, List, [], ◌∷◌}
 use Rattle.std.specs.Vec.{vec_capacity}
+use Rattle.world_face.specs.Limits.{most_name, most_to_flow, most_to_link, most_to_udp, most_wants}
 use Rattle.replay.specs.declared.line.Line.{Line}
 use Rattle.replay.specs.declared.line.Line.TheVariants.{Wait, LinkOpen, LinkWrite, TcpWrite, UdpSend, FileLen, FileRead}
 use Rattle.replay.specs.declared.line.Stop.{Stop}
@@ -9,13 +10,13 @@ use Rattle.replay.specs.declared.row.Row.{Row}
 
 -- as many octets and wants as a call may bring
 abbrev pub HasRoom : Line → Type 0
-HasRoom (Wait wants timeout answer ready) = 5155 ≤ vec_capacity wants
-HasRoom (LinkOpen seat answer) = 1280 ≤ vec_capacity seat.path
-HasRoom (LinkWrite octets answer) = 1518 ≤ vec_capacity octets
-HasRoom (TcpWrite socket octets answer) = 16384 ≤ vec_capacity octets
-HasRoom (UdpSend socket to octets answer) = 65507 ≤ vec_capacity octets
-HasRoom (FileLen name answer) = 1280 ≤ vec_capacity name
-HasRoom (FileRead name place asked answer octets) = 1280 ≤ vec_capacity name
+HasRoom (Wait wants timeout answer ready) = most_wants ≤ vec_capacity wants
+HasRoom (LinkOpen seat answer) = most_name ≤ vec_capacity seat.path
+HasRoom (LinkWrite octets answer) = most_to_link ≤ vec_capacity octets
+HasRoom (TcpWrite socket octets answer) = most_to_flow ≤ vec_capacity octets
+HasRoom (UdpSend socket to octets answer) = most_to_udp ≤ vec_capacity octets
+HasRoom (FileLen name answer) = most_name ≤ vec_capacity name
+HasRoom (FileRead name place asked answer octets) = most_name ≤ vec_capacity name
 HasRoom _ = Unit {0}
 
 abbrev pub IsRoomy : Row → Type 0
@@ -27,17 +28,17 @@ AreRoomy (row ∷ rows) = IsRoomy row × AreRoomy rows
 
 -- the octets that a call of this kind brings at most
 abbrev pub most_octets : Stop → ℕ
-most_octets StopPath = 1280
-most_octets StopLinkWrite = 1518
-most_octets (StopTcpWrite socket) = 16384
-most_octets (StopUdpSend socket to) = 65507
-most_octets StopFileLen = 1280
-most_octets (StopFileRead place asked) = 1280
+most_octets StopPath = most_name
+most_octets StopLinkWrite = most_to_link
+most_octets (StopTcpWrite socket) = most_to_flow
+most_octets (StopUdpSend socket to) = most_to_udp
+most_octets StopFileLen = most_name
+most_octets (StopFileRead place asked) = most_name
 most_octets _ = 0
 
 -- a call of this kind may bring so many octets and wants
 abbrev pub MayBring : Stop → ℕ → ℕ → Type 0
-MayBring given octets wants = (octets ≤ most_octets given) × (wants ≤ 5155)
+MayBring given octets wants = (octets ≤ most_octets given) × (wants ≤ most_wants)
 
 -- what a call is on: the link or all that is waited for, a stream that opens, one that is there, datagrams, or a file
 pub data Kind : Type 0 where

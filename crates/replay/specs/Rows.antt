@@ -1,6 +1,7 @@
 -- The lines of a schedule, and their text.
 use Rattle.std.specs.Prelude.{◌≡◌, ◌≢◌, ℕ, ◌+◌, ◌<◌, Bool, true, if◌then◌else◌, List, [], ◌∷◌, ◌++◌, length, map, codes}
 use Rattle.world_face.specs.declared.Io.TheVariants.{Done}
+use Rattle.world_face.specs.Limits.{most_name, most_to_flow, most_to_link, most_to_udp}
 use Rattle.world_face.specs.Journal.{Entry, LinkWrite, TcpWrite, call_of}
 use Rattle.replay.specs.declared.CallName.{CallName}
 use Rattle.replay.specs.declared.CallName.TheVariants.{Now, Wait, LinkOpen, LinkWrite as NameLinkWrite, TcpWrite as NameTcpWrite, UdpSend, FileLen, FileRead}
@@ -70,12 +71,12 @@ pub record Fits (past : List Entry) (schedule : List ℕ) : Type 0 where
 -- the room that a star takes, in octets: as much as the arguments of such a call may need
 abbrev pub room_of : CallName → ℕ
 room_of Wait = 82480
-room_of LinkOpen = 1280
-room_of NameLinkWrite = 1518
-room_of NameTcpWrite = 16384
-room_of UdpSend = 65507
-room_of FileLen = 1280
-room_of FileRead = 1280
+room_of LinkOpen = most_name
+room_of NameLinkWrite = most_to_link
+room_of NameTcpWrite = most_to_flow
+room_of UdpSend = most_to_udp
+room_of FileLen = most_name
+room_of FileRead = most_name
 room_of _ = 0
 
 abbrev pub row_room : Row → ℕ

@@ -12,8 +12,8 @@ pub record Script : Type 0 where
   pub stop : Option Call
   pub faults : Counts
 
--- the first n entries, newest first, before these
-abbrev pub newest_onto : ℕ → List Entry → List Entry → List Entry
+-- the first n of these, newest first, before the older ones
+abbrev pub newest_onto : {X : Type 0} → ℕ → List X → List X → List X
 newest_onto zero lines older = older
 newest_onto (suc n) [] older = older
 newest_onto (suc n) (line ∷ lines) older = newest_onto n lines (line ∷ older)

@@ -1,26 +1,17 @@
--- Letters of hexadecimal digits, numbers as the standard library reads them, and the two halves of a line.
-use Rattle.std.specs.Prelude.{◌≡◌, ℕ, Bool, true, false, not, nat_lt, codes, if◌then◌else◌, ◌==◌, ◌||◌, ◌^◌, ◌<◌, List, ◌∷◌, ◌++◌, Option, decimal}
-use Rattle.std.specs.Option.{SomeIff}
-use Rattle.std.specs.Str.Parse.{IsNumeral, digits_value, without_leading_plus}
+-- Letters of hexadecimal digits, and the two halves of a line.
+use Rattle.std.specs.Prelude.{◌≡◌, ℕ, Bool, true, false, nat_lt, codes, if◌then◌else◌, ◌||◌, List, ◌∷◌, ◌++◌, decimal}
 use Rattle.world_face.specs.Journal.{Entry, Call, CallNow, CallWait, CallLinkOpen, CallLinkRead, CallLinkWrite, CallConnect, CallConnected, CallListen, CallAccept, CallTcpRead, CallTcpWrite, CallTcpEnd, CallClose, CallUdpOpen, CallUdpSend, CallUdpRecv, CallFileLen, CallFileRead, call_of}
 use Rattle.replay.specs.declared.CallName.{CallName}
 use Rattle.replay.specs.declared.CallName.TheVariants.{Now, Wait, LinkOpen, LinkRead, LinkWrite, Connect, Connected, Listen, Accept, TcpRead, TcpWrite, TcpEnd, Close, UdpOpen, UdpSend, UdpRecv, FileLen, FileRead}
 use Rattle.replay.specs.Names.{name_of}
 use Rattle.replay.specs.Range.{IsSayable}
 use Rattle.replay.specs.Rows.{Row, IsReadable, said_call, said_answer}
-use Rattle.replay.specs.Text.{hexadecimal, endpoint_text, timeout_text, wants_text, place_text, call_text, answer_text}
+use Rattle.address_text.specs.Texts.{endpoint_text, place_text}
+use Rattle.replay.specs.Text.{hexadecimal, timeout_text, wants_text, call_text, answer_text}
 
 -- no capital from A to F
 abbrev pub is_lower : ℕ → Bool
 is_lower c = nat_lt c 65 || nat_lt 70 c
-
--- any octet but this one
-abbrev pub is_other : ℕ → ℕ → Bool
-is_other octet c = not (c == octet)
-
--- decimal digits of a number of 64 bits, where a plus may stand first
-abbrev pub IsReadAs : List ℕ → Option ℕ → Type 0
-IsReadAs text read = SomeIff read (IsNumeral 10 (without_leading_plus text) × (digits_value 10 (without_leading_plus text) < 2 ^ 64)) (digits_value 10 (without_leading_plus text))
 
 -- the two sides of a line
 abbrev pub IsSpelt : List ℕ → List ℕ → Entry → Type 0

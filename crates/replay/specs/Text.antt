@@ -1,7 +1,7 @@
 -- The text of a record of calls: one line for each call, with its arguments and its answer.
-use Rattle.std.specs.Prelude.{ℕ, ◌/◌, ◌%◌, ◌^◌, List, [], ◌∷◌, ◌++◌, Bool, true, false, Option, Some, None, codes, decimal}
+use Rattle.std.specs.Prelude.{ℕ, List, [], ◌∷◌, ◌++◌, Bool, true, false, Option, Some, None, codes, decimal}
 use Rattle.hex.specs.Hex.{encode_lower}
-use Rattle.net_octets.specs.declared.Endpoint.{Endpoint}
+use Rattle.address_text.specs.Texts.{endpoint_text, place_text}
 use Rattle.poll_list.specs.declared.Who.{Who}
 use Rattle.poll_list.specs.declared.Who.TheVariants.{Link, Listener, Udp, Tcp}
 use Rattle.poll_list.specs.declared.Want.{Want}
@@ -21,18 +21,12 @@ use Rattle.world_face.specs.declared.FileSize.{FileSize}
 use Rattle.world_face.specs.declared.FileSize.TheVariants.{Length, Missing, Failed as SizeFailed}
 use Rattle.world_face.specs.declared.Waited.{Waited}
 use Rattle.world_face.specs.declared.Waited.TheVariants.{Ready, Stop, Failed as WaitFailed}
-use Rattle.world_face.specs.Journal.{Place, AtPath, AtEndpoint, Entry, Now, Wait, LinkOpen, LinkRead, LinkWrite, Connect, Connected, Listen, Accept, TcpRead, TcpWrite, TcpEnd, Close, UdpOpen, UdpSend, UdpRecv, FileLen, FileRead, Call, CallNow, CallWait, CallLinkOpen, CallLinkRead, CallLinkWrite, CallConnect, CallConnected, CallListen, CallAccept, CallTcpRead, CallTcpWrite, CallTcpEnd, CallClose, CallUdpOpen, CallUdpSend, CallUdpRecv, CallFileLen, CallFileRead, call_of}
+use Rattle.world_face.specs.Journal.{Entry, Now, Wait, LinkOpen, LinkRead, LinkWrite, Connect, Connected, Listen, Accept, TcpRead, TcpWrite, TcpEnd, Close, UdpOpen, UdpSend, UdpRecv, FileLen, FileRead, Call, CallNow, CallWait, CallLinkOpen, CallLinkRead, CallLinkWrite, CallConnect, CallConnected, CallListen, CallAccept, CallTcpRead, CallTcpWrite, CallTcpEnd, CallClose, CallUdpOpen, CallUdpSend, CallUdpRecv, CallFileLen, CallFileRead, call_of}
 
 -- octets: two digits for each, or a dash where there is none
 abbrev pub hexadecimal : List ℕ → List ℕ
 hexadecimal [] = codes "-"
 hexadecimal (x ∷ xs) = encode_lower (x ∷ xs)
-
--- four numbers and three dots; then a colon and the port
-unfoldable pub endpoint_text : Endpoint → List ℕ
-endpoint_text e =
-    decimal (e.addr.0 / 2 ^ 24) ++ codes "." ++ decimal (e.addr.0 / 2 ^ 16 % 2 ^ 8) ++ codes "." ++ decimal (e.addr.0 / 2 ^ 8 % 2 ^ 8) ++ codes "." ++ decimal (e.addr.0 % 2 ^ 8)
-    ++ codes ":" ++ decimal e.port
 
 -- the link, or the kind of a socket and its number
 abbrev pub who_text : Who → List ℕ
@@ -64,11 +58,6 @@ wants_text (want ∷ wants) = joined_text (want ∷ wants)
 abbrev pub timeout_text : Option ℕ → List ℕ
 timeout_text None = codes "-"
 timeout_text (Some timeout) = decimal timeout
-
--- the link's place as it is given on the command line
-abbrev pub place_text : Place → List ℕ
-place_text (AtPath path) = codes "unix:" ++ path
-place_text (AtEndpoint at) = codes "tcp:" ++ endpoint_text at
 
 -- a call: its name, and its arguments each after a space
 unfoldable pub call_text : Call → List ℕ

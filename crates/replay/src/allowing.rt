@@ -10,10 +10,7 @@ ghost use Rattle.replay.specs.Lines.{place_at};
 
 use crate::line::Seat;
 use crate::reported::Reported;
-use world_face::{Accepted, FileSize, Got, Io, LinkAt, Waited, Want, Who};
-
-// Items of what a wait answers as ready.
-const MOST_READY: usize = 5155;
+use world_face::{Accepted, FileSize, Got, Io, LinkAt, MOST_READY, Waited, Want, Who};
 
 pub fn may_read(asked: usize, answer: Io, len: usize) -> bool
     ensures { IsTrue result ↔ (MayRead asked answer × (len ≡ count_of answer)) }

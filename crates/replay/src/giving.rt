@@ -15,19 +15,7 @@ use crate::CallName;
 use crate::line::{Line, Seat, Stop, name_of};
 use crate::row::{Row, wrote};
 use std::alloc::AllocError;
-use world_face::Want;
-
-// Octets of a name of a file, or of the link's path.
-const MOST_NAME: usize = 1280;
-
-// Octets that a write to the link, to a connection, and a datagram offers.
-const MOST_TO_LINK: usize = 1518;
-
-const MOST_TO_FLOW: usize = 16384;
-
-const MOST_TO_UDP: usize = 65507;
-
-const MOST_WANTS: usize = 5155;
+use world_face::{MOST_NAME, MOST_TO_FLOW, MOST_TO_LINK, MOST_TO_UDP, MOST_WANTS, Want};
 
 pub fn keep(into: &mut Vec<u8>, from: &[u8])
     requires { length from.now ≤ vec_capacity into.old }
@@ -83,7 +71,7 @@ fn give(line: &mut Line, all: bool, given: Stop, octets: &[u8], wants: &[Want])
     }
 }
 
-// The same for the link's calls, and a wait.
+// Puts the arguments of a call of the link, or of a wait, in the place of the line's own.
 fn give_link(line: &mut Line, all: bool, given: Stop, octets: &[u8], wants: &[Want])
     requires name { name_of (call_of (entry_of line.old)) ≡ name_of (call_at given octets.now wants.now) }
     requires room { HasRoom line.old }
@@ -123,11 +111,12 @@ fn give_link(line: &mut Line, all: bool, given: Stop, octets: &[u8], wants: &[Wa
     }
 }
 
-// The same for calls that open a stream.
+// Puts the arguments of a call that opens a stream in the place of the line's own.
 fn give_opening(line: &mut Line, given: Stop)
     requires name { (octets : List ℕ) (wants : List AWant) → name_of (call_of (entry_of line.old)) ≡ name_of (call_at given octets wants) }
     requires room { HasRoom line.old }
-    ensures entry { kind_of given ≡ Opening → (all : Bool) (octets : List ℕ) (wants : List AWant) → entry_of line.new ≡ with_answer all (call_at given octets wants) (entry_of line.old) }
+    ensures entry { kind_of given ≡ Opening → (all : Bool) (octets : List ℕ) (wants : List AWant)
+        → entry_of line.new ≡ with_answer all (call_at given octets wants) (entry_of line.old) }
     ensures room { HasRoom line.new }
 {
     match given {
@@ -158,7 +147,7 @@ fn give_opening(line: &mut Line, given: Stop)
     }
 }
 
-// The same for calls on a stream.
+// Puts the arguments of a call on a stream in the place of the line's own.
 fn give_stream(line: &mut Line, all: bool, given: Stop, octets: &[u8])
     requires name { (wants : List AWant) → name_of (call_of (entry_of line.old)) ≡ name_of (call_at given octets.now wants) }
     requires room { HasRoom line.old }
@@ -194,12 +183,13 @@ fn give_stream(line: &mut Line, all: bool, given: Stop, octets: &[u8])
     }
 }
 
-// The same for a datagram's calls.
+// Puts the arguments of a datagram's call in the place of the line's own.
 fn give_datagram(line: &mut Line, given: Stop, octets: &[u8])
     requires name { (wants : List AWant) → name_of (call_of (entry_of line.old)) ≡ name_of (call_at given octets.now wants) }
     requires room { HasRoom line.old }
     requires few { length octets.now ≤ most_octets given }
-    ensures entry { kind_of given ≡ OfDatagram → (all : Bool) (wants : List AWant) → entry_of line.new ≡ with_answer all (call_at given octets.now wants) (entry_of line.old) }
+    ensures entry { kind_of given ≡ OfDatagram → (all : Bool) (wants : List AWant)
+        → entry_of line.new ≡ with_answer all (call_at given octets.now wants) (entry_of line.old) }
     ensures room { HasRoom line.new }
 {
     match given {
@@ -226,12 +216,13 @@ fn give_datagram(line: &mut Line, given: Stop, octets: &[u8])
     }
 }
 
-// The same for a file's calls.
+// Puts the arguments of a file's call in the place of the line's own.
 fn give_file(line: &mut Line, given: Stop, octets: &[u8])
     requires name { (wants : List AWant) → name_of (call_of (entry_of line.old)) ≡ name_of (call_at given octets.now wants) }
     requires room { HasRoom line.old }
     requires few { length octets.now ≤ most_octets given }
-    ensures entry { kind_of given ≡ OnFile → (all : Bool) (wants : List AWant) → entry_of line.new ≡ with_answer all (call_at given octets.now wants) (entry_of line.old) }
+    ensures entry { kind_of given ≡ OnFile → (all : Bool) (wants : List AWant)
+        → entry_of line.new ≡ with_answer all (call_at given octets.now wants) (entry_of line.old) }
     ensures room { HasRoom line.new }
 {
     match given {
@@ -274,10 +265,10 @@ fn room_of(name: CallName) -> u64
 {
     match name {
         CallName::Wait => 82480,
-        CallName::LinkOpen | CallName::FileLen | CallName::FileRead => 1280,
-        CallName::LinkWrite => 1518,
-        CallName::TcpWrite => 16384,
-        CallName::UdpSend => 65507,
+        CallName::LinkOpen | CallName::FileLen | CallName::FileRead => MOST_NAME as u64,
+        CallName::LinkWrite => MOST_TO_LINK as u64,
+        CallName::TcpWrite => MOST_TO_FLOW as u64,
+        CallName::UdpSend => MOST_TO_UDP as u64,
         _ => 0,
     }
 }

@@ -20,7 +20,7 @@ pub use view::LineView;
 pub use world::ScriptWorld;
 
 /// The names of the calls, as they stand in a line.
-#[derive(Clone, Copy, Debug, PartialEq, Eq)]
+#[derive(Clone, Copy, PartialEq, Eq)]
 pub enum CallName {
     Now,
     Wait,
@@ -71,7 +71,7 @@ impl CallName {
 }
 
 /// Why a text is no schedule.
-#[derive(Clone, Copy, Debug, PartialEq, Eq)]
+#[derive(Clone, Copy)]
 pub enum ScriptFault {
     /// The first line, counted from 1, that has no reading.
     Line(u64),
@@ -82,7 +82,7 @@ pub enum ScriptFault {
 }
 
 /// Where a run left its schedule.
-#[derive(Clone, Copy, Debug, PartialEq, Eq)]
+#[derive(Clone, Copy, PartialEq, Eq)]
 pub struct Divergence {
     /// The line, counted from 1, that stood next.
     pub line: u64,

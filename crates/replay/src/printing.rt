@@ -1,5 +1,5 @@
 // The text of lines, put piece by piece.
-#![tactic(auto, using(crate::proofs::Putting::puts_then, crate::proofs::Putting::puts_failed), unfolding(crate::specs::Text::call_text, crate::specs::Text::answer_text))]
+#![tactic(auto, using(world_face::proofs::Putting::puts_then, world_face::proofs::Putting::puts_failed), unfolding(crate::specs::Text::call_text, crate::specs::Text::answer_text))]
 
 ghost use Rattle.std.specs.Prelude.{◌≡◌, ◌++◌, ◌∷◌, [], ℕ, List, codes, decimal};
 ghost use Rattle.std.specs.Prelude.{◌+◌, ◌≤◌, ◌<◌, length, IfSome, IfNone};
@@ -11,7 +11,8 @@ ghost use Rattle.world_face.specs.Puts.{Puts};
 ghost use Rattle.world_face.specs.Journal.{call_of};
 ghost use Rattle.replay.specs.Lines.{entry_of, rows_of, place_of_two};
 ghost use Rattle.replay.specs.Views.{viewed};
-ghost use Rattle.replay.specs.Text.{hexadecimal, endpoint_text, who_text, direction_text, want_text, joined_text, wants_text, timeout_text, place_text, made_text, read_text, written_text, joined_answer, accepted_text, sent_text, got_text, size_text, ready_text, waited_text, call_text, answer_text, line_text};
+ghost use Rattle.address_text.specs.Texts.{endpoint_text, place_text};
+ghost use Rattle.replay.specs.Text.{hexadecimal, who_text, direction_text, want_text, joined_text, wants_text, timeout_text, made_text, read_text, written_text, joined_answer, accepted_text, sent_text, got_text, size_text, ready_text, waited_text, call_text, answer_text, line_text};
 
 use crate::row::Row;
 use crate::view::LineView;
@@ -109,7 +110,8 @@ fn put_answer<K: Sink>(line: &LineView<'_>, out: &mut K) -> Result<(), Failed>
 }
 
 fn put_wait<K: Sink>(wants: &[Want], timeout: Option<u64>, out: &mut K) -> Result<(), Failed>
-    ensures { Puts (K.holds out.old) (K.holds out.new) (K.faults out.old) (K.faults out.new) (codes "wait " ++ timeout_text timeout ++ codes " " ++ wants_text wants.now) result }
+    ensures { Puts (K.holds out.old) (K.holds out.new) (K.faults out.old) (K.faults out.new)
+        (codes "wait " ++ timeout_text timeout ++ codes " " ++ wants_text wants.now) result }
 {
     out.put(b"wait ")?;
     put_timeout(timeout, out)?;
@@ -127,7 +129,8 @@ fn put_timeout<K: Sink>(timeout: Option<u64>, out: &mut K) -> Result<(), Failed>
 }
 
 fn put_link_open<K: Sink>(path: &[u8], at: Option<Endpoint>, out: &mut K) -> Result<(), Failed>
-    ensures { Puts (K.holds out.old) (K.holds out.new) (K.faults out.old) (K.faults out.new) (codes "lopen " ++ hexadecimal (place_text (place_of_two at path.now))) result }
+    ensures { Puts (K.holds out.old) (K.holds out.new) (K.faults out.old) (K.faults out.new)
+        (codes "lopen " ++ hexadecimal (place_text (place_of_two at path.now))) result }
 {
     out.put(b"lopen ")?;
     match at {
@@ -159,7 +162,8 @@ fn put_with_octets<K: Sink>(name: &[u8], octets: &[u8], out: &mut K) -> Result<(
 }
 
 fn put_socket_at<K: Sink>(name: &[u8], socket: u64, at: Endpoint, out: &mut K) -> Result<(), Failed>
-    ensures { Puts (K.holds out.old) (K.holds out.new) (K.faults out.old) (K.faults out.new) (name.now ++ decimal socket ++ codes " " ++ endpoint_text at) result }
+    ensures { Puts (K.holds out.old) (K.holds out.new) (K.faults out.old) (K.faults out.new)
+        (name.now ++ decimal socket ++ codes " " ++ endpoint_text at) result }
 {
     put_numbered(name, socket, out)?;
     out.put(b" ")?;
@@ -175,7 +179,8 @@ fn put_two_numbers<K: Sink>(name: &[u8], one: u64, other: u64, out: &mut K) -> R
 }
 
 fn put_tcp_write<K: Sink>(socket: u64, octets: &[u8], out: &mut K) -> Result<(), Failed>
-    ensures { Puts (K.holds out.old) (K.holds out.new) (K.faults out.old) (K.faults out.new) (codes "twrite " ++ decimal socket ++ codes " " ++ hexadecimal octets.now) result }
+    ensures { Puts (K.holds out.old) (K.holds out.new) (K.faults out.old) (K.faults out.new)
+        (codes "twrite " ++ decimal socket ++ codes " " ++ hexadecimal octets.now) result }
 {
     put_numbered(b"twrite ", socket, out)?;
     out.put(b" ")?;
@@ -188,7 +193,8 @@ fn put_udp_send<K: Sink>(
     octets: &[u8],
     out: &mut K,
 ) -> Result<(), Failed>
-    ensures { Puts (K.holds out.old) (K.holds out.new) (K.faults out.old) (K.faults out.new) (codes "usend " ++ decimal socket ++ codes " " ++ endpoint_text to ++ codes " " ++ hexadecimal octets.now) result }
+    ensures { Puts (K.holds out.old) (K.holds out.new) (K.faults out.old) (K.faults out.new)
+        (codes "usend " ++ decimal socket ++ codes " " ++ endpoint_text to ++ codes " " ++ hexadecimal octets.now) result }
 {
     put_socket_at(b"usend ", socket, to, out)?;
     out.put(b" ")?;
@@ -196,7 +202,8 @@ fn put_udp_send<K: Sink>(
 }
 
 fn put_file_read<K: Sink>(name: &[u8], place: u64, asked: u64, out: &mut K) -> Result<(), Failed>
-    ensures { Puts (K.holds out.old) (K.holds out.new) (K.faults out.old) (K.faults out.new) (codes "fread " ++ hexadecimal name.now ++ codes " " ++ decimal place ++ codes " " ++ decimal asked) result }
+    ensures { Puts (K.holds out.old) (K.holds out.new) (K.faults out.old) (K.faults out.new)
+        (codes "fread " ++ hexadecimal name.now ++ codes " " ++ decimal place ++ codes " " ++ decimal asked) result }
 {
     put_with_octets(b"fread ", name, out)?;
     put_numbered(b" ", place, out)?;
@@ -302,7 +309,8 @@ fn put_got<K: Sink>(answer: Got, octets: &[u8], out: &mut K) -> Result<(), Faile
 }
 
 fn put_datagram<K: Sink>(peer: Endpoint, octets: &[u8], out: &mut K) -> Result<(), Failed>
-    ensures { Puts (K.holds out.old) (K.holds out.new) (K.faults out.old) (K.faults out.new) (codes "from " ++ endpoint_text peer ++ codes " " ++ hexadecimal octets.now) result }
+    ensures { Puts (K.holds out.old) (K.holds out.new) (K.faults out.old) (K.faults out.new)
+        (codes "from " ++ endpoint_text peer ++ codes " " ++ hexadecimal octets.now) result }
 {
     put_peer(peer, out)?;
     out.put(b" ")?;
@@ -409,7 +417,7 @@ fn put_endpoint<K: Sink>(at: Endpoint, out: &mut K) -> Result<(), Failed>
     out.put(text.as_str().as_bytes())
 }
 
-#[tactic(auto, unfolding(crate::specs::Text::endpoint_text))]
+#[tactic(auto, unfolding(address_text::specs::Texts::endpoint_text, address_text::specs::Texts::address_text))]
 fn endpoint_string(at: Endpoint) -> ArrayString<21>
     ensures { result.bytes ≡ endpoint_text at }
 {

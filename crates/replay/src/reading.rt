@@ -6,7 +6,8 @@ ghost use Rattle.replay.specs.Names.{name_of, name_text};
 ghost use Rattle.replay.specs.Fitting.{with_answer};
 ghost use Rattle.replay.specs.Lines.{entry_of, place_at, row_of};
 ghost use Rattle.replay.specs.Rows.{Row as ARow, IsReadable, row_text};
-ghost use Rattle.replay.specs.Text.{hexadecimal, endpoint_text, place_text, made_text, read_text, written_text, joined_answer, accepted_text, sent_text, got_text, size_text, waited_text, joined_text};
+ghost use Rattle.address_text.specs.Texts.{endpoint_text, place_text};
+ghost use Rattle.replay.specs.Text.{hexadecimal, made_text, read_text, written_text, joined_answer, accepted_text, sent_text, got_text, size_text, waited_text, joined_text};
 ghost use Rattle.net_octets.specs.declared.Endpoint.{Endpoint as AnEndpoint};
 ghost use Rattle.poll_list.specs.Listing.{are_wants};
 ghost use Rattle.poll_list.specs.declared.Want.{Want as AWant};
@@ -25,6 +26,7 @@ ghost use Rattle.replay.specs.Range.{AnswersInRange, LeavesReady, Counts, IsAtOn
 ghost use Rattle.replay.specs.Spelling.{IsSpelt, IsWritten, Says, SaysRow, blank_args, counted_answer, given_args, is_write};
 
 use crate::CallName;
+use crate::allowing::same;
 use crate::line::{Line, Seat};
 use crate::reported::Reported;
 use crate::row::Row;
@@ -467,28 +469,16 @@ fn read_seat(alloc: Global, text: &[u8]) -> Result<Seat, Unread>
     ensures refused { result ≡ Err NoReading → (place : Place) → IsPlace place → text.now ≢ place_text place }
 {
     let (kind, place) = split_at(text, b':')?;
-    if is_unix(kind) {
+    if same(kind, b"unix") {
         return copy_path(alloc, place);
     }
-    if is_tcp(kind) {
+    if same(kind, b"tcp") {
         return Ok(Seat {
             path: Vec::new(alloc),
             at: Some(read_endpoint(place)?),
         });
     }
     Err(Unread::NoReading)
-}
-
-fn is_unix(kind: &[u8]) -> bool
-    ensures { IsTrue result ↔ (kind.now ≡ codes "unix") }
-{
-    matches!(kind, b"unix")
-}
-
-fn is_tcp(kind: &[u8]) -> bool
-    ensures { IsTrue result ↔ (kind.now ≡ codes "tcp") }
-{
-    matches!(kind, b"tcp")
 }
 
 fn copy_path(alloc: Global, path: &[u8]) -> Result<Seat, Unread>
@@ -639,7 +629,8 @@ fn read_sent(text: &[u8]) -> Result<Sent, Unread>
 fn read_got(alloc: Global, text: &[u8]) -> Result<(Got, Vec<u8>), Unread>
     ensures answer { IfOk result (λ pair. text.now ≡ got_text pair.0 pair.1.items) }
     ensures range { IfOk result (λ pair. ComesFrom pair.0 × LeavesGot pair.0 pair.1.items) }
-    ensures refused { result ≡ Err NoReading → (answer : AGot) (octets : List ℕ) → ComesFrom answer → LeavesGot answer octets → text.now ≢ got_text answer octets }
+    ensures refused { result ≡ Err NoReading → (answer : AGot) (octets : List ℕ) → ComesFrom answer → LeavesGot answer octets
+        → text.now ≢ got_text answer octets }
 {
     match text {
         b"notyet" => Ok((Got::NotYet, Vec::new(alloc))),
@@ -652,7 +643,8 @@ fn read_got(alloc: Global, text: &[u8]) -> Result<(Got, Vec<u8>), Unread>
 fn read_datagram(alloc: Global, text: &[u8]) -> Result<(Got, Vec<u8>), Unread>
     ensures answer { IfOk result (λ pair. codes "from " ++ text.now ≡ got_text pair.0 pair.1.items) }
     ensures range { IfOk result (λ pair. ComesFrom pair.0 × LeavesGot pair.0 pair.1.items) }
-    ensures refused { result ≡ Err NoReading → (peer : AnEndpoint) (octets : List ℕ) → IsEndpoint peer → AreOctets octets → text.now ≢ endpoint_text peer ++ 32 ∷ hexadecimal octets }
+    ensures refused { result ≡ Err NoReading → (peer : AnEndpoint) (octets : List ℕ) → IsEndpoint peer → AreOctets octets
+        → text.now ≢ endpoint_text peer ++ 32 ∷ hexadecimal octets }
 {
     let (first, second) = split_at(text, b' ')?;
     let peer = read_endpoint(first)?;

@@ -64,7 +64,7 @@ impl Reported {
     }
 }
 
-// The same of items that are read, by their numbers in rising order.
+// Whether no two of the items that were read are of one socket, by their numbers in rising order.
 fn are_apart(alloc: Global, items: &[Want]) -> Result<bool, AllocError>
     ensures { IfOk result (λ apart. apart ≡ differ items.now) }
 {

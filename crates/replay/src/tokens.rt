@@ -1,25 +1,47 @@
 // The parts of a line, as octets.
-ghost use Rattle.std.specs.Prelude.{◌≡◌, ◌≢◌, ◌==◌, ◌++◌, ◌∷◌, [], ℕ, List, Bool, true, Option, IfSome, IfNone, IfOk, OnOk, OnErr, Err, IsTrue, ◌↔◌, codes, decimal, position, length, ◌<◌, ◌^◌};
-ghost use Rattle.std.specs.Str.{IsUtf8};
-ghost use Rattle.std.specs.Prelude.{slice_index, nat_lt, ◌&&◌, ◌||◌};
+ghost use Rattle.std.specs.Prelude.{◌≡◌, ◌≢◌, ◌++◌, ◌∷◌, [], ℕ, List, Bool, true, Option, IfOk, OnOk, OnErr, Err, IsTrue, ◌↔◌, codes, decimal, find, length, option_copied, ◌<◌};
+ghost use Rattle.std.specs.Prelude.{◌||◌};
 ghost use Rattle.std.specs.List.{list_all};
 ghost use Rattle.replay.specs.declared.tokens.Unread.TheVariants.{NoReading, NoMemory};
 ghost use Rattle.replay.specs.declared.CallName.{CallName as AName};
 ghost use Rattle.hex.specs.Hex.{decode_of};
-ghost use Rattle.replay.specs.Names.{name_text};
+ghost use Rattle.replay.specs.Names.{is_named, name_text};
 ghost use Rattle.hex.specs.declared.error.FromHexError.TheVariants.{OutOfMemory};
 ghost use Rattle.net_octets.specs.declared.Endpoint.{Endpoint as AnEndpoint};
 ghost use Rattle.poll_list.specs.declared.Who.{Who as AWho};
 ghost use Rattle.poll_list.specs.declared.Want.{Want as AWant};
 ghost use Rattle.poll_list.specs.Listing.{is_who, are_wants};
 ghost use Rattle.world_face.specs.Journal.{AreOctets, IsEndpoint, IsNumber, IsTimeout};
-ghost use Rattle.replay.specs.Spelling.{is_lower, is_other, IsReadAs};
-ghost use Rattle.replay.specs.Text.{hexadecimal, endpoint_text, who_text, want_text, joined_text, wants_text, timeout_text, direction_text};
+ghost use Rattle.address_text.specs.Texts.{is_other, endpoint_text};
+ghost use Rattle.replay.specs.Spelling.{is_lower};
+ghost use Rattle.replay.specs.Text.{hexadecimal, who_text, want_text, joined_text, wants_text, timeout_text, direction_text};
 
 use crate::CallName;
 use hex::FromHexError;
 use std::alloc::Global;
-use world_face::{Endpoint, Ip4, Want, Who};
+use world_face::{Endpoint, Want, Who};
+
+// The names of all calls.
+const NAMES: [CallName; 18] = [
+    CallName::Now,
+    CallName::Wait,
+    CallName::LinkOpen,
+    CallName::LinkRead,
+    CallName::LinkWrite,
+    CallName::Connect,
+    CallName::Connected,
+    CallName::Listen,
+    CallName::Accept,
+    CallName::TcpRead,
+    CallName::TcpWrite,
+    CallName::TcpEnd,
+    CallName::Close,
+    CallName::UdpOpen,
+    CallName::UdpSend,
+    CallName::UdpRecv,
+    CallName::FileLen,
+    CallName::FileRead,
+];
 
 /// Why a line wasn't read.
 #[derive(Clone, Copy)]
@@ -28,22 +50,16 @@ pub enum Unread {
     NoMemory,
 }
 
-fn place_of(text: &[u8], octet: u8) -> Option<usize>
-    ensures { result ≡ position (λ x. x == octet) text.now }
-{
-    text.iter().position(|x| *x == octet)
-}
-
 // What stands before the first such octet, and what after it.
 pub fn split_at(text: &[u8], octet: u8) -> Result<(&[u8], &[u8]), Unread>
     ensures parts { IfOk result (λ parts. text.now ≡ parts.0.now ++ octet ∷ parts.1.now) }
     ensures first { IfOk result (λ parts. list_all (is_other octet) parts.0.now ≡ true) }
     ensures refused { OnErr result (list_all (is_other octet) text.now ≡ true) }
 {
-    let Some(at) = place_of(text, octet) else {
-        return Err(Unread::NoReading);
-    };
-    Ok((&text[..at], &text[at + 1..]))
+    match address_text::split_at(text, octet) {
+        Ok(parts) => Ok(parts),
+        Err(_) => Err(Unread::NoReading),
+    }
 }
 
 // A dash, which stands for nothing.
@@ -59,65 +75,10 @@ pub fn read_number(text: &[u8]) -> Result<u64, Unread>
     ensures range { IfOk result (λ n. IsNumber n) }
     ensures refused { OnErr result ((n : ℕ) → IsNumber n → text.now ≢ decimal n) }
 {
-    if text.is_empty() {
-        return Err(Unread::NoReading);
+    match address_text::read_number(text) {
+        Ok(n) => Ok(n),
+        Err(_) => Err(Unread::NoReading),
     }
-    if text[0] == b'+' {
-        return Err(Unread::NoReading);
-    }
-    if has_needless_zero(text) {
-        return Err(Unread::NoReading);
-    }
-    let Some(digits) = as_text(text) else {
-        return Err(Unread::NoReading);
-    };
-    let Some(n) = parse(digits) else {
-        return Err(Unread::NoReading);
-    };
-    Ok(n)
-}
-
-fn has_needless_zero(text: &[u8]) -> bool
-    requires { 0 < length text.now }
-    ensures { result ≡ (slice_index text.now 0 == 48 && nat_lt 1 (length text.now)) }
-{
-    text[0] == b'0' && text.len() > 1
-}
-
-fn as_text(text: &[u8]) -> Option<&str>
-    ensures text { IfSome result (λ s. s.now ≡ text.now) }
-    ensures none { IfNone result (¬ IsUtf8 text.now) }
-{
-    std::str::from_utf8(text).ok()
-}
-
-fn parse(text: &str) -> Option<u64>
-    ensures { IsReadAs text.now result }
-{
-    text.parse::<u64>().ok()
-}
-
-fn read_part(text: &[u8]) -> Result<u32, Unread>
-    ensures number { IfOk result (λ n. text.now ≡ decimal n) }
-    ensures small { IfOk result (λ n. n < 256) }
-    ensures refused { OnErr result ((n : ℕ) → n < 256 → text.now ≢ decimal n) }
-{
-    let n = read_number(text)?;
-    if n > 255 {
-        return Err(Unread::NoReading);
-    }
-    Ok(n as u32)
-}
-
-fn read_port(text: &[u8]) -> Result<u16, Unread>
-    ensures number { IfOk result (λ n. text.now ≡ decimal n) }
-    ensures refused { OnErr result ((n : ℕ) → n < 2 ^ 16 → text.now ≢ decimal n) }
-{
-    let n = read_number(text)?;
-    if n > 65535 {
-        return Err(Unread::NoReading);
-    }
-    Ok(n as u16)
 }
 
 // Four parts and a port.
@@ -126,19 +87,10 @@ pub fn read_endpoint(text: &[u8]) -> Result<Endpoint, Unread>
     ensures range { IfOk result (λ at. IsEndpoint at) }
     ensures refused { OnErr result ((at : AnEndpoint) → IsEndpoint at → text.now ≢ endpoint_text at) }
 {
-    let (address, last) = split_at(text, b':')?;
-    let (one, after_one) = split_at(address, b'.')?;
-    let (two, after_two) = split_at(after_one, b'.')?;
-    let (three, four) = split_at(after_two, b'.')?;
-    let first = read_part(one)?;
-    let second = read_part(two)?;
-    let third = read_part(three)?;
-    let fourth = read_part(four)?;
-    let port = read_port(last)?;
-    Ok(Endpoint {
-        addr: Ip4(first * 0x100_0000 + second * 0x1_0000 + (third * 0x100 + fourth)),
-        port,
-    })
+    match address_text::read_endpoint(text) {
+        Ok(at) => Ok(at),
+        Err(_) => Err(Unread::NoReading),
+    }
 }
 
 // Octets in lower case hexadecimal, or a dash for none.
@@ -251,7 +203,7 @@ fn push(items: &mut Vec<Want>, want: Want) -> Result<(), Unread>
     }
 }
 
-// The same, or a dash for none.
+// Items joined by commas, or a dash for none.
 pub fn read_wants(alloc: Global, text: &[u8]) -> Result<Vec<Want>, Unread>
     ensures wants { IfOk result (λ wants. text.now ≡ wants_text wants.items) }
     ensures range { IfOk result (λ wants. are_wants wants.items ≡ true) }
@@ -279,25 +231,21 @@ pub fn read_name(text: &[u8]) -> Result<CallName, Unread>
     ensures name { IfOk result (λ name. text.now ≡ name_text name) }
     ensures refused { OnErr result ((name : AName) → text.now ≢ name_text name) }
 {
-    match text {
-        b"now" => Ok(CallName::Now),
-        b"wait" => Ok(CallName::Wait),
-        b"lopen" => Ok(CallName::LinkOpen),
-        b"lread" => Ok(CallName::LinkRead),
-        b"lwrite" => Ok(CallName::LinkWrite),
-        b"connect" => Ok(CallName::Connect),
-        b"connected" => Ok(CallName::Connected),
-        b"listen" => Ok(CallName::Listen),
-        b"accept" => Ok(CallName::Accept),
-        b"tread" => Ok(CallName::TcpRead),
-        b"twrite" => Ok(CallName::TcpWrite),
-        b"tend" => Ok(CallName::TcpEnd),
-        b"close" => Ok(CallName::Close),
-        b"uopen" => Ok(CallName::UdpOpen),
-        b"usend" => Ok(CallName::UdpSend),
-        b"urecv" => Ok(CallName::UdpRecv),
-        b"flen" => Ok(CallName::FileLen),
-        b"fread" => Ok(CallName::FileRead),
-        _ => Err(Unread::NoReading),
+    match find_name(&NAMES, text) {
+        Some(name) => Ok(*name),
+        None => Err(Unread::NoReading),
     }
+}
+
+// The first of some names that this text is.
+fn find_name<'a>(names: &'a [CallName], text: &[u8]) -> Option<&'a CallName>
+    ensures { option_copied result ≡ find (is_named text.now) names.now }
+{
+    names.iter().find(|name| is_named(text, name))
+}
+
+fn is_named(text: &[u8], name: &CallName) -> bool
+    ensures { result ≡ is_named text.now name.now }
+{
+    text == name.name().as_bytes()
 }

@@ -3,10 +3,13 @@ use Rattle.std.proofs.Common.{◌≡◌, ℕ, true, List, [], ◌∷◌, ◌++�
 use Rattle.std.specs.List.{list_all}
 use Rattle.world_face.specs.Journal.{Call, CallNow, CallWait, CallLinkOpen, CallLinkRead, CallLinkWrite, CallConnect, CallConnected, CallListen, CallAccept, CallTcpRead, CallTcpWrite, CallTcpEnd, CallClose, CallUdpOpen, CallUdpSend, CallUdpRecv, CallFileLen, CallFileRead}
 use Rattle.replay.specs.Names.{name_text, name_of}
-use Rattle.replay.specs.Text.{hexadecimal, endpoint_text, wants_text, timeout_text, place_text, call_text}
-use Rattle.replay.proofs.Parting.{is_word, parts_once, decimal_word, hexadecimal_word}
+use Rattle.address_text.specs.Texts.{endpoint_text, place_text}
+use Rattle.address_text.proofs.Parting.{parts_once}
+use Rattle.replay.specs.Text.{hexadecimal, wants_text, timeout_text, call_text}
+use Rattle.replay.proofs.Parting.{is_word, decimal_word, hexadecimal_word}
 use Rattle.replay.proofs.Words.{same_octets, endpoint_word, wants_word, timeout_word, place_octets}
-use Rattle.replay_laws.proofs.Tokens.{same_endpoint, same_wants, same_timeout, same_place}
+use Rattle.address_text.proofs.Addresses.{same_endpoint}
+use Rattle.replay_laws.proofs.Tokens.{same_wants, same_timeout, same_place}
 use Rattle.std.proofs.lemmas.Fmt.{decimal_injective}
 use Rattle.replay.specs.Range.{InRange}
 use Rattle.replay.proofs.Calls.{args_text, named, name_word, same_name}

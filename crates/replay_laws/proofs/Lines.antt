@@ -24,10 +24,13 @@ use Rattle.world_face.specs.declared.Waited.TheVariants.{Ready, Stop, Failed as 
 use Rattle.world_face.specs.Journal.{MayAccept, MayMeasure, Leaves, LeavesGot, AreAllowed, Entry, call_of, Now, Wait, LinkOpen, LinkRead, LinkWrite, Connect, Connected, Listen, Accept, TcpRead, TcpWrite, TcpEnd, Close, UdpOpen, UdpSend, UdpRecv, FileLen, FileRead}
 use Rattle.replay.specs.Pieces.{lines_text}
 use Rattle.replay.specs.Rows.{Row, AreReadable, schedule_text}
-use Rattle.replay.specs.Text.{hexadecimal, endpoint_text, joined_text, made_text, ready_text, waited_text, read_text, written_text, joined_answer, accepted_text, sent_text, got_text, size_text, call_text, answer_text, line_text, text}
-use Rattle.replay.proofs.Parting.{is_word, is_plain, is_line, parts_once}
+use Rattle.address_text.specs.Texts.{endpoint_text}
+use Rattle.address_text.proofs.Parting.{parts_once}
+use Rattle.replay.specs.Text.{hexadecimal, joined_text, made_text, ready_text, waited_text, read_text, written_text, joined_answer, accepted_text, sent_text, got_text, size_text, call_text, answer_text, line_text, text}
+use Rattle.replay.proofs.Parting.{is_word, is_plain, is_line}
 use Rattle.replay.proofs.Words.{same_octets, endpoint_word}
-use Rattle.replay_laws.proofs.Tokens.{same_endpoint, same_joined}
+use Rattle.address_text.proofs.Addresses.{same_endpoint}
+use Rattle.replay_laws.proofs.Tokens.{same_joined}
 use Rattle.replay.proofs.Calls.{call_plain}
 use Rattle.replay_laws.proofs.Calls.{same_call}
 use Rattle.replay.specs.Range.{IsSayable, AreSayable, LeavesReady, Counts, ComesFrom}

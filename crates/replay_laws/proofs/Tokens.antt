@@ -1,43 +1,19 @@
 -- The parts of a line, each of which has one text.
-use Rattle.std.proofs.Common.{◌≡◌, ℕ, ◌/◌, ◌%◌, ◌^◌, ◌<◌, Bool, true, false, List, [], ◌∷◌, ◌++◌, length, decimal, Option, Some, None, codes, refl, sym, ◌∙◌, ap, subst, arith, length-append}
+use Rattle.std.proofs.Common.{◌≡◌, ℕ, Bool, true, false, List, [], ◌∷◌, ◌++◌, length, decimal, Option, Some, None, codes, refl, sym, ◌∙◌, ap, subst, arith, length-append}
 use Rattle.std.specs.List.{list_all}
 use Rattle.std.proofs.lemmas.Fmt.{decimal_injective}
-use Rattle.net_octets.specs.declared.Endpoint.{Endpoint}
 use Rattle.poll_list.specs.declared.Who.{Who}
 use Rattle.poll_list.specs.declared.Who.TheVariants.{Link, Listener, Udp, Tcp}
 use Rattle.poll_list.specs.declared.Want.{Want}
 use Rattle.poll_list.specs.Listing.{are_wants, is_who}
-use Rattle.world_face.specs.Journal.{IsEndpoint, IsPlace, IsTimeout, Place, AtPath, AtEndpoint}
-use Rattle.replay.specs.Text.{endpoint_text, who_text, direction_text, want_text, joined_text, wants_text, timeout_text, place_text}
+use Rattle.world_face.specs.Journal.{IsPlace, IsTimeout, Place, AtPath, AtEndpoint}
+use Rattle.address_text.specs.Texts.{endpoint_text, place_text, is_other}
+use Rattle.address_text.proofs.Addresses.{same_endpoint}
+use Rattle.address_text.proofs.Parting.{is_digit, parts_once, decimal_digits, digit_is_no_colon}
+use Rattle.replay.specs.Text.{who_text, direction_text, want_text, joined_text, wants_text, timeout_text}
 use Rattle.replay.proofs.Joining.{each_text}
-use Rattle.replay.proofs.Parting.{is_digit, fit_weaker, parts_once, first, mark, decimal_some, decimal_digits, digit_is_no_dot, digit_is_no_colon, digit_is_no_comma}
-use Rattle.replay.proofs.Words.{address, endpoint_form, address_fits, who_range, who_fits, want_form, want_fits, head_of, joined_each, no_dash, digit_first}
-use Rattle.replay.specs.Spelling.{is_other}
-
-rebuilt : (n m : ℕ) → n / 2 ^ 24 ≡ m / 2 ^ 24 → n / 2 ^ 16 % 2 ^ 8 ≡ m / 2 ^ 16 % 2 ^ 8 → n / 2 ^ 8 % 2 ^ 8 ≡ m / 2 ^ 8 % 2 ^ 8 → n % 2 ^ 8 ≡ m % 2 ^ 8 → n ≡ m
-rebuilt n m ea eb ec ed = omega arith
-
-same_address : (n m : ℕ) → n < 2 ^ 32 → m < 2 ^ 32 → address n ≡ address m → n ≡ m
-same_address n m hn hm is =
-    let no_dot = λ (k : ℕ) (h : k < 2 ^ 64). fit_weaker is_digit (is_other 46) digit_is_no_dot (decimal k) (decimal_digits k h) in
-    let a = parts_once 46 (is_other 46) refl (decimal (n / 2 ^ 24)) (decimal (m / 2 ^ 24)) _ _ (no_dot (n / 2 ^ 24) (omega arith)) (no_dot (m / 2 ^ 24) (omega arith)) is in
-    let b = parts_once 46 (is_other 46) refl (decimal (n / 2 ^ 16 % 2 ^ 8)) (decimal (m / 2 ^ 16 % 2 ^ 8)) _ _ (no_dot (n / 2 ^ 16 % 2 ^ 8) (omega arith)) (no_dot (m / 2 ^ 16 % 2 ^ 8) (omega arith)) a.1 in
-    let c = parts_once 46 (is_other 46) refl (decimal (n / 2 ^ 8 % 2 ^ 8)) (decimal (m / 2 ^ 8 % 2 ^ 8)) _ _ (no_dot (n / 2 ^ 8 % 2 ^ 8) (omega arith)) (no_dot (m / 2 ^ 8 % 2 ^ 8) (omega arith)) b.1 in
-    let ea : n / 2 ^ 24 ≡ m / 2 ^ 24 = decimal_injective (n / 2 ^ 24) (m / 2 ^ 24) (omega arith) (omega arith) a.0 in
-    let eb : n / 2 ^ 16 % 2 ^ 8 ≡ m / 2 ^ 16 % 2 ^ 8 = decimal_injective (n / 2 ^ 16 % 2 ^ 8) (m / 2 ^ 16 % 2 ^ 8) (omega arith) (omega arith) b.0 in
-    let ec : n / 2 ^ 8 % 2 ^ 8 ≡ m / 2 ^ 8 % 2 ^ 8 = decimal_injective (n / 2 ^ 8 % 2 ^ 8) (m / 2 ^ 8 % 2 ^ 8) (omega arith) (omega arith) c.0 in
-    let ed : n % 2 ^ 8 ≡ m % 2 ^ 8 = decimal_injective (n % 2 ^ 8) (m % 2 ^ 8) (omega arith) (omega arith) c.1 in
-    rebuilt n m ea eb ec ed
-
-abbrev made_of : ℕ → ℕ → Endpoint
-made_of n port = record { addr = record { 0 = n }; port = port }
-
-pub same_endpoint : (e f : Endpoint) → IsEndpoint e → IsEndpoint f → endpoint_text e ≡ endpoint_text f → e ≡ f
-same_endpoint e f he hf is =
-    let parted = parts_once 58 (is_other 58) refl (address e.addr.0) (address f.addr.0) (decimal e.port) (decimal f.port) (address_fits (is_other 58) digit_is_no_colon refl e.addr.0 he.0) (address_fits (is_other 58) digit_is_no_colon refl f.addr.0 hf.0) (sym (endpoint_form e) ∙ is ∙ endpoint_form f) in
-    let address_is = same_address e.addr.0 f.addr.0 he.0 hf.0 parted.0 in
-    let port_is = decimal_injective e.port f.port (omega (arith, he.1)) (omega (arith, hf.1)) parted.1 in
-    ap (λ n. made_of n e.port) address_is ∙ ap (λ p. made_of f.addr.0 p) port_is
+use Rattle.replay.proofs.Parting.{first, mark, decimal_some, digit_is_no_comma}
+use Rattle.replay.proofs.Words.{who_range, who_fits, want_form, want_fits, head_of, joined_each, no_dash, digit_first}
 
 ink : (s : ℕ) → is_who (Listener s) ≡ true → codes "ink" ≡ decimal s → ⊥
 ink s h is = cc (subst (λ (t : List ℕ). list_all is_digit t ≡ true) (sym is) (decimal_digits s (who_range s h)))

@@ -1,4 +1,3 @@
-mod Lists
 mod Rowing
 pub mod Steady
 mod Waiting

@@ -1,17 +1,14 @@
 -- The row of timers: their order, and what a step makes of it.
-use Rattle.std.proofs.Common.{◌≡◌, ◌≢◌, ℕ, ◌+◌, ◌<◌, ◌≤◌, List, [], ◌∷◌, length, get_or, Option, Some, None, inl, inr, zero, suc, refl, sym, ap, ◌∙◌, subst, arith, replicate, true, false, eqb, length-set}
-use Rattle.std.specs.Prelude.{slice_get, slice_set, map, IfSome, IfNone}
-use Rattle.std.specs.List.{insert, remove, list_any}
+use Rattle.std.proofs.Common.{◌≡◌, ◌≢◌, ℕ, ◌+◌, ◌<◌, ◌≤◌, List, [], ◌∷◌, length, get_or, Option, Some, None, inl, inr, zero, suc, refl, sym, ap, ◌∙◌, subst, arith, replicate, length-set}
+use Rattle.std.specs.Prelude.{slice_get, slice_set, IfSome, IfNone}
+use Rattle.std.specs.List.{insert, remove}
 use Rattle.std.proofs.lemmas.Bool.{cases_eq, cases_lt}
-use Rattle.std.proofs.lemmas.Bool.Decides.{eqb_tells, Decides-eqb}
-use Rattle.std.proofs.lemmas.List.{length-map}
-use Rattle.std.proofs.lemmas.Map.Made.{IsDistinct-from_AllPairs}
-use Rattle.std.proofs.lemmas.Map.Steps.{length-le_from_distinct_below}
 use Rattle.std.proofs.lemmas.Option.{same_Some, slice_get_within, slice_get-get_or}
+use Rattle.row_lists.proofs.Counts.{fewer_than}
+use Rattle.row_lists.proofs.Places.{set_from, set_to, set_at, set_same, removed_from, removed_to, inserted_from, inserted_at, inserted_to}
 use Rattle.retransmit.specs.declared.SlotTimer.{SlotTimer}
 use Rattle.retransmit.specs.Moments.{IsEarliest, NoneRuns, RunsUntil}
 use Rattle.retransmit.specs.Rows.{AreTimers, BelongsAt, IsBefore, IsRow, Rise, timer_of}
-use Rattle.retransmit.proofs.Lists.{set_from, set_to, set_at, set_same, removed_from, removed_to, inserted_from, inserted_at, inserted_to}
 
 pub before_more : (a b c : SlotTimer) → IsBefore a b → IsBefore b c → IsBefore a c
 before_more a b c (inl p) (inl q) = inl (omega (arith, p, q))
@@ -149,45 +146,15 @@ timers_inserted moments row new place k at fits belongs is are =
     })
 
 -- there is room for one more timer
-map_at : (row : List SlotTimer) (i x : ℕ) → slice_get (map (λ (t : SlotTimer). t.slot) row) i ≡ Some x → (t : SlotTimer) × ((slice_get row i ≡ Some t) × (t.slot ≡ x))
-map_at [] i x h = cc
-map_at (t ∷ row) zero x h = (t, (refl, same_Some t.slot x h))
-map_at (t ∷ row) (suc i) x h = map_at row i x h
-
-any_at : (q : ℕ) (xs : List ℕ) → list_any (eqb q) xs ≡ true → (i : ℕ) × (slice_get xs i ≡ Some q)
-any_at q [] h = cc
-any_at q (x ∷ xs) h = elim (eqb_tells q x) [ inl p ↦ (0, ap Some (sym p.1)) | inr p ↦ let r = any_at q xs (rest q x xs p.0 h) in (suc r.0, r.1) ]
-  where
-    rest : (q x : ℕ) (xs : List ℕ) → eqb q x ≡ false → list_any (eqb q) (x ∷ xs) ≡ true → list_any (eqb q) xs ≡ true
-    rest q x xs other h = rw other at h
-
 pub timers_below : (moments : List (Option ℕ)) (row : List SlotTimer) (k : ℕ) → k < length moments → AreTimers (slice_set moments k None) row → length row < length moments
 timers_below moments row k fits are =
-    let slots_of = map (λ (t : SlotTimer). t.slot) row in
-    let all = k ∷ slots_of in
     let size = length-set moments k None in
     let apart = apart_from moments row k fits are in
     let within : (i : ℕ) (t : SlotTimer) → slice_get row i ≡ Some t → t.slot < length moments =
     λ i t h. let w = slice_get_within (slice_set moments k None) t.slot (Some t.at) (are.runs i t h) in omega (arith, w, size) in
     let other : (i j : ℕ) (a b : SlotTimer) → i < j → slice_get row i ≡ Some a → slice_get row j ≡ Some b → a.slot ≢ b.slot =
     λ i j a b less h g same. let e = timer_once row i j a b are.rise h g (same_timer a b same (one_moment (slice_set moments k None) b.slot a.at b.at (subst (λ n. RunsUntil (slice_set moments k None) n a.at) same (are.runs i a h)) (are.runs j b g))) in omega (arith, less, e) in
-    let differ = all_differ row k apart other in
-    let few = length-le_from_distinct_below all (length moments) (IsDistinct-from_AllPairs Decides-eqb all (λ i j d less inside e. differ i j less (get_or all i d) (slice_get-get_or all i d (omega (arith, less, inside))) (slice_get-get_or all j d inside ∙ ap Some (sym e))))
-    (λ q h. let w = any_at q all h in all_within (length moments) row k fits within w.0 q w.1) in
-    let same = length-map row (λ (t : SlotTimer). t.slot) in
-    omega (arith, few, same)
-  where
-    all_within : (n : ℕ) (row : List SlotTimer) (k : ℕ) → k < n → ((i : ℕ) (t : SlotTimer) → slice_get row i ≡ Some t → t.slot < n) → (i x : ℕ) → slice_get (k ∷ map (λ (t : SlotTimer). t.slot) row) i ≡ Some x → x < n
-    all_within n row k fits within zero x h = omega (arith, fits, same_Some k x h)
-    all_within n row k fits within (suc i) x h = let w = map_at row i x h in let small = within i w.0 w.1.0 in omega (arith, small, w.1.1)
-
-    all_differ : (row : List SlotTimer) (k : ℕ) → ((i : ℕ) (t : SlotTimer) → slice_get row i ≡ Some t → t.slot ≢ k) → ((i j : ℕ) (a b : SlotTimer) → i < j → slice_get row i ≡ Some a → slice_get row j ≡ Some b → a.slot ≢ b.slot) → (i j : ℕ) → i < j → (x : ℕ) → slice_get (k ∷ map (λ (t : SlotTimer). t.slot) row) i ≡ Some x → slice_get (k ∷ map (λ (t : SlotTimer). t.slot) row) j ≡ Some x → ⊥
-    all_differ row k apart other i zero less x h g = omega (arith, less)
-    all_differ row k apart other zero (suc j) less x h g = let w = map_at row j x g in apart j w.0 w.1.0 (w.1.1 ∙ sym (same_Some k x h))
-    all_differ row k apart other (suc i) (suc j) less x h g =
-        let v = map_at row i x h in
-        let w = map_at row j x g in
-        other i j v.0 w.0 (omega (arith, less)) v.1.0 w.1.0 (v.1.1 ∙ sym w.1.1)
+    fewer_than (λ (t : SlotTimer). t.slot) row (length moments) k fits within apart other
 
 -- the first of the row is the earliest
 pub first_is : (moments : List (Option ℕ)) (row : List SlotTimer) (x : SlotTimer) → slice_get row 0 ≡ Some x → AreTimers moments row → IsEarliest moments x.slot x.at

@@ -38,15 +38,3 @@ pub fn nearest(number: Seq, first: Seq, top: u64) -> i64
 {
     top as i64 + i64::from(ahead(number, number_at(first, top)))
 }
-
-#[cfg(test)]
-mod tests {
-    use super::*;
-
-    #[test]
-    fn numbers_past_the_wrap(rt: HostRuntime) {
-        assert_eq!(rt; nearest(Seq(8), Seq(0xFFFF_FFFB), 0), 12);
-        assert_eq!(rt; number_at(Seq(0xFFFF_FFFB), 12), Seq(8));
-        assert_eq!(rt; ahead(Seq(0), Seq(0xFFFF_FFFF)), 1);
-    }
-}

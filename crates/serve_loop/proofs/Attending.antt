@@ -40,7 +40,7 @@ pub same_marks : (number : ℕ) (old new : Kept) → new ≡ old → KeepsMarks 
 same_marks number old new same = record {
   served = ap (λ (k : Kept). k.served) same;
   turn = ap (λ (k : Kept). k.turn) same;
-  numbers = λ k p here. inl (p, ap (λ (f : Kept). slice_get f.flows.parts k) (sym same) ∙ here, refl);
+  numbers = λ k p here. inl (p, ap (λ (f : Kept). slice_get f.flows.slots k) (sym same) ∙ here, refl);
 }
 
 module _ (config : Config) (count : ℕ) (wants : List Want) (items : List Want) where
@@ -113,7 +113,7 @@ module _ (config : Config) (count : ℕ) (wants : List Want) (items : List Want)
 
   -- a flow was told, unless it was in this turn before
   module _ (item : Want) (number : ℕ) (of : item.of ≡ Tcp number) (slirp mid : SlirpState) (link : LinkState) (read write : Bool) (counts : wanted_of wants item ≡ record { of = Tcp number; read = read; write = write })
-      (told : (k : ℕ) (p : Splice) → IsOpenAt slirp.flows.flows.parts k p → number_of p ≡ number → mid.flows.served ≡ slice_set slirp.flows.served k slirp.flows.turn) (untold : NoneOpen number slirp.flows.flows.parts → mid.flows ≡ slirp.flows)
+      (told : (k : ℕ) (p : Splice) → IsOpenAt slirp.flows.flows.slots k p → number_of p ≡ number → mid.flows.served ≡ slice_set slirp.flows.served k slirp.flows.turn) (untold : NoneOpen number slirp.flows.flows.slots → mid.flows ≡ slirp.flows)
       (stays : Stays slirp.flows mid.flows) (turn : mid.flows.turn ≡ slirp.flows.turn) (a b : Telling) (to_read : Bool) where
     module _ (made past : List Entry) (same : waits (made ++ past) ≡ waits past) (left : IsLeftAmong config wants (item ∷ items) to_read slirp past) (once : ServesOnce config number read write slirp.flows (made ++ past)) where
       before : WasTold number slirp.flows → IsServed config (made ++ past) (Tcp number)

@@ -138,7 +138,7 @@ module _ (config : Config) (wants : List Want) (item : Want) (items : List Want)
       by true is false reads_is false here it = absurd cc
 
   pub left_behind : (new : SlirpState) (later : Bool) → (later ≡ false → is_left_to_read config (made ++ past) TheLink ≡ false)
-      → ((k : ℕ) (p : Splice) → slice_get new.flows.flows.parts k ≡ Some (Some p) → slice_get new.flows.served k ≡ Some new.flows.turn → IsServed config (made ++ past) (Tcp (number_of p)))
+      → ((k : ℕ) (p : Splice) → slice_get new.flows.flows.slots k ≡ Some (Some p) → slice_get new.flows.served k ≡ Some new.flows.turn → IsServed config (made ++ past) (Tcp (number_of p)))
       → IsLeftAmong config wants items later new (made ++ past)
   left_behind new later frame told = record {
     reading = reading_behind;
@@ -150,12 +150,12 @@ module _ (config : Config) (wants : List Want) (item : Want) (items : List Want)
   }
 
   -- behind an item of a socket, and behind one of the link
-  pub left_behind_socket : (new : SlirpState) → ((k : ℕ) (p : Splice) → slice_get new.flows.flows.parts k ≡ Some (Some p) → slice_get new.flows.served k ≡ Some new.flows.turn → IsServed config (made ++ past) (Tcp (number_of p)))
+  pub left_behind_socket : (new : SlirpState) → ((k : ℕ) (p : Splice) → slice_get new.flows.flows.slots k ≡ Some (Some p) → slice_get new.flows.served k ≡ Some new.flows.turn → IsServed config (made ++ past) (Tcp (number_of p)))
       → IsLeftAmong config wants items to_read new (made ++ past)
   left_behind_socket new told = left_behind new to_read (λ none. reading_on config made past TheLink same (left.frame none)) told
 
   pub left_behind_link : (new : SlirpState) → (to_read ≡ true → reads TheLink wants ≡ true) → item.of ≡ TheLink
-      → ((k : ℕ) (p : Splice) → slice_get new.flows.flows.parts k ≡ Some (Some p) → slice_get new.flows.served k ≡ Some new.flows.turn → IsServed config (made ++ past) (Tcp (number_of p)))
+      → ((k : ℕ) (p : Splice) → slice_get new.flows.flows.slots k ≡ Some (Some p) → slice_get new.flows.served k ≡ Some new.flows.turn → IsServed config (made ++ past) (Tcp (number_of p)))
       → IsLeftAmong config wants items (still to_read item) new (made ++ past)
   left_behind_link new wanted of told = left_behind new (still to_read item) (frame_read wanted of) told
 
@@ -163,14 +163,14 @@ module _ (config : Config) (wants : List Want) (item : Want) (items : List Want)
 
 -- calls that keep the marks leave what is said of those that were told
 pub still_told : (config : Config) (at : Standing) (aged : Bool) (slirp new : SlirpState) (link : LinkState) (made past : List Entry) → waits (made ++ past) ≡ waits past → HoldsNow config at aged slirp link past → KeepsMarks slirp.number slirp.flows new.flows
-    → ((k : ℕ) (p : Splice) → slice_get slirp.flows.flows.parts k ≡ Some (Some p) → slice_get slirp.flows.served k ≡ Some slirp.flows.turn → IsServed config past (Tcp (number_of p)))
-    → (k : ℕ) (p : Splice) → slice_get new.flows.flows.parts k ≡ Some (Some p) → slice_get new.flows.served k ≡ Some new.flows.turn → IsServed config (made ++ past) (Tcp (number_of p))
+    → ((k : ℕ) (p : Splice) → slice_get slirp.flows.flows.slots k ≡ Some (Some p) → slice_get slirp.flows.served k ≡ Some slirp.flows.turn → IsServed config past (Tcp (number_of p)))
+    → (k : ℕ) (p : Splice) → slice_get new.flows.flows.slots k ≡ Some (Some p) → slice_get new.flows.served k ≡ Some new.flows.turn → IsServed config (made ++ past) (Tcp (number_of p))
 still_told config at aged slirp new link made past same holds marks told k p here mark = served_on config made past (Tcp (number_of p)) same (by (marks.numbers k p here))
   where
     was_marked : slice_get slirp.flows.served k ≡ Some slirp.flows.turn
     was_marked = ap (λ l. slice_get l k) (sym marks.served) ∙ mark ∙ ap Some marks.turn
 
-    by : ((q : Splice) × (slice_get slirp.flows.flows.parts k ≡ Some (Some q)) × (number_of p ≡ number_of q)) ⊎ (slirp.number ≤ number_of p) → IsServed config past (Tcp (number_of p))
+    by : ((q : Splice) × (slice_get slirp.flows.flows.slots k ≡ Some (Some q)) × (number_of p ≡ number_of q)) ⊎ (slirp.number ≤ number_of p) → IsServed config past (Tcp (number_of p))
     by (inl it) = subst (λ n. IsServed config past (Tcp n)) (sym it.2) (told k it.0 it.1 was_marked)
     by (inr drawn) = let next = holds.sockets.number in unopened config past (number_of p) holds.lawful (omega (arith, drawn, next))
 

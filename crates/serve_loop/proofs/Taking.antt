@@ -31,7 +31,7 @@ module _ (config : Config) (count : ℕ) (wants : List Want) (item : Want) (item
       let h = read_on config count wants item items reads_it slirp slirp.flows old new answer no_packet out made past allowed read holds slirp goes_on
       (subst (λ o. KeepsParts config slirp slirp o) (sym none) refl) (ap segment_by packet_is) (ap (λ p. file_in (request_by_packet config p)) packet_is)
       (ap (λ (p : List (List ℕ)). record slirp { pending = p }) no_packet
-      ∙ sym (ap (λ o. after_packet config slirp (packet_of config slirp.moment at o) o slirp.parts) none)) in
+      ∙ sym (ap (λ o. after_packet config slirp (packet_of config slirp.moment at o) o slirp.fragments) none)) in
       subst (λ (t : Step). HoldsAt config (standing count wants items) t slirp (flowing false slirp.flows) new (made ++ past)) (ap (λ p. asked_by config slirp (errand_by_packet config p)) packet_is) h
 
   -- the run has ended

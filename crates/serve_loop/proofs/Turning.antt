@@ -28,7 +28,7 @@ use Rattle.stream_netdev.specs.declared.Pumped.{Pumped}
 use Rattle.stream_netdev.specs.declared.Pumped.TheVariants.{Clear, Blocked, Failed as PumpFailed}
 use Rattle.slirp_core.proofs.Associating.{with_agenda}
 use Rattle.slirp_core.proofs.Parts.{or_second}
-use Rattle.slirp_core.proofs.Sockets.{same}
+use Rattle.slirp_laws.proofs.Bools.{same}
 use Rattle.serve_loop.specs.Ends.{end_by, turn_of}
 use Rattle.serve_loop.specs.Turns.{all_passed_over, is_passed_over, is_read_now, still, AfterTurn, AllSent, AttendsAfterTaking, AttendsAfterTurn, AttendsNow, EndedAs, HoldsNow, IsAttended, IsAttendedAfter, IsCalm, IsCalmAfter, IsInTime, MayRest, ServedAfter, ServesNow, is_frame_due}
 use Rattle.serve_loop.specs.declared.service.Turn.{Turn}
@@ -277,7 +277,7 @@ link_written slirp link wants of blocked =
     written_behind front middle rest is = first_written (front ++ middle) rest (first_written front middle is)
 
 -- no flow stands before the first turn
-pub none_is_calm : (slirp : SlirpState) (link : LinkState) → NoneInSlots slirp.flows.flows.parts → IsCalm slirp link
+pub none_is_calm : (slirp : SlirpState) (link : LinkState) → NoneInSlots slirp.flows.flows.slots → IsCalm slirp link
 none_is_calm slirp link none free = record { clear = λ k p here. absurd (none k p here); slots = λ k p here. absurd (none k p here); told = λ k p here unknown. absurd (none k p here) }
 
 pub still_sent : (slirp new : SlirpState) (link : LinkState) → new.pending ≡ slirp.pending → AllSent slirp link → AllSent new link

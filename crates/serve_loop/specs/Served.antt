@@ -42,7 +42,7 @@ pub record IsNew (service : ServiceState) : Type 0 where
   pub number : service.slirp.number ≡ 0
   pub associations : service.slirp.associations ≡ []
   pub questions : service.slirp.questions ≡ []
-  pub parts : service.slirp.parts ≡ []
+  pub fragments : service.slirp.fragments ≡ []
   pub leases : service.slirp.leases ≡ replicate 16 Free
   pub transfers : service.slirp.transfers ≡ []
   pub input : under_way service.link ≡ []

@@ -61,7 +61,7 @@ NoneTold slirp = (k : ℕ) → slice_get slirp.flows.served k ≡ Some slirp.flo
 
 -- no socket of a guest's port is idle for long, and none of a question, and no fragments are to be dropped
 abbrev pub AreYoung : SlirpState → Type 0
-AreYoung slirp = All (λ a. is_idle_association slirp.moment a ≡ false) slirp.associations × All (λ q. is_idle_question slirp.moment q ≡ false) slirp.questions × AreFresh slirp.moment slirp.parts
+AreYoung slirp = All (λ a. is_idle_association slirp.moment a ≡ false) slirp.associations × All (λ q. is_idle_question slirp.moment q ≡ false) slirp.questions × AreFresh slirp.moment slirp.fragments
 
 -- unless the link is blocked no flow owes a frame
 abbrev pub IsCalm : SlirpState → LinkState → Type 0
@@ -76,9 +76,13 @@ pub record IsFreed (wants items : List Want) : Type 0 where
 abbrev pub IsCalmAfter : List Want → List Want → SlirpState → LinkState → Type 0
 IsCalmAfter wants items slirp link = IsCalm slirp link ⊎ IsFreed wants items
 
+-- so before an item is served, and so after it, where the turn goes on
+abbrev pub StaysCalm : Turn → List Want → Want → SlirpState → LinkState → SlirpState → LinkState → Type 0
+StaysCalm result wants item slirp link new_slirp new_link = (items : List Want) → IsCalmAfter wants (item ∷ items) slirp link → result ≡ Again → IsCalmAfter wants items new_slirp new_link
+
 -- before a wait: the host of no flow had its time to connect, and unless the link is blocked no flow has a timer that is due
 abbrev pub IsInTime : SlirpState → LinkState → Type 0
-IsInTime slirp link = AreInTime slirp.moment slirp.flows.flows.parts × (link.blocked ≡ false → (n : ℕ) → HasNoneDue slirp.moment slirp.flows.flows.parts n)
+IsInTime slirp link = AreInTime slirp.moment slirp.flows.flows.slots × (link.blocked ≡ false → (n : ℕ) → HasNoneDue slirp.moment slirp.flows.flows.slots n)
 
 -- ---- reports that are to be served
 
@@ -100,7 +104,7 @@ pub record IsLeftAmong (config : Config) (wants items : List Want) (to_read : Bo
   pub frame : to_read ≡ false → is_left_to_read config past Link ≡ false
   pub freed : is_left_to_write config past Link ≡ false
   -- nothing is left of a flow that was told in this turn
-  pub told : (k : ℕ) (p : Splice) → slice_get slirp.flows.flows.parts k ≡ Some (Some p) → slice_get slirp.flows.served k ≡ Some slirp.flows.turn → IsServed config past (Tcp (number_of p))
+  pub told : (k : ℕ) (p : Splice) → slice_get slirp.flows.flows.slots k ≡ Some (Some p) → slice_get slirp.flows.served k ≡ Some slirp.flows.turn → IsServed config past (Tcp (number_of p))
   pub differ : differ items ≡ true
 
 -- where a run stands within a turn, with these items to be served

@@ -7,13 +7,14 @@
 ghost use Rattle.std.specs.Prelude.{◌≡◌, ◌&&◌, ◌||◌, List, true, false, IfSome, None, if◌then◌else◌};
 ghost use Rattle.slirp_laws.specs.Agenda.{is_to_read, is_to_write};
 ghost use Rattle.slirp_core.specs.Holds.{Standing};
-ghost use Rattle.serve_loop.specs.Turns.{still, is_read_now};
+ghost use Rattle.serve_loop.specs.Turns.{StaysCalm, is_read_now, still};
 ghost use Rattle.poll_list.specs.Listing.{reads, writes};
 ghost use Rattle.serve_loop.specs.Ends.{turn_of};
 ghost use Rattle.poll_list.specs.declared.Who.TheVariants.{Link as TheLink, Listener, Udp, Tcp};
 ghost use Rattle.slirp_laws.specs.Agenda.{wanted_of};
 ghost use Rattle.slirp_core.specs.Pumps.{TcpOnce};
 ghost use Rattle.poll_list.specs.declared.Want.{Want as AnItem};
+ghost use Rattle.world_face.specs.Limits.{most_ready, most_to_udp};
 
 use arrayvec::ArrayVec;
 use host_policy::{Forward, SlirpConfig};
@@ -23,13 +24,7 @@ use slirp_core::{LONGEST_ASSEMBLED, Slirp, TurnWants};
 use std::alloc::Global;
 use std::marker::Model;
 use stream_netdev::{Arrived, Link, Pumped};
-use world_face::{Waited, World};
-
-/// The most octets of a datagram's payload.
-const MOST_PAYLOAD: usize = 65507;
-
-/// The most items that a wait can report.
-const MOST_READY: usize = 5155;
+use world_face::{MOST_READY, MOST_TO_UDP, Waited, World};
 
 /// How a run ended.
 #[derive(Clone, Copy, Debug, PartialEq, Eq)]
@@ -83,13 +78,15 @@ impl Model for Service {
     ghost use Rattle.std.specs.Prelude.{◌≡◌, length};
     ghost use Rattle.serve_loop.specs.Served.{ServiceState};
     ghost use Rattle.slirp_core.specs.Pumps.{TcpOnce};
+    ghost use Rattle.world_face.specs.Limits.{most_ready, most_to_udp};
 
     ghost Value = { ServiceState };
 
     ghost view = { λ s. record { slirp = s.slirp; link = s.link; wants = s.wants.items; ready = s.ready.items } };
 
     // no flow's socket is waited for twice
-    ghost invariant = { λ s. (s.turns ≡ s.slirp.config.turns) × (s.wants.capacity ≡ 5155) × (s.ready.capacity ≡ 5155) × (length s.payload.items ≡ 65507) × (length s.joined.items ≡ 65575) × TcpOnce s.wants.items × (s.forwards.items ≡ s.slirp.config.forwards) };
+    ghost invariant = { λ s. (s.turns ≡ s.slirp.config.turns) × (s.wants.capacity ≡ most_ready) × (s.ready.capacity ≡ most_ready)
+        × (length s.payload.items ≡ most_to_udp) × (length s.joined.items ≡ 65575) × TcpOnce s.wants.items × (s.forwards.items ≡ s.slirp.config.forwards) };
 }
 
 impl Service {
@@ -126,7 +123,7 @@ impl Service {
         let (Ok(wants), Ok(ready), Ok(payload), Ok(joined)) = (
             TurnWants::open(alloc, MOST_READY),
             ReadyList::open(alloc, MOST_READY),
-            vec![in alloc; 0; MOST_PAYLOAD],
+            vec![in alloc; 0; MOST_TO_UDP],
             vec![in alloc; 0; LONGEST_ASSEMBLED],
         ) else {
             return Err(NoMemory);
@@ -177,7 +174,8 @@ impl Service {
     /// moment is asked for. Where the host refuses a port the run ends, and those that were opened are closed.
     pub fn start<W: World>(&mut self, world: &mut W) -> Turn
         requires { IsNew self.old }
-        ensures makes { Makes (W.tells world.old) (W.tells world.new) (AttendsAfterWholeTurn result self.old.slirp.config (after 0) self.new.slirp self.new.link) }
+        ensures makes { Makes (W.tells world.old) (W.tells world.new)
+            (AttendsAfterWholeTurn result self.old.slirp.config (after 0) self.new.slirp self.new.link) }
         ensures step { IsStep result (W.tells world.old).faults (W.tells world.new).faults self.new.link }
         ensures calm { result ≡ Turn.Again → IsCalm self.new.slirp self.new.link }
         ensures config { self.new.slirp.config ≡ self.old.slirp.config }
@@ -208,16 +206,17 @@ impl Service {
     /// One turn, before which unless the link is blocked no flow owes a frame: the flows are told the time, sockets that were idle for long are closed and what is owed is sent, then it waits, then what the wait reported is served, with what is then owed. Where it ends the run all sockets are closed, by rising number. A turn opens a socket at most for each item that a wait reports, and needs numbers for them under 2^64. There are at most 2^45 turns.
     pub fn turn<W: World>(&mut self, world: &mut W) -> Turn
         requires on { ReadsOn (under_way self.old.link) }
-        requires number { self.old.slirp.number + 5155 < 2 ^ 64 }
+        requires number { self.old.slirp.number + most_ready < 2 ^ 64 }
         requires turns { self.old.slirp.flows.turn < 2 ^ 45 }
         requires calm { IsCalm self.old.slirp self.old.link }
         ensures makes { (config : Config) (count : ℕ) → count < config.turns → Brings (W.tells world.old) (W.tells world.new)
-            (AttendsNow config (after count) false self.old.slirp self.old.link) (AttendsAfterWholeTurn result config (after (count + 1)) self.new.slirp self.new.link) }
+            (AttendsNow config (after count) false self.old.slirp self.old.link)
+            (AttendsAfterWholeTurn result config (after (count + 1)) self.new.slirp self.new.link) }
         // Where it ended by a fault the count of the link's, or of the waits', rose.
         ensures step { IsStep result (W.tells world.old).faults (W.tells world.new).faults self.new.link }
         ensures calm { result ≡ Turn.Again → IsCalm self.new.slirp self.new.link }
         ensures config { self.new.slirp.config ≡ self.old.slirp.config }
-        ensures number { self.new.slirp.number ≤ self.old.slirp.number + 5155 }
+        ensures number { self.new.slirp.number ≤ self.old.slirp.number + most_ready }
         ensures turns { self.new.slirp.flows.turn ≤ self.old.slirp.flows.turn + 1 }
     {
         match self.take_turn(world) {
@@ -229,10 +228,10 @@ impl Service {
         }
     }
 
-    // The same, with the sockets left open where it ended the run.
+    // Makes one turn, and leaves the sockets open where it ended the run.
     fn take_turn<W: World>(&mut self, world: &mut W) -> Turn
         requires on { ReadsOn (under_way self.old.link) }
-        requires number { self.old.slirp.number + 5155 < 2 ^ 64 }
+        requires number { self.old.slirp.number + most_ready < 2 ^ 64 }
         requires turns { self.old.slirp.flows.turn < 2 ^ 45 }
         requires calm { IsCalm self.old.slirp self.old.link }
         ensures makes { (config : Config) (count : ℕ) → count < config.turns → Brings (W.tells world.old) (W.tells world.new)
@@ -240,7 +239,7 @@ impl Service {
         ensures step { IsStep result (W.tells world.old).faults (W.tells world.new).faults self.new.link }
         ensures calm { result ≡ Turn.Again → IsCalm self.new.slirp self.new.link }
         ensures config { self.new.slirp.config ≡ self.old.slirp.config }
-        ensures number { self.new.slirp.number ≤ self.old.slirp.number + 5155 }
+        ensures number { self.new.slirp.number ≤ self.old.slirp.number + most_ready }
         ensures turns { self.new.slirp.flows.turn ≤ self.old.slirp.flows.turn + 1 }
     {
         self.slirp.tick(world);
@@ -260,7 +259,8 @@ impl Service {
         ensures sent { result ≡ Turn.Again → AllSent self.new.slirp self.new.link }
         ensures calm { result ≡ Turn.Again → IsCalm self.new.slirp self.new.link }
         ensures young { AreYoung self.old.slirp → AreYoung self.new.slirp }
-        ensures connects { (config : Config) (at : Standing) (past : List Entry) → HoldsNow config at true self.old.slirp self.old.link past → result ≡ Turn.Again → IsInTime self.old.slirp self.old.link → IsInTime self.new.slirp self.new.link }
+        ensures connects { (config : Config) (at : Standing) (past : List Entry) → HoldsNow config at true self.old.slirp self.old.link past
+            → result ≡ Turn.Again → IsInTime self.old.slirp self.old.link → IsInTime self.new.slirp self.new.link }
         ensures none { result ≡ Turn.Again → NoneGoesAgain self.new.slirp }
         ensures untold { NoneTold self.old.slirp → NoneTold self.new.slirp }
         ensures step { IsStep result (W.tells world.old).faults (W.tells world.new).faults self.new.link }
@@ -284,18 +284,19 @@ impl Service {
     // A wait and what follows it.
     fn wake<W: World>(&mut self, world: &mut W) -> Turn
         requires on { ReadsOn (under_way self.old.link) }
-        requires number { self.old.slirp.number + 5155 < 2 ^ 64 }
+        requires number { self.old.slirp.number + most_ready < 2 ^ 64 }
         requires none { NoneGoesAgain self.old.slirp }
         requires sent { AllSent self.old.slirp self.old.link }
         requires young { AreYoung self.old.slirp }
         requires untold { NoneTold self.old.slirp }
         requires calm { IsCalm self.old.slirp self.old.link }
         ensures makes { (config : Config) (count : ℕ) → count < config.turns → Brings (W.tells world.old) (W.tells world.new)
-            (MayRest config (after count) self.old.slirp self.old.link) (AttendsAfterTurn result config (after (count + 1)) false self.new.slirp self.new.link) }
+            (MayRest config (after count) self.old.slirp self.old.link)
+            (AttendsAfterTurn result config (after (count + 1)) false self.new.slirp self.new.link) }
         ensures step { IsStep result (W.tells world.old).faults (W.tells world.new).faults self.new.link }
         ensures calm { result ≡ Turn.Again → IsCalm self.new.slirp self.new.link }
         ensures config { self.new.slirp.config ≡ self.old.slirp.config }
-        ensures number { self.new.slirp.number ≤ self.old.slirp.number + 5155 }
+        ensures number { self.new.slirp.number ≤ self.old.slirp.number + most_ready }
         ensures turns { self.new.slirp.flows.turn ≡ self.old.slirp.flows.turn }
     {
         match self.sleep(world) {
@@ -313,13 +314,14 @@ impl Service {
         requires untold { NoneTold self.old.slirp }
         requires calm { IsCalm self.old.slirp self.old.link }
         ensures makes { (config : Config) (count : ℕ) → count < config.turns → Brings (W.tells world.old) (W.tells world.new)
-            (MayRest config (after count) self.old.slirp self.old.link) (AttendsAfterSleep result config (count + 1) self.new.wants self.new.ready self.new.slirp self.new.link) }
+            (MayRest config (after count) self.old.slirp self.old.link)
+            (AttendsAfterSleep result config (count + 1) self.new.wants self.new.ready self.new.slirp self.new.link) }
         ensures counts { AreGrown (W.tells world.old).faults (W.tells world.new).faults }
         ensures failed { result ≡ Slept.Failed → Rose (W.tells world.old).faults.wait (W.tells world.new).faults.wait }
         ensures on { under_way self.new.link ≡ under_way self.old.link }
         // Where it was woken no flow owes a frame then either, unless the link is blocked or the report frees it; and what is reported is no more than the list has room for.
         ensures calm { result ≡ Slept.Ready → IsCalmAfter self.new.wants self.new.ready self.new.slirp self.new.link }
-        ensures few { result ≡ Slept.Ready → length self.new.ready ≤ 5155 }
+        ensures few { result ≡ Slept.Ready → length self.new.ready ≤ most_ready }
         ensures config { self.new.slirp.config ≡ self.old.slirp.config }
         ensures number { self.new.slirp.number ≡ self.old.slirp.number }
         ensures turns { self.new.slirp.flows.turn ≡ self.old.slirp.flows.turn }
@@ -340,8 +342,8 @@ impl Service {
     // What follows a wait that was woken: each item that it reported is served, in their order.
     fn work<W: World>(&mut self, world: &mut W) -> Turn
         requires on { ReadsOn (under_way self.old.link) }
-        requires number { self.old.slirp.number + 5155 < 2 ^ 64 }
-        requires few { length self.old.ready ≤ 5155 }
+        requires number { self.old.slirp.number + most_ready < 2 ^ 64 }
+        requires few { length self.old.ready ≤ most_ready }
         requires calm { IsCalmAfter self.old.wants self.old.ready self.old.slirp self.old.link }
         ensures makes { (config : Config) (count : ℕ) → Brings (W.tells world.old) (W.tells world.new)
             (ServesNow config count self.old.wants self.old.ready (is_frame_due self.old.wants self.old.ready) self.old.slirp self.old.link)
@@ -349,7 +351,7 @@ impl Service {
         ensures step { IsStep result (W.tells world.old).faults (W.tells world.new).faults self.new.link }
         ensures calm { result ≡ Turn.Again → IsCalm self.new.slirp self.new.link }
         ensures config { self.new.slirp.config ≡ self.old.slirp.config }
-        ensures number { self.new.slirp.number ≤ self.old.slirp.number + 5155 }
+        ensures number { self.new.slirp.number ≤ self.old.slirp.number + most_ready }
         ensures turns { self.new.slirp.flows.turn ≡ self.old.slirp.flows.turn }
         ensures passed { all_passed_over self.old.wants self.old.ready ≡ true → (result ≡ Turn.Again) × (self.new ≡ self.old) × (world.new ≡ world.old) }
     {
@@ -384,14 +386,16 @@ impl Service {
     fn attend<W: World>(&mut self, world: &mut W, item: &Want, to_read: bool) -> Turn
         requires on { ReadsOn (under_way self.old.link) }
         requires number { self.old.slirp.number + 1 < 2 ^ 64 }
-        ensures makes { (config : Config) (count : ℕ) (items : List AnItem) → (to_read ≡ true → reads TheLink self.old.wants ≡ true) → Brings (W.tells world.old) (W.tells world.new)
+        ensures makes { (config : Config) (count : ℕ) (items : List AnItem) → (to_read ≡ true → reads TheLink self.old.wants ≡ true)
+            → Brings (W.tells world.old) (W.tells world.new)
             (ServesNow config count self.old.wants (item.now ∷ items) to_read self.old.slirp self.old.link)
             (AfterItem result config count self.old.wants items (still to_read item.now) self.new.slirp self.new.link) }
         ensures step { IsStep result (W.tells world.old).faults (W.tells world.new).faults self.new.link }
-        ensures calm { (items : List AnItem) → IsCalmAfter self.old.wants (item.now ∷ items) self.old.slirp self.old.link → result ≡ Turn.Again → IsCalmAfter self.old.wants items self.new.slirp self.new.link }
+        ensures calm { StaysCalm result self.old.wants item.now self.old.slirp self.old.link self.new.slirp self.new.link }
         ensures stays { Stays self.old self.new }
         ensures number { self.new.slirp.number ≤ self.old.slirp.number + 1 }
-        ensures passed { (to_read ≡ true → reads TheLink self.old.wants ≡ true) → is_passed_over self.old.wants item.now ≡ true → (result ≡ Turn.Again) × (self.new ≡ self.old) × (world.new ≡ world.old) }
+        ensures passed { (to_read ≡ true → reads TheLink self.old.wants ≡ true) → is_passed_over self.old.wants item.now ≡ true → (result ≡ Turn.Again)
+            × (self.new ≡ self.old) × (world.new ≡ world.old) }
     {
         match item.of {
             Who::Link => self.attend_link(world, item, to_read),
@@ -406,14 +410,16 @@ impl Service {
         requires of { item.now.of ≡ TheLink }
         requires on { ReadsOn (under_way self.old.link) }
         requires number { self.old.slirp.number + 1 < 2 ^ 64 }
-        ensures makes { (config : Config) (count : ℕ) (items : List AnItem) → (to_read ≡ true → reads TheLink self.old.wants ≡ true) → Brings (W.tells world.old) (W.tells world.new)
+        ensures makes { (config : Config) (count : ℕ) (items : List AnItem) → (to_read ≡ true → reads TheLink self.old.wants ≡ true)
+            → Brings (W.tells world.old) (W.tells world.new)
             (ServesNow config count self.old.wants (item.now ∷ items) to_read self.old.slirp self.old.link)
             (AfterItem result config count self.old.wants items (still to_read item.now) self.new.slirp self.new.link) }
         ensures step { IsStep result (W.tells world.old).faults (W.tells world.new).faults self.new.link }
-        ensures calm { (items : List AnItem) → IsCalmAfter self.old.wants (item.now ∷ items) self.old.slirp self.old.link → result ≡ Turn.Again → IsCalmAfter self.old.wants items self.new.slirp self.new.link }
+        ensures calm { StaysCalm result self.old.wants item.now self.old.slirp self.old.link self.new.slirp self.new.link }
         ensures stays { Stays self.old self.new }
         ensures number { self.new.slirp.number ≤ self.old.slirp.number + 1 }
-        ensures passed { (to_read ≡ true → reads TheLink self.old.wants ≡ true) → is_passed_over self.old.wants item.now ≡ true → (result ≡ Turn.Again) × (self.new ≡ self.old) × (world.new ≡ world.old) }
+        ensures passed { (to_read ≡ true → reads TheLink self.old.wants ≡ true) → is_passed_over self.old.wants item.now ≡ true → (result ≡ Turn.Again)
+            × (self.new ≡ self.old) × (world.new ≡ world.old) }
     {
         if is_read_now(to_read, item) {
             return match self.receive_frame(world) {
@@ -436,7 +442,7 @@ impl Service {
             (ServesNow config count self.old.wants (item.now ∷ items) to_read self.old.slirp self.old.link)
             (AfterItem result config count self.old.wants items to_read self.new.slirp self.new.link) }
         ensures step { IsStep result (W.tells world.old).faults (W.tells world.new).faults self.new.link }
-        ensures calm { (items : List AnItem) → IsCalmAfter self.old.wants (item.now ∷ items) self.old.slirp self.old.link → result ≡ Turn.Again → IsCalmAfter self.old.wants items self.new.slirp self.new.link }
+        ensures calm { StaysCalm result self.old.wants item.now self.old.slirp self.old.link self.new.slirp self.new.link }
         ensures stays { Stays self.old self.new }
         ensures number { self.new.slirp.number ≤ self.old.slirp.number + 1 }
         ensures passed { is_passed_over self.old.wants item.now ≡ true → (result ≡ Turn.Again) × (self.new ≡ self.old) × (world.new ≡ world.old) }
@@ -456,7 +462,7 @@ impl Service {
             (ServesNow config count self.old.wants (item.now ∷ items) to_read self.old.slirp self.old.link)
             (AfterItem result config count self.old.wants items to_read self.new.slirp self.new.link) }
         ensures step { IsStep result (W.tells world.old).faults (W.tells world.new).faults self.new.link }
-        ensures calm { (items : List AnItem) → IsCalmAfter self.old.wants (item.now ∷ items) self.old.slirp self.old.link → result ≡ Turn.Again → IsCalmAfter self.old.wants items self.new.slirp self.new.link }
+        ensures calm { StaysCalm result self.old.wants item.now self.old.slirp self.old.link self.new.slirp self.new.link }
         ensures stays { Stays self.old self.new }
         ensures number { self.new.slirp.number ≡ self.old.slirp.number }
         ensures passed { is_passed_over self.old.wants item.now ≡ true → (result ≡ Turn.Again) × (self.new ≡ self.old) × (world.new ≡ world.old) }
@@ -476,7 +482,7 @@ impl Service {
             (ServesNow config count self.old.wants (item.now ∷ items) to_read self.old.slirp self.old.link)
             (AfterItem result config count self.old.wants items to_read self.new.slirp self.new.link) }
         ensures step { IsStep result (W.tells world.old).faults (W.tells world.new).faults self.new.link }
-        ensures calm { (items : List AnItem) → IsCalmAfter self.old.wants (item.now ∷ items) self.old.slirp self.old.link → result ≡ Turn.Again → IsCalmAfter self.old.wants items self.new.slirp self.new.link }
+        ensures calm { StaysCalm result self.old.wants item.now self.old.slirp self.old.link self.new.slirp self.new.link }
         ensures stays { Stays self.old self.new }
         ensures number { self.new.slirp.number ≡ self.old.slirp.number }
         ensures passed { is_passed_over self.old.wants item.now ≡ true → (result ≡ Turn.Again) × (self.new ≡ self.old) × (world.new ≡ world.old) }
@@ -527,9 +533,12 @@ impl Service {
     fn receive_frame<W: World>(&mut self, world: &mut W) -> Turn
         requires on { ReadsOn (under_way self.old.link) }
         requires number { self.old.slirp.number + 1 < 2 ^ 64 }
-        ensures makes { (config : Config) (count : ℕ) (wants : List AnItem) (item : AnItem) (items : List AnItem) → is_to_read TheLink (wanted_of wants item) ≡ true → Brings (W.tells world.old) (W.tells world.new)
-            (λ past. HoldsNow config (standing count wants (item ∷ items)) false self.old.slirp self.old.link past × CanTake config self.old.slirp self.old.link past)
-            (λ past. AfterTurn result config (standing count wants items) false self.new.slirp self.new.link past × (result ≡ Turn.Again → is_left_to_read config past TheLink ≡ false)) }
+        ensures makes { (config : Config) (count : ℕ) (wants : List AnItem) (item : AnItem) (items : List AnItem)
+            → is_to_read TheLink (wanted_of wants item) ≡ true → Brings (W.tells world.old) (W.tells world.new)
+            (λ past. HoldsNow config (standing count wants (item ∷ items)) false self.old.slirp self.old.link past
+            × CanTake config self.old.slirp self.old.link past)
+            (λ past. AfterTurn result config (standing count wants items) false self.new.slirp self.new.link past
+            × (result ≡ Turn.Again → is_left_to_read config past TheLink ≡ false)) }
         ensures marks { KeepsMarks self.old.slirp.number self.old.slirp.flows self.new.slirp.flows }
         ensures step { IsStep result (W.tells world.old).faults (W.tells world.new).faults self.new.link }
         ensures stays { Stays self.old self.new }
@@ -554,10 +563,14 @@ impl Service {
     // Receives a datagram on a socket where nothing is left to be sent.
     fn receive_datagram<W: World>(&mut self, world: &mut W, number: u64)
         // Where nothing is left to be sent and the socket is open a datagram is asked for on it, once.
-        ensures receives { is_settled self.old.slirp self.old.link ≡ true → is_heard number self.old.slirp ≡ true → Makes (W.tells world.old) (W.tells world.new) (Receives number) }
-        ensures makes { (config : Config) (count : ℕ) (wants : List AnItem) (item : AnItem) (items : List AnItem) → is_to_read (Udp number) (wanted_of wants item) ≡ true → Brings (W.tells world.old) (W.tells world.new)
-            (λ past. HoldsNow config (standing count wants (item ∷ items)) false self.old.slirp self.old.link past × CanTake config self.old.slirp self.old.link past)
-            (λ past. HoldsNow config (standing count wants items) false self.new.slirp self.new.link past × (is_left_to_read config past (Udp number) ≡ false)) }
+        ensures receives { is_settled self.old.slirp self.old.link ≡ true → is_heard number self.old.slirp ≡ true
+            → Makes (W.tells world.old) (W.tells world.new) (Receives number) }
+        ensures makes { (config : Config) (count : ℕ) (wants : List AnItem) (item : AnItem) (items : List AnItem)
+            → is_to_read (Udp number) (wanted_of wants item) ≡ true → Brings (W.tells world.old) (W.tells world.new)
+            (λ past. HoldsNow config (standing count wants (item ∷ items)) false self.old.slirp self.old.link past
+            × CanTake config self.old.slirp self.old.link past)
+            (λ past. HoldsNow config (standing count wants items) false self.new.slirp self.new.link past
+            × (is_left_to_read config past (Udp number) ≡ false)) }
         ensures counts { AreGrown (W.tells world.old).faults (W.tells world.new).faults }
         ensures link { self.new.link ≡ self.old.link }
         ensures flows { self.new.slirp.flows ≡ self.old.slirp.flows }
@@ -586,7 +599,8 @@ impl Service {
         ensures sent { result ≡ Turn.Again → AllSent self.new.slirp self.new.link }
         ensures calm { result ≡ Turn.Again → IsCalm self.new.slirp self.new.link }
         ensures young { AreYoung self.old.slirp → AreYoung self.new.slirp }
-        ensures connects { (config : Config) (at : Standing) (aged : Bool) (past : List Entry) → HoldsNow config at aged self.old.slirp self.old.link past → result ≡ Turn.Again → IsInTime self.old.slirp self.old.link → IsInTime self.new.slirp self.new.link }
+        ensures connects { (config : Config) (at : Standing) (aged : Bool) (past : List Entry) → HoldsNow config at aged self.old.slirp self.old.link past
+            → result ≡ Turn.Again → IsInTime self.old.slirp self.old.link → IsInTime self.new.slirp self.new.link }
         ensures step { IsStep result (W.tells world.old).faults (W.tells world.new).faults self.new.link }
         ensures stays { Stays self.old self.new }
         ensures number { self.new.slirp.number ≡ self.old.slirp.number }

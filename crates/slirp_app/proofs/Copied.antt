@@ -3,7 +3,9 @@ use Rattle.std.proofs.Common.{◌≡◌, ◌≢◌, ℕ, Bool, true, false, cond
 use Rattle.std.proofs.lemmas.List.{append-nil, append_assoc, append_cancel_left, append_cancel_right, length-append}
 use Rattle.replay.proofs.Bodies.{row_body, row_form, said_plain, some_line, some_row}
 use Rattle.replay.proofs.Calls.{args_text, call_plain, name_word, named}
-use Rattle.replay.proofs.Parting.{first, is_plain, is_word, parts_once}
+use Rattle.address_text.specs.Texts.{endpoint_text, place_text}
+use Rattle.address_text.proofs.Parting.{parts_once}
+use Rattle.replay.proofs.Parting.{first, is_plain, is_word}
 use Rattle.replay.proofs.Sayable.{sayable}
 use Rattle.replay.proofs.Starring.{no_digit, no_pair}
 use Rattle.replay.proofs.Unreading.{after_line}
@@ -13,7 +15,7 @@ use Rattle.replay.specs.Pieces.{lines_text}
 use Rattle.replay.specs.Range.{InRange, IsSayable}
 use Rattle.replay.specs.Rows.{AreReadable, FitsBefore, IsReadable, Row, TakesAll, entries_of, row_text, said_answer, said_call, schedule_text, turned_text}
 use Rattle.replay.specs.Spelling.{is_write}
-use Rattle.replay.specs.Text.{answer_text, call_text, endpoint_text, hexadecimal, line_text, place_text, text, timeout_text, wants_text, written_text}
+use Rattle.replay.specs.Text.{answer_text, call_text, hexadecimal, line_text, text, timeout_text, wants_text, written_text}
 use Rattle.replay_laws.proofs.Calls.{same_call}
 use Rattle.replay_laws.proofs.Lines.{one_text}
 use Rattle.world_face.proofs.Following.{all_before}

@@ -30,27 +30,18 @@ use Rattle.slirp_app.specs.Statuses.{outcome_of}
 use Rattle.app_edges.specs.declared.status.Outcome.{Outcome}
 use Rattle.app_edges.specs.declared.status.Outcome.TheVariants.{Diverged}
 
--- the first n lines, newest first, before these
-newest_rows : ℕ → List Row → List Row → List Row
-newest_rows zero rows older = older
-newest_rows (suc n) [] older = older
-newest_rows (suc n) (row ∷ rows) older = newest_rows n rows (row ∷ older)
-
-their_entries : (n : ℕ) (rows older : List Row) → entries_of (newest_rows n rows older) ≡ newest_onto n (entries_of rows) (entries_of older)
-unfolding newest_rows
+their_entries : (n : ℕ) (rows older : List Row) → entries_of (newest_onto n rows older) ≡ newest_onto n (entries_of rows) (entries_of older)
 their_entries zero rows older = refl
 their_entries (suc n) [] older = refl
 their_entries (suc n) (row ∷ rows) older = their_entries n rows (row ∷ older)
 
-still_readable : (n : ℕ) (rows older : List Row) → AreReadable rows → AreReadable older → AreReadable (newest_rows n rows older)
-unfolding newest_rows
+still_readable : (n : ℕ) (rows older : List Row) → AreReadable rows → AreReadable older → AreReadable (newest_onto n rows older)
 still_readable zero rows older h o = o
 still_readable (suc n) [] older h o = o
 still_readable (suc n) (row ∷ rows) older h o = still_readable n rows (row ∷ older) h.1 (h.0, o)
 
 -- the text of the lines that are used up and of those that are left
-front : (n : ℕ) (rows older : List Row) → turned_text (newest_rows n rows older) ++ schedule_text (drop n rows) ≡ turned_text older ++ schedule_text rows
-unfolding newest_rows
+front : (n : ℕ) (rows older : List Row) → turned_text (newest_onto n rows older) ++ schedule_text (drop n rows) ≡ turned_text older ++ schedule_text rows
 front zero rows older = refl
 front (suc n) [] older = refl
 front (suc n) (row ∷ rows) older = front n rows (row ∷ older) ∙ append_assoc (turned_text older) (row_text row) (schedule_text rows)
@@ -103,7 +94,7 @@ module _ (config : Config) (script new : Script) (done outcome : Outcome) (befor
 
   before_left : schedule_text new.lines ≡ schedule_text script.lines → FitsBefore (script_tells new).kept (schedule_text script.lines) (schedule_text (drop new.used new.lines))
   before_left same = record {
-    rows = newest_rows new.used new.lines [];
+    rows = newest_onto new.used new.lines [];
     readable = still_readable new.used new.lines [] readable tt;
     entries = their_entries new.used new.lines [];
     is = sym (front new.used new.lines [] ∙ same);

@@ -5,7 +5,8 @@ use Rattle.std.proofs.lemmas.List.{append-nil, append_assoc, append_cancel_left,
 use Rattle.host_policy.specs.Addresses.{Config}
 use Rattle.replay.proofs.Bodies.{row_body, row_form, said_plain, some_row}
 use Rattle.replay.proofs.Calls.{args_text, name_word, named, same_name}
-use Rattle.replay.proofs.Parting.{first, is_plain, is_word, parts_once}
+use Rattle.address_text.proofs.Parting.{parts_once}
+use Rattle.replay.proofs.Parting.{first, is_plain, is_word}
 use Rattle.replay.proofs.Unreading.{after_line}
 use Rattle.replay.proofs.Words.{same_octets}
 use Rattle.replay.specs.Names.{name_of, name_text}

@@ -41,15 +41,18 @@ pub fn slirp_main<W: World, K: Sink, E: Sink>(
     // It is 2 exactly where they mean something of which a field isn't in its range, and the text names the first such field.
     ensures bad_config { (meaning : Meaning) (field : AField) → Means (map string_bytes words.now.items) meaning → broken_in meaning ≡ Some field
         → (result ≡ 2) × Got (E.holds err.old) (E.holds err.new) (E.faults err.old) (E.faults err.new) (BadConfig field) }
-    ensures only_config { result ≡ 2 → (meaning : Meaning) × (field : AField) × Means (map string_bytes words.now.items) meaning × (broken_in meaning ≡ Some field) }
+    ensures only_config { result ≡ 2 → (meaning : Meaning) × (field : AField) × Means (map string_bytes words.now.items) meaning
+        × (broken_in meaning ≡ Some field) }
     // With either no call is made.
     ensures untouched { (result ≡ 1) ⊎ (result ≡ 2) → Makes (W.tells world.old) (W.tells world.new) (λ made. made ≡ []) }
     // With `replay FILE` a run is made on what FILE says, with the settings of the words.
     ensures replays { (file : List ℕ) (config : Config) → Means (map string_bytes words.now.items) (Replays file config) → first_broken config ≡ None
-        → ReplaysFile file config result (W.tells world.old) (W.tells world.new) (K.holds out.old) (K.holds out.new) (Got (E.holds err.old) (E.holds err.new) (E.faults err.old) (E.faults err.new)) }
+        → ReplaysFile file config result (W.tells world.old) (W.tells world.new) (K.holds out.old) (K.holds out.new)
+        (Got (E.holds err.old) (E.holds err.new) (E.faults err.old) (E.faults err.new)) }
     // With `serve --link AT` one is made on `world` itself, and what the words ask for is put of it.
     ensures serves { (config : Config) (at : Place) (tap : ATap) → Means (map string_bytes words.now.items) (Serves config at tap) → first_broken config ≡ None
-        → ServesLink config at tap result (W.tells world.old) (W.tells world.new) (K.holds out.old) (K.holds out.new) (Got (E.holds err.old) (E.holds err.new) (E.faults err.old) (E.faults err.new)) }
+        → ServesLink config at tap result (W.tells world.old) (W.tells world.new) (K.holds out.old) (K.holds out.new)
+        (Got (E.holds err.old) (E.holds err.new) (E.faults err.old) (E.faults err.new)) }
     // With `drive NUMBER OCTETS` one is made on a World of its own, and `world` is left alone.
     ensures drives { (number octets : ℕ) → Means (map string_bytes words.now.items) (Drives number octets) → octets ≤ 10000000
         → DrivesRun number octets result (W.tells world.old) (W.tells world.new) (K.holds out.old) (K.holds out.new) }

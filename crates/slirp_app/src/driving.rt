@@ -38,7 +38,8 @@ pub(crate) fn drive<K: Sink>(alloc: Global, number: u64, octets: u64, out: &mut 
 // Runs a service that has served nothing, and puts what it came to.
 fn run_on<K: Sink>(mut world: DriveWorld, service: Service, out: &mut K) -> Result<(), Failed>
     requires { IsNew service }
-    ensures { (run : Run) × (run.number ≡ world.number) × Puts (K.holds out.old) (K.holds out.new) (K.faults out.old) (K.faults out.new) (summary_text run) result }
+    ensures { (run : Run) × (run.number ≡ world.number) × Puts (K.holds out.old) (K.holds out.new) (K.faults out.old) (K.faults out.new)
+        (summary_text run) result }
 {
     let _outcome = run_service(service, &mut world);
     world.summary(out)

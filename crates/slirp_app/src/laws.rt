@@ -30,7 +30,8 @@ pub fn an_untroubled_run_is_made_to_its_end()
     ensures run { (config : Config) (journal : List Entry) → AreAllowed journal → Lawful config journal → Finished config journal
         → Untroubled config journal → end_of config (phase config journal) ≡ AtEnd }
     // So with `serve`, behind the opening of the link.
-    ensures served { (config : Config) (outcome : Outcome) (run : List Entry) → IsRun config outcome run → AreAllowed run → Untroubled config run → outcome ≡ Done }
+    ensures served { (config : Config) (outcome : Outcome) (run : List Entry) → IsRun config outcome run → AreAllowed run → Untroubled config run
+        → outcome ≡ Done }
 {}
 
 /// A schedule that can be followed is followed to its end: `replay FILE` comes to 0.
@@ -51,22 +52,28 @@ pub fn a_schedule_that_can_be_followed_is_followed_to_its_end()
 /// A record, replayed with the same settings, prints itself where nothing diverged.
 pub fn a_record_replays_to_itself()
     // FILE has the lines of a lawful record: a replay with its settings that made a run, and neither diverged (5) nor spent its turns (10), made just its calls with their answers; so the record is that of a finished run, and the status is that of the end which it tells.
-    ensures itself { (file : List ℕ) (config : Config) (status : ℕ) (world world_new : Telling) (old new err err_new : Option (List ℕ)) (faults faults_new : ℕ) (run : List Entry)
+    ensures itself { (file : List ℕ) (config : Config) (status : ℕ) (world world_new : Telling) (old new err err_new : Option (List ℕ)) (faults faults_new : ℕ)
+        (run : List Entry)
         → ReplaysFile file config status world world_new old new (Got err err_new faults faults_new) → AreAllowed run → Lawful config run
         → IsTrue (is_run status) → status ≢ 5 → status ≢ 10 → Makes world world_new (λ made. octets_read made ≡ text run
         → (new ≡ added (text run ++ end_line status) old) × Finished config run × (status ≡ code_of (outcome_of (end_of config (phase config run))))) }
     // One that spent its turns made the first calls of the record, those of a finished run with as many waits, and the record has no wait after them.
-    ensures spent { (file : List ℕ) (config : Config) (status : ℕ) (world world_new : Telling) (old new err err_new : Option (List ℕ)) (faults faults_new : ℕ) (run : List Entry)
+    ensures spent { (file : List ℕ) (config : Config) (status : ℕ) (world world_new : Telling) (old new err err_new : Option (List ℕ)) (faults faults_new : ℕ)
+        (run : List Entry)
         → ReplaysFile file config status world world_new old new (Got err err_new faults faults_new) → AreAllowed run → Lawful config run
         → status ≡ 10 → Makes world world_new (λ made. octets_read made ≡ text run → (rest : List Entry) × (front : List Entry) × (run ≡ rest ++ front)
         × (new ≡ added (text front ++ end_line 10) old) × Finished config front × (waits front ≡ config.turns) × (waits run ≡ config.turns)) }
     // One that diverged (5) made the first calls of the record, and ceased at a lawful call that isn't the record's next; of a finished record whose turns weren't spent.
-    ensures diverged { (file : List ℕ) (config : Config) (status : ℕ) (world world_new : Telling) (old new err err_new : Option (List ℕ)) (faults faults_new : ℕ) (run : List Entry)
-        → ReplaysFile file config status world world_new old new (Got err err_new faults faults_new) → AreAllowed run → Lawful config run → Finished config run → code_of (outcome_of (end_of config (phase config run))) ≢ 10
-        → status ≡ 5 → Makes world world_new (λ made. octets_read made ≡ text run → (rest : List Entry) × (entry : Entry) × (front : List Entry) × (call : Call) × (run ≡ rest ++ (entry ∷ front))
+    ensures diverged { (file : List ℕ) (config : Config) (status : ℕ) (world world_new : Telling) (old new err err_new : Option (List ℕ))
+        (faults faults_new : ℕ) (run : List Entry)
+        → ReplaysFile file config status world world_new old new (Got err err_new faults faults_new) → AreAllowed run → Lawful config run → Finished config run
+        → code_of (outcome_of (end_of config (phase config run))) ≢ 10
+        → status ≡ 5 → Makes world world_new (λ made. octets_read made ≡ text run → (rest : List Entry) × (entry : Entry) × (front : List Entry)
+        × (call : Call) × (run ≡ rest ++ (entry ∷ front))
         × (new ≡ added (text front ++ end_line 5) old) × May config front call × (call ≢ call_of entry)) }
     // So of all that `serve --record` put where the output held nothing and took it: such a replay prints it again, and comes to the same status.
-    ensures recorded { (config : Config) (at : Place) (status again : ℕ) (live live_new world world_new : Telling) (octets file : List ℕ) (old new said said_new err err_new : Option (List ℕ)) (told told_new faults faults_new : ℕ)
+    ensures recorded { (config : Config) (at : Place) (status again : ℕ) (live live_new world world_new : Telling) (octets file : List ℕ)
+        (old new said said_new err err_new : Option (List ℕ)) (told told_new faults faults_new : ℕ)
         → ServesLink config at Record status live live_new (Some []) (Some octets) (Got said said_new told told_new) → status ≢ 12
         → ReplaysFile file config again world world_new old new (Got err err_new faults faults_new) → IsTrue (is_run again) → again ≢ 5 → again ≢ 10
         → Makes world world_new (λ made. octets_read made ≡ octets → (new ≡ added (octets ++ end_line again) old) × (again ≡ status)) }

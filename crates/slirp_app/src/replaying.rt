@@ -35,7 +35,8 @@ pub(crate) fn replay_file<W: World, K: Sink>(
     requires built { IsBuilt (settings config.now) }
     requires some { 0 < length name.now }
     requires fits { length name.now ≤ 1280 }
-    ensures calls { Makes (W.tells world.old) (W.tells world.new) (λ made. Follows (MayFetch name.now) made × Caused (settings config.now) result made (K.holds out.old) (K.holds out.new)) }
+    ensures calls { Makes (W.tells world.old) (W.tells world.new)
+        (λ made. Follows (MayFetch name.now) made × Caused (settings config.now) result made (K.holds out.old) (K.holds out.new)) }
     ensures nothing { IsTrue (is_unrun (code_of result)) → K.holds out.new ≡ K.holds out.old }
     ensures read { (code_of result ≢ 1) × (code_of result ≢ 2) }
     ensures refused { code_of result ≡ 12 → Rose (K.faults out.old) (K.faults out.new) }

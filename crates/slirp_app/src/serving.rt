@@ -30,7 +30,8 @@ pub(crate) fn serve<W: World, K: Sink>(
     requires sound { IsSound (settings config.now) }
     requires built { IsBuilt (settings config.now) }
     requires place { IsPlace (place_of at.now) }
-    ensures serves { Makes (W.tells world.old) (W.tells world.new) (ServesAt (settings config.now) (place_of at.now) tap result (K.holds out.old) (K.holds out.new)) }
+    ensures serves { Makes (W.tells world.old) (W.tells world.new)
+        (ServesAt (settings config.now) (place_of at.now) tap result (K.holds out.old) (K.holds out.new)) }
     ensures refused { code_of result ≡ 12 → Rose (K.faults out.old) (K.faults out.new) }
 {
     let Ok(service) = Service::open(alloc, config) else {

@@ -26,7 +26,8 @@ pub(crate) fn record_link<W: World, K: Sink>(
     requires new { IsNew service }
     requires none { lines ≡ [] }
     requires place { IsPlace (place_of at.now) }
-    ensures records { Makes (W.tells world.old) (W.tells world.new) (RecordsAt service.slirp.config (place_of at.now) result (K.holds out.old) (K.holds out.new)) }
+    ensures records { Makes (W.tells world.old) (W.tells world.new)
+        (RecordsAt service.slirp.config (place_of at.now) result (K.holds out.old) (K.holds out.new)) }
     ensures refused { code_of result ≡ 12 → Rose (K.faults out.old) (K.faults out.new) }
 {
     match world.link_open(at) {
@@ -49,14 +50,15 @@ fn record<W: World, K: Sink>(service: Service, lines: Lines, world: &mut W, out:
     outcome
 }
 
-// The same for a World that is handed over, and back; the sink's reference comes back too.
+// Records a run on a World that is handed over and comes back; the sink's reference comes back too.
 fn record_in<'a, W: World, K: Sink>(
     world: W,
     run: (Service, Lines, &'a mut K),
 ) -> (W, (Outcome, &'a mut K))
     requires new { IsNew run.0 }
     requires none { run.1 ≡ [] }
-    ensures recorded { Makes (W.tells world) (W.tells result.0) (IsRecorded run.entry.0.slirp.config result.1.0 (K.holds run.entry.2.now) (K.holds result.1.1.now)) }
+    ensures recorded { Makes (W.tells world) (W.tells result.0)
+        (IsRecorded run.entry.0.slirp.config result.1.0 (K.holds run.entry.2.now) (K.holds result.1.1.now)) }
     ensures refused { code_of result.1.0 ≡ 12 → Rose (K.faults run.entry.2.now) (K.faults result.1.1.now) }
     ensures same { result.1.1.ghost_name ≡ run.entry.2.ghost_name }
 {
@@ -91,14 +93,15 @@ pub(crate) fn capture_link<W: World, K: Sink>(
     requires new { IsNew service }
     requires none { Tracks framing [] }
     requires place { IsPlace (place_of at.now) }
-    ensures captures { Makes (W.tells world.old) (W.tells world.new) (CapturesAt service.slirp.config (place_of at.now) result (K.holds out.old) (K.holds out.new)) }
+    ensures captures { Makes (W.tells world.old) (W.tells world.new)
+        (CapturesAt service.slirp.config (place_of at.now) result (K.holds out.old) (K.holds out.new)) }
     ensures refused { code_of result ≡ 12 → Rose (K.faults out.old) (K.faults out.new) }
 {
     let (outcome, _out) = replace_with(world, (service, framing, at, out), capture_in);
     outcome
 }
 
-// The same for a World that is handed over, and back; the sink's reference comes back too.
+// Captures a run on a World that is handed over and comes back; the sink's reference comes back too.
 fn capture_in<'a, W: World, K: Sink>(
     world: W,
     run: (Service, Framing, &LinkAt, &'a mut K),
@@ -106,7 +109,8 @@ fn capture_in<'a, W: World, K: Sink>(
     requires new { IsNew run.0 }
     requires none { Tracks run.1 [] }
     requires place { IsPlace (place_of run.2.now) }
-    ensures captures { Makes (W.tells world) (W.tells result.0) (CapturesAt run.entry.0.slirp.config (place_of run.entry.2.now) result.1.0 (K.holds run.entry.3.now) (K.holds result.1.1.now)) }
+    ensures captures { Makes (W.tells world) (W.tells result.0)
+        (CapturesAt run.entry.0.slirp.config (place_of run.entry.2.now) result.1.0 (K.holds run.entry.3.now) (K.holds result.1.1.now)) }
     ensures refused { code_of result.1.0 ≡ 12 → Rose (K.faults run.entry.3.now) (K.faults result.1.1.now) }
     ensures same { result.1.1.ghost_name ≡ run.entry.3.ghost_name }
 {
@@ -120,7 +124,8 @@ fn capture_run<W: World, K: Sink>(sink: K, run: (W, Service, Framing, &LinkAt)) 
     requires new { IsNew run.1 }
     requires none { Tracks run.2 [] }
     requires place { IsPlace (place_of run.3.now) }
-    ensures captures { Makes (W.tells run.entry.0) (W.tells result.1.0) (CapturesAt run.entry.1.slirp.config (place_of run.entry.3.now) result.1.1 (K.holds sink) (K.holds result.0)) }
+    ensures captures { Makes (W.tells run.entry.0) (W.tells result.1.0)
+        (CapturesAt run.entry.1.slirp.config (place_of run.entry.3.now) result.1.1 (K.holds sink) (K.holds result.0)) }
     ensures refused { code_of result.1.1 ≡ 12 → Rose (K.faults sink) (K.faults result.0) }
 {
     let (world, service, framing, at) = run;

@@ -8,7 +8,7 @@ use Rattle.slirp_config.specs.Options.{Word, Given, takes_value, is_dashed, valu
 use Rattle.slirp_config.specs.Walking.{Walk, put_option, put_alone, put_joined, put_name, put_dashed, step, is_sign}
 use Rattle.slirp_config.proofs.Names.{same_text}
 use Rattle.slirp_config.proofs.Few.{refuted}
-use Rattle.slirp_config.proofs.Parting.{both, split_place}
+use Rattle.address_text.proofs.Parting.{both, split_place}
 use Rattle.slirp_config.proofs.Steps.{at, waiting, behind_end, given}
 
 pub chosen : (t : Bool) (x : Option Walk) (w : Walk) → cond t x None ≡ Some w → (t ≡ true) × (x ≡ Some w)

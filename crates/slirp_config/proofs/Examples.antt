@@ -1,15 +1,61 @@
 -- What some command lines mean.
-use Rattle.std.proofs.Common.{refl, [], ◌∷◌, codes, None, Some, inl, inr, arith}
+use Rattle.std.proofs.Common.{◌≡◌, ℕ, ◌+◌, ◌%◌, ◌^◌, refl, List, [], ◌∷◌, codes, Option, None, Some, MatchOption, inl, inr, arith}
+use Rattle.net_octets.specs.declared.Endpoint.{Endpoint}
 use Rattle.host_policy.specs.Addresses.{endpoint}
 use Rattle.host_policy.specs.Settings.{usual}
 use Rattle.host_policy.specs.Targets.{loopback}
+use Rattle.host_policy.specs.declared.Forward.{Forward}
 use Rattle.host_policy.specs.declared.Proto.TheVariants.{Tcp, Udp}
 use Rattle.std.specs.Fmt.{digits}
 use Rattle.slirp_config.specs.declared.Tap.TheVariants.{Off}
-use Rattle.slirp_config.specs.Options.{Apart, Joined, Plain}
-use Rattle.slirp_config.specs.Texts.{address_text}
-use Rattle.slirp_config.specs.Meaning.{Means, Drives, Replays, Serves}
+use Rattle.slirp_config.specs.Options.{Apart, Joined, Plain, Word}
+use Rattle.address_text.specs.Texts.{IsAddress, IsEndpointText, address_text, endpoint_text}
+use Rattle.slirp_config.specs.Texts.{IsNetwork}
+use Rattle.slirp_config.specs.Meaning.{AreSettings, Means, Drives, Replays, Serves, version_of}
 use Rattle.world_face.specs.Journal.{AtPath}
+
+-- no option is given but for the network, its addresses, who is asked for names, and from where datagrams go out
+abbrev IsPlain : (given : Word → Option Word) → Type 0
+IsPlain given =
+    (given (codes "--restrict") ≡ None) × (given (codes "--no-loopback") ≡ None) × (given (codes "--hostname") ≡ None) × (given (codes "--domainname") ≡ None) × (given (codes "--tftp-server-name") ≡ None)
+    × (given (codes "--bootfile") ≡ None) × (given (codes "--tftp") ≡ None) × (given (codes "--mtu") ≡ None) × (given (codes "--mru") ≡ None) × (given (codes "--flows") ≡ None)
+    × (given (codes "--ring") ≡ None) × (given (codes "--turns") ≡ None) × (given (codes "--no-dns") ≡ None) × (given (codes "--no-dhcp") ≡ None) × (given (codes "--congestion") ≡ None)
+
+-- so all else is usual
+plain : (given : Word → Option Word) (network mask vhost vnameserver dhcp_start : ℕ) (resolver : Option Endpoint) (outbound : Option ℕ) (version : ℕ) (forwards : List Forward) → IsPlain given
+    → MatchOption (given (codes "--net")) ((network ≡ usual.network) × (mask ≡ usual.mask)) (λ text. IsNetwork text network mask)
+    → MatchOption (given (codes "--host")) (vhost ≡ (network + 2) % 2 ^ 32) (λ text. IsAddress text vhost)
+    → MatchOption (given (codes "--dns")) (vnameserver ≡ (network + 3) % 2 ^ 32) (λ text. IsAddress text vnameserver)
+    → MatchOption (given (codes "--dhcpstart")) (dhcp_start ≡ (network + 15) % 2 ^ 32) (λ text. IsAddress text dhcp_start)
+    → MatchOption (given (codes "--resolver")) (resolver ≡ None) (λ text. (at : Endpoint) × (resolver ≡ Some at) × IsEndpointText text at)
+    → MatchOption (given (codes "--outbound")) (outbound ≡ None) (λ text. (a : ℕ) × (outbound ≡ Some a) × IsAddress text a)
+    → version ≡ version_of given
+    → AreSettings given (record usual { network = network; mask = mask; vhost = vhost; vnameserver = vnameserver; dhcp_start = dhcp_start; resolver = resolver; outbound = outbound; version = version; forwards = forwards })
+plain given network mask vhost vnameserver dhcp_start resolver outbound version forwards none net host dns start asked out of = record {
+  net = net;
+  host = host;
+  dns = dns;
+  dhcp_start = start;
+  restricted = rw none.0 refl;
+  no_loopback = rw none.1 refl;
+  hostname = rw none.2 refl;
+  domainname = rw none.3 refl;
+  tftp_server_name = rw none.4 refl;
+  bootfile = rw none.5 refl;
+  tftp_path = rw none.6 refl;
+  mtu = rw none.7 refl;
+  mru = rw none.8 refl;
+  flows = rw none.9 refl;
+  ring = rw none.10 refl;
+  resolver = asked;
+  turns = rw none.11 refl;
+  outbound = out;
+  no_dns = rw none.12 refl;
+  no_dhcp = rw none.13 refl;
+  congestion = rw none.14 refl;
+  version = of;
+  rest = refl;
+}
 
 -- another network: what isn't given lies behind its first address
 another_network : Means
@@ -28,31 +74,8 @@ another_network = (
     omega arith,
     omega arith,
     tt,
-    record {
-      net = (16, refl, omega arith, omega arith, refl);
-      host = (refl, omega arith);
-      dns = refl;
-      dhcp_start = refl;
-      restricted = refl;
-      no_loopback = refl;
-      hostname = refl;
-      domainname = refl;
-      tftp_server_name = refl;
-      bootfile = refl;
-      tftp_path = refl;
-      mtu = refl;
-      mru = refl;
-      flows = refl;
-      ring = refl;
-      resolver = refl;
-      turns = refl;
-      outbound = refl;
-      no_dns = refl;
-      no_dhcp = refl;
-      congestion = refl;
-      version = refl;
-      rest = refl;
-    },
+    plain _ _ _ _ _ _ _ _ _ _ (refl, refl, refl, refl, refl, refl, refl, refl, refl, refl, refl, refl, refl, refl, refl)
+        (16, refl, omega arith, omega arith, refl) (refl, omega arith) refl refl refl refl refl,
   ),
 )
 
@@ -86,31 +109,8 @@ first_guest = (
       ),
       tt,
     ),
-    record {
-      net = (refl, refl);
-      host = refl;
-      dns = refl;
-      dhcp_start = (refl, omega arith);
-      restricted = refl;
-      no_loopback = refl;
-      hostname = refl;
-      domainname = refl;
-      tftp_server_name = refl;
-      bootfile = refl;
-      tftp_path = refl;
-      mtu = refl;
-      mru = refl;
-      flows = refl;
-      ring = refl;
-      resolver = refl;
-      turns = refl;
-      outbound = refl;
-      no_dns = refl;
-      no_dhcp = refl;
-      congestion = refl;
-      version = refl;
-      rest = refl;
-    },
+    plain _ _ _ _ _ _ _ _ _ _ (refl, refl, refl, refl, refl, refl, refl, refl, refl, refl, refl, refl, refl, refl, refl)
+        (refl, refl) refl refl (refl, omega arith) refl refl refl,
   ),
 )
 
@@ -123,7 +123,7 @@ datagrams : Means
       outbound = Some 0xc0000209;
       forwards = record { proto = Udp; host = endpoint 0 53; guest = endpoint 0x0a00020f 53 } ∷ [];
     }))
-unfolding address_text digits
+unfolding address_text endpoint_text digits
 datagrams = (
   codes "F" ∷ codes "udp::53-:53" ∷ codes "--resolver=192.0.2.1:53" ∷ codes "--outbound" ∷ codes "192.0.2.9" ∷ [],
   refl,
@@ -147,31 +147,8 @@ datagrams = (
       }),
       tt,
     ),
-    record {
-      net = (refl, refl);
-      host = refl;
-      dns = refl;
-      dhcp_start = refl;
-      restricted = refl;
-      no_loopback = refl;
-      hostname = refl;
-      domainname = refl;
-      tftp_server_name = refl;
-      bootfile = refl;
-      tftp_path = refl;
-      mtu = refl;
-      mru = refl;
-      flows = refl;
-      ring = refl;
-      resolver = (endpoint 0xc0000201 53, refl, (refl, (omega arith, omega arith)));
-      turns = refl;
-      outbound = (0xc0000209, refl, (refl, omega arith));
-      no_dns = refl;
-      no_dhcp = refl;
-      congestion = refl;
-      version = refl;
-      rest = refl;
-    },
+    plain _ _ _ _ _ _ _ _ _ _ (refl, refl, refl, refl, refl, refl, refl, refl, refl, refl, refl, refl, refl, refl, refl)
+        (refl, refl) refl refl refl (endpoint 0xc0000201 53, refl, (refl, (omega arith, omega arith))) (0xc0000209, refl, (refl, omega arith)) refl,
   ),
 )
 

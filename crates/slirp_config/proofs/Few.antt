@@ -5,7 +5,7 @@ use Rattle.std.specs.Option.{option_map}
 use Rattle.host_policy.specs.Ranges.{none_twice}
 use Rattle.slirp_config.specs.Options.{Word, Given, same_name, value_in}
 use Rattle.slirp_config.proofs.Names.{same_text}
-use Rattle.slirp_config.proofs.Parting.{both, pair}
+use Rattle.address_text.proofs.Parting.{both, pair}
 
 pub neither : (x y : Bool) → x || y ≡ false → (x ≡ false) × (y ≡ false)
 neither true y h = absurd (cc h)

@@ -1,7 +1,5 @@
 mod Examples
-pub mod Parting
-pub mod Numbers
-pub mod Addresses
+pub mod Networks
 pub mod Finding
 pub mod Settled
 pub mod Names

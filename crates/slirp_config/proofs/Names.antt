@@ -5,8 +5,8 @@ use Rattle.std.specs.Option.{option_map}
 use Rattle.std.proofs.lemmas.Slice.Eq.{bytes_eq-Decides}
 use Rattle.slirp_config.specs.declared.options.Verb.{Verb}
 use Rattle.slirp_config.specs.Options.{Word, Row, rows, is_row, takes_value, is_dashed}
-use Rattle.slirp_config.specs.Texts.{is_other}
-use Rattle.slirp_config.proofs.Parting.{both}
+use Rattle.address_text.specs.Texts.{is_other}
+use Rattle.address_text.proofs.Parting.{both}
 
 pub same_text : (a b : Word) → bytes_eq a b ≡ true → a ≡ b
 same_text a b is = (bytes_eq-Decides a b).0 is

@@ -13,11 +13,13 @@ use Rattle.slirp_config.specs.declared.options.Verb.TheVariants.{Replay, Serve}
 use Rattle.slirp_config.specs.Meaning.{AreSettings, IsTap, MeansReplay, MeansServe, is_capture, is_record}
 use Rattle.slirp_config.specs.Options.{Word, value_in}
 use Rattle.slirp_config.specs.Rules.{AreRules}
-use Rattle.slirp_config.specs.Texts.{IsNumber, IsAddress, IsNetwork, IsEndpointText, IsLink, endpoint_text, is_other}
+use Rattle.address_text.specs.Texts.{IsNumber, IsAddress, IsEndpointText, endpoint_text, is_other}
+use Rattle.address_text.proofs.Parting.{parts_once, digit_is_no_slash}
+use Rattle.address_text.proofs.Addresses.{address, address_form, address_fits, same_address, same_endpoint}
+use Rattle.slirp_config.proofs.Networks.{network_form}
+use Rattle.slirp_config.specs.Texts.{IsNetwork, IsLink}
 use Rattle.slirp_config.specs.Walking.{Walk}
-use Rattle.slirp_config.proofs.Addresses.{address, address_form, address_fits, network_form, same_address, same_endpoint}
 use Rattle.slirp_config.proofs.Meant.{IsLinkAt, one_walk, replay_meant, serve_meant}
-use Rattle.slirp_config.proofs.Parting.{parts_once, digit_is_no_slash}
 use Rattle.slirp_config.proofs.Ruled.{same_forwards}
 use Rattle.slirp_config.proofs.Settled.{made}
 

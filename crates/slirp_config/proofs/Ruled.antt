@@ -12,9 +12,9 @@ use Rattle.host_policy.specs.declared.Proto.TheVariants.{Tcp, Udp}
 use Rattle.slirp_config.specs.Narrowing.{portless, held_forwards}
 use Rattle.slirp_config.specs.Options.{Word}
 use Rattle.slirp_config.specs.Rules.{IsAddressOr, IsPortAt, IsType, IsForward, IsRule, AreRules}
-use Rattle.slirp_config.specs.Texts.{is_other}
-use Rattle.slirp_config.proofs.Addresses.{address_form, address_fits, same_address, made_of}
-use Rattle.slirp_config.proofs.Parting.{is_digit, fit_append, fit_weaker, parts_once, decimal_digits, digit_is_no_dash, digit_is_no_colon}
+use Rattle.address_text.specs.Texts.{is_other}
+use Rattle.address_text.proofs.Parting.{is_digit, fit_append, fit_weaker, parts_once, decimal_digits, digit_is_no_dash, digit_is_no_colon}
+use Rattle.address_text.proofs.Addresses.{address_form, address_fits, same_address, made_of}
 
 -- an address that may be left out has digits and dots alone
 address_or_fits : (p : ℕ → Bool) → ((c : ℕ) → is_digit c ≡ true → p c ≡ true) → p 46 ≡ true → (usual : ℕ) (text : List ℕ) (a : ℕ) → IsAddressOr usual text a → list_all p text ≡ true

@@ -5,11 +5,11 @@ use Rattle.std.proofs.lemmas.Bool.Decides.{nat_tests}
 use Rattle.std.proofs.Math.Seq.{take-append_seam, drop-append-add}
 use Rattle.slirp_config.specs.declared.options.Verb.{Verb}
 use Rattle.slirp_config.specs.Options.{Word, Given, takes_value, is_dashed, value_in}
-use Rattle.slirp_config.specs.Texts.{is_other}
+use Rattle.address_text.specs.Texts.{is_other}
+use Rattle.address_text.proofs.Parting.{both, no_part}
 use Rattle.slirp_config.specs.Walking.{Walk, put_option, put_alone, put_joined, put_name, step, is_sign}
 use Rattle.slirp_config.proofs.Names.{is_name, name_is, same_text}
 use Rattle.slirp_config.proofs.Few.{refuted}
-use Rattle.slirp_config.proofs.Parting.{both, no_part}
 
 -- the walk between two pieces
 abbrev pub at : Verb → List Given → List Word → Walk

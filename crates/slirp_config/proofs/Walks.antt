@@ -9,7 +9,7 @@ use Rattle.slirp_config.specs.Walking.{Walk, put_alone, step, next, walk_on, fin
 use Rattle.slirp_config.proofs.Back.{chosen, same_walk, stepped, Stepped, Ends, Alone, Joins, Waits, Flags, value_back}
 use Rattle.slirp_config.proofs.Few.{few, fresh_there, once_more}
 use Rattle.slirp_config.proofs.Names.{name_known}
-use Rattle.slirp_config.proofs.Parting.{pair}
+use Rattle.address_text.proofs.Parting.{pair}
 use Rattle.slirp_config.proofs.Steps.{at, waiting, behind_end, given, flag_step, waits_step, apart_step, plain_step, joined_step, put_fresh, put_room}
 
 -- what the walk comes to

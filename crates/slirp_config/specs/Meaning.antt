@@ -17,7 +17,8 @@ use Rattle.slirp_config.specs.declared.WordFault.TheVariants.{BadConfig}
 use Rattle.slirp_config.specs.declared.options.Verb.TheVariants.{Replay, Serve}
 use Rattle.slirp_config.specs.Options.{Word, Line, IsLine, line_words, words_alone, value_of}
 use Rattle.slirp_config.specs.Rules.{AreRules}
-use Rattle.slirp_config.specs.Texts.{IsNumber, IsAddress, IsNetwork, IsEndpointText, IsLink, held_folder, held_text}
+use Rattle.address_text.specs.Texts.{IsNumber, IsAddress, IsEndpointText}
+use Rattle.slirp_config.specs.Texts.{IsNetwork, IsLink, held_folder, held_text}
 
 -- A schedule in a file is replayed, or the link at a place is served, with these settings, and perhaps what is called is recorded or the link's frames are captured; or a drill of so many octets is run, on a World that is made from a number.
 pub data Meaning : Type 0 where

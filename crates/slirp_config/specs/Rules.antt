@@ -4,7 +4,7 @@ use Rattle.net_octets.specs.declared.Endpoint.{Endpoint}
 use Rattle.host_policy.specs.declared.Forward.{Forward}
 use Rattle.host_policy.specs.declared.Proto.{Proto}
 use Rattle.host_policy.specs.declared.Proto.TheVariants.{Tcp, Udp}
-use Rattle.slirp_config.specs.Texts.{IsNumber, IsAddress}
+use Rattle.address_text.specs.Texts.{IsNumber, IsAddress}
 
 -- an address that may be left out, and is the usual one then
 abbrev pub IsAddressOr : (usual : ℕ) (text : List ℕ) (a : ℕ) → Type 0

@@ -46,13 +46,14 @@ ghost use Rattle.world_face.specs.Journal.{Place};
 ghost use Rattle.slirp_config.specs.Meaning.{AnswersBy, Drives, HasPlace, Meaning, Means, MeansDrive, MeansReplay, MeansServe, Replays, Serves, broken_in, config_of, is_capture, is_record, said};
 ghost use Rattle.slirp_config.specs.Narrowing.{narrowed_meaning, narrowed_settings};
 ghost use Rattle.slirp_config.specs.Options.{Word};
-ghost use Rattle.slirp_config.specs.Texts.{IsNumber};
+ghost use Rattle.address_text.specs.Texts.{IsNumber};
 ghost use Rattle.slirp_config.specs.declared.Tap.{Tap as ATap};
 ghost use Rattle.slirp_config.specs.declared.WordFault.TheVariants.{BadConfig, Usage};
 
-use crate::line::{Line, NoReading};
+use crate::line::Line;
 use crate::options::Verb;
-use crate::values::{read_link, read_number};
+use crate::values::read_link;
+use address_text::{NoReading, read_number};
 use arrayvec::ArrayString;
 use host_policy::{Field, SlirpConfig};
 use world_face::LinkAt;
@@ -126,7 +127,8 @@ pub fn read_words(words: &Vec<String>) -> Result<Command, WordFault>
     // The link can be opened at the place that is told.
     ensures place { IfOk result (λ command. HasPlace (said command)) }
     // A field is named where the words mean something of which it is the first that isn't in its range.
-    ensures bad_config { (field : AField) → result ≡ Err (BadConfig field) → (meaning : Meaning) × Means (map string_bytes words.now.items) meaning × (broken_in meaning ≡ Some field) }
+    ensures bad_config { (field : AField) → result ≡ Err (BadConfig field) → (meaning : Meaning) × Means (map string_bytes words.now.items) meaning
+        × (broken_in meaning ≡ Some field) }
     // Words are refused where they mean nothing.
     ensures usage { result ≡ Err Usage → (meaning : Meaning) → ¬ Means (map string_bytes words.now.items) meaning }
     // Whatever the words mean is answered: so each of the above comes exactly there.
@@ -181,7 +183,8 @@ fn command_of(words: &[String]) -> Result<Command, NoReading>
 
 // What the words behind `replay` ask for.
 fn replay_of(words: &[String]) -> Result<Command, NoReading>
-    ensures meant { IfOk result (λ command. (file : List ℕ) × (config : Config) × MeansReplay (map string_bytes words.now) file config × (said command ≡ Replays file (narrowed_settings config))) }
+    ensures meant { IfOk result (λ command. (file : List ℕ) × (config : Config) × MeansReplay (map string_bytes words.now) file config
+        × (said command ≡ Replays file (narrowed_settings config))) }
     ensures place { IfOk result (λ command. HasPlace (said command)) }
     ensures refused { OnErr result ((file : List ℕ) (config : Config) → ¬ MeansReplay (map string_bytes words.now) file config) }
 {
@@ -210,7 +213,8 @@ fn file_of(word: &str) -> Result<ArrayString<1280>, NoReading>
 
 // What the words behind `serve` ask for.
 fn serve_of(words: &[String]) -> Result<Command, NoReading>
-    ensures meant { IfOk result (λ command. (config : Config) × (at : Place) × (tap : ATap) × MeansServe (map string_bytes words.now) config at tap × (said command ≡ Serves (narrowed_settings config) at tap)) }
+    ensures meant { IfOk result (λ command. (config : Config) × (at : Place) × (tap : ATap) × MeansServe (map string_bytes words.now) config at tap
+        × (said command ≡ Serves (narrowed_settings config) at tap)) }
     ensures place { IfOk result (λ command. HasPlace (said command)) }
     ensures refused { OnErr result ((config : Config) (at : Place) (tap : ATap) → ¬ MeansServe (map string_bytes words.now) config at tap) }
 {
@@ -240,7 +244,8 @@ fn tap_of(recorded: bool, captured: bool) -> Result<Tap, NoReading>
 
 // What the words behind `drive` ask for.
 fn drive_of(words: &[String]) -> Result<Command, NoReading>
-    ensures meant { IfOk result (λ command. (number : ℕ) × (octets : ℕ) × MeansDrive (map string_bytes words.now) number octets × (said command ≡ Drives number octets)) }
+    ensures meant { IfOk result (λ command. (number : ℕ) × (octets : ℕ) × MeansDrive (map string_bytes words.now) number octets
+        × (said command ≡ Drives number octets)) }
     ensures place { IfOk result (λ command. HasPlace (said command)) }
     ensures refused { OnErr result ((number octets : ℕ) → ¬ MeansDrive (map string_bytes words.now) number octets) }
 {

@@ -5,14 +5,11 @@ ghost use Rattle.slirp_config.specs.Options.{is_dashed, value_in};
 ghost use Rattle.slirp_config.specs.Walking.{walk_of, put_option, put_alone, put_apart, put_joined, put_name, put_dashed, begin, step, walked};
 
 use crate::options::{COUNT, Verb, takes_value};
+use address_text::NoReading;
 use arrayvec::ArrayVec;
 
 /// How many words may stand by themselves: a file, and one RULE more than the settings have room for.
 const ALONE: usize = 34;
-
-/// The words have no reading.
-#[derive(Clone, Copy, Debug, PartialEq, Eq)]
-pub(crate) struct NoReading;
 
 /// An option that was given, with its value; that of a flag is empty.
 #[derive(Clone, Copy, Debug, Default)]

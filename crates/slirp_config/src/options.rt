@@ -70,7 +70,7 @@ pub(crate) fn takes_value(verb: Verb, name: &str) -> Option<bool>
     value_among(&OPTIONS, verb, name)
 }
 
-// The same, of some rows.
+// Whether a value goes with the command's option of this name, by these rows.
 fn value_among(rows: &[Row], verb: Verb, name: &str) -> Option<bool>
     ensures { result ≡ option_map (λ row. row.has_value) (find (is_row verb name.now) (map row_of rows.now)) }
 {

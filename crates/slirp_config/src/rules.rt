@@ -6,8 +6,7 @@ ghost use Rattle.net_octets.specs.declared.Endpoint.{Endpoint as AnEndpoint};
 ghost use Rattle.slirp_config.specs.Narrowing.{held_forwards};
 ghost use Rattle.slirp_config.specs.Rules.{AreRules, IsAddressOr, IsForward, IsPortAt, IsRule, IsType};
 
-use crate::line::NoReading;
-use crate::values::{read_address, read_short, split_at};
+use address_text::{NoReading, read_address, read_short, split_at};
 use arrayvec::ArrayVec;
 use host_policy::{Forward, Proto};
 use net_octets::{Endpoint, Ip4};
@@ -27,7 +26,8 @@ pub(crate) fn put_forwards(
     forwards: &mut ArrayVec<Forward, ROOM>,
 ) -> Result<(), NoReading>
     requires { forwards.old.items ≡ [] }
-    ensures put { OnOk result ((all : List AForward) × AreRules (map (λ rule. rule.now) rules.now) dhcp_start.0 all × (forwards.new.items ≡ held_forwards all)) }
+    ensures put { OnOk result ((all : List AForward) × AreRules (map (λ rule. rule.now) rules.now) dhcp_start.0 all
+        × (forwards.new.items ≡ held_forwards all)) }
     ensures refused { OnErr result ((all : List AForward) → ¬ AreRules (map (λ rule. rule.now) rules.now) dhcp_start.0 all) }
 {
     read_rules(rules, dhcp_start, forwards)?;

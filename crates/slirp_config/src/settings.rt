@@ -7,15 +7,15 @@ ghost use Rattle.net_octets.specs.declared.Endpoint.{Endpoint as AnEndpoint};
 ghost use Rattle.slirp_config.specs.Meaning.{AreSettings, version_of};
 ghost use Rattle.slirp_config.specs.Options.{value_in};
 ghost use Rattle.slirp_config.specs.Rules.{AreRules};
-ghost use Rattle.slirp_config.specs.Texts.{IsAddress, IsEndpointText, IsNetwork, IsNumber, held_folder, held_text};
+ghost use Rattle.address_text.specs.Texts.{IsAddress, IsEndpointText, IsNumber};
+ghost use Rattle.slirp_config.specs.Texts.{IsNetwork, held_folder, held_text};
 ghost use Rattle.slirp_config.specs.Narrowing.{narrowed, narrowed_settings};
 ghost use Rattle.slirp_config.specs.Walking.{walk_of};
 
-use crate::line::{Line, NoReading};
+use crate::line::Line;
 use crate::rules::put_forwards;
-use crate::values::{
-    held_folder, held_text, read_address, read_endpoint, read_network, read_number, read_short,
-};
+use crate::values::{held_folder, held_text, read_network};
+use address_text::{NoReading, read_address, read_endpoint, read_number, read_short};
 use arrayvec::{ArrayString, ArrayVec};
 use host_policy::SlirpConfig;
 use net_octets::{Endpoint, Ip4};
@@ -23,8 +23,10 @@ use net_octets::{Endpoint, Ip4};
 impl<'a> Line<'a> {
     /// The settings that the options and these RULEs give; what none gives is usual.
     pub(crate) fn settings(&self, rules: &[&str]) -> Result<SlirpConfig, NoReading>
-        ensures set { IfOk result (λ c. (config : Config) × AreSettings (value_in (walk_of self.now).options) config × AreRules (map (λ rule. rule.now) rules.now) config.dhcp_start config.forwards × (settings c ≡ narrowed_settings config)) }
-        ensures refused { OnErr result ((config : Config) → AreSettings (value_in (walk_of self.now).options) config → ¬ AreRules (map (λ rule. rule.now) rules.now) config.dhcp_start config.forwards) }
+        ensures set { IfOk result (λ c. (config : Config) × AreSettings (value_in (walk_of self.now).options) config
+            × AreRules (map (λ rule. rule.now) rules.now) config.dhcp_start config.forwards × (settings c ≡ narrowed_settings config)) }
+        ensures refused { OnErr result ((config : Config) → AreSettings (value_in (walk_of self.now).options) config
+            → ¬ AreRules (map (λ rule. rule.now) rules.now) config.dhcp_start config.forwards) }
     {
         let mut config = self.without_forwards()?;
         put_forwards(rules, config.vdhcp_start, &mut config.forwards)?;
@@ -33,7 +35,8 @@ impl<'a> Line<'a> {
 
     // The settings that the options give, without a forward.
     fn without_forwards(&self) -> Result<SlirpConfig, NoReading>
-        ensures set { IfOk result (λ c. (config : Config) × AreSettings (value_in (walk_of self.now).options) config × (settings c ≡ narrowed_settings config)) }
+        ensures set { IfOk result (λ c. (config : Config) × AreSettings (value_in (walk_of self.now).options) config
+            × (settings c ≡ narrowed_settings config)) }
         ensures none { IfOk result (λ c. c.forwards.items ≡ []) }
         ensures refused { OnErr result ((config : Config) → ¬ AreSettings (value_in (walk_of self.now).options) config) }
     {
@@ -67,8 +70,10 @@ impl<'a> Line<'a> {
 
     // The network and its mask.
     fn network(&self, network: Ip4, mask: Ip4) -> Result<(Ip4, Ip4), NoReading>
-        ensures read { IfOk result (λ read. MatchOption (value_in (walk_of self.now).options (codes "--net")) ((read.0.0 ≡ network.0) × (read.1.0 ≡ mask.0)) (λ text. IsNetwork text read.0.0 read.1.0)) }
-        ensures refused { OnErr result ((a m b n : ℕ) → ¬ MatchOption (value_in (walk_of self.now).options (codes "--net")) ((a ≡ b) × (m ≡ n)) (λ text. IsNetwork text a m)) }
+        ensures read { IfOk result (λ read. MatchOption (value_in (walk_of self.now).options (codes "--net")) ((read.0.0 ≡ network.0) × (read.1.0 ≡ mask.0))
+            (λ text. IsNetwork text read.0.0 read.1.0)) }
+        ensures refused { OnErr result ((a m b n : ℕ) → ¬ MatchOption (value_in (walk_of self.now).options (codes "--net")) ((a ≡ b) × (m ≡ n))
+            (λ text. IsNetwork text a m)) }
     {
         match self.value("--net") {
             Some(text) => read_network(text.as_bytes()),
@@ -78,7 +83,8 @@ impl<'a> Line<'a> {
 
     // The address that the option of this name gives, else one so far behind the network's first.
     fn address(&self, name: &str, network: Ip4, offset: u32) -> Result<Ip4, NoReading>
-        ensures read { IfOk result (λ read. MatchOption (value_in (walk_of self.now).options name.now) (read.0 ≡ (network.0 + offset) % 2 ^ 32) (λ text. IsAddress text read.0)) }
+        ensures read { IfOk result (λ read. MatchOption (value_in (walk_of self.now).options name.now) (read.0 ≡ (network.0 + offset) % 2 ^ 32)
+            (λ text. IsAddress text read.0)) }
         ensures refused { OnErr result ((usual a : ℕ) → ¬ MatchOption (value_in (walk_of self.now).options name.now) (a ≡ usual) (λ text. IsAddress text a)) }
     {
         match self.value(name) {
@@ -131,8 +137,11 @@ impl<'a> Line<'a> {
 
     // Who is asked for names, where it is given.
     fn resolver(&self) -> Result<Option<Endpoint>, NoReading>
-        ensures read { IfOk result (λ read. MatchOption (value_in (walk_of self.now).options (codes "--resolver")) (read ≡ None) (λ text. (at : AnEndpoint) × (read ≡ Some at) × IsEndpointText text at)) }
-        ensures refused { OnErr result ((read : Option AnEndpoint) → ¬ MatchOption (value_in (walk_of self.now).options (codes "--resolver")) (read ≡ None) (λ text. (at : AnEndpoint) × (read ≡ Some at) × IsEndpointText text at)) }
+        ensures read { IfOk result (λ read. MatchOption (value_in (walk_of self.now).options (codes "--resolver")) (read ≡ None)
+            (λ text. (at : AnEndpoint) × (read ≡ Some at) × IsEndpointText text at)) }
+        ensures refused { OnErr result ((read : Option AnEndpoint)
+            → ¬ MatchOption (value_in (walk_of self.now).options (codes "--resolver")) (read ≡ None)
+            (λ text. (at : AnEndpoint) × (read ≡ Some at) × IsEndpointText text at)) }
     {
         let Some(text) = self.value("--resolver") else {
             return Ok(None);
@@ -143,8 +152,10 @@ impl<'a> Line<'a> {
 
     // The address from which datagrams go out, where it is given.
     fn outbound(&self) -> Result<Option<Ip4>, NoReading>
-        ensures read { IfOk result (λ read. MatchOption (value_in (walk_of self.now).options (codes "--outbound")) (option_map (λ a. a.0) read ≡ None) (λ text. (a : ℕ) × (option_map (λ b. b.0) read ≡ Some a) × IsAddress text a)) }
-        ensures refused { OnErr result ((read : Option ℕ) → ¬ MatchOption (value_in (walk_of self.now).options (codes "--outbound")) (read ≡ None) (λ text. (a : ℕ) × (read ≡ Some a) × IsAddress text a)) }
+        ensures read { IfOk result (λ read. MatchOption (value_in (walk_of self.now).options (codes "--outbound")) (option_map (λ a. a.0) read ≡ None)
+            (λ text. (a : ℕ) × (option_map (λ b. b.0) read ≡ Some a) × IsAddress text a)) }
+        ensures refused { OnErr result ((read : Option ℕ) → ¬ MatchOption (value_in (walk_of self.now).options (codes "--outbound")) (read ≡ None)
+            (λ text. (a : ℕ) × (read ≡ Some a) × IsAddress text a)) }
     {
         let Some(text) = self.value("--outbound") else {
             return Ok(None);

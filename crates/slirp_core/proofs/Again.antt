@@ -6,6 +6,7 @@ use Rattle.world_face.specs.Journal.{Entry, LinkWrite}
 use Rattle.world_face.specs.Frames.{goes_out, opens, tail}
 use Rattle.world_face.specs.declared.Io.{Io}
 use Rattle.world_face.specs.declared.Io.TheVariants.{Done, End, NotYet, Failed}
+use Rattle.net_octets.specs.Octets.{our_mac}
 use Rattle.host_policy.specs.Addresses.{Config, address, endpoint}
 use Rattle.host_policy.specs.declared.Reply.{Reply}
 use Rattle.host_policy.specs.declared.Reply.TheVariants.{Nothing as ReplyNothing, Datagram as ReplyDatagram, Unreachable as ReplyUnreachable}
@@ -20,7 +21,7 @@ use Rattle.record_flows.specs.Laws.{MaySendOn, MayWrite, MustSendOn, MustWrite, 
 use Rattle.record_flows.specs.Segments.{asked_in, segment_in}
 use Rattle.run_laws.specs.Moments.{moment}
 use Rattle.tftp_server.specs.Transfers.{Files, Said, Transfer, are_left, begun, next_again, said_again, ticked}
-use Rattle.slirp_laws.specs.Answers.{files_begun, frames_of, is_first, left, or_begun, our_mac, part_frame, serving, told_of_files, uncut}
+use Rattle.slirp_laws.specs.Answers.{files_begun, frames_of, is_first, left, or_begun, part_frame, serving, told_of_files, uncut}
 use Rattle.slirp_laws.specs.Datagrams.{Settled as SettledStep}
 use Rattle.slirp_laws.specs.Laws.{Lawful}
 use Rattle.slirp_laws.proofs.Deeds.{FlowsLetWrite}

@@ -18,14 +18,14 @@ use Rattle.slirp_core.specs.declared.fragments.Assembled.{Assembled}
 use Rattle.slirp_core.specs.declared.fragments.Brought.TheVariants.{Nothing}
 
 -- none is read
-pub none_arrives : (old : SlirpState) (held : List PartSet) (mac octets room : List ℕ) → read_ip octets ≡ None → old.pending ≡ [] → IsHeld old.parts held → Arrives old held mac octets old Nothing room
+pub none_arrives : (old : SlirpState) (held : List PartSet) (mac octets room : List ℕ) → read_ip octets ≡ None → old.pending ≡ [] → IsHeld old.fragments held → Arrives old held mac octets old Nothing room
 none_arrives old held mac octets room read none is = record {
   request = sym (ap (λ o. request_for_udp old.config (option_and_then (udp_of_arrived old.config old.moment (young old.moment held) mac octets) o)) read);
   segment = sym (ap (option_and_then (segment_of_arrived old.config old.moment (young old.moment held) mac octets)) read);
   changes =
       ap (λ p. record old { pending = p }) none
-      ∙ sym (ap (after_octets old (young old.moment held) mac octets old.parts) read);
-  parts = subst (λ o. IsHeld old.parts (with_fragment old.moment o held)) (sym (ap (option_and_then (fragment_by old.config octets)) read)) is;
+      ∙ sym (ap (after_octets old (young old.moment held) mac octets old.fragments) read);
+  fragments = subst (λ o. IsHeld old.fragments (with_fragment old.moment o held)) (sym (ap (option_and_then (fragment_by old.config octets)) read)) is;
 }
 
 -- a whole one has no fragment
@@ -49,13 +49,13 @@ taken_sent : (s : SlirpState) (o : Option Task) (room : List ℕ) → taken_on s
 taken_sent s None room = refl
 taken_sent s (Some t) room = refl
 
-module _ (old : SlirpState) (held : List PartSet) (mac octets : List ℕ) (ip : Ip) (room : List ℕ) (read : read_ip octets ≡ Some ip) (is : IsHeld old.parts held) where
+module _ (old : SlirpState) (held : List PartSet) (mac octets : List ℕ) (ip : Ip) (room : List ℕ) (read : read_ip octets ≡ Some ip) (is : IsHeld old.fragments held) where
   -- the network once what arrives is taken in, with these areas
   abbrev after_arrival : List ℕ → Ip → List Gathered → Option Ip → SlirpState
   after_arrival mac ip parts o = record old {
     pending = frames_of old.config old.sent (owed_for (owed_for_ip old.config (serving_of old) mac) o);
     known = with_address old.config ip.from mac old.known;
-    parts = parts;
+    fragments = parts;
     leases = leases_with old.config old.moment (option_and_then (udp_of old.config mac) o) old.leases;
   }
 
@@ -65,7 +65,7 @@ module _ (old : SlirpState) (held : List PartSet) (mac octets : List ℕ) (ip : 
   whole_arrives new o whole request segment same =
       let arrives : arrived old.config old.moment (young old.moment held) octets ip ≡ Some ip =
       ap (λ (b : Bool). if b then Some ip else joined_by old.moment (young old.moment held) (fragment_by old.config octets ip)) whole in
-      let parts : new.parts ≡ old.parts = ap (λ (s : SlirpState). s.parts) same in
+      let parts : new.fragments ≡ old.fragments = ap (λ (s : SlirpState). s.fragments) same in
       let mid : SlirpState = record old { known = with_address old.config ip.from mac old.known } in
       record {
         request =
@@ -76,10 +76,10 @@ module _ (old : SlirpState) (held : List PartSet) (mac octets : List ℕ) (ip : 
             ∙ sym (ap (option_and_then (segment_of_arrived old.config old.moment (young old.moment held) mac octets)) read ∙ ap (option_and_then (segment_of_ip old.config mac)) arrives);
         changes =
             taken_sent new o room ∙ same
-            ∙ ap (λ l. record (after_ip mid mac ip) { parts = l }) (sym parts)
-            ∙ sym (ap (after_octets old (young old.moment held) mac octets new.parts) read ∙ ap (after_arrival mac ip new.parts) arrives);
-        parts = subst (λ l. IsHeld l (with_fragment old.moment (option_and_then (fragment_by old.config octets) (read_ip octets)) held)) (sym parts)
-            (subst (λ o. IsHeld old.parts (with_fragment old.moment o held)) (sym (ap (option_and_then (fragment_by old.config octets)) read ∙ no_fragment old.config octets ip whole)) is);
+            ∙ ap (λ l. record (after_ip mid mac ip) { fragments = l }) (sym parts)
+            ∙ sym (ap (after_octets old (young old.moment held) mac octets new.fragments) read ∙ ap (after_arrival mac ip new.fragments) arrives);
+        fragments = subst (λ l. IsHeld l (with_fragment old.moment (option_and_then (fragment_by old.config octets) (read_ip octets)) held)) (sym parts)
+            (subst (λ o. IsHeld old.fragments (with_fragment old.moment o held)) (sym (ap (option_and_then (fragment_by old.config octets)) read ∙ no_fragment old.config octets ip whole)) is);
       }
 
   -- a part is put to those of its datagram
@@ -125,15 +125,15 @@ module _ (old : SlirpState) (held : List PartSet) (mac octets : List ℕ) (ip : 
       record {
         came = subst (CameBy mac) (sym none) tt;
         arrives = ap whole_of none ∙ sym (ap (joined_by old.moment (young old.moment held)) fragment) ∙ broken_arrives broken;
-        held_by = subst (λ l. IsHeld l (with_fragment old.moment (fragment_by old.config octets ip) held)) (sym same) (subst (λ o. IsHeld old.parts (with_fragment old.moment o held)) (sym fragment) is);
+        held_by = subst (λ l. IsHeld l (with_fragment old.moment (fragment_by old.config octets ip) held)) (sym same) (subst (λ o. IsHeld old.fragments (with_fragment old.moment o held)) (sym fragment) is);
       }
 
-  pub part_arrives : (new : SlirpState) (p : Part) (o : Option Assembled) → is_unbroken ip ≡ false → p ≡ part_by octets ip → old.pending ≡ [] → Gathers (record old { known = with_address old.config ip.from mac old.known }) held mac ip p new.parts o room
-      → new ≡ record old { known = with_address old.config ip.from mac old.known; parts = new.parts } → Arrives old held mac octets new (whole_or_none o) room
+  pub part_arrives : (new : SlirpState) (p : Part) (o : Option Assembled) → is_unbroken ip ≡ false → p ≡ part_by octets ip → old.pending ≡ [] → Gathers (record old { known = with_address old.config ip.from mac old.known }) held mac ip p new.fragments o room
+      → new ≡ record old { known = with_address old.config ip.from mac old.known; fragments = new.fragments } → Arrives old held mac octets new (whole_or_none o) room
   part_arrives new p o broken p_is none gathers same =
       let pairs = with_address old.config ip.from mac old.known in
-      let g = gathering (is_guest old.config ip.from) pairs new.parts o refl broken (subst (λ (q : Part). Gathers (record old { known = pairs }) held mac ip q new.parts o room) p_is gathers) in
-      let mid : SlirpState = record old { known = with_address old.config ip.from mac old.known; parts = new.parts } in
+      let g = gathering (is_guest old.config ip.from) pairs new.fragments o refl broken (subst (λ (q : Part). Gathers (record old { known = pairs }) held mac ip q new.fragments o room) p_is gathers) in
+      let mid : SlirpState = record old { known = with_address old.config ip.from mac old.known; fragments = new.fragments } in
       record {
         request =
             request_made old.config o g.came ∙ ap (λ w. request_for_udp old.config (option_and_then (udp_of old.config mac) w)) g.arrives
@@ -144,7 +144,7 @@ module _ (old : SlirpState) (held : List PartSet) (mac octets : List ℕ) (ip : 
         changes =
             ap (λ (s : SlirpState). taken_on s (whole_or_none o) room) same
             ∙ taken_made mid o g.came none
-            ∙ ap (after_arrival mac ip new.parts) g.arrives
-            ∙ sym (ap (after_octets old (young old.moment held) mac octets new.parts) read);
-        parts = subst (λ o. IsHeld new.parts (with_fragment old.moment o held)) (sym (ap (option_and_then (fragment_by old.config octets)) read)) g.held_by;
+            ∙ ap (after_arrival mac ip new.fragments) g.arrives
+            ∙ sym (ap (after_octets old (young old.moment held) mac octets new.fragments) read);
+        fragments = subst (λ o. IsHeld new.fragments (with_fragment old.moment o held)) (sym (ap (option_and_then (fragment_by old.config octets)) read)) g.held_by;
       }

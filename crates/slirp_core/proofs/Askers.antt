@@ -1,22 +1,15 @@
 -- Open sockets and their questions.
-use Rattle.std.proofs.Common.{◌≡◌, ℕ, ◌≤◌, ◌==◌, ◌&&◌, ◌||◌, not, Bool, true, false, cond, All, List, [], ◌∷◌, ◌++◌, filter, Some, None, refl, ◌∙◌, ap, arith}
+use Rattle.std.proofs.Common.{◌≡◌, ℕ, ◌≤◌, ◌==◌, ◌&&◌, ◌||◌, Bool, true, false, All, List, [], ◌∷◌, ◌++◌, Some, None, refl, ◌∙◌, ap, arith}
 use Rattle.std.proofs.lemmas.List.Elements.{All-cons, All-head, All-nil, All-tail}
 use Rattle.std.specs.List.{list_any}
-use Rattle.dns_relay.specs.Questions.{is_numbered, numbers, without}
+use Rattle.dns_relay.specs.Questions.{is_numbered, numbers}
 use Rattle.dns_relay.specs.Relaying.{IsLeast}
 use Rattle.dns_relay.specs.declared.Question.{Question}
 use Rattle.run_laws.specs.Sockets.{is_among}
-use Rattle.slirp_laws.proofs.Bools.{among_without, equal, or_second, same, turned}
+use Rattle.slirp_laws.proofs.Bools.{equal, or_second, same, turned}
+use Rattle.slirp_core.proofs.Names.{among_both}
 
 -- ---- numbers of two kinds
-
-pub among_both : (m : ℕ) (ns ms : List ℕ) → is_among m (ns ++ ms) ≡ (is_among m ns || is_among m ms)
-among_both m [] ms = refl
-among_both m (n ∷ ns) ms = by (m == n) (among_both m ns ms)
-  where
-    by : (b : Bool) → is_among m (ns ++ ms) ≡ (is_among m ns || is_among m ms) → (b || is_among m (ns ++ ms)) ≡ ((b || is_among m ns) || is_among m ms)
-    by true more = refl
-    by false more = more
 
 pub among_first : (m : ℕ) (ns ms : List ℕ) → is_among m ns ≡ true → is_among m (ns ++ ms) ≡ true
 among_first m ns ms is = among_both m ns ms ∙ ap (λ b. b || is_among m ms) is
@@ -25,19 +18,6 @@ pub among_second : (m : ℕ) (ns ms : List ℕ) → is_among m ms ≡ true → i
 among_second m ns ms is = among_both m ns ms ∙ or_second (is_among m ns) (is_among m ms) is
 
 -- ---- those of questions
-
-pub numbers_without : (m : ℕ) (list : List Question) → numbers (without m list) ≡ filter (λ s. not (s == m)) (numbers list)
-numbers_without m [] = refl
-numbers_without m (x ∷ list) = by_test (x.number == m) (numbers_without m list)
-  where
-    by_test : (t : Bool) → numbers (without m list) ≡ filter (λ s. not (s == m)) (numbers list)
-        → numbers (cond (not t) (x ∷ without m list) (without m list)) ≡ cond (not t) (x.number ∷ filter (λ s. not (s == m)) (numbers list)) (filter (λ s. not (s == m)) (numbers list))
-    by_test true rest = rest
-    by_test false rest = ap (λ ns. x.number ∷ ns) rest
-
--- one less
-pub asked_without : (m n : ℕ) (list : List Question) → is_among m (numbers (without n list)) ≡ (not (m == n) && is_among m (numbers list))
-asked_without m n list = ap (is_among m) (numbers_without n list) ∙ among_without m n (numbers list)
 
 -- the least is one of them, and no other is less
 pub least_asked : (n : ℕ) (list : List Question) → IsLeast (λ q. true) list (Some n) → is_among n (numbers list) ≡ true

@@ -22,6 +22,7 @@ use Rattle.slirp_laws.specs.Agenda.{agenda, all_wanted, is_to_read, wanted_of}
 use Rattle.slirp_laws.specs.Datagrams.{Errand, Step, NeedsRoom, NeedsSocket, NeedsSending, asks_a_name}
 use Rattle.slirp_laws.specs.Laws.{relays}
 use Rattle.slirp_laws.specs.Relayed.{with_forward, with_socket, without_socket}
+use Rattle.slirp_laws.proofs.Finding.{socket_among}
 use Rattle.port_forward.specs.Opened.{socket_for as port_for}
 use Rattle.stream_netdev.specs.State.{LinkState}
 use Rattle.slirp_core.specs.Forwards.{guest_on}
@@ -31,7 +32,7 @@ use Rattle.slirp_core.specs.State.{SlirpState}
 use Rattle.slirp_core.proofs.Given.{forward_of, guest_given}
 use Rattle.slirp_core.proofs.Names.{among_both, association_unmoved, none_moved, numbered_is}
 use Rattle.slirp_core.proofs.Parts.{skipped}
-use Rattle.slirp_core.proofs.Sockets.{among_numbered, last_among, socket_among, no_association}
+use Rattle.slirp_core.proofs.Sockets.{among_numbered, last_among, no_association}
 use Rattle.slirp_core.proofs.Relaying.{after_open, asks_by_port, after_failure, after_forward, after_hearing, after_idling, after_no_hearing, after_not_sent, after_not_yet, after_refusal, after_sent, after_yielding, carried, forward_open, no_name, port_of_other, relays_association, relays_forward, relays_own}
 use Rattle.slirp_core.specs.Hearing.{Receives as ReceivesOn, is_heard}
 use Rattle.tcp_flows.specs.Runs.{ClosesBelow, ClosesRising}

@@ -422,31 +422,31 @@ closed_waits story now unused = record {
   connects = subst (λ (b : Bool). AreAhead now (moment_if b (opened_at story + 75000))) (sym (no_connecting (is_accepted story || has_connected story) (is_closed story) (not_in_use story unused))) tt;
 }
 
-each_waits : (config : Config) (at : Standing) (slirp : SlirpState) (link : LinkState) (past : List Entry) → Holds config at slirp (flowing true slirp.flows) link past → AreInTime slirp.moment slirp.flows.flows.parts → EachFlow config past (λ f. MayWait f.story (moment past))
+each_waits : (config : Config) (at : Standing) (slirp : SlirpState) (link : LinkState) (past : List Entry) → Holds config at slirp (flowing true slirp.flows) link past → AreInTime slirp.moment slirp.flows.flows.slots → EachFlow config past (λ f. MayWait f.story (moment past))
 each_waits config at slirp link past holds early =
-    each number_of (Following config slirp.moment) slirp.flows.flows.table slirp.flows.flows.parts (next_number past) (book config past).flows (rests_at true config past) holds.flows.holds.seats
+    each number_of (Following config slirp.moment) slirp.flows.flows.table slirp.flows.flows.slots (next_number past) (book config past).flows (rests_at true config past) holds.flows.holds.seats
     (λ story. MayWait story (moment past))
     (λ k p story here follows. subst (λ (n : ℕ). MayWait story n) (sym holds.clock.moment)
     (waited_is (flow_settings config) p story slirp.moment follows (λ open_yet connecting. early k p (record { here = here; open_yet = open_yet }) connecting)))
     (λ story unused. closed_waits story (moment past) unused)
 
 -- each flow is settled, where none owes a frame and none has a timer that is due
-each_settled : (config : Config) (at : Standing) (slirp : SlirpState) (link : LinkState) (past : List Entry) → Holds config at slirp (flowing true slirp.flows) link past → AreClear slirp.known slirp.flows.flows → ((n : ℕ) → IsInTime slirp.moment slirp.flows.flows.parts n) → EachFlow config past (IsSettledNow config past)
+each_settled : (config : Config) (at : Standing) (slirp : SlirpState) (link : LinkState) (past : List Entry) → Holds config at slirp (flowing true slirp.flows) link past → AreClear slirp.known slirp.flows.flows → ((n : ℕ) → IsInTime slirp.moment slirp.flows.flows.slots n) → EachFlow config past (IsSettledNow config past)
 each_settled config at slirp link past holds are early n f found =
     let known = guest_is_known (scene config past) f in
     subst (λ (m : ℕ). IsSettled (flow_settings config) f.story known (rests_among (filter (is_young m) (book config past).rests) (Some f)) m) (sym holds.clock.moment)
-    (settled_in_time (IsInTime slirp.moment slirp.flows.flows.parts n) (flow_settings config) f.story known (rests_among (filter (is_young slirp.moment) (book config past).rests) (Some f)) slirp.moment
-    (are_settled config slirp.moment slirp.flows.flows past holds.clock.moment holds.flows.holds are.slots (subst (λ l. AreTold l slirp.flows.flows.parts) (sym holds.guests.known) are.told) are.clear n f found)
+    (settled_in_time (IsInTime slirp.moment slirp.flows.flows.slots n) (flow_settings config) f.story known (rests_among (filter (is_young slirp.moment) (book config past).rests) (Some f)) slirp.moment
+    (are_settled config slirp.moment slirp.flows.flows past holds.clock.moment holds.flows.holds are.slots (subst (λ l. AreTold l slirp.flows.flows.slots) (sym holds.guests.known) are.told) are.clear n f found)
     (early n))
 
 -- A wait for what the core waits for, as long as it waits, is as it must be, where each report of the last wait is served, and unless the link is blocked all that is owed is out, no flow owes a frame and none has a timer that is due; no socket for datagrams is idle for long, no fragments are to be dropped, and the host of no flow had its time to connect.
 pub must_wait : (config : Config) (at : Standing) (slirp : SlirpState) (link : LinkState) (past : List Entry) (wants : List Want) (timeout : Option ℕ) → Holds config at slirp (flowing true slirp.flows) link past → (slirp.pending ≡ [] → next_again slirp.moment slirp.transfers ≡ None)
-    → (link.blocked ≡ false → is_settled slirp link ≡ true) → All (λ a. is_idle_association slirp.moment a ≡ false) slirp.associations → All (λ q. is_idle_question slirp.moment q ≡ false) slirp.questions → AreFresh slirp.moment slirp.parts → AreInTime slirp.moment slirp.flows.flows.parts → (link.blocked ≡ false → AreClear slirp.known slirp.flows.flows × ((n : ℕ) → IsInTime slirp.moment slirp.flows.flows.parts n)) → ((held : List PartSet) → IsHeld slirp.parts held → IsTimeout slirp link.blocked held timeout) → (of : WantsOf slirp link wants) → AreWaitedFor config past of.flows → AllServed config past → MustWait config past wants timeout
+    → (link.blocked ≡ false → is_settled slirp link ≡ true) → All (λ a. is_idle_association slirp.moment a ≡ false) slirp.associations → All (λ q. is_idle_question slirp.moment q ≡ false) slirp.questions → AreFresh slirp.moment slirp.fragments → AreInTime slirp.moment slirp.flows.flows.slots → (link.blocked ≡ false → AreClear slirp.known slirp.flows.flows × ((n : ℕ) → IsInTime slirp.moment slirp.flows.flows.slots n)) → ((held : List PartSet) → IsHeld slirp.fragments held → IsTimeout slirp link.blocked held timeout) → (of : WantsOf slirp link wants) → AreWaitedFor config past of.flows → AllServed config past → MustWait config past wants timeout
 must_wait config at slirp link past wants timeout holds none_again quiet young recent fresh early calm times of are served = record {
   waits_for = subst (λ (ws : List Want). WaitsFor config past ws) (sym of.is)
       (all_waited_for config past (is_settled slirp link) link.blocked (listeners_of slirp) (sockets_over Udp slirp.forwards ++ of.sockets) of.flows holds.keeps.blocked sent_is quiet
       (listeners_are config at slirp (flowing true slirp.flows) link past holds refl) (sockets_are config at slirp (flowing true slirp.flows) link past holds of.sockets of.all)
-      (each_of_flows slirp.flows.flows.parts of.flows of.of_flows) are.to_read are.to_write are.only_to_write (rise_listeners config at slirp (flowing true slirp.flows) link past holds)
+      (each_of_flows slirp.flows.flows.slots of.flows of.of_flows) are.to_read are.to_write are.only_to_write (rise_listeners config at slirp (flowing true slirp.flows) link past holds)
       (rise_sockets config at slirp (flowing true slirp.flows) link past holds of.sockets of.all of.rising) (rise_by of.flows of.of_flows.rising));
   served = served;
   out = λ free. sent_is ∙ quiet (sym holds.keeps.blocked ∙ free);

@@ -54,7 +54,8 @@ use Rattle.slirp_core.specs.Holds.{Holds, Standing, flowing}
 use Rattle.slirp_core.specs.Owed.{IsOwed, kept_by}
 use Rattle.slirp_core.specs.Pumps.{question_left, time_left}
 use Rattle.slirp_core.specs.State.{SlirpState}
-use Rattle.slirp_core.specs.Timeouts.{IsFileTime, IsPartTime, IsTimeout, SuitsFlows, sooner}
+use Rattle.world_face.specs.Moments.{sooner}
+use Rattle.slirp_core.specs.Timeouts.{IsFileTime, IsPartTime, IsTimeout, SuitsFlows}
 use Rattle.slirp_core.specs.Waiting.{AreFresh}
 
 -- ---- two times
@@ -213,24 +214,24 @@ module _ (config : Config) (at : Standing) (slirp : SlirpState) (link : LinkStat
 
   -- ---- what is ahead of a flow
 
-  flows_ahead : (moments : Story → List ℕ) → ((k : ℕ) (p : Splice) (story : Story) → slice_get slirp.flows.flows.parts k ≡ Some (Some p) → Following config now p story → AreAhead now (moments story))
+  flows_ahead : (moments : Story → List ℕ) → ((k : ℕ) (p : Splice) (story : Story) → slice_get slirp.flows.flows.slots k ≡ Some (Some p) → Following config now p story → AreAhead now (moments story))
       → ((story : Story) → is_in_use story ≡ false → AreAhead now (moments story)) → AreAhead now (of_flows moments flows)
   flows_ahead moments of_part of_closed =
       by_next now (of_flows moments flows)
       (flows_by (Some (now + 1)) moments flows holds.flows.holds.seats.differ
       (λ n f found. next_by now (moments f.story)
-      (each number_of (Following config now) slirp.flows.flows.table slirp.flows.flows.parts (next_number past) flows (rests_at true config past) holds.flows.holds.seats
+      (each number_of (Following config now) slirp.flows.flows.table slirp.flows.flows.slots (next_number past) flows (rests_at true config past) holds.flows.holds.seats
       (λ story. AreAhead now (moments story)) of_part of_closed n f found)))
 
   -- no host had its time to connect
-  connects_ahead : AreInTime now slirp.flows.flows.parts → AreAhead now (of_flows connect_deadline flows)
+  connects_ahead : AreInTime now slirp.flows.flows.slots → AreAhead now (of_flows connect_deadline flows)
   connects_ahead early =
       flows_ahead connect_deadline
       (λ k p story here follows. (waited_is (flow_settings config) p story now follows (λ open_yet connecting. early k p (record { here = here; open_yet = open_yet }) connecting)).connects)
       (λ story unused. subst (λ (b : Bool). AreAhead now (moment_if b (opened_at story + 75000))) (sym (no_connecting (is_accepted story || has_connected story) (is_closed story) (not_in_use story unused))) tt)
 
   -- and what is under way of a flow in time that owes no frame goes again within a minute
-  resends_ahead : AllClear slirp.flows.flows.parts → ((n : ℕ) → IsInTime now slirp.flows.flows.parts n) → AreAhead now (of_flows resend_deadline flows)
+  resends_ahead : AllClear slirp.flows.flows.slots → ((n : ℕ) → IsInTime now slirp.flows.flows.slots n) → AreAhead now (of_flows resend_deadline flows)
   resends_ahead clear soon =
       flows_ahead resend_deadline
       (λ k p story here follows.
@@ -293,21 +294,21 @@ module _ (config : Config) (at : Standing) (slirp : SlirpState) (link : LinkStat
 
     -- ---- until, and from
 
-    module _ (timeout : Option ℕ) (times : (held : List PartSet) → IsHeld slirp.parts held → IsTimeout slirp link.blocked held timeout) where
+    module _ (timeout : Option ℕ) (times : (held : List PartSet) → IsHeld slirp.fragments held → IsTimeout slirp link.blocked held timeout) where
       abbrev held : List PartSet
       held = holds.guests.fragments.held
 
       time : IsTimeout slirp link.blocked held timeout
       time = times held holds.guests.fragments.is_held
 
-      suits : SuitsFlows config now link.blocked slirp.flows.flows.parts past time.flows
+      suits : SuitsFlows config now link.blocked slirp.flows.flows.slots past time.flows
       suits = time.suits_flows config now past holds.flows.holds
 
       abbrev datagrams : Option ℕ
       datagrams = sooner (time_left now slirp.associations) (question_left now slirp.questions)
 
       abbrev some : Option ℕ
-      some = sooner datagrams time.parts
+      some = sooner datagrams time.fragments
 
       abbrev more : Option ℕ
       more = sooner some time.flows
@@ -319,9 +320,9 @@ module _ (config : Config) (at : Standing) (slirp : SlirpState) (link : LinkStat
       until_flows ms is = by_first now more time.files ms (by_second now some time.flows ms is)
 
       until_datagrams : (ms : List ℕ) → IsBy (wait_end now datagrams) ms → IsBy (wait_end now all) ms
-      until_datagrams ms is = by_first now more time.files ms (by_first now some time.flows ms (by_first now datagrams time.parts ms is))
+      until_datagrams ms is = by_first now more time.files ms (by_first now some time.flows ms (by_first now datagrams time.fragments ms is))
 
-      until_all : AreInTime now slirp.flows.flows.parts → (link.blocked ≡ false → AllClear slirp.flows.flows.parts × ((n : ℕ) → IsInTime now slirp.flows.flows.parts n)) → IsBy (wait_end now all) (deadlines config past)
+      until_all : AreInTime now slirp.flows.flows.slots → (link.blocked ≡ false → AllClear slirp.flows.flows.slots × ((n : ℕ) → IsInTime now slirp.flows.flows.slots n)) → IsBy (wait_end now all) (deadlines config past)
       until_all early calm =
           by_both (wait_end now all) (of_flows connect_deadline flows ++ lives config past) (unless_blocked (is_blocked past) (of_flows resend_deadline flows))
           (by_both (wait_end now all) (of_flows connect_deadline flows) (lives config past)
@@ -340,8 +341,8 @@ module _ (config : Config) (at : Standing) (slirp : SlirpState) (link : LinkStat
 
       -- ---- and at least
 
-      drops_left : AreFresh now slirp.parts → IsFrom (wait_end now time.parts) (drops config past)
-      drops_left fresh = by time.parts time.of_parts
+      drops_left : AreFresh now slirp.fragments → IsFrom (wait_end now time.fragments) (drops config past)
+      drops_left fresh = by time.fragments time.of_fragments
         where
           same_sets : held ≡ waiting config past
           same_sets =
@@ -396,16 +397,16 @@ module _ (config : Config) (at : Standing) (slirp : SlirpState) (link : LinkStat
           (from_first (wait_end now time.flows) of_fragments (rest_ends config past) (from_first (wait_end now time.flows) of_sockets (drops config past) (from_first (wait_end now time.flows) awake (lives config past) is))))
           (λ is. from_first (wait_end now time.flows) of_rests (file_alarms config past) (from_second (wait_end now time.flows) of_fragments (rest_ends config past) is))
 
-      from_all : AreFresh now slirp.parts → IsFrom (wait_end now all) (alarms config past)
+      from_all : AreFresh now slirp.fragments → IsFrom (wait_end now all) (alarms config past)
       from_all fresh =
           from_each now more time.files (alarms config past)
           (from_each now some time.flows (alarms config past)
-          (from_each now datagrams time.parts (alarms config past)
+          (from_each now datagrams time.fragments (alarms config past)
           (from_each now (time_left now slirp.associations) (question_left now slirp.questions) (alarms config past)
           (from_sockets (wait_end now (time_left now slirp.associations)) (from_first (wait_end now (time_left now slirp.associations)) (association_lives config past) (question_lives config past) associations_from))
           (from_sockets (wait_end now (question_left now slirp.questions)) (from_second (wait_end now (question_left now slirp.questions)) (association_lives config past) (question_lives config past) from_questions)))
-          (from_first (wait_end now time.parts) of_rests (file_alarms config past)
-          (from_first (wait_end now time.parts) of_fragments (rest_ends config past) (from_second (wait_end now time.parts) of_sockets (drops config past) (drops_left fresh)))))
+          (from_first (wait_end now time.fragments) of_rests (file_alarms config past)
+          (from_first (wait_end now time.fragments) of_fragments (rest_ends config past) (from_second (wait_end now time.fragments) of_sockets (drops config past) (drops_left fresh)))))
           from_flows)
           (from_second (wait_end now time.files) of_rests (file_alarms config past) files_left)
 
@@ -413,8 +414,8 @@ module _ (config : Config) (at : Standing) (slirp : SlirpState) (link : LinkStat
 
 -- A wait lasts no longer than to what has a time: where no host had its time to connect, no socket for datagrams is idle for long, and the flows are clear and in time unless the link is blocked.
 pub until_is : (config : Config) (at : Standing) (slirp : SlirpState) (link : LinkState) (past : List Entry) → Holds config at slirp (flowing true slirp.flows) link past
-    → (timeout : Option ℕ) → ((held : List PartSet) → IsHeld slirp.parts held → IsTimeout slirp link.blocked held timeout) → AreInTime slirp.moment slirp.flows.flows.parts
-    → (link.blocked ≡ false → AllClear slirp.flows.flows.parts × ((n : ℕ) → IsInTime slirp.moment slirp.flows.flows.parts n))
+    → (timeout : Option ℕ) → ((held : List PartSet) → IsHeld slirp.fragments held → IsTimeout slirp link.blocked held timeout) → AreInTime slirp.moment slirp.flows.flows.slots
+    → (link.blocked ≡ false → AllClear slirp.flows.flows.slots × ((n : ℕ) → IsInTime slirp.moment slirp.flows.flows.slots n))
     → All (λ a. is_idle_association slirp.moment a ≡ false) slirp.associations → All (λ q. is_idle_question slirp.moment q ≡ false) slirp.questions
     → IsBy (wait_end (moment past) timeout) (deadlines config past)
 unfolding time
@@ -425,7 +426,7 @@ until_is config at slirp link past holds timeout times early calm young_now rece
 
 -- And it is cut short for nothing else than what the record has a time for, where no fragments that wait are to be dropped yet.
 pub from_is : (config : Config) (at : Standing) (slirp : SlirpState) (link : LinkState) (past : List Entry) → Holds config at slirp (flowing true slirp.flows) link past
-    → (timeout : Option ℕ) → ((held : List PartSet) → IsHeld slirp.parts held → IsTimeout slirp link.blocked held timeout) → AreFresh slirp.moment slirp.parts
+    → (timeout : Option ℕ) → ((held : List PartSet) → IsHeld slirp.fragments held → IsTimeout slirp link.blocked held timeout) → AreFresh slirp.moment slirp.fragments
     → All (λ a. is_idle_association slirp.moment a ≡ false) slirp.associations → All (λ q. is_idle_question slirp.moment q ≡ false) slirp.questions
     → IsFrom (wait_end (moment past) timeout) (alarms config past)
 unfolding time

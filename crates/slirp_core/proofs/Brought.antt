@@ -70,7 +70,7 @@ module _ (config : Config) (count : ℕ) (wants : List Want) (item : Want) (item
   sets_wait = ap (λ n. young n holds.guests.fragments.held) (sym holds.clock.moment) ∙ holds.guests.fragments.wait
 
   -- what a frame is said to bring, by the settings and the sets of the core, is what its packet brings
-  of_packet : {A : Type 0} (of : Config → ℕ → List PartSet → List ℕ → A) (frame : List ℕ) (what : A) → ((held : List PartSet) → IsHeld slirp.parts held → what ≡ of slirp.config slirp.moment (young slirp.moment held) frame)
+  of_packet : {A : Type 0} (of : Config → ℕ → List PartSet → List ℕ → A) (frame : List ℕ) (what : A) → ((held : List PartSet) → IsHeld slirp.fragments held → what ≡ of slirp.config slirp.moment (young slirp.moment held) frame)
       → what ≡ of config slirp.moment (waiting config past) frame
   of_packet of frame what is =
       is holds.guests.fragments.held holds.guests.fragments.is_held
@@ -78,8 +78,8 @@ module _ (config : Config) (count : ℕ) (wants : List Want) (item : Want) (item
       ∙ ap (λ w. of config slirp.moment w frame) sets_wait
 
   module _ (done : SlirpState) (frame : List ℕ) (came : hands answer new ≡ Some frame) (goes_on : ending_of answer ≡ None)
-      (is : (held : List PartSet) → IsHeld slirp.parts held → done ≡ after_frame slirp.config slirp (young slirp.moment held) done.parts frame)
-      (keeps : (held : List PartSet) → IsHeld slirp.parts held → IsHeld done.parts (with_fragment slirp.moment (fragment_in slirp.config frame) held)) where
+      (is : (held : List PartSet) → IsHeld slirp.fragments held → done ≡ after_frame slirp.config slirp (young slirp.moment held) done.fragments frame)
+      (keeps : (held : List PartSet) → IsHeld slirp.fragments held → IsHeld done.fragments (with_fragment slirp.moment (fragment_in slirp.config frame) held)) where
     same_flows : slirp.flows ≡ done.flows
     same_flows = sym (ap (λ (s : SlirpState). s.flows) (is holds.guests.fragments.held holds.guests.fragments.is_held))
 
@@ -89,39 +89,39 @@ module _ (config : Config) (count : ℕ) (wants : List Want) (item : Want) (item
 
     kept : KeepsParts config slirp done (hands answer new)
     kept = subst (λ o. KeepsParts config slirp done o) (sym came)
-        (subst (λ (k : Config). (held : List PartSet) → IsHeld slirp.parts held → IsHeld done.parts (with_fragment slirp.moment (fragment_in k frame) held)) holds.guests.settings keeps)
+        (subst (λ (k : Config). (held : List PartSet) → IsHeld slirp.fragments held → IsHeld done.fragments (with_fragment slirp.moment (fragment_in k frame) held)) holds.guests.settings keeps)
 
     packet_is : packet_of config slirp.moment (waiting config past) (hands answer new) ≡ packet_in config slirp.moment (waiting config past) frame
     packet_is = ap (packet_of config slirp.moment (waiting config past)) came
 
     -- what it owes, and what it makes of the leases
-    done_is : done ≡ after_packet config slirp (packet_of config slirp.moment (waiting config past) (hands answer new)) (hands answer new) done.parts
+    done_is : done ≡ after_packet config slirp (packet_of config slirp.moment (waiting config past) (hands answer new)) (hands answer new) done.fragments
     done_is =
-        of_packet (λ (k : Config) n w f. after_frame k slirp w done.parts f) frame done is
+        of_packet (λ (k : Config) n w f. after_frame k slirp w done.fragments f) frame done is
         ∙ sym (λ i. record slirp {
           pending = frames_of config slirp.sent (owes_same config (serving_of slirp) (waiting config past) frame i);
           known = with_ether config (read_ether frame) slirp.known;
-          parts = done.parts;
+          fragments = done.fragments;
           leases = lends_same config slirp.moment (waiting config past) frame slirp.leases i;
         })
-        ∙ sym (ap (λ o. after_packet config slirp (packet_of config slirp.moment (waiting config past) o) o done.parts) came)
+        ∙ sym (ap (λ o. after_packet config slirp (packet_of config slirp.moment (waiting config past) o) o done.fragments) came)
 
     -- what it asks for
-    asks_for : (request : Option Request) → ((held : List PartSet) → IsHeld slirp.parts held → request ≡ request_for_udp slirp.config (udp_in slirp.config slirp.moment (young slirp.moment held) frame))
+    asks_for : (request : Option Request) → ((held : List PartSet) → IsHeld slirp.fragments held → request ≡ request_for_udp slirp.config (udp_in slirp.config slirp.moment (young slirp.moment held) frame))
         → request_by_packet config (packet_of config slirp.moment (waiting config past) (hands answer new)) ≡ request
     asks_for request asks =
         ap (request_by_packet config) packet_is ∙ asks_same config slirp.moment (waiting config past) frame ∙ sym (of_packet (λ k n w f. request_for_udp k (udp_in k n w f)) frame request asks)
 
     -- a datagram for the server of files, which is still to be served
-    file_came : (d : Datagram) → ((held : List PartSet) → IsHeld slirp.parts held → Some (ToServe d) ≡ request_for_udp slirp.config (udp_in slirp.config slirp.moment (young slirp.moment held) frame))
+    file_came : (d : Datagram) → ((held : List PartSet) → IsHeld slirp.fragments held → Some (ToServe d) ≡ request_for_udp slirp.config (udp_in slirp.config slirp.moment (young slirp.moment held) frame))
         → AsksFile config (standing count wants items) done done.flows new d (made ++ past)
     file_came d asks =
         subst (λ (k : Kept). AsksFile config (standing count wants items) done k new d (made ++ past)) same_flows
         (read_file config count wants item items reads_it slirp slirp.flows old new answer no_packet out made past allowed read holds done d goes_on kept (ap file_in (asks_for (Some (ToServe d)) asks)) done_is)
 
     -- no segment, and nothing for the server of files: what it asks for is still to be done
-    taken_in : (request : Option Request) → file_in request ≡ None → ((held : List PartSet) → IsHeld slirp.parts held → request ≡ request_for_udp slirp.config (udp_in slirp.config slirp.moment (young slirp.moment held) frame))
-        → ((held : List PartSet) → IsHeld slirp.parts held → None ≡ segment_in slirp.config slirp.moment (young slirp.moment held) frame)
+    taken_in : (request : Option Request) → file_in request ≡ None → ((held : List PartSet) → IsHeld slirp.fragments held → request ≡ request_for_udp slirp.config (udp_in slirp.config slirp.moment (young slirp.moment held) frame))
+        → ((held : List PartSet) → IsHeld slirp.fragments held → None ≡ segment_in slirp.config slirp.moment (young slirp.moment held) frame)
         → HoldsAt config (standing count wants items) (asked_by config done (errand_in request)) done (flowing false done.flows) new (made ++ past)
     taken_in request no_file sends none =
         let packet = packet_of config slirp.moment (waiting config past) (hands answer new) in
@@ -134,13 +134,13 @@ module _ (config : Config) (count : ℕ) (wants : List Want) (item : Want) (item
         (ap (asked_by config slirp) asks ∙ same_asks (errand_in request)) h)
 
     -- a segment, which is still to be heard
-    segment_came : (c : Coming) → ((held : List PartSet) → IsHeld slirp.parts held → Some c ≡ segment_in slirp.config slirp.moment (young slirp.moment held) frame)
+    segment_came : (c : Coming) → ((held : List PartSet) → IsHeld slirp.fragments held → Some c ≡ segment_in slirp.config slirp.moment (young slirp.moment held) frame)
         → Comes config (standing count wants items) done done.flows new c (made ++ past)
     segment_came c brings =
         let packet = packet_of config slirp.moment (waiting config past) (hands answer new) in
         let seg = is_segment c packet (ap coming_by packet_is ∙ brings_same config slirp.moment (waiting config past) frame ∙ sym (of_packet segment_in frame (Some c) brings)) in
-        let unowed = done_is ∙ ap (λ (p : Packet). after_packet config slirp p (hands answer new) done.parts) seg.packet
-        ∙ ap (λ (l : List (List ℕ)). record slirp { pending = l; known = with_frame config (hands answer new) slirp.known; parts = done.parts }) (sym no_packet) in
+        let unowed = done_is ∙ ap (λ (p : Packet). after_packet config slirp p (hands answer new) done.fragments) seg.packet
+        ∙ ap (λ (l : List (List ℕ)). record slirp { pending = l; known = with_frame config (hands answer new) slirp.known; fragments = done.fragments }) (sym no_packet) in
         let h = read_segment config count wants item items reads_it slirp slirp.flows old new answer no_packet out made past allowed read holds done seg.mac seg.ip seg.tcp goes_on kept seg.packet unowed in
         subst (λ (k : Kept). Comes config (standing count wants items) done k new c (made ++ past)) same_flows
         (subst (λ (other : Coming). Comes config (standing count wants items) done slirp.flows new other (made ++ past)) seg.is h)
@@ -149,33 +149,33 @@ module _ (config : Config) (count : ℕ) (wants : List Want) (item : Want) (item
 
 module _ (slirp mid new : SlirpState) (frame : List ℕ) (brought : Brought) (room : List ℕ) where
   pub asks_then : (request : Option Request) → mid.config ≡ slirp.config → request ≡ brought_request mid.config brought room
-      → ((held : List PartSet) → IsHeld slirp.parts held → brought_request slirp.config brought room ≡ request_for_udp slirp.config (udp_in slirp.config slirp.moment (young slirp.moment held) frame))
-      → (held : List PartSet) → IsHeld slirp.parts held → request ≡ request_for_udp slirp.config (udp_in slirp.config slirp.moment (young slirp.moment held) frame)
+      → ((held : List PartSet) → IsHeld slirp.fragments held → brought_request slirp.config brought room ≡ request_for_udp slirp.config (udp_in slirp.config slirp.moment (young slirp.moment held) frame))
+      → (held : List PartSet) → IsHeld slirp.fragments held → request ≡ request_for_udp slirp.config (udp_in slirp.config slirp.moment (young slirp.moment held) frame)
   asks_then request settings is brings held h = is ∙ ap (λ (k : Config). brought_request k brought room) settings ∙ brings held h
 
   pub segment_then : (segment : Option Coming) → mid.config ≡ slirp.config → segment ≡ brought_segment mid.config brought room
-      → ((held : List PartSet) → IsHeld slirp.parts held → brought_segment slirp.config brought room ≡ segment_in slirp.config slirp.moment (young slirp.moment held) frame)
-      → (held : List PartSet) → IsHeld slirp.parts held → segment ≡ segment_in slirp.config slirp.moment (young slirp.moment held) frame
+      → ((held : List PartSet) → IsHeld slirp.fragments held → brought_segment slirp.config brought room ≡ segment_in slirp.config slirp.moment (young slirp.moment held) frame)
+      → (held : List PartSet) → IsHeld slirp.fragments held → segment ≡ segment_in slirp.config slirp.moment (young slirp.moment held) frame
   segment_then segment settings is brings held h = is ∙ ap (λ (k : Config). brought_segment k brought room) settings ∙ brings held h
 
-  pub owes_then : new ≡ taken_on mid brought room → new.parts ≡ mid.parts
-      → ((held : List PartSet) → IsHeld slirp.parts held → taken_on mid brought room ≡ after_frame slirp.config slirp (young slirp.moment held) mid.parts frame)
-      → (held : List PartSet) → IsHeld slirp.parts held → new ≡ after_frame slirp.config slirp (young slirp.moment held) new.parts frame
+  pub owes_then : new ≡ taken_on mid brought room → new.fragments ≡ mid.fragments
+      → ((held : List PartSet) → IsHeld slirp.fragments held → taken_on mid brought room ≡ after_frame slirp.config slirp (young slirp.moment held) mid.fragments frame)
+      → (held : List PartSet) → IsHeld slirp.fragments held → new ≡ after_frame slirp.config slirp (young slirp.moment held) new.fragments frame
   owes_then is parts changes held h = is ∙ changes held h ∙ ap (λ l. after_frame slirp.config slirp (young slirp.moment held) l frame) (sym parts)
 
-  pub waits_then : new.parts ≡ mid.parts → ((held : List PartSet) → IsHeld slirp.parts held → IsHeld mid.parts (with_fragment slirp.moment (fragment_in slirp.config frame) held))
-      → (held : List PartSet) → IsHeld slirp.parts held → IsHeld new.parts (with_fragment slirp.moment (fragment_in slirp.config frame) held)
+  pub waits_then : new.fragments ≡ mid.fragments → ((held : List PartSet) → IsHeld slirp.fragments held → IsHeld mid.fragments (with_fragment slirp.moment (fragment_in slirp.config frame) held))
+      → (held : List PartSet) → IsHeld slirp.fragments held → IsHeld new.fragments (with_fragment slirp.moment (fragment_in slirp.config frame) held)
   waits_then parts keeps held h = subst (λ l. IsHeld l (with_fragment slirp.moment (fragment_in slirp.config frame) held)) (sym parts) (keeps held h)
 
 -- ---- what is then still to be done
 
 module _ (config : Config) (count : ℕ) (wants : List Want) (item : Want) (items : List Want) (reads_it : is_to_read TheLink (wanted_of wants item) ≡ true)
     (slirp done : SlirpState) (link : LinkState) (frame : List ℕ) (no_packet : slirp.pending ≡ [])
-    (is : (held : List PartSet) → IsHeld slirp.parts held → done ≡ after_frame slirp.config slirp (young slirp.moment held) done.parts frame)
-    (keeps : (held : List PartSet) → IsHeld slirp.parts held → IsHeld done.parts (with_fragment slirp.moment (fragment_in slirp.config frame) held)) where
+    (is : (held : List PartSet) → IsHeld slirp.fragments held → done ≡ after_frame slirp.config slirp (young slirp.moment held) done.fragments frame)
+    (keeps : (held : List PartSet) → IsHeld slirp.fragments held → IsHeld done.fragments (with_fragment slirp.moment (fragment_in slirp.config frame) held)) where
   -- what it asks for, where that is no segment and nothing of the server of files
-  pub errand_left : (request : Option Request) → file_in request ≡ None → ((held : List PartSet) → IsHeld slirp.parts held → request ≡ request_for_udp slirp.config (udp_in slirp.config slirp.moment (young slirp.moment held) frame))
-      → ((held : List PartSet) → IsHeld slirp.parts held → None ≡ segment_in slirp.config slirp.moment (young slirp.moment held) frame)
+  pub errand_left : (request : Option Request) → file_in request ≡ None → ((held : List PartSet) → IsHeld slirp.fragments held → request ≡ request_for_udp slirp.config (udp_in slirp.config slirp.moment (young slirp.moment held) frame))
+      → ((held : List PartSet) → IsHeld slirp.fragments held → None ≡ segment_in slirp.config slirp.moment (young slirp.moment held) frame)
       → (now : List Entry) → FrameCame config (standing count wants (item ∷ items)) slirp link frame now
       → HoldsAt config (standing count wants items) (asked_by config done (errand_in request)) done (flowing false done.flows) link now
   errand_left request no_file asks none now c =
@@ -183,14 +183,14 @@ module _ (config : Config) (count : ℕ) (wants : List Want) (item : Want) (item
       (taken_in config count wants item items reads_it slirp c.before link Frame no_packet c.out c.made c.past c.allowed c.reads c.holds done frame c.came refl is keeps request no_file asks none)
 
   -- a packet for the server of files
-  pub file_left : (d : Datagram) → ((held : List PartSet) → IsHeld slirp.parts held → Some (ToServe d) ≡ request_for_udp slirp.config (udp_in slirp.config slirp.moment (young slirp.moment held) frame))
+  pub file_left : (d : Datagram) → ((held : List PartSet) → IsHeld slirp.fragments held → Some (ToServe d) ≡ request_for_udp slirp.config (udp_in slirp.config slirp.moment (young slirp.moment held) frame))
       → (now : List Entry) → FrameCame config (standing count wants (item ∷ items)) slirp link frame now → AsksFile config (standing count wants items) done done.flows link d now
   file_left d asks now c =
       subst (λ past. AsksFile config (standing count wants items) done done.flows link d past) c.is
       (file_came config count wants item items reads_it slirp c.before link Frame no_packet c.out c.made c.past c.allowed c.reads c.holds done frame c.came refl is keeps d asks)
 
   -- a segment
-  pub segment_left : (s : Coming) → ((held : List PartSet) → IsHeld slirp.parts held → Some s ≡ segment_in slirp.config slirp.moment (young slirp.moment held) frame)
+  pub segment_left : (s : Coming) → ((held : List PartSet) → IsHeld slirp.fragments held → Some s ≡ segment_in slirp.config slirp.moment (young slirp.moment held) frame)
       → (now : List Entry) → FrameCame config (standing count wants (item ∷ items)) slirp link frame now → Comes config (standing count wants items) done done.flows link s now
   segment_left s brings now c =
       subst (λ past. Comes config (standing count wants items) done done.flows link s past) c.is

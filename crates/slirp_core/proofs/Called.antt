@@ -143,11 +143,11 @@ not_ended config count slirp kept link past few turn holds = ap (λ p. is_over p
     not_all = let counted : waits past ≡ count = holds.clock.counted in grind (arith, nat_tests, few, counted)
 
 -- the guests that are known are those of the record
-told_now : (config : Config) (slirp : SlirpState) (kept : Kept) (past : List Entry) → AreTold slirp.known kept.flows.parts → known config past ≡ slirp.known → AreTold (known config past) kept.flows.parts
-told_now config slirp kept past told is = subst (λ l. AreTold l kept.flows.parts) (sym is) told
+told_now : (config : Config) (slirp : SlirpState) (kept : Kept) (past : List Entry) → AreTold slirp.known kept.flows.slots → known config past ≡ slirp.known → AreTold (known config past) kept.flows.slots
+told_now config slirp kept past told is = subst (λ l. AreTold l kept.flows.slots) (sym is) told
 
 -- flows were told their guests' hardware addresses
-pub addresses_told : (config : Config) (at : Standing) (slirp : SlirpState) (aged : Bool) (kept new : Kept) (link : LinkState) (past : List Entry) → Learns slirp.known kept new → (NoneInSlots kept.flows.parts → new ≡ kept)
+pub addresses_told : (config : Config) (at : Standing) (slirp : SlirpState) (aged : Bool) (kept new : Kept) (link : LinkState) (past : List Entry) → Learns slirp.known kept new → (NoneInSlots kept.flows.slots → new ≡ kept)
     → Holds config at slirp (flowing aged kept) link past → Holds config at slirp (flowing aged new) link past
 addresses_told config at slirp aged kept new link past learns idle holds = by holds.stands
   where
@@ -177,7 +177,7 @@ abbrev pub without_over : SlirpState → SlirpState
 without_over slirp = record slirp { transfers = are_left slirp.moment slirp.transfers }
 
 -- flows were told the time, in a turn after which another wait may come
-pub ticked : (config : Config) (count : ℕ) (slirp : SlirpState) (kept new : Kept) (link : LinkState) (past made : List Entry) (Closes : List Entry → Type 0) → count < config.turns → AreTold slirp.known kept.flows.parts → Ticks slirp.moment false Closes kept new made → AreAllowed made → InTurn config past
+pub ticked : (config : Config) (count : ℕ) (slirp : SlirpState) (kept new : Kept) (link : LinkState) (past made : List Entry) (Closes : List Entry → Type 0) → count < config.turns → AreTold slirp.known kept.flows.slots → Ticks slirp.moment false Closes kept new made → AreAllowed made → InTurn config past
     → Holds config (after count) slirp (flowing false kept) link past → Holds config (after count) (without_over slirp) (flowing true new) link (made ++ past)
 ticked config count slirp kept new link past made Closes few told ticks allowed turn holds =
     let then_is = (ticks config past (not_ended config count slirp kept link past few turn holds) (between config (after count) slirp (flowing false kept) link past turn holds) (told_now config slirp kept past told holds.guests.known)).0 in
@@ -198,7 +198,7 @@ unticked config at slirp kept link past unrested holds = record {
   forwards = holds.forwards;
   flows = record {
     holds = record {
-      seats = subst (λ (r : List Rest). Seats number_of (Following config slirp.moment) kept.flows.table kept.flows.parts (next_number past) (book config past).flows r) (unrested ∙ sym (ap (filter (is_young (moment past))) unrested)) holds.flows.holds.seats;
+      seats = subst (λ (r : List Rest). Seats number_of (Following config slirp.moment) kept.flows.table kept.flows.slots (next_number past) (book config past).flows r) (unrested ∙ sym (ap (filter (is_young (moment past))) unrested)) holds.flows.holds.seats;
       slots = holds.flows.holds.slots;
       opened = holds.flows.holds.opened;
       asked = holds.flows.holds.asked;
@@ -267,7 +267,7 @@ turn_begins config at slirp aged kept link past holds = record {
     stands (Begins unbegun free unrested) = Begins unbegun free unrested
 
 -- the flows of a turn, or of none
-pub told_the_time : (config : Config) (count : ℕ) (slirp : SlirpState) (kept new : Kept) (link : LinkState) (past made : List Entry) (Closes : List Entry → Type 0) → count < config.turns → AreTold slirp.known kept.flows.parts → Ticks slirp.moment false Closes kept new made → IsIdle kept new made → AreAllowed made
+pub told_the_time : (config : Config) (count : ℕ) (slirp : SlirpState) (kept new : Kept) (link : LinkState) (past made : List Entry) (Closes : List Entry → Type 0) → count < config.turns → AreTold slirp.known kept.flows.slots → Ticks slirp.moment false Closes kept new made → IsIdle kept new made → AreAllowed made
     → Holds config (after count) slirp (flowing false kept) link past → Holds config (after count) (without_over slirp) (flowing true new) link (made ++ past)
 told_the_time config count slirp kept new link past made Closes few told ticks idle allowed holds = by holds.stands
   where
@@ -279,7 +279,7 @@ told_the_time config count slirp kept new link past made Closes few told ticks i
         (subst (λ (k : Kept). Holds config (after count) (without_over slirp) (flowing true k) link past) (sym none.0) (unticked config (after count) slirp kept link past unrested holds))
 
 -- its sockets are closed by rising number
-pub told_rising : (config : Config) (count : ℕ) (slirp : SlirpState) (kept new : Kept) (link : LinkState) (past made : List Entry) → count < config.turns → AreTold slirp.known kept.flows.parts → Ticks slirp.moment false ClosesRising kept new made → IsIdle kept new made
+pub told_rising : (config : Config) (count : ℕ) (slirp : SlirpState) (kept new : Kept) (link : LinkState) (past made : List Entry) → count < config.turns → AreTold slirp.known kept.flows.slots → Ticks slirp.moment false ClosesRising kept new made → IsIdle kept new made
     → Holds config (after count) slirp (flowing false kept) link past → ClosesRising made
 told_rising config count slirp kept new link past made few told ticks idle holds = by holds.stands
   where
@@ -342,7 +342,7 @@ module _ (config : Config) (at : Standing) (slirp : SlirpState) (f : Flowing) (l
     served = then_is.served;
     idle = then_is.asks;
     stay = core_stays config slirp.moment f.aged None new.flows (made ++ past) then_is.holds;
-    sockets = subst (λ l. AreOpenWith (forward_sockets l) (carriers (holders_with slirp new)) new.flows.parts (made ++ past)) (sym holds.forwards)
+    sockets = subst (λ l. AreOpenWith (forward_sockets l) (carriers (holders_with slirp new)) new.flows.slots (made ++ past)) (sym holds.forwards)
         (open_by config slirp (flowing f.aged new) slirp.moment (made ++ past) then_is.lawful (others.list ∙ holds.relayed.list) (others.questions ∙ holds.relayed.questions) then_is.holds (sockets_left config past made others holds.sockets.kinds)
         (all_given config (made ++ past) then_is.lawful (Over (By LinkFailed)) then_is.over refl) then_is.open_yet);
     two = two_in config slirp (made ++ past) then_is.lawful (others.list ∙ holds.relayed.list) (others.questions ∙ holds.relayed.questions);

@@ -13,13 +13,13 @@ use Rattle.run_laws.specs.Sockets.{first, is_among, next_number, open_sockets}
 use Rattle.slirp_laws.specs.Asking.{step, step_of}
 use Rattle.slirp_laws.specs.Datagrams.{Settled, due_for}
 use Rattle.slirp_laws.specs.Laws.{May, MayDue, due, unless_due}
+use Rattle.slirp_laws.proofs.Listed.{asked_without}
 use Rattle.slirp_laws.proofs.Bools.{among_without, and_both, equal, or_second, same}
 use Rattle.slirp_laws.proofs.Deeds.{any_one, quest_none, this_one}
 use Rattle.flows_follow.proofs.Tables.{get_set_at, get_set_other}
 use Rattle.flows_follow.proofs.Seats.{differ, same_or_not}
 use Rattle.slirp_core.specs.Sockets.{AllAbove, IsRising}
-use Rattle.slirp_core.proofs.Askers.{among_both, asked_without}
-use Rattle.slirp_core.proofs.Sockets.{those_without}
+use Rattle.slirp_core.proofs.Names.{among_both}
 use Rattle.flows_follow.specs.Core.{number_of}
 use Rattle.flows_follow.proofs.Ending.{may_close_least}
 use Rattle.flows_follow.proofs.Pumping.{differ_in}
@@ -33,6 +33,7 @@ use Rattle.host_policy.specs.declared.Proto.TheVariants.{Tcp, Udp}
 use Rattle.host_policy.specs.Ranges.{same_proto}
 use Rattle.host_policy.specs.Targets.{same_endpoint}
 use Rattle.slirp_laws.proofs.Longest.{same_port}
+use Rattle.slirp_laws.proofs.Joining.{numbers_without}
 use Rattle.slirp_core.specs.Forwards.{ClosesForward, forward_sockets}
 use Rattle.slirp_core.specs.Firsts.{IsLeastOf}
 use Rattle.slirp_core.specs.Holds.{AreOpen, AreOpenWith, AreTwo, Closing, ClosingBy, ClosingWith, ClosesAll, ClosesForwards, ClosesNext, ClosesOn, Holders, IsOf, Ran, carriers, Rests, OverFor, AllWaited}
@@ -148,30 +149,30 @@ was_among m n past among = both_of (not (m == n)) (is_among m (open_sockets past
 
 -- among the numbers of those that are left
 left_among : (m n : ℕ) (list : List Association) → is_among m (numbers (without n list)) ≡ (not (m == n) && is_among m (numbers list))
-left_among m n list = sym (those_without n list (numbers list) (λ k. refl) m) ∙ among_without m n (numbers list)
+left_among m n list = ap (is_among m) (numbers_without n list) ∙ among_without m n (numbers list)
 
 module _ (config : Config) (over : Phase) (o : Holders) (past : List Entry) (closing : Closing config over o past) where
-  abbrev now_open : AreOpen (carriers o) o.parts past
+  abbrev now_open : AreOpen (carriers o) o.slots past
   now_open = closing.sockets
 
   -- one that carries datagrams was closed, and the others are left
-  module _ (n : ℕ) (is : IsCarrier n (carriers o) o.parts) (associations : List Association) (questions : List Question)
+  module _ (n : ℕ) (is : IsCarrier n (carriers o) o.slots) (associations : List Association) (questions : List Question)
       (left : (m : ℕ) → is_among m (numbers associations ++ question_numbers questions) ≡ (not (m == n) && is_among m (carriers o)))
-      (two : AreTwo (record { associations = associations; questions = questions; parts = o.parts })) where
+      (two : AreTwo (record { associations = associations; questions = questions; slots = o.slots })) where
     abbrev others : List ℕ
     others = numbers associations ++ question_numbers questions
 
-    least_of : (m : ℕ) → IsOf (carriers o) o.parts m → n ≤ m
+    least_of : (m : ℕ) → IsOf (carriers o) o.slots m → n ≤ m
     least_of m (inl among) = is.least.1 m among
     least_of m (inr (k, p, at, number, u)) = subst (λ x. n ≤ x) number (is.below k p at)
 
-    each_left : (m : ℕ) → (not (m == n) ≡ true) → IsOf (carriers o) o.parts m → IsOf others o.parts m
+    each_left : (m : ℕ) → (not (m == n) ≡ true) → IsOf (carriers o) o.slots m → IsOf others o.slots m
     each_left m apart (inl among) = inl (left m ∙ both_are (not (m == n)) (is_among m (carriers o)) apart among)
     each_left m apart (inr has) = inr has
 
-    pub carrier_closed : Closing config over (record { associations = associations; questions = questions; parts = o.parts }) (Close n ∷ past)
-    carrier_closed = closed (AreOpen (carriers o) o.parts) o config over past closing n (now_open.carry n is.least.0) (λ m among. least_of m (now_open.each m among))
-        (AreOpen others o.parts) (record { associations = associations; questions = questions; parts = o.parts }) two (record {
+    pub carrier_closed : Closing config over (record { associations = associations; questions = questions; slots = o.slots }) (Close n ∷ past)
+    carrier_closed = closed (AreOpen (carriers o) o.slots) o config over past closing n (now_open.carry n is.least.0) (λ m among. least_of m (now_open.each m among))
+        (AreOpen others o.slots) (record { associations = associations; questions = questions; slots = o.slots }) two (record {
           each = λ m among. let was = was_among m n past among in each_left m was.0 (now_open.each m was.1);
           carry = λ m among. let was = both_of (not (m == n)) (is_among m (carriers o)) (sym (left m) ∙ among) in still_among m n past (now_open.carry m was.1) (apart_from m n was.0);
           flow = λ k p at. still_among (number_of p) n past (now_open.flow k p at) (λ same_one. true_false (sym is.least.0 ∙ ap (λ x. is_among x (carriers o)) (sym same_one) ∙ now_open.apart k p at));
@@ -179,7 +180,7 @@ module _ (config : Config) (over : Phase) (o : Holders) (past : List Entry) (clo
         })
 
   -- an association's, which is no question's
-  pub association_closed : (n : ℕ) → is_among n (numbers o.associations) ≡ true → IsCarrier n (carriers o) o.parts → Closing config over (record o { associations = without n o.associations }) (Close n ∷ past)
+  pub association_closed : (n : ℕ) → is_among n (numbers o.associations) ≡ true → IsCarrier n (carriers o) o.slots → Closing config over (record o { associations = without n o.associations }) (Close n ∷ past)
   association_closed n among is = carrier_closed n is (without n o.associations) o.questions left two
     where
       both : (a e q : Bool) → (e ≡ true → q ≡ false) → ((not e && a) || q) ≡ (not e && (a || q))
@@ -196,7 +197,7 @@ module _ (config : Config) (over : Phase) (o : Holders) (past : List Entry) (clo
       two m here = closing.two m (both_of (not (m == n)) (is_among m (numbers o.associations)) (sym (left_among m n o.associations) ∙ here)).1
 
   -- a question's, which is no association's
-  pub question_closed : (n : ℕ) → is_among n (question_numbers o.questions) ≡ true → IsCarrier n (carriers o) o.parts → Closing config over (record o { questions = without_question n o.questions }) (Close n ∷ past)
+  pub question_closed : (n : ℕ) → is_among n (question_numbers o.questions) ≡ true → IsCarrier n (carriers o) o.slots → Closing config over (record o { questions = without_question n o.questions }) (Close n ∷ past)
   question_closed n among is = carrier_closed n is o.associations (without_question n o.questions) left two
     where
       both : (a e q : Bool) → (e ≡ true → a ≡ false) → (a || (not e && q)) ≡ (not e && (a || q))
@@ -219,9 +220,9 @@ module _ (config : Config) (over : Phase) (o : Holders) (past : List Entry) (clo
       two m here = asked_without m n o.questions ∙ none_left (not (m == n)) (is_among m (question_numbers o.questions)) (closing.two m here)
 
   -- a flow's was closed
-  module _ (n k : ℕ) (is : IsFlows n k (carriers o) o.parts) where
+  module _ (n k : ℕ) (is : IsFlows n k (carriers o) o.slots) where
     abbrev new_parts : List (Option Splice)
-    new_parts = set o.parts k None
+    new_parts = set o.slots k None
 
     here : is_among n (open_sockets past) ≡ true
     here = subst (λ m. is_among m (open_sockets past) ≡ true) is.next.number (now_open.flow k is.next.part is.next.at)
@@ -229,38 +230,38 @@ module _ (config : Config) (over : Phase) (o : Holders) (past : List Entry) (clo
     unlisted : is_among n (carriers o) ≡ false
     unlisted = subst (λ m. is_among m (carriers o) ≡ false) is.next.number (now_open.apart k is.next.part is.next.at)
 
-    least_with : (m : ℕ) → IsOf (carriers o) o.parts m → n ≤ m
+    least_with : (m : ℕ) → IsOf (carriers o) o.slots m → n ≤ m
     least_with m (inl among) = is.below m among
     least_with m (inr (j, p, at, number, u)) = subst (λ x. n ≤ x) number (is.next.least j p at tt)
 
     -- another slot than this one is as it was
-    stays_at : (j : ℕ) (p : Splice) → IsOpenAt o.parts j p → (number_of p ≡ n → ⊥) → IsOpenAt new_parts j p
-    stays_at j p at apart = record { here = get_set_other o.parts k j None (λ same_slot. apart (of_slot same_slot)) ∙ at.here; open_yet = at.open_yet }
+    stays_at : (j : ℕ) (p : Splice) → IsOpenAt o.slots j p → (number_of p ≡ n → ⊥) → IsOpenAt new_parts j p
+    stays_at j p at apart = record { here = get_set_other o.slots k j None (λ same_slot. apart (of_slot same_slot)) ∙ at.here; open_yet = at.open_yet }
       where
         of_slot : j ≡ k → number_of p ≡ n
-        of_slot same_slot = ap number_of (one p (some_same (Some p) (Some is.next.part) (sym at.here ∙ ap (slice_get o.parts) same_slot ∙ is.next.at.here))) ∙ is.next.number
+        of_slot same_slot = ap number_of (one p (some_same (Some p) (Some is.next.part) (sym at.here ∙ ap (slice_get o.slots) same_slot ∙ is.next.at.here))) ∙ is.next.number
           where
             one : (q : Splice) → Some q ≡ Some is.next.part → q ≡ is.next.part
             one q same_part = some_same q is.next.part same_part
 
-    was_at : (j : ℕ) (p : Splice) → IsOpenAt new_parts j p → IsOpenAt o.parts j p × (number_of p ≡ n → ⊥)
+    was_at : (j : ℕ) (p : Splice) → IsOpenAt new_parts j p → IsOpenAt o.slots j p × (number_of p ≡ n → ⊥)
     was_at j p at = by (same_or_not j k)
       where
         not_here : j ≡ k → ⊥
-        not_here same_slot = none_some (some_same None (Some p) (sym (get_set_at o.parts k (Some is.next.part) None is.next.at.here) ∙ ap (slice_get new_parts) (sym same_slot) ∙ at.here))
+        not_here same_slot = none_some (some_same None (Some p) (sym (get_set_at o.slots k (Some is.next.part) None is.next.at.here) ∙ ap (slice_get new_parts) (sym same_slot) ∙ at.here))
 
-        by : (j ≡ k) ⊎ ((j == k) ≡ false) → IsOpenAt o.parts j p × (number_of p ≡ n → ⊥)
+        by : (j ≡ k) ⊎ ((j == k) ≡ false) → IsOpenAt o.slots j p × (number_of p ≡ n → ⊥)
         by (inl same_slot) = absurd (not_here same_slot)
         by (inr apart) =
-            let before : IsOpenAt o.parts j p = record { here = sym (get_set_other o.parts k j None (differ j k apart)) ∙ at.here; open_yet = at.open_yet } in
+            let before : IsOpenAt o.slots j p = record { here = sym (get_set_other o.slots k j None (differ j k apart)) ∙ at.here; open_yet = at.open_yet } in
             (before, λ number. differ j k apart (is.next.only j p before number))
 
-    each_but : (m : ℕ) → (not (m == n) ≡ true) → IsOf (carriers o) o.parts m → IsOf (carriers o) new_parts m
+    each_but : (m : ℕ) → (not (m == n) ≡ true) → IsOf (carriers o) o.slots m → IsOf (carriers o) new_parts m
     each_but m apart (inl among) = inl among
     each_but m apart (inr (j, p, at, number, u)) = inr (j, p, stays_at j p at (λ is_n. apart_from m n apart (sym number ∙ is_n)), number, u)
 
-    pub flow_closed : Closing config over (record o { parts = new_parts }) (Close n ∷ past)
-    flow_closed = closed (AreOpen (carriers o) o.parts) o config over past closing n here (λ m among. least_with m (now_open.each m among)) (AreOpen (carriers o) new_parts) (record o { parts = new_parts }) closing.two (record {
+    pub flow_closed : Closing config over (record o { slots = new_parts }) (Close n ∷ past)
+    flow_closed = closed (AreOpen (carriers o) o.slots) o config over past closing n here (λ m among. least_with m (now_open.each m among)) (AreOpen (carriers o) new_parts) (record o { slots = new_parts }) closing.two (record {
       each = λ m among. let was = was_among m n past among in each_but m was.0 (now_open.each m was.1);
       carry = λ m among. still_among m n past (now_open.carry m among) (λ same_one. true_false (sym among ∙ ap (λ x. is_among x (carriers o)) same_one ∙ unlisted));
       flow = λ j p at. let was = was_at j p at in still_among (number_of p) n past (now_open.flow j p was.0) was.1;
@@ -269,11 +270,11 @@ module _ (config : Config) (over : Phase) (o : Holders) (past : List Entry) (clo
 
   -- ---- none is left
 
-  module _ (none : carriers o ≡ []) (none_above : NoneIsAbove None o.parts) where
+  module _ (none : carriers o ≡ []) (none_above : NoneIsAbove None o.slots) where
     shut : open_sockets past ≡ []
     shut = empty (open_sockets past) refl
       where
-        no_one : (m : ℕ) → IsOf (carriers o) o.parts m → ⊥
+        no_one : (m : ℕ) → IsOf (carriers o) o.slots m → ⊥
         no_one m (inl among) = true_false (sym among ∙ ap (is_among m) none)
         no_one m (inr (k, p, at, number, u)) = none_above k p at tt
 
@@ -293,10 +294,10 @@ module _ (config : Config) (over : Phase) (o : Holders) (past : List Entry) (clo
 -- ---- the sockets of forwards are closed before
 
 module _ (config : Config) (over : Phase) (n : ℕ) (forwards : List ℕ) (o : Holders) (past : List Entry) (closing : ClosingWith config over (n ∷ forwards) o past) where
-  abbrev are_open_now : AreOpenWith (n ∷ forwards) (carriers o) o.parts past
+  abbrev are_open_now : AreOpenWith (n ∷ forwards) (carriers o) o.slots past
   are_open_now = closing.sockets
 
-  least_here : (m : ℕ) → (is_among m (n ∷ forwards) ≡ true) ⊎ IsOf (carriers o) o.parts m → n ≤ m
+  least_here : (m : ℕ) → (is_among m (n ∷ forwards) ≡ true) ⊎ IsOf (carriers o) o.slots m → n ≤ m
   least_here m (inl among) = by (m == n) refl among
     where
       by : (b : Bool) → (m == n) ≡ b → (b || is_among m forwards) ≡ true → n ≤ m
@@ -304,10 +305,10 @@ module _ (config : Config) (over : Phase) (n : ℕ) (forwards : List ℕ) (o : H
       by false is among = let above = above_all n m forwards are_open_now.rising.1.1 among in omega (arith, above)
   least_here m (inr of) = let less = are_open_now.first n m (ap (λ b. b || is_among n forwards) (same n)) of in omega (arith, less)
 
-  other_than : (m : ℕ) → IsOf (carriers o) o.parts m → m ≡ n → ⊥
+  other_than : (m : ℕ) → IsOf (carriers o) o.slots m → m ≡ n → ⊥
   other_than m of is = let less = are_open_now.first n m (ap (λ b. b || is_among n forwards) (same n)) of in omega (arith, less, is)
 
-  each_behind : (m : ℕ) → not (m == n) ≡ true → (is_among m (n ∷ forwards) ≡ true) ⊎ IsOf (carriers o) o.parts m → (is_among m forwards ≡ true) ⊎ IsOf (carriers o) o.parts m
+  each_behind : (m : ℕ) → not (m == n) ≡ true → (is_among m (n ∷ forwards) ≡ true) ⊎ IsOf (carriers o) o.slots m → (is_among m forwards ≡ true) ⊎ IsOf (carriers o) o.slots m
   each_behind m apart (inl among) = inl (by (m == n) apart among)
     where
       by : (b : Bool) → not b ≡ true → (b || is_among m forwards) ≡ true → is_among m forwards ≡ true
@@ -316,7 +317,7 @@ module _ (config : Config) (over : Phase) (n : ℕ) (forwards : List ℕ) (o : H
   each_behind m apart (inr of) = inr of
 
   pub forward_closed : ClosingWith config over forwards o (Close n ∷ past)
-  forward_closed = closed (AreOpenWith (n ∷ forwards) (carriers o) o.parts) o config over past closing n (are_open_now.forward n (ap (λ b. b || is_among n forwards) (same n))) (λ m among. least_here m (are_open_now.each m among)) (AreOpenWith forwards (carriers o) o.parts) o closing.two (record {
+  forward_closed = closed (AreOpenWith (n ∷ forwards) (carriers o) o.slots) o config over past closing n (are_open_now.forward n (ap (λ b. b || is_among n forwards) (same n))) (λ m among. least_here m (are_open_now.each m among)) (AreOpenWith forwards (carriers o) o.slots) o closing.two (record {
     each = λ m among. let was = was_among m n past among in each_behind m was.0 (are_open_now.each m was.1);
     forward = λ m among. still_among m n past (are_open_now.forward m (or_second (m == n) (is_among m forwards) among)) (λ is. let above = above_all n m forwards are_open_now.rising.1.1 among in omega (arith, above, is));
     carry = λ m among. still_among m n past (are_open_now.carry m among) (other_than m (inl among));
@@ -346,7 +347,7 @@ no_forwards config over o past closing = record {
   two = closing.two;
 }
   where
-    others : (n : ℕ) → (false ≡ true) ⊎ IsOf (carriers o) o.parts n → IsOf (carriers o) o.parts n
+    others : (n : ℕ) → (false ≡ true) ⊎ IsOf (carriers o) o.slots n → IsOf (carriers o) o.slots n
     others n (inl never) = cc
     others n (inr of) = of
 

@@ -30,15 +30,15 @@ drawn_up next later kept up drawn = record {
 }
 
 -- after a flow began with the next number
-pub drawn_begun : (next : ℕ) (old new : Kept) → length new.flows.parts ≡ length old.flows.parts → new.flows.opened ≡ old.flows.opened + 1
-    → ((k : ℕ) (p : Splice) → slice_get new.flows.parts k ≡ Some (Some p) → (number_of p ≡ next) ⊎ ((q : Splice) × (slice_get old.flows.parts k ≡ Some (Some q)) × (number_of p ≡ number_of q))) → AreDrawn next old → AreDrawn (next + 1) new
+pub drawn_begun : (next : ℕ) (old new : Kept) → length new.flows.slots ≡ length old.flows.slots → new.flows.opened ≡ old.flows.opened + 1
+    → ((k : ℕ) (p : Splice) → slice_get new.flows.slots k ≡ Some (Some p) → (number_of p ≡ next) ⊎ ((q : Splice) × (slice_get old.flows.slots k ≡ Some (Some q)) × (number_of p ≡ number_of q))) → AreDrawn next old → AreDrawn (next + 1) new
 drawn_begun next old new slots opened numbers drawn = record {
   below = λ k p at. by k p (numbers k p at);
   opened = let few = drawn.opened in omega (arith, opened, few);
   few = let few = drawn.few in omega (arith, slots, few);
 }
   where
-    by : (k : ℕ) (p : Splice) → (number_of p ≡ next) ⊎ ((q : Splice) × (slice_get old.flows.parts k ≡ Some (Some q)) × (number_of p ≡ number_of q)) → number_of p < next + 1
+    by : (k : ℕ) (p : Splice) → (number_of p ≡ next) ⊎ ((q : Splice) × (slice_get old.flows.slots k ≡ Some (Some q)) × (number_of p ≡ number_of q)) → number_of p < next + 1
     by k p (inl is) = omega (arith, is)
     by k p (inr (q, at, is)) = let less = drawn.below k q at in omega (arith, is, less)
 

@@ -26,7 +26,7 @@ use Rattle.slirp_core.proofs.Merging.{length_merged}
 -- the link, then the sockets where they are wanted, and what flows wait for
 pub wants_of : (slirp : SlirpState) (link : LinkState) (wants flows : List Want) (read write : Bool) (listeners forwards sockets : List ℕ) → read ≡ is_settled slirp link → write ≡ link.blocked
     → listeners ≡ listeners_of slirp → forwards ≡ sockets_over OverUdp slirp.forwards → IsPermutation (carriers (holders_of slirp)) sockets → IsNonDecreasing sockets
-    → AreWantsOf slirp.flows.flows.parts flows → wants ≡ ((link_want read write ++ map listener_want listeners) ++ socket_wants read (forwards ++ sockets)) ++ flows → WantsOf slirp link wants
+    → AreWantsOf slirp.flows.flows.slots flows → wants ≡ ((link_want read write ++ map listener_want listeners) ++ socket_wants read (forwards ++ sockets)) ++ flows → WantsOf slirp link wants
 wants_of slirp link wants flows read write listeners forwards sockets settled blocked listen given all rising of_flows is = record {
   sockets = sockets;
   all = all;

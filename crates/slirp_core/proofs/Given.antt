@@ -1,5 +1,5 @@
 -- The ports of the host that are given to guests, in a lawful run: they are opened first, in order, and stay open until the closing.
-use Rattle.std.proofs.Common.{◌≡◌, ℕ, zero, suc, ◌+◌, ◌<◌, ◌≤◌, ◌==◌, ◌&&◌, ◌||◌, ◌⊎◌, not, nat_lt, Bool, true, false, List, [], ◌∷◌, ◌++◌, drop, filter, find, length, slice_get, is_some, Option, Some, None, MatchOption, option_map, if◌then◌else◌, inl, inr, refl, sym, ◌∙◌, ap, subst, arith}
+use Rattle.std.proofs.Common.{◌≡◌, ℕ, zero, suc, ◌+◌, ◌<◌, ◌≤◌, ◌==◌, ◌&&◌, ◌||◌, ◌⊎◌, not, nat_lt, Bool, true, false, List, [], ◌∷◌, ◌++◌, drop, filter, find, length, slice_get, Option, Some, None, MatchOption, option_map, if◌then◌else◌, inl, inr, refl, sym, ◌∙◌, ap, subst, arith}
 use Rattle.std.proofs.lemmas.Bool.Decides.{nat_tests}
 use Rattle.std.specs.Option.{option_and_then}
 use Rattle.net_octets.specs.declared.Endpoint.{Endpoint}
@@ -26,7 +26,7 @@ use Rattle.slirp_laws.proofs.Bools.{among_last, among_without, and_both, equal, 
 use Rattle.slirp_laws.proofs.OpenSockets.{open_below, peer_next}
 use Rattle.slirp_laws.proofs.Giving.{leads}
 use Rattle.slirp_laws.proofs.Joining.{waited_for}
-use Rattle.slirp_laws.proofs.Phases.{IsForOther, OpensNone, for_others, opens}
+use Rattle.slirp_laws.proofs.Phases.{IsForOther, OpensNone, due_call, for_others, opens}
 use Rattle.slirp_laws.proofs.Steps.{errand_is}
 use Rattle.slirp_laws.specs.Asking.{step}
 use Rattle.slirp_laws.specs.Datagrams.{Step, Settled, NeedsRoom, NeedsSocket, NeedsSending, due_for}
@@ -71,10 +71,6 @@ none_listens (Over cause) past other socket at later never is = by (first (open_
     by : (o : Option ℕ) → unless_due (option_map CallClose o) other ≡ Some (CallListen socket at) → ⊥
     by None is = never is
     by (Some s) is = cc
-
-due_call : (o : Option Call) (call : Call) → is_some o ≡ true → MatchOption o (Unit {0}) (λ d. call ≡ d) → o ≡ Some call
-due_call None call some is = cc
-due_call (Some d) call some is = ap Some (sym is)
 
 listens_first : (config : Config) (past : List Entry) (socket : ℕ) (at : Endpoint) → is_opening (phase config past) ≡ false → May config past (CallListen socket at) → ⊥
 listens_first config past socket at later may =

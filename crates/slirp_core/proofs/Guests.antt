@@ -15,10 +15,10 @@ use Rattle.slirp_core.proofs.Waitings.{fragments_begin, fragments_stay, none_arr
 
 -- what of the network it is
 abbrev pub of_guests : SlirpState → Config × List (Ip4 × Mac) × List Gathered
-of_guests slirp = (slirp.config, slirp.known, slirp.parts)
+of_guests slirp = (slirp.config, slirp.known, slirp.fragments)
 
 -- at the beginning
-pub guests_begin : (slirp : SlirpState) (told : Entry) → (happens slirp.config [] told).came ≡ None → slirp.known ≡ [] → slirp.parts ≡ [] → OfGuests slirp.config slirp (told ∷ [])
+pub guests_begin : (slirp : SlirpState) (told : Entry) → (happens slirp.config [] told).came ≡ None → slirp.known ≡ [] → slirp.fragments ≡ [] → OfGuests slirp.config slirp (told ∷ [])
 guests_begin slirp told nothing none no_parts = record {
   settings = refl;
   known = ap (λ o. with_arrival o []) nothing ∙ sym none;

@@ -23,7 +23,8 @@ use Rattle.dns_relay.specs.declared.Question.{Question}
 use Rattle.slirp_core.specs.Firsts.{IsFlowFirst, IsLeastOf, IsQuestionFirst, NoFlowFirst, NoQuestionFirst}
 use Rattle.slirp_core.specs.Holds.{AfterClosing, Closing, Holders, Ran, carriers}
 use Rattle.slirp_core.specs.Numbers.{count_open, open_flows}
-use Rattle.slirp_core.proofs.Askers.{among_both, among_first, among_second, asked_at_most, asked_least, least_asked, no_question, none_asked}
+use Rattle.slirp_core.proofs.Askers.{among_first, among_second, asked_at_most, asked_least, least_asked, no_question, none_asked}
+use Rattle.slirp_core.proofs.Names.{among_both}
 use Rattle.slirp_core.proofs.Sockets.{least_among, no_association}
 use Rattle.slirp_core.proofs.Closing.{IsFlows, all_closed, association_closed, at_most, flow_closed, question_closed}
 
@@ -166,7 +167,7 @@ flow_is_under n o one two m among = by (is_among m (numbers o.associations)) ref
     by true is among = one m is
     by false is among = two m among
 
-pub flow_isnt_under : (n : ℕ) (o : Holders) → IsFirst n o.parts → (first : ℕ) → is_among first (carriers o) ≡ true → first ≤ n → NoFlowFirst (carriers o) o.parts
+pub flow_isnt_under : (n : ℕ) (o : Holders) → IsFirst n o.slots → (first : ℕ) → is_among first (carriers o) ≡ true → first ≤ n → NoFlowFirst (carriers o) o.slots
 flow_isnt_under n o is first among most = record {
   below = λ m least k p at.
       let under = least.1 first among in
@@ -175,7 +176,7 @@ flow_isnt_under n o is first among most = record {
   none = λ none. absurd (true_false (sym among ∙ ap (is_among first) none));
 }
 
-pub no_flow : (o : Holders) → NoneIsAbove None o.parts → NoFlowFirst (carriers o) o.parts
+pub no_flow : (o : Holders) → NoneIsAbove None o.slots → NoFlowFirst (carriers o) o.slots
 no_flow o none = record { below = λ m least k p at. absurd (none k p at tt); none = λ empty. none }
 
 -- a question's number is less than those of all associations, or isn't
@@ -204,14 +205,14 @@ no_question_first list asked rising all none = record {
 -- ---- the socket with the least number is closed
 
 module _ (config : Config) (over : Phase) (made past : List Entry) where
-  pub flow_first : (b : Bool) (o : Holders) (new : List (Option Splice)) → IsFlowFirst (carriers o) o.parts → ClosesFirst b o.parts new made → Closing config over o past → AfterClosing b config over (record o { parts = new }) (made ++ past)
+  pub flow_first : (b : Bool) (o : Holders) (new : List (Option Splice)) → IsFlowFirst (carriers o) o.slots → ClosesFirst b o.slots new made → Closing config over o past → AfterClosing b config over (record o { slots = new }) (made ++ past)
   flow_first true o new first closes closing =
-      subst (λ (m : List Entry). Closing config over (record o { parts = new }) (m ++ past)) (sym closes.4)
-      (subst (λ (l : List (Option Splice)). Closing config over (record o { parts = l }) (Close closes.0 ∷ past)) (sym closes.3)
-      (flow_closed config over o past closing closes.0 closes.1 (next_flow first.0 o.parts first.1 closes.0 closes.1 (carriers o) closes.2 first.2)))
-  flow_first false o new first closes closing = absurd (one_open first.0 o.parts first.1 closes.0)
+      subst (λ (m : List Entry). Closing config over (record o { slots = new }) (m ++ past)) (sym closes.4)
+      (subst (λ (l : List (Option Splice)). Closing config over (record o { slots = l }) (Close closes.0 ∷ past)) (sym closes.3)
+      (flow_closed config over o past closing closes.0 closes.1 (next_flow first.0 o.slots first.1 closes.0 closes.1 (carriers o) closes.2 first.2)))
+  flow_first false o new first closes closing = absurd (one_open first.0 o.slots first.1 closes.0)
 
-  pub question_first : (b : Bool) (o : Holders) (new : List Question) → NoFlowFirst (carriers o) o.parts → IsQuestionFirst o.associations o.questions → ClosesLeastAsked (λ q. true) b o.questions new made → Closing config over o past
+  pub question_first : (b : Bool) (o : Holders) (new : List Question) → NoFlowFirst (carriers o) o.slots → IsQuestionFirst o.associations o.questions → ClosesLeastAsked (λ q. true) b o.questions new made → Closing config over o past
       → AfterClosing b config over (record o { questions = new }) (made ++ past)
   question_first true o new no_flow first closes closing =
       subst (λ (m : List Entry). Closing config over (record o { questions = new }) (m ++ past)) (sym closes.1)
@@ -231,7 +232,7 @@ module _ (config : Config) (over : Phase) (made past : List Entry) where
       )
   question_first false o new no_flow first closes closing = absurd (true_false (sym (least_asked first.0 o.questions first.1) ∙ ap (λ (l : List Question). is_among first.0 (question_numbers l)) (no_question o.questions closes.1)))
 
-  pub association_first : (b : Bool) (o : Holders) (new : List Association) → NoFlowFirst (carriers o) o.parts → NoQuestionFirst o.associations o.questions → ClosesLeast (λ a. true) b o.associations new made → Closing config over o past
+  pub association_first : (b : Bool) (o : Holders) (new : List Association) → NoFlowFirst (carriers o) o.slots → NoQuestionFirst o.associations o.questions → ClosesLeast (λ a. true) b o.associations new made → Closing config over o past
       → AfterClosing b config over (record o { associations = new }) (made ++ past)
   association_first true o new no_flow no_question closes closing =
       subst (λ (m : List Entry). Closing config over (record o { associations = new }) (m ++ past)) (sym closes.1)

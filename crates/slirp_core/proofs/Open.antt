@@ -36,17 +36,17 @@ module _ (config : Config) (slirp : SlirpState) (f : Flowing) (now : ℕ) (past 
   carries_all : (n : ℕ) → carries past n ≡ is_among n all
   carries_all n = carried config slirp past lawful is_list is_named n
 
-  has_flow : (n : ℕ) → joins past n ≡ true → HasSocket n f.kept.flows.parts (λ p. Unit {0})
+  has_flow : (n : ℕ) → joins past n ≡ true → HasSocket n f.kept.flows.slots (λ p. Unit {0})
   has_flow n joined = by (open_flow config past n lawful joined)
     where
-      by : ((g : Flow) × (flow_of n (book config past).flows ≡ Some g) × (is_closed g.story ≡ false)) ⊎ ((book config past).doomed ≡ Some n) → HasSocket n f.kept.flows.parts (λ p. Unit {0})
+      by : ((g : Flow) × (flow_of n (book config past).flows ≡ Some g) × (is_closed g.story ≡ false)) ⊎ ((book config past).doomed ≡ Some n) → HasSocket n f.kept.flows.slots (λ p. Unit {0})
       by (inl (g, found, open_yet)) =
           let seat = open_seat config now f.aged None f.kept.flows past n g holds found open_yet in
           (seat.0, seat.1, record { here = seat.2; open_yet = seat.3 }, seat.4, tt)
       by (inr doomed) = absurd (none_doomed config (book config past) (next_number past) n holds.asked doomed)
 
   by_kind : (n : ℕ) → is_among n (open_sockets past) ≡ true → (a b c : Bool) → is_association (kind_of n past) ≡ a → is_flow (kind_of n past) ≡ b → is_given (kind_of n past) ≡ c → (a || b || c) ≡ true
-      → (is_among n (forward_sockets (given config)) ≡ true) ⊎ IsOf all f.kept.flows.parts n
+      → (is_among n (forward_sockets (given config)) ≡ true) ⊎ IsOf all f.kept.flows.slots n
   by_kind n among true b c one two three is = inr (inl (sym (carries_all n) ∙ and_both (is_among n (open_sockets past)) (is_association (kind_of n past)) among one))
   by_kind n among false true c one two three is = inr (inr (has_flow n (and_both (is_among n (open_sockets past)) (is_flow (kind_of n past)) among two)))
   by_kind n among false false true one two three is = inl (given_among config.forwards n 0 (omega arith) (let less = has.others n among three in omega (arith, less)))
@@ -76,13 +76,13 @@ module _ (config : Config) (slirp : SlirpState) (f : Flowing) (now : ℕ) (past 
   no_joined (Some Listener) is = cc
   no_joined (Some OfFlow) is = refl
 
-  behind : (m : ℕ) → IsOf all f.kept.flows.parts m → length config.forwards ≤ m
+  behind : (m : ℕ) → IsOf all f.kept.flows.slots m → length config.forwards ≤ m
   behind m (inl among) = later m (no_carrier (kind_of m past) (second_of (is_among m (open_sockets past)) (is_association (kind_of m past)) (carries_all m ∙ among)))
   behind m (inr (k, p, at_k, number, u)) =
       let joined = seat_open config now f.aged None f.kept.flows past holds lawful k p at_k.here at_k.open_yet in
       subst (λ n. length config.forwards ≤ n) number (later (number_of p) (no_joined (kind_of (number_of p) past) (second_of (is_among (number_of p) (open_sockets past)) (is_flow (kind_of (number_of p) past)) joined)))
 
-  pub open_by : AreOpenWith (forward_sockets (given config)) all f.kept.flows.parts past
+  pub open_by : AreOpenWith (forward_sockets (given config)) all f.kept.flows.slots past
   open_by = record {
     each = λ n among. by_kind n among (is_association (kind_of n past)) (is_flow (kind_of n past)) (is_given (kind_of n past)) refl refl refl (kinds n among);
     forward = λ n among. has.stay open_yet n (let less = (among_given config.forwards n 0 among).1 in omega (arith, less));
@@ -94,7 +94,7 @@ module _ (config : Config) (slirp : SlirpState) (f : Flowing) (now : ℕ) (past 
   }
 
 pub are_open : (config : Config) (at : Standing) (step : Step) (heard : Option ℕ) (slirp : SlirpState) (f : Flowing) (link : LinkState) (past : List Entry) → HoldsOn config at step heard slirp f link past
-    → AreOpenWith (forward_sockets slirp.forwards) (carriers (holders_with slirp f.kept)) f.kept.flows.parts past
+    → AreOpenWith (forward_sockets slirp.forwards) (carriers (holders_with slirp f.kept)) f.kept.flows.slots past
 are_open config at step heard slirp f link past holds =
-    subst (λ l. AreOpenWith (forward_sockets l) (carriers (holders_with slirp f.kept)) f.kept.flows.parts past) (sym holds.forwards)
+    subst (λ l. AreOpenWith (forward_sockets l) (carriers (holders_with slirp f.kept)) f.kept.flows.slots past) (sym holds.forwards)
     (open_by config slirp f slirp.moment past holds.lawful holds.relayed.list holds.relayed.questions holds.flows.holds holds.sockets.kinds (given_in config at step heard slirp f link past holds) holds.open_yet)

@@ -82,7 +82,7 @@ after_write config at slirp new_slirp f old new past octets answer blocked holds
       open_yet = holds.open_yet;
     }
 
-    now_open : AreOpenWith (forward_sockets slirp.forwards) (carriers (holders_with slirp f.kept)) f.kept.flows.parts past
+    now_open : AreOpenWith (forward_sockets slirp.forwards) (carriers (holders_with slirp f.kept)) f.kept.flows.slots past
     now_open = are_open config at Settled None slirp f old past holds
 
     by_answer : (a : Io) (b : Bool) → Keeps new (LinkWrite octets a ∷ past) → Allowed (LinkWrite octets a) → Left config f.aged past octets a new_slirp → AfterPump (pumped_of (offered a) b) config at new_slirp f new (LinkWrite octets a ∷ past)
@@ -100,7 +100,7 @@ after_write config at slirp new_slirp f old new past octets answer blocked holds
       served = none_due_for_services config (LinkWrite octets Failed ∷ past) refl (quest_written config octets Failed past holds.services.quest);
       idle = (flows Failed).holds.asked;
       stay = flows_stay_open config f slirp.moment (LinkWrite octets Failed ∷ past) (flows Failed);
-      sockets = subst (λ (s : SlirpState). AreOpenWith (forward_sockets s.forwards) (carriers (holders_with s f.kept)) f.kept.flows.parts (LinkWrite octets Failed ∷ past)) (sym same) (record { each = now_open.each; forward = now_open.forward; carry = now_open.carry; flow = now_open.flow; apart = now_open.apart; rising = now_open.rising; first = now_open.first });
+      sockets = subst (λ (s : SlirpState). AreOpenWith (forward_sockets s.forwards) (carriers (holders_with s f.kept)) f.kept.flows.slots (LinkWrite octets Failed ∷ past)) (sym same) (record { each = now_open.each; forward = now_open.forward; carry = now_open.carry; flow = now_open.flow; apart = now_open.apart; rising = now_open.rising; first = now_open.first });
       two = subst (λ (s : SlirpState). AreTwo (holders_with s f.kept)) (sym same) (two_in config slirp past holds.lawful holds.relayed.list holds.relayed.questions);
     }
 

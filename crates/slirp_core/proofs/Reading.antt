@@ -154,7 +154,7 @@ abbrev pub after_packet : Config → SlirpState → Packet → Option (List ℕ)
 after_packet config s packet frame parts = record s {
   pending = frames_of config s.sent (owed_with config (serving_of s) packet);
   known = with_frame config frame s.known;
-  parts = parts;
+  fragments = parts;
   leases = leases_by_packet config s.moment packet s.leases;
 }
 
@@ -226,8 +226,8 @@ for_files config d (Segment mac ip tcp) is = cc
 
 -- and which fragments wait
 abbrev pub KeepsParts : Config → SlirpState → SlirpState → Option (List ℕ) → Type 0
-KeepsParts config slirp new None = new.parts ≡ slirp.parts
-KeepsParts config slirp new (Some frame) = (held : List PartSet) → IsHeld slirp.parts held → IsHeld new.parts (with_fragment slirp.moment (fragment_in config frame) held)
+KeepsParts config slirp new None = new.fragments ≡ slirp.fragments
+KeepsParts config slirp new (Some frame) = (held : List PartSet) → IsHeld slirp.fragments held → IsHeld new.fragments (with_fragment slirp.moment (fragment_in config frame) held)
 
 -- the newest read, and what came before it
 record Newest (config : Config) (count : ℕ) (wants : List Want) (item : Want) (items : List Want) (slirp : SlirpState) (kept : Kept) (wait : List PartSet) (all : List Entry) : Type 0 where
@@ -401,11 +401,11 @@ module _ (config : Config) (count : ℕ) (wants : List Want) (item : Want) (item
 
   -- no segment of TCP, and nothing for the server of files: what it owes is owed from now on
   pub read_on : (new_slirp : SlirpState) → ending_of answer ≡ None → KeepsParts config slirp new_slirp (hands answer new) → segment_by packet ≡ None → file_in (request_by_packet config packet) ≡ None
-      → new_slirp ≡ after_packet config slirp packet (hands answer new) new_slirp.parts
+      → new_slirp ≡ after_packet config slirp packet (hands answer new) new_slirp.fragments
       → HoldsAt config (standing count wants items) (asked_by config slirp (errand_by_packet config packet)) new_slirp (flowing false kept) new (made ++ past)
   read_on new_slirp goes_on keeps none unserved is =
       let r = read past holds.keeps in
-      let then_is = after_packet config slirp packet (hands answer new) new_slirp.parts in
+      let then_is = after_packet config slirp packet (hands answer new) new_slirp.fragments in
       let was = all.quiet_flows (ap segment_by arrived_is ∙ none) in
       let unsought : (serving config (made ++ past)).files ≡ settled slirp.transfers = all.files_is ∙ ap (files_by_packet config (serving_of slirp)) arrived_is ∙ seeks_nothing config (serving_of slirp) packet unserved in
       subst (λ (s : SlirpState). HoldsAt config (standing count wants items) (asked_by config slirp (errand_by_packet config packet)) s (flowing false kept) new (made ++ past)) (sym is) (record {
@@ -435,17 +435,17 @@ module _ (config : Config) (count : ℕ) (wants : List Want) (item : Want) (item
       })
     where
       kept_as : (o : Option (List ℕ)) (other : SlirpState) → KeepsParts config slirp other o
-          → KeepsParts config slirp (after_packet config slirp packet (hands answer new) other.parts) o
+          → KeepsParts config slirp (after_packet config slirp packet (hands answer new) other.fragments) o
       kept_as None other keeps = keeps
       kept_as (Some frame) other keeps = keeps
 
   -- a segment of TCP, which is still to be heard
   pub read_segment : (new_slirp : SlirpState) (mac : List ℕ) (ip : Ip) (tcp : Tcp) → ending_of answer ≡ None → KeepsParts config slirp new_slirp (hands answer new) → packet ≡ Segment mac ip tcp
-      → new_slirp ≡ record slirp { known = with_frame config (hands answer new) slirp.known; parts = new_slirp.parts }
+      → new_slirp ≡ record slirp { known = with_frame config (hands answer new) slirp.known; fragments = new_slirp.fragments }
       → Comes config (standing count wants items) new_slirp kept new (coming mac ip tcp) (made ++ past)
   read_segment new_slirp mac ip tcp goes_on keeps seg is =
       let r = read past holds.keeps in
-      let then_is = record slirp { known = with_frame config (hands answer new) slirp.known; parts = new_slirp.parts } in
+      let then_is = record slirp { known = with_frame config (hands answer new) slirp.known; fragments = new_slirp.fragments } in
       let on = from_guest mac ip tcp in
       let q = all.quiet_is in
       let lawful_then = subst (Lawful config) all.is all.lawful in
@@ -492,17 +492,17 @@ module _ (config : Config) (count : ℕ) (wants : List Want) (item : Want) (item
       })
     where
       kept_as : (o : Option (List ℕ)) (other : SlirpState) → KeepsParts config slirp other o
-          → KeepsParts config slirp (record slirp { known = with_frame config (hands answer new) slirp.known; parts = other.parts }) o
+          → KeepsParts config slirp (record slirp { known = with_frame config (hands answer new) slirp.known; fragments = other.fragments }) o
       kept_as None other keeps = keeps
       kept_as (Some frame) other keeps = keeps
 
   -- a datagram for the server of files, which is still to be served
   pub read_file : (new_slirp : SlirpState) (d : Datagram) → ending_of answer ≡ None → KeepsParts config slirp new_slirp (hands answer new) → file_in (request_by_packet config packet) ≡ Some d
-      → new_slirp ≡ after_packet config slirp packet (hands answer new) new_slirp.parts
+      → new_slirp ≡ after_packet config slirp packet (hands answer new) new_slirp.fragments
       → AsksFile config (standing count wants items) new_slirp kept new d (made ++ past)
   read_file new_slirp d goes_on keeps file is =
       let r = read past holds.keeps in
-      let then_is = after_packet config slirp packet (hands answer new) new_slirp.parts in
+      let then_is = after_packet config slirp packet (hands answer new) new_slirp.fragments in
       let its = for_files config d packet file in
       let was = all.quiet_flows (ap segment_by (arrived_is ∙ its.packet)) in
       let unasked : errand_left config (made ++ past) ≡ None = all.asks ∙ ap (errand_by_packet config) (arrived_is ∙ its.packet) ∙ ap (errand_by d) its.fate in
@@ -530,7 +530,7 @@ module _ (config : Config) (count : ℕ) (wants : List Want) (item : Want) (item
       })
     where
       kept_as : (o : Option (List ℕ)) (other : SlirpState) → KeepsParts config slirp other o
-          → KeepsParts config slirp (after_packet config slirp packet (hands answer new) other.parts) o
+          → KeepsParts config slirp (after_packet config slirp packet (hands answer new) other.fragments) o
       kept_as None other keeps = keeps
       kept_as (Some frame) other keeps = keeps
 
@@ -548,7 +548,7 @@ module _ (config : Config) (count : ℕ) (wants : List Want) (item : Want) (item
         served = none_due_for_services config (made ++ past) all.heard (ap (λ (k : Files). k.quest) (all.files_is ∙ ap (files_by_packet config (serving_of slirp)) nothing));
         idle = flows.holds.asked;
         stay = flows_stay_open config (flowing false kept) slirp.moment (made ++ past) flows;
-        sockets = subst (λ l. AreOpenWith (forward_sockets l) (carriers (holders_with slirp kept)) kept.flows.parts (made ++ past)) (sym holds.forwards)
+        sockets = subst (λ l. AreOpenWith (forward_sockets l) (carriers (holders_with slirp kept)) kept.flows.slots (made ++ past)) (sym holds.forwards)
             (open_by config slirp (flowing false kept) slirp.moment (made ++ past) all.lawful all.list all.named flows.holds all.sockets.kinds
             (all_given config (made ++ past) all.lawful (Over (By why)) (all.phase_is ∙ ap over_by (r.1.last ∙ is)) refl) all.open_yet);
         two = two_in config slirp (made ++ past) all.lawful all.list all.named;

@@ -16,9 +16,9 @@ use Rattle.stream_netdev.specs.declared.Pumped.TheVariants.{Clear}
 -- all flows of the record are settled where those of the slots are clear
 pub pumped_settled : {a b : Telling} (config : Config) (at : Standing) (now : ℕ) (old new : SlirpState) (link next : LinkState) (result : Pumped) → result ≡ Clear → new.moment ≡ now
     → Brings a b (Holds config at old (flowing true old.flows) link) (AfterPump result config at new (flowing true new.flows) next)
-    → HaveSlots new.flows.flows → AreTold new.known new.flows.flows.parts → AllClear new.flows.flows.parts
-    → ((past : List Entry) → Holds config at old (flowing true old.flows) link past → (n : ℕ) → IsInTime now old.flows.flows.parts n → IsInTime now new.flows.flows.parts n)
-    → Brings a b (Holds config at old (flowing true old.flows) link) (λ past. Holds config at new (flowing true new.flows) next past × AreSettled config now old.flows.flows.parts past)
+    → HaveSlots new.flows.flows → AreTold new.known new.flows.flows.slots → AllClear new.flows.flows.slots
+    → ((past : List Entry) → Holds config at old (flowing true old.flows) link past → (n : ℕ) → IsInTime now old.flows.flows.slots n → IsInTime now new.flows.flows.slots n)
+    → Brings a b (Holds config at old (flowing true old.flows) link) (λ past. Holds config at new (flowing true new.flows) next past × AreSettled config now old.flows.flows.slots past)
 pumped_settled config at now old new link next result ended same pumps slots told clear keeps = record {
   made = pumps.made;
   same = pumps.same;
@@ -30,10 +30,10 @@ pumped_settled config at now old new link next result ended same pumps slots tol
       (after, settles past holds after);
 }
   where
-    settles : (past : List Entry) → Holds config at old (flowing true old.flows) link past → Holds config at new (flowing true new.flows) next (pumps.made ++ past) → AreSettled config now old.flows.flows.parts (pumps.made ++ past)
+    settles : (past : List Entry) → Holds config at old (flowing true old.flows) link past → Holds config at new (flowing true new.flows) next (pumps.made ++ past) → AreSettled config now old.flows.flows.slots (pumps.made ++ past)
     settles past holds after n f found =
-        let settled = subst (λ (m : ℕ). AreSettled config m new.flows.flows.parts (pumps.made ++ past)) same
-        (are_settled config new.moment new.flows.flows (pumps.made ++ past) after.clock.moment after.flows.holds slots (subst (λ l. AreTold l new.flows.flows.parts) (sym after.guests.known) told) clear) n f found in
-        let early_too : IsInTime now old.flows.flows.parts n → AreAhead now (resend_deadline f.story) = λ early. settled.resends (keeps past holds n early) in
+        let settled = subst (λ (m : ℕ). AreSettled config m new.flows.flows.slots (pumps.made ++ past)) same
+        (are_settled config new.moment new.flows.flows (pumps.made ++ past) after.clock.moment after.flows.holds slots (subst (λ l. AreTold l new.flows.flows.slots) (sym after.guests.known) told) clear) n f found in
+        let early_too : IsInTime now old.flows.flows.slots n → AreAhead now (resend_deadline f.story) = λ early. settled.resends (keeps past holds n early) in
         -- all else of it is as before
         search

@@ -64,27 +64,27 @@ use Rattle.slirp_core.proofs.Open.{are_open}
 -- ---- fragments are dropped
 
 -- where the turn is stays
-stands_so : (config : Config) (slirp : SlirpState) (parts : List Gathered) (kept : Kept) (link : LinkState) (past : List Entry) → Stands config Settled slirp kept link past → Stands config Settled (record slirp { parts = parts }) kept link past
+stands_so : (config : Config) (slirp : SlirpState) (parts : List Gathered) (kept : Kept) (link : LinkState) (past : List Entry) → Stands config Settled slirp kept link past → Stands config Settled (record slirp { fragments = parts }) kept link past
 stands_so config slirp parts kept link past (Turns turn) = Turns turn
 stands_so config slirp parts kept link past (Begins u free unrested) =
     Begins (record { started = u.started; unwaited = u.unwaited; unreported = u.unreported; unasked = u.unasked; alone = u.alone; unnamed = u.unnamed; nothing = u.nothing; unserved = u.unserved; empty = u.empty }) free unrested
 
-pub forgets : (config : Config) (at : Standing) (slirp new : SlirpState) (f : Flowing) (link : LinkState) (past : List Entry) → new ≡ record slirp { parts = new.parts }
-    → ((held : List PartSet) → IsHeld slirp.parts held → IsHeld new.parts (young slirp.moment held)) → Holds config at slirp f link past → Holds config at new f link past
+pub forgets : (config : Config) (at : Standing) (slirp new : SlirpState) (f : Flowing) (link : LinkState) (past : List Entry) → new ≡ record slirp { fragments = new.fragments }
+    → ((held : List PartSet) → IsHeld slirp.fragments held → IsHeld new.fragments (young slirp.moment held)) → Holds config at slirp f link past → Holds config at new f link past
 forgets config at slirp new f link past same drops holds =
     subst (λ (s : SlirpState). Holds config at s f link past) (sym same) (record {
       lawful = holds.lawful;
       allowed = holds.allowed;
       keeps = holds.keeps;
-      answers = record { sent = holds.answers.sent; owed = owed_as config f.aged slirp (record slirp { parts = new.parts }) past refl refl holds.answers.owed };
-      guests = guests_forget config slirp (record slirp { parts = new.parts }) past refl refl (fragments_dropped config slirp (record slirp { parts = new.parts }) past (sym holds.clock.moment) holds.guests.fragments (drops holds.guests.fragments.held holds.guests.fragments.is_held)) holds.guests;
+      answers = record { sent = holds.answers.sent; owed = owed_as config f.aged slirp (record slirp { fragments = new.fragments }) past refl refl holds.answers.owed };
+      guests = guests_forget config slirp (record slirp { fragments = new.fragments }) past refl refl (fragments_dropped config slirp (record slirp { fragments = new.fragments }) past (sym holds.clock.moment) holds.guests.fragments (drops holds.guests.fragments.held holds.guests.fragments.is_held)) holds.guests;
       relayed = record { list = holds.relayed.list; questions = holds.relayed.questions; asks = holds.relayed.asks; heard = holds.relayed.heard };
-      services = services_as config slirp (record slirp { parts = new.parts }) past refl holds.services;
+      services = services_as config slirp (record slirp { fragments = new.fragments }) past refl holds.services;
       forwards = holds.forwards;
       flows = holds.flows;
       sockets = holds.sockets;
       clock = record { moment = holds.clock.moment; counted = holds.clock.counted };
-      stands = stands_so config slirp new.parts f.kept link past holds.stands;
+      stands = stands_so config slirp new.fragments f.kept link past holds.stands;
       agenda = holds.agenda;
       open_yet = holds.open_yet;
     })
@@ -93,7 +93,7 @@ forgets config at slirp new f link past same drops holds =
 
 -- no slot has a flow, and none was opened
 pub record IsUnused (config : Config) (kept : Kept) : Type 0 where
-  pub flows : kept.flows ≡ record { table = all_free config.flows; parts = replicate config.flows None; opened = 0 }
+  pub flows : kept.flows ≡ record { table = all_free config.flows; slots = replicate config.flows None; opened = 0 }
   pub settings : IsFor config kept
   pub unit : 28 ≤ config.mtu
 
@@ -109,7 +109,7 @@ pub record IsUnbegun (config : Config) (slirp : SlirpState) (link : LinkState) :
   pub number : slirp.number ≡ 0
   pub associations : slirp.associations ≡ []
   pub questions : slirp.questions ≡ []
-  pub parts : slirp.parts ≡ []
+  pub fragments : slirp.fragments ≡ []
   pub leases : slirp.leases ≡ replicate 16 LeaseFree
   pub transfers : slirp.transfers ≡ []
   pub input : under_way link ≡ []
@@ -121,10 +121,10 @@ none_there zero k p is = cc
 none_there (suc n) zero p is = cc
 none_there (suc n) (suc k) p is = none_there n k p is
 
-all_is_free : (config : Config) (kept : Kept) → IsUnused config kept → NoneInSlots kept.flows.parts
-all_is_free config kept unused k p is = none_there config.flows k p (sym (ap (λ (s : FlowsState Splice). slice_get s.parts k) unused.flows) ∙ is)
+all_is_free : (config : Config) (kept : Kept) → IsUnused config kept → NoneInSlots kept.flows.slots
+all_is_free config kept unused k p is = none_there config.flows k p (sym (ap (λ (s : FlowsState Splice). slice_get s.slots k) unused.flows) ∙ is)
 
-nothing_holds : (config : Config) (now : ℕ) → CoreHolds config now false None (record { table = all_free config.flows; parts = replicate config.flows None; opened = 0 }) []
+nothing_holds : (config : Config) (now : ℕ) → CoreHolds config now false None (record { table = all_free config.flows; slots = replicate config.flows None; opened = 0 }) []
 nothing_holds config now = record {
   seats = seats_begin number_of (Following config now) config.flows;
   slots = length-replicate config.flows Free;
@@ -151,7 +151,7 @@ begun config slirp link new = record {
   guests = record {
     settings = new.settings;
     known = sym new.known;
-    fragments = record { held = []; is_held = subst (λ (areas : List Gathered). IsHeld areas []) (sym new.parts) (record { stand = tt; carry = tt }); wait = refl };
+    fragments = record { held = []; is_held = subst (λ (areas : List Gathered). IsHeld areas []) (sym new.fragments) (record { stand = tt; carry = tt }); wait = refl };
   };
   relayed = record { list = sym new.associations; questions = sym new.questions; asks = refl; heard = refl };
   services = record { leases = sym new.leases; quest = refl };
@@ -381,7 +381,7 @@ module _ (config : Config) (slirp : SlirpState) (link : LinkState) (past : List 
       unlisted : (n : ℕ) → is_among n (carriers (holders_of slirp)) ≡ true → ⊥
       unlisted n among = true_false (sym among ∙ ap (is_among n) none_carried)
 
-      not_of : (m : ℕ) → IsOf (carriers (holders_of slirp)) slirp.flows.flows.parts m → ⊥
+      not_of : (m : ℕ) → IsOf (carriers (holders_of slirp)) slirp.flows.flows.slots m → ⊥
       not_of m (inl among) = unlisted m among
       not_of m (inr (k, p, at, number, u)) = opens.none k p at.here
 

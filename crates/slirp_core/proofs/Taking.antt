@@ -5,6 +5,7 @@ use Rattle.std.specs.Option.{option_and_then}
 use Rattle.net_octets.specs.Kinds.{arp_kind, ipv4_kind, icmp_proto, tcp_proto, udp_proto}
 use Rattle.net_octets.specs.declared.Endpoint.{Endpoint}
 use Rattle.net_octets.specs.declared.Mac.{Mac}
+use Rattle.net_octets.specs.Octets.{our_mac}
 use Rattle.host_policy.specs.Addresses.{Config, address, endpoint, is_ours, is_guest}
 use Rattle.host_policy.specs.Targets.{shown, is_hidden}
 use Rattle.ether_frame.specs.Ether.{Ether, read_ether}
@@ -24,7 +25,7 @@ use Rattle.dhcp_server.specs.Serving.{served}
 use Rattle.host_policy.specs.declared.Reply.{Reply}
 use Rattle.host_policy.specs.declared.Reply.TheVariants.{Nothing as ReplyNothing, Datagram as ADatagram, Unreachable as ReplyUnreachable}
 use Rattle.slirp_laws.specs.Leasing.{sending_of}
-use Rattle.slirp_laws.specs.Answers.{IpAnswer, answer_of, answers_of, our_mac, datagram_frames, fits_datagram, is_untold, told_about, reply_at, frames_of, owed_for_arp, owed_for_icmp, reset_for}
+use Rattle.slirp_laws.specs.Answers.{IpAnswer, answer_of, answers_of, datagram_frames, fits_datagram, is_untold, told_about, reply_at, frames_of, owed_for_arp, owed_for_icmp, reset_for}
 use Rattle.tcp_segment.specs.Tcp.{Tcp, read_tcp, tcp_length, tcp_octets}
 use Rattle.flow_table.specs.declared.Tuple.{Tuple}
 use Rattle.flow_laws.specs.Event.{Segment}
@@ -48,7 +49,7 @@ after_kind s parts waiting ether kind = record s {
       else (if kind == ipv4_kind then owed_for (owed_for_arrived s.config (serving_of s) waiting ether.from ether.body) (read_ip ether.body) else []));
   known = if kind == arp_kind then with_arp s.config (read_arp ether.body) s.known
       else (if kind == ipv4_kind then with_ip s.config ether.from (read_ip ether.body) s.known else s.known);
-  parts = parts;
+  fragments = parts;
   leases = leases_with s.config s.moment (if kind == ipv4_kind then option_and_then (udp_of_arrived s.config s.moment waiting ether.from ether.body) (read_ip ether.body) else None) s.leases;
 }
 
@@ -58,7 +59,7 @@ module _ (s : SlirpState) (parts : List Gathered) (waiting : List PartSet) (fram
   after_read o = record s {
     pending = frames_of s.config s.sent (owed_for (owed_for_ether s.config (serving_of s) waiting) o);
     known = with_ether s.config o s.known;
-    parts = parts;
+    fragments = parts;
     leases = leases_with s.config s.moment (option_and_then (udp_of_ether s.config s.moment waiting) o) s.leases;
   }
 

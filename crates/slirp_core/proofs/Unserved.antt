@@ -120,21 +120,21 @@ open_or_none n (o ∷ parts) = by (here o refl) (open_or_none n parts)
 
 -- After a flow was told: what holds of its number, and held of those that were told before, holds of those that were told by then.
 pub told_then : (number : ℕ) (old new : Kept) (P : ℕ → Type 0)
-    → ((k : ℕ) (p : Splice) → IsOpenAt old.flows.parts k p → number_of p ≡ number → new.served ≡ slice_set old.served k old.turn) → (NoneOpen number old.flows.parts → new ≡ old) → Stays old new → new.turn ≡ old.turn
-    → ((k : ℕ) (p : Splice) → slice_get old.flows.parts k ≡ Some (Some p) → slice_get old.served k ≡ Some old.turn → P (number_of p)) → P number
-    → (k : ℕ) (p : Splice) → slice_get new.flows.parts k ≡ Some (Some p) → slice_get new.served k ≡ Some new.turn → P (number_of p)
-told_then number old new P told untold stays turn each of_it k p here mark = by (open_or_none number old.flows.parts)
+    → ((k : ℕ) (p : Splice) → IsOpenAt old.flows.slots k p → number_of p ≡ number → new.served ≡ slice_set old.served k old.turn) → (NoneOpen number old.flows.slots → new ≡ old) → Stays old new → new.turn ≡ old.turn
+    → ((k : ℕ) (p : Splice) → slice_get old.flows.slots k ≡ Some (Some p) → slice_get old.served k ≡ Some old.turn → P (number_of p)) → P number
+    → (k : ℕ) (p : Splice) → slice_get new.flows.slots k ≡ Some (Some p) → slice_get new.served k ≡ Some new.turn → P (number_of p)
+told_then number old new P told untold stays turn each of_it k p here mark = by (open_or_none number old.flows.slots)
   where
-    before : (q : Splice) × (slice_get old.flows.parts k ≡ Some (Some q)) × (number_of p ≡ number_of q)
+    before : (q : Splice) × (slice_get old.flows.slots k ≡ Some (Some q)) × (number_of p ≡ number_of q)
     before = stays.numbers k p here
 
-    by : HasSocket number old.flows.parts (λ q. Unit {0}) ⊎ NoneOpen number old.flows.parts → P (number_of p)
-    by (inr none) = let same_kept = untold none in each k p (ap (λ (f : Kept). slice_get f.flows.parts k) (sym same_kept) ∙ here) (ap (λ (f : Kept). slice_get f.served k) (sym same_kept) ∙ mark ∙ ap Some turn)
+    by : HasSocket number old.flows.slots (λ q. Unit {0}) ⊎ NoneOpen number old.flows.slots → P (number_of p)
+    by (inr none) = let same_kept = untold none in each k p (ap (λ (f : Kept). slice_get f.flows.slots k) (sym same_kept) ∙ here) (ap (λ (f : Kept). slice_get f.served k) (sym same_kept) ∙ mark ∙ ap Some turn)
     by (inl it) = at_slot (same_or_not k it.0)
       where
         at_slot : (k ≡ it.0) ⊎ ((k == it.0) ≡ false) → P (number_of p)
         at_slot (inl one) =
-            let same_part : before.0 ≡ it.1 = some_part before.0 it.1 (some_option (Some before.0) (Some it.1) (sym before.1 ∙ ap (slice_get old.flows.parts) one ∙ it.2.here)) in
+            let same_part : before.0 ≡ it.1 = some_part before.0 it.1 (some_option (Some before.0) (Some it.1) (sym before.1 ∙ ap (slice_get old.flows.slots) one ∙ it.2.here)) in
             subst P (sym (before.2 ∙ ap number_of same_part ∙ it.3)) of_it
         at_slot (inr other) =
             let was : slice_get old.served k ≡ Some old.turn = sym (get_set_other old.served it.0 k old.turn (slots_differ k it.0 other)) ∙ ap (λ l. slice_get l k) (sym (told it.0 it.1 it.2 it.3)) ∙ mark ∙ ap Some turn in

@@ -60,7 +60,7 @@ module _ (config : Config) (count : ℕ) (slirp : SlirpState) (kept : Kept) (old
   flows_then : (answer : Waited) (ready : List Want) → OfFlows config (flowing false kept) slirp.moment (Wait wants timeout answer ready ∷ past)
   flows_then answer ready = flows_paused config kept slirp.moment wants timeout answer ready past holds.flows
 
-  now_open : AreOpenWith (forward_sockets slirp.forwards) (carriers (holders_with slirp kept)) kept.flows.parts past
+  now_open : AreOpenWith (forward_sockets slirp.forwards) (carriers (holders_with slirp kept)) kept.flows.slots past
   now_open = are_open config (after count) Settled None slirp (flowing true kept) old past holds
 
   pub wait_ends_it : (answer : Waited) (ready : List Want) (why : Ending) → wait_ending answer ≡ Some why → Ended config (count + 1) why slirp.forwards (holders_with slirp kept) (Wait wants timeout answer ready ∷ past)

@@ -44,7 +44,7 @@ same_with now None a b is = is
 same_with now (Some f) a b is = ap (λ (waiting : List PartSet). young now (left_from now f.key f.part waiting)) is
 
 -- at the beginning nothing waits
-pub fragments_begin : (config : Config) (slirp : SlirpState) (told : Entry) → arrives told [] ≡ None → slirp.parts ≡ [] → OfFragments config slirp (told ∷ [])
+pub fragments_begin : (config : Config) (slirp : SlirpState) (told : Entry) → arrives told [] ≡ None → slirp.fragments ≡ [] → OfFragments config slirp (told ∷ [])
 fragments_begin config slirp told nothing none = record {
   held = [];
   is_held = subst (λ (areas : List Gathered). IsHeld areas []) (sym none) (record { stand = tt; carry = tt });
@@ -60,7 +60,7 @@ pub none_arrived : (config : Config) (past : List Entry) (e : Entry) → (happen
 none_arrived config past e is = no_frame _ (arrives e past) is
 
 -- an entry by which no frame came
-pub fragments_stay : (config : Config) (slirp new : SlirpState) (e : Entry) (past : List Entry) → arrives e past ≡ None → new.parts ≡ slirp.parts → OfFragments config slirp past → OfFragments config new (e ∷ past)
+pub fragments_stay : (config : Config) (slirp new : SlirpState) (e : Entry) (past : List Entry) → arrives e past ≡ None → new.fragments ≡ slirp.fragments → OfFragments config slirp past → OfFragments config new (e ∷ past)
 fragments_stay config slirp new e past nothing same is = record {
   held = is.held;
   is_held = subst (λ (areas : List Gathered). IsHeld areas is.held) (sym same) is.is_held;
@@ -70,10 +70,10 @@ fragments_stay config slirp new e past nothing same is = record {
 
 -- one by which a frame came
 pub fragments_take : (config : Config) (slirp new : SlirpState) (e : Entry) (past : List Entry) (frame : List ℕ) → arrives e past ≡ Some frame → moment (e ∷ past) ≡ moment past → slirp.moment ≡ moment past → (is : OfFragments config slirp past)
-    → IsHeld new.parts (with_fragment slirp.moment (fragment_in config frame) is.held) → OfFragments config new (e ∷ past)
+    → IsHeld new.fragments (with_fragment slirp.moment (fragment_in config frame) is.held) → OfFragments config new (e ∷ past)
 fragments_take config slirp new e past frame came at now is held = record {
   held = with_fragment (moment past) (fragment_in config frame) is.held;
-  is_held = subst (λ (n : ℕ). IsHeld new.parts (with_fragment n (fragment_in config frame) is.held)) now held;
+  is_held = subst (λ (n : ℕ). IsHeld new.fragments (with_fragment n (fragment_in config frame) is.held)) now held;
   wait =
       ap (λ n. young n (with_fragment (moment past) (fragment_in config frame) is.held)) at
       ∙ same_with (moment past) (fragment_in config frame) is.held (sets config past) is.wait
@@ -82,16 +82,16 @@ fragments_take config slirp new e past frame came at now is held = record {
 }
 
 -- old ones are dropped
-pub fragments_dropped : (config : Config) (slirp new : SlirpState) (past : List Entry) → slirp.moment ≡ moment past → (is : OfFragments config slirp past) → IsHeld new.parts (young slirp.moment is.held) → OfFragments config new past
+pub fragments_dropped : (config : Config) (slirp new : SlirpState) (past : List Entry) → slirp.moment ≡ moment past → (is : OfFragments config slirp past) → IsHeld new.fragments (young slirp.moment is.held) → OfFragments config new past
 fragments_dropped config slirp new past now is held = record {
   held = young (moment past) is.held;
-  is_held = subst (λ (n : ℕ). IsHeld new.parts (young n is.held)) now held;
+  is_held = subst (λ (n : ℕ). IsHeld new.fragments (young n is.held)) now held;
   wait = young_again (moment past) (moment past) is.held (omega arith) ∙ is.wait;
 }
 
 -- what drops areas drops sets
-pub drops_old : (now : ℕ) (areas new : List Gathered) (slirp : SlirpState) → now ≡ slirp.moment → areas ≡ slirp.parts → ((held : List PartSet) → StandFor areas held → StandFor new (young now held))
-    → (held : List PartSet) → IsHeld slirp.parts held → IsHeld new (young slirp.moment held)
+pub drops_old : (now : ℕ) (areas new : List Gathered) (slirp : SlirpState) → now ≡ slirp.moment → areas ≡ slirp.fragments → ((held : List PartSet) → StandFor areas held → StandFor new (young now held))
+    → (held : List PartSet) → IsHeld slirp.fragments held → IsHeld new (young slirp.moment held)
 drops_old now areas new slirp at same drops held is = record {
   stand = subst (λ (n : ℕ). StandFor new (young n held)) at (drops held (subst (λ (l : List Gathered). StandFor l held) (sym same) is.stand));
   carry = of_young Carrying slirp.moment held is.carry;

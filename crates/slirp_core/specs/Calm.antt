@@ -8,6 +8,6 @@ use Rattle.tcp_flows.specs.Reading.{AllClear, AreTold, HaveSlots}
 
 -- No flow owes a frame, each stands in the slot of its place, and each knows its guest's hardware address if that is among these.
 pub record AreClear (guests : List (Ip4 × Mac)) (state : FlowsState Splice) : Type 0 where
-  pub clear : AllClear state.parts
+  pub clear : AllClear state.slots
   pub slots : HaveSlots state
-  pub told : AreTold guests state.parts
+  pub told : AreTold guests state.slots

@@ -33,4 +33,4 @@ pub record NoQuestionFirst (list : List Association) (asked : List Question) : T
 
 -- so many sockets of associations, of questions and of flows are open
 abbrev pub open_count : SlirpState → ℕ
-open_count slirp = length slirp.associations + length slirp.questions + open_flows slirp.flows.flows.parts
+open_count slirp = length slirp.associations + length slirp.questions + open_flows slirp.flows.flows.slots

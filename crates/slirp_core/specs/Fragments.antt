@@ -43,7 +43,7 @@ pub record Took (now : ℕ) (mac : List ℕ) (key : Key) (p : Part) (held : List
 -- the same of a part that counts only where it is a guest's
 abbrev pub GathersIf : Bool → SlirpState → List PartSet → List ℕ → Ip → Part → List Gathered → Option Assembled → List ℕ → Type 0
 GathersIf true slirp held mac ip p areas assembled octets = Took slirp.moment mac (key_by ip) p held areas assembled octets
-GathersIf false slirp held mac ip p areas assembled octets = (areas ≡ slirp.parts) × (assembled ≡ None)
+GathersIf false slirp held mac ip p areas assembled octets = (areas ≡ slirp.fragments) × (assembled ≡ None)
 
 abbrev pub Gathers : SlirpState → List PartSet → List ℕ → Ip → Part → List Gathered → Option Assembled → List ℕ → Type 0
 Gathers slirp held mac ip p areas assembled octets = GathersIf (is_guest slirp.config ip.from) slirp held mac ip p areas assembled octets
@@ -77,7 +77,7 @@ abbrev pub after_octets : SlirpState → List PartSet → List ℕ → List ℕ 
 after_octets s waiting mac octets parts ip = record s {
   pending = frames_of s.config s.sent (owed_for (owed_for_arrived s.config (serving_of s) waiting mac octets) ip);
   known = with_ip s.config mac ip s.known;
-  parts = parts;
+  fragments = parts;
   leases = leases_with s.config s.moment (option_and_then (udp_of_arrived s.config s.moment waiting mac octets) ip) s.leases;
 }
 
@@ -86,7 +86,7 @@ abbrev pub after_frame : Config → SlirpState → List PartSet → List Gathere
 after_frame config s waiting parts frame = record s {
   pending = frames_of config s.sent (owed_for_frame config (serving_of s) waiting frame);
   known = with_ether config (read_ether frame) s.known;
-  parts = parts;
+  fragments = parts;
   leases = leases_with config s.moment (udp_in config s.moment waiting frame) s.leases;
 }
 
@@ -94,8 +94,8 @@ after_frame config s waiting parts frame = record s {
 pub record Arrives (old : SlirpState) (held : List PartSet) (mac octets : List ℕ) (new : SlirpState) (brought : Brought) (room : List ℕ) : Type 0 where
   pub request : brought_request old.config brought room ≡ request_for_udp old.config (option_and_then (udp_of_arrived old.config old.moment (young old.moment held) mac octets) (read_ip octets))
   pub segment : brought_segment old.config brought room ≡ option_and_then (segment_of_arrived old.config old.moment (young old.moment held) mac octets) (read_ip octets)
-  pub changes : taken_on new brought room ≡ after_octets old (young old.moment held) mac octets new.parts (read_ip octets)
-  pub parts : IsHeld new.parts (with_fragment old.moment (option_and_then (fragment_by old.config octets) (read_ip octets)) held)
+  pub changes : taken_on new brought room ≡ after_octets old (young old.moment held) mac octets new.fragments (read_ip octets)
+  pub fragments : IsHeld new.fragments (with_fragment old.moment (option_and_then (fragment_by old.config octets) (read_ip octets)) held)
 
 -- so many octets hold it, and nothing is owed where something is still to be taken in or sent
 abbrev pub FitsBrought : Config → Brought → List (List ℕ) → ℕ → Type 0

@@ -117,7 +117,7 @@ flowing aged kept = record { kept = kept; aged = aged }
 -- the slots stand for the flows of the record, none of which asks for a call; no guest was asked for more often than the flows that were accepted for it may ask; and a frame has room for a header and a unit of 8 octets
 pub record OfFlows (config : Config) (f : Flowing) (now : ℕ) (past : List Entry) : Type 0 where
   pub holds : CoreHolds config now f.aged None f.kept.flows past
-  pub asked : AreAsked config f.kept.flows.parts past
+  pub asked : AreAsked config f.kept.flows.slots past
   pub settings : IsFor config f.kept
   pub unit : 28 ≤ config.mtu
 
@@ -135,7 +135,7 @@ pub record OfSockets (next : ℕ) (past : List Entry) : Type 0 where
 -- a wait began this turn; or none came yet, and then there is no flow
 pub data Stands (config : Config) (step : Step) (slirp : SlirpState) (kept : Kept) (link : LinkState) (past : List Entry) : Type 0 where
   Turns : InTurn config past → Stands config step slirp kept link past
-  Begins : Unbegun config step slirp link past → NoneInSlots kept.flows.parts → (book config past).rests ≡ [] → Stands config step slirp kept link past
+  Begins : Unbegun config step slirp link past → NoneInSlots kept.flows.slots → (book config past).rests ≡ [] → Stands config step slirp kept link past
 
 -- Before the clock is asked: so many forwards are open, the first of the settings, and nothing else was done.
 pub record Opens (config : Config) (count : ℕ) (slirp : SlirpState) (link : LinkState) (past : List Entry) : Type 0 where
@@ -158,7 +158,7 @@ pub record Opens (config : Config) (count : ℕ) (slirp : SlirpState) (link : Li
   pub clock : OfClock (after 0) slirp past
   pub number : slirp.number ≡ count
   pub unreported : agenda past ≡ []
-  pub none : NoneInSlots slirp.flows.flows.parts
+  pub none : NoneInSlots slirp.flows.flows.slots
   pub unrested : (book config past).rests ≡ []
   pub alone : slirp.associations ≡ []
   pub unnamed : slirp.questions ≡ []
@@ -247,10 +247,10 @@ pub record AsksFile (config : Config) (at : Standing) (slirp : SlirpState) (kept
 pub record Holders : Type 0 where
   pub associations : List AnAssociation
   pub questions : List Question
-  pub parts : List (Option Splice)
+  pub slots : List (Option Splice)
 
 abbrev pub holders_with : SlirpState → Kept → Holders
-holders_with slirp kept = record { associations = slirp.associations; questions = slirp.questions; parts = kept.flows.parts }
+holders_with slirp kept = record { associations = slirp.associations; questions = slirp.questions; slots = kept.flows.slots }
 
 abbrev pub holders_of : SlirpState → Holders
 holders_of slirp = holders_with slirp slirp.flows
@@ -292,7 +292,7 @@ pub record Ended (config : Config) (count : ℕ) (why : Ending) (forwards : List
   pub served : due_for_services config past ≡ None
   pub idle : due_for_flows config (book config past) (next_number past) ≡ None
   pub stay : NoneMustClose config past
-  pub sockets : AreOpenWith (forward_sockets forwards) (carriers o) o.parts past
+  pub sockets : AreOpenWith (forward_sockets forwards) (carriers o) o.slots past
   pub two : AreTwo o
 
 -- after a pump
@@ -303,7 +303,7 @@ AfterPump Failed config at slirp f link past = Ended config at.count LinkFailed 
 
 -- what is left after a pump
 abbrev pub Leaves : Pumped → SlirpState → LinkState → Type 0
-Leaves Clear slirp link = (link.blocked ≡ false) × (link.tail ≡ []) × (slirp.pending ≡ []) × AllClear slirp.flows.flows.parts
+Leaves Clear slirp link = (link.blocked ≡ false) × (link.tail ≡ []) × (slirp.pending ≡ []) × AllClear slirp.flows.flows.slots
 Leaves Blocked slirp link = link.blocked ≡ true
 Leaves Failed slirp link = Unit {0}
 
@@ -345,10 +345,10 @@ pub record ClosingBy (Left : List Entry → Type 0) (o : Holders) (config : Conf
 
 -- those that carry datagrams, and of flows; or those of forwards, too
 abbrev pub Closing : Config → Phase → Holders → List Entry → Type 0
-Closing config over o past = ClosingBy (AreOpen (carriers o) o.parts) o config over past
+Closing config over o past = ClosingBy (AreOpen (carriers o) o.slots) o config over past
 
 abbrev pub ClosingWith : Config → Phase → List ℕ → Holders → List Entry → Type 0
-ClosingWith config over forwards o past = ClosingBy (AreOpenWith forwards (carriers o) o.parts) o config over past
+ClosingWith config over forwards o past = ClosingBy (AreOpenWith forwards (carriers o) o.slots) o config over past
 
 -- a run that is over: it is lawful and finished, and this is the phase in which it ended
 abbrev pub Ran : Config → Phase → List Entry → Type 0

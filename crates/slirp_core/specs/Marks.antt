@@ -8,5 +8,5 @@ use Rattle.tcp_flows.specs.Kept.{Kept}
 pub record KeepsMarks (number : ℕ) (old new : Kept) : Type 0 where
   pub served : new.served ≡ old.served
   pub turn : new.turn ≡ old.turn
-  pub numbers : (k : ℕ) (p : Splice) → slice_get new.flows.parts k ≡ Some (Some p)
-      → ((q : Splice) × (slice_get old.flows.parts k ≡ Some (Some q)) × (number_of p ≡ number_of q)) ⊎ (number ≤ number_of p)
+  pub numbers : (k : ℕ) (p : Splice) → slice_get new.flows.slots k ≡ Some (Some p)
+      → ((q : Splice) × (slice_get old.flows.slots k ≡ Some (Some q)) × (number_of p ≡ number_of q)) ⊎ (number ≤ number_of p)

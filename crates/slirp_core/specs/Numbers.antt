@@ -8,9 +8,9 @@ use Rattle.tcp_flows.specs.Kept.{Kept}
 
 -- each flow's number is under that of the next socket; no more were opened than numbers were drawn; and there are at most 4,096
 pub record AreDrawn (next : ℕ) (kept : Kept) : Type 0 where
-  pub below : (k : ℕ) (p : Splice) → slice_get kept.flows.parts k ≡ Some (Some p) → number_of p < next
+  pub below : (k : ℕ) (p : Splice) → slice_get kept.flows.slots k ≡ Some (Some p) → number_of p < next
   pub opened : kept.flows.opened ≤ next
-  pub few : length kept.flows.parts ≤ 4096
+  pub few : length kept.flows.slots ≤ 4096
 
 -- how many flows have an open socket
 abbrev pub count_open : Option Splice → ℕ → ℕ
@@ -24,7 +24,7 @@ open_flows (o ∷ parts) = count_open o (open_flows parts)
 -- room for as many flows as the settings say, of which none was opened
 abbrev pub flows_for : Config → Kept
 flows_for config = record {
-  flows = record { table = all_free config.flows; parts = replicate config.flows None; opened = 0 };
+  flows = record { table = all_free config.flows; slots = replicate config.flows None; opened = 0 };
   owing = replicate config.flows None;
   served = replicate config.flows 0;
   ring = config.ring;

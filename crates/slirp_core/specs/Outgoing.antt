@@ -1,8 +1,12 @@
 -- The frames that aren't out yet.
-use Rattle.std.specs.Prelude.{ℕ, ◌+◌, ◌%◌, ◌^◌, ◌==◌, List, [], ◌∷◌, map, take, if◌then◌else◌}
+use Rattle.std.specs.Prelude.{ℕ, ◌+◌, ◌%◌, ◌^◌, ◌==◌, ◌≤◌, List, [], ◌∷◌, map, take, if◌then◌else◌}
+use Rattle.net_octets.specs.Kinds.{icmp_proto, tcp_proto, udp_proto}
+use Rattle.icmp_echo.specs.Icmp.{Icmp, icmp_octets}
 use Rattle.ipv4_head.specs.Cuts.{cuts_from}
-use Rattle.slirp_laws.specs.Answers.{datagrams_in, part_frame, uncut}
+use Rattle.udp_assoc.specs.Udp.{Udp, udp_octets}
+use Rattle.slirp_laws.specs.Answers.{datagram_frames, datagrams_in, part_frame, uncut}
 use Rattle.slirp_core.specs.declared.cutting.Plan.{Plan}
+use Rattle.slirp_core.specs.declared.outgoing.Course.{Course}
 use Rattle.tcp_segment.specs.Tcp.{Tcp, tcp_octets}
 use Rattle.stream_netdev.specs.declared.Offered.{Offered}
 use Rattle.stream_netdev.specs.declared.Offered.TheVariants.{Taken, Blocked, Failed}
@@ -30,3 +34,20 @@ sent_after Failed pending sent = sent
 -- the octets of a segment, as one word
 unfoldable pub segment_octets : (from to : ℕ) → Tcp → List ℕ
 segment_octets from to tcp = tcp_octets from to tcp
+
+-- a datagram on this course may be cut: a part has room for eight octets, and a frame for a part
+abbrev pub MayBeCut : Course → Type 0
+MayBeCut course = (28 ≤ course.mtu) × (course.mtu ≤ 1500)
+
+-- the frames of a datagram of this protocol with these octets, and of one with a message, of one of UDP and of one with a segment
+abbrev pub frames_on : Course → ℕ → List ℕ → List (List ℕ)
+frames_on course proto octets = datagram_frames course.mtu course.to_mac.0 course.from_mac.0 course.ident proto course.from.0 course.to.0 octets
+
+abbrev pub message_frames : Course → Icmp → List (List ℕ)
+message_frames course message = frames_on course icmp_proto (icmp_octets message)
+
+abbrev pub udp_frames : Course → Udp → List (List ℕ)
+udp_frames course udp = frames_on course udp_proto (udp_octets course.from.0 course.to.0 udp)
+
+abbrev pub segment_frames : Course → Tcp → List (List ℕ)
+segment_frames course tcp = frames_on course tcp_proto (segment_octets course.from.0 course.to.0 tcp)

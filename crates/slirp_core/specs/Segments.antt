@@ -50,17 +50,17 @@ segment_in config now waiting frame = option_and_then (segment_of_ether config n
 
 -- what a frame asks for beyond its answers: that a datagram goes out or is served, or that a segment is heard
 abbrev pub request_for : Task → Option Request
-request_for (AnErrand e) = Some (ToSend (errand_of e))
+request_for (AnErrand d to) = Some (ToSend (errand_of d to))
 request_for (AFile d) = Some (ToServe (datagram_of d))
 request_for (ASegment s) = None
 
 abbrev pub segment_for : Task → Option Coming
-segment_for (AnErrand e) = None
+segment_for (AnErrand d to) = None
 segment_for (AFile d) = None
 segment_for (ASegment s) = Some (coming_of s)
 
 abbrev pub FitsTask : Config → Task → Type 0
-FitsTask config (AnErrand e) = FitsErrand config e
+FitsTask config (AnErrand d to) = FitsErrand config d to
 FitsTask config (AFile d) = Unit {0}
 FitsTask config (ASegment s) = length s.segment.body.now ≤ 65515
 

@@ -22,7 +22,7 @@ pub record SlirpState : Type 0 where
   pub number : ℕ
   pub associations : List Association
   pub questions : List Question
-  pub parts : List Gathered
+  pub fragments : List Gathered
   pub flows : Kept
   pub leases : List Lease
   pub forwards : List Opened

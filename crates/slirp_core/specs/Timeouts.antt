@@ -1,5 +1,5 @@
 -- How long a wait may last.
-use Rattle.std.specs.Prelude.{◌≡◌, ℕ, ◌-◌, Bool, true, false, min, List, [], Option, Some, None, option_map}
+use Rattle.std.specs.Prelude.{◌≡◌, ℕ, ◌-◌, Bool, true, false, List, [], Option, Some, None, option_map}
 use Rattle.world_face.specs.Journal.{Entry}
 use Rattle.host_policy.specs.Addresses.{Config}
 use Rattle.ipv4_head.specs.Sets.{PartSet}
@@ -14,13 +14,9 @@ use Rattle.tcp_flows.specs.Reading.{AllClear, IsDue, IsDueAfter, NoneDue, NoneDu
 use Rattle.tcp_flows.specs.Waits.{IsForSome}
 use Rattle.slirp_core.specs.Pumps.{question_left, time_left}
 use Rattle.slirp_core.specs.State.{SlirpState}
+use Rattle.world_face.specs.Moments.{sooner}
 use Rattle.tftp_server.specs.Serving.{IsNextDue}
 use Rattle.tftp_server.specs.Transfers.{Transfer}
-
-abbrev pub sooner : Option ℕ → Option ℕ → Option ℕ
-sooner None other = other
-sooner (Some one) None = Some one
-sooner (Some one) (Some other) = Some (min one other)
 
 -- what is left until the first of these sets is 60,000 ms old
 abbrev pub IsPartTime : ℕ → List PartSet → Option ℕ → Type 0
@@ -49,11 +45,11 @@ IsFileTime now transfers (Some left) = (at : ℕ) × (IsNextDue now transfers (S
 
 -- it lasts until the idle life of the longest unused socket is over, the longest unused question has waited for long enough, these sets are dropped, a flow is to be told the time, or a packet of a file is due to go again
 pub record IsTimeout (slirp : SlirpState) (blocked : Bool) (held : List PartSet) (timeout : Option ℕ) : Type 0 where
-  pub parts : Option ℕ
-  pub of_parts : IsPartTime slirp.moment held parts
+  pub fragments : Option ℕ
+  pub of_fragments : IsPartTime slirp.moment held fragments
   pub flows : Option ℕ
-  pub of_flows : IsFlowTime blocked slirp.moment slirp.flows.flows.parts flows
-  pub suits_flows : (config : Config) (before : ℕ) (past : List Entry) → CoreHolds config before true None slirp.flows.flows past → SuitsFlows config slirp.moment blocked slirp.flows.flows.parts past flows
+  pub of_flows : IsFlowTime blocked slirp.moment slirp.flows.flows.slots flows
+  pub suits_flows : (config : Config) (before : ℕ) (past : List Entry) → CoreHolds config before true None slirp.flows.flows past → SuitsFlows config slirp.moment blocked slirp.flows.flows.slots past flows
   pub files : Option ℕ
   pub of_files : IsFileTime slirp.moment slirp.transfers files
-  pub is : timeout ≡ sooner (sooner (sooner (sooner (time_left slirp.moment slirp.associations) (question_left slirp.moment slirp.questions)) parts) flows) files
+  pub is : timeout ≡ sooner (sooner (sooner (sooner (time_left slirp.moment slirp.associations) (question_left slirp.moment slirp.questions)) fragments) flows) files

@@ -12,7 +12,7 @@ use Rattle.slirp_core.specs.State.{SlirpState}
 -- the areas stand for some sets, of which the young ones are those that wait; the others are dropped sooner or later
 pub record OfFragments (config : Config) (slirp : SlirpState) (past : List Entry) : Type 0 where
   pub held : List PartSet
-  pub is_held : IsHeld slirp.parts held
+  pub is_held : IsHeld slirp.fragments held
   pub wait : young (moment past) held ≡ waiting config past
 
 -- none of the sets for which the areas stand is to be dropped yet

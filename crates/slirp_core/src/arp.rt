@@ -1,7 +1,8 @@
 // What asks for a hardware address, and its reply (RFC 826).
 ghost use Rattle.std.specs.Prelude.{[], ◌≡◌};
 ghost use Rattle.arp_table.specs.Arp.{arp_of};
-ghost use Rattle.slirp_laws.specs.Answers.{our_mac, owed_for_arp};
+ghost use Rattle.net_octets.specs.Octets.{our_mac};
+ghost use Rattle.slirp_laws.specs.Answers.{owed_for_arp};
 ghost use Rattle.slirp_core.specs.Packets.{packets_of};
 
 use crate::network::Slirp;
@@ -46,7 +47,7 @@ impl Slirp {
         let vhost = self.policy.vhost();
         let request = ArpView {
             reply: false,
-            sender_mac: our_mac(vhost),
+            sender_mac: Mac::of_ours(vhost),
             sender_ip: vhost,
             target_mac: NOBODY,
             target_ip: guest,
@@ -64,17 +65,9 @@ fn arp_reply(policy: &Policy, packet: &ArpView) -> Option<ArpView>
     }
     Some(ArpView {
         reply: true,
-        sender_mac: our_mac(packet.target_ip),
+        sender_mac: Mac::of_ours(packet.target_ip),
         sender_ip: packet.target_ip,
         target_mac: packet.sender_mac,
         target_ip: packet.sender_ip,
     })
-}
-
-// The hardware address of one of ours.
-pub(crate) fn our_mac(address: Ip4) -> Mac
-    ensures { result.0 ≡ our_mac address.0 }
-{
-    let [a, b, c, d] = address.0.to_be_bytes();
-    Mac([0x52, 0x55, a, b, c, d])
 }

@@ -1,6 +1,5 @@
 // A datagram that is owed to a guest, cut as it goes.
 ghost use Rattle.std.specs.Prelude.{◌≡◌, ℕ, ◌+◌, ◌≤◌, ◌<◌, List, length, take};
-ghost use Rattle.net_octets.specs.Kinds.{icmp_proto, tcp_proto, udp_proto};
 ghost use Rattle.ether_frame.specs.Ether.{ether_octets};
 ghost use Rattle.net_octets.specs.Kinds.{ipv4_kind};
 ghost use Rattle.ipv4_head.specs.Cuts.{cut_at, cut_count};
@@ -8,24 +7,21 @@ ghost use Rattle.ipv4_head.specs.Ip.{fragment_of, ip_with};
 ghost use Rattle.icmp_echo.specs.Icmp.{CanWrite, icmp_of, icmp_with, icmp_octets};
 ghost use Rattle.udp_assoc.specs.Udp.{udp_of, udp_octets};
 ghost use Rattle.tcp_segment.specs.Tcp.{tcp_length, tcp_of};
-ghost use Rattle.slirp_core.specs.Outgoing.{segment_octets};
+ghost use Rattle.slirp_core.specs.Outgoing.{MayBeCut, message_frames, segment_frames, segment_octets, udp_frames};
 ghost use Rattle.slirp_laws.specs.Answers.{part_frame, uncut};
+ghost use Rattle.net_octets.specs.Sizes.{most_carried, most_frame};
+ghost use Rattle.world_face.specs.Limits.{most_to_udp};
 
-use crate::datagrams::UDP;
-use crate::outgoing::{Course, ICMP, IPV4};
-use crate::tcp::TCP;
+use crate::outgoing::Course;
 use ether_frame::EtherView;
 use icmp_echo::IcmpView;
 use ipv4_head::IpView;
 use ipv4_reasm::cut;
-use net_octets::{Ip4, Mac, NoMemory};
+use net_octets::{ICMP_PROTO, IPV4_KIND, Ip4, MOST_CARRIED, Mac, NoMemory, TCP_PROTO, UDP_PROTO};
 use std::alloc::Global;
 use std::marker::Model;
 use tcp_segment::TcpView;
 use udp_assoc::UdpView;
-
-/// The greatest length of a datagram's body.
-const LONGEST_BODY: usize = 65_515;
 
 /// The octets of a header without options.
 const IP_HEAD: usize = 20;
@@ -54,25 +50,25 @@ impl Model for Cutting {
     ghost use Rattle.std.specs.Prelude.{◌≡◌, ℕ, ◌+◌, ◌≤◌, List, length};
     ghost use Rattle.ipv4_head.specs.Cuts.{cut_count};
     ghost use Rattle.slirp_core.specs.Outgoing.{frames_left};
+    ghost use Rattle.net_octets.specs.Sizes.{most_carried};
 
     ghost Value = { List (List ℕ) };
 
     ghost view = { λ c. frames_left c.plan c.body.items };
 
-    ghost invariant = { λ c. (length c.body.items ≡ 65515) × (c.plan.size ≤ 65515) × (28 ≤ c.plan.course.mtu) × (c.plan.course.mtu ≤ 1500)
+    ghost invariant = { λ c. (length c.body.items ≡ most_carried) × (c.plan.size ≤ most_carried) × (28 ≤ c.plan.course.mtu) × (c.plan.course.mtu ≤ 1500)
         × (c.plan.next + c.plan.left ≤ cut_count c.plan.course.mtu c.plan.size) };
 }
 
 impl Cutting {
     ghost use Rattle.std.specs.Prelude.{[], ◌++◌, IfOk};
-    ghost use Rattle.slirp_laws.specs.Answers.{datagram_frames};
     ghost use Rattle.slirp_core.specs.Outgoing.{frames_in};
 
     /// No datagram, and the room for one.
     pub fn open(alloc: Global) -> Result<Cutting, NoMemory>
         ensures { IfOk result (λ cutting. cutting ≡ []) }
     {
-        let Ok(body) = vec![in alloc; 0; LONGEST_BODY] else {
+        let Ok(body) = vec![in alloc; 0; MOST_CARRIED] else {
             return Err(NoMemory);
         };
         let course = Course {
@@ -85,7 +81,7 @@ impl Cutting {
         };
         let plan = Plan {
             course,
-            proto: UDP,
+            proto: UDP_PROTO,
             size: 0,
             next: 0,
             left: 0,
@@ -102,48 +98,42 @@ impl Cutting {
 
     /// From now on the parts of a datagram with a message are left, which has at most 65,515 octets.
     pub fn put_message(&mut self, course: &Course, message: &IcmpView<'_>)
-        requires least { 28 ≤ course.now.mtu }
-        requires most { course.now.mtu ≤ 1500 }
-        requires size { length (icmp_with 0 (icmp_of message.now)) ≤ 65515 }
+        requires course { MayBeCut course.now }
+        requires size { length (icmp_with 0 (icmp_of message.now)) ≤ most_carried }
         requires kind { CanWrite (icmp_of message.now) }
-        ensures { self.new ≡ datagram_frames course.now.mtu course.now.to_mac.0 course.now.from_mac.0 course.now.ident icmp_proto
-            course.now.from.0 course.now.to.0 (icmp_octets (icmp_of message.now)) }
+        ensures { self.new ≡ message_frames course.now (icmp_of message.now) }
     {
         let size = write_message(message, &mut self.body);
-        self.plan = plan_of(course, ICMP, size);
+        self.plan = plan_of(course, ICMP_PROTO, size);
     }
 
     /// From now on the parts of a datagram of UDP are left, whose payload has at most 65,507 octets.
     pub fn put_udp(&mut self, course: &Course, datagram: &UdpView<'_>)
-        requires least { 28 ≤ course.now.mtu }
-        requires most { course.now.mtu ≤ 1500 }
-        requires size { length datagram.now.body.now ≤ 65507 }
-        ensures { self.new ≡ datagram_frames course.now.mtu course.now.to_mac.0 course.now.from_mac.0 course.now.ident udp_proto
-            course.now.from.0 course.now.to.0 (udp_octets course.now.from.0 course.now.to.0 (udp_of datagram.now)) }
+        requires course { MayBeCut course.now }
+        requires size { length datagram.now.body.now ≤ most_to_udp }
+        ensures { self.new ≡ udp_frames course.now (udp_of datagram.now) }
     {
         let size = write_udp(course, datagram, &mut self.body);
-        self.plan = plan_of(course, UDP, size);
+        self.plan = plan_of(course, UDP_PROTO, size);
     }
 
     /// From now on the parts of a datagram with a segment of TCP are left, which has at most 65,515 octets with its header.
     pub fn put_segment(&mut self, course: &Course, segment: &TcpView<'_>)
-        requires least { 28 ≤ course.now.mtu }
-        requires most { course.now.mtu ≤ 1500 }
-        requires size { tcp_length (tcp_of segment.now) ≤ 65515 }
-        ensures { self.new ≡ datagram_frames course.now.mtu course.now.to_mac.0 course.now.from_mac.0 course.now.ident tcp_proto
-            course.now.from.0 course.now.to.0 (segment_octets course.now.from.0 course.now.to.0 (tcp_of segment.now)) }
+        requires course { MayBeCut course.now }
+        requires size { tcp_length (tcp_of segment.now) ≤ most_carried }
+        ensures { self.new ≡ segment_frames course.now (tcp_of segment.now) }
     {
         let size = write_segment(course, segment, &mut self.body);
-        self.plan = plan_of(course, TCP, size);
+        self.plan = plan_of(course, TCP_PROTO, size);
     }
 
     /// Cuts the next part and writes its frame, and answers the length of that: 0 exactly where no part is left. `packet` is for writing what the frame carries.
     pub fn write_next(&mut self, frame: &mut [u8], packet: &mut [u8]) -> usize
-        requires room { (length frame.old ≡ 1514) × (length packet.old ≡ 1514) }
+        requires room { (length frame.old ≡ most_frame) × (length packet.old ≡ most_frame) }
         ensures frame { frames_in result frame.new ++ self.new ≡ self.old }
         ensures none { result ≡ 0 → self.new ≡ [] }
-        ensures length { result ≤ 1514 }
-        ensures room { (length frame.new ≡ 1514) × (length packet.new ≡ 1514) }
+        ensures length { result ≤ most_frame }
+        ensures room { (length frame.new ≡ most_frame) × (length packet.new ≡ most_frame) }
     {
         if self.plan.left == 0 {
             return 0;
@@ -158,7 +148,7 @@ impl Cutting {
 // How a datagram with so many octets is cut.
 fn plan_of(course: &Course, proto: u8, size: usize) -> Plan
     requires least { 28 ≤ course.now.mtu }
-    requires size { size ≤ 65515 }
+    requires size { size ≤ most_carried }
     ensures { result ≡ record { course = course.now; proto = proto; size = size; next = 0; left = cut_count course.now.mtu size } }
 {
     Plan {
@@ -173,7 +163,7 @@ fn plan_of(course: &Course, proto: u8, size: usize) -> Plan
 // How many parts a datagram with so many octets is cut into.
 fn parts_of(size: usize, mtu: usize) -> usize
     requires least { 28 ≤ mtu }
-    requires size { size ≤ 65515 }
+    requires size { size ≤ most_carried }
     ensures { result ≡ cut_count mtu size }
 {
     let room = mtu - IP_HEAD;
@@ -183,62 +173,53 @@ fn parts_of(size: usize, mtu: usize) -> usize
 
 // Writes a message, and answers its length.
 fn write_message(message: &IcmpView<'_>, body: &mut [u8]) -> usize
-    requires room { length body.old ≡ 65515 }
-    requires size { length (icmp_with 0 (icmp_of message.now)) ≤ 65515 }
+    requires room { length body.old ≡ most_carried }
+    requires size { length (icmp_with 0 (icmp_of message.now)) ≤ most_carried }
     requires kind { CanWrite (icmp_of message.now) }
     ensures message { take result body.new ≡ icmp_octets (icmp_of message.now) }
     ensures length { result ≡ length (icmp_octets (icmp_of message.now)) }
-    ensures short { result ≤ 65515 }
-    ensures room { length body.new ≡ 65515 }
+    ensures short { result ≤ most_carried }
+    ensures room { length body.new ≡ most_carried }
 {
-    let Ok(length) = icmp_echo::encode(message, body) else {
-        unreachable!()
-    };
-    length
+    icmp_echo::write(message, body)
 }
 
 // Writes a datagram of UDP, and answers its length.
 fn write_udp(course: &Course, datagram: &UdpView<'_>, body: &mut [u8]) -> usize
-    requires room { length body.old ≡ 65515 }
-    requires size { length datagram.now.body.now ≤ 65507 }
+    requires room { length body.old ≡ most_carried }
+    requires size { length datagram.now.body.now ≤ most_to_udp }
     ensures datagram { take result body.new ≡ udp_octets course.now.from.0 course.now.to.0 (udp_of datagram.now) }
     ensures length { result ≡ length (udp_octets course.now.from.0 course.now.to.0 (udp_of datagram.now)) }
-    ensures short { result ≤ 65515 }
-    ensures room { length body.new ≡ 65515 }
+    ensures short { result ≤ most_carried }
+    ensures room { length body.new ≡ most_carried }
 {
-    let Ok(length) = udp_assoc::encode(datagram, course.from, course.to, body) else {
-        unreachable!()
-    };
-    length
+    udp_assoc::write(datagram, course.from, course.to, body)
 }
 
 // Writes a segment of TCP, and answers its length.
 #[tactic(auto, unfolding(crate::specs::Outgoing::segment_octets))]
 fn write_segment(course: &Course, segment: &TcpView<'_>, body: &mut [u8]) -> usize
-    requires room { length body.old ≡ 65515 }
-    requires size { tcp_length (tcp_of segment.now) ≤ 65515 }
+    requires room { length body.old ≡ most_carried }
+    requires size { tcp_length (tcp_of segment.now) ≤ most_carried }
     ensures segment { take result body.new ≡ segment_octets course.now.from.0 course.now.to.0 (tcp_of segment.now) }
     ensures length { result ≡ length (segment_octets course.now.from.0 course.now.to.0 (tcp_of segment.now)) }
-    ensures short { result ≤ 65515 }
-    ensures room { length body.new ≡ 65515 }
+    ensures short { result ≤ most_carried }
+    ensures room { length body.new ≡ most_carried }
 {
-    let Ok(length) = tcp_segment::encode(segment, course.from, course.to, body) else {
-        unreachable!()
-    };
-    length
+    tcp_segment::write(segment, course.from, course.to, body)
 }
 
 // Writes the frame of the part that is next of a datagram with this body, and answers its length.
 fn write_part(plan: &Plan, body: &[u8], frame: &mut [u8], packet: &mut [u8]) -> usize
-    requires room { (length frame.old ≡ 1514) × (length packet.old ≡ 1514) }
+    requires room { (length frame.old ≡ most_frame) × (length packet.old ≡ most_frame) }
     requires least { 28 ≤ plan.now.course.mtu }
     requires most { plan.now.course.mtu ≤ 1500 }
-    requires short { length body.now ≤ 65515 }
+    requires short { length body.now ≤ most_carried }
     requires part { plan.now.next < cut_count plan.now.course.mtu (length body.now) }
     ensures frame { take result frame.new ≡ part_frame plan.now.course.to_mac.0 plan.now.course.from_mac.0 plan.now.course.ident plan.now.proto
         plan.now.course.from.0 plan.now.course.to.0 (cut_at plan.now.course.mtu (uncut body.now) plan.now.next) }
-    ensures length { (0 < result) × (result ≤ 1514) }
-    ensures room { (length frame.new ≡ 1514) × (length packet.new ≡ 1514) }
+    ensures length { (0 < result) × (result ≤ most_frame) }
+    ensures room { (length frame.new ≡ most_frame) × (length packet.new ≡ most_frame) }
 {
     let course = plan.course;
     let datagram = IpView {
@@ -261,36 +242,30 @@ fn write_part(plan: &Plan, body: &[u8], frame: &mut [u8], packet: &mut [u8]) -> 
 
 // Writes a part of a datagram, and answers its length.
 fn write_packet(part: &IpView<'_>, packet: &mut [u8]) -> usize
-    requires room { length packet.old ≡ 1514 }
+    requires room { length packet.old ≡ most_frame }
     requires size { 20 + length part.now.body.now ≤ 1500 }
     requires place { part.now.offset < 8192 }
     ensures packet { take result packet.new ≡ ip_with part.now.ttl part.now.ident (fragment_of part.now.more part.now.offset) part.now.proto
         part.now.from.0 part.now.to.0 part.now.body.now }
     ensures length { result ≡ 20 + length part.now.body.now }
-    ensures room { length packet.new ≡ 1514 }
+    ensures room { length packet.new ≡ most_frame }
 {
-    let Ok(length) = ipv4_head::encode(part, packet) else {
-        unreachable!()
-    };
-    length
+    ipv4_head::write(part, packet)
 }
 
 // Writes the frame of a part, and answers its length.
 fn write_frame(course: &Course, packet: &[u8], frame: &mut [u8]) -> usize
-    requires room { length frame.old ≡ 1514 }
+    requires room { length frame.old ≡ most_frame }
     requires size { length packet.now ≤ 1500 }
     ensures frame { take result frame.new ≡ ether_octets course.now.to_mac.0 course.now.from_mac.0 ipv4_kind packet.now }
-    ensures length { (0 < result) × (result ≤ 1514) }
-    ensures room { length frame.new ≡ 1514 }
+    ensures length { (0 < result) × (result ≤ most_frame) }
+    ensures room { length frame.new ≡ most_frame }
 {
     let ether = EtherView {
         to: course.to_mac,
         from: course.from_mac,
-        kind: IPV4,
+        kind: IPV4_KIND,
         body: packet,
     };
-    let Ok(length) = ether_frame::encode(&ether, frame) else {
-        unreachable!()
-    };
-    length
+    ether_frame::write(&ether, frame)
 }

@@ -7,14 +7,12 @@ ghost use Rattle.slirp_core.specs.Packets.{udp_of};
 ghost use Rattle.run_laws.specs.Packets.{quoted};
 ghost use Rattle.slirp_laws.specs.Datagrams.{fate, fate_by};
 ghost use Rattle.slirp_core.specs.Datagrams.{Lies, datagram_of, fate_of};
+ghost use Rattle.world_face.specs.Limits.{most_to_udp};
 
 use dns_relay::is_question;
 use host_policy::{Policy, Proto, Verdict};
 use ipv4_head::IpView;
-use net_octets::{Endpoint, Ip4, Mac};
-
-/// The protocol of a datagram that carries UDP (RFC 768).
-pub const UDP: u8 = 17;
+use net_octets::{Endpoint, Ip4, Mac, UDP_PROTO};
 
 /// To where a client without an address sends (RFC 2131, 4.1).
 const DHCP_PORT: u16 = 67;
@@ -36,13 +34,6 @@ pub struct DatagramView<'a> {
     pub to: Endpoint,
     pub body: &'a [u8],
     pub quote: &'a [u8],
-}
-
-/// A datagram that goes out, and where.
-#[derive(Clone, Copy)]
-pub struct ErrandView<'a> {
-    pub datagram: DatagramView<'a>,
-    pub to: Endpoint,
 }
 
 /// What becomes of a datagram.
@@ -68,9 +59,9 @@ pub fn datagram_in<'a>(
     requires { Lies octets.now packet.now.head.now packet.now.body.now }
     ensures datagram { option_map datagram_of result ≡ udp_of policy.now mac.0 (ip_of packet.now) }
     ensures quote { IfSome result (λ d. length d.quote.now ≤ 68) }
-    ensures body { IfSome result (λ d. length d.body.now ≤ 65507) }
+    ensures body { IfSome result (λ d. length d.body.now ≤ most_to_udp) }
 {
-    if packet.proto != UDP {
+    if packet.proto != UDP_PROTO {
         return None;
     }
     let Ok(udp) = udp_assoc::decode(packet.body, packet.from, packet.to) else {

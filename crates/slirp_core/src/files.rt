@@ -54,7 +54,8 @@ impl Slirp {
     /// Where nothing is left to be sent the packet of a file that is due to go again is owed from now on, that of the longest unused transfer, and counted
     /// (RFC 1350, 2). Answers whether one is.
     pub fn send_again(&mut self) -> bool
-        ensures holds { (config : Config) (at : Standing) (link : LinkState) (past : List Entry) → Holds config at self.old (flowing true self.old.flows) link past
+        ensures holds { (config : Config) (at : Standing) (link : LinkState) (past : List Entry)
+            → Holds config at self.old (flowing true self.old.flows) link past
             → Holds config at self.new (flowing true self.new.flows) link past }
         // One is due fewer.
         ensures fewer { result ≡ true → due_count self.new.moment self.new.transfers < due_count self.old.moment self.old.transfers }

@@ -77,7 +77,8 @@ impl Slirp {
         requires number { self.old.number + 1 < 2 ^ 64 }
         // Where there is room, and peers come to that port, one is asked for, once.
         ensures asks { is_awaited listener self.old ≡ true → Makes (W.tells world.old) (W.tells world.new) (AsksForPeer listener self.old.number) }
-        ensures makes { (config : Config) (count : ℕ) (wants : List AnItem) (item : AnItem) (items : List AnItem) (link : LinkState) → is_to_read (Listener listener) (wanted_of wants item) ≡ true
+        ensures makes { (config : Config) (count : ℕ) (wants : List AnItem) (item : AnItem) (items : List AnItem) (link : LinkState)
+            → is_to_read (Listener listener) (wanted_of wants item) ≡ true
             → Brings (W.tells world.old) (W.tells world.new)
             (Holds config (standing count wants (item ∷ items)) self.old (flowing false self.old.flows) link)
             (λ past. Holds config (standing count wants items) self.new (flowing false self.new.flows) link past
@@ -109,7 +110,8 @@ impl Slirp {
         requires room { in_use_slots self.old.flows.flows.table.slots < length self.old.flows.flows.table.slots }
         ensures closes { Makes (W.tells world.old) (W.tells world.new) (ClosesOne self.old.number) }
         ensures treats { Makes (W.tells world.old) (W.tells world.new) (λ made. (config : Config) (now : ℕ) (aged : Bool) (past : List Entry)
-            → CoreHolds config now aged None self.old.flows.flows past → self.old.config ≡ config → Treats (is_refused config guest peer (book config past)) guest peer self.old self.new made) }
+            → CoreHolds config now aged None self.old.flows.flows past → self.old.config ≡ config
+            → Treats (is_refused config guest peer (book config past)) guest peer self.old self.new made) }
         ensures turn { self.new.flows.turn ≡ self.old.flows.turn }
         ensures marks { KeepsMarks self.old.number self.old.flows self.new.flows }
         ensures others { self.new ≡ record self.old { number = self.old.number + 1; flows = self.new.flows } }
@@ -127,8 +129,10 @@ impl Slirp {
 
     // The two ends between which a peer's flow to this guest is to stand, where it wouldn't pass for a guest, and they aren't in use.
     fn ends_for(&self, guest: Endpoint, peer: Endpoint) -> Option<Tuple>
-        ensures some { IfSome result (λ ends. (ends ≡ tuple_for self.now.config guest peer) × (is_hidden self.now.config peer ≡ false) × NoneUses self.now.flows.flows.table.slots ends) }
-        ensures recorded { (config : Config) (now : ℕ) (aged : Bool) (past : List Entry) → CoreHolds config now aged None self.now.flows.flows past → self.now.config ≡ config
+        ensures some { IfSome result (λ ends. (ends ≡ tuple_for self.now.config guest peer) × (is_hidden self.now.config peer ≡ false)
+            × NoneUses self.now.flows.flows.table.slots ends) }
+        ensures recorded { (config : Config) (now : ℕ) (aged : Bool) (past : List Entry) → CoreHolds config now aged None self.now.flows.flows past
+            → self.now.config ≡ config
             → is_some result ≡ not (is_refused config guest peer (book config past)) }
     {
         let other = self.policy.shown(peer)?;

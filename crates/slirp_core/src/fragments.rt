@@ -4,6 +4,7 @@ ghost use Rattle.std.specs.Prelude.{IfSome};
 ghost use Rattle.ipv4_head.specs.Ip.{ip_of};
 ghost use Rattle.ipv4_head.specs.Sets.{PartSet, key_of, part_of};
 ghost use Rattle.slirp_core.specs.Fragments.{FitsAssembled, IsHeld, Took, assembled_ip};
+ghost use Rattle.net_octets.specs.Sizes.{most_carried};
 
 use crate::network::Slirp;
 use crate::tcp::Task;
@@ -51,9 +52,10 @@ impl Slirp {
         requires room { length room.old ≡ 65575 }
         requires head { 20 ≤ length part.now.head.now }
         requires short { length part.now.head.now ≤ 60 }
-        ensures gathers { (held : List PartSet) → IsHeld self.old.parts held → Gathers self.old held mac.0 (ip_of part.now) (part_of part.now) self.new.parts result room.new }
+        ensures gathers { (held : List PartSet) → IsHeld self.old.fragments held
+            → Gathers self.old held mac.0 (ip_of part.now) (part_of part.now) self.new.fragments result room.new }
         ensures fits { IfSome result FitsAssembled }
-        ensures same { self.new ≡ record self.old { parts = self.new.parts } }
+        ensures same { self.new ≡ record self.old { fragments = self.new.fragments } }
         ensures room { length room.new ≡ 65575 }
     {
         if !self.policy.is_guest(part.from) {
@@ -95,7 +97,7 @@ fn take_part(
 // Copies a joined datagram to the front of a buffer.
 fn assemble(mac: Mac, datagram: &IpView<'_>, room: &mut [u8]) -> Assembled
     requires head { length datagram.now.head.now ≤ 60 }
-    requires body { length datagram.now.body.now ≤ 65515 }
+    requires body { length datagram.now.body.now ≤ most_carried }
     requires room { length room.old ≡ 65575 }
     ensures datagram { assembled_ip result room.new ≡ record (ip_of datagram.now) { more = false; place = 0 } }
     ensures mac { result.mac ≡ mac }

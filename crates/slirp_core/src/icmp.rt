@@ -3,14 +3,14 @@ ghost use Rattle.std.specs.Prelude.{[], ◌≡◌, ◌≤◌, length};
 ghost use Rattle.ipv4_head.specs.Ip.{ip_of};
 ghost use Rattle.slirp_core.specs.Packets.{is_message_to_us};
 ghost use Rattle.slirp_core.specs.Packets.{reply_to};
+ghost use Rattle.net_octets.specs.Sizes.{most_carried};
 
 use crate::datagrams::DatagramView;
 use crate::network::Slirp;
-use crate::outgoing::ICMP;
 use host_policy::Policy;
 use icmp_echo::IcmpView;
 use ipv4_head::IpView;
-use net_octets::{Ip4, Mac};
+use net_octets::{ICMP_PROTO, Ip4, Mac};
 
 /// Communication is prohibited (RFC 1122, 3.2.2.1).
 pub(crate) const PROHIBITED: u8 = 10;
@@ -24,7 +24,7 @@ impl Slirp {
     // Takes in a datagram with a message to one of ours.
     pub(crate) fn take_icmp(&mut self, mac: Mac, datagram: &IpView<'_>)
         requires none { self.old.pending ≡ [] }
-        requires size { length datagram.now.body.now ≤ 65515 }
+        requires size { length datagram.now.body.now ≤ most_carried }
         ensures { self.new ≡ record self.old {
           pending = frames_of self.old.config self.old.sent
               (owed_for (owed_for_icmp mac.0 (ip_of datagram.now)) (read_icmp datagram.now.body.now));
@@ -43,7 +43,10 @@ impl Slirp {
     pub(crate) fn tell_about(&mut self, code: u8, datagram: &DatagramView<'_>)
         requires none { self.old.pending ≡ [] }
         requires quote { length datagram.now.quote.now ≤ 68 }
-        ensures { self.new ≡ record self.old { pending = frames_of self.old.config self.old.sent (told_about self.old.config code (datagram_of datagram.now)) } }
+        ensures { self.new ≡ record self.old {
+          pending = frames_of self.old.config self.old.sent
+              (told_about self.old.config code (datagram_of datagram.now));
+        } }
     {
         if datagram.from.addr == Ip4(0) || self.policy.is_of_many(datagram.to.addr) {
             return;
@@ -81,5 +84,5 @@ fn echo_reply<'a>(message: &IcmpView<'a>) -> Option<IcmpView<'a>>
 pub(crate) fn is_message_to_us(policy: &Policy, datagram: &IpView<'_>) -> bool
     ensures { result ≡ is_message_to_us policy.now (ip_of datagram.now) }
 {
-    policy.is_guest(datagram.from) && policy.is_ours(datagram.to) && datagram.proto == ICMP
+    policy.is_guest(datagram.from) && policy.is_ours(datagram.to) && datagram.proto == ICMP_PROTO
 }

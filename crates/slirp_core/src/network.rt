@@ -9,7 +9,7 @@ ghost use Rattle.slirp_core.specs.Fragments.{whole_or_none, task_or_none};
 use crate::datagrams::datagram_in;
 use crate::fragments::{Assembled, Brought, datagram_at};
 use crate::icmp::is_message_to_us;
-use crate::outgoing::{ARP, IPV4, Outgoing};
+use crate::outgoing::Outgoing;
 use crate::ports::Ports;
 use crate::tcp::{Task, is_segment, segment_in};
 use arp_table::ArpTable;
@@ -18,7 +18,7 @@ use dns_relay::Relay;
 use host_policy::{Policy, SlirpConfig};
 use ipv4_head::IpView;
 use ipv4_reasm::Reasm;
-use net_octets::{Ip4, Mac, NoMemory};
+use net_octets::{ARP_KIND, IPV4_KIND, Ip4, Mac, NoMemory};
 use std::alloc::Global;
 use std::marker::Model;
 use tcp_flows::{Sizes, TcpFlows};
@@ -61,10 +61,12 @@ impl Model for Slirp {
 
     ghost Value = { SlirpState };
 
-    ghost view = { λ s. record { config = s.policy; known = s.guests; sent = s.sent; pending = s.outgoing; moment = s.moment; number = s.number; associations = s.associations.list; questions = s.questions.list; parts = s.reasm; flows = s.flows; leases = s.leases.leases; forwards = s.forwards; transfers = s.files.transfers } };
+    ghost view = { λ s. record { config = s.policy; known = s.guests; sent = s.sent; pending = s.outgoing; moment = s.moment; number = s.number; associations = s.associations.list; questions = s.questions.list; fragments = s.reasm; flows = s.flows; leases = s.leases.leases; forwards = s.forwards; transfers = s.files.transfers } };
 
     // each socket has a number under that of the next one, those of questions and of flows too, of which there are at most 4,096; sockets are opened at the address of the settings, or at 0.0.0.0, every address of the host; and the servers of leases and of files and the relay of questions have the settings, and there is room for a reply
-    ghost invariant = { λ s. All (λ n. n < s.number) (numbers s.associations.list) × (s.moment ≤ 2 ^ 62) × (s.associations.bind ≡ unwrap_or s.policy.outbound 0) × AreDrawn s.number s.flows × (s.leases.config ≡ s.policy) × (length s.message.items ≡ 1472) × AreAsked s.number s.policy s.questions × IsServer s.policy s.files };
+    ghost invariant = { λ s. All (λ n. n < s.number) (numbers s.associations.list) × (s.moment ≤ 2 ^ 62) × (s.associations.bind ≡ unwrap_or s.policy.outbound 0)
+        × AreDrawn s.number s.flows × (s.leases.config ≡ s.policy) × (length s.message.items ≡ 1472) × AreAsked s.number s.policy s.questions
+        × IsServer s.policy s.files };
 }
 
 impl Slirp {
@@ -121,7 +123,7 @@ impl Slirp {
         ensures number { IfOk result (λ slirp. slirp.number ≡ 0) }
         ensures associations { IfOk result (λ slirp. slirp.associations ≡ []) }
         ensures questions { IfOk result (λ slirp. slirp.questions ≡ []) }
-        ensures parts { IfOk result (λ slirp. slirp.parts ≡ []) }
+        ensures fragments { IfOk result (λ slirp. slirp.fragments ≡ []) }
         ensures flows { IfOk result (λ slirp. slirp.flows ≡ flows_for (settings c.now)) }
         ensures leases { IfOk result (λ slirp. slirp.leases ≡ replicate 16 Free) }
         ensures forwards { IfOk result (λ slirp. slirp.forwards ≡ []) }
@@ -168,8 +170,10 @@ impl Slirp {
         requires room { length room.old ≡ 65575 }
         requires number { self.old.number + 1 < 2 ^ 64 }
         // Where the reads of the link have just brought the frame, all stands as it must after them and the calls that it asks for.
-        ensures makes { (config : Config) (count : ℕ) (wants : List AnItem) (item : AnItem) (items : List AnItem) (link : LinkState) → is_to_read TheLink (wanted_of wants item) ≡ true → Brings (W.tells world.old) (W.tells world.new)
-            (FrameCame config (standing count wants (item ∷ items)) self.old link frame.now) (Holds config (standing count wants items) self.new (flowing false self.new.flows) link) }
+        ensures makes { (config : Config) (count : ℕ) (wants : List AnItem) (item : AnItem) (items : List AnItem) (link : LinkState)
+            → is_to_read TheLink (wanted_of wants item) ≡ true → Brings (W.tells world.old) (W.tells world.new)
+            (FrameCame config (standing count wants (item ∷ items)) self.old link frame.now)
+            (Holds config (standing count wants items) self.new (flowing false self.new.flows) link) }
         ensures marks { KeepsMarks self.old.number self.old.flows self.new.flows }
         ensures counts { AreGrown (W.tells world.old).faults (W.tells world.new).faults }
         ensures config { self.new.config ≡ self.old.config }
@@ -179,7 +183,7 @@ impl Slirp {
     {
         let brought = self.take_frame(frame, room);
         match self.complete(brought, room) {
-            Some(Task::Errand(errand)) => self.relay(world, &errand),
+            Some(Task::Errand(datagram, to)) => self.relay(world, &datagram, to),
             Some(Task::File(datagram)) => self.take_file(world, &datagram),
             Some(Task::Segment(segment)) => self.take_segment(world, &segment),
             None => {}
@@ -189,15 +193,21 @@ impl Slirp {
     // A frame's sender is learnt, and what it asks for is owed from now on. Answers what is still to be done, or where the datagram lies, in `room`, that its part makes whole.
     fn take_frame<'a>(&mut self, frame: &'a [u8], room: &mut [u8]) -> Brought<'a>
         requires { length room.old ≡ 65575 }
-        ensures request { (held : List PartSet) → IsHeld self.old.parts held
-            → brought_request self.old.config result room.new ≡ request_for_udp self.old.config (udp_in self.old.config self.old.moment (young self.old.moment held) frame.now) }
-        ensures segment { (held : List PartSet) → IsHeld self.old.parts held
+        ensures request { (held : List PartSet) → IsHeld self.old.fragments held
+            → brought_request self.old.config result room.new
+            ≡ request_for_udp self.old.config (udp_in self.old.config self.old.moment (young self.old.moment held) frame.now) }
+        ensures segment { (held : List PartSet) → IsHeld self.old.fragments held
             → brought_segment self.old.config result room.new ≡ segment_in self.old.config self.old.moment (young self.old.moment held) frame.now }
-        ensures changes { (held : List PartSet) → IsHeld self.old.parts held
-            → taken_on self.new result room.new ≡ after_frame self.old.config self.old (young self.old.moment held) self.new.parts frame.now }
-        ensures parts { (held : List PartSet) → IsHeld self.old.parts held
-            → IsHeld self.new.parts (with_fragment self.old.moment (fragment_in self.old.config frame.now) held) }
-        ensures others { self.new ≡ record self.old { pending = self.new.pending; known = self.new.known; parts = self.new.parts; leases = self.new.leases } }
+        ensures changes { (held : List PartSet) → IsHeld self.old.fragments held
+            → taken_on self.new result room.new ≡ after_frame self.old.config self.old (young self.old.moment held) self.new.fragments frame.now }
+        ensures fragments { (held : List PartSet) → IsHeld self.old.fragments held
+            → IsHeld self.new.fragments (with_fragment self.old.moment (fragment_in self.old.config frame.now) held) }
+        ensures others { self.new ≡ record self.old {
+          pending = self.new.pending;
+          known = self.new.known;
+          fragments = self.new.fragments;
+          leases = self.new.leases;
+        } }
         ensures fits { FitsBrought self.old.config result self.new.pending 65575 }
         ensures room { length room.new ≡ 65575 }
     {
@@ -205,10 +215,10 @@ impl Slirp {
         let Ok(ether) = ether_frame::decode(frame) else {
             return Brought::Nothing;
         };
-        if ether.kind == ARP {
+        if ether.kind == ARP_KIND {
             self.take_arp(ether.body);
             Brought::Nothing
-        } else if ether.kind == IPV4 {
+        } else if ether.kind == IPV4_KIND {
             self.take_ip(ether.from, ether.body, room)
         } else {
             Brought::Nothing
@@ -239,8 +249,13 @@ impl Slirp {
     fn take_ip<'a>(&mut self, mac: Mac, body: &'a [u8], room: &mut [u8]) -> Brought<'a>
         requires none { self.old.pending ≡ [] }
         requires room { length room.old ≡ 65575 }
-        ensures arrives { (held : List PartSet) → IsHeld self.old.parts held → Arrives self.old held mac.0 body.now self.new result room.new }
-        ensures others { self.new ≡ record self.old { pending = self.new.pending; known = self.new.known; parts = self.new.parts; leases = self.new.leases } }
+        ensures arrives { (held : List PartSet) → IsHeld self.old.fragments held → Arrives self.old held mac.0 body.now self.new result room.new }
+        ensures others { self.new ≡ record self.old {
+          pending = self.new.pending;
+          known = self.new.known;
+          fragments = self.new.fragments;
+          leases = self.new.leases;
+        } }
         ensures fits { FitsBrought self.old.config result self.new.pending 65575 }
         ensures room { length room.new ≡ 65575 }
     {
@@ -300,35 +315,43 @@ impl Slirp {
             (Holds config (after count) self.old (flowing false self.old.flows) link) (Holds config (after count) self.new (flowing true self.new.flows) link) }
         ensures rising { Makes (W.tells world.old) (W.tells world.new) (λ made. WhereItTicks self.old (ClosesByKind made)) }
         ensures none { All (λ a. is_over self.new.moment a ≡ false) self.new.associations }
-        ensures connects { (k : ℕ) (p : Splice) → IsOpenAt self.new.flows.flows.parts k p → is_connects p.conn.stage ≡ true → self.new.moment < connect_end p }
-        ensures ahead { (config : Config) (at : Standing) (aged : Bool) (link : LinkState) (past : List Entry) → Holds config at self.old (flowing aged self.old.flows) link past
-            → (n : ℕ) → OwesNoAck self.old.flows.flows.parts n → IsInTime self.new.moment self.new.flows.flows.parts n }
-        ensures parts { (held : List PartSet) → IsHeld self.old.parts held → IsHeld self.new.parts (young self.old.moment held) }
+        ensures connects { (k : ℕ) (p : Splice) → IsOpenAt self.new.flows.flows.slots k p → is_connects p.conn.stage ≡ true → self.new.moment < connect_end p }
+        ensures ahead { (config : Config) (at : Standing) (aged : Bool) (link : LinkState) (past : List Entry)
+            → Holds config at self.old (flowing aged self.old.flows) link past
+            → (n : ℕ) → OwesNoAck self.old.flows.flows.slots n → IsInTime self.new.moment self.new.flows.flows.slots n }
+        ensures fragments { (held : List PartSet) → IsHeld self.old.fragments held → IsHeld self.new.fragments (young self.old.moment held) }
         // None of the fragments that are left is to be dropped yet.
-        ensures fresh { AreFresh self.new.moment self.new.parts }
+        ensures fresh { AreFresh self.new.moment self.new.fragments }
         ensures turn { self.new.flows.turn ≡ self.old.flows.turn + 1 }
         // No socket was served in the turn that begins.
         ensures unserved { (k : ℕ) → slice_get self.new.flows.served k ≡ Some self.new.flows.turn → ⊥ }
         ensures unasked { All (λ q. is_over_question self.new.moment q ≡ false) self.new.questions }
         ensures over { self.new.transfers ≡ are_left self.old.moment self.old.transfers }
-        ensures same { self.new ≡ record self.old { associations = self.new.associations; questions = self.new.questions; parts = self.new.parts; flows = self.new.flows; transfers = self.new.transfers } }
+        ensures same { self.new ≡ record self.old {
+          associations = self.new.associations;
+          questions = self.new.questions;
+          fragments = self.new.fragments;
+          flows = self.new.flows;
+          transfers = self.new.transfers;
+        } }
     {
         self.flows.begin_turn();
         self.tell_addresses();
         self.tell_time(world);
-        self.drop_parts();
+        self.drop_fragments();
         self.close_unused(world);
         self.close_unanswered(world);
     }
 
     // Tells the flows that don't know it their guest's hardware address, where that is known.
     pub(crate) fn tell_addresses(&mut self)
-        ensures holds { (config : Config) (at : Standing) (aged : Bool) (link : LinkState) (past : List Entry) → Holds config at self.old (flowing aged self.old.flows) link past
+        ensures holds { (config : Config) (at : Standing) (aged : Bool) (link : LinkState) (past : List Entry)
+            → Holds config at self.old (flowing aged self.old.flows) link past
             → Holds config at self.new (flowing aged self.new.flows) link past }
-        ensures told { AreTold self.new.known self.new.flows.flows.parts }
-        ensures ahead { (now n : ℕ) → IsInTime now self.old.flows.flows.parts n → IsInTime now self.new.flows.flows.parts n }
-        ensures calm { (n : ℕ) → OwesNoAck self.old.flows.flows.parts n → OwesNoAck self.new.flows.flows.parts n }
-        ensures connects { ConnectYet self.old.flows.flows.parts self.new.flows.flows.parts }
+        ensures told { AreTold self.new.known self.new.flows.flows.slots }
+        ensures ahead { (now n : ℕ) → IsInTime now self.old.flows.flows.slots n → IsInTime now self.new.flows.flows.slots n }
+        ensures calm { (n : ℕ) → OwesNoAck self.old.flows.flows.slots n → OwesNoAck self.new.flows.flows.slots n }
+        ensures connects { ConnectYet self.old.flows.flows.slots self.new.flows.flows.slots }
         ensures turn { self.new.flows.turn ≡ self.old.flows.turn }
         ensures served { self.new.flows.served ≡ self.old.flows.served }
         ensures stays { Stays self.old.flows self.new.flows }
@@ -339,13 +362,14 @@ impl Slirp {
 
     // Tells the flows the time, and lets the transfers go that are over.
     fn tell_time<W: World>(&mut self, world: &mut W)
-        requires told { AreTold self.old.known self.old.flows.flows.parts }
+        requires told { AreTold self.old.known self.old.flows.flows.slots }
         ensures makes { (config : Config) (count : ℕ) (link : LinkState) → count < config.turns → Brings (W.tells world.old) (W.tells world.new)
             (Holds config (after count) self.old (flowing false self.old.flows) link) (Holds config (after count) self.new (flowing true self.new.flows) link) }
         ensures rising { Makes (W.tells world.old) (W.tells world.new) (λ made. WhereItTicks self.old (ClosesRising made)) }
-        ensures connects { (k : ℕ) (p : Splice) → IsOpenAt self.new.flows.flows.parts k p → is_connects p.conn.stage ≡ true → self.new.moment < connect_end p }
-        ensures ahead { (config : Config) (before : ℕ) (aged : Bool) (past : List Entry) → CoreHolds config before aged None self.old.flows.flows past → (n : ℕ) → OwesNoAck self.old.flows.flows.parts n
-            → IsInTime self.new.moment self.new.flows.flows.parts n }
+        ensures connects { (k : ℕ) (p : Splice) → IsOpenAt self.new.flows.flows.slots k p → is_connects p.conn.stage ≡ true → self.new.moment < connect_end p }
+        ensures ahead { (config : Config) (before : ℕ) (aged : Bool) (past : List Entry) → CoreHolds config before aged None self.old.flows.flows past → (n : ℕ)
+            → OwesNoAck self.old.flows.flows.slots n
+            → IsInTime self.new.moment self.new.flows.flows.slots n }
         ensures turn { self.new.flows.turn ≡ self.old.flows.turn }
         ensures served { self.new.flows.served ≡ self.old.flows.served }
         ensures over { self.new.transfers ≡ are_left self.old.moment self.old.transfers }
@@ -356,10 +380,10 @@ impl Slirp {
     }
 
     // Drops the fragments that have waited for 60,000 milliseconds.
-    fn drop_parts(&mut self)
-        ensures parts { (held : List PartSet) → IsHeld self.old.parts held → IsHeld self.new.parts (young self.old.moment held) }
-        ensures fresh { AreFresh self.new.moment self.new.parts }
-        ensures same { self.new ≡ record self.old { parts = self.new.parts } }
+    fn drop_fragments(&mut self)
+        ensures fragments { (held : List PartSet) → IsHeld self.old.fragments held → IsHeld self.new.fragments (young self.old.moment held) }
+        ensures fresh { AreFresh self.new.moment self.new.fragments }
+        ensures same { self.new ≡ record self.old { fragments = self.new.fragments } }
     {
         self.reasm.tick(self.moment);
     }
@@ -420,8 +444,8 @@ impl Slirp {
 
     // Whether the open socket with the least number is a flow's.
     fn flow_is_first(&self) -> bool
-        ensures yes { result ≡ true → IsFlowFirst (carriers (holders_of self.now)) self.now.flows.flows.parts }
-        ensures no { result ≡ false → NoFlowFirst (carriers (holders_of self.now)) self.now.flows.flows.parts }
+        ensures yes { result ≡ true → IsFlowFirst (carriers (holders_of self.now)) self.now.flows.flows.slots }
+        ensures no { result ≡ false → NoFlowFirst (carriers (holders_of self.now)) self.now.flows.flows.slots }
     {
         let Some(flow) = self.flows.first() else {
             return false;
@@ -462,7 +486,14 @@ fn bind_for(c: &SlirpConfig) -> Ip4
 
 // What the settings say of flows.
 fn sizes_of(c: &SlirpConfig) -> Sizes
-    ensures { result ≡ record { slots = c.now.flows; ring = c.now.ring; mtu = c.now.if_mtu; mru = c.now.if_mru; congestion = c.now.congestion; vhost = c.now.vhost } }
+    ensures { result ≡ record {
+      slots = c.now.flows;
+      ring = c.now.ring;
+      mtu = c.now.if_mtu;
+      mru = c.now.if_mru;
+      congestion = c.now.congestion;
+      vhost = c.now.vhost;
+    } }
 {
     Sizes {
         slots: c.flows as usize,

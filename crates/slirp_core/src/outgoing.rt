@@ -1,36 +1,26 @@
 // The frames that are owed to a guest and aren't out yet.
 ghost use Rattle.std.specs.Prelude.{◌≡◌, ℕ, ◌≤◌, ◌<◌, List, [], ◌∷◌, length, take};
-ghost use Rattle.net_octets.specs.Kinds.{arp_kind, icmp_proto, tcp_proto, udp_proto};
+ghost use Rattle.net_octets.specs.Kinds.{arp_kind};
 ghost use Rattle.arp_table.specs.Arp.{arp_of, arp_octets};
 ghost use Rattle.ether_frame.specs.Ether.{ether_octets};
-ghost use Rattle.icmp_echo.specs.Icmp.{CanWrite, icmp_of, icmp_with, icmp_octets};
-ghost use Rattle.udp_assoc.specs.Udp.{udp_of, udp_octets};
+ghost use Rattle.icmp_echo.specs.Icmp.{CanWrite, icmp_of, icmp_with};
+ghost use Rattle.udp_assoc.specs.Udp.{udp_of};
 ghost use Rattle.tcp_segment.specs.Tcp.{tcp_length, tcp_of};
-ghost use Rattle.slirp_core.specs.Outgoing.{segment_octets};
+ghost use Rattle.slirp_core.specs.Outgoing.{MayBeCut, message_frames, segment_frames, udp_frames};
 ghost use Rattle.slirp_laws.specs.Answers.{datagrams_in};
+ghost use Rattle.net_octets.specs.Sizes.{most_carried, most_frame};
+ghost use Rattle.world_face.specs.Limits.{most_to_udp};
 
 use crate::cutting::Cutting;
 use arp_table::ArpView;
 use byteorder::{BigEndian, ByteOrder};
 use ether_frame::EtherView;
 use icmp_echo::IcmpView;
-use net_octets::{Ip4, Mac, NoMemory};
+use net_octets::{ARP_KIND, IPV4_KIND, Ip4, MOST_FRAME, Mac, NoMemory};
 use std::alloc::Global;
 use std::marker::Model;
 use tcp_segment::TcpView;
 use udp_assoc::UdpView;
-
-/// The kind of a frame that carries IPv4 (RFC 894).
-pub const IPV4: u16 = 0x0800;
-
-/// The kind of a frame that carries ARP (RFC 826).
-pub const ARP: u16 = 0x0806;
-
-/// The protocol of a datagram that carries ICMP (RFC 792).
-pub const ICMP: u8 = 1;
-
-/// The octets of the longest frame.
-const LONGEST: usize = 1514;
 
 /// The frame that is next, whole, and the datagram of which the parts behind it aren't cut yet. A second buffer is for writing what a frame carries.
 #[derive(Drop)]
@@ -57,23 +47,24 @@ pub struct Course {
 impl Model for Outgoing {
     ghost use Rattle.std.specs.Prelude.{◌≡◌, ℕ, ◌≤◌, ◌++◌, [], List, length};
     ghost use Rattle.slirp_core.specs.Outgoing.{frames_in};
+    ghost use Rattle.net_octets.specs.Sizes.{most_frame};
 
     ghost Value = { List (List ℕ) };
 
     ghost view = { λ o. frames_in o.used o.frame.items ++ o.cutting };
 
-    ghost invariant = { λ o. (o.used ≤ 1514) × (length o.frame.items ≡ 1514) × (length o.packet.items ≡ 1514) × (o.used ≡ 0 → o.cutting ≡ []) };
+    ghost invariant = { λ o. (o.used ≤ most_frame) × (length o.frame.items ≡ most_frame) × (length o.packet.items ≡ most_frame)
+        × (o.used ≡ 0 → o.cutting ≡ []) };
 }
 
 impl Outgoing {
     ghost use Rattle.std.specs.Prelude.{nat_lt, drop, IfOk};
-    ghost use Rattle.slirp_laws.specs.Answers.{datagram_frames};
 
     /// No frame, and the room for those of a datagram.
     pub fn open(alloc: Global) -> Result<Outgoing, NoMemory>
         ensures { IfOk result (λ outgoing. outgoing ≡ []) }
     {
-        let (Ok(frame), Ok(packet)) = (vec![in alloc; 0; LONGEST], vec![in alloc; 0; LONGEST])
+        let (Ok(frame), Ok(packet)) = (vec![in alloc; 0; MOST_FRAME], vec![in alloc; 0; MOST_FRAME])
         else {
             return Err(NoMemory);
         };
@@ -97,7 +88,7 @@ impl Outgoing {
     pub fn frame(&self) -> &[u8]
         requires { 0 < length self.now }
         ensures frame { self.now ≡ result.now ∷ drop 1 self.now }
-        ensures length { length result.now ≤ 1514 }
+        ensures length { length result.now ≤ most_frame }
     {
         &self.frame[..self.used]
     }
@@ -128,12 +119,10 @@ impl Outgoing {
 
     /// From now on the frames are those of a datagram with a message, which has at most 65,515 octets.
     pub fn put_message(&mut self, course: &Course, message: &IcmpView<'_>)
-        requires least { 28 ≤ course.now.mtu }
-        requires most { course.now.mtu ≤ 1500 }
-        requires size { length (icmp_with 0 (icmp_of message.now)) ≤ 65515 }
+        requires course { MayBeCut course.now }
+        requires size { length (icmp_with 0 (icmp_of message.now)) ≤ most_carried }
         requires kind { CanWrite (icmp_of message.now) }
-        ensures { self.new ≡ datagram_frames course.now.mtu course.now.to_mac.0 course.now.from_mac.0 course.now.ident icmp_proto
-            course.now.from.0 course.now.to.0 (icmp_octets (icmp_of message.now)) }
+        ensures { self.new ≡ message_frames course.now (icmp_of message.now) }
     {
         self.cutting.put_message(course, message);
         self.used = self.cutting.write_next(&mut self.frame, &mut self.packet);
@@ -141,11 +130,9 @@ impl Outgoing {
 
     /// From now on the frames are those of a datagram of UDP, whose payload has at most 65,507 octets.
     pub fn put_udp(&mut self, course: &Course, datagram: &UdpView<'_>)
-        requires least { 28 ≤ course.now.mtu }
-        requires most { course.now.mtu ≤ 1500 }
-        requires size { length datagram.now.body.now ≤ 65507 }
-        ensures { self.new ≡ datagram_frames course.now.mtu course.now.to_mac.0 course.now.from_mac.0 course.now.ident udp_proto
-            course.now.from.0 course.now.to.0 (udp_octets course.now.from.0 course.now.to.0 (udp_of datagram.now)) }
+        requires course { MayBeCut course.now }
+        requires size { length datagram.now.body.now ≤ most_to_udp }
+        ensures { self.new ≡ udp_frames course.now (udp_of datagram.now) }
     {
         self.cutting.put_udp(course, datagram);
         self.used = self.cutting.write_next(&mut self.frame, &mut self.packet);
@@ -153,11 +140,9 @@ impl Outgoing {
 
     /// From now on the frames are those of a datagram with a segment of TCP, which has at most 65,515 octets with its header.
     pub fn put_segment(&mut self, course: &Course, segment: &TcpView<'_>)
-        requires least { 28 ≤ course.now.mtu }
-        requires most { course.now.mtu ≤ 1500 }
-        requires size { tcp_length (tcp_of segment.now) ≤ 65515 }
-        ensures { self.new ≡ datagram_frames course.now.mtu course.now.to_mac.0 course.now.from_mac.0 course.now.ident tcp_proto
-            course.now.from.0 course.now.to.0 (segment_octets course.now.from.0 course.now.to.0 (tcp_of segment.now)) }
+        requires course { MayBeCut course.now }
+        requires size { tcp_length (tcp_of segment.now) ≤ most_carried }
+        ensures { self.new ≡ segment_frames course.now (tcp_of segment.now) }
     {
         self.cutting.put_segment(course, segment);
         self.used = self.cutting.write_next(&mut self.frame, &mut self.packet);
@@ -166,24 +151,19 @@ impl Outgoing {
 
 // Writes the frame of an ARP packet, and answers its length.
 fn write_arp(to: Mac, packet: &ArpView, frame: &mut [u8], body: &mut [u8]) -> usize
-    requires room { (length frame.old ≡ 1514) × (length body.old ≡ 1514) }
+    requires room { (length frame.old ≡ most_frame) × (length body.old ≡ most_frame) }
     ensures frame { take result frame.new ≡ ether_octets to.0 packet.now.sender_mac.0 arp_kind (arp_octets (arp_of packet.now)) }
-    ensures length { (0 < result) × (result ≤ 1514) }
-    ensures room { (length frame.new ≡ 1514) × (length body.new ≡ 1514) }
+    ensures length { (0 < result) × (result ≤ most_frame) }
+    ensures room { (length frame.new ≡ most_frame) × (length body.new ≡ most_frame) }
 {
-    let Ok(written) = arp_table::encode(packet, body) else {
-        unreachable!()
-    };
+    let written = arp_table::write(packet, body);
     let ether = EtherView {
         to,
         from: packet.sender_mac,
-        kind: ARP,
+        kind: ARP_KIND,
         body: &body[..written],
     };
-    let Ok(length) = ether_frame::encode(&ether, frame) else {
-        unreachable!()
-    };
-    length
+    ether_frame::write(&ether, frame)
 }
 
 /// How many datagrams begin in the frame: one where it carries one, or the first part of one.
@@ -191,7 +171,7 @@ pub fn datagrams_in(frame: &[u8]) -> u16
     ensures { result ≡ datagrams_in frame.now }
 {
     let begins = frame.len() >= 22
-        && BigEndian::read_u16(&frame[12..14]) == IPV4
+        && BigEndian::read_u16(&frame[12..14]) == IPV4_KIND
         && BigEndian::read_u16(&frame[20..22]) % 8192 == 0;
     if begins { 1 } else { 0 }
 }

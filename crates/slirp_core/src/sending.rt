@@ -1,8 +1,7 @@
 // What is owed and isn't out yet, and the pump that sends it.
+ghost use Rattle.net_octets.specs.Octets.{our_mac};
 ghost use Rattle.std.specs.Prelude.{[], ◌≡◌, ◌<◌, ◌≤◌, length};
-ghost use Rattle.slirp_laws.specs.Answers.{our_mac};
 
-use crate::arp::our_mac;
 use crate::network::Slirp;
 use crate::outgoing::{Course, datagrams_in};
 use host_policy::Policy;
@@ -51,15 +50,18 @@ impl Slirp {
         ensures failed { result ≡ Pumped.Failed → Rose (W.tells world.old).faults.link (W.tells world.new).faults.link }
         ensures leaves { Leaves result self.new link.new }
         ensures settled { (config : Config) (at : Standing) → result ≡ Pumped.Clear → Brings (W.tells world.old) (W.tells world.new)
-            (Holds config at self.old (flowing true self.old.flows) link.old) (λ past. Holds config at self.new (flowing true self.new.flows) link.new past × AreSettled config self.old.moment self.old.flows.flows.parts past) }
+            (Holds config at self.old (flowing true self.old.flows) link.old) (λ past. Holds config at self.new (flowing true self.new.flows) link.new past
+            × AreSettled config self.old.moment self.old.flows.flows.slots past) }
         // A flow that connects then connected before, and may until the same moment.
-        ensures connects { (config : Config) (at : Standing) (aged : Bool) (past : List Entry) → Holds config at self.old (flowing aged self.old.flows) link.old past → ConnectYet self.old.flows.flows.parts self.new.flows.flows.parts }
+        ensures connects { (config : Config) (at : Standing) (aged : Bool) (past : List Entry)
+            → Holds config at self.old (flowing aged self.old.flows) link.old past → ConnectYet self.old.flows.flows.slots self.new.flows.flows.slots }
         // Where all of it is out the link was free before, and no flow owes a frame.
         ensures free { result ≡ Pumped.Clear → link.old.blocked ≡ false }
         ensures clear { result ≡ Pumped.Clear → AreClear self.new.known self.new.flows.flows }
         // A flow whose timer wasn't due before has none that is due.
-        ensures ahead { (config : Config) (at : Standing) (aged : Bool) (past : List Entry) → Holds config at self.old (flowing aged self.old.flows) link.old past
-            → (n : ℕ) → IsInTime self.old.moment self.old.flows.flows.parts n → IsInTime self.old.moment self.new.flows.flows.parts n }
+        ensures ahead { (config : Config) (at : Standing) (aged : Bool) (past : List Entry)
+            → Holds config at self.old (flowing aged self.old.flows) link.old past
+            → (n : ℕ) → IsInTime self.old.moment self.old.flows.flows.slots n → IsInTime self.old.moment self.new.flows.flows.slots n }
         ensures same { under_way link.new ≡ under_way link.old }
         ensures config { self.new.config ≡ self.old.config }
         ensures number { self.new.number ≡ self.old.number }
@@ -80,16 +82,18 @@ impl Slirp {
         requires free { link.old.blocked ≡ false }
         requires none { link.old.tail ≡ [] }
         requires out { self.old.pending ≡ [] }
-        requires told { AreTold self.old.known self.old.flows.flows.parts }
-        ensures told { AreTold self.new.known self.new.flows.flows.parts }
+        requires told { AreTold self.old.known self.old.flows.flows.slots }
+        ensures told { AreTold self.new.known self.new.flows.flows.slots }
         ensures slots { HaveSlots self.new.flows.flows }
         ensures makes { (config : Config) (at : Standing) (aged : Bool) → Brings (W.tells world.old) (W.tells world.new)
             (Holds config at self.old (flowing aged self.old.flows) link.old) (AfterPump result config at self.new (flowing aged self.new.flows) link.new) }
         ensures failed { result ≡ Pumped.Failed → Rose (W.tells world.old).faults.link (W.tells world.new).faults.link }
         ensures leaves { Leaves result self.new link.new }
-        ensures ahead { (config : Config) (before : ℕ) (aged : Bool) (past : List Entry) → CoreHolds config before aged None self.old.flows.flows past → (n : ℕ) → IsInTime self.old.moment self.old.flows.flows.parts n
-            → IsInTime self.old.moment self.new.flows.flows.parts n }
-        ensures connects { (config : Config) (aged : Bool) (past : List Entry) → CoreHolds config self.old.moment aged None self.old.flows.flows past → ConnectYet self.old.flows.flows.parts self.new.flows.flows.parts }
+        ensures ahead { (config : Config) (before : ℕ) (aged : Bool) (past : List Entry) → CoreHolds config before aged None self.old.flows.flows past → (n : ℕ)
+            → IsInTime self.old.moment self.old.flows.flows.slots n
+            → IsInTime self.old.moment self.new.flows.flows.slots n }
+        ensures connects { (config : Config) (aged : Bool) (past : List Entry) → CoreHolds config self.old.moment aged None self.old.flows.flows past
+            → ConnectYet self.old.flows.flows.slots self.new.flows.flows.slots }
         ensures same { under_way link.new ≡ under_way link.old }
         ensures turn { self.new.flows.turn ≡ self.old.flows.turn }
         ensures marks { KeepsMarks self.old.number self.old.flows self.new.flows }
@@ -188,7 +192,14 @@ impl Slirp {
 
     // The course of the next datagram.
     pub(crate) fn course(&self, to_mac: Mac, from: Ip4, to: Ip4) -> Course
-        ensures course { result ≡ record { to_mac = to_mac; from_mac = record { 0 = our_mac self.now.config.vhost }; ident = self.now.sent; from = from; to = to; mtu = self.now.config.mtu } }
+        ensures course { result ≡ record {
+          to_mac = to_mac;
+          from_mac = record { 0 = our_mac self.now.config.vhost };
+          ident = self.now.sent;
+          from = from;
+          to = to;
+          mtu = self.now.config.mtu;
+        } }
         ensures mtu { (576 ≤ result.mtu) × (result.mtu ≤ 1500) }
     {
         course(&self.policy, self.sent, to_mac, from, to)
@@ -197,12 +208,19 @@ impl Slirp {
 
 // The course of a datagram with this identification.
 pub(crate) fn course(policy: &Policy, ident: u16, to_mac: Mac, from: Ip4, to: Ip4) -> Course
-    ensures course { result ≡ record { to_mac = to_mac; from_mac = record { 0 = our_mac policy.now.vhost }; ident = ident; from = from; to = to; mtu = policy.now.mtu } }
+    ensures course { result ≡ record {
+      to_mac = to_mac;
+      from_mac = record { 0 = our_mac policy.now.vhost };
+      ident = ident;
+      from = from;
+      to = to;
+      mtu = policy.now.mtu;
+    } }
     ensures mtu { (576 ≤ result.mtu) × (result.mtu ≤ 1500) }
 {
     Course {
         to_mac,
-        from_mac: our_mac(policy.vhost()),
+        from_mac: Mac::of_ours(policy.vhost()),
         ident,
         from,
         to,

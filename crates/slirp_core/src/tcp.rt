@@ -12,20 +12,18 @@ ghost use Rattle.host_policy.specs.Targets.{target};
 ghost use Rattle.flows_follow.specs.Stands.{lot_without};
 ghost use Rattle.slirp_core.specs.Packets.{is_segment};
 ghost use Rattle.slirp_core.specs.Segments.{FitsTask, coming, coming_of, request_for, lot_of, segment_for};
+ghost use Rattle.net_octets.specs.Sizes.{most_carried};
 
-use crate::datagrams::{DatagramView, ErrandView};
+use crate::datagrams::DatagramView;
 use crate::network::Slirp;
 use flow_table::Tuple;
 use host_policy::{Policy, Proto, Verdict};
 use ipv4_head::IpView;
-use net_octets::{Endpoint, Mac};
+use net_octets::{Endpoint, Mac, TCP_PROTO};
 use seq_space::Seq;
 use tcp_flows::Heard;
 use tcp_segment::{ACK, RST, TcpView};
 use world_face::{Made, World};
-
-/// The protocol of a datagram that carries a segment of TCP (RFC 9293, 3.1).
-pub const TCP: u8 = 6;
 
 /// A segment of a guest: the hardware address from which its frame came, the two ends between which it goes, and the segment.
 #[derive(Clone, Copy)]
@@ -38,8 +36,8 @@ pub struct SegmentView<'a> {
 /// What a frame asks for beyond its answers.
 #[derive(Clone, Copy)]
 pub enum Task<'a> {
-    /// A datagram goes out.
-    Errand(ErrandView<'a>),
+    /// A datagram goes out, to this endpoint.
+    Errand(DatagramView<'a>, Endpoint),
     /// A datagram is for the server of files.
     File(DatagramView<'a>),
     /// A segment is to be heard.
@@ -79,7 +77,7 @@ impl Slirp {
     // connection that the policy allows and there is room for a flow more.
     pub(crate) fn take_segment<W: World>(&mut self, world: &mut W, came: &SegmentView<'_>)
         requires none { self.old.pending ≡ [] }
-        requires body { length came.now.segment.body.now ≤ 65515 }
+        requires body { length came.now.segment.body.now ≤ most_carried }
         requires number { self.old.number + 1 < 2 ^ 64 }
         ensures makes { (config : Config) (at : Standing) (link : LinkState) → Brings (W.tells world.old) (W.tells world.new)
             (Comes config at self.old self.old.flows link (coming_of came.now)) (Holds config at self.new (flowing false self.new.flows) link) }
@@ -123,9 +121,9 @@ impl Slirp {
         ensures others { self.new ≡ record self.old { flows = self.new.flows } }
         ensures turn { self.new.flows.turn ≡ self.old.flows.turn }
         // It is marked as served in this turn; where no open socket has the number nothing changes.
-        ensures told { (k : ℕ) (p : Splice) → IsOpenAt self.old.flows.flows.parts k p → number_of p ≡ number
+        ensures told { (k : ℕ) (p : Splice) → IsOpenAt self.old.flows.flows.slots k p → number_of p ≡ number
             → self.new.flows.served ≡ slice_set self.old.flows.served k self.old.flows.turn }
-        ensures untold { NoneOpen number self.old.flows.flows.parts → self.new ≡ self.old }
+        ensures untold { NoneOpen number self.old.flows.flows.slots → self.new ≡ self.old }
         ensures stays { Stays self.old.flows self.new.flows }
     {
         self.flows
@@ -135,12 +133,13 @@ impl Slirp {
     /// Copies the octets of the guest that the host didn't take yet from the flow of a socket to the start of `into`, the oldest first, as many as fit, and
     /// answers how many. `None` exactly where no flow's open socket has the number.
     pub fn held(&self, number: u64, into: &mut [u8]) -> Option<usize>
-        ensures none { IfNone result (NoneOpen number self.now.flows.flows.parts) }
-        ensures held { IfSome result (λ count. HasSocket number self.now.flows.flows.parts (λ p. (count ≡ min (length into.old) (length p.up.held))
+        ensures none { IfNone result (NoneOpen number self.now.flows.flows.slots) }
+        ensures held { IfSome result (λ count. HasSocket number self.now.flows.flows.slots (λ p. (count ≡ min (length into.old) (length p.up.held))
             × (into.new ≡ take count p.up.held ++ drop count into.old))) }
         ensures unchanged { IfNone result (into.new ≡ into.old) }
         // Of an honest guest they are what came from where the host stopped, and reach to what was acknowledged at least, where they fit.
-        ensures front { (config : Config) (at : Standing) (aged : Bool) (link : LinkState) (past : List Entry) → Holds config at self.now (flowing aged self.now.flows) link past
+        ensures front { (config : Config) (at : Standing) (aged : Bool) (link : LinkState) (past : List Entry)
+            → Holds config at self.now (flowing aged self.now.flows) link past
             → IfSome result (λ count. IsFrontOf config number (length into.old) count (take count into.new) past) }
     {
         self.flows.held(number, into)
@@ -149,7 +148,7 @@ impl Slirp {
     // The reset that answers a segment is owed from now on.
     fn turn_away(&mut self, came: &SegmentView<'_>)
         requires none { self.old.pending ≡ [] }
-        requires body { length came.now.segment.body.now ≤ 65515 }
+        requires body { length came.now.segment.body.now ≤ most_carried }
         ensures { self.new ≡ record self.old { pending = frames_of self.old.config self.old.sent (reset_for (coming_of came.now).on ∷ []) } }
     {
         let course = self.course(came.mac, came.ends.other.addr, came.ends.guest.addr);
@@ -159,7 +158,8 @@ impl Slirp {
 
     // What becomes of a segment that is no flow's: one with RST or to many is ignored; a SYN connects where the policy allows it and there is room.
     fn lot(&self, came: &SegmentView<'_>) -> StrayLot
-        ensures { lot_of result ≡ lot_without self.now.config (nat_lt (in_use_slots self.now.flows.flows.table.slots) (length self.now.flows.flows.table.slots)) (coming_of came.now).on }
+        ensures { lot_of result ≡ lot_without self.now.config (nat_lt (in_use_slots self.now.flows.flows.table.slots)
+            (length self.now.flows.flows.table.slots)) (coming_of came.now).on }
     {
         if came.segment.is_rst() || self.policy.is_of_many(came.ends.other.addr) {
             StrayLot::Dropped
@@ -172,7 +172,8 @@ impl Slirp {
 
     // What becomes of a SYN to this endpoint.
     fn lot_of_opening(&self, to: Endpoint) -> StrayLot
-        ensures { lot_of result ≡ lot_by (target self.now.config OverTcp to) (nat_lt (in_use_slots self.now.flows.flows.table.slots) (length self.now.flows.flows.table.slots)) }
+        ensures { lot_of result ≡ lot_by (target self.now.config OverTcp to)
+            (nat_lt (in_use_slots self.now.flows.flows.table.slots) (length self.now.flows.flows.table.slots)) }
     {
         match self.policy.target(Proto::Tcp, to) {
             Verdict::Go(to) if self.flows.has_room() => StrayLot::Connects(to),
@@ -186,13 +187,14 @@ impl Slirp {
 pub(crate) fn is_segment(policy: &Policy, datagram: &IpView<'_>) -> bool
     ensures { result ≡ is_segment policy.now (ip_of datagram.now) }
 {
-    policy.is_guest(datagram.from) && datagram.proto == TCP
+    policy.is_guest(datagram.from) && datagram.proto == TCP_PROTO
 }
 
 // The segment that a guest's datagram holds is to be heard.
 pub(crate) fn segment_in<'a>(mac: Mac, datagram: &IpView<'a>) -> Option<Task<'a>>
-    requires size { length datagram.now.body.now ≤ 65515 }
-    ensures segment { option_and_then segment_for result ≡ option_map (coming mac.0 (ip_of datagram.now)) (read_tcp datagram.now.from.0 datagram.now.to.0 datagram.now.body.now) }
+    requires size { length datagram.now.body.now ≤ most_carried }
+    ensures segment { option_and_then segment_for result ≡ option_map (coming mac.0 (ip_of datagram.now))
+        (read_tcp datagram.now.from.0 datagram.now.to.0 datagram.now.body.now) }
     ensures request { option_and_then request_for result ≡ None }
     ensures fits { (config : Config) → IfSome result (FitsTask config) }
 {
@@ -223,7 +225,7 @@ fn is_opening(segment: &TcpView<'_>) -> bool
 
 // The reset that answers a segment between these ends: it has the number that was acknowledged; where none was it acknowledges all that came (RFC 9293, 3.10.7.1).
 fn reset_for<'a>(ends: &Tuple, segment: &TcpView<'a>) -> TcpView<'a>
-    requires { length segment.now.body.now ≤ 65515 }
+    requires { length segment.now.body.now ≤ most_carried }
     ensures { tcp_of result ≡ reset_to ends.now (segment_of (tcp_of segment.now)) }
 {
     let (seq, ack, flags) = if segment.is_ack() {
@@ -246,7 +248,7 @@ fn reset_for<'a>(ends: &Tuple, segment: &TcpView<'a>) -> TcpView<'a>
 
 // The number after all that a segment takes.
 fn after_all(segment: &TcpView<'_>) -> Seq
-    requires { length segment.now.body.now ≤ 65515 }
+    requires { length segment.now.body.now ≤ most_carried }
     ensures { result.0 ≡ (segment.now.seq.0 + numbers_of (tcp_of segment.now)) % 2 ^ 32 }
 {
     Seq(segment.seq.0.wrapping_add(segment.numbers() as u32))

@@ -4,7 +4,7 @@ ghost use Rattle.host_policy.specs.Addresses.{Config};
 ghost use Rattle.ipv4_head.specs.Sets.{PartSet};
 ghost use Rattle.slirp_core.specs.Fragments.{IsHeld};
 ghost use Rattle.slirp_core.specs.Pumps.{question_left, time_left};
-ghost use Rattle.slirp_core.specs.Timeouts.{IsFileTime, IsFlowTime, IsPartTime, SuitsFlows, sooner};
+ghost use Rattle.slirp_core.specs.Timeouts.{IsFileTime, IsFlowTime, IsPartTime, SuitsFlows};
 ghost use Rattle.flows_follow.specs.Core.{CoreHolds};
 ghost use Rattle.world_face.specs.Journal.{Entry};
 
@@ -30,8 +30,8 @@ impl Slirp {
     }
 
     // How long it is until the first fragments are dropped.
-    pub(crate) fn time_of_parts(&self) -> Option<u64>
-        ensures { (held : List PartSet) → IsHeld self.now.parts held → IsPartTime self.now.moment held result }
+    pub(crate) fn time_of_fragments(&self) -> Option<u64>
+        ensures { (held : List PartSet) → IsHeld self.now.fragments held → IsPartTime self.now.moment held result }
     {
         let due = self.reasm.next_due()?;
         Some(due.saturating_sub(self.moment))
@@ -47,10 +47,10 @@ impl Slirp {
 
     // How long it is until a flow is to be told the time. What is due already waits where the link is blocked, and isn't counted.
     pub(crate) fn time_of_flows(&self, blocked: bool) -> Option<u64>
-        ensures time { IsFlowTime blocked self.now.moment self.now.flows.flows.parts result }
+        ensures time { IsFlowTime blocked self.now.moment self.now.flows.flows.slots result }
         // By the record, a wait that ends with it suits the flows.
         ensures suits { (config : Config) (before : ℕ) (past : List Entry) → CoreHolds config before true None self.now.flows.flows past
-            → SuitsFlows config self.now.moment blocked self.now.flows.flows.parts past result }
+            → SuitsFlows config self.now.moment blocked self.now.flows.flows.slots past result }
     {
         let due = self.flows.due()?;
         if blocked && due <= self.moment {
@@ -58,16 +58,5 @@ impl Slirp {
             return Some(later - self.moment);
         }
         Some(due.saturating_sub(self.moment))
-    }
-}
-
-// The shorter of two times.
-pub(crate) fn sooner(one: Option<u64>, other: Option<u64>) -> Option<u64>
-    ensures { result ≡ sooner one other }
-{
-    match (one, other) {
-        (Some(one), Some(other)) => Some(one.min(other)),
-        (Some(one), None) => Some(one),
-        (None, other) => other,
     }
 }

@@ -1,13 +1,14 @@
 // Datagrams of UDP in both directions: a guest's goes out on the socket of its port, a peer's comes in on it.
 ghost use Rattle.std.specs.Prelude.{[], ◌≡◌, ℕ, ◌+◌, ◌^◌, ◌<◌, ◌≤◌, is_some, length, true, false};
+ghost use Rattle.world_face.specs.Limits.{most_to_udp};
 
-use crate::datagrams::{DatagramView, ErrandView, Outcome, fate};
+use crate::datagrams::{DatagramView, Outcome, fate};
 use crate::icmp::PROHIBITED;
 use crate::network::Slirp;
 use crate::tcp::Task;
 use host_policy::{Proto, Reply};
 use net_octets::{Endpoint, Mac};
-use udp_assoc::UdpView;
+use udp_assoc::{OutboundView, UdpView};
 use world_face::World;
 
 impl Slirp {
@@ -38,7 +39,7 @@ impl Slirp {
     // Takes in a datagram of UDP: one that goes out, or that is for the server of files, is answered.
     pub(crate) fn take_udp<'a>(&mut self, datagram: &DatagramView<'a>) -> Option<Task<'a>>
         requires none { self.old.pending ≡ [] }
-        requires body { length datagram.now.body.now ≤ 65507 }
+        requires body { length datagram.now.body.now ≤ most_to_udp }
         requires quote { length datagram.now.quote.now ≤ 68 }
         ensures request { option_and_then request_for result ≡ request_of self.old.config (datagram_of datagram.now) }
         ensures segment { option_and_then segment_for result ≡ None }
@@ -57,10 +58,7 @@ impl Slirp {
                 None
             }
             Outcome::ForFiles => Some(Task::File(*datagram)),
-            Outcome::GoesTo(to) => Some(Task::Errand(ErrandView {
-                datagram: *datagram,
-                to,
-            })),
+            Outcome::GoesTo(to) => Some(Task::Errand(*datagram, to)),
         }
     }
 
@@ -97,70 +95,80 @@ impl Slirp {
 
     // Sends a guest's datagram: a question to the name server on a socket of its own; any other on the first port of the host that is given to its port, else on the
     // socket of its port. Where there is none one is opened; where 512 are open the longest unused one of its kind is closed before.
-    pub(crate) fn relay<W: World>(&mut self, world: &mut W, errand: &ErrandView<'_>)
+    pub(crate) fn relay<W: World>(
+        &mut self,
+        world: &mut W,
+        datagram: &DatagramView<'_>,
+        to: Endpoint,
+    )
         requires none { self.old.pending ≡ [] }
-        requires fits { FitsErrand self.old.config errand.now }
+        requires fits { FitsErrand self.old.config datagram.now to }
         requires number { self.old.number + 1 < 2 ^ 64 }
         ensures makes { (config : Config) (at : Standing) (aged : Bool) (link : LinkState) → Brings (W.tells world.old) (W.tells world.new)
-            (HoldsAt config at (asked_by config self.old (Some (errand_of errand.now))) self.old (flowing aged self.old.flows) link) (Holds config at self.new (flowing aged self.new.flows) link) }
+            (HoldsAt config at (asked_by config self.old (Some (errand_of datagram.now to))) self.old (flowing aged self.old.flows) link)
+            (Holds config at self.new (flowing aged self.new.flows) link) }
         ensures number { self.new.number ≤ self.old.number + 1 }
         ensures config { self.new.config ≡ self.old.config }
-        ensures others { self.new ≡ record self.old { associations = self.new.associations; questions = self.new.questions; pending = self.new.pending; number = self.new.number } }
+        ensures others { self.new ≡ record self.old {
+          associations = self.new.associations;
+          questions = self.new.questions;
+          pending = self.new.pending;
+          number = self.new.number;
+        } }
     {
-        if self.policy.is_name_server(errand.datagram.to.addr) {
-            self.ask(world, errand)
+        if self.policy.is_name_server(datagram.to.addr) {
+            self.ask(world, datagram, to)
         } else {
-            self.send(world, errand)
+            self.send(world, datagram, to)
         }
     }
 
     // Sends a question to the resolver, on the socket of the same question of the same port, or on one of its own.
-    fn ask<W: World>(&mut self, world: &mut W, errand: &ErrandView<'_>)
+    fn ask<W: World>(&mut self, world: &mut W, datagram: &DatagramView<'_>, to: Endpoint)
         requires none { self.old.pending ≡ [] }
-        requires fits { FitsErrand self.old.config errand.now }
-        requires name { asks_a_name self.old.config (errand_of errand.now) ≡ true }
+        requires fits { FitsErrand self.old.config datagram.now to }
+        requires name { asks_a_name self.old.config (errand_of datagram.now to) ≡ true }
         requires number { self.old.number + 1 < 2 ^ 64 }
         ensures makes { (config : Config) (at : Standing) (aged : Bool) (link : LinkState) → Brings (W.tells world.old) (W.tells world.new)
-            (HoldsAt config at (asked_by config self.old (Some (errand_of errand.now))) self.old (flowing aged self.old.flows) link) (Holds config at self.new (flowing aged self.new.flows) link) }
+            (HoldsAt config at (asked_by config self.old (Some (errand_of datagram.now to))) self.old (flowing aged self.old.flows) link)
+            (Holds config at self.new (flowing aged self.new.flows) link) }
         ensures number { self.new.number ≤ self.old.number + 1 }
         ensures others { self.new ≡ record self.old { questions = self.new.questions; pending = self.new.pending; number = self.new.number } }
     {
-        let datagram = &errand.datagram;
         let reply = self.questions.query(
             world,
             self.moment,
             &mut self.number,
             datagram.from,
             datagram.mac,
-            errand.to,
+            to,
             datagram.body,
         );
         self.tell(reply, datagram);
     }
 
     // Sends any other datagram, on the first port of the host that is given to its port, or on the socket of its port.
-    fn send<W: World>(&mut self, world: &mut W, errand: &ErrandView<'_>)
+    fn send<W: World>(&mut self, world: &mut W, datagram: &DatagramView<'_>, to: Endpoint)
         requires none { self.old.pending ≡ [] }
-        requires fits { FitsErrand self.old.config errand.now }
-        requires other { asks_a_name self.old.config (errand_of errand.now) ≡ false }
+        requires fits { FitsErrand self.old.config datagram.now to }
+        requires other { asks_a_name self.old.config (errand_of datagram.now to) ≡ false }
         requires number { self.old.number + 1 < 2 ^ 64 }
         ensures makes { (config : Config) (at : Standing) (aged : Bool) (link : LinkState) → Brings (W.tells world.old) (W.tells world.new)
-            (HoldsAt config at (asked_by config self.old (Some (errand_of errand.now))) self.old (flowing aged self.old.flows) link) (Holds config at self.new (flowing aged self.new.flows) link) }
+            (HoldsAt config at (asked_by config self.old (Some (errand_of datagram.now to))) self.old (flowing aged self.old.flows) link)
+            (Holds config at self.new (flowing aged self.new.flows) link) }
         ensures number { self.new.number ≤ self.old.number + 1 }
         ensures others { self.new ≡ record self.old { associations = self.new.associations; pending = self.new.pending; number = self.new.number } }
     {
-        let datagram = &errand.datagram;
         let forward = self.forwards.socket_for(datagram.from);
-        let reply = self.associations.guest(
-            world,
-            self.moment,
-            &mut self.number,
-            forward,
-            datagram.from,
-            datagram.mac,
-            errand.to,
-            datagram.body,
-        );
+        let outbound = OutboundView {
+            from: datagram.from,
+            mac: datagram.mac,
+            to,
+            body: datagram.body,
+        };
+        let reply = self
+            .associations
+            .guest(world, self.moment, &mut self.number, forward, &outbound);
         self.tell(reply, datagram);
     }
 
@@ -179,10 +187,11 @@ impl Slirp {
     /// `into` is the room for it, 65,507 octets.
     pub fn receive_datagram<W: World>(&mut self, world: &mut W, number: u64, into: &mut [u8])
         requires none { self.old.pending ≡ [] }
-        requires room { length into.old ≡ 65507 }
+        requires room { length into.old ≡ most_to_udp }
         // Where the socket is open a datagram is asked for on it, once.
         ensures receives { is_heard number self.old ≡ true → Makes (W.tells world.old) (W.tells world.new) (Receives number) }
-        ensures makes { (config : Config) (count : ℕ) (wants : List AnItem) (item : AnItem) (items : List AnItem) (aged : Bool) (link : LinkState) → is_to_read (Udp number) (wanted_of wants item) ≡ true → link.tail ≡ [] → Brings (W.tells world.old) (W.tells world.new)
+        ensures makes { (config : Config) (count : ℕ) (wants : List AnItem) (item : AnItem) (items : List AnItem) (aged : Bool) (link : LinkState)
+            → is_to_read (Udp number) (wanted_of wants item) ≡ true → link.tail ≡ [] → Brings (W.tells world.old) (W.tells world.new)
             (Holds config (standing count wants (item ∷ items)) self.old (flowing aged self.old.flows) link)
             (λ past. Holds config (standing count wants items) self.new (flowing aged self.new.flows) link past
             × (is_left_to_read config past (Udp number) ≡ false)) }
@@ -190,7 +199,7 @@ impl Slirp {
         ensures number { self.new.number ≡ self.old.number }
         ensures config { self.new.config ≡ self.old.config }
         ensures others { self.new ≡ record self.old { associations = self.new.associations; questions = self.new.questions; pending = self.new.pending } }
-        ensures room { length into.new ≡ 65507 }
+        ensures room { length into.new ≡ most_to_udp }
     {
         if self.questions.has(number) {
             self.receive_answer(world, number, into)
@@ -202,16 +211,17 @@ impl Slirp {
     // Receives a datagram on the socket of a question.
     fn receive_answer<W: World>(&mut self, world: &mut W, number: u64, into: &mut [u8])
         requires none { self.old.pending ≡ [] }
-        requires room { length into.old ≡ 65507 }
+        requires room { length into.old ≡ most_to_udp }
         requires asked { is_some (question_numbered number self.old.questions) ≡ true }
         ensures receives { Makes (W.tells world.old) (W.tells world.new) (Receives number) }
-        ensures makes { (config : Config) (count : ℕ) (wants : List AnItem) (item : AnItem) (items : List AnItem) (aged : Bool) (link : LinkState) → is_to_read (Udp number) (wanted_of wants item) ≡ true → link.tail ≡ [] → Brings (W.tells world.old) (W.tells world.new)
+        ensures makes { (config : Config) (count : ℕ) (wants : List AnItem) (item : AnItem) (items : List AnItem) (aged : Bool) (link : LinkState)
+            → is_to_read (Udp number) (wanted_of wants item) ≡ true → link.tail ≡ [] → Brings (W.tells world.old) (W.tells world.new)
             (Holds config (standing count wants (item ∷ items)) self.old (flowing aged self.old.flows) link)
             (λ past. Holds config (standing count wants items) self.new (flowing aged self.new.flows) link past
             × (is_left_to_read config past (Udp number) ≡ false)) }
         ensures counts { AreGrown (W.tells world.old).faults (W.tells world.new).faults }
         ensures others { self.new ≡ record self.old { questions = self.new.questions; pending = self.new.pending } }
-        ensures room { length into.new ≡ 65507 }
+        ensures room { length into.new ≡ most_to_udp }
     {
         let reply = self.questions.answer(world, self.moment, number, into);
         self.answer_asker(reply, into);
@@ -220,16 +230,17 @@ impl Slirp {
     // Receives a datagram on the socket of a port of the host that is given to a guest, or of an association.
     fn receive_from_peer<W: World>(&mut self, world: &mut W, number: u64, into: &mut [u8])
         requires none { self.old.pending ≡ [] }
-        requires room { length into.old ≡ 65507 }
+        requires room { length into.old ≡ most_to_udp }
         requires unasked { is_some (question_numbered number self.old.questions) ≡ false }
         ensures receives { is_heard number self.old ≡ true → Makes (W.tells world.old) (W.tells world.new) (Receives number) }
-        ensures makes { (config : Config) (count : ℕ) (wants : List AnItem) (item : AnItem) (items : List AnItem) (aged : Bool) (link : LinkState) → is_to_read (Udp number) (wanted_of wants item) ≡ true → link.tail ≡ [] → Brings (W.tells world.old) (W.tells world.new)
+        ensures makes { (config : Config) (count : ℕ) (wants : List AnItem) (item : AnItem) (items : List AnItem) (aged : Bool) (link : LinkState)
+            → is_to_read (Udp number) (wanted_of wants item) ≡ true → link.tail ≡ [] → Brings (W.tells world.old) (W.tells world.new)
             (Holds config (standing count wants (item ∷ items)) self.old (flowing aged self.old.flows) link)
             (λ past. Holds config (standing count wants items) self.new (flowing aged self.new.flows) link past
             × (is_left_to_read config past (Udp number) ≡ false)) }
         ensures counts { AreGrown (W.tells world.old).faults (W.tells world.new).faults }
         ensures others { self.new ≡ record self.old { associations = self.new.associations; pending = self.new.pending } }
-        ensures room { length into.new ≡ 65507 }
+        ensures room { length into.new ≡ most_to_udp }
     {
         let guest = self.guest_on(number);
         let reply = self
@@ -253,7 +264,7 @@ impl Slirp {
     fn answer_asker(&mut self, reply: Reply, octets: &[u8])
         requires none { self.old.pending ≡ [] }
         requires fits { FitsRoom reply (length octets.now) }
-        requires room { length octets.now ≤ 65507 }
+        requires room { length octets.now ≤ most_to_udp }
         ensures { self.new ≡ record self.old { pending = answered_by self.old octets.now reply } }
     {
         if let Reply::Datagram {
@@ -271,7 +282,7 @@ impl Slirp {
     fn answer_peer(&mut self, reply: Reply, octets: &[u8])
         requires none { self.old.pending ≡ [] }
         requires fits { FitsRoom reply (length octets.now) }
-        requires room { length octets.now ≤ 65507 }
+        requires room { length octets.now ≤ most_to_udp }
         ensures { self.new ≡ record self.old { pending = owed_by self.old octets.now reply } }
     {
         if let Reply::Datagram {
@@ -301,7 +312,7 @@ impl Slirp {
     // What a peer said is owed to a guest, where the peer is shown.
     fn put_reply(&mut self, peer: Endpoint, octets: &[u8], guest: Endpoint, mac: Mac)
         requires none { self.old.pending ≡ [] }
-        requires short { length octets.now ≤ 65507 }
+        requires short { length octets.now ≤ most_to_udp }
         ensures { self.new ≡ record self.old { pending = frames_of self.old.config self.old.sent (reply_at self.old.config peer octets.now guest mac.0) } }
     {
         let Some(from) = self.policy.shown(peer) else {
@@ -322,8 +333,11 @@ impl Slirp {
 
     // A datagram is owed to a guest.
     fn put_datagram(&mut self, from: Endpoint, octets: &[u8], guest: Endpoint, mac: Mac)
-        requires short { length octets.now ≤ 65507 }
-        ensures { self.new ≡ record self.old { pending = frames_of self.old.config self.old.sent (answer_of (record { mac = mac.0; from = from; to = guest; body = octets.now }) ∷ []) } }
+        requires short { length octets.now ≤ most_to_udp }
+        ensures { self.new ≡ record self.old {
+          pending = frames_of self.old.config self.old.sent
+              (answer_of (record { mac = mac.0; from = from; to = guest; body = octets.now }) ∷ []);
+        } }
     {
         let course = self.course(mac, from.addr, guest.addr);
         let datagram = UdpView {

@@ -14,7 +14,6 @@ ghost use Rattle.slirp_core.specs.Carrying.{HasRoom, sockets_of};
 ghost use Rattle.slirp_core.specs.Kinds.{is_of_datagrams, is_of_flow, is_of_link_or_listener};
 
 use crate::network::Slirp;
-use crate::timeouts::sooner;
 use arrayvec::ArrayVec;
 use host_policy::Proto;
 use net_octets::NoMemory;
@@ -23,6 +22,7 @@ use std::alloc::Global;
 use std::marker::Model;
 use stream_netdev::Link;
 use tcp_flows::TcpFlows;
+use world_face::sooner;
 
 /// What a turn waits for: a list with room for a fixed number of wants, all of it taken at opening.
 ///
@@ -63,7 +63,8 @@ impl Model for TurnWants {
     ghost view = { λ w. w.list };
 
     ghost invariant = { λ w. AreWants w.list.items × (w.front ≤ w.before) × (w.before ≤ length w.list.items)
-        × (w.reads ≡ true → take w.before w.list.items ≡ (link_want true false ++ map listener_want w.listeners.items) ++ map udp_want (w.forwards.items ++ merged w.associations.items w.questions.items))
+        × (w.reads ≡ true → take w.before w.list.items ≡ (link_want true false ++ map listener_want w.listeners.items) ++ map udp_want
+        (w.forwards.items ++ merged w.associations.items w.questions.items))
         × InThreeParts w.front w.before w.list.items };
 }
 
@@ -138,14 +139,16 @@ impl TurnWants {
         below: u64,
     )
         requires room { 5153 ≤ self.old.capacity }
-        requires flows { length flows.now.flows.parts ≤ 4096 }
-        requires numbers { (k : ℕ) (p : Splice) → slice_get flows.now.flows.parts k ≡ Some (Some p) → number_of p < below }
+        requires flows { length flows.now.flows.slots ≤ 4096 }
+        requires numbers { (k : ℕ) (p : Splice) → slice_get flows.now.flows.slots k ≡ Some (Some p) → number_of p < below }
         requires few { length listeners.now + length carriers.forwards.now ≤ 32 }
         requires most { HasRoom carriers }
-        ensures items { (added : List AWant) × (self.new.items ≡ ((link_want read write ++ map listener_want listeners.now) ++ socket_wants read (sockets_of carriers.entry)) ++ added)
-            × AreWantsOf flows.now.flows.parts added }
+        ensures items { (added : List AWant) × (self.new.items
+            ≡ ((link_want read write ++ map listener_want listeners.now) ++ socket_wants read (sockets_of carriers.entry)) ++ added)
+            × AreWantsOf flows.now.flows.slots added }
         // By the record, what flows wait for is what a run waits for of its flows.
-        ensures waited_for { (config : Config) (before : ℕ) (aged : Bool) (past : List Entry) (added : List AWant) → CoreHolds config before aged None flows.now.flows past → AreWantsOf flows.now.flows.parts added → AreWaitedFor config past added }
+        ensures waited_for { (config : Config) (before : ℕ) (aged : Bool) (past : List Entry) (added : List AWant)
+            → CoreHolds config before aged None flows.now.flows past → AreWantsOf flows.now.flows.slots added → AreWaitedFor config past added }
         ensures once { TcpOnce self.new.items }
         ensures wants { AreWants self.new.items }
         ensures few { length self.new.items ≤ 5153 }
@@ -158,15 +161,16 @@ impl TurnWants {
     // Puts what flows wait for at the end. Their numbers are under `below`.
     fn add_flows(&mut self, flows: &TcpFlows, below: u64)
         requires room { length self.old.items + 4096 ≤ self.old.capacity }
-        requires flows { length flows.now.flows.parts ≤ 4096 }
-        requires numbers { (k : ℕ) (p : Splice) → slice_get flows.now.flows.parts k ≡ Some (Some p) → number_of p < below }
-        ensures items { (added : List AWant) × (self.new.items ≡ self.old.items ++ added) × AreWantsOf flows.now.flows.parts added × (length added ≤ 4096) }
+        requires flows { length flows.now.flows.slots ≤ 4096 }
+        requires numbers { (k : ℕ) (p : Splice) → slice_get flows.now.flows.slots k ≡ Some (Some p) → number_of p < below }
+        ensures items { (added : List AWant) × (self.new.items ≡ self.old.items ++ added) × AreWantsOf flows.now.flows.slots added × (length added ≤ 4096) }
         // By the record, what flows wait for is what a run waits for of its flows.
-        ensures waited_for { (config : Config) (before : ℕ) (aged : Bool) (past : List Entry) (added : List AWant) → CoreHolds config before aged None flows.now.flows past → AreWantsOf flows.now.flows.parts added → AreWaitedFor config past added }
+        ensures waited_for { (config : Config) (before : ℕ) (aged : Bool) (past : List Entry) (added : List AWant)
+            → CoreHolds config before aged None flows.now.flows past → AreWantsOf flows.now.flows.slots added → AreWaitedFor config past added }
         ensures wants { AreWants self.new.items }
         ensures capacity { self.new.capacity ≡ self.old.capacity }
     {
-        put_flows(flows, below, &mut self.list);
+        flows.put_wants(&mut self.list);
     }
 
     // From now on the link is waited for in these directions, these listeners, and these sockets where it is read.
@@ -230,10 +234,11 @@ impl Slirp {
     /// What the network waits for, and how long at most: the link for reading, and each open socket of datagrams, where nothing is left to be sent: those of ports of the host, then those of associations and questions, by rising number; the link for writing where it is blocked; each port of the host to which peers connect exactly where there is room for a flow more; what flows wait for, by rising number; until the idle life of the longest unused socket is over, the longest unused question has waited for long enough, the first fragments are dropped, a flow is to be told the time, or a packet of a file is due to go again.
     pub fn pollfds_fill(&self, link: &Link, wants: &mut TurnWants) -> Option<u64>
         requires { 5153 ≤ wants.old.capacity }
-        ensures timeout { (held : List PartSet) → IsHeld self.now.parts held → IsTimeout self.now link.now.blocked held result }
+        ensures timeout { (held : List PartSet) → IsHeld self.now.fragments held → IsTimeout self.now link.now.blocked held result }
         ensures items { WantsOf self.now link.now wants.new.items }
         // By the record, what flows wait for is what a run waits for of its flows.
-        ensures waited_for { (config : Config) (before : ℕ) (aged : Bool) (past : List Entry) (added : List AWant) → CoreHolds config before aged None self.now.flows.flows past → AreWantsOf self.now.flows.flows.parts added → AreWaitedFor config past added }
+        ensures waited_for { (config : Config) (before : ℕ) (aged : Bool) (past : List Entry) (added : List AWant)
+            → CoreHolds config before aged None self.now.flows.flows past → AreWantsOf self.now.flows.flows.slots added → AreWaitedFor config past added }
         ensures once { TcpOnce wants.new.items }
         ensures wants { AreWants wants.new.items }
         ensures few { length wants.new.items ≤ 5153 }
@@ -253,7 +258,7 @@ impl Slirp {
             self.number,
         );
         let datagrams = sooner(self.time_of_sockets(), self.time_of_questions());
-        let datagrams = sooner(datagrams, self.time_of_parts());
+        let datagrams = sooner(datagrams, self.time_of_fragments());
         let unless_files = sooner(datagrams, self.time_of_flows(link.blocked()));
         sooner(unless_files, self.time_of_files())
     }
@@ -300,20 +305,6 @@ fn keep<const N: usize>(row: &mut ArrayVec<u64, N>, numbers: &[u64])
 {
     row.clear();
     let _ = row.try_extend_from_slice(numbers);
-}
-
-// Puts what flows wait for at the end. Their numbers are under `below`.
-fn put_flows(flows: &TcpFlows, below: u64, wants: &mut Wants)
-    requires wants { AreWants wants.old.items }
-    requires room { length wants.old.items + length flows.now.flows.parts ≤ wants.old.capacity }
-    requires numbers { (k : ℕ) (p : Splice) → slice_get flows.now.flows.parts k ≡ Some (Some p) → number_of p < below }
-    ensures items { (added : List AWant) × (wants.new.items ≡ wants.old.items ++ added) × AreWantsOf flows.now.flows.parts added × (length added ≤ length flows.now.flows.parts) }
-    // By the record, what flows wait for is what a run waits for of its flows.
-    ensures waited_for { (config : Config) (before : ℕ) (aged : Bool) (past : List Entry) (added : List AWant) → CoreHolds config before aged None flows.now.flows past → AreWantsOf flows.now.flows.parts added → AreWaitedFor config past added }
-    ensures wants { AreWants wants.new.items }
-    ensures capacity { wants.new.capacity ≡ wants.old.capacity }
-{
-    flows.put_wants(wants);
 }
 
 // The list begins anew, with the link in these directions and these listeners. Answers how many they are.
@@ -400,7 +391,8 @@ fn merge_sockets(some: &[u64], others: &[u64], wants: &mut Wants)
 fn add_up_to<'a>(number: u64, row: &'a [u64], wants: &mut Wants) -> &'a [u64]
     requires wants { AreWants wants.old.items }
     requires room { length wants.old.items + length row.now ≤ wants.old.capacity }
-    ensures items { (rest : List ℕ → List ℕ) → wants.new.items ++ map udp_want (number ∷ rest result.now) ≡ wants.old.items ++ map udp_want (into number rest row.now) }
+    ensures items { (rest : List ℕ → List ℕ) → wants.new.items ++ map udp_want (number ∷ rest result.now)
+        ≡ wants.old.items ++ map udp_want (into number rest row.now) }
     ensures wants { AreWants wants.new.items }
     ensures room { length wants.new.items + length result.now ≡ length wants.old.items + length row.now }
     ensures capacity { wants.new.capacity ≡ wants.old.capacity }

@@ -4,7 +4,7 @@ use Rattle.std.specs.List.{list_any}
 use Rattle.std.proofs.lemmas.Bool.Decides.{nat_tests}
 use Rattle.std.proofs.lemmas.Option.{cond_some}
 use Rattle.net_octets.specs.Kinds.{ipv4_kind, tcp_proto, udp_proto}
-use Rattle.net_octets.specs.Octets.{part, two_at}
+use Rattle.net_octets.specs.Octets.{part, two_at, our_mac}
 use Rattle.net_octets.proofs.Parts.{length-part}
 use Rattle.world_face.specs.Journal.{Entry}
 use Rattle.host_policy.specs.Addresses.{Config, address}
@@ -17,7 +17,7 @@ use Rattle.record_flows.specs.Flows.{Flow, is_strange, owner}
 use Rattle.record_flows.specs.Segments.{OnTuple, asked_in, segment_in, tcp_of, to_guest, went_by, went_of}
 use Rattle.record_flows.specs.Taught.{is_pair, taught}
 use Rattle.run_laws.specs.Guests.{known}
-use Rattle.slirp_laws.specs.Answers.{is_flows, again_frames, frames_of, may_go_again, serving, told_of_files, begins_datagram, datagrams_in, identification, is_first, left, our_mac, part_frame, uncut, everyone, request}
+use Rattle.slirp_laws.specs.Answers.{is_flows, again_frames, frames_of, may_go_again, serving, told_of_files, begins_datagram, datagrams_in, identification, is_first, left, part_frame, uncut, everyone, request}
 use Rattle.world_face.specs.Frames.{goes_out}
 use Rattle.slirp_laws.specs.Laws.{Lawful}
 use Rattle.slirp_laws.specs.Said.{AnswersLast, AsksForGuest, Carries, GoesAgain, IsOfFlow}

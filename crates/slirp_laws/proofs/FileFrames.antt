@@ -4,7 +4,7 @@ use Rattle.std.proofs.lemmas.Nat.{from_be_bytes-to_be_bytes_2}
 use Rattle.std.proofs.lemmas.List.{take_all}
 use Rattle.std.proofs.lemmas.Option.{cond_some}
 use Rattle.net_octets.specs.Kinds.{udp_proto}
-use Rattle.net_octets.specs.Octets.{part, two_at}
+use Rattle.net_octets.specs.Octets.{part, two_at, our_mac}
 use Rattle.world_face.specs.Journal.{AreAllowed, Connect, Entry, FileLen, FileRead, LinkWrite, UdpOpen, UdpRecv, UdpSend}
 use Rattle.world_face.specs.Frames.{goes_out}
 use Rattle.world_face.specs.declared.Made.{Made}
@@ -30,7 +30,7 @@ use Rattle.record_flows.specs.Segments.{OnTuple, asked_in, segment_in}
 use Rattle.run_laws.specs.Happenings.{Arrival, happens}
 use Rattle.run_laws.specs.Packets.{Datagram, DatagramPacket, Packet}
 use Rattle.tftp_server.specs.Transfers.{Said}
-use Rattle.slirp_laws.specs.Answers.{Answer, ArpAnswer, IpAnswer, Serving, again_frames, answers_of, begins_again, frames_for, frames_of, identification, is_first, is_flows, is_out, ledger, left, may_go_again, our_mac, owed_for_fate, part_frame, served_file, serving, starts, told_of_files, uncut}
+use Rattle.slirp_laws.specs.Answers.{Answer, ArpAnswer, IpAnswer, Serving, again_frames, answers_of, begins_again, frames_for, frames_of, identification, is_first, is_flows, is_out, ledger, left, may_go_again, owed_for_fate, part_frame, served_file, serving, starts, told_of_files, uncut}
 use Rattle.slirp_laws.specs.Datagrams.{Fate, Ignored, Refused, ForLeases, ForFiles, GoesTo, fate}
 use Rattle.slirp_laws.specs.Files.{Answers, TellsRead, GoesOn, GoesAgain as FileGoes, HasBegun, IsOfFiles, IsPartOf, WasTold, goes_by, told_at, told_by, told_by_fate, told_by_packet}
 use Rattle.slirp_laws.specs.Laws.{Lawful}

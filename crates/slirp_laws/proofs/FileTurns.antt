@@ -4,6 +4,7 @@ use Rattle.net_octets.specs.Kinds.{ipv4_kind, tcp_proto, udp_proto}
 use Rattle.world_face.specs.Journal.{Entry, LinkWrite}
 use Rattle.world_face.specs.Frames.{goes_out}
 use Rattle.world_face.specs.declared.Io.{Io}
+use Rattle.net_octets.specs.Octets.{our_mac}
 use Rattle.host_policy.specs.Addresses.{Config, address}
 use Rattle.ether_frame.specs.Ether.{Ether, read_ether}
 use Rattle.ipv4_head.specs.Cuts.{cut_at}
@@ -13,7 +14,7 @@ use Rattle.tcp_segment.specs.Tcp.{read_tcp}
 use Rattle.record_flows.specs.Segments.{asked_in, asked_of, segment_in, to_guest, went_by, went_of}
 use Rattle.tftp_server.specs.Transfers.{Files, Said, Transfer, are_left, next_again, said_again, ticked}
 use Rattle.tftp_server.proofs.Turning.{ticked_some}
-use Rattle.slirp_laws.specs.Answers.{IpAnswer, again_frames, begins_again, begun_by, files_begun, files_sent, frames_for, frames_of, identification, is_first, is_out, ledger, left, may_go_again, or_begun, our_mac, serving, starts, taken, told_of_files, uncut, unless_begun}
+use Rattle.slirp_laws.specs.Answers.{IpAnswer, again_frames, begins_again, begun_by, files_begun, files_sent, frames_for, frames_of, identification, is_first, is_out, ledger, left, may_go_again, or_begun, serving, starts, taken, told_of_files, uncut, unless_begun}
 use Rattle.slirp_laws.specs.Laws.{Lawful}
 use Rattle.slirp_laws.specs.Sending.{is_beside, is_explained, may_ask, sends_again, sends_segment}
 use Rattle.slirp_laws.proofs.Bools.{and_both, same}

@@ -81,7 +81,8 @@ only_one config past guest (a ∷ list) m kept order among port = by (is_of gues
         cc
     by false false one this among more = more among
 
-socket_among : (guest : Endpoint) (list : List Association) (n : ℕ) → socket_of guest list ≡ Some n → is_among n (numbers list) ≡ true
+-- the socket of a guest's port is among those of the list
+pub socket_among : (guest : Endpoint) (list : List Association) (n : ℕ) → socket_of guest list ≡ Some n → is_among n (numbers list) ≡ true
 socket_among guest [] n is = cc
 socket_among guest (x ∷ list) n is = by_test (is_of guest x) (λ more. socket_among guest list n more) is
   where

@@ -37,7 +37,7 @@ pub numbers_last : (list : List Association) (a : Association) → numbers (list
 numbers_last [] a = refl
 numbers_last (x ∷ list) a = ap (λ ns. x.number ∷ ns) (numbers_last list a)
 
-among_moved : (change : Association → Association) → ((a : Association) → (change a).number ≡ a.number) → (n m : ℕ) (list : List Association) → is_among n (numbers (moved_last change m list)) ≡ is_among n (numbers list)
+pub among_moved : (change : Association → Association) → ((a : Association) → (change a).number ≡ a.number) → (n m : ℕ) (list : List Association) → is_among n (numbers (moved_last change m list)) ≡ is_among n (numbers list)
 among_moved change keeps n m [] = refl
 among_moved change keeps n m (x ∷ list) = by_test (is_numbered m x) (among_moved change keeps n m list)
   where
@@ -45,7 +45,7 @@ among_moved change keeps n m (x ∷ list) = by_test (is_numbered m x) (among_mov
     by_test true rest = ap (is_among n) (numbers_last list (change x)) ∙ among_last n (change x).number (numbers list) ∙ ap (λ k. is_among n (numbers list) || (n == k)) (keeps x) ∙ or_swap (is_among n (numbers list)) (n == x.number)
     by_test false rest = ap (λ b. (n == x.number) || b) rest
 
-numbers_without : (m : ℕ) (list : List Association) → numbers (without m list) ≡ filter (λ s. not (s == m)) (numbers list)
+pub numbers_without : (m : ℕ) (list : List Association) → numbers (without m list) ≡ filter (λ s. not (s == m)) (numbers list)
 numbers_without m [] = refl
 numbers_without m (x ∷ list) = by_test (x.number == m) (numbers_without m list)
   where

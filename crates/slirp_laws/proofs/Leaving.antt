@@ -31,8 +31,8 @@ use Rattle.slirp_laws.specs.Questions.{HasWaitedLong, HasWaitedLongest, IsAnswer
 use Rattle.slirp_laws.specs.Said.{AllUsedAfter, AreByLastUse}
 use Rattle.slirp_laws.proofs.Asked.{KeptQuestion, kept_questions}
 use Rattle.slirp_laws.proofs.Askers.{WasAskedOf, all_were_asked, is_due}
-use Rattle.slirp_laws.proofs.Bools.{and_both, among_without, equal, first_of, second_of, or_second, same}
-use Rattle.slirp_laws.proofs.Listed.{AllQuestions, all_last, all_left, all_moved, among_found, found, numbers_last, numbers_moved, numbers_without, socket_found}
+use Rattle.slirp_laws.proofs.Bools.{and_both, among_without, equal, first_of, or_first, or_second, same, second_of}
+use Rattle.slirp_laws.proofs.Listed.{AllQuestions, all_last, all_left, all_moved, among_found, asked_without, found, numbers_last, numbers_moved, socket_found}
 use Rattle.slirp_laws.proofs.Longest.{Once, equal_endpoints, no_longer, same_port}
 use Rattle.slirp_laws.proofs.OpenSockets.{IsGone, gone_by, hears_on_open, stays_gone}
 use Rattle.slirp_laws.proofs.Parting.{closing_ended, parts_where}
@@ -222,10 +222,6 @@ of_one past guest ident n (x ∷ list) order is = by (is_of guest ident x) refl 
           idents = ((λ number. (let one = ap (λ m. last_use m past) number in absurd (omega (arith, one, later)))), rest.idents);
         }
 
-or_first : (a b : Bool) → a ≡ true → (a || b) ≡ true
-or_first true b is = refl
-or_first false b is = cc
-
 -- an entry after which the socket is open
 opened_keeps : (config : Config) (past : List Entry) (n : ℕ) (guest : Endpoint) (ident socket now : ℕ) (answer : Made) (o : Option Errand) (list : List Question) → socket ≡ next_number past → n < next_number past → IsOfOne n guest ident list → IsOfOne n guest ident (with_opened config answer socket now o list)
 opened_keeps config past n guest ident socket now Done None list number drawn one = one
@@ -256,7 +252,7 @@ heard_keeps n guest ident socket now GotFailed list one = one
 
 closed_keeps : (n : ℕ) (guest : Endpoint) (ident socket : ℕ) (list : List Question) → not (n == socket) ≡ true → IsOfOne n guest ident list → IsOfOne n guest ident (without socket list)
 closed_keeps n guest ident socket list other one = record {
-  among = numbers_without n socket list ∙ and_both (not (n == socket)) (is_among n (numbers list)) other one.among;
+  among = asked_without n socket list ∙ and_both (not (n == socket)) (is_among n (numbers list)) other one.among;
   idents = all_left (IsFor n guest ident) socket list one.idents;
 }
 

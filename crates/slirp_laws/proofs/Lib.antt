@@ -29,6 +29,7 @@ pub mod Listed
 pub mod Longest
 pub mod NameRows
 pub mod Numbers
+pub mod Octets
 pub mod Only
 pub mod OpenSockets
 pub mod Outcomes

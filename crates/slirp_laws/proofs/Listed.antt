@@ -1,10 +1,10 @@
 -- Lists of questions: what holds of each stays so, and which is found by its number.
-use Rattle.std.proofs.Common.{◌≡◌, ℕ, ◌==◌, ◌&&◌, ◌||◌, not, Bool, true, false, List, [], ◌∷◌, ◌++◌, find, Some, None, option_map, if◌then◌else◌, refl, sym, ◌∙◌, ap, subst}
+use Rattle.std.proofs.Common.{◌≡◌, ℕ, ◌==◌, ◌&&◌, ◌||◌, not, Bool, true, false, List, [], ◌∷◌, ◌++◌, find, Some, None, option_map, if◌then◌else◌, refl, sym, ◌∙◌, ap, subst, filter}
 use Rattle.net_octets.specs.declared.Endpoint.{Endpoint}
 use Rattle.dns_relay.specs.declared.Question.{Question}
 use Rattle.dns_relay.specs.Questions.{is_of, moved_last, numbered, numbers, socket_of, without}
 use Rattle.run_laws.specs.Sockets.{is_among}
-use Rattle.slirp_laws.proofs.Bools.{and_false, drops, equal, keeps, or_assoc, or_false, or_swap, same}
+use Rattle.slirp_laws.proofs.Bools.{among_without, equal, or_assoc, or_false, or_swap, same}
 
 -- of each of them this holds
 abbrev pub AllQuestions : (Question → Type 0) → List Question → Type 0
@@ -94,11 +94,15 @@ numbers_moved change keeps n m (x ∷ list) = by (x.number == m) (numbers_moved 
     by true rest = numbers_last n list (change x) ∙ ap (λ k. is_among n (numbers list) || (n == k)) (keeps x) ∙ or_swap (is_among n (numbers list)) (n == x.number)
     by false rest = ap (λ b. (n == x.number) || b) rest
 
-pub numbers_without : (n m : ℕ) (list : List Question) → is_among n (numbers (without m list)) ≡ (not (n == m) && is_among n (numbers list))
-numbers_without n m [] = sym (and_false (not (n == m)))
-numbers_without n m (x ∷ list) = by (x.number == m) refl (numbers_without n m list)
+pub numbers_without : (m : ℕ) (list : List Question) → numbers (without m list) ≡ filter (λ s. not (s == m)) (numbers list)
+numbers_without m [] = refl
+numbers_without m (x ∷ list) = by (x.number == m) (numbers_without m list)
   where
-    by : (b : Bool) → (x.number == m) ≡ b → is_among n (numbers (without m list)) ≡ (not (n == m) && is_among n (numbers list))
-        → is_among n (numbers (if not b then x ∷ without m list else without m list)) ≡ (not (n == m) && ((n == x.number) || is_among n (numbers list)))
-    by true this rest = rest ∙ drops (n == m) (n == x.number) (is_among n (numbers list)) (λ here. ap (λ k. k == m) (equal n x.number here) ∙ this)
-    by false this rest = ap (λ b. (n == x.number) || b) rest ∙ keeps (n == m) (n == x.number) (is_among n (numbers list)) (λ here. ap (λ k. k == m) (equal n x.number here) ∙ this)
+    by : (b : Bool) → numbers (without m list) ≡ filter (λ s. not (s == m)) (numbers list)
+        → numbers (if not b then x ∷ without m list else without m list) ≡ (if not b then x.number ∷ filter (λ s. not (s == m)) (numbers list) else filter (λ s. not (s == m)) (numbers list))
+    by true rest = rest
+    by false rest = ap (λ ns. x.number ∷ ns) rest
+
+-- one less
+pub asked_without : (n m : ℕ) (list : List Question) → is_among n (numbers (without m list)) ≡ (not (n == m) && is_among n (numbers list))
+asked_without n m list = ap (is_among n) (numbers_without m list) ∙ among_without n m (numbers list)

@@ -6,6 +6,7 @@ use Rattle.world_face.specs.Journal.{Entry, AreAllowed, IsEndpoint}
 use Rattle.world_face.specs.Frames.{goes_out}
 use Rattle.net_octets.specs.declared.Endpoint.{Endpoint}
 use Rattle.net_octets.specs.Kinds.{udp_proto}
+use Rattle.net_octets.specs.Octets.{our_mac}
 use Rattle.host_policy.specs.Addresses.{Config, address, endpoint}
 use Rattle.host_policy.specs.Targets.{is_loopback, shown}
 use Rattle.ipv4_head.specs.Cuts.{cut_at, cut_start, is_before_last, units_in}
@@ -15,7 +16,7 @@ use Rattle.ipv4_head.proofs.Spelling.{reads as reads_datagram}
 use Rattle.udp_assoc.specs.Udp.{Udp, read_udp, summed, udp_octets, udp_with, written_sum}
 use Rattle.udp_assoc.proofs.Spelling.{length-udp, reads as reads_udp}
 use Rattle.udp_assoc.proofs.Writing.{front_is}
-use Rattle.slirp_laws.specs.Answers.{IpAnswer, frames_for, our_mac, part_frame, uncut}
+use Rattle.slirp_laws.specs.Answers.{IpAnswer, frames_for, part_frame, uncut}
 use Rattle.slirp_laws.specs.Laws.{Lawful}
 use Rattle.slirp_laws.specs.Said.{AnswersQuestion, Carries, Heard, IsOfServer, IsReplyToItsPort, RepliesToItsPort, identification_with, HasPorts}
 use Rattle.slirp_laws.proofs.Ranges.{RangePeer, RangePort, range_peer, range_port}

@@ -19,7 +19,7 @@ use Rattle.net_octets.specs.declared.Endpoint.{Endpoint}
 use Rattle.net_octets.specs.declared.Ip4.{Ip4}
 use Rattle.net_octets.specs.declared.Mac.{Mac}
 use Rattle.net_octets.specs.Kinds.{arp_kind, ipv4_kind, icmp_proto, udp_proto, tcp_proto}
-use Rattle.net_octets.specs.Octets.{two_at, four_at, part}
+use Rattle.net_octets.specs.Octets.{two_at, four_at, part, our_mac}
 use Rattle.net_octets.proofs.Parts.{length-part}
 use Rattle.host_policy.specs.Addresses.{Config, endpoint, is_guest, is_ours}
 use Rattle.host_policy.specs.declared.Reply.TheVariants.{Nothing, Datagram as ADatagram}
@@ -55,7 +55,7 @@ use Rattle.run_laws.specs.Packets.{Datagram, Packet, Unheard, ArpPacket, Message
 use Rattle.record_flows.specs.Book.{book}
 use Rattle.record_flows.specs.Segments.{OnTuple, from_guest, segment_by, segment_came}
 use Rattle.record_flows.proofs.Newest.{is_newest}
-use Rattle.slirp_laws.specs.Answers.{Answer, ArpAnswer, IpAnswer, Ledger, Serving, again_by_call, answer_of, answers_of, begins_again, begun_by, files_after, files_begun, files_by_call, files_by_fate, files_by_outcome, files_by_packet, files_sent, identification, is_free, ledger, may_go_again, or_begun, served_file, serving, told_of_files, unless_begun, arp_reply, is_untold, no_network, part_frame, our_mac, owed_for_fate, owed_for_icmp, owed_for_packet, reset_for, told_about, reply_for}
+use Rattle.slirp_laws.specs.Answers.{Answer, ArpAnswer, IpAnswer, Ledger, Serving, again_by_call, answer_of, answers_of, begins_again, begun_by, files_after, files_begun, files_by_call, files_by_fate, files_by_outcome, files_by_packet, files_sent, identification, is_free, ledger, may_go_again, or_begun, served_file, serving, told_of_files, unless_begun, arp_reply, is_untold, no_network, part_frame, owed_for_fate, owed_for_icmp, owed_for_packet, reset_for, told_about, reply_for}
 use Rattle.slirp_laws.specs.Datagrams.{Errand, Fate, Ignored, Refused, ForLeases, ForFiles, GoesTo, asks_a_name, fate}
 use Rattle.slirp_laws.specs.Errands.{errand_left}
 use Rattle.slirp_laws.specs.Leasing.{sending_of}

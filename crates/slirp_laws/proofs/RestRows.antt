@@ -1,5 +1,5 @@
 -- Worked runs whose flows rest are lawful, and what breaks them is refused by the law (RFC 9293, 3.6).
-use Rattle.std.proofs.Common.{◌≡◌, Bool, true, false, List, [], ◌∷◌, take, Some, None, refl}
+use Rattle.std.proofs.Common.{◌≡◌, Bool, true, false, List, [], ◌∷◌, ◌++◌, take, Some, None, refl}
 use Rattle.poll_list.specs.declared.Who.TheVariants.{Link, Tcp}
 use Rattle.world_face.specs.declared.Io.{Io}
 use Rattle.world_face.specs.declared.Io.TheVariants.{Done, End}
@@ -12,6 +12,7 @@ use Rattle.tlv_table.specs.Reading.{read_on}
 use Rattle.host_policy.specs.Addresses.{Config, endpoint}
 use Rattle.host_policy.specs.Settings.{usual}
 use Rattle.record_flows.proofs.Writing.{hex, want, run}
+use Rattle.record_flows.proofs.Openings.{called, connected_at}
 use Rattle.slirp_laws.specs.Laws.{Finished, Lawful}
 use Rattle.slirp_laws.proofs.Checks.{is_sound}
 
@@ -25,24 +26,22 @@ pair = record usual { flows = 2 }
 not_both : {b : Bool} → b ≡ false → b ≡ true → ⊥
 not_both {b} off on = cc
 
--- a rest ends after 60 seconds
-abbrev ended : List Entry
-ended =
-    Now 0
-    ∷ Wait (want Link true false ∷ []) None Ready (want Link true false ∷ [])
-    ∷ Now 1000
-    ∷ LinkRead 4 (Done 4) (hex "0000003a")
-    ∷ LinkRead 58 (Done 58) (hex "52550a00020252540012345608004500002c000300004006acb30a00020fc00002070fa00050000003e8000000006002ffffb6380000020405b4")
-    ∷ Connect 0 (endpoint 3221225991 80) MadeDone
-    ∷ Wait (want Link true false ∷ want (Tcp 0) false true ∷ []) (Some 75000) Ready (want (Tcp 0) false true ∷ [])
-    ∷ Now 1000
-    ∷ Connected 0 Yes
-    ∷ LinkWrite (hex "0000003a52540012345652550a00020208004500002c000000004006acb6c00002070a00020f00500fa00003d090000003e96012ffffe5930000020405b4") (Done 62)
-    ∷ Wait (want Link true false ∷ want (Tcp 0) true false ∷ []) (Some 1000) Ready (want Link true false ∷ [])
+-- a guest acknowledges a host that connected
+abbrev greeted : List Entry
+greeted =
+    called
+    ++ connected_at 1000
+    ++ Wait (want Link true false ∷ want (Tcp 0) true false ∷ []) (Some 1000) Ready (want Link true false ∷ [])
     ∷ Now 1000
     ∷ LinkRead 4 (Done 4) (hex "00000036")
     ∷ LinkRead 54 (Done 54) (hex "52550a000202525400123456080045000028000300004006acb70a00020fc00002070fa00050000003e90003d0915010fffffd500000")
-    ∷ Wait (want Link true false ∷ want (Tcp 0) true false ∷ []) None Ready (want (Tcp 0) true false ∷ [])
+    ∷ []
+
+-- The host ends, and then the guest: the flow rests from 1,000 ms on.
+abbrev one_rests : List Entry
+one_rests =
+    greeted
+    ++ Wait (want Link true false ∷ want (Tcp 0) true false ∷ []) None Ready (want (Tcp 0) true false ∷ [])
     ∷ Now 1000
     ∷ TcpRead 0 16384 End []
     ∷ LinkWrite (hex "0000003652540012345652550a000202080045000028000100004006acb9c00002070a00020f00500fa00003d091000003e95011fffffd4f0000") (Done 58)
@@ -56,46 +55,13 @@ ended =
     ∷ TcpEnd 0 MadeDone
     ∷ Close 0
     ∷ Wait (want Link true false ∷ []) (Some 60000) Ready (want Link true false ∷ [])
-    ∷ Now 60999
-    ∷ LinkRead 4 (Done 4) (hex "00000036")
-    ∷ LinkRead 54 (Done 54) (hex "52550a000202525400123456080045000028000300004006acb70a00020fc00002070fa00050000003ea0003d0925010fffffd4e0000")
-    ∷ Wait (want Link true false ∷ []) (Some 1) Ready []
-    ∷ Now 61000
-    ∷ Wait (want Link true false ∷ []) None Ready (want Link true false ∷ [])
-    ∷ Now 61000
-    ∷ LinkRead 4 (Done 4) (hex "0000003a")
-    ∷ LinkRead 58 (Done 58) (hex "52550a00020252540012345608004500002c000300004006acb30a00020fc00002070fa00050000003e8000000006002ffffb6380000020405b4")
-    ∷ Connect 1 (endpoint 3221225991 80) MadeDone
-    ∷ Wait (want Link true false ∷ want (Tcp 1) false true ∷ []) (Some 75000) Stop []
-    ∷ Close 1
     ∷ []
 
-ended_lawful : Lawful alone (run ended)
-unfolding missing spelling is_too_long spelt_length read_on
-ended_lawful = is_sound alone (run ended) refl
-
-ended_finished : Finished alone (run ended)
-unfolding missing spelling is_too_long spelt_length read_on
-ended_finished = record { ended = refl; none_due = refl; closed = refl }
-
--- the longest rest gives way to a new flow, and a reset ends the other
-abbrev crowded : List Entry
-crowded =
-    Now 0
-    ∷ Wait (want Link true false ∷ []) None Ready (want Link true false ∷ [])
-    ∷ Now 1000
-    ∷ LinkRead 4 (Done 4) (hex "0000003a")
-    ∷ LinkRead 58 (Done 58) (hex "52550a00020252540012345608004500002c000300004006acb30a00020fc00002070fa00050000003e8000000006002ffffb6380000020405b4")
-    ∷ Connect 0 (endpoint 3221225991 80) MadeDone
-    ∷ Wait (want Link true false ∷ want (Tcp 0) false true ∷ []) (Some 75000) Ready (want (Tcp 0) false true ∷ [])
-    ∷ Now 1000
-    ∷ Connected 0 Yes
-    ∷ LinkWrite (hex "0000003a52540012345652550a00020208004500002c000000004006acb6c00002070a00020f00500fa00003d090000003e96012ffffe5930000020405b4") (Done 62)
-    ∷ Wait (want Link true false ∷ want (Tcp 0) true false ∷ []) (Some 1000) Ready (want Link true false ∷ [])
-    ∷ Now 1000
-    ∷ LinkRead 4 (Done 4) (hex "00000036")
-    ∷ LinkRead 54 (Done 54) (hex "52550a000202525400123456080045000028000300004006acb70a00020fc00002070fa00050000003e90003d0915010fffffd500000")
-    ∷ Wait (want Link true false ∷ want (Tcp 0) true false ∷ []) None Ready (want Link true false ∷ [])
+-- A second flow rests from 1,500 ms on, and the first one from 2,000 ms on.
+abbrev both_rest : List Entry
+both_rest =
+    greeted
+    ++ Wait (want Link true false ∷ want (Tcp 0) true false ∷ []) None Ready (want Link true false ∷ [])
     ∷ Now 1000
     ∷ LinkRead 4 (Done 4) (hex "0000003a")
     ∷ LinkRead 58 (Done 58) (hex "52550a00020252540012345608004500002c000300004006acb20a00020fc00002080fa00050000003e8000000006002ffffb6370000020405b4")
@@ -135,7 +101,39 @@ crowded =
     ∷ TcpEnd 0 MadeDone
     ∷ Close 0
     ∷ Wait (want Link true false ∷ []) (Some 59500) Ready (want Link true false ∷ [])
-    ∷ Now 3000
+    ∷ []
+
+-- a rest ends after 60 seconds
+abbrev ended : List Entry
+ended =
+    one_rests
+    ++ Now 60999
+    ∷ LinkRead 4 (Done 4) (hex "00000036")
+    ∷ LinkRead 54 (Done 54) (hex "52550a000202525400123456080045000028000300004006acb70a00020fc00002070fa00050000003ea0003d0925010fffffd4e0000")
+    ∷ Wait (want Link true false ∷ []) (Some 1) Ready []
+    ∷ Now 61000
+    ∷ Wait (want Link true false ∷ []) None Ready (want Link true false ∷ [])
+    ∷ Now 61000
+    ∷ LinkRead 4 (Done 4) (hex "0000003a")
+    ∷ LinkRead 58 (Done 58) (hex "52550a00020252540012345608004500002c000300004006acb30a00020fc00002070fa00050000003e8000000006002ffffb6380000020405b4")
+    ∷ Connect 1 (endpoint 3221225991 80) MadeDone
+    ∷ Wait (want Link true false ∷ want (Tcp 1) false true ∷ []) (Some 75000) Stop []
+    ∷ Close 1
+    ∷ []
+
+ended_lawful : Lawful alone (run ended)
+unfolding missing spelling is_too_long spelt_length read_on
+ended_lawful = is_sound alone (run ended) refl
+
+ended_finished : Finished alone (run ended)
+unfolding missing spelling is_too_long spelt_length read_on
+ended_finished = record { ended = refl; none_due = refl; closed = refl }
+
+-- the longest rest gives way to a new flow, and a reset ends the other
+abbrev crowded : List Entry
+crowded =
+    both_rest
+    ++ Now 3000
     ∷ LinkRead 4 (Done 4) (hex "0000003a")
     ∷ LinkRead 58 (Done 58) (hex "52550a00020252540012345608004500002c000300004006acb10a00020fc00002090fa00050000003e8000000006002ffffb6360000020405b4")
     ∷ Connect 2 (endpoint 3221225993 80) MadeDone
@@ -167,61 +165,8 @@ crowded_finished = record { ended = refl; none_due = refl; closed = refl }
 -- a rest that begins anew is the shortest
 abbrev renewed : List Entry
 renewed =
-    Now 0
-    ∷ Wait (want Link true false ∷ []) None Ready (want Link true false ∷ [])
-    ∷ Now 1000
-    ∷ LinkRead 4 (Done 4) (hex "0000003a")
-    ∷ LinkRead 58 (Done 58) (hex "52550a00020252540012345608004500002c000300004006acb30a00020fc00002070fa00050000003e8000000006002ffffb6380000020405b4")
-    ∷ Connect 0 (endpoint 3221225991 80) MadeDone
-    ∷ Wait (want Link true false ∷ want (Tcp 0) false true ∷ []) (Some 75000) Ready (want (Tcp 0) false true ∷ [])
-    ∷ Now 1000
-    ∷ Connected 0 Yes
-    ∷ LinkWrite (hex "0000003a52540012345652550a00020208004500002c000000004006acb6c00002070a00020f00500fa00003d090000003e96012ffffe5930000020405b4") (Done 62)
-    ∷ Wait (want Link true false ∷ want (Tcp 0) true false ∷ []) (Some 1000) Ready (want Link true false ∷ [])
-    ∷ Now 1000
-    ∷ LinkRead 4 (Done 4) (hex "00000036")
-    ∷ LinkRead 54 (Done 54) (hex "52550a000202525400123456080045000028000300004006acb70a00020fc00002070fa00050000003e90003d0915010fffffd500000")
-    ∷ Wait (want Link true false ∷ want (Tcp 0) true false ∷ []) None Ready (want Link true false ∷ [])
-    ∷ Now 1000
-    ∷ LinkRead 4 (Done 4) (hex "0000003a")
-    ∷ LinkRead 58 (Done 58) (hex "52550a00020252540012345608004500002c000300004006acb20a00020fc00002080fa00050000003e8000000006002ffffb6370000020405b4")
-    ∷ Connect 1 (endpoint 3221225992 80) MadeDone
-    ∷ Wait (want Link true false ∷ want (Tcp 0) true false ∷ want (Tcp 1) false true ∷ []) (Some 75000) Ready (want (Tcp 1) false true ∷ [])
-    ∷ Now 1000
-    ∷ Connected 1 Yes
-    ∷ LinkWrite (hex "0000003a52540012345652550a00020208004500002c000100004006acb4c00002080a00020f00500fa00004ca90000003e96012ffffeb910000020405b4") (Done 62)
-    ∷ Wait (want Link true false ∷ want (Tcp 0) true false ∷ want (Tcp 1) true false ∷ []) (Some 1000) Ready (want Link true false ∷ [])
-    ∷ Now 1000
-    ∷ LinkRead 4 (Done 4) (hex "00000036")
-    ∷ LinkRead 54 (Done 54) (hex "52550a000202525400123456080045000028000300004006acb60a00020fc00002080fa00050000003e90004ca915010ffff034f0000")
-    ∷ Wait (want Link true false ∷ want (Tcp 0) true false ∷ want (Tcp 1) true false ∷ []) None Ready (want (Tcp 1) true false ∷ [])
-    ∷ Now 1500
-    ∷ TcpRead 1 16384 End []
-    ∷ LinkWrite (hex "0000003652540012345652550a000202080045000028000200004006acb7c00002080a00020f00500fa00004ca91000003e95011ffff034e0000") (Done 58)
-    ∷ Wait (want Link true false ∷ want (Tcp 0) true false ∷ []) (Some 1000) Ready (want Link true false ∷ [])
-    ∷ Now 1500
-    ∷ LinkRead 4 (Done 4) (hex "00000036")
-    ∷ LinkRead 54 (Done 54) (hex "52550a000202525400123456080045000028000300004006acb60a00020fc00002080fa00050000003e90004ca925011ffff034d0000")
-    ∷ LinkWrite (hex "0000003652540012345652550a000202080045000028000300004006acb6c00002080a00020f00500fa00004ca92000003ea5010ffff034d0000") (Done 58)
-    ∷ Wait (want Link true false ∷ want (Tcp 0) true false ∷ want (Tcp 1) false true ∷ []) None Ready (want (Tcp 1) false true ∷ [])
-    ∷ Now 1500
-    ∷ TcpEnd 1 MadeDone
-    ∷ Close 1
-    ∷ Wait (want Link true false ∷ want (Tcp 0) true false ∷ []) (Some 60000) Ready (want (Tcp 0) true false ∷ [])
-    ∷ Now 2000
-    ∷ TcpRead 0 16384 End []
-    ∷ LinkWrite (hex "0000003652540012345652550a000202080045000028000400004006acb6c00002070a00020f00500fa00003d091000003e95011fffffd4f0000") (Done 58)
-    ∷ Wait (want Link true false ∷ []) (Some 1000) Ready (want Link true false ∷ [])
-    ∷ Now 2000
-    ∷ LinkRead 4 (Done 4) (hex "00000036")
-    ∷ LinkRead 54 (Done 54) (hex "52550a000202525400123456080045000028000300004006acb70a00020fc00002070fa00050000003e90003d0925011fffffd4e0000")
-    ∷ LinkWrite (hex "0000003652540012345652550a000202080045000028000500004006acb5c00002070a00020f00500fa00003d092000003ea5010fffffd4e0000") (Done 58)
-    ∷ Wait (want Link true false ∷ want (Tcp 0) false true ∷ []) (Some 59500) Ready (want (Tcp 0) false true ∷ [])
-    ∷ Now 2000
-    ∷ TcpEnd 0 MadeDone
-    ∷ Close 0
-    ∷ Wait (want Link true false ∷ []) (Some 59500) Ready (want Link true false ∷ [])
-    ∷ Now 2500
+    both_rest
+    ++ Now 2500
     ∷ LinkRead 4 (Done 4) (hex "00000036")
     ∷ LinkRead 54 (Done 54) (hex "52550a000202525400123456080045000028000300004006acb60a00020fc00002080fa00050000003e90004ca925011ffff034d0000")
     ∷ LinkWrite (hex "0000003652540012345652550a000202080045000028000600004006acb3c00002080a00020f00500fa00004ca92000003ea5010ffff034d0000") (Done 58)
@@ -254,35 +199,8 @@ renewed_finished = record { ended = refl; none_due = refl; closed = refl }
 -- an end begins a rest anew, and one without an acknowledgement does not
 abbrev repeated : List Entry
 repeated =
-    Now 0
-    ∷ Wait (want Link true false ∷ []) None Ready (want Link true false ∷ [])
-    ∷ Now 1000
-    ∷ LinkRead 4 (Done 4) (hex "0000003a")
-    ∷ LinkRead 58 (Done 58) (hex "52550a00020252540012345608004500002c000300004006acb30a00020fc00002070fa00050000003e8000000006002ffffb6380000020405b4")
-    ∷ Connect 0 (endpoint 3221225991 80) MadeDone
-    ∷ Wait (want Link true false ∷ want (Tcp 0) false true ∷ []) (Some 75000) Ready (want (Tcp 0) false true ∷ [])
-    ∷ Now 1000
-    ∷ Connected 0 Yes
-    ∷ LinkWrite (hex "0000003a52540012345652550a00020208004500002c000000004006acb6c00002070a00020f00500fa00003d090000003e96012ffffe5930000020405b4") (Done 62)
-    ∷ Wait (want Link true false ∷ want (Tcp 0) true false ∷ []) (Some 1000) Ready (want Link true false ∷ [])
-    ∷ Now 1000
-    ∷ LinkRead 4 (Done 4) (hex "00000036")
-    ∷ LinkRead 54 (Done 54) (hex "52550a000202525400123456080045000028000300004006acb70a00020fc00002070fa00050000003e90003d0915010fffffd500000")
-    ∷ Wait (want Link true false ∷ want (Tcp 0) true false ∷ []) None Ready (want (Tcp 0) true false ∷ [])
-    ∷ Now 1000
-    ∷ TcpRead 0 16384 End []
-    ∷ LinkWrite (hex "0000003652540012345652550a000202080045000028000100004006acb9c00002070a00020f00500fa00003d091000003e95011fffffd4f0000") (Done 58)
-    ∷ Wait (want Link true false ∷ []) (Some 1000) Ready (want Link true false ∷ [])
-    ∷ Now 1000
-    ∷ LinkRead 4 (Done 4) (hex "00000036")
-    ∷ LinkRead 54 (Done 54) (hex "52550a000202525400123456080045000028000300004006acb70a00020fc00002070fa00050000003e90003d0925011fffffd4e0000")
-    ∷ LinkWrite (hex "0000003652540012345652550a000202080045000028000200004006acb8c00002070a00020f00500fa00003d092000003ea5010fffffd4e0000") (Done 58)
-    ∷ Wait (want Link true false ∷ want (Tcp 0) false true ∷ []) None Ready (want (Tcp 0) false true ∷ [])
-    ∷ Now 1000
-    ∷ TcpEnd 0 MadeDone
-    ∷ Close 0
-    ∷ Wait (want Link true false ∷ []) (Some 60000) Ready (want Link true false ∷ [])
-    ∷ Now 20000
+    one_rests
+    ++ Now 20000
     ∷ LinkRead 4 (Done 4) (hex "00000036")
     ∷ LinkRead 54 (Done 54) (hex "52550a000202525400123456080045000028000300004006acb70a00020fc00002070fa00050000003e9000000005001ffffcdf40000")
     ∷ Wait (want Link true false ∷ []) (Some 41000) Ready (want Link true false ∷ [])
@@ -315,35 +233,8 @@ repeated_finished = record { ended = refl; none_due = refl; closed = refl }
 -- a SYN that is ahead ends a rest, and one that is not is acknowledged
 abbrev reopened : List Entry
 reopened =
-    Now 0
-    ∷ Wait (want Link true false ∷ []) None Ready (want Link true false ∷ [])
-    ∷ Now 1000
-    ∷ LinkRead 4 (Done 4) (hex "0000003a")
-    ∷ LinkRead 58 (Done 58) (hex "52550a00020252540012345608004500002c000300004006acb30a00020fc00002070fa00050000003e8000000006002ffffb6380000020405b4")
-    ∷ Connect 0 (endpoint 3221225991 80) MadeDone
-    ∷ Wait (want Link true false ∷ want (Tcp 0) false true ∷ []) (Some 75000) Ready (want (Tcp 0) false true ∷ [])
-    ∷ Now 1000
-    ∷ Connected 0 Yes
-    ∷ LinkWrite (hex "0000003a52540012345652550a00020208004500002c000000004006acb6c00002070a00020f00500fa00003d090000003e96012ffffe5930000020405b4") (Done 62)
-    ∷ Wait (want Link true false ∷ want (Tcp 0) true false ∷ []) (Some 1000) Ready (want Link true false ∷ [])
-    ∷ Now 1000
-    ∷ LinkRead 4 (Done 4) (hex "00000036")
-    ∷ LinkRead 54 (Done 54) (hex "52550a000202525400123456080045000028000300004006acb70a00020fc00002070fa00050000003e90003d0915010fffffd500000")
-    ∷ Wait (want Link true false ∷ want (Tcp 0) true false ∷ []) None Ready (want (Tcp 0) true false ∷ [])
-    ∷ Now 1000
-    ∷ TcpRead 0 16384 End []
-    ∷ LinkWrite (hex "0000003652540012345652550a000202080045000028000100004006acb9c00002070a00020f00500fa00003d091000003e95011fffffd4f0000") (Done 58)
-    ∷ Wait (want Link true false ∷ []) (Some 1000) Ready (want Link true false ∷ [])
-    ∷ Now 1000
-    ∷ LinkRead 4 (Done 4) (hex "00000036")
-    ∷ LinkRead 54 (Done 54) (hex "52550a000202525400123456080045000028000300004006acb70a00020fc00002070fa00050000003e90003d0925011fffffd4e0000")
-    ∷ LinkWrite (hex "0000003652540012345652550a000202080045000028000200004006acb8c00002070a00020f00500fa00003d092000003ea5010fffffd4e0000") (Done 58)
-    ∷ Wait (want Link true false ∷ want (Tcp 0) false true ∷ []) None Ready (want (Tcp 0) false true ∷ [])
-    ∷ Now 1000
-    ∷ TcpEnd 0 MadeDone
-    ∷ Close 0
-    ∷ Wait (want Link true false ∷ []) (Some 60000) Ready (want Link true false ∷ [])
-    ∷ Now 1000
+    one_rests
+    ++ Now 1000
     ∷ LinkRead 4 (Done 4) (hex "0000003a")
     ∷ LinkRead 58 (Done 58) (hex "52550a00020252540012345608004500002c000300004006acb30a00020fc00002070fa00050000003ea000000006002ffffb6360000020405b4")
     ∷ LinkWrite (hex "0000003652540012345652550a000202080045000028000300004006acb7c00002070a00020f00500fa00003d092000003ea5010fffffd4e0000") (Done 58)

@@ -6,7 +6,7 @@ use Rattle.std.specs.Result.{result_ok}
 use Rattle.net_octets.specs.declared.Endpoint.{Endpoint}
 use Rattle.net_octets.specs.declared.Fault.{Fault}
 use Rattle.net_octets.specs.Kinds.{icmp_proto, ipv4_kind, tcp_proto, udp_proto}
-use Rattle.net_octets.specs.Octets.{one_at, part, two_at}
+use Rattle.net_octets.specs.Octets.{one_at, part, two_at, our_mac}
 use Rattle.world_face.specs.Journal.{Entry}
 use Rattle.host_policy.specs.Addresses.{Config, address, is_ours}
 use Rattle.host_policy.specs.Targets.{is_hidden}
@@ -23,7 +23,7 @@ use Rattle.run_laws.specs.Packets.{Datagram, Packet, Unheard, ArpPacket, Message
 use Rattle.slirp_laws.specs.Leasing.{Sending, lease_reply}
 use Rattle.tftp_server.specs.Transfers.{Said}
 use Rattle.dns_relay.specs.Questions.{is_answered}
-use Rattle.slirp_laws.specs.Answers.{Serving, answers_of, served_file, told_of_files, Answer, ArpAnswer, IpAnswer, arp_reply, frames_for, is_untold, left, no_network, our_mac, owed_for_fate, owed_for_icmp, owed_for_packet, part_frame, reply_for, reset_for, told_about, uncut}
+use Rattle.slirp_laws.specs.Answers.{Serving, answers_of, served_file, told_of_files, Answer, ArpAnswer, IpAnswer, arp_reply, frames_for, is_untold, left, no_network, owed_for_fate, owed_for_icmp, owed_for_packet, part_frame, reply_for, reset_for, told_about, uncut}
 use Rattle.slirp_laws.specs.Datagrams.{Fate, Ignored, Refused, ForLeases, ForFiles, GoesTo, fate}
 use Rattle.slirp_laws.specs.Laws.{Lawful}
 use Rattle.slirp_laws.specs.Ports.{opened_for, mac_for}
@@ -118,7 +118,7 @@ of_ether : (frame : List ℕ) (on : OnTuple) (o : Option Ether) → read_ether f
 of_ether frame on None framed is = cc
 of_ether frame on (Some ether) framed is = of_kind frame on ether (ether.kind == ipv4_kind) framed refl is
 
-carries_one : (frame : List ℕ) (on : OnTuple) → segment_in frame ≡ Some on → (ip : Ip) × Carries frame ip
+pub carries_one : (frame : List ℕ) (on : OnTuple) → segment_in frame ≡ Some on → (ip : Ip) × Carries frame ip
 carries_one frame on is = of_ether frame on (read_ether frame) refl is
 
 -- the body of a datagram is read as it was written
@@ -130,17 +130,23 @@ body_back ident proto from to body ip fits is =
     let rest : 20 + length body - 20 ≡ length body = omega arith in
     ap (λ (i : Ip). i.body) (sym found) ∙ ap (λ n. part octets 20 (n - 20)) size ∙ ap (λ n. take n body) rest ∙ take_all (length body) body (omega arith)
 
--- the flags that are read are those that stand there
-kept : {A : Type 0} (o : Result A Fault) (make : A → Tcp) (n : ℕ) (tcp : Tcp) → ((a : A) → (make a).flags ≡ n) → result_ok (o >>= λ a. Ok (make a)) ≡ Some tcp → tcp.flags ≡ n
-kept (Ok a) make n tcp all is = let this : make a ≡ tcp = cc in ap (λ (t : Tcp). t.flags) (sym this) ∙ all a
-kept (Err fault) make n tcp all is = cc
+-- a field that doesn't come from options is read where it stands
+kept : {A B : Type 0} (field : Tcp → B) (o : Result A Fault) (make : A → Tcp) (x : B) (tcp : Tcp) → ((a : A) → field (make a) ≡ x) → result_ok (o >>= λ a. Ok (make a)) ≡ Some tcp → field tcp ≡ x
+kept field (Ok a) make x tcp all is = let this : make a ≡ tcp = cc in ap field (sym this) ∙ all a
+kept field (Err fault) make x tcp all is = cc
 
+module _ {B : Type 0} (field : Tcp → B) (from to : ℕ) (octets : List ℕ) (tcp : Tcp) (x : B) where
+  by_head : ((head : ℕ) (options : _) → field (fields_of octets head options) ≡ x) → (h : Result ℕ Fault)
+      → result_ok (h >>= λ head. options_reading (part octets 20 (head - 20)) >>= λ options. Ok (fields_of octets head options)) ≡ Some tcp → field tcp ≡ x
+  by_head all (Ok head) is = kept field (options_reading (part octets 20 (head - 20))) (fields_of octets head) x tcp (all head) is
+  by_head all (Err fault) is = cc
+
+  pub read_field : ((head : ℕ) (options : _) → field (fields_of octets head options) ≡ x) → read_tcp from to octets ≡ Some tcp → field tcp ≡ x
+  read_field all is = by_head all (head_reading from to octets) is
+
+-- the flags that are read are those that stand there
 read_flags : (from to : ℕ) (octets : List ℕ) (tcp : Tcp) → read_tcp from to octets ≡ Some tcp → tcp.flags ≡ one_at octets 13
-read_flags from to octets tcp is = by_head (head_reading from to octets) is
-  where
-    by_head : (h : Result ℕ Fault) → result_ok (h >>= λ head. options_reading (part octets 20 (head - 20)) >>= λ options. Ok (fields_of octets head options)) ≡ Some tcp → tcp.flags ≡ one_at octets 13
-    by_head (Ok head) is = kept (options_reading (part octets 20 (head - 20))) (fields_of octets head) (one_at octets 13) tcp (λ a. refl) is
-    by_head (Err fault) is = cc
+read_flags from to octets tcp is = read_field (λ (t : Tcp). t.flags) from to octets tcp (one_at octets 13) (λ head options. refl) is
 
 reset_flags : (from to : ℕ) (tuple : Tuple) (seg : Segment) → has RST (one_at (tcp_octets from to (reset_to tuple seg)) 13) ≡ true
 reset_flags from to tuple seg = by seg.ack refl
@@ -149,7 +155,7 @@ reset_flags from to tuple seg = by seg.ack refl
     by true is = ap (λ (b : Bool). has RST (one_at (tcp_octets from to (reset_to tuple (record seg { ack = b }))) 13)) is
     by false is = ap (λ (b : Bool). has RST (one_at (tcp_octets from to (reset_to tuple (record seg { ack = b }))) 13)) is
 
-both_tests : (b : Bool) (o : Option Tcp) (tcp : Tcp) → (if b then o else None) ≡ Some tcp → (b ≡ true) × (o ≡ Some tcp)
+pub both_tests : (b : Bool) (o : Option Tcp) (tcp : Tcp) → (if b then o else None) ≡ Some tcp → (b ≡ true) × (o ≡ Some tcp)
 both_tests true o tcp is = (refl, is)
 both_tests false o tcp is = cc
 

@@ -25,7 +25,7 @@ use Rattle.slirp_laws.specs.Said.{AllUsedAfter, AreByLastUse}
 use Rattle.slirp_laws.proofs.Asked.{KeptQuestion, kept_questions}
 use Rattle.slirp_laws.proofs.Bools.{among_without, and_false, and_true, equal, same, turned}
 use Rattle.slirp_laws.proofs.Joining.{and_assoc, fresh_failed, fresh_one, fresh_other}
-use Rattle.slirp_laws.proofs.Listed.{AllQuestions, all_last, all_left, numbers_last, numbers_moved, numbers_without}
+use Rattle.slirp_laws.proofs.Listed.{AllQuestions, all_last, all_left, asked_without, numbers_last, numbers_moved}
 use Rattle.slirp_laws.proofs.Longest.{among_if}
 use Rattle.slirp_laws.proofs.OpenSockets.{next_is_new, peer_next}
 use Rattle.slirp_laws.proofs.Phases.{sends}
@@ -297,7 +297,7 @@ closed_waits config past socket list w = record {
   those = λ n. ap (λ b. b && is_for_question (kind_for config n past)) (among_without n socket (open_sockets past))
       ∙ and_assoc (not (n == socket)) (is_among n (open_sockets past)) (is_for_question (kind_for config n past))
       ∙ ap (λ b. not (n == socket) && b) (w.those n)
-      ∙ sym (numbers_without n socket list);
+      ∙ sym (asked_without n socket list);
   used = all_left (IsUsed (Close socket ∷ past)) socket list (all_used_on (Close socket) past list (none_used (Close socket) list (λ n. refl)) w.used);
   order = order_without (Close socket ∷ past) socket list (order_on (Close socket) past list (none_used (Close socket) list (λ n. refl)) w.order);
 }

@@ -10,7 +10,7 @@ use Rattle.world_face.specs.declared.Got.{Got}
 use Rattle.world_face.specs.declared.Got.TheVariants.{From, NotYet as GotNotYet, Failed as GotFailed}
 use Rattle.net_octets.specs.declared.Endpoint.{Endpoint}
 use Rattle.net_octets.specs.Kinds.{arp_kind, ipv4_kind, icmp_proto, tcp_proto, udp_proto}
-use Rattle.net_octets.specs.Octets.{two_at, four}
+use Rattle.net_octets.specs.Octets.{two_at, four, our_mac}
 use Rattle.host_policy.specs.Addresses.{Config, address, endpoint, last_address, is_ours}
 use Rattle.host_policy.specs.Targets.{is_group_or_reserved, shown, is_hidden}
 use Rattle.ether_frame.specs.Ether.{ether_octets}
@@ -38,10 +38,6 @@ use Rattle.slirp_laws.specs.Datagrams.{Fate, Ignored, Refused, ForLeases, ForFil
 use Rattle.slirp_laws.specs.Leasing.{Sending, lease_reply, leases}
 use Rattle.slirp_laws.specs.Names.{questions}
 use Rattle.slirp_laws.specs.Ports.{mac_for, opened_for}
-
--- the hardware address of one of ours: 52:55 and the four octets of its address
-abbrev pub our_mac : ℕ → List ℕ
-our_mac addr = 82 ∷ 85 ∷ four addr
 
 -- One answer to a guest: an ARP packet, or a datagram, and the hardware address to which it goes.
 pub data Answer : Type 0 where

@@ -8,6 +8,7 @@ use Rattle.world_face.specs.declared.Sent.{Sent}
 use Rattle.world_face.specs.declared.Sent.TheVariants.{Done as SentDone, NotYet as SentNotYet, Failed as SentFailed}
 use Rattle.world_face.specs.declared.Got.{Got}
 use Rattle.world_face.specs.declared.Got.TheVariants.{From, NotYet as GotNotYet, Failed as GotFailed}
+use Rattle.world_face.specs.Limits.{most_to_udp}
 use Rattle.net_octets.specs.declared.Endpoint.{Endpoint}
 use Rattle.net_octets.specs.Kinds.{ipv4_kind, udp_proto}
 use Rattle.host_policy.specs.declared.Forward.{Forward}
@@ -201,7 +202,7 @@ pub record RepliesToItsPort (config : Config) (past : List Entry) (frame : List 
   pub octets : List ℕ
   pub last : last_occasion config past ≡ Heard socket peer octets
   pub seen : is_hidden config peer ≡ false
-  pub fits : length octets ≤ 65507
+  pub fits : length octets ≤ most_to_udp
   pub guest : Endpoint
   pub port : opened_for config socket past ≡ Some guest
   pub mac : List ℕ

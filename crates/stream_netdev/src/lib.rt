@@ -11,20 +11,19 @@ ghost use Rattle.world_face.specs.Journal.{LinkRead, count_of};
 ghost use Rattle.world_face.specs.Tells.{Answers, Rose};
 ghost use Rattle.world_face.specs.Frames.{spelling};
 ghost use Rattle.stream_netdev.specs.Offers.{offered, pumped_of};
+ghost use Rattle.world_face.specs.Limits.{most_to_link};
+ghost use Rattle.net_octets.specs.Sizes.{most_frame};
 
 use net_octets::NoMemory;
 use std::alloc::Global;
 use std::marker::Model;
-use world_face::{Io, World};
+use world_face::{Io, MOST_TO_LINK, World};
 
 /// The longest frame.
 const LIMIT: u32 = 69632;
 
 /// Room for it and its length.
 const ROOM: usize = 69636;
-
-/// The most octets that a write offers.
-const OUT: usize = 1518;
 
 #[derive(Clone, Copy, Debug, PartialEq, Eq)]
 pub enum Arrived {
@@ -74,12 +73,14 @@ pub struct Link {
 impl Model for Link {
     ghost use Rattle.std.specs.Prelude.{◌≡◌, ◌-◌, ◌≤◌, length, take, drop};
     ghost use Rattle.stream_netdev.specs.State.{LinkState};
+    ghost use Rattle.world_face.specs.Limits.{most_to_link};
 
     ghost Value = { LinkState };
 
     ghost view = { λ l. record { octets = take l.have l.buffer.items; whole = l.whole; tail = take (l.to - l.from) (drop l.from l.out.items); blocked = l.blocked } };
 
-    ghost invariant = { λ l. (l.from ≤ l.to) × (l.to ≤ 1518) × (length l.out.items ≡ 1518) × (length l.buffer.items ≡ 69636) × (l.have ≤ 69636) };
+    ghost invariant = { λ l. (l.from ≤ l.to) × (l.to ≤ most_to_link) × (length l.out.items ≡ most_to_link) × (length l.buffer.items ≡ 69636)
+        × (l.have ≤ 69636) };
 }
 
 impl Link {
@@ -98,7 +99,7 @@ impl Link {
         let Ok(buffer) = vec![in alloc; 0; ROOM] else {
             return Err(NoMemory);
         };
-        let Ok(out) = vec![in alloc; 0; OUT] else {
+        let Ok(out) = vec![in alloc; 0; MOST_TO_LINK] else {
             return Err(NoMemory);
         };
         Ok(Link {
@@ -270,7 +271,7 @@ impl Link {
     #[tactic(auto, unfolding(world_face::specs::Frames::spelling))]
     // Puts a frame and its length where the rest is sent from.
     fn load(&mut self, frame: &[u8])
-        requires { length frame.now ≤ 1514 }
+        requires { length frame.now ≤ most_frame }
         ensures rest { self.new.tail ≡ spelling frame.now }
         ensures same { (under_way self.new ≡ under_way self.old) × (self.new.blocked ≡ self.old.blocked) }
     {
@@ -307,7 +308,7 @@ impl Link {
     pub fn offer<W: World>(&mut self, world: &mut W, frame: &[u8]) -> Offered
         requires none { self.old.tail ≡ [] }
         requires free { self.old.blocked ≡ false }
-        requires fits { length frame.now ≤ 1514 }
+        requires fits { length frame.now ≤ most_frame }
         ensures makes { Makes (W.tells world.old) (W.tells world.new) (λ made. Writes result (spelling frame.now) made
             × ((past : List Entry) → Keeps self.old past → Keeps self.new (made ++ past))) }
         ensures failed { result ≡ Offered.Failed → Rose (W.tells world.old).faults.link (W.tells world.new).faults.link }

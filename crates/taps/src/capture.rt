@@ -51,8 +51,10 @@ fn note_unless<K: Sink>(
 ) -> bool
     ensures before { result ≡ false → refused ≡ false }
     ensures tracks { (past : List Entry) → Tracks framing.old past → result ≡ false → Tracks framing.new (viewed line.now ∷ past) }
-    ensures put { (past : List Entry) → Tracks framing.old past → result ≡ false → K.holds out.new ≡ added (entry_text (viewed line.now) past) (K.holds out.old) }
-    ensures fault { (past : List Entry) → Tracks framing.old past → result ≡ true → refused ≡ false → FitsBy (viewed line.now) past → Rose (K.faults out.old) (K.faults out.new) }
+    ensures put { (past : List Entry) → Tracks framing.old past → result ≡ false
+        → K.holds out.new ≡ added (entry_text (viewed line.now) past) (K.holds out.old) }
+    ensures fault { (past : List Entry) → Tracks framing.old past → result ≡ true → refused ≡ false → FitsBy (viewed line.now) past
+        → Rose (K.faults out.old) (K.faults out.new) }
     ensures later { K.faults out.old ≤ K.faults out.new }
 {
     if refused {
@@ -96,7 +98,8 @@ impl<K: Sink> Capture<K> {
     /// Whether the sink failed to take some of it. It has only where the count of its faults rose since the head was put, if each frame was of a length that may be.
     pub fn failed(&self) -> bool
         ensures value { result ≡ self.now.failed }
-        ensures rose { (old : Option (List ℕ)) (faults : ℕ) → self.now.source ≡ beginning faults old → result ≡ true → Fits self.now.made → Rose faults (K.faults self.now.out) }
+        ensures rose { (old : Option (List ℕ)) (faults : ℕ) → self.now.source ≡ beginning faults old → result ≡ true → Fits self.now.made
+            → Rose faults (K.faults self.now.out) }
     {
         self.failed
     }
@@ -104,7 +107,8 @@ impl<K: Sink> Capture<K> {
     /// Gives the sink back; says too whether it failed to take some of it.
     pub fn close(self) -> (K, bool)
         // Behind what the sink held at first it got the capture of the calls that were made, unless it failed.
-        ensures { (old : Option (List ℕ)) (faults : ℕ) → self.source ≡ beginning faults old → IsCaptured old (K.holds result.0) faults (K.faults result.0) self.made result.1 }
+        ensures { (old : Option (List ℕ)) (faults : ℕ) → self.source ≡ beginning faults old
+            → IsCaptured old (K.holds result.0) faults (K.faults result.0) self.made result.1 }
     {
         let Capture {
             out,

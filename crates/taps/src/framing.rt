@@ -151,7 +151,8 @@ impl Framing {
     fn show<K: Sink>(&mut self, out: &mut K) -> Result<(), Failed>
         requires { length self.old.octets ≤ 69636 }
         ensures octets { IsOk result → self.new.octets ≡ under_way self.old.octets }
-        ensures puts { Puts (K.holds out.old) (K.holds out.new) (K.faults out.old) (K.faults out.new) (seen_text self.old.moment (whole_frame self.old.octets)) result }
+        ensures puts { Puts (K.holds out.old) (K.holds out.new) (K.faults out.old) (K.faults out.new)
+            (seen_text self.old.moment (whole_frame self.old.octets)) result }
         ensures same { (self.new.left ≡ self.old.left) × (self.new.moment ≡ self.old.moment) }
     {
         if self.missing() == 0 {

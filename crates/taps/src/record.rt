@@ -92,7 +92,8 @@ impl<K: Sink> Record<K> {
     /// Puts the lines that wait, and gives the sink back; says too whether the sink failed to take any.
     pub fn close(self) -> (K, bool)
         // Behind what the sink held when the lines began it got the text of the calls that were made, all of them in their order, unless it failed.
-        ensures { (old : Option (List ℕ)) (faults : ℕ) → self.source ≡ beginning faults old → IsWritten old (K.holds result.0) faults (K.faults result.0) self.made result.1 }
+        ensures { (old : Option (List ℕ)) (faults : ℕ) → self.source ≡ beginning faults old
+            → IsWritten old (K.holds result.0) faults (K.faults result.0) self.made result.1 }
     {
         let Record {
             mut out,
@@ -124,7 +125,8 @@ impl<K: Sink> Book for Record<K> {
     fn pause(&mut self)
         ensures made { self.new.made ≡ self.old.made }
         ensures source { self.new.source ≡ self.old.source }
-        ensures put { (old : Option (List ℕ)) (faults : ℕ) → self.old.source ≡ beginning faults old → self.new.failed ≡ false → K.holds self.new.out ≡ added (text self.new.made) old }
+        ensures put { (old : Option (List ℕ)) (faults : ℕ) → self.old.source ≡ beginning faults old → self.new.failed ≡ false
+            → K.holds self.new.out ≡ added (text self.new.made) old }
     {
         self.failed = flush_unless(self.failed, &mut self.lines, &mut self.out);
     }

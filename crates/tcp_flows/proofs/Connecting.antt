@@ -80,7 +80,7 @@ connects_yet now first last told p mid q made sends pumped shut change has low i
 abbrev pub HaveStoriesBy : (now : ℕ) → List (Option Splice) → Type 0
 HaveStoriesBy now parts = (k : ℕ) (p : Splice) → slice_get parts k ≡ Some (Some p) → (has : HasStory p) × (has.at ≤ now)
 
-pub have_stories_by : (config : Config) (now : ℕ) (aged : Bool) (task : Option Call) (state : FlowsState Splice) (past : List Entry) → CoreHolds config now aged task state past → HaveStoriesBy now state.parts
+pub have_stories_by : (config : Config) (now : ℕ) (aged : Bool) (task : Option Call) (state : FlowsState Splice) (past : List Entry) → CoreHolds config now aged task state past → HaveStoriesBy now state.slots
 have_stories_by config now aged task state past holds k p here =
     let seat = holds.seats.seated k p here in
     (record { settings = flow_settings config; story = seat.0.story; at = now; follows = seat.4 }, omega arith)

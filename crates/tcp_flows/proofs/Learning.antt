@@ -8,6 +8,7 @@ use Rattle.net_octets.specs.declared.Mac.{Mac}
 use Rattle.arp_table.specs.Table.{mac_of as learnt_for}
 use Rattle.host_policy.specs.Addresses.{Config}
 use Rattle.run_laws.specs.Guests.{known}
+use Rattle.row_lists.proofs.Places.{set_same}
 use Rattle.flow_table.specs.Slots.{AreKept, Flows}
 use Rattle.flow_table.specs.declared.Tuple.{Tuple}
 use Rattle.flow_laws.specs.Close.{is_in_use}
@@ -38,7 +39,7 @@ use Rattle.tcp_flows.proofs.Asking.{asked_then}
 use Rattle.tcp_flows.proofs.Changing.{waits_seen}
 use Rattle.tcp_flows.proofs.Following.{count_some}
 use Rattle.tcp_flows.proofs.Keeping.{raw_here, raw_placed, read_here, seen_here}
-use Rattle.tcp_flows.proofs.Lists.{get_map, set_same}
+use Rattle.tcp_flows.proofs.Lists.{get_map}
 use Rattle.tcp_flows.proofs.Looking.{is_seen}
 use Rattle.tcp_flows.proofs.Opening.{count_none}
 use Rattle.tcp_flows.proofs.Requesting.{kept_asked}
@@ -203,7 +204,7 @@ told_changed guests parts seen are k p q at some addr mac told =
 
 -- ---- one slot, in the record
 
-module _ (guests : List (Ip4 × Mac)) (table : Flows) (parts : List Splice) (opened : ℕ) (old new : Kept) (old_is : old.flows ≡ flows_of table parts opened) (slots_are : table.slots ≡ map slot_of parts) (kept : AreKept table.slots table.turns)
+module _ (guests : List (Ip4 × Mac)) (table : Flows) (parts : List Splice) (opened : ℕ) (old new : Kept) (old_is : old.flows ≡ flows_of table parts opened) (slots_are : table.slots ≡ map slot_of parts) (kept : AreKept table.slots table.rest_order)
     (k : ℕ) (p q : Splice) (at : slice_get parts k ≡ Some p) (seeks : is_seeking p ≡ true) (q_is : q ≡ learnt p (learnt_for p.face.guest.addr guests)) (new_is : new.flows ≡ flows_of table (set parts k q) opened)
     (settings : (config : Config) → IsFor config old → IsFor config new) where
   some : p.place ≡ Empty → ⊥
@@ -216,9 +217,9 @@ module _ (guests : List (Ip4 × Mac)) (table : Flows) (parts : List Splice) (ope
   pub learns_of : Learns guests old new
   learns_of config now aged past known_is between = record {
     holds = subst (λ s. CoreHolds config now aged None s past) (sym new_is) (by (learnt_for p.face.guest.addr guests) refl);
-    asked = subst (λ (s : FlowsState Splice). AreAsked config s.parts past) (sym new_is)
+    asked = subst (λ (s : FlowsState Splice). AreAsked config s.slots past) (sym new_is)
         (asked_then config past past (map part_of parts) (map part_of (set parts k q)) refl (λ guest. refl) (kept_asked parts k p q at some (ap number_of q_is) (let same = ap (λ (x : Splice). x.asked) q_is in omega (arith, same)))
-        (subst (λ (s : FlowsState Splice). AreAsked config s.parts past) old_is between.asked));
+        (subst (λ (s : FlowsState Splice). AreAsked config s.slots past) old_is between.asked));
     settings = settings config between.settings;
     lawful = between.lawful;
     work = between.work;
@@ -246,10 +247,10 @@ module _ (guests : List (Ip4 × Mac)) (table : Flows) (parts : List Splice) (ope
 
       by : (m : Option Mac) → learnt_for p.face.guest.addr guests ≡ m → CoreHolds config now aged None (flows_of table (set parts k q) opened) past
       by None is =
-          subst (λ l. CoreHolds config now aged None (record { table = table; parts = l; opened = opened }) past)
+          subst (λ l. CoreHolds config now aged None (record { table = table; slots = l; opened = opened }) past)
           (sym (parts_then None is ∙ set_same (map part_of parts) k (Some p) (get_map part_of parts k p at ∙ ap Some (part_is p some)))) holds
       by (Some m) is =
-          subst (λ l. CoreHolds config now aged None (record { table = table; parts = l; opened = opened }) past) (sym (parts_then (Some m) is))
+          subst (λ l. CoreHolds config now aged None (record { table = table; slots = l; opened = opened }) past) (sym (parts_then (Some m) is))
           (core_told config now aged None (flows_of table parts opened) past holds k p f m (part_here config now aged None table parts opened past holds slots_are kept k p at some)
           (was config now aged None table parts opened past holds slots_are kept k p at some) used
           (ap (λ (t : Tuple). learnt_for t.guest.addr (known config past)) (ends config now aged None table parts opened past holds slots_are kept k p at some) ∙ ap (learnt_for p.face.guest.addr) known_is ∙ is))

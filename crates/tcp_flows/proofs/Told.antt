@@ -112,16 +112,16 @@ in_use true b is = absurd cc
 in_use false b is = refl
 
 module _ (config : Config) (now : ℕ) (aged : Bool) (task : Option Call) (state : FlowsState Splice) (past : List Entry) (holds : CoreHolds config now aged task state past)
-    (sizes : (k : ℕ) (p : Splice) → slice_get state.parts k ≡ Some (Some p) → p.down.size ≡ p.up.size) where
-  pub reads_as : (k : ℕ) (p : Splice) → slice_get state.parts k ≡ Some (Some p) → is_read config past (OnTcp (number_of p)) ≡ reads p
+    (sizes : (k : ℕ) (p : Splice) → slice_get state.slots k ≡ Some (Some p) → p.down.size ≡ p.up.size) where
+  pub reads_as : (k : ℕ) (p : Splice) → slice_get state.slots k ≡ Some (Some p) → is_read config past (OnTcp (number_of p)) ≡ reads p
   reads_as k p at = let seat = holds.seats.seated k p at in ap (reads_flow config) seat.2 ∙ (wants_are (flow_settings config) p seat.0.story now (sizes k p at) seat.4).0
 
-  pub writes_as : (k : ℕ) (p : Splice) → slice_get state.parts k ≡ Some (Some p) → is_written config past (OnTcp (number_of p)) ≡ true → writes p ≡ true
+  pub writes_as : (k : ℕ) (p : Splice) → slice_get state.slots k ≡ Some (Some p) → is_written config past (OnTcp (number_of p)) ≡ true → writes p ≡ true
   writes_as k p at is = let seat = holds.seats.seated k p at in (wants_are (flow_settings config) p seat.0.story now (sizes k p at) seat.4).1 (sym (ap writes_flow seat.2) ∙ is)
 
   -- nothing where no open socket has the number
-  module _ (n : ℕ) (none : NoneOpen n state.parts) where
-    unopen : (k : ℕ) (p : Splice) → slice_get state.parts k ≡ Some (Some p) → number_of p ≡ n → is_open p ≡ false
+  module _ (n : ℕ) (none : NoneOpen n state.slots) where
+    unopen : (k : ℕ) (p : Splice) → slice_get state.slots k ≡ Some (Some p) → number_of p ≡ n → is_open p ≡ false
     unopen k p here numbered = by (is_open p) refl
       where
         by : (b : Bool) → is_open p ≡ b → b ≡ false
@@ -138,7 +138,7 @@ module _ (config : Config) (now : ℕ) (aged : Bool) (task : Option Call) (state
             at : (b : Bool) → is_closed f.story ≡ b → waits_to_read (flow_settings config) f.story ≡ false
             at true closed = closed_unread _ (is_closed f.story) _ _ closed
             at false open_yet =
-                let part = placed number_of (Following config now) state.table state.parts (next_number past) (book config past).flows (rests_at aged config past) holds.seats n f found (in_use (is_closed f.story) (owes_reset f.story) open_yet) in
+                let part = placed number_of (Following config now) state.table state.slots (next_number past) (book config past).flows (rests_at aged config past) holds.seats n f found (in_use (is_closed f.story) (owes_reset f.story) open_yet) in
                 (wants_are (flow_settings config) part.part f.story now (sizes part.slot part.part part.here) part.follows).0 ∙ shut_neither (is_open part.part) _ (unopen part.slot part.part part.here part.numbered)
 
     pub none_written : is_written config past (OnTcp n) ≡ false
@@ -155,7 +155,7 @@ module _ (config : Config) (now : ℕ) (aged : Bool) (task : Option Call) (state
             at : (b : Bool) → is_closed f.story ≡ b → must_wait_to_write f.story ≡ false
             at true closed = closed_unwritten (is_closed f.story) _ closed
             at false open_yet =
-                let part = placed number_of (Following config now) state.table state.parts (next_number past) (book config past).flows (rests_at aged config past) holds.seats n f found (in_use (is_closed f.story) (owes_reset f.story) open_yet) in
+                let part = placed number_of (Following config now) state.table state.slots (next_number past) (book config past).flows (rests_at aged config past) holds.seats n f found (in_use (is_closed f.story) (owes_reset f.story) open_yet) in
                 unless (must_wait_to_write f.story) (λ must. never_false (sym ((wants_are (flow_settings config) part.part f.story now (sizes part.slot part.part part.here) part.follows).1 must) ∙ shut_neither (is_open part.part) _ (unopen part.slot part.part part.here part.numbered)))
 
     pub none_told : (read write : Bool) → IsTold config n read write past
@@ -163,7 +163,7 @@ module _ (config : Config) (now : ℕ) (aged : Bool) (task : Option Call) (state
 
   -- ---- the flow was told
 
-  pub told_now : (k : ℕ) (p : Splice) (read write : Bool) (made : List Entry) → slice_get state.parts k ≡ Some (Some p) → ServesReport read write p made → AreOf config (number_of p) past made → Lawful config (made ++ past)
+  pub told_now : (k : ℕ) (p : Splice) (read write : Bool) (made : List Entry) → slice_get state.slots k ≡ Some (Some p) → ServesReport read write p made → AreOf config (number_of p) past made → Lawful config (made ++ past)
       → waits (made ++ past) ≡ waits past → IsTold config (number_of p) read write (made ++ past)
   told_now k p read write made at serves of lawful as_often = record { reading = λ is. by_read (reads p) refl is; writing = λ is. by_write (is_written config past (OnTcp (number_of p))) refl is }
     where

@@ -54,15 +54,15 @@ module _ (slots : List Slot) (t : Tuple) where
 
 -- ---- in the record
 
-module _ (config : Config) (now : ℕ) (aged : Bool) (task : Option Call) (state : FlowsState Splice) (past : List Entry) (holds : CoreHolds config now aged task state past) (sizes : length state.parts ≡ length state.table.slots) (t : Tuple) where
+module _ (config : Config) (now : ℕ) (aged : Bool) (task : Option Call) (state : FlowsState Splice) (past : List Entry) (holds : CoreHolds config now aged task state past) (sizes : length state.slots ≡ length state.table.slots) (t : Tuple) where
   pub none_recorded : ((k : ℕ) → HasTuple state.table.slots k t → ⊥) → is_used t (book config past).flows ≡ false
-  none_recorded none = none_used number_of (Following config now) state.table state.parts (next_number past) (book config past).flows (rests_at aged config past) holds.seats sizes t none
+  none_recorded none = none_used number_of (Following config now) state.table state.slots (next_number past) (book config past).flows (rests_at aged config past) holds.seats sizes t none
 
   pub use_recorded : (k : ℕ) (x : Place) → slice_get state.table.slots k ≡ Some (slot_at x t) → (x ≡ Empty → ⊥) → is_in_use x ≡ is_used t (book config past).flows
   use_recorded k Empty slot some = absurd (some refl)
   use_recorded k InUse slot some =
-      let had = slot_used number_of (Following config now) state.table state.parts (next_number past) (book config past).flows (rests_at aged config past) holds.seats sizes k t slot in
+      let had = slot_used number_of (Following config now) state.table state.slots (next_number past) (book config past).flows (rests_at aged config past) holds.seats sizes k t slot in
       sym (ap uses had.4 ∙ had.5)
   use_recorded k (Resting since) slot some =
-      let had = slot_rests number_of (Following config now) state.table state.parts (next_number past) (book config past).flows (rests_at aged config past) holds.seats sizes k t since slot in
+      let had = slot_rests number_of (Following config now) state.table state.slots (next_number past) (book config past).flows (rests_at aged config past) holds.seats sizes k t since slot in
       sym (ap uses had.4 ∙ had.5)

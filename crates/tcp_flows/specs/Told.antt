@@ -13,7 +13,7 @@ use Rattle.tcp_flows.specs.Reading.{IsOpenAt}
 pub record WasTold (number : ℕ) (kept : Kept) : Type 0 where
   pub slot : ℕ
   pub part : Splice
-  pub at : IsOpenAt kept.flows.parts slot part
+  pub at : IsOpenAt kept.flows.slots slot part
   pub number_is : number_of part ≡ number
   pub mark : slice_get kept.served slot ≡ Some kept.turn
 

@@ -34,12 +34,12 @@ impl TcpFlows {
     /// Flows that don't know their guest's hardware address are told it where it is known, and may owe a frame from then on. No flow is looked at where each knows it.
     pub fn learn(&mut self, guests: &ArpTable)
         ensures learns { Learns guests.now self.old self.new }
-        ensures learnt { HaveLearnt guests.now self.old.flows.parts self.new.flows.parts }
-        ensures told { AreTold guests.now self.new.flows.parts }
-        ensures idle { NoneInSlots self.old.flows.parts → self.new ≡ self.old }
+        ensures learnt { HaveLearnt guests.now self.old.flows.slots self.new.flows.slots }
+        ensures told { AreTold guests.now self.new.flows.slots }
+        ensures idle { NoneInSlots self.old.flows.slots → self.new ≡ self.old }
         // A flow that was in time is so then, and one that owed no acknowledgement owes none.
-        ensures ahead { (now n : ℕ) → IsInTime now self.old.flows.parts n → IsInTime now self.new.flows.parts n }
-        ensures calm { (n : ℕ) → OwesNoAck self.old.flows.parts n → OwesNoAck self.new.flows.parts n }
+        ensures ahead { (now n : ℕ) → IsInTime now self.old.flows.slots n → IsInTime now self.new.flows.slots n }
+        ensures calm { (n : ℕ) → OwesNoAck self.old.flows.slots n → OwesNoAck self.new.flows.slots n }
         ensures stays { Stays self.old self.new }
         ensures same { self.new ≡ with_flows self.new.flows self.new.owing self.old }
     {
@@ -52,20 +52,21 @@ impl TcpFlows {
     // Each slot's flow is told its guest's hardware address, where it doesn't know it.
     fn learn_all(&mut self, guests: &ArpTable)
         ensures learns { Learns guests.now self.old self.new }
-        ensures learnt { HaveLearnt guests.now self.old.flows.parts self.new.flows.parts }
+        ensures learnt { HaveLearnt guests.now self.old.flows.slots self.new.flows.slots }
         ensures stays { Stays self.old self.new }
         ensures same { self.new ≡ with_flows self.new.flows self.new.owing self.old }
     {
-        for slot in 0..self.parts.len() {
+        for slot in 0..self.slots.len() {
             self.learn_slot(slot, guests);
         }
     }
 
     // The flow of a slot is told its guest's hardware address, where it doesn't know it.
     fn learn_slot(&mut self, slot: usize, guests: &ArpTable)
-        requires slot { slot < length self.old.flows.parts }
+        requires slot { slot < length self.old.flows.slots }
         ensures learns { Learns guests.now self.old self.new }
-        ensures parts { (x : Option Splice) → slice_get self.old.flows.parts slot ≡ Some x → self.new.flows.parts ≡ slice_set self.old.flows.parts slot (option_map (learnt_from guests.now) x) }
+        ensures parts { (x : Option Splice) → slice_get self.old.flows.slots slot ≡ Some x
+            → self.new.flows.slots ≡ slice_set self.old.flows.slots slot (option_map (learnt_from guests.now) x) }
         ensures stays { Stays self.old self.new }
         ensures same { self.new ≡ with_flows self.new.flows self.new.owing self.old }
     {
@@ -73,7 +74,7 @@ impl TcpFlows {
         if !seeks {
             return;
         }
-        let part = &mut self.parts[slot];
+        let part = &mut self.slots[slot];
         let before = Before::of(part);
         let mac = guests.find(part.guest().addr);
         part.learn(mac);
@@ -85,13 +86,14 @@ impl TcpFlows {
         ensures used { result ≡ true → (k : ℕ) × (slice_get self.now.flows.table.slots k ≡ Some (SlotInUse ends.now)) }
         ensures unused { result ≡ false → NoneUses self.now.flows.table.slots ends.now }
         // So has a flow of the record.
-        ensures recorded { (config : Config) (now : ℕ) (aged : Bool) (task : Option Call) (past : List Entry) → CoreHolds config now aged task self.now.flows past
+        ensures recorded { (config : Config) (now : ℕ) (aged : Bool) (task : Option Call) (past : List Entry)
+            → CoreHolds config now aged task self.now.flows past
             → result ≡ is_used ends.now (book config past).flows }
     {
         let Some(slot) = self.rows.table.find(ends) else {
             return false;
         };
-        is_in_use(self.parts[slot].place())
+        is_in_use(self.slots[slot].place())
     }
 
     /// A peer's connection between these ends, which no slot in use has, was accepted with this number: the flow begins, and calls its guest once it knows its
@@ -101,13 +103,13 @@ impl TcpFlows {
         requires now { now ≤ 2 ^ 62 }
         requires room { in_use_slots self.old.flows.table.slots < length self.old.flows.table.slots }
         requires unused { NoneUses self.old.flows.table.slots ends.now }
-        requires above { (k : ℕ) (p : Splice) → slice_get self.old.flows.parts k ≡ Some (Some p) → number_of p < number }
+        requires above { (k : ℕ) (p : Splice) → slice_get self.old.flows.slots k ≡ Some (Some p) → number_of p < number }
         requires count { self.old.flows.opened + 1 < 2 ^ 64 }
         ensures welcomes { Welcomes now number self.old self.new ends.now mac }
         ensures turn { self.new.turn ≡ self.old.turn }
         ensures served { self.new.served ≡ self.old.served }
         ensures opened { self.new.flows.opened ≡ self.old.flows.opened + 1 }
-        ensures slots { length self.new.flows.parts ≡ length self.old.flows.parts }
+        ensures slots { length self.new.flows.slots ≡ length self.old.flows.slots }
         // Each flow has that number, or the number of the flow that its slot had.
         ensures numbers { StaysBut number self.old self.new }
     {

@@ -67,7 +67,8 @@ impl Waiting {
     pub(crate) fn set(&mut self, slot: usize, number: u64, waits: Waits)
         requires slot { slot < length self.old.each }
         requires order { AreOrdered self.old.wants }
-        requires room { (was : WaitsOf) → slice_get self.old.each slot ≡ Some was → length (wants_after was number waits self.old.wants) ≤ length self.old.each }
+        requires room { (was : WaitsOf) → slice_get self.old.each slot ≡ Some was
+            → length (wants_after was number waits self.old.wants) ≤ length self.old.each }
         ensures each { self.new.each ≡ slice_set self.old.each slot waits }
         ensures wants { (was : WaitsOf) → slice_get self.old.each slot ≡ Some was → self.new.wants ≡ wants_after was number waits self.old.wants }
     {

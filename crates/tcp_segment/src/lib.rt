@@ -7,15 +7,12 @@ ghost use Rattle.net_octets.specs.Octets.{IsOctets, two};
 ghost use Rattle.tcp_segment.specs.Tcp.{Tcp, Fits, IsTcp, has, head_length, head_reading, options_reading, fields_of, tcp_reading, read_tcp, tcp_fault, mss_octets, scale_octets, words_of as words_by, numbers_of, head_octets, tcp_length, tcp_with, tcp_octets, tcp_of};
 
 use byteorder::{BigEndian, ByteOrder};
-use net_octets::{Fault, FaultKind, Ip4, NoRoom, checksum_after, pseudo};
+use net_octets::{Fault, FaultKind, Ip4, NoRoom, TCP_PROTO, checksum_after, pseudo};
 use seq_space::Seq;
 use tlv_table::{Form, Table, rows};
 
 /// The octets of a header without options.
 const HEAD: usize = 20;
-
-/// The number of the protocol in an IPv4 header.
-const PROTOCOL: u8 = 6;
 
 /// The options: 0 ends them, 1 is a pad, and a length counts its code and itself (RFC 9293, 3.2).
 const FORM: Form = Form {
@@ -141,7 +138,7 @@ fn head_in(octets: &[u8], from: Ip4, to: Ip4) -> Result<usize, Fault>
     if head < HEAD || octets.len() < head {
         return bad(FaultKind::BadLength, 12);
     }
-    let start = pseudo(from, to, PROTOCOL, octets.len() as u16);
+    let start = pseudo(from, to, TCP_PROTO, octets.len() as u16);
     if checksum_after(start, octets) != 0 {
         return bad(FaultKind::BadSum, 16);
     }
@@ -197,12 +194,24 @@ pub fn encode(v: &TcpView<'_>, from: Ip4, to: Ip4, into: &mut [u8]) -> Result<us
     ensures room { IsOk result ↔ (tcp_length (tcp_of v.now) ≤ length into.old) }
     ensures unchanged { OnErr result (into.new ≡ into.old) }
 {
-    let length = length_of(v);
-    if into.len() < length {
+    if into.len() < length_of(v) {
         return Err(NoRoom);
     }
-    write(v, from, to, &mut into[..length]);
-    Ok(length)
+    Ok(write(v, from, to, into))
+}
+
+/// Writes a segment between two addresses at the front of `into`, which has the room for it, as `encode` does, and
+/// answers its length in octets. Past the segment `into` is unchanged.
+pub fn write(v: &TcpView<'_>, from: Ip4, to: Ip4, into: &mut [u8]) -> usize
+    requires size { tcp_length (tcp_of v.now) < 2 ^ 16 }
+    requires room { tcp_length (tcp_of v.now) ≤ length into.old }
+    ensures written { into.new ≡ tcp_octets from.0 to.0 (tcp_of v.now) ++ drop result into.old }
+    ensures length { result ≡ tcp_length (tcp_of v.now) }
+    ensures packet { IsTcp from.0 to.0 (take result into.new) (tcp_of v.now) }
+{
+    let length = length_of(v);
+    fill(v, from, to, &mut into[..length]);
+    length
 }
 
 /// The octets that a segment takes.
@@ -227,7 +236,7 @@ fn scale_size(scale: Option<u8>) -> usize
 
 /// Writes a segment into exactly as many octets as it takes. Its octets are summed once, with 0 in
 /// the place of the sum.
-fn write(v: &TcpView<'_>, from: Ip4, to: Ip4, segment: &mut [u8])
+fn fill(v: &TcpView<'_>, from: Ip4, to: Ip4, segment: &mut [u8])
     requires size { tcp_length (tcp_of v.now) < 2 ^ 16 }
     requires room { length segment.old ≡ tcp_length (tcp_of v.now) }
     ensures written { segment.new ≡ tcp_octets from.0 to.0 (tcp_of v.now) }
@@ -237,7 +246,7 @@ fn write(v: &TcpView<'_>, from: Ip4, to: Ip4, segment: &mut [u8])
     let options = written_options(v.mss, v.scale);
     let options_size = mss_size(v.mss) + scale_size(v.scale);
     put(&head(v), &options[..options_size], v.body, segment);
-    let start = pseudo(from, to, PROTOCOL, segment.len() as u16);
+    let start = pseudo(from, to, TCP_PROTO, segment.len() as u16);
     let sum = checksum_after(start, segment);
     BigEndian::write_u16(&mut segment[16..18], sum);
 }

@@ -16,7 +16,8 @@ pub fn names_stay_in_the_folder()
 
 /// A block goes out only after the acknowledgement of the one before: a transfer after a packet was there before it, or it is the next block of the one whose last block the packet acknowledged, or it begins because the packet asked for a file (RFC 1350, 2).
 pub fn a_block_is_told_after_the_acknowledgement_of_the_one_before()
-    ensures { (folder : Option (List ℕ)) (now : ℕ) (mac : List ℕ) (guest : Endpoint) (octets : List ℕ) (old new : List Transfer) (told : Option Said) (made : List Entry)
+    ensures { (folder : Option (List ℕ)) (now : ℕ) (mac : List ℕ) (guest : Endpoint) (octets : List ℕ) (old new : List Transfer) (told : Option Said)
+        (made : List Entry)
         → IsServed now (came folder now mac guest octets (settled old)) new told made
         → All (λ t. Contains old t ⊎ (IsNext old guest octets t ⊎ IsBegun octets t)) new }
 {}
@@ -29,8 +30,10 @@ pub fn the_octets_of_a_block_are_those_read_at_its_place()
 
 /// A packet goes again at most five times, the k-th time no earlier than k timeouts after it was made.
 pub fn a_packet_goes_again_five_times()
-    ensures five { (now : ℕ) (last : Bool) (packet : List ℕ) (t : Transfer) (moments : List ℕ) → WentAgain (sending now last packet t) moments → length moments ≤ 5 }
-    ensures apart { (now : ℕ) (last : Bool) (packet : List ℕ) (t : Transfer) (moments : List ℕ) → WentAgain (sending now last packet t) moments → AreApartBy t.timeout now moments }
+    ensures five { (now : ℕ) (last : Bool) (packet : List ℕ) (t : Transfer) (moments : List ℕ) → WentAgain (sending now last packet t) moments
+        → length moments ≤ 5 }
+    ensures apart { (now : ℕ) (last : Bool) (packet : List ℕ) (t : Transfer) (moments : List ℕ) → WentAgain (sending now last packet t) moments
+        → AreApartBy t.timeout now moments }
     ensures only { (now : ℕ) (old : List Transfer) (said : Said) → begun now true old ≡ Some said
         → (t : Transfer) × Contains old t × (goes_again now t ≡ true) × (said ≡ said_again t) }
 {}

@@ -61,7 +61,8 @@ impl Tftp {
         ensures rest { self.new ≡ record self.old { transfers = self.new.transfers } }
         ensures sound { AreSound self.new.transfers }
     {
-        let reply = self.take_in(world, now, from, mac, body, into);
+        let asker = Asker { guest: from, mac };
+        let reply = self.take_in(world, now, asker, body, into);
         let _few = &self.rows;
         reply
     }
@@ -71,28 +72,33 @@ impl Tftp {
         &mut self,
         world: &mut W,
         now: u64,
-        from: Endpoint,
-        mac: Mac,
+        asker: Asker,
         body: &[u8],
         into: &mut [u8],
     ) -> Reply
         requires moment { now ≤ 2 ^ 62 }
         requires room { 1472 ≤ length into.old }
         ensures serves { Makes (W.tells world.old) (W.tells world.new)
-            (IsServed now (came self.old.folder now mac.0 from body.now (settled self.old.transfers)) self.new.transfers (said_by result into.new)) }
+            (IsServed now (came self.old.folder now asker.mac.0 asker.guest body.now (settled self.old.transfers))
+            self.new.transfers (said_by result into.new)) }
         ensures from { IsFromServer self.old.vhost result }
         ensures rest { self.new ≡ record self.old { transfers = self.new.transfers } }
     {
-        let asker = Asker { guest: from, mac };
         match read_packet(body) {
             PacketView::Asks(texts) => {
-                self.forget(from);
+                self.forget(asker.guest);
                 self.request(world, now, asker, texts, into)
             }
             PacketView::AsksToWrite => refuse(self.vhost, ACCESS_VIOLATION, asker, into),
-            PacketView::Acknowledges(block) => self.acknowledge(world, now, from, block, into),
+            PacketView::Acknowledges(block) => self.acknowledge(
+                world,
+                now,
+                asker.guest,
+                block,
+                into,
+            ),
             PacketView::GivesUp => {
-                self.forget(from);
+                self.forget(asker.guest);
                 Reply::Nothing
             }
             PacketView::Unheard => Reply::Nothing,
@@ -112,7 +118,8 @@ impl Tftp {
         requires room { 1472 ≤ length into.old }
         requires fresh { find (is_for asker.guest) self.old.transfers ≡ None }
         ensures serves { Makes (W.tells world.old) (W.tells world.new)
-            (IsServed now (requested self.old.folder asker.mac.0 asker.guest (request_in texts.now) self.old.transfers) self.new.transfers (said_by result into.new)) }
+            (IsServed now (requested self.old.folder asker.mac.0 asker.guest (request_in texts.now) self.old.transfers) self.new.transfers
+            (said_by result into.new)) }
         ensures from { IsFromServer self.old.vhost result }
         ensures rest { self.new ≡ record self.old { transfers = self.new.transfers } }
     {
@@ -147,7 +154,8 @@ impl Tftp {
         requires pairs { are_pairs options.now ≡ true }
         requires fresh { find (is_for asker.guest) self.old.transfers ≡ None }
         ensures serves { Makes (W.tells world.old) (W.tells world.new)
-            (IsServed now (seeking_length (sought self.old.folder asker.guest asker.mac.0 name.now options.now) self.old.transfers) self.new.transfers (said_by result into.new)) }
+            (IsServed now (seeking_length (sought self.old.folder asker.guest asker.mac.0 name.now options.now) self.old.transfers) self.new.transfers
+            (said_by result into.new)) }
         ensures from { IsFromServer self.old.vhost result }
         ensures rest { self.new ≡ record self.old { transfers = self.new.transfers } }
     {
@@ -201,7 +209,8 @@ impl Tftp {
         requires more { row.is_last ≡ false }
         requires few { length self.old.transfers < most_transfers }
         requires fresh { find (is_for row.guest) self.old.transfers ≡ None }
-        ensures serves { IsServed now (sends now false (options_octets agreed.now) (transfer_of self.old.folder row) self.old.transfers) self.new.transfers (said_by result into.new) [] }
+        ensures serves { IsServed now (sends now false (options_octets agreed.now) (transfer_of self.old.folder row) self.old.transfers) self.new.transfers
+            (said_by result into.new) [] }
         ensures from { IsFromServer self.old.vhost result }
         ensures rest { self.new ≡ record self.old { transfers = self.new.transfers } }
     {
@@ -305,7 +314,12 @@ impl Tftp {
 fn first_row(asker: Asker, name: &str, size: u64, agreed: &Agreed) -> Row
     requires { length name.now ≤ 255 }
     ensures row { (folder : Option (List ℕ)) (options : List (List ℕ × List ℕ))
-        → transfer_of folder result ≡ transfer size (record { guest = asker.guest; mac = asker.mac.0; file = file_in (folder_octets folder) name.now; options = options }) agreed.now }
+        → transfer_of folder result ≡ transfer size (record {
+          guest = asker.guest;
+          mac = asker.mac.0;
+          file = file_in (folder_octets folder) name.now;
+          options = options;
+        }) agreed.now }
     ensures guest { result.guest ≡ asker.guest }
     ensures more { result.is_last ≡ false }
 {

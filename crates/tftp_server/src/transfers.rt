@@ -131,7 +131,10 @@ impl Tftp {
         requires room { 1472 ≤ length into.old }
         requires few { length self.old.transfers < most_transfers }
         requires fresh { find (is_for row.guest) self.old.transfers ≡ None }
-        ensures list { self.new ≡ record self.old { transfers = self.old.transfers ++ (sending now row.is_last row.packet.items (transfer_of self.old.folder row) ∷ []) } }
+        ensures list { self.new ≡ record self.old {
+          transfers = self.old.transfers ++
+              (sending now row.is_last row.packet.items (transfer_of self.old.folder row) ∷ []);
+        } }
         ensures says { said_by result into.new ≡ Some (record { mac = row.mac.0; guest = row.guest; octets = row.packet.items }) }
         ensures from { IsFromServer self.old.vhost result }
     {

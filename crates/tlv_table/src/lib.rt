@@ -145,8 +145,22 @@ impl<const N: usize> Table<N> {
         ensures room { IsSome result ↔ (2 + length body.now ≤ length into.old) }
         ensures unchanged { IfNone result (into.new ≡ into.old) }
     {
+        if into.len() < 2 + body.len() {
+            return None;
+        }
+        Some(self.write(code, body, into))
+    }
+
+    /// Writes an option at the front of `into`, which has the room for it, as `put` does, and answers how many octets it
+    /// has. Past the option `into` is unchanged.
+    pub fn write(&self, code: u8, body: &[u8], into: &mut [u8]) -> usize
+        requires can { CanPut self.now.form self.now.rows code body.now }
+        requires room { 2 + length body.now ≤ length into.old }
+        ensures written { into.new ≡ item_octets self.now.form (Field code body.now) ++ drop result into.old }
+        ensures length { result ≡ 2 + length body.now }
+    {
         let table = *self;
-        put_option(&table.form, code, body, into)
+        write_option(&table.form, code, body, into)
     }
 
     /// Options that are put one after another, with the end code behind them, are read again, where
@@ -339,18 +353,14 @@ fn law_of_put(form: &Form, rows: &[Row])
         → ReadsAgain form.now rows.now pairs rest }
 {}
 
-// Writes an option at the front of a slice, where there is room.
-fn put_option(form: &Form, code: u8, body: &[u8], into: &mut [u8]) -> Option<usize>
-    requires { head_counted form.now + length body.now ≤ 255 }
-    ensures written { IfSome result (λ n. into.new ≡ item_octets form.now (Field code body.now) ++ drop n into.old) }
-    ensures length { IfSome result (λ n. n ≡ 2 + length body.now) }
-    ensures room { IsSome result ↔ (2 + length body.now ≤ length into.old) }
-    ensures unchanged { IfNone result (into.new ≡ into.old) }
+// Writes an option at the front of a slice that has the room for it.
+fn write_option(form: &Form, code: u8, body: &[u8], into: &mut [u8]) -> usize
+    requires size { head_counted form.now + length body.now ≤ 255 }
+    requires room { 2 + length body.now ≤ length into.old }
+    ensures written { into.new ≡ item_octets form.now (Field code body.now) ++ drop result into.old }
+    ensures length { result ≡ 2 + length body.now }
 {
     let length = 2 + body.len();
-    if into.len() < length {
-        return None;
-    }
     let size = if form.counts_head {
         2 + body.len()
     } else {
@@ -359,5 +369,5 @@ fn put_option(form: &Form, code: u8, body: &[u8], into: &mut [u8]) -> Option<usi
     let head = [code, size as u8];
     into[..2].copy_from_slice(&head);
     into[2..length].copy_from_slice(body);
-    Some(length)
+    length
 }

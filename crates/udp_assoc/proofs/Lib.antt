@@ -8,5 +8,6 @@ pub mod Passing
 pub mod Porting
 pub mod Spelling
 pub mod Tabling
+pub mod Using
 pub mod Writing
 pub mod Yielding

@@ -1,15 +1,12 @@
 -- The longest unused association gives way, and fewer are left where one is closed.
-use Rattle.std.proofs.Common.{◌≡◌, ℕ, ◌<◌, ◌≤◌, ◌==◌, ◌&&◌, ◌||◌, not, Bool, true, false, cond, nat_le, List, [], ◌∷◌, length, find, slice_get, Some, None, option_map, if◌then◌else◌, refl, ◌∙◌, ap, arith}
-use Rattle.std.proofs.lemmas.Bool.Decides.{nat_tests}
+use Rattle.std.proofs.Common.{◌≡◌, ℕ, ◌<◌, ◌≤◌, ◌&&◌, ◌||◌, not, Bool, true, false, cond, nat_le, List, [], ◌∷◌, length, find, slice_get, Some, None, option_map, if◌then◌else◌, refl, ◌∙◌, ap, arith}
 use Rattle.std.specs.List.{list_any}
 use Rattle.net_octets.specs.declared.Endpoint.{Endpoint}
 use Rattle.world_face.specs.Journal.{Close}
 use Rattle.udp_assoc.specs.Associations.{is_numbered, is_of, most_associations, socket_of, without}
 use Rattle.udp_assoc.specs.Relays.{calls_for_room}
 use Rattle.udp_assoc.specs.declared.assocs.Association.{Association}
-
-same : (n : ℕ) → (n == n) ≡ true
-same n = grind (arith, nat_tests)
+use Rattle.udp_assoc.proofs.Ordering.{same}
 
 no_more : (n : ℕ) (list : List Association) → length (without n list) ≤ length list
 no_more n [] = omega arith

@@ -165,7 +165,7 @@ impl Associations {
     }
 
     /// A datagram of a peer was received on the socket.
-    pub fn heard(&mut self, number: u64, now: u64)
+    pub fn received(&mut self, number: u64, now: u64)
         ensures { self.new ≡ moved_last (heard_at now) number self.old }
     {
         if let Some(place) = place_of(self.rising.as_slice(), number) {

@@ -12,8 +12,8 @@ ghost use Rattle.net_octets.specs.Octets.{IsOctets};
 
 pub use assocs::{Association, Associations, IDLE_LIFE, MOST_ASSOCIATIONS};
 use byteorder::{BigEndian, ByteOrder};
-use net_octets::{Fault, FaultKind, Ip4, NoRoom, checksum_after, pseudo, write_packet};
-pub use sockets::Assocs;
+use net_octets::{Fault, FaultKind, Ip4, NoRoom, UDP_PROTO, checksum_after, pseudo, write_packet};
+pub use sockets::{Assocs, OutboundView};
 
 /// A datagram: the ports between which it goes, and its payload.
 #[derive(Clone, Copy, Debug, PartialEq, Eq)]
@@ -25,9 +25,6 @@ pub struct UdpView<'a> {
 
 /// The octets before the payload.
 const HEAD: usize = 8;
-
-/// The protocol of a datagram that carries UDP.
-const PROTOCOL: u8 = 17;
 
 /// Reads a datagram of at most 65,535 octets between two addresses; octets past its length are
 /// passed over. A sum of 0 says that there is none. The fault is the first of these: Short under 8
@@ -63,7 +60,7 @@ fn check(octets: &[u8], from: Ip4, to: Ip4) -> Result<(), Fault>
     if (length as usize) < HEAD || octets.len() < length as usize {
         return bad(FaultKind::BadLength, 4);
     }
-    let start = pseudo(from, to, PROTOCOL, length);
+    let start = pseudo(from, to, UDP_PROTO, length);
     let sum = BigEndian::read_u16(&octets[6..HEAD]);
     if sum != 0 && checksum_after(start, &octets[..length as usize]) != 0 {
         return bad(FaultKind::BadSum, 6);
@@ -83,6 +80,22 @@ pub fn encode(v: &UdpView<'_>, from: Ip4, to: Ip4, into: &mut [u8]) -> Result<us
     ensures room { IsOk result ↔ (8 + length v.now.body.now ≤ length into.old) }
     ensures unchanged { OnErr result (into.new ≡ into.old) }
 {
+    if into.len() < HEAD + v.body.len() {
+        return Err(NoRoom);
+    }
+    Ok(write(v, from, to, into))
+}
+
+/// Writes a datagram between two addresses at the front of `into`, which has the room for it, and answers its length in
+/// octets. The payload has at most 65,527 octets. Past the datagram `into` is unchanged.
+pub fn write(v: &UdpView<'_>, from: Ip4, to: Ip4, into: &mut [u8]) -> usize
+    requires size { length v.now.body.now ≤ 65527 }
+    requires room { 8 + length v.now.body.now ≤ length into.old }
+    ensures written { into.new ≡ udp_octets from.0 to.0 (udp_of v.now) ++ drop result into.old }
+    ensures length { result ≡ 8 + length v.now.body.now }
+    ensures packet { (g : IsUdp from.0 to.0 (take result into.new) (udp_of v.now))
+        × IsPlain from.0 to.0 (take result into.new) (udp_of v.now) g }
+{
     write_packet(&head(v, sum_of(v, from, to)), v.body, into)
 }
 
@@ -93,7 +106,7 @@ fn sum_of(v: &UdpView<'_>, from: Ip4, to: Ip4) -> u16
 {
     let length = (HEAD + v.body.len()) as u16;
     let ports = v.from_port as u32 + v.to_port as u32;
-    let start = pseudo(from, to, PROTOCOL, length) + ports + length as u32;
+    let start = pseudo(from, to, UDP_PROTO, length) + ports + length as u32;
     match checksum_after(start, v.body) {
         0 => 0xffff,
         sum => sum,

@@ -2,7 +2,7 @@
 ghost use Rattle.std.specs.Prelude.{◌≡◌, ◌<◌, Some, length, slice_set};
 ghost use Rattle.std.specs.Prelude.{ℕ};
 ghost use Rattle.udp_assoc.specs.Rows.{Rise, times};
-ghost use Rattle.udp_assoc.specs.Links.{link_of, with_before, with_behind, with_link, unless_none};
+ghost use Rattle.udp_assoc.specs.Links.{neighbours_of, on_side, with_before, with_behind, with_neighbours, with_side, unless_none};
 
 use crate::assocs::place_of;
 use arrayvec::ArrayVec;
@@ -10,9 +10,16 @@ use std::marker::Model;
 
 /// Who stands before a number, and who behind it.
 #[derive(Clone, Copy, Debug, Default, PartialEq, Eq)]
-pub struct Link {
+pub struct Neighbours {
     pub before: Option<u64>,
     pub behind: Option<u64>,
+}
+
+// Which of two neighbours.
+#[derive(Clone, Copy)]
+enum Side {
+    Before,
+    Behind,
 }
 
 /// Numbers in the order in which they were used last, the longest unused first.
@@ -21,18 +28,18 @@ pub struct Link {
 #[derive(Drop)]
 pub struct Order {
     numbers: ArrayVec<u64, 512>,
-    links: ArrayVec<Link, 512>,
+    links: ArrayVec<Neighbours, 512>,
     first: Option<u64>,
     last: Option<u64>,
 }
 
 impl Model for Order {
     ghost use Rattle.std.specs.Prelude.{ℕ, List, length};
-    ghost use Rattle.udp_assoc.specs.Links.{AreLinks, link_of, walk};
+    ghost use Rattle.udp_assoc.specs.Links.{AreLinks, neighbours_of, walk};
 
     ghost Value = { List ℕ };
 
-    ghost view = { λ o. walk (length o.numbers.items) (link_of o.numbers.items o.links.items) o.first };
+    ghost view = { λ o. walk (length o.numbers.items) (neighbours_of o.numbers.items o.links.items) o.first };
 
     ghost invariant = { λ o. AreLinks o.numbers.items o.links.items o.first o.last };
 }
@@ -75,7 +82,7 @@ impl Order {
         ensures { self.new ≡ self.old ++ (number ∷ []) }
     {
         self.numbers.push(number);
-        self.links.push(Link::default());
+        self.links.push(Neighbours::default());
         put_last(&self.numbers, &mut self.links, self.last, number);
         self.first = unless_none(self.first, Some(number), self.first);
         self.last = Some(number);
@@ -86,9 +93,9 @@ impl Order {
         ensures { self.new ≡ gone number self.old }
     {
         if let Some(place) = place_of(self.numbers.as_slice(), number) {
-            let link = take_out(&self.numbers, &mut self.links, number);
-            self.first = unless_none(link.before, link.behind, self.first);
-            self.last = unless_none(link.behind, link.before, self.last);
+            let neighbours = take_out(&self.numbers, &mut self.links, number);
+            self.first = unless_none(neighbours.before, neighbours.behind, self.first);
+            self.last = unless_none(neighbours.behind, neighbours.before, self.last);
             self.numbers.remove(place);
             self.links.remove(place);
         }
@@ -99,49 +106,65 @@ impl Order {
         requires { times number self.old ≡ 1 }
         ensures { self.new ≡ gone number self.old ++ (number ∷ []) }
     {
-        let link = take_out(&self.numbers, &mut self.links, number);
-        let first = unless_none(link.before, link.behind, self.first);
-        let last = unless_none(link.behind, link.before, self.last);
+        let neighbours = take_out(&self.numbers, &mut self.links, number);
+        let first = unless_none(neighbours.before, neighbours.behind, self.first);
+        let last = unless_none(neighbours.behind, neighbours.before, self.last);
         put_last(&self.numbers, &mut self.links, last, number);
         self.first = unless_none(first, Some(number), first);
         self.last = Some(number);
     }
 }
 
-// Links the neighbours of a number to each other, and answers its link.
-fn take_out(numbers: &ArrayVec<u64, 512>, links: &mut ArrayVec<Link, 512>, number: u64) -> Link
+// Links the neighbours of a number to each other, and answers who they were.
+fn take_out(
+    numbers: &ArrayVec<u64, 512>,
+    links: &mut ArrayVec<Neighbours, 512>,
+    number: u64,
+) -> Neighbours
     requires rise { Rise numbers.now.items }
     requires beside { length links.old.items ≡ length numbers.now.items }
-    ensures link { result ≡ link_of numbers.now.items links.old.items number }
-    ensures links { (k : ℕ) → 0 < times k numbers.now.items → link_of numbers.now.items links.new.items k
-        ≡ with_before result.behind result.before k (with_behind result.before result.behind k (link_of numbers.now.items links.old.items k)) }
+    ensures neighbours { result ≡ neighbours_of numbers.now.items links.old.items number }
+    ensures links { (k : ℕ) → 0 < times k numbers.now.items → neighbours_of numbers.now.items links.new.items k
+        ≡ with_before result.behind result.before k (with_behind result.before result.behind k (neighbours_of numbers.now.items links.old.items k)) }
     ensures beside { length links.new.items ≡ length links.old.items }
 {
-    let link = link_of(numbers, links, number);
-    set_behind(numbers, links, link.before, link.behind);
-    set_before(numbers, links, link.behind, link.before);
-    link
+    let neighbours = neighbours_of(numbers, links, number);
+    set_side(
+        numbers,
+        links,
+        neighbours.before,
+        Side::Behind,
+        neighbours.behind,
+    );
+    set_side(
+        numbers,
+        links,
+        neighbours.behind,
+        Side::Before,
+        neighbours.before,
+    );
+    neighbours
 }
 
 // Links a number to the last one, behind which it stands from now on.
 fn put_last(
     numbers: &ArrayVec<u64, 512>,
-    links: &mut ArrayVec<Link, 512>,
+    links: &mut ArrayVec<Neighbours, 512>,
     last: Option<u64>,
     number: u64,
 )
     requires rise { Rise numbers.now.items }
     requires beside { length links.old.items ≡ length numbers.now.items }
-    ensures links { (k : ℕ) → 0 < times k numbers.now.items → link_of numbers.now.items links.new.items k
-        ≡ with_link number last k (with_behind last (Some number) k (link_of numbers.now.items links.old.items k)) }
+    ensures links { (k : ℕ) → 0 < times k numbers.now.items → neighbours_of numbers.now.items links.new.items k
+        ≡ with_neighbours number last k (with_behind last (Some number) k (neighbours_of numbers.now.items links.old.items k)) }
     ensures beside { length links.new.items ≡ length links.old.items }
 {
-    set_behind(numbers, links, last, Some(number));
+    set_side(numbers, links, last, Side::Behind, Some(number));
     if let Some(place) = place_of(numbers.as_slice(), number) {
         put(
             links,
             place,
-            Link {
+            Neighbours {
                 before: last,
                 behind: None,
             },
@@ -149,67 +172,69 @@ fn put_last(
     }
 }
 
-// From now on this number, or none, stands behind another, where one is given.
-fn set_behind(
+// From now on this number, or none, stands on a side of another, where one is given.
+fn set_side(
     numbers: &ArrayVec<u64, 512>,
-    links: &mut ArrayVec<Link, 512>,
+    links: &mut ArrayVec<Neighbours, 512>,
     of: Option<u64>,
-    behind: Option<u64>,
+    side: Side,
+    neighbour: Option<u64>,
 )
     requires rise { Rise numbers.now.items }
     requires beside { length links.old.items ≡ length numbers.now.items }
-    ensures links { (k : ℕ) → 0 < times k numbers.now.items → link_of numbers.now.items links.new.items k ≡ with_behind of behind k (link_of numbers.now.items links.old.items k) }
+    ensures links { (k : ℕ) → 0 < times k numbers.now.items → neighbours_of numbers.now.items links.new.items k
+        ≡ with_side side of neighbour k (neighbours_of numbers.now.items links.old.items k) }
     ensures beside { length links.new.items ≡ length links.old.items }
 {
     if let Some(number) = of {
         if let Some(place) = place_of(numbers.as_slice(), number) {
-            let before = links.as_slice()[place].before;
-            put(links, place, Link { before, behind });
+            let neighbours = on_side(side, neighbour, links.as_slice()[place]);
+            put(links, place, neighbours);
         }
     }
 }
 
-// From now on this number, or none, stands before another, where one is given.
-fn set_before(
-    numbers: &ArrayVec<u64, 512>,
-    links: &mut ArrayVec<Link, 512>,
-    of: Option<u64>,
-    before: Option<u64>,
-)
-    requires rise { Rise numbers.now.items }
-    requires beside { length links.old.items ≡ length numbers.now.items }
-    ensures links { (k : ℕ) → 0 < times k numbers.now.items → link_of numbers.now.items links.new.items k ≡ with_before of before k (link_of numbers.now.items links.old.items k) }
-    ensures beside { length links.new.items ≡ length links.old.items }
+// The neighbours of one that has this one on a side from now on.
+fn on_side(side: Side, neighbour: Option<u64>, neighbours: Neighbours) -> Neighbours
+    ensures { result ≡ on_side side neighbour neighbours }
 {
-    if let Some(number) = of {
-        if let Some(place) = place_of(numbers.as_slice(), number) {
-            let behind = links.as_slice()[place].behind;
-            put(links, place, Link { before, behind });
-        }
+    match side {
+        Side::Before => Neighbours {
+            before: neighbour,
+            behind: neighbours.behind,
+        },
+        Side::Behind => Neighbours {
+            before: neighbours.before,
+            behind: neighbour,
+        },
     }
 }
 
-// The link of a number.
-fn link_of(numbers: &ArrayVec<u64, 512>, links: &ArrayVec<Link, 512>, number: u64) -> Link
+// The neighbours of a number: none where it isn't there.
+fn neighbours_of(
+    numbers: &ArrayVec<u64, 512>,
+    links: &ArrayVec<Neighbours, 512>,
+    number: u64,
+) -> Neighbours
     requires rise { Rise numbers.now.items }
     requires beside { length links.now.items ≡ length numbers.now.items }
-    ensures { result ≡ link_of numbers.now.items links.now.items number }
+    ensures { result ≡ neighbours_of numbers.now.items links.now.items number }
 {
     match place_of(numbers.as_slice(), number) {
         Some(place) => links.as_slice()[place],
-        None => Link {
+        None => Neighbours {
             before: None,
             behind: None,
         },
     }
 }
 
-// Puts a link in its place.
-fn put(links: &mut ArrayVec<Link, 512>, place: usize, link: Link)
+// Puts a pair of neighbours in its place.
+fn put(links: &mut ArrayVec<Neighbours, 512>, place: usize, neighbours: Neighbours)
     requires { place < length links.old.items }
-    ensures { links.new.items ≡ slice_set links.old.items place link }
+    ensures { links.new.items ≡ slice_set links.old.items place neighbours }
 {
-    links.as_mut_slice()[place] = link;
+    links.as_mut_slice()[place] = neighbours;
 }
 
 // The one where there is no such number, else the other.

@@ -18,12 +18,16 @@ use world_face::{Got, Made, Sent, World};
 /// Why a destination can't be reached: the network can't (RFC 792).
 const NO_NETWORK: u8 = 0;
 
-/// A datagram of a guest: its endpoint, the hardware address from which it came, where it goes, and its payload.
+/// A datagram of a guest that goes out.
 #[derive(Clone, Copy, Debug, PartialEq, Eq)]
 pub struct OutboundView<'a> {
+    /// The guest's endpoint, from which it comes.
     pub from: Endpoint,
+    /// The hardware address from which it came.
     pub mac: Mac,
+    /// The endpoint to which it goes, as the host sees it.
     pub to: Endpoint,
+    /// Its payload.
     pub body: &'a [u8],
 }
 
@@ -65,7 +69,7 @@ impl Assocs {
         }
     }
 
-    /// Sends a guest's datagram, which came from this hardware address, with a payload of at most 65,507 octets: on the socket of a forward where one is
+    /// Sends a guest's datagram with a payload of at most 65,507 octets: on the socket of a forward where one is
     /// given, without an association; else on the socket of its port. Where that has none one is opened at the address with this number, which then counts up;
     /// where 512 are open the longest unused one is closed before. Unreachable with code 0 where no socket can be opened, or the sending fails (RFC 792).
     pub fn guest<W: World>(
@@ -74,27 +78,18 @@ impl Assocs {
         now: u64,
         number: &mut u64,
         forward: Option<u64>,
-        from: Endpoint,
-        mac: Mac,
-        to: Endpoint,
-        body: &[u8],
+        datagram: &OutboundView<'_>,
     ) -> Reply
-        requires fits { length body.now ≤ most_to_udp }
+        requires fits { length datagram.now.body.now ≤ most_to_udp }
         requires numbers { number.old + 1 < 2 ^ 64 }
         requires above { All (λ n. n < number.old) (numbers self.old.list) }
         ensures relays { Makes (W.tells world.old) (W.tells world.new)
-            (Relays self.old.bind forward (record { from = from; mac = mac; to = to; body = body.now }) now number.old number.new self.old.list self.new.list result) }
+            (Relays self.old.bind forward (outbound_of datagram.now) now number.old number.new self.old.list self.new.list result) }
         ensures bind { self.new.bind ≡ self.old.bind }
     {
-        let datagram = OutboundView {
-            from,
-            mac,
-            to,
-            body,
-        };
         match forward {
-            Some(socket) => send(world, socket, &datagram),
-            None => self.relay(world, now, number, &datagram),
+            Some(socket) => send(world, socket, datagram),
+            None => self.relay(world, now, number, datagram),
         }
     }
 
@@ -151,7 +146,8 @@ impl Assocs {
         requires above { All (λ n. n < number.old) (numbers self.old.list) }
         requires room { length self.old.list < most_associations }
         requires fresh { socket_of datagram.now.from self.old.list ≡ None }
-        ensures opens { Makes (W.tells world.old) (W.tells world.new) (OpensFor self.old.bind (outbound_of datagram.now) now number.old self.old.list self.new.list result) }
+        ensures opens { Makes (W.tells world.old) (W.tells world.new)
+            (OpensFor self.old.bind (outbound_of datagram.now) now number.old self.old.list self.new.list result) }
         ensures bind { self.new.bind ≡ self.old.bind }
         ensures next { number.new ≡ number.old + 1 }
     {
@@ -210,12 +206,18 @@ impl Assocs {
     {
         match forward {
             Some(guest) => receive(world, s, guest, None, into),
-            None => self.hear(world, now, s, into),
+            None => self.receive_datagram(world, now, s, into),
         }
     }
 
     // Receives a datagram on the socket of an association, which is used by it.
-    fn hear<W: World>(&mut self, world: &mut W, now: u64, s: u64, into: &mut [u8]) -> Reply
+    fn receive_datagram<W: World>(
+        &mut self,
+        world: &mut W,
+        now: u64,
+        s: u64,
+        into: &mut [u8],
+    ) -> Reply
         requires { 0 < length into.old }
         ensures hears { Makes (W.tells world.old) (W.tells world.new) (Hears None now s (length into.old) into.new self.old.list self.new.list result) }
         ensures bind { self.new.bind ≡ self.old.bind }
@@ -235,7 +237,7 @@ impl Assocs {
         ensures { self.new ≡ record self.old { list = with_reply reply now s self.old.list } }
     {
         if let Reply::Datagram { .. } = reply {
-            self.list.heard(s, now);
+            self.list.received(s, now);
         }
     }
 

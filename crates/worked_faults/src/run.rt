@@ -35,15 +35,14 @@ pub fn run_with(
 ) -> Result<Ran, AllocError>
     requires { octets ≤ 10000000 }
 {
-    let Ok(world) = DriveWorld::open(alloc, number, octets) else {
-        return Err(AllocError);
-    };
-    let service = service_for(alloc, FLOWS)?;
-    let mut world = FaultWorld::new(world, at, how);
+    let (service, mut world) = opened(alloc, FLOWS, number, octets, at, how)?;
     let end = served(service, &mut world);
-    let summary = summary_of(alloc, world.inner())?;
+    let summary = summary_of(alloc, world.inner());
+    let given = world.given();
+    let_go(world);
+    let summary = summary?;
     Ok(Ran {
-        given: world.given(),
+        given,
         end,
         up: count_of(summary.as_str(), "up"),
         down: count_of(summary.as_str(), "down"),
@@ -51,21 +50,42 @@ pub fn run_with(
     })
 }
 
-/// Runs the network by itself, and tells what the World counted before and behind it.
+/// Runs the network without a fault, and tells what the World counted before and behind it.
 pub fn drilled(alloc: Global, number: u64, octets: u64) -> Result<String, AllocError>
     requires { octets ≤ 10000000 }
 {
-    let Ok(mut world) = DriveWorld::open(alloc, number, octets) else {
-        return Err(AllocError);
-    };
-    let service = service_for(alloc, USUAL_FLOWS)?;
-    let before = summary_of(alloc, &world)?;
+    let (service, mut world) = opened(alloc, USUAL_FLOWS, number, octets, u64::MAX, How::Fail)?;
+    let before = summary_of(alloc, world.inner());
     let _end = served(service, &mut world);
-    let behind = summary_of(alloc, &world)?;
+    let behind = summary_of(alloc, world.inner());
+    let_go(world);
+    let (before, behind) = (before?, behind?);
     let before = joined(alloc, before.as_str())?;
     let behind = joined(alloc, behind.as_str())?;
     format!(in alloc; "{before}; then {behind}")
 }
+
+// A network that has served nothing, and its World, whose call with this number, or the first behind it that can, gets the fault.
+fn opened(
+    alloc: Global,
+    flows: u32,
+    number: u64,
+    octets: u64,
+    at: u64,
+    how: How,
+) -> Result<(Service, FaultWorld<DriveWorld>), AllocError>
+    requires { octets ≤ 10000000 }
+    ensures { IfOk result (λ opened. IsNew opened.0) }
+{
+    let service = service_for(alloc, flows)?;
+    match DriveWorld::open(alloc, number, octets) {
+        Ok(world) => Ok((service, FaultWorld::new(world, at, how))),
+        Err(_) => Err(AllocError),
+    }
+}
+
+// What a World holds is let go of here alone: each function that does has it all in its proof.
+fn let_go(_world: FaultWorld<DriveWorld>) {}
 
 // Runs a service that has served nothing. What it promises is not needed here.
 fn served<W: World>(mut service: Service, world: &mut W) -> End

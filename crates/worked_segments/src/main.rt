@@ -8,6 +8,7 @@ mod opening;
 mod owner;
 mod run;
 mod steps;
+mod writing;
 
 use cases::Cases;
 use std::{env, fs, io};

@@ -1,10 +1,11 @@
 use crate::opening::Opening;
 use crate::steps::{Said, Step};
+use crate::writing::{put_runs, put_segment, put_timer};
 use seq_space::Seq;
 use sock_buffers::{Down, Up};
 use std::alloc::{AllocError, Global};
 use std::marker::Model;
-use tcp_guest::{Change, Conn, Head, HostNews, Owed, State};
+use tcp_guest::{Change, Conn, HostNews, Owed, State};
 use tcp_segment::TcpView;
 
 /// The moment at which a connection is opened, and the one up to which its socket may connect.
@@ -74,7 +75,7 @@ impl Owner {
     /// A step happens, and then all goes out that is owed.
     pub fn take(&mut self, step: &Step) -> Result<(), AllocError> {
         match step {
-            Step::Segment(said) => self.hear(said)?,
+            Step::Segment(said) => self.receive(said)?,
             Step::Host(count) => {
                 self.give(*count)?;
             }
@@ -126,7 +127,7 @@ impl Owner {
     }
 
     // A segment of the guest arrives.
-    fn hear(&mut self, said: &Said) -> Result<(), AllocError> {
+    fn receive(&mut self, said: &Said) -> Result<(), AllocError> {
         let body = vec![in self.alloc; said.letter; said.octets as usize]?;
         self.say(&TcpView {
             from_port: 4_000,
@@ -222,7 +223,7 @@ impl Owner {
         let change = self.conn.sent(&self.up, &owed, self.moment);
         self.note(change);
         self.count(&owed);
-        self.write_down(&owed, head)?;
+        put_segment(&mut self.out, self.alloc, &owed, head)?;
         Ok(true)
     }
 
@@ -232,56 +233,6 @@ impl Owner {
             let end = piece.place.saturating_add(piece.length as u64);
             self.sent = self.sent.max(end.saturating_add(u64::from(piece.fin)));
             self.fin_is_sent |= piece.fin;
-        }
-    }
-
-    // Writes down a segment that goes out.
-    fn write_down(&mut self, owed: &Owed, head: Head) -> Result<(), AllocError> {
-        if !self.out.is_empty() {
-            self.out.push_str("; ")?;
-        }
-        self.write_name(owed)?;
-        self.write_numbers(owed, head)?;
-        self.write_scale(head.scale)
-    }
-
-    fn write_name(&mut self, owed: &Owed) -> Result<(), AllocError> {
-        let name = self.name_of(owed)?;
-        self.out.push_str(name.as_str())
-    }
-
-    fn write_numbers(&mut self, owed: &Owed, head: Head) -> Result<(), AllocError> {
-        let numbers = self.numbers_of(owed, head)?;
-        self.out.push_str(numbers.as_str())
-    }
-
-    fn write_scale(&mut self, scale: Option<u8>) -> Result<(), AllocError> {
-        let Some(scale) = scale else {
-            return Ok(());
-        };
-        let scale = format!(in self.alloc; " ws{scale}")?;
-        self.out.push_str(scale.as_str())
-    }
-
-    fn name_of(&self, owed: &Owed) -> Result<String, AllocError> {
-        match owed {
-            Owed::Syn => "Syn ".to_string(self.alloc),
-            Owed::SynAck => "SynAck ".to_string(self.alloc),
-            Owed::Ack => "Ack ".to_string(self.alloc),
-            Owed::Reset { .. } => "Reset ".to_string(self.alloc),
-            Owed::Data(piece) => {
-                let fin = if piece.fin { ",fin" } else { "" };
-                format!(in self.alloc; "Data({},{}{fin}) ", piece.place, piece.length)
-            }
-        }
-    }
-
-    fn numbers_of(&self, owed: &Owed, head: Head) -> Result<String, AllocError> {
-        let (seq, ack, window) = (head.seq.0, head.ack.0, head.window);
-        match owed {
-            Owed::Syn => format!(in self.alloc; "{seq} w{window}"),
-            Owed::Reset { .. } if window == 0 => format!(in self.alloc; "{seq}/{ack}"),
-            _ => format!(in self.alloc; "{seq}/{ack} w{window}"),
         }
     }
 }
@@ -354,20 +305,12 @@ impl Owner {
     // What stands behind the brackets where that stands there in a case.
     fn put_behind(&self, text: &mut String, wanted: &str) -> Result<(), AllocError> {
         if wanted.contains("timer") {
-            self.put_timer(text)
+            put_timer(text, self.alloc, self.until())
         } else if wanted.contains("holds") {
             self.put_held(text)
         } else {
             Ok(())
         }
-    }
-
-    fn put_timer(&self, text: &mut String) -> Result<(), AllocError> {
-        let Some(moment) = self.until() else {
-            return text.push_str(" no timer");
-        };
-        let timer = format!(in self.alloc; " timer {moment}")?;
-        text.push_str(timer.as_str())
     }
 
     // The moment until which the connection waits: for its socket, or for its timer.
@@ -379,31 +322,10 @@ impl Owner {
         }
     }
 
-    // The octets that are held: `x15 k5` stands for fifteen x and five k.
     fn put_held(&self, text: &mut String) -> Result<(), AllocError> {
-        text.push_str(" holds")?;
         let mut octets = [0; 64];
         let count = self.up.front_piece(&mut octets);
-        let mut run = 0u32;
-        let mut last = 0;
-        for octet in octets.iter().take(count) {
-            if *octet != last {
-                self.end_run(text, last, run)?;
-                run = 0;
-                last = *octet;
-            }
-            run = run.saturating_add(1);
-        }
-        self.end_run(text, last, run)
-    }
-
-    fn end_run(&self, text: &mut String, letter: u8, run: u32) -> Result<(), AllocError> {
-        if run > 0 {
-            let letter = char::from(letter);
-            let run = format!(in self.alloc; " {letter}{run}")?;
-            text.push_str(run.as_str())?;
-        }
-        Ok(())
+        put_runs(text, self.alloc, &octets, count)
     }
 
     // How many numbers went out once the host's octets fill the guest's window. `None` where that can't be seen.

@@ -4,5 +4,6 @@ pub mod Heard
 pub mod Jar
 pub mod Journal
 pub mod Limits
+pub mod Moments
 pub mod Puts
 pub mod Tells

@@ -8,11 +8,41 @@ ghost use Rattle.world_face.specs.Journal.{filled, filled_got, place_of, IsPlace
 ghost use Rattle.world_face.specs.Limits.{most_ready, most_to_link, most_to_flow, most_to_udp, most_wants, most_name};
 ghost use Rattle.poll_list.specs.Listing.{AreWants};
 ghost use Rattle.world_face.specs.Tells.{Telling, Answers};
+ghost use Rattle.world_face.specs.Moments.{sooner};
 
 use arrayvec::ArrayString;
 pub use net_octets::{Endpoint, Fault, FaultKind, Ip4, Mac, NoMemory, NoRoom, Prefix};
 pub use poll_list::{ReadyList, Want, Wants, Who};
 pub use sink::{Failed, Sink, VecSink};
+
+/// The octets of one write to the link at most: those of the greatest frame out, and the four of its length.
+pub const MOST_TO_LINK: usize = 1518;
+
+/// The octets of one write to a connection at most.
+pub const MOST_TO_FLOW: usize = 16_384;
+
+/// The octets of a datagram of UDP at most (RFC 768).
+pub const MOST_TO_UDP: usize = 65_507;
+
+/// The octets of the name of a file at most.
+pub const MOST_NAME: usize = 1_280;
+
+/// The wants of one wait at most.
+pub const MOST_WANTS: usize = 5_155;
+
+/// The items that one wait reports at most.
+pub const MOST_READY: usize = 5_155;
+
+/// The sooner of two moments, or the shorter of two times; None, which is no moment, is later than any.
+pub fn sooner(one: Option<u64>, other: Option<u64>) -> Option<u64>
+    ensures { result ≡ sooner one other }
+{
+    match (one, other) {
+        (Some(one), Some(other)) => Some(one.min(other)),
+        (Some(one), None) => Some(one),
+        (None, other) => other,
+    }
+}
 
 /// What a read or a write answers.
 #[derive(Clone, Copy, Debug, PartialEq, Eq)]

@@ -1,7 +1,8 @@
 use Rattle.std.proofs.Common.{◌≡◌, ℕ, List, [], ◌∷◌, ◌++◌, ap, append_assoc, codes, decimal}
 use Rattle.std.specs.Result.{is_ok}
 use Rattle.replay.specs.Names.{name_text}
-use Rattle.replay.proofs.Putting.{puts_then, puts_same}
+use Rattle.world_face.proofs.Putting.{puts_then}
+use Rattle.replay.proofs.Putting.{puts_same}
 use Rattle.app_edges.specs.Texts.{wanted_text}
 use Rattle.app_edges.proofs.status.tell_divergence.Goals as goal
 

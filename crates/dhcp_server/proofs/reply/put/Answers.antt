@@ -12,9 +12,9 @@ returns-clause-written c =
     let body = c.args.body.now in
     let into = c.args.into.now in
     let item = item_octets form (Field c.args.code body) in
-    let size = c.in-Some.ensures.length in
-    let octets : c.put.new.into ≡ (item ++ []) ++ drop c.in-Some.length (take (length into - at) (drop at into)) =
-    c.in-Some.ensures.written
-    ∙ ap (λ (r : Rules). item_octets r.form (Field c.args.code body) ++ drop c.in-Some.length (take (length into - at) (drop at into))) c.requires.table
-    ∙ ap (λ xs. xs ++ drop c.in-Some.length (take (length into - at) (drop at into))) (sym (append-nil item)) in
-    adds_front into c.put.new.into (item ++ []) at c.in-Some.length (length into - at) (at + c.in-Some.length) (omega (arith, size, ap length (append-nil item))) refl (omega (arith, size, c.requires.room)) (omega (arith, size, c.requires.room)) octets
+    let size = c.write.ensures.length in
+    let octets : c.write.new.into ≡ (item ++ []) ++ drop c.write.result (take (length into - at) (drop at into)) =
+    c.write.ensures.written
+    ∙ ap (λ (r : Rules). item_octets r.form (Field c.args.code body) ++ drop c.write.result (take (length into - at) (drop at into))) c.requires.table
+    ∙ ap (λ xs. xs ++ drop c.write.result (take (length into - at) (drop at into))) (sym (append-nil item)) in
+    adds_front into c.write.new.into (item ++ []) at c.write.result (length into - at) (at + c.write.result) (omega (arith, size, ap length (append-nil item))) refl (omega (arith, size, c.requires.room)) (omega (arith, size, c.requires.room)) octets

@@ -1,5 +1,5 @@
 use Rattle.std.proofs.Common.{◌≡◌, arith, ◌∙◌, length}
-use Rattle.drive_world.proofs.Picking.{goes_on_step, goes_on_passed, adds_one}
+use Rattle.poll_list.proofs.Picking.{goes_on_step, goes_on_passed, adds_one}
 use Rattle.drive_world.proofs.reporting.add_parts.Goals as goal
 
 pub loop-want-preserved : goal.loop-want-preserved

@@ -1,6 +1,6 @@
 use Rattle.std.proofs.Common.{◌≡◌, ◌+◌, ◌≤◌, List, ◌++◌, length, drop}
 use Rattle.poll_list.specs.declared.Want.{Want}
-use Rattle.drive_world.specs.Picks.{GoesOn}
+use Rattle.poll_list.specs.Picks.{GoesOn}
 use Rattle.drive_world.proofs.reporting.add_parts.Given as goal
 
 abbrev pub invariant-loop-want : goal.invariant-loop-want

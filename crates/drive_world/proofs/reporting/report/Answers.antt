@@ -1,5 +1,5 @@
 use Rattle.std.proofs.Common.{◌≡◌, length, ap, arith}
-use Rattle.drive_world.proofs.Picking.{picked_all, picked_wants, picked_differ}
+use Rattle.poll_list.proofs.Picking.{picked_all, picked_wants, picked_differ}
 use Rattle.drive_world.proofs.reporting.report.Goals as goal
 
 pub returns-clause-picked : goal.returns-clause-picked

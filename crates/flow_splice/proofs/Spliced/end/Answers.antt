@@ -1,5 +1,6 @@
 use Rattle.std.proofs.Common.{◌≡◌, ◌∷◌, [], ℕ, true, false, refl, ap, subst, sym}
 use Rattle.world_face.specs.Journal.{Close, TcpEnd}
+use Rattle.world_face.specs.Tells.{Answers}
 use Rattle.world_face.specs.declared.Made.TheVariants.{Done, Failed}
 use Rattle.tcp_guest.specs.Connection.{HasBuffers}
 use Rattle.tcp_guest.specs.Hosts.{write_ended}
@@ -17,7 +18,8 @@ pub returns-in-Failed-clause-makes : goal.returns-in-Failed-clause-makes
 returns-in-Failed-clause-makes g c =
     let f : Splice = c.args.self.now in
     let now : ℕ = c.args.now in
-    two_calls _ _ _ (TcpEnd f.face.number Failed) (Close f.face.number) _ c.in-Failed.ensures c.fail.ensures.closes
+    let told = subst (λ (x : Splice). Answers (g.W.World.tells c.args.world.now) (g.W.World.tells c.tcp_end.new.self) (TcpEnd x.face.number Failed)) c.self.view_is c.in-Failed.ensures in
+    two_calls _ _ _ (TcpEnd f.face.number Failed) (Close f.face.number) _ told c.fail.ensures.closes
     (λ one two. (
       subst (λ (x : Splice). GoesOn f x false now (Close f.face.number ∷ TcpEnd f.face.number Failed ∷ [])) (sym c.fail.ensures.change)
           (host_end_fails f now c.requires.open_yet c.requires.all c.requires.ends),
@@ -33,7 +35,8 @@ returns-in-Done-clause-makes g c =
     let marked = c.mark_ended-change in
     let ended : Splice = record f { conn = settled (write_ended f.conn); told_end = true } in
     let is : marked.new.self ≡ ended = marked.ensures.ended in
-    calls_after _ _ _ (TcpEnd f.face.number Done) (Sees (ends marked.result) marked.new.self c.see.new.self now) _ c.in-Done.ensures c.see.ensures
+    let told = subst (λ (x : Splice). Answers (g.W.World.tells c.args.world.now) (g.W.World.tells c.tcp_end.new.self) (TcpEnd x.face.number Done)) c.self.view_is c.in-Done.ensures in
+    calls_after _ _ _ (TcpEnd f.face.number Done) (Sees (ends marked.result) marked.new.self c.see.new.self now) _ told c.see.ensures
     (λ made sees. (
       host_ends f now c.requires.open_yet c.requires.all c.requires.ends (subst (λ (x : Splice). HasBuffers x.conn x.up x.down) is marked.ensures.buffers)
           (ends marked.result) (sym (ap ends marked.ensures.change)) c.see.new.self made (subst (λ (x : Splice). Sees (ends marked.result) x c.see.new.self now made) is sees),

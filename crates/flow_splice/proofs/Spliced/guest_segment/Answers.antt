@@ -15,11 +15,15 @@ returns-in-Resting-clause-makes g c =
     let since : ℕ = c.in-Resting.since in
     makes_none _ _ (subst (λ (x : Splice). Hears f x tcp c.args.now []) (sym c.take_at_rest.ensures.heard) (hears_at_rest f c.args.now since tcp (sym c.place.ensures ∙ c.in-Resting.is)), refl)
 
-pub returns-in-Resting-clause-same : goal.returns-in-Resting-clause-same
-returns-in-Resting-clause-same g c =
+pub returns-in-Resting-clause-stays : goal.returns-in-Resting-clause-stays
+returns-in-Resting-clause-stays g c =
     let f : Splice = c.args.self.now in
     let tcp : Tcp = tcp_of c.args.seg.now in
-    subst (λ (x : Splice). IsAsOld f x) (sym c.take_at_rest.ensures.heard) (at_rest_as_old (ends_rest f.conn tcp) f c.in-Resting.since tcp c.args.now)
+    record {
+      same = subst (λ (x : Splice). IsAsOld f x) (sym c.take_at_rest.ensures.heard) (at_rest_as_old (ends_rest f.conn tcp) f c.in-Resting.since tcp c.args.now);
+      up = c.take_at_rest.ensures.up;
+      down = c.take_at_rest.ensures.down;
+    }
 
 pub returns-in_default : goal.returns-in_default
 returns-in_default g c =
@@ -28,9 +32,7 @@ returns-in_default g c =
     record {
       makes = makes_none _ _ (hears_nothing f c.args.now tcp (sym c.is_open.ensures ∙ c.if-is_open.false) (λ since at. c.in_default.not-Resting since (c.place.ensures ∙ at)), refl);
       unfit = sym (ap (λ (b : Bool). b && is_unfit (change_at f.conn f.up f.down tcp c.args.now)) (sym c.is_open.ensures ∙ c.if-is_open.false));
-      same = record { face = refl; mac = refl; since = refl; asked = refl; ask_at = refl; up_size = refl; down_size = refl; mru = refl };
-      up = refl;
-      down = refl;
+      stays = record { same = record { face = refl; mac = refl; since = refl; asked = refl; ask_at = refl; up_size = refl; down_size = refl; mru = refl }; up = refl; down = refl };
       rests = λ since at. absurd (c.in_default.not-Resting since (c.place.ensures ∙ at));
       closed = λ shut awake. refl;
       quiet = λ shut. refl;

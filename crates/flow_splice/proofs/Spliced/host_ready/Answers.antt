@@ -12,7 +12,7 @@ returns-clause-makes g c =
     let new = c.serve_reading.new.self in
     makes_then _ _ _ _ _ _ c.serve_writing.ensures.makes c.serve_reading.ensures.makes
     (λ first second one two. (
-      goes_then old mid new false c.args.now first second c.serve_reading.ensures.same.face c.serve_reading.ensures.same.mac one.0 two.0,
+      goes_then old mid new false c.args.now first second c.serve_reading.ensures.stays.same.face c.serve_reading.ensures.stays.same.mac one.0 two.0,
       host_works c.args.read c.args.write first second one.1 one.2 two.1 two.2,
       serves_both c.args.read c.args.write old mid first second one.3 one.4 two.3,
     ))

@@ -35,7 +35,7 @@ returns-in-Some-clause-makes g c =
     (λ made sends. (
       learn_then f new c.args.mac link next first last c.args.now made (subst (λ (x : Splice). SendsOn x new link next first last c.args.now made) c.learn.ensures sends.0),
       sends.1,
-      known_asks f new c.args.mac c.args.now made (ap (λ (x : Splice). x.mac) (sym c.learn.ensures) ∙ sym c.mac.ensures ∙ c.in-Some.is) (c.send_all.ensures.as_old.asked ∙ ap (λ (x : Splice). x.asked) c.learn.ensures),
+      known_asks f new c.args.mac c.args.now made (ap (λ (x : Splice). x.mac) (sym c.learn.ensures) ∙ sym c.mac.ensures ∙ c.in-Some.is) (c.send_all.ensures.stays.same.asked ∙ ap (λ (x : Splice). x.asked) c.learn.ensures),
     ))
 
 pub returns-in-None-clause-makes : goal.returns-in-None-clause-makes

@@ -74,23 +74,11 @@ returns-clause-less g c is =
     (subst (λ (x : Splice). Marks offer.result what x c.mark.new.self c.args.now c.mark.ensures.makes.made) offer.ensures.change c.mark.ensures.makes.holds) in
     marks_less what f c.mark.new.self c.args.now c.mark.ensures.makes.made offer.ensures.buffers two.1 marks
 
-pub returns-clause-as_old : goal.returns-clause-as_old
-returns-clause-as_old g c =
+pub returns-clause-stays : goal.returns-clause-stays
+returns-clause-stays g c =
     let offer = c.offer_owed-offered in
     (marks_stay offer.result c.args.what.now c.args.self.now c.mark.new.self c.args.now c.mark.ensures.makes.made
-    (subst (λ (x : Splice). Marks offer.result c.args.what.now x c.mark.new.self c.args.now c.mark.ensures.makes.made) offer.ensures.change c.mark.ensures.makes.holds)).as_old
-
-pub returns-clause-up : goal.returns-clause-up
-returns-clause-up g c =
-    let offer = c.offer_owed-offered in
-    (marks_stay offer.result c.args.what.now c.args.self.now c.mark.new.self c.args.now c.mark.ensures.makes.made
-    (subst (λ (x : Splice). Marks offer.result c.args.what.now x c.mark.new.self c.args.now c.mark.ensures.makes.made) offer.ensures.change c.mark.ensures.makes.holds)).up
-
-pub returns-clause-down : goal.returns-clause-down
-returns-clause-down g c =
-    let offer = c.offer_owed-offered in
-    (marks_stay offer.result c.args.what.now c.args.self.now c.mark.new.self c.args.now c.mark.ensures.makes.made
-    (subst (λ (x : Splice). Marks offer.result c.args.what.now x c.mark.new.self c.args.now c.mark.ensures.makes.made) offer.ensures.change c.mark.ensures.makes.holds)).down
+    (subst (λ (x : Splice). Marks offer.result c.args.what.now x c.mark.new.self c.args.now c.mark.ensures.makes.made) offer.ensures.change c.mark.ensures.makes.holds)).stays
 
 pub returns-clause-early : goal.returns-clause-early
 returns-clause-early g c early =

@@ -4,7 +4,7 @@ use Rattle.flow_splice.specs.Shapes.{IsPumpWork}
 use Rattle.flow_splice.specs.Splice.{Splice}
 use Rattle.stream_netdev.specs.declared.Pumped.{Pumped}
 use Rattle.stream_netdev.specs.declared.Pumped.TheVariants.{Clear, Blocked, Failed}
-use Rattle.flow_splice.proofs.Coming.{as_old_then}
+use Rattle.flow_splice.proofs.Coming.{stays_then}
 use Rattle.flow_splice.proofs.Marking.{sends_none, sends_then}
 use Rattle.flow_splice.proofs.Shaping.{works_then}
 use Rattle.flow_splice.proofs.Spliced.send_all.Goals as goal
@@ -14,9 +14,11 @@ loop-what-init g c = record {
   makes = makes_none _ _ (sends_none c.args.self.now c.args.link.now c.args.ident.now c.args.now (omega arith), refl);
   tail = c.requires.none;
   free = c.requires.free;
-  as_old = record { face = refl; mac = refl; since = refl; asked = refl; ask_at = refl; up_size = refl; down_size = refl; mru = refl };
-  up = refl;
-  down = refl;
+  stays = record {
+    same = record { face = refl; mac = refl; since = refl; asked = refl; ask_at = refl; up_size = refl; down_size = refl; mru = refl };
+    up = refl;
+    down = refl;
+  };
   same = refl;
   closed = λ shut. shut;
   early = λ early. early;
@@ -32,14 +34,12 @@ loop-what-preserved g c =
     record {
       makes = makes_then _ _ _ _ _ _ kept.makes c.send.ensures.makes
           (λ first second a b. (
-            sends_then old mid new c.args.link.now c.loop-what.link c.send.new.link c.args.ident.now c.loop-what.ident c.send.new.ident c.args.now first second c.send.ensures.as_old.face c.send.ensures.as_old.mac a.0 b.0,
+            sends_then old mid new c.args.link.now c.loop-what.link c.send.new.link c.args.ident.now c.loop-what.ident c.send.new.ident c.args.now first second c.send.ensures.stays.same.face c.send.ensures.stays.same.mac a.0 b.0,
             works_then Clear second first a.1 (subst (λ (p : Pumped). IsPumpWork p second) c.in-Clear.is b.1),
           ));
       tail = free.1;
       free = free.0;
-      as_old = as_old_then old mid new kept.as_old c.send.ensures.as_old;
-      up = c.send.ensures.up ∙ kept.up;
-      down = c.send.ensures.down ∙ kept.down;
+      stays = stays_then old mid new kept.stays c.send.ensures.stays;
       same = c.send.ensures.same ∙ kept.same;
       closed = λ shut. c.send.ensures.closed (kept.closed shut);
       early = λ early. c.send.ensures.early (kept.early early);
@@ -52,7 +52,7 @@ returns-in-Blocked-clause-makes g c =
     let new : Splice = c.send.new.self in
     makes_then _ _ _ _ _ _ c.loop-what.invariant.makes c.send.ensures.makes
     (λ first second a b. (
-      sends_then old mid new c.args.link.now c.loop-what.link c.send.new.link c.args.ident.now c.loop-what.ident c.send.new.ident c.args.now first second c.send.ensures.as_old.face c.send.ensures.as_old.mac a.0 b.0,
+      sends_then old mid new c.args.link.now c.loop-what.link c.send.new.link c.args.ident.now c.loop-what.ident c.send.new.ident c.args.now first second c.send.ensures.stays.same.face c.send.ensures.stays.same.mac a.0 b.0,
       works_then Blocked second first a.1 (subst (λ (p : Pumped). IsPumpWork p second) c.in-Blocked.is b.1),
     ))
 
@@ -63,7 +63,7 @@ returns-in-Failed-clause-makes g c =
     let new : Splice = c.send.new.self in
     makes_then _ _ _ _ _ _ c.loop-what.invariant.makes c.send.ensures.makes
     (λ first second a b. (
-      sends_then old mid new c.args.link.now c.loop-what.link c.send.new.link c.args.ident.now c.loop-what.ident c.send.new.ident c.args.now first second c.send.ensures.as_old.face c.send.ensures.as_old.mac a.0 b.0,
+      sends_then old mid new c.args.link.now c.loop-what.link c.send.new.link c.args.ident.now c.loop-what.ident c.send.new.ident c.args.now first second c.send.ensures.stays.same.face c.send.ensures.stays.same.mac a.0 b.0,
       works_then Failed second first a.1 (subst (λ (p : Pumped). IsPumpWork p second) c.in-Failed.is b.1),
     ))
 

@@ -2,11 +2,11 @@ use Rattle.std.proofs.Common.{◌≡◌, [], false, true}
 use Rattle.world_face.specs.Tells.{Makes}
 use Rattle.stream_netdev.specs.State.{under_way}
 use Rattle.flow_splice.specs.Ahead.{IsEarly}
-use Rattle.flow_splice.specs.Hosts.{IsAsOld}
 use Rattle.flow_splice.specs.Left.{left}
 use Rattle.flow_splice.specs.Sends.{SendsOn}
 use Rattle.flow_splice.specs.Shapes.{are_sending}
 use Rattle.flow_splice.specs.Splice.{is_open}
+use Rattle.flow_splice.specs.Stays.{Stays}
 use Rattle.flow_splice.proofs.Spliced.send_all.Given as goal
 
 abbrev pub invariant-loop-what : goal.invariant-loop-what
@@ -14,9 +14,7 @@ invariant-loop-what g l = record {
   makes : Makes (g.W.World.tells l.fn.world) (g.W.World.tells l.world) (λ made. SendsOn l.fn.self l.self l.fn.link l.link l.fn.ident l.ident l.now made × (are_sending made ≡ true));
   tail : l.link.tail ≡ [];
   free : l.link.blocked ≡ false;
-  as_old : IsAsOld l.fn.self l.self;
-  up : l.self.up ≡ l.fn.self.up;
-  down : l.self.down ≡ l.fn.self.down;
+  stays : Stays l.fn.self l.self;
   same : under_way l.link ≡ under_way l.fn.link;
   closed : is_open l.fn.self ≡ false → is_open l.self ≡ false;
   early : IsEarly l.now l.fn.self.conn → IsEarly l.now l.self.conn;

@@ -4,11 +4,12 @@ use Rattle.sock_buffers.specs.Upward.{Upward}
 use Rattle.tcp_receive.specs.Coming.{Comes}
 use Rattle.tcp_segment.specs.Tcp.{Tcp, tcp_of}
 use Rattle.tcp_guest.specs.Connection.{HasBuffers}
+use Rattle.tcp_transmit.specs.Transmission.{octets_read}
 use Rattle.connection_follows.specs.Holding.{is_live}
 use Rattle.flow_splice.specs.Guests.{heard}
 use Rattle.flow_splice.specs.Hosts.{IsAsOld, Sees, ends}
 use Rattle.flow_splice.specs.Splice.{Splice}
-use Rattle.flow_splice.proofs.Coming.{as_old_then, heard_as_old, heard_dead, heard_written, sees_as_old, sees_up}
+use Rattle.flow_splice.proofs.Coming.{as_old_then, heard_as_old, heard_dead, heard_written, sees_stays}
 use Rattle.flow_splice.proofs.Hearing.{hears}
 use Rattle.flow_splice.proofs.Shaping.{sees_at_most}
 use Rattle.flow_splice.proofs.Spliced.take_segment.Goals as goal
@@ -36,16 +37,14 @@ returns-clause-makes g c =
       sees_at_most (ends took.result) took.new.self c.see.new.self now made sees,
     ))
 
-pub returns-clause-same : goal.returns-clause-same
-returns-clause-same g c =
+pub returns-clause-stays : goal.returns-clause-stays
+returns-clause-stays g c =
     let f : Splice = c.args.self.now in
     let took = c.take_in-change in
-    as_old_then f took.new.self c.see.new.self (subst (λ (x : Splice). IsAsOld f x) (sym took.ensures.heard) (heard_as_old f (tcp_of c.args.seg.now) c.args.now))
-    (sees_as_old (ends took.result) took.new.self c.see.new.self c.args.now c.see.ensures.made c.see.ensures.holds)
-
-pub returns-clause-up : goal.returns-clause-up
-returns-clause-up g c =
-    let f : Splice = c.args.self.now in
-    let took = c.take_in-change in
-    ap (λ (u : Upward). u.written) (sees_up (ends took.result) took.new.self c.see.new.self c.args.now c.see.ensures.made c.see.ensures.holds)
-    ∙ ap (λ (x : Splice). x.up.written) took.ensures.heard ∙ heard_written f (tcp_of c.args.seg.now) c.args.now
+    let seen = sees_stays (ends took.result) took.new.self c.see.new.self c.args.now c.see.ensures.made c.see.ensures.holds in
+    record {
+      same = as_old_then f took.new.self c.see.new.self
+          (subst (λ (x : Splice). IsAsOld f x) (sym took.ensures.heard) (heard_as_old f (tcp_of c.args.seg.now) c.args.now)) seen.same;
+      up = ap (λ (u : Upward). u.written) seen.up ∙ ap (λ (x : Splice). x.up.written) took.ensures.heard ∙ heard_written f (tcp_of c.args.seg.now) c.args.now;
+      down = ap octets_read seen.down ∙ took.ensures.read;
+    }

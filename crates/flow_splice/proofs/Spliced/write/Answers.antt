@@ -50,7 +50,7 @@ returns-in-Done-clause-makes g c =
     (host_takes f now c.requires.open_yet c.requires.owes answer c.offer.ensures.few (subst (λ (x : Splice). HasBuffers x.conn x.up x.down) change c.offer.ensures.buffers) (not_failed answer c.in-Done.is)) in
     calls_after _ _ _ offered _ _ c.offer.ensures.offers c.end_after_octets.ensures.makes
     (λ made more. (
-      goes_then f mid new false now (offered ∷ []) made c.end_after_octets.ensures.same.face c.end_after_octets.ensures.same.mac first more.0,
+      goes_then f mid new false now (offered ∷ []) made c.end_after_octets.ensures.stays.same.face c.end_after_octets.ensures.stays.same.mac first more.0,
       gives_ending made f.face.number (take (min 16384 (length f.up.held)) f.up.held) answer more.1,
       still_is is_for_writing made (offered ∷ []) refl,
       λ reading. or_already (reads new) reads_or_shuts made (offered ∷ []) (more.2 (ap reads change ∙ reading)),

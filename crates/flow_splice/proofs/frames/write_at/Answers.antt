@@ -1,12 +1,11 @@
 use Rattle.std.proofs.Common.{◌≡◌, ℕ, ◌+◌, ◌-◌, ◌++◌, List, [], length, refl, arith, ap, length-append, ◌∙◌}
 use Rattle.net_octets.proofs.Writing.{written}
 use Rattle.net_octets.specs.Kinds.{ipv4_kind, tcp_proto}
-use Rattle.net_octets.specs.Octets.{two}
+use Rattle.net_octets.specs.Octets.{two, our_mac}
 use Rattle.ether_frame.specs.Ether.{ether_octets}
 use Rattle.ipv4_head.specs.Ip.{summed_head}
 use Rattle.tcp_segment.specs.Tcp.{Tcp, tcp_octets, tcp_of}
 use Rattle.connection_follows.specs.Sending.{carried}
-use Rattle.flow_splice.specs.Frames.{our_mac}
 use Rattle.flow_splice.proofs.frames.write_at.Goals as goal
 
 pub returns-clause-written : goal.returns-clause-written

@@ -1,6 +1,6 @@
 use Rattle.std.proofs.Common.{◌≡◌, ℕ, ◌+◌, ◌++◌, List, [], length, take, drop, arith, ap, append_assoc, length-append, sym, ◌∙◌}
 use Rattle.std.proofs.lemmas.List.{take_at}
-use Rattle.net_octets.specs.Octets.{checksum, two}
+use Rattle.net_octets.specs.Octets.{checksum, two, our_mac}
 use Rattle.net_octets.specs.Kinds.{ipv4_kind, tcp_proto}
 use Rattle.ether_frame.specs.Ether.{ether_octets}
 use Rattle.ipv4_head.specs.Ip.{ip_octets, summed_head}
@@ -8,7 +8,7 @@ use Rattle.tcp_segment.specs.Tcp.{Tcp, mss_octets, options_octets, scale_octets,
 use Rattle.tcp_segment.proofs.Spelling.{length-segment}
 use Rattle.sock_buffers.specs.Downward.{Downward}
 use Rattle.connection_follows.specs.Sending.{carried, with_head}
-use Rattle.flow_splice.specs.Frames.{our_mac, tcp_out}
+use Rattle.flow_splice.specs.Frames.{tcp_out}
 use Rattle.flow_splice.specs.Splice.{Face}
 use Rattle.flow_splice.proofs.Sizing.{carries_few, mss_fits}
 use Rattle.flow_splice.proofs.frames.write_frame.Goals as goal

@@ -10,15 +10,15 @@ use Rattle.flow_table.proofs.Tables.{rested_table, rests_below}
 use Rattle.flow_table.proofs.FlowTable.resting.Goals as goal
 
 -- the slot has a tuple
-abbrev asked : (slots : List Slot) (turns : List ℕ) (now : Flows) (slot : ℕ) → flows slots turns ≡ now → HasSome now.slots slot → HasSome slots slot
-asked slots turns now slot view has = subst (λ (f : Flows). HasSome f.slots slot) (sym view) has
+abbrev asked : (slots : List Slot) (rest_order : List ℕ) (now : Flows) (slot : ℕ) → flows slots rest_order ≡ now → HasSome now.slots slot → HasSome slots slot
+asked slots rest_order now slot view has = subst (λ (f : Flows). HasSome f.slots slot) (sym view) has
 
 pub insert_rest-requires-clause-room : goal.insert_rest-requires-clause-room
 insert_rest-requires-clause-room c =
     let slots = c.self.inside.slots.items in
     let has = asked _ _ _ c.args.slot c.self.view_is c.requires in
-    let ended = subst (λ (s : List Slot). (turns : List ℕ) → AreRests s turns c.self.inside.rests.items → AreRests (slice_set s c.args.slot Free) turns c.end_rest.new.rests.items) c.deref.ensures.value c.end_rest.ensures.rests in
-    let below = rests_below slots c.self.inside.turns.items c.end_rest.new.rests.items c.args.slot (has_within slots c.args.slot has.0 has.1) (ended _ c.self.invariant.by_rest) in
+    let ended = subst (λ (s : List Slot). (rest_order : List ℕ) → AreRests s rest_order c.self.inside.rests.items → AreRests (slice_set s c.args.slot Free) rest_order c.end_rest.new.rests.items) c.deref.ensures.value c.end_rest.ensures.rests in
+    let below = rests_below slots c.self.inside.rest_order.items c.end_rest.new.rests.items c.args.slot (has_within slots c.args.slot has.0 has.1) (ended _ c.self.invariant.by_rest) in
     omega (arith, below, c.end_rest.ensures.room, c.self.invariant.rests_fit, c.end_rest.new.rests.ok.0)
 
 pub index_mut-requires : goal.index_mut-requires
@@ -35,26 +35,26 @@ move_last-requires c =
 pub invariant_of-self : goal.invariant_of-self
 invariant_of-self c =
     let slots = c.self.inside.slots.items in
-    let turns = c.self.inside.turns.items in
+    let rest_order = c.self.inside.rest_order.items in
     let slot = c.args.slot in
-    let has = asked slots turns _ slot c.self.view_is c.requires in
+    let has = asked slots rest_order _ slot c.self.view_is c.requires in
     let read = tuple_is_read slots slot c.index.result.now has.0 has.1 c.index.ensures in
     let is : HasTuple slots slot c.in-Some.tuple = has.1 ∙ sym read ∙ sym c.tuple.ensures ∙ c.in-Some.is in
-    let ended = subst (λ (s : List Slot). (turns : List ℕ) → AreRests s turns c.self.inside.rests.items → AreRests (slice_set s slot Free) turns c.end_rest.new.rests.items) c.deref.ensures.value c.end_rest.ensures.rests in
+    let ended = subst (λ (s : List Slot). (rest_order : List ℕ) → AreRests s rest_order c.self.inside.rests.items → AreRests (slice_set s slot Free) rest_order c.end_rest.new.rests.items) c.deref.ensures.value c.end_rest.ensures.rests in
     let at = c.insert_rest.ensures.place in
-    rested_table slots turns _ c.self.inside.free.items c.self.inside.entries.items c.self.inside.rests.items c.end_rest.new.rests.items c.insert_rest.new.rests.items slot c.args.since at.0 c.in-Some.tuple _ _ _ _ c.self.invariant is ended at.1.0 at.1.1
-    (take_at c.move_last.new.turns _ _ (omega arith) ∙ c.move_last.ensures ∙ ap (moved_last slot) c.deref_mut.ensures.value) (omega (arith, c.insert_rest.ensures.room, c.end_rest.ensures.room))
+    rested_table slots rest_order _ c.self.inside.free.items c.self.inside.entries.items c.self.inside.rests.items c.end_rest.new.rests.items c.insert_rest.new.rests.items slot c.args.since at.0 c.in-Some.tuple _ _ _ _ c.self.invariant is ended at.1.0 at.1.1
+    (take_at c.move_last.new.rest_order _ _ (omega arith) ∙ c.move_last.ensures ∙ ap (moved_last slot) c.deref_mut.ensures.value) (omega (arith, c.insert_rest.ensures.room, c.end_rest.ensures.room))
 
 pub returns-in-Some : goal.returns-in-Some
 returns-in-Some c = λ t has_t.
     let slots = c.self.inside.slots.items in
-    let turns = c.self.inside.turns.items in
+    let rest_order = c.self.inside.rest_order.items in
     let slot = c.args.slot in
-    let has = asked slots turns _ slot c.self.view_is c.requires in
+    let has = asked slots rest_order _ slot c.self.view_is c.requires in
     let read = tuple_is_read slots slot c.index.result.now has.0 has.1 c.index.ensures in
     let is : HasTuple slots slot c.in-Some.tuple = has.1 ∙ sym read ∙ sym c.tuple.ensures ∙ c.in-Some.is in
-    rested_is slots turns _ _ slot c.args.since t c.in-Some.tuple c.self.view_is is
-    (take_at c.move_last.new.turns _ _ (omega arith) ∙ c.move_last.ensures ∙ ap (moved_last slot) c.deref_mut.ensures.value) has_t
+    rested_is slots rest_order _ _ slot c.args.since t c.in-Some.tuple c.self.view_is is
+    (take_at c.move_last.new.rest_order _ _ (omega arith) ∙ c.move_last.ensures ∙ ap (moved_last slot) c.deref_mut.ensures.value) has_t
 
 pub returns-in_default : goal.returns-in_default
 returns-in_default c = λ t has_t.

@@ -1,5 +1,5 @@
 use Rattle.std.proofs.Common.{rules, ◌∙◌}
-use Rattle.net_world.proofs.Picking.{goes_on_from, goes_on_end}
+use Rattle.poll_list.proofs.Picking.{goes_on_from, goes_on_end}
 use Rattle.net_world.proofs.gathering.gather.Goals as goal
 
 pub loop-listed-init : goal.loop-listed-init

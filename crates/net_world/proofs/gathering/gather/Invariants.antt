@@ -1,5 +1,5 @@
 use Rattle.std.proofs.Common.{◌≡◌, ◌+◌, ◌≤◌, length}
-use Rattle.net_world.specs.Picks.{GoesOn, BeginsWithLink}
+use Rattle.poll_list.specs.Picks.{GoesOn, BeginsWithLink}
 use Rattle.net_world.proofs.gathering.gather.Given as goal
 
 abbrev pub invariant-loop-listed : goal.invariant-loop-listed

@@ -1,5 +1,5 @@
 use Rattle.std.proofs.Common.{◌∙◌}
-use Rattle.net_world.proofs.Picking.{goes_on_from, goes_on_last}
+use Rattle.poll_list.proofs.Picking.{goes_on_from, goes_on_last}
 use Rattle.net_world.proofs.gathering.gather_link.Goals as goal
 
 pub returns-clause-picked : goal.returns-clause-picked

@@ -1,6 +1,6 @@
 use Rattle.std.proofs.Common.{◌≡◌, ◌-◌, length, take, drop}
 use Rattle.std.proofs.lemmas.List.{take_rest}
-use Rattle.net_world.proofs.Picking.{goes_on_split}
+use Rattle.poll_list.proofs.Picking.{goes_on_split}
 use Rattle.net_world.proofs.gathering.gather_up_to.Goals as goal
 
 pub returns-clause-goes_on : goal.returns-clause-goes_on

@@ -1,7 +1,7 @@
 use Rattle.std.proofs.Common.{◌≡◌, refl, arith, inl, ◌∙◌, length, false}
 use Rattle.poll_list.specs.declared.Want.{Want}
 use Rattle.poll_list.specs.declared.Who.TheVariants.{Link}
-use Rattle.net_world.proofs.Picking.{goes_on_step, goes_on_passed, adds_one, begins_added}
+use Rattle.poll_list.proofs.Picking.{goes_on_step, goes_on_passed, adds_one, begins_added}
 use Rattle.net_world.proofs.gathering.gather_written.Goals as goal
 use Rattle.net_world.proofs.gathering.gather_written.Goals.{then-want, else-want}
 

@@ -1,6 +1,6 @@
 use Rattle.std.proofs.Common.{◌≡◌, ◌+◌, ◌≤◌, List, ◌++◌, length, drop}
 use Rattle.poll_list.specs.declared.Want.{Want}
-use Rattle.net_world.specs.Picks.{GoesOn, Begins}
+use Rattle.poll_list.specs.Picks.{GoesOn, Begins}
 use Rattle.net_world.proofs.gathering.gather_written.Given as goal
 
 abbrev pub invariant-loop-want : goal.invariant-loop-want

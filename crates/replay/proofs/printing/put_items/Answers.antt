@@ -1,7 +1,8 @@
 use Rattle.std.proofs.Common.{ap, sym, ◌∙◌}
 use Rattle.std.specs.Result.{is_ok}
 use Rattle.replay.specs.Text.{joined_text}
-use Rattle.replay.proofs.Putting.{puts_then, puts_same, joined_more}
+use Rattle.world_face.proofs.Putting.{puts_then}
+use Rattle.replay.proofs.Putting.{puts_same, joined_more}
 use Rattle.replay.proofs.printing.put_items.Goals as goal
 
 pub returns : goal.returns

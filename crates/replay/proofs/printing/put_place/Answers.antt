@@ -1,6 +1,7 @@
 use Rattle.std.proofs.Common.{ap}
 use Rattle.std.specs.Result.{is_ok}
-use Rattle.replay.proofs.Putting.{puts_then, puts_same, digits_append}
+use Rattle.world_face.proofs.Putting.{puts_then}
+use Rattle.replay.proofs.Putting.{puts_same, digits_append}
 use Rattle.replay.proofs.printing.put_place.Goals as goal
 
 pub returns : goal.returns

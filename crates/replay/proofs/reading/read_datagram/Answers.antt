@@ -1,5 +1,6 @@
 use Rattle.std.proofs.lemmas.Result.{err_from_is_err_and}
-use Rattle.replay.specs.Text.{endpoint_text, hexadecimal}
+use Rattle.address_text.specs.Texts.{endpoint_text}
+use Rattle.replay.specs.Text.{hexadecimal}
 use Rattle.replay.proofs.Words.{endpoint_word}
 use Rattle.replay.proofs.Refusing.{same_fault, spaced_parts}
 use Rattle.replay.proofs.reading.read_datagram.Goals as goal

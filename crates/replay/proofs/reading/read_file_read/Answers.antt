@@ -2,7 +2,8 @@ use Rattle.std.proofs.Common.{decimal, ◌++◌, ◌∷◌}
 use Rattle.std.proofs.lemmas.Result.{err_from_is_err_and}
 use Rattle.replay.specs.Text.{hexadecimal}
 use Rattle.replay.proofs.Parting.{decimal_word, hexadecimal_word}
-use Rattle.replay.proofs.Refusing.{same_fault, no_part, spaced_parts, says_file_read}
+use Rattle.address_text.proofs.Parting.{no_part}
+use Rattle.replay.proofs.Refusing.{same_fault, spaced_parts, says_file_read}
 use Rattle.replay.proofs.reading.read_file_read.Goals as goal
 
 pub returns-in_err-second-clause-refused : goal.returns-in_err-second-clause-refused

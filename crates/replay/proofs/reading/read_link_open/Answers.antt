@@ -1,6 +1,6 @@
 use Rattle.std.proofs.Common.{sym, ◌∙◌}
 use Rattle.std.proofs.lemmas.Result.{err_from_is_err_and}
-use Rattle.replay.specs.Text.{place_text}
+use Rattle.address_text.specs.Texts.{place_text}
 use Rattle.replay.proofs.Words.{same_octets, place_octets}
 use Rattle.replay.proofs.Refusing.{same_fault, says_link_open}
 use Rattle.replay.proofs.reading.read_link_open.Goals as goal

@@ -1,6 +1,6 @@
 use Rattle.std.proofs.Common.{decimal}
 use Rattle.std.proofs.lemmas.Result.{err_from_is_err_and}
-use Rattle.replay.specs.Text.{endpoint_text}
+use Rattle.address_text.specs.Texts.{endpoint_text}
 use Rattle.replay.proofs.Parting.{decimal_word}
 use Rattle.replay.proofs.Refusing.{spaced_parts}
 use Rattle.replay.proofs.reading.read_socket_at.Goals as goal

@@ -1,9 +1,11 @@
 use Rattle.std.proofs.Common.{decimal, ◌++◌, ◌∷◌}
 use Rattle.std.proofs.lemmas.Result.{err_from_is_err_and}
-use Rattle.replay.specs.Text.{endpoint_text, hexadecimal}
+use Rattle.address_text.specs.Texts.{endpoint_text}
+use Rattle.address_text.proofs.Parting.{no_part}
+use Rattle.replay.specs.Text.{hexadecimal}
 use Rattle.replay.proofs.Parting.{decimal_word}
 use Rattle.replay.proofs.Words.{endpoint_word}
-use Rattle.replay.proofs.Refusing.{same_fault, no_part, spaced_parts, says_udp_send}
+use Rattle.replay.proofs.Refusing.{same_fault, spaced_parts, says_udp_send}
 use Rattle.replay.proofs.reading.read_udp_send.Goals as goal
 
 pub returns-in_err-second-clause-refused : goal.returns-in_err-second-clause-refused

@@ -1,7 +1,7 @@
 use Rattle.std.proofs.Common.{ℕ, List, sym, subst}
 use Rattle.std.proofs.lemmas.Result.{err_from_is_err_and}
 use Rattle.slirp_config.specs.Rules.{IsType, IsPortAt}
-use Rattle.slirp_config.proofs.Parting.{no_part}
+use Rattle.address_text.proofs.Parting.{no_part}
 use Rattle.slirp_config.proofs.Ruled.{forward_parts, side_parts, spelt_forward}
 use Rattle.slirp_config.proofs.rules.read_forward.Goals as goal
 

@@ -1,7 +1,7 @@
 use Rattle.std.proofs.Common.{ℕ, List, sym, subst}
 use Rattle.std.proofs.lemmas.Result.{err_from_is_err_and}
 use Rattle.slirp_config.specs.Rules.{IsAddressOr}
-use Rattle.slirp_config.specs.Texts.{IsNumber}
+use Rattle.address_text.specs.Texts.{IsNumber}
 use Rattle.slirp_config.proofs.Ruled.{port_parts}
 use Rattle.slirp_config.proofs.rules.read_port_at.Goals as goal
 

@@ -1,5 +1,5 @@
 use Rattle.std.proofs.Common.{arith}
-use Rattle.slirp_config.proofs.Numbers.{number_over}
+use Rattle.address_text.proofs.Numbers.{number_over}
 use Rattle.slirp_config.proofs.values.read_mask.Goals as goal
 
 pub returns-then-ones-gt32-clause-refused : goal.returns-then-ones-gt32-clause-refused

@@ -1,6 +1,6 @@
 use Rattle.std.proofs.Common.{arith}
 use Rattle.std.proofs.lemmas.Result.{err_from_is_err_and}
-use Rattle.slirp_config.proofs.Addresses.{network_parts}
+use Rattle.slirp_config.proofs.Networks.{network_parts}
 use Rattle.slirp_config.proofs.values.read_network.Goals as goal
 
 pub returns-in_err-network-clause-refused : goal.returns-in_err-network-clause-refused

@@ -4,8 +4,8 @@ use Rattle.udp_assoc.specs.Udp.{udp_of}
 use Rattle.slirp_core.proofs.Datagramming.{none_of_others, payload_fits}
 use Rattle.slirp_core.proofs.datagrams.datagram_in.Goals as goal
 
-pub returns-then-packet-ne-UDP-clause-datagram : goal.returns-then-packet-ne-UDP-clause-datagram
-returns-then-packet-ne-UDP-clause-datagram c = none_of_others c.args.policy.now c.args.mac.0 (ip_of c.args.packet.now) c.if-packet-ne-UDP.true
+pub returns-then-packet-ne-UDP_PROTO-clause-datagram : goal.returns-then-packet-ne-UDP_PROTO-clause-datagram
+returns-then-packet-ne-UDP_PROTO-clause-datagram c = none_of_others c.args.policy.now c.args.mac.0 (ip_of c.args.packet.now) c.if-packet-ne-UDP_PROTO.true
 
 pub decode-requires : goal.decode-requires
 decode-requires c = omega (arith, c.requires.short)

@@ -8,7 +8,7 @@ use Rattle.tcp_flows.proofs.flows.due_after.Goals as goal
 
 pub loop-part-preserved : goal.loop-part-preserved
 loop-part-preserved c =
-    let parts = c.args.parts.now in
+    let parts = c.args.slots.now in
     let part : Splice = c.part-item.result in
     let seen = map part_of (take c.loop-part.part-index parts) in
     subst (IsNextAfter c.args.now (map part_of (take (c.loop-part.part-index + 1) parts))) (sym (c.earlier-first.ensures ∙ ap (earlier c.loop-part.first) c.time_after.ensures))
@@ -16,4 +16,4 @@ loop-part-preserved c =
     (next_more c.args.now seen part c.loop-part.first c.loop-part.invariant))
 
 pub returns : goal.returns
-returns c = subst (λ (ps : List Splice). IsNextAfter c.args.now (map part_of ps) c.loop-part.first) (take_all c.loop-part.part-index c.args.parts.now c.loop-part-test.false) c.loop-part.invariant
+returns c = subst (λ (ps : List Splice). IsNextAfter c.args.now (map part_of ps) c.loop-part.first) (take_all c.loop-part.part-index c.args.slots.now c.loop-part-test.false) c.loop-part.invariant

@@ -17,10 +17,10 @@ returns-in-From-clause-hears g c =
     let asked : Entry = UdpRecv c.args.s (length c.args.into.now) answer octets in
     let found = sym (c.in-Some.ensures ∙ ap (λ (s : RelayState). numbered c.args.s s.list) c.self.view_is) in
     let whole : length octets ≡ c.in-From.length = c.in-From.ensures.allowed.1.0 in
-    makes_then _ _ _ _ _ _ (makes_one _ _ asked (λ made. ◌≡◌ {A = List Entry} made (asked ∷ [])) c.in-From.ensures (λ allowed. refl)) c.hear.ensures.calls
+    makes_then _ _ _ _ _ _ (makes_one _ _ asked (λ made. ◌≡◌ {A = List Entry} made (asked ∷ [])) c.in-From.ensures (λ allowed. refl)) c.receive_answer.ensures.calls
     (λ first second recv calls. OnQuestion q answer found (ap (λ (m : List Entry). m ++ first) calls ∙ ap (λ (m : List Entry). calls_after old q answer octets ++ m) recv)
-    (ap (λ (s : RelayState). s.list) c.hear.ensures.list)
-    (c.hear.ensures.reply ∙ ap (λ (n : ℕ). passed old q (From peer n) octets) whole))
+    (ap (λ (s : RelayState). s.list) c.receive_answer.ensures.list)
+    (c.receive_answer.ensures.reply ∙ ap (λ (n : ℕ). passed old q (From peer n) octets) whole))
 
 pub returns-in-NotYet-clause-hears : goal.returns-in-NotYet-clause-hears
 returns-in-NotYet-clause-hears g c =

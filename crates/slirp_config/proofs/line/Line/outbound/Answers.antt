@@ -1,6 +1,6 @@
 use Rattle.std.proofs.Common.{◌≡◌, ℕ, List, Some, None, sym, ◌∙◌, ap}
 use Rattle.std.proofs.lemmas.Result.{err_from_is_err_and}
-use Rattle.slirp_config.specs.Texts.{IsAddress}
+use Rattle.address_text.specs.Texts.{IsAddress}
 use Rattle.slirp_config.proofs.Finding.{match_some}
 use Rattle.slirp_config.proofs.line.Line.outbound.Goals as goal
 

@@ -1,7 +1,7 @@
 use Rattle.std.proofs.Common.{◌≡◌, ℕ, List, Some, None, sym, ◌∙◌, ap}
 use Rattle.std.proofs.lemmas.Result.{err_from_is_err_and}
 use Rattle.net_octets.specs.declared.Endpoint.{Endpoint}
-use Rattle.slirp_config.specs.Texts.{IsEndpointText}
+use Rattle.address_text.specs.Texts.{IsEndpointText}
 use Rattle.slirp_config.proofs.Finding.{match_some}
 use Rattle.slirp_config.proofs.line.Line.resolver.Goals as goal
 

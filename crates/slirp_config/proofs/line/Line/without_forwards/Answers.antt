@@ -6,7 +6,8 @@ use Rattle.host_policy.specs.Settings.{usual}
 use Rattle.slirp_config.specs.Narrowing.{narrowed}
 use Rattle.slirp_config.specs.Walking.{walk_of}
 use Rattle.slirp_config.specs.Options.{Word, value_in}
-use Rattle.slirp_config.specs.Texts.{IsNetwork, IsNumber}
+use Rattle.address_text.specs.Texts.{IsNumber}
+use Rattle.slirp_config.specs.Texts.{IsNetwork}
 use Rattle.slirp_config.proofs.Finding.{match_default}
 use Rattle.slirp_config.proofs.Settled.{made}
 use Rattle.slirp_config.proofs.line.Line.without_forwards.Goals as goal

@@ -57,7 +57,7 @@ returns-in_default-clause-makes g c config count wants item items link reads_it 
 pub returns-in-NotYet : goal.returns-in-NotYet
 returns-in-NotYet g c =
     let i = c.self.inside in
-    let slirp : SlirpState = record { config = i.policy; known = i.guests; sent = i.sent; pending = i.outgoing; moment = i.moment; number = i.number; associations = i.associations.list; questions = i.questions.list; parts = i.reasm; flows = i.flows; leases = i.leases.leases; forwards = i.forwards; transfers = i.files.transfers } in
+    let slirp : SlirpState = record { config = i.policy; known = i.guests; sent = i.sent; pending = i.outgoing; moment = i.moment; number = i.number; associations = i.associations.list; questions = i.questions.list; fragments = i.reasm; flows = i.flows; leases = i.leases.leases; forwards = i.forwards; transfers = i.files.transfers } in
     let room_is = c.if-not-has_room.ensures in
     let room : in_use_slots i.flows.flows.table.slots < length i.flows.flows.table.slots = grind (arith, nat_tests, room_is) in
     record {

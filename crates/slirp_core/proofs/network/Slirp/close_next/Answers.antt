@@ -21,32 +21,32 @@ pub returns-then-flow_is_first-clause-makes : goal.returns-then-flow_is_first-cl
 returns-then-flow_is_first-clause-makes g c =
     let i = c.self.inside in
     let new = c.close_first.new in
-    let o : Holders = record { associations = i.associations.list; questions = i.questions.list; parts = i.flows.flows.parts } in
-    let first = subst (λ (s : SlirpState). IsFlowFirst (carriers (holders_of s)) s.flows.flows.parts) (sym c.self.view_is) (c.flow_is_first.ensures.yes c.if-flow_is_first.true) in
-    subst (λ (s : SlirpState). Makes (g.W.World.tells c.args.world.now) (g.W.World.tells new.world) (ClosesNext c.close_first.result (holders_of s) (record o { parts = new.self.flows.parts }))) c.self.view_is
-    (makes_as _ _ _ _ c.close_first.ensures.closes (λ made closes config over past holds. flow_first config over made past c.close_first.result o new.self.flows.parts first closes holds))
+    let o : Holders = record { associations = i.associations.list; questions = i.questions.list; slots = i.flows.flows.slots } in
+    let first = subst (λ (s : SlirpState). IsFlowFirst (carriers (holders_of s)) s.flows.flows.slots) (sym c.self.view_is) (c.flow_is_first.ensures.yes c.if-flow_is_first.true) in
+    subst (λ (s : SlirpState). Makes (g.W.World.tells c.args.world.now) (g.W.World.tells new.world) (ClosesNext c.close_first.result (holders_of s) (record o { slots = new.self.flows.slots }))) c.self.view_is
+    (makes_as _ _ _ _ c.close_first.ensures.closes (λ made closes config over past holds. flow_first config over made past c.close_first.result o new.self.flows.slots first closes holds))
 
 pub returns-then-flow_is_first-clause-fewer : goal.returns-then-flow_is_first-clause-fewer
 returns-then-flow_is_first-clause-fewer g c is =
     let i = c.self.inside in
     let new = c.close_first.new in
     let makes = c.close_first.ensures.closes in
-    let less = fewer_flows c.close_first.result i.flows.flows.parts new.self.flows.parts makes.made makes.holds is in
-    subst (λ (s : SlirpState). length i.associations.list + length i.questions.list + open_flows new.self.flows.parts < open_count s) c.self.view_is (omega (arith, less))
+    let less = fewer_flows c.close_first.result i.flows.flows.slots new.self.flows.slots makes.made makes.holds is in
+    subst (λ (s : SlirpState). length i.associations.list + length i.questions.list + open_flows new.self.flows.slots < open_count s) c.self.view_is (omega (arith, less))
 
 pub returns-then-flow_is_first-clause-none : goal.returns-then-flow_is_first-clause-none
 returns-then-flow_is_first-clause-none g c is =
     let i = c.self.inside in
     let makes = c.close_first.ensures.closes in
-    let first = subst (λ (s : SlirpState). IsFlowFirst (carriers (holders_of s)) s.flows.flows.parts) (sym c.self.view_is) (c.flow_is_first.ensures.yes c.if-flow_is_first.true) in
-    absurd (some_flow c.close_first.result (numbers i.associations.list ++ question_numbers i.questions.list) i.flows.flows.parts c.close_first.new.self.flows.parts makes.made first makes.holds is)
+    let first = subst (λ (s : SlirpState). IsFlowFirst (carriers (holders_of s)) s.flows.flows.slots) (sym c.self.view_is) (c.flow_is_first.ensures.yes c.if-flow_is_first.true) in
+    absurd (some_flow c.close_first.result (numbers i.associations.list ++ question_numbers i.questions.list) i.flows.flows.slots c.close_first.new.self.flows.slots makes.made first makes.holds is)
 
 pub returns-then-flow_is_first-clause-unasked : goal.returns-then-flow_is_first-clause-unasked
 returns-then-flow_is_first-clause-unasked g c is =
     let i = c.self.inside in
     let makes = c.close_first.ensures.closes in
-    let first = subst (λ (s : SlirpState). IsFlowFirst (carriers (holders_of s)) s.flows.flows.parts) (sym c.self.view_is) (c.flow_is_first.ensures.yes c.if-flow_is_first.true) in
-    absurd (some_flow c.close_first.result (numbers i.associations.list ++ question_numbers i.questions.list) i.flows.flows.parts c.close_first.new.self.flows.parts makes.made first makes.holds is)
+    let first = subst (λ (s : SlirpState). IsFlowFirst (carriers (holders_of s)) s.flows.flows.slots) (sym c.self.view_is) (c.flow_is_first.ensures.yes c.if-flow_is_first.true) in
+    absurd (some_flow c.close_first.result (numbers i.associations.list ++ question_numbers i.questions.list) i.flows.flows.slots c.close_first.new.self.flows.slots makes.made first makes.holds is)
 
 pub returns-then-flow_is_first-clause-turn : goal.returns-then-flow_is_first-clause-turn
 returns-then-flow_is_first-clause-turn g c = ap (λ (k : Kept). k.turn) c.close_first.ensures.same ∙ ap (λ (s : SlirpState). s.flows.turn) c.self.view_is
@@ -57,8 +57,8 @@ pub returns-then-question_is_first-clause-makes : goal.returns-then-question_is_
 returns-then-question_is_first-clause-makes g c =
     let i = c.self.inside in
     let closing = c.close_first-then-question_is_first in
-    let o : Holders = record { associations = i.associations.list; questions = i.questions.list; parts = i.flows.flows.parts } in
-    let no_flow = subst (λ (s : SlirpState). NoFlowFirst (carriers (holders_of s)) s.flows.flows.parts) (sym c.self.view_is) (c.flow_is_first.ensures.no c.if-flow_is_first.false) in
+    let o : Holders = record { associations = i.associations.list; questions = i.questions.list; slots = i.flows.flows.slots } in
+    let no_flow = subst (λ (s : SlirpState). NoFlowFirst (carriers (holders_of s)) s.flows.flows.slots) (sym c.self.view_is) (c.flow_is_first.ensures.no c.if-flow_is_first.false) in
     let first = subst (λ (s : SlirpState). IsQuestionFirst s.associations s.questions) (sym c.self.view_is) (c.question_is_first.ensures.yes c.if-question_is_first.true) in
     subst (λ (s : SlirpState). Makes (g.W.World.tells c.args.world.now) (g.W.World.tells closing.new.world) (ClosesNext closing.result (holders_of s) (record o { questions = closing.new.self.list }))) c.self.view_is
     (makes_as _ _ _ _ closing.ensures.closes (λ made closes config over past holds. question_first config over made past closing.result o closing.new.self.list no_flow first closes holds))
@@ -68,7 +68,7 @@ returns-then-question_is_first-clause-fewer g c is =
     let i = c.self.inside in
     let closing = c.close_first-then-question_is_first in
     let less = closing.ensures.fewer is in
-    subst (λ (s : SlirpState). length i.associations.list + length closing.new.self.list + open_flows i.flows.flows.parts < open_count s) c.self.view_is (omega (arith, less))
+    subst (λ (s : SlirpState). length i.associations.list + length closing.new.self.list + open_flows i.flows.flows.slots < open_count s) c.self.view_is (omega (arith, less))
 
 pub returns-then-question_is_first-clause-none : goal.returns-then-question_is_first-clause-none
 returns-then-question_is_first-clause-none g c is =
@@ -104,8 +104,8 @@ pub returns-else-question_is_first-clause-makes : goal.returns-else-question_is_
 returns-else-question_is_first-clause-makes g c =
     let i = c.self.inside in
     let closing = c.close_first-else-question_is_first in
-    let o : Holders = record { associations = i.associations.list; questions = i.questions.list; parts = i.flows.flows.parts } in
-    let no_flow = subst (λ (s : SlirpState). NoFlowFirst (carriers (holders_of s)) s.flows.flows.parts) (sym c.self.view_is) (c.flow_is_first.ensures.no c.if-flow_is_first.false) in
+    let o : Holders = record { associations = i.associations.list; questions = i.questions.list; slots = i.flows.flows.slots } in
+    let no_flow = subst (λ (s : SlirpState). NoFlowFirst (carriers (holders_of s)) s.flows.flows.slots) (sym c.self.view_is) (c.flow_is_first.ensures.no c.if-flow_is_first.false) in
     let no_question = subst (λ (s : SlirpState). NoQuestionFirst s.associations s.questions) (sym c.self.view_is) (c.question_is_first.ensures.no c.if-question_is_first.false) in
     subst (λ (s : SlirpState). Makes (g.W.World.tells c.args.world.now) (g.W.World.tells closing.new.world) (ClosesNext closing.result (holders_of s) (record o { associations = closing.new.self.list }))) c.self.view_is
     (makes_as _ _ _ _ closing.ensures.closes (λ made closes config over past holds. association_first config over made past closing.result o closing.new.self.list no_flow no_question closes holds))
@@ -115,7 +115,7 @@ returns-else-question_is_first-clause-fewer g c is =
     let i = c.self.inside in
     let closing = c.close_first-else-question_is_first in
     let less = closing.ensures.fewer is in
-    subst (λ (s : SlirpState). length closing.new.self.list + length i.questions.list + open_flows i.flows.flows.parts < open_count s) c.self.view_is (omega (arith, less))
+    subst (λ (s : SlirpState). length closing.new.self.list + length i.questions.list + open_flows i.flows.flows.slots < open_count s) c.self.view_is (omega (arith, less))
 
 pub returns-else-question_is_first-clause-none : goal.returns-else-question_is_first-clause-none
 returns-else-question_is_first-clause-none g c is =

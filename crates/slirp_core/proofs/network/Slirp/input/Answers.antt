@@ -28,12 +28,12 @@ returns-in-Some-Errand-clause-makes g c config count wants item items link reads
     let brought = c.take_frame-brought.result in
     let room = c.take_frame-brought.new.room in
     let settings : mid.config ≡ slirp.config = ap (λ (s : SlirpState). s.config) c.take_frame-brought.ensures.others in
-    let parts : done.parts ≡ mid.parts = ap (λ (s : SlirpState). s.parts) c.in-Some-Errand.ensures.others in
+    let parts : done.fragments ≡ mid.fragments = ap (λ (s : SlirpState). s.fragments) c.in-Some-Errand.ensures.others in
     let owes = owes_then slirp mid done frame brought room c.in-Some-Errand.ensures.changes parts c.take_frame-brought.ensures.changes in
-    let waits = waits_then slirp mid done frame brought room parts c.take_frame-brought.ensures.parts in
+    let waits = waits_then slirp mid done frame brought room parts c.take_frame-brought.ensures.fragments in
     let asks = subst (λ (t : Task). option_and_then request_for (Some t) ≡ brought_request mid.config brought room) c.in-Some-Errand.field-0-is c.in-Some-Errand.ensures.request in
     let brings = subst (λ (t : Task). option_and_then segment_for (Some t) ≡ brought_segment mid.config brought room) c.in-Some-Errand.field-0-is c.in-Some-Errand.ensures.segment in
-    let errand = errand_of c.in-Some-Errand.errand in
+    let errand = errand_of c.in-Some-Errand.datagram c.in-Some-Errand.to in
     from_more _ _ _ _ _ (errand_left config count wants item items reads_it slirp done link frame c.requires.none owes waits (Some (ToSend errand)) refl
     (asks_then slirp mid done frame brought room (Some (ToSend errand)) settings asks c.take_frame-brought.ensures.request)
     (segment_then slirp mid done frame brought room None settings brings c.take_frame-brought.ensures.segment))
@@ -48,9 +48,9 @@ returns-in-Some-File-clause-makes g c config count wants item items link reads_i
     let brought = c.take_frame-brought.result in
     let room = c.take_frame-brought.new.room in
     let settings : mid.config ≡ slirp.config = ap (λ (s : SlirpState). s.config) c.take_frame-brought.ensures.others in
-    let parts : done.parts ≡ mid.parts = ap (λ (s : SlirpState). s.parts) c.in-Some-File.ensures.others in
+    let parts : done.fragments ≡ mid.fragments = ap (λ (s : SlirpState). s.fragments) c.in-Some-File.ensures.others in
     let owes = owes_then slirp mid done frame brought room c.in-Some-File.ensures.changes parts c.take_frame-brought.ensures.changes in
-    let waits = waits_then slirp mid done frame brought room parts c.take_frame-brought.ensures.parts in
+    let waits = waits_then slirp mid done frame brought room parts c.take_frame-brought.ensures.fragments in
     let asks = subst (λ (t : Task). option_and_then request_for (Some t) ≡ brought_request mid.config brought room) c.in-Some-File.field-0-is c.in-Some-File.ensures.request in
     let brings = subst (λ (t : Task). option_and_then segment_for (Some t) ≡ brought_segment mid.config brought room) c.in-Some-File.field-0-is c.in-Some-File.ensures.segment in
     let d = datagram_of c.in-Some-File.datagram in
@@ -67,9 +67,9 @@ returns-in-Some-Segment-clause-makes g c config count wants item items link read
     let brought = c.take_frame-brought.result in
     let room = c.take_frame-brought.new.room in
     let settings : mid.config ≡ slirp.config = ap (λ (s : SlirpState). s.config) c.take_frame-brought.ensures.others in
-    let parts : done.parts ≡ mid.parts = ap (λ (s : SlirpState). s.parts) c.in-Some-Segment.ensures.others in
+    let parts : done.fragments ≡ mid.fragments = ap (λ (s : SlirpState). s.fragments) c.in-Some-Segment.ensures.others in
     let owes = owes_then slirp mid done frame brought room c.in-Some-Segment.ensures.changes parts c.take_frame-brought.ensures.changes in
-    let waits = waits_then slirp mid done frame brought room parts c.take_frame-brought.ensures.parts in
+    let waits = waits_then slirp mid done frame brought room parts c.take_frame-brought.ensures.fragments in
     let asks = subst (λ (t : Task). option_and_then request_for (Some t) ≡ brought_request mid.config brought room) c.in-Some-Segment.field-0-is c.in-Some-Segment.ensures.request in
     let brings = subst (λ (t : Task). option_and_then segment_for (Some t) ≡ brought_segment mid.config brought room) c.in-Some-Segment.field-0-is c.in-Some-Segment.ensures.segment in
     let coming = coming_of c.in-Some-Segment.segment in
@@ -86,9 +86,9 @@ returns-in-None-clause-makes g c config count wants item items link reads_it =
     let brought = c.take_frame-brought.result in
     let room = c.take_frame-brought.new.room in
     let settings : mid.config ≡ slirp.config = ap (λ (s : SlirpState). s.config) c.take_frame-brought.ensures.others in
-    let parts : done.parts ≡ mid.parts = ap (λ (s : SlirpState). s.parts) c.in-None.ensures.others in
+    let parts : done.fragments ≡ mid.fragments = ap (λ (s : SlirpState). s.fragments) c.in-None.ensures.others in
     let owes = owes_then slirp mid done frame brought room c.in-None.ensures.changes parts c.take_frame-brought.ensures.changes in
-    let waits = waits_then slirp mid done frame brought room parts c.take_frame-brought.ensures.parts in
+    let waits = waits_then slirp mid done frame brought room parts c.take_frame-brought.ensures.fragments in
     brings_none (λ past came. errand_left config count wants item items reads_it slirp done link frame c.requires.none owes waits None refl
     (asks_then slirp mid done frame brought room None settings c.in-None.ensures.request c.take_frame-brought.ensures.request)
     (segment_then slirp mid done frame brought room None settings c.in-None.ensures.segment c.take_frame-brought.ensures.segment) past came)

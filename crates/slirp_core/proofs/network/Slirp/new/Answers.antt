@@ -29,7 +29,7 @@ invariant_of-result c =
     let flows : c.in_ok-flows.flows ≡ flows_for config =
     c.in_ok-flows.ensures
     ∙ ap (λ (s : Sizes). record {
-      flows = record { table = all_free s.slots; parts = replicate s.slots None; opened = 0 };
+      flows = record { table = all_free s.slots; slots = replicate s.slots None; opened = 0 };
       owing = replicate s.slots None;
       served = replicate s.slots 0;
       ring = s.ring;

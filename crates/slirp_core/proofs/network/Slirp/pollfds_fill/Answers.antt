@@ -11,7 +11,8 @@ use Rattle.udp_assoc.specs.Associations.{numbers}
 use Rattle.slirp_core.specs.Holds.{carriers, holders_of}
 use Rattle.slirp_core.specs.Pumps.{merged, time_left}
 use Rattle.slirp_core.specs.State.{SlirpState}
-use Rattle.slirp_core.specs.Timeouts.{IsFlowTime, SuitsFlows, sooner}
+use Rattle.world_face.specs.Moments.{sooner}
+use Rattle.slirp_core.specs.Timeouts.{IsFlowTime, SuitsFlows}
 use Rattle.slirp_core.proofs.Filling.{wants_of}
 use Rattle.slirp_core.proofs.Forwarding.{both_over}
 use Rattle.slirp_core.proofs.Merging.{merged_all, merged_rises}
@@ -21,18 +22,18 @@ pub returns-clause-timeout : goal.returns-clause-timeout
 returns-clause-timeout c held is =
     let now = c.args.self.now in
     record {
-      parts = c.time_of_parts.result;
-      of_parts = c.time_of_parts.ensures held is;
+      fragments = c.time_of_fragments.result;
+      of_fragments = c.time_of_fragments.ensures held is;
       flows = c.time_of_flows.result;
-      of_flows = subst (λ (b : Bool). IsFlowTime b now.moment now.flows.flows.parts c.time_of_flows.result) c.blocked-2.ensures c.time_of_flows.ensures.time;
-      suits_flows = λ config before past holds. subst (λ (b : Bool). SuitsFlows config now.moment b now.flows.flows.parts past c.time_of_flows.result) c.blocked-2.ensures (c.time_of_flows.ensures.suits config before past holds);
+      of_flows = subst (λ (b : Bool). IsFlowTime b now.moment now.flows.flows.slots c.time_of_flows.result) c.blocked-2.ensures c.time_of_flows.ensures.time;
+      suits_flows = λ config before past holds. subst (λ (b : Bool). SuitsFlows config now.moment b now.flows.flows.slots past c.time_of_flows.result) c.blocked-2.ensures (c.time_of_flows.ensures.suits config before past holds);
       files = c.time_of_files.result;
       of_files = c.time_of_files.ensures;
       is =
           c.sooner.ensures
           ∙ ap (λ (o : Option ℕ). sooner o c.time_of_files.result) (c.sooner-unless_files.ensures
           ∙ ap (λ (o : Option ℕ). sooner o c.time_of_flows.result) (c.sooner-datagrams-2.ensures
-          ∙ ap (λ (o : Option ℕ). sooner o c.time_of_parts.result) (c.sooner-datagrams.ensures ∙ ap (λ (o : Option ℕ). sooner o c.time_of_questions.result) c.time_of_sockets.ensures ∙ ap (sooner (time_left now.moment now.associations)) c.time_of_questions.ensures)));
+          ∙ ap (λ (o : Option ℕ). sooner o c.time_of_fragments.result) (c.sooner-datagrams.ensures ∙ ap (λ (o : Option ℕ). sooner o c.time_of_questions.result) c.time_of_sockets.ensures ∙ ap (sooner (time_left now.moment now.associations)) c.time_of_questions.ensures)));
     }
 
 pub returns-clause-items : goal.returns-clause-items
@@ -45,7 +46,7 @@ returns-clause-items c =
     c.listeners.ensures.items c.ports_over.ensures.items
     (subst (λ (s : SlirpState). IsPermutation (carriers (holders_of s)) (merged some others)) c.self.view_is
     (merged_all (numbers i.associations.list) (question_numbers i.questions.list) some others c.rising.ensures.all c.rising-2.ensures.all)) (merged_rises some others c.rising.ensures.rising c.rising-2.ensures.rising)
-    (subst (λ (s : SlirpState). AreWantsOf s.flows.flows.parts added.0) c.self.view_is added.2) added.1
+    (subst (λ (s : SlirpState). AreWantsOf s.flows.flows.slots added.0) c.self.view_is added.2) added.1
 
 pub fill-requires-clause-numbers : goal.fill-requires-clause-numbers
 fill-requires-clause-numbers c = c.self.invariant.3.below
@@ -61,5 +62,5 @@ fill-requires-clause-few c =
 
 pub returns-clause-waited_for : goal.returns-clause-waited_for
 returns-clause-waited_for c =
-    subst (λ (s : SlirpState). (config : Config) (before : ℕ) (aged : Bool) (past : List Entry) (added : List Want) → CoreHolds config before aged None s.flows.flows past → AreWantsOf s.flows.flows.parts added → AreWaitedFor config past added) c.self.view_is
+    subst (λ (s : SlirpState). (config : Config) (before : ℕ) (aged : Bool) (past : List Entry) (added : List Want) → CoreHolds config before aged None s.flows.flows past → AreWantsOf s.flows.flows.slots added → AreWaitedFor config past added) c.self.view_is
     c.fill.ensures.waited_for

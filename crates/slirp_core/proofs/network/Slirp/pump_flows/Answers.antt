@@ -16,7 +16,7 @@ use Rattle.slirp_core.proofs.network.Slirp.pump_flows.Goals as goal
 pub returns-clause-makes : goal.returns-clause-makes
 returns-clause-makes g c config at aged =
     let i = c.self.inside in
-    let slirp : SlirpState = record { config = i.policy; known = i.guests; sent = i.sent; pending = i.outgoing; moment = i.moment; number = i.number; associations = i.associations.list; questions = i.questions.list; parts = i.reasm; flows = i.flows; leases = i.leases.leases; forwards = i.forwards; transfers = i.files.transfers } in
+    let slirp : SlirpState = record { config = i.policy; known = i.guests; sent = i.sent; pending = i.outgoing; moment = i.moment; number = i.number; associations = i.associations.list; questions = i.questions.list; fragments = i.reasm; flows = i.flows; leases = i.leases.leases; forwards = i.forwards; transfers = i.files.transfers } in
     let new = c.pump.new.self in
     let none = ap (λ (s : SlirpState). s.pending) c.self.view_is ∙ c.requires.out in
     let result = c.pump.result in
@@ -28,12 +28,12 @@ returns-clause-makes g c config at aged =
 pub returns-clause-ahead : goal.returns-clause-ahead
 returns-clause-ahead g c config before aged past holds n early =
     let view = c.self.view_is in
-    subst (λ (s : SlirpState). IsInTime s.moment c.pump.new.self.flows.parts n) view
+    subst (λ (s : SlirpState). IsInTime s.moment c.pump.new.self.flows.slots n) view
     (c.pump.ensures.ahead config before aged past (subst (λ (s : SlirpState). CoreHolds config before aged None s.flows.flows past) (sym view) holds) n
-    (subst (λ (s : SlirpState). IsInTime s.moment s.flows.flows.parts n) (sym view) early))
+    (subst (λ (s : SlirpState). IsInTime s.moment s.flows.flows.slots n) (sym view) early))
 
 pub returns-clause-told : goal.returns-clause-told
-returns-clause-told g c = c.pump.ensures.told (subst (λ (s : SlirpState). AreTold s.known s.flows.flows.parts) (sym c.self.view_is) c.requires.told)
+returns-clause-told g c = c.pump.ensures.told (subst (λ (s : SlirpState). AreTold s.known s.flows.flows.slots) (sym c.self.view_is) c.requires.told)
 
 pub invariant_of-self : goal.invariant_of-self
 invariant_of-self g c =
@@ -43,7 +43,7 @@ invariant_of-self g c =
 pub returns-clause-connects : goal.returns-clause-connects
 returns-clause-connects g c config aged past holds =
     let view = c.self.view_is in
-    subst (λ (s : SlirpState). ConnectYet s.flows.flows.parts c.pump.new.self.flows.parts) view
+    subst (λ (s : SlirpState). ConnectYet s.flows.flows.slots c.pump.new.self.flows.slots) view
     (c.pump.ensures.connects config aged past (subst (λ (s : SlirpState). CoreHolds config s.moment aged None s.flows.flows past) (sym view) holds))
 
 pub returns-clause-marks : goal.returns-clause-marks

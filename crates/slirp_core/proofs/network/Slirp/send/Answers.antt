@@ -15,8 +15,8 @@ use Rattle.slirp_core.proofs.network.Slirp.send.Goals as goal
 pub returns-clause-makes : goal.returns-clause-makes
 returns-clause-makes g c config at aged link =
     let i = c.self.inside in
-    let slirp : SlirpState = record { config = i.policy; known = i.guests; sent = i.sent; pending = i.outgoing; moment = i.moment; number = i.number; associations = i.associations.list; questions = i.questions.list; parts = i.reasm; flows = i.flows; leases = i.leases.leases; forwards = i.forwards; transfers = i.files.transfers } in
-    let errand = errand_of c.args.errand.now in
+    let slirp : SlirpState = record { config = i.policy; known = i.guests; sent = i.sent; pending = i.outgoing; moment = i.moment; number = i.number; associations = i.associations.list; questions = i.questions.list; fragments = i.reasm; flows = i.flows; leases = i.leases.leases; forwards = i.forwards; transfers = i.files.transfers } in
+    let errand = errand_of c.args.datagram.now c.args.to in
     subst (λ (s : SlirpState). Brings (g.W.World.tells c.args.world.now) (g.W.World.tells c.guest-reply.new.world) (HoldsAt config at (asked_by config s (Some errand)) s (flowing aged s.flows) link) (Holds config at c.tell.new.self (flowing aged c.tell.new.self.flows) link)) c.self.view_is
     (brings_allowed c.guest-reply.ensures.relays (λ made relays allowed past holds.
     let other : asks_a_name config errand ≡ false = ap (λ (k : Config). asks_a_name k errand) (sym holds.guests.settings ∙ ap (λ (s : SlirpState). s.config) c.self.view_is) ∙ c.requires.other in
@@ -29,7 +29,7 @@ returns-clause-makes g c config at aged link =
 pub returns-clause-number : goal.returns-clause-number
 returns-clause-number g c =
     let i = c.self.inside in
-    let errand = errand_of c.args.errand.now in
+    let errand = errand_of c.args.datagram.now c.args.to in
     let makes = c.guest-reply.ensures.relays in
     let most = counts_up i.associations.bind c.socket_for-forward.result errand i.moment i.number c.guest-reply.new.number i.associations.list c.guest-reply.new.self.list c.guest-reply.result makes.made makes.holds in
     subst (λ n. n ≤ c.args.self.now.number + 1) (sym (ap (λ (s : SlirpState). s.number) c.tell.ensures))
@@ -38,7 +38,7 @@ returns-clause-number g c =
 pub invariant_of-self : goal.invariant_of-self
 invariant_of-self g c =
     let i = c.self.inside in
-    let errand = errand_of c.args.errand.now in
+    let errand = errand_of c.args.datagram.now c.args.to in
     let makes = c.guest-reply.ensures.relays in
     let up = draws_up i.associations.bind c.socket_for-forward.result errand i.moment i.number c.guest-reply.new.number i.associations.list c.guest-reply.new.self.list c.guest-reply.result makes.made makes.holds in (
       below_relayed i.associations.bind c.socket_for-forward.result errand i.moment i.number c.guest-reply.new.number i.associations.list c.guest-reply.new.self.list c.guest-reply.result makes.made makes.holds c.self.invariant.0,

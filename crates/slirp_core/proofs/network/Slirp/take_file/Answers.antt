@@ -25,7 +25,7 @@ put_packet-requires-clause-from g c = subst (λ (n : ℕ). IsFromServer n c.pack
 pub returns-clause-makes : goal.returns-clause-makes
 returns-clause-makes g c config at link =
     let i = c.self.inside in
-    let slirp : SlirpState = record { config = i.policy; known = i.guests; sent = i.sent; pending = i.outgoing; moment = i.moment; number = i.number; associations = i.associations.list; questions = i.questions.list; parts = i.reasm; flows = i.flows; leases = i.leases.leases; forwards = i.forwards; transfers = i.files.transfers } in
+    let slirp : SlirpState = record { config = i.policy; known = i.guests; sent = i.sent; pending = i.outgoing; moment = i.moment; number = i.number; associations = i.associations.list; questions = i.questions.list; fragments = i.reasm; flows = i.flows; leases = i.leases.leases; forwards = i.forwards; transfers = i.files.transfers } in
     let d = datagram_of c.args.datagram.now in
     let room = c.packet-reply.new.into in
     let told = said_by c.packet-reply.result room in
@@ -43,7 +43,7 @@ returns-clause-makes g c config at link =
 pub returns-clause-serves : goal.returns-clause-serves
 returns-clause-serves g c =
     let i = c.self.inside in
-    let slirp : SlirpState = record { config = i.policy; known = i.guests; sent = i.sent; pending = i.outgoing; moment = i.moment; number = i.number; associations = i.associations.list; questions = i.questions.list; parts = i.reasm; flows = i.flows; leases = i.leases.leases; forwards = i.forwards; transfers = i.files.transfers } in
+    let slirp : SlirpState = record { config = i.policy; known = i.guests; sent = i.sent; pending = i.outgoing; moment = i.moment; number = i.number; associations = i.associations.list; questions = i.questions.list; fragments = i.reasm; flows = i.flows; leases = i.leases.leases; forwards = i.forwards; transfers = i.files.transfers } in
     let d = datagram_of c.args.datagram.now in
     let room = c.packet-reply.new.into in
     let told = said_by c.packet-reply.result room in

@@ -29,11 +29,11 @@ returns-then-is_part-clause-arrives c = λ held h.
     let made = c.gather-assembled.result in
     let broken : is_unbroken (ip_of packet) ≡ false = not_true (is_unbroken (ip_of packet)) (sym c.is_part.ensures ∙ c.if-is_part.true) in
     let p_is : part_of packet ≡ part_by body (ip_of packet) = ap (λ (n : ℕ). record (part_of packet) { life = n }) c.in-Ok.ensures.life in
-    let kept = subst (λ (s : SlirpState). IsHeld s.parts held) (sym c.learn.ensures) h in
-    let gathers = subst (λ (s : SlirpState). Gathers s held mac (ip_of packet) (part_of packet) new.parts made room) c.learn.ensures (c.gather-assembled.ensures.gathers held kept) in
+    let kept = subst (λ (s : SlirpState). IsHeld s.fragments held) (sym c.learn.ensures) h in
+    let gathers = subst (λ (s : SlirpState). Gathers s held mac (ip_of packet) (part_of packet) new.fragments made room) c.learn.ensures (c.gather-assembled.ensures.gathers held kept) in
     subst (λ (b : Brought). Arrives old held mac body new b room) (sym c.whole_or_none.ensures)
     (part_arrives old held mac body (ip_of packet) room c.in-Ok.ensures.fields h new (part_of packet) made broken p_is c.requires.none gathers
-    (c.gather-assembled.ensures.same ∙ ap (λ (s : SlirpState). record s { parts = new.parts }) c.learn.ensures))
+    (c.gather-assembled.ensures.same ∙ ap (λ (s : SlirpState). record s { fragments = new.fragments }) c.learn.ensures))
 
 pub returns-clause-arrives : goal.returns-clause-arrives
 returns-clause-arrives c = λ held h.

@@ -1,6 +1,7 @@
 use Rattle.std.proofs.Common.{◌≡◌, ℕ, List, [], ◌≤◌, drop, length, take, Some, None, sym, ◌∙◌, ap, subst}
 use Rattle.std.proofs.lemmas.List.{take_at}
 use Rattle.net_octets.specs.Kinds.{udp_proto}
+use Rattle.net_octets.specs.Octets.{our_mac}
 use Rattle.host_policy.specs.Addresses.{Config}
 use Rattle.host_policy.specs.declared.Reply.{Reply}
 use Rattle.host_policy.specs.declared.Reply.TheVariants.{Nothing, Datagram, Unreachable}
@@ -8,7 +9,7 @@ use Rattle.dhcp_server.specs.Messages.{read_message}
 use Rattle.dhcp_server.specs.Replies.{replied_octets, reply_to}
 use Rattle.dhcp_server.specs.Serving.{leases_after}
 use Rattle.udp_assoc.specs.Udp.{udp_octets}
-use Rattle.slirp_laws.specs.Answers.{answers_of, datagram_frames, frames_of, our_mac}
+use Rattle.slirp_laws.specs.Answers.{answers_of, datagram_frames, frames_of}
 use Rattle.slirp_laws.specs.Leasing.{sending_of}
 use Rattle.slirp_core.specs.Datagrams.{datagram_of}
 use Rattle.slirp_core.specs.Leases.{after_message}
@@ -27,7 +28,7 @@ returns-in-Nothing c =
     let lent : c.message-reply.new.self.leases ≡ leases_after i.policy i.moment d.body i.leases.leases = c.message-reply.ensures.leases ∙ ap (λ (k : Config). leases_after k i.moment d.body i.leases.leases) c.self.invariant.4 in
     let none : i.outgoing ≡ [] = ap (λ (s : SlirpState). s.pending) c.self.view_is ∙ c.requires.none in
     let owed : i.outgoing ≡ frames_of i.policy i.sent (answers_of (sending_of (reply_to i.policy i.moment i.leases.leases m) octets)) = none ∙ ap (λ (r : Reply). frames_of i.policy i.sent (answers_of (sending_of r octets))) reply in
-    (λ j. record { config = i.policy; known = i.guests; sent = i.sent; pending = owed j; moment = i.moment; number = i.number; associations = i.associations.list; questions = i.questions.list; parts = i.reasm; flows = i.flows; leases = lent j; forwards = i.forwards; transfers = i.files.transfers })
+    (λ j. record { config = i.policy; known = i.guests; sent = i.sent; pending = owed j; moment = i.moment; number = i.number; associations = i.associations.list; questions = i.questions.list; fragments = i.reasm; flows = i.flows; leases = lent j; forwards = i.forwards; transfers = i.files.transfers })
     ∙ ap (λ (s : SlirpState). after_message s d) c.self.view_is
 
 pub returns-in-Unreachable : goal.returns-in-Unreachable
@@ -40,7 +41,7 @@ returns-in-Unreachable c =
     let lent : c.message-reply.new.self.leases ≡ leases_after i.policy i.moment d.body i.leases.leases = c.message-reply.ensures.leases ∙ ap (λ (k : Config). leases_after k i.moment d.body i.leases.leases) c.self.invariant.4 in
     let none : i.outgoing ≡ [] = ap (λ (s : SlirpState). s.pending) c.self.view_is ∙ c.requires.none in
     let owed : i.outgoing ≡ frames_of i.policy i.sent (answers_of (sending_of (reply_to i.policy i.moment i.leases.leases m) octets)) = none ∙ ap (λ (r : Reply). frames_of i.policy i.sent (answers_of (sending_of r octets))) reply in
-    (λ j. record { config = i.policy; known = i.guests; sent = i.sent; pending = owed j; moment = i.moment; number = i.number; associations = i.associations.list; questions = i.questions.list; parts = i.reasm; flows = i.flows; leases = lent j; forwards = i.forwards; transfers = i.files.transfers })
+    (λ j. record { config = i.policy; known = i.guests; sent = i.sent; pending = owed j; moment = i.moment; number = i.number; associations = i.associations.list; questions = i.questions.list; fragments = i.reasm; flows = i.flows; leases = lent j; forwards = i.forwards; transfers = i.files.transfers })
     ∙ ap (λ (s : SlirpState). after_message s d) c.self.view_is
 
 pub returns-in-None : goal.returns-in-None
@@ -55,7 +56,7 @@ returns-in-None c =
     let lent : c.message-reply.new.self.leases ≡ leases_after i.policy i.moment d.body i.leases.leases = c.message-reply.ensures.leases ∙ ap (λ (k : Config). leases_after k i.moment d.body i.leases.leases) c.self.invariant.4 in
     let none : i.outgoing ≡ [] = ap (λ (s : SlirpState). s.pending) c.self.view_is ∙ c.requires.none in
     let owed : i.outgoing ≡ frames_of i.policy i.sent (answers_of (sending_of (reply_to i.policy i.moment i.leases.leases m) octets)) = none ∙ ap (λ (r : Reply). frames_of i.policy i.sent (answers_of (sending_of r octets))) reply in
-    (λ j. record { config = i.policy; known = i.guests; sent = i.sent; pending = owed j; moment = i.moment; number = i.number; associations = i.associations.list; questions = i.questions.list; parts = i.reasm; flows = i.flows; leases = lent j; forwards = i.forwards; transfers = i.files.transfers })
+    (λ j. record { config = i.policy; known = i.guests; sent = i.sent; pending = owed j; moment = i.moment; number = i.number; associations = i.associations.list; questions = i.questions.list; fragments = i.reasm; flows = i.flows; leases = lent j; forwards = i.forwards; transfers = i.files.transfers })
     ∙ ap (λ (s : SlirpState). after_message s d) c.self.view_is
 
 -- what was written stands at the front of the room
@@ -96,5 +97,5 @@ returns-in-Some c =
     ∙ ap (λ (o : List ℕ). datagram_frames i.policy.mtu c.in-Some.mac.0 (our_mac i.policy.vhost) i.sent udp_proto b.from.addr.0 b.to.addr.0 (udp_octets b.from.addr.0 b.to.addr.0 (record { from_port = b.from.port; to_port = b.to.port; body = o }))) front
     ∙ lease_sent i.policy i.sent b.length b.from b.to c.in-Some.mac octets few
     ∙ ap (λ (r : Reply). frames_of i.policy i.sent (answers_of (sending_of r octets))) reply in
-    (λ j. record { config = i.policy; known = i.guests; sent = i.sent; pending = owed j; moment = i.moment; number = i.number; associations = i.associations.list; questions = i.questions.list; parts = i.reasm; flows = i.flows; leases = lent j; forwards = i.forwards; transfers = i.files.transfers })
+    (λ j. record { config = i.policy; known = i.guests; sent = i.sent; pending = owed j; moment = i.moment; number = i.number; associations = i.associations.list; questions = i.questions.list; fragments = i.reasm; flows = i.flows; leases = lent j; forwards = i.forwards; transfers = i.files.transfers })
     ∙ ap (λ (s : SlirpState). after_message s d) c.self.view_is

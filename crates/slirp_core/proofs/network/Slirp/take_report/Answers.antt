@@ -14,7 +14,7 @@ use Rattle.slirp_core.proofs.network.Slirp.take_report.Goals as goal
 pub returns-clause-makes : goal.returns-clause-makes
 returns-clause-makes g c config count wants item items link wanted =
     let i = c.self.inside in
-    let slirp : SlirpState = record { config = i.policy; known = i.guests; sent = i.sent; pending = i.outgoing; moment = i.moment; number = i.number; associations = i.associations.list; questions = i.questions.list; parts = i.reasm; flows = i.flows; leases = i.leases.leases; forwards = i.forwards; transfers = i.files.transfers } in
+    let slirp : SlirpState = record { config = i.policy; known = i.guests; sent = i.sent; pending = i.outgoing; moment = i.moment; number = i.number; associations = i.associations.list; questions = i.questions.list; fragments = i.reasm; flows = i.flows; leases = i.leases.leases; forwards = i.forwards; transfers = i.files.transfers } in
     let new = c.host_ready.new.self in
     subst (λ (s : SlirpState). Brings (g.W.World.tells c.args.world.now) (g.W.World.tells c.host_ready.new.world) (Holds config (standing count wants (item ∷ items)) s (flowing false s.flows) link)
     (λ past. Holds config (standing count wants items) (record slirp { flows = new }) (flowing false new) link past × ServesOnce config c.args.number c.args.read c.args.write s.flows past)) c.self.view_is
@@ -36,13 +36,13 @@ invariant_of-self g c =
 pub returns-clause-told : goal.returns-clause-told
 returns-clause-told g c k p at is =
     let view = c.self.view_is in
-    subst (λ (s : SlirpState). c.host_ready.new.self.served ≡ slice_set s.flows.served k s.flows.turn) view (c.host_ready.ensures.served k p (subst (λ (s : SlirpState). IsOpenAt s.flows.flows.parts k p) (sym view) at) is)
+    subst (λ (s : SlirpState). c.host_ready.new.self.served ≡ slice_set s.flows.served k s.flows.turn) view (c.host_ready.ensures.served k p (subst (λ (s : SlirpState). IsOpenAt s.flows.flows.slots k p) (sym view) at) is)
 
 pub returns-clause-untold : goal.returns-clause-untold
 returns-clause-untold g c none =
     let i = c.self.inside in
-    let slirp : SlirpState = record { config = i.policy; known = i.guests; sent = i.sent; pending = i.outgoing; moment = i.moment; number = i.number; associations = i.associations.list; questions = i.questions.list; parts = i.reasm; flows = i.flows; leases = i.leases.leases; forwards = i.forwards; transfers = i.files.transfers } in
-    ap (λ (k : Kept). record slirp { flows = k }) (c.host_ready.ensures.none (subst (λ (s : SlirpState). NoneOpen c.args.number s.flows.flows.parts) (sym c.self.view_is) none)).0 ∙ c.self.view_is
+    let slirp : SlirpState = record { config = i.policy; known = i.guests; sent = i.sent; pending = i.outgoing; moment = i.moment; number = i.number; associations = i.associations.list; questions = i.questions.list; fragments = i.reasm; flows = i.flows; leases = i.leases.leases; forwards = i.forwards; transfers = i.files.transfers } in
+    ap (λ (k : Kept). record slirp { flows = k }) (c.host_ready.ensures.none (subst (λ (s : SlirpState). NoneOpen c.args.number s.flows.flows.slots) (sym c.self.view_is) none)).0 ∙ c.self.view_is
 
 pub returns-clause-stays : goal.returns-clause-stays
 returns-clause-stays g c = subst (λ (s : SlirpState). Stays s.flows c.host_ready.new.self) c.self.view_is c.host_ready.ensures.stays

@@ -26,7 +26,7 @@ use Rattle.slirp_core.proofs.network.Slirp.take_segment.Goals as goal
 pub returns-in-Taken-clause-makes : goal.returns-in-Taken-clause-makes
 returns-in-Taken-clause-makes g c config at link =
     let i = c.self.inside in
-    let slirp : SlirpState = record { config = i.policy; known = i.guests; sent = i.sent; pending = i.outgoing; moment = i.moment; number = i.number; associations = i.associations.list; questions = i.questions.list; parts = i.reasm; flows = i.flows; leases = i.leases.leases; forwards = i.forwards; transfers = i.files.transfers } in
+    let slirp : SlirpState = record { config = i.policy; known = i.guests; sent = i.sent; pending = i.outgoing; moment = i.moment; number = i.number; associations = i.associations.list; questions = i.questions.list; fragments = i.reasm; flows = i.flows; leases = i.leases.leases; forwards = i.forwards; transfers = i.files.transfers } in
     let coming = coming_of c.args.came.now in
     let new = c.take_segment.new.self in
     subst (λ (s : SlirpState). Brings (g.W.World.tells c.args.world.now) (g.W.World.tells c.take_segment.new.world) (Comes config at s s.flows link coming) (Holds config at (record slirp { flows = new }) (flowing false new) link)) c.self.view_is
@@ -37,7 +37,7 @@ returns-in-Taken-clause-makes g c config at link =
 pub returns-in-Strange-clause-makes : goal.returns-in-Strange-clause-makes
 returns-in-Strange-clause-makes g c config at link =
     let i = c.self.inside in
-    let slirp : SlirpState = record { config = i.policy; known = i.guests; sent = i.sent; pending = i.outgoing; moment = i.moment; number = i.number; associations = i.associations.list; questions = i.questions.list; parts = i.reasm; flows = i.flows; leases = i.leases.leases; forwards = i.forwards; transfers = i.files.transfers } in
+    let slirp : SlirpState = record { config = i.policy; known = i.guests; sent = i.sent; pending = i.outgoing; moment = i.moment; number = i.number; associations = i.associations.list; questions = i.questions.list; fragments = i.reasm; flows = i.flows; leases = i.leases.leases; forwards = i.forwards; transfers = i.files.transfers } in
     let coming = coming_of c.args.came.now in
     let new = c.take_segment.new.self in
     subst (λ (s : SlirpState). Brings (g.W.World.tells c.args.world.now) (g.W.World.tells c.take_segment.new.world) (Comes config at s s.flows link coming) (Holds config at c.turn_away.new.self (flowing false c.turn_away.new.self.flows) link)) c.self.view_is
@@ -49,7 +49,7 @@ returns-in-Strange-clause-makes g c config at link =
 pub returns-in-Dropped-clause-makes : goal.returns-in-Dropped-clause-makes
 returns-in-Dropped-clause-makes g c config at link =
     let i = c.self.inside in
-    let slirp : SlirpState = record { config = i.policy; known = i.guests; sent = i.sent; pending = i.outgoing; moment = i.moment; number = i.number; associations = i.associations.list; questions = i.questions.list; parts = i.reasm; flows = i.flows; leases = i.leases.leases; forwards = i.forwards; transfers = i.files.transfers } in
+    let slirp : SlirpState = record { config = i.policy; known = i.guests; sent = i.sent; pending = i.outgoing; moment = i.moment; number = i.number; associations = i.associations.list; questions = i.questions.list; fragments = i.reasm; flows = i.flows; leases = i.leases.leases; forwards = i.forwards; transfers = i.files.transfers } in
     let coming = coming_of c.args.came.now in
     let new = c.take_segment.new.self in
     subst (λ (s : SlirpState). Brings (g.W.World.tells c.args.world.now) (g.W.World.tells c.take_segment.new.world) (Comes config at s s.flows link coming) (Holds config at (record slirp { flows = new }) (flowing false new) link)) c.self.view_is
@@ -61,7 +61,7 @@ returns-in-Dropped-clause-makes g c config at link =
 pub returns-in-Reset-clause-makes : goal.returns-in-Reset-clause-makes
 returns-in-Reset-clause-makes g c config at link =
     let i = c.self.inside in
-    let slirp : SlirpState = record { config = i.policy; known = i.guests; sent = i.sent; pending = i.outgoing; moment = i.moment; number = i.number; associations = i.associations.list; questions = i.questions.list; parts = i.reasm; flows = i.flows; leases = i.leases.leases; forwards = i.forwards; transfers = i.files.transfers } in
+    let slirp : SlirpState = record { config = i.policy; known = i.guests; sent = i.sent; pending = i.outgoing; moment = i.moment; number = i.number; associations = i.associations.list; questions = i.questions.list; fragments = i.reasm; flows = i.flows; leases = i.leases.leases; forwards = i.forwards; transfers = i.files.transfers } in
     let coming = coming_of c.args.came.now in
     let new = c.take_segment.new.self in
     subst (λ (s : SlirpState). Brings (g.W.World.tells c.args.world.now) (g.W.World.tells c.take_segment.new.world) (Comes config at s s.flows link coming) (Holds config at c.turn_away-in-Reset.new.self (flowing false c.turn_away-in-Reset.new.self.flows) link)) c.self.view_is
@@ -78,7 +78,7 @@ IsConnect e P made = (before : List Entry) × (made ≡ e ∷ before) × P befor
 pub returns-in-Done-clause-makes : goal.returns-in-Done-clause-makes
 returns-in-Done-clause-makes g c config at link =
     let i = c.self.inside in
-    let slirp : SlirpState = record { config = i.policy; known = i.guests; sent = i.sent; pending = i.outgoing; moment = i.moment; number = i.number; associations = i.associations.list; questions = i.questions.list; parts = i.reasm; flows = i.flows; leases = i.leases.leases; forwards = i.forwards; transfers = i.files.transfers } in
+    let slirp : SlirpState = record { config = i.policy; known = i.guests; sent = i.sent; pending = i.outgoing; moment = i.moment; number = i.number; associations = i.associations.list; questions = i.questions.list; fragments = i.reasm; flows = i.flows; leases = i.leases.leases; forwards = i.forwards; transfers = i.files.transfers } in
     let coming = coming_of c.args.came.now in
     let new = c.take_segment.new.self in
     let to = c.in-Connects.to in
@@ -99,7 +99,7 @@ returns-in-Done-clause-makes g c config at link =
 pub returns-in-Failed-clause-makes : goal.returns-in-Failed-clause-makes
 returns-in-Failed-clause-makes g c config at link =
     let i = c.self.inside in
-    let slirp : SlirpState = record { config = i.policy; known = i.guests; sent = i.sent; pending = i.outgoing; moment = i.moment; number = i.number; associations = i.associations.list; questions = i.questions.list; parts = i.reasm; flows = i.flows; leases = i.leases.leases; forwards = i.forwards; transfers = i.files.transfers } in
+    let slirp : SlirpState = record { config = i.policy; known = i.guests; sent = i.sent; pending = i.outgoing; moment = i.moment; number = i.number; associations = i.associations.list; questions = i.questions.list; fragments = i.reasm; flows = i.flows; leases = i.leases.leases; forwards = i.forwards; transfers = i.files.transfers } in
     let coming = coming_of c.args.came.now in
     let new = c.take_segment.new.self in
     let to = c.in-Connects.to in

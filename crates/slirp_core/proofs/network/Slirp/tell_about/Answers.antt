@@ -1,9 +1,10 @@
 use Rattle.std.proofs.Common.{◌≡◌, ℕ, ◌==◌, ◌||◌, false, List, sym, ◌∙◌, ap}
 use Rattle.net_octets.specs.Kinds.{icmp_proto}
+use Rattle.net_octets.specs.Octets.{our_mac}
 use Rattle.host_policy.specs.Addresses.{Config, last_address}
 use Rattle.host_policy.specs.Targets.{is_group_or_reserved}
 use Rattle.icmp_echo.specs.Icmp.{unreachable_octets}
-use Rattle.slirp_laws.specs.Answers.{our_mac, datagram_frames, is_untold, frames_of, told_about}
+use Rattle.slirp_laws.specs.Answers.{datagram_frames, is_untold, frames_of, told_about}
 use Rattle.slirp_core.specs.Datagrams.{datagram_of}
 use Rattle.slirp_core.specs.State.{SlirpState}
 use Rattle.slirp_core.specs.declared.outgoing.Course.{Course}
@@ -27,5 +28,5 @@ returns c =
     ∙ ap (λ (k : Course). datagram_frames k.mtu k.to_mac.0 k.from_mac.0 k.ident icmp_proto k.from.0 k.to.0 (unreachable_octets code d.quote)) c.course-course.ensures.course
     ∙ ap (λ (host : ℕ). datagram_frames old.config.mtu d.mac (our_mac old.config.vhost) old.sent icmp_proto host d.from.addr.0 (unreachable_octets code d.quote)) host
     ∙ told old.config old.sent code d untold c.requires.quote in
-    ap (λ (p : List (List ℕ)). record { config = inside.policy; known = inside.guests; sent = inside.sent; pending = p; moment = inside.moment; number = inside.number; associations = inside.associations.list; questions = inside.questions.list; parts = inside.reasm; flows = inside.flows; leases = inside.leases.leases; forwards = inside.forwards; transfers = inside.files.transfers }) pending
+    ap (λ (p : List (List ℕ)). record { config = inside.policy; known = inside.guests; sent = inside.sent; pending = p; moment = inside.moment; number = inside.number; associations = inside.associations.list; questions = inside.questions.list; fragments = inside.reasm; flows = inside.flows; leases = inside.leases.leases; forwards = inside.forwards; transfers = inside.files.transfers }) pending
     ∙ ap (λ (s : SlirpState). record s { pending = frames_of old.config old.sent (told_about old.config code d) }) c.self.view_is

@@ -11,16 +11,16 @@ use Rattle.slirp_core.proofs.network.Slirp.tell_addresses.Goals as goal
 pub returns-clause-holds : goal.returns-clause-holds
 returns-clause-holds c config at aged link past holds =
     let i = c.self.inside in
-    let slirp : SlirpState = record { config = i.policy; known = i.guests; sent = i.sent; pending = i.outgoing; moment = i.moment; number = i.number; associations = i.associations.list; questions = i.questions.list; parts = i.reasm; flows = i.flows; leases = i.leases.leases; forwards = i.forwards; transfers = i.files.transfers } in
+    let slirp : SlirpState = record { config = i.policy; known = i.guests; sent = i.sent; pending = i.outgoing; moment = i.moment; number = i.number; associations = i.associations.list; questions = i.questions.list; fragments = i.reasm; flows = i.flows; leases = i.leases.leases; forwards = i.forwards; transfers = i.files.transfers } in
     let new = c.learn.new.self in
     flows_put config at slirp new (flowing aged new) link past
     (addresses_told config at slirp aged i.flows new link past c.learn.ensures.learns c.learn.ensures.idle (subst (λ (s : SlirpState). Holds config at s (flowing aged s.flows) link past) (sym c.self.view_is) holds))
 
 pub returns-clause-ahead : goal.returns-clause-ahead
-returns-clause-ahead c now n early = c.learn.ensures.ahead now n (subst (λ (s : SlirpState). IsInTime now s.flows.flows.parts n) (sym c.self.view_is) early)
+returns-clause-ahead c now n early = c.learn.ensures.ahead now n (subst (λ (s : SlirpState). IsInTime now s.flows.flows.slots n) (sym c.self.view_is) early)
 
 pub returns-clause-calm : goal.returns-clause-calm
-returns-clause-calm c n unowed = c.learn.ensures.calm n (subst (λ (s : SlirpState). OwesNoAck s.flows.flows.parts n) (sym c.self.view_is) unowed)
+returns-clause-calm c n unowed = c.learn.ensures.calm n (subst (λ (s : SlirpState). OwesNoAck s.flows.flows.slots n) (sym c.self.view_is) unowed)
 
 pub invariant_of-self : goal.invariant_of-self
 invariant_of-self c =
@@ -29,8 +29,8 @@ invariant_of-self c =
 
 pub returns-clause-connects : goal.returns-clause-connects
 returns-clause-connects c =
-    subst (λ (s : SlirpState). ConnectYet s.flows.flows.parts c.learn.new.self.flows.parts) c.self.view_is
-    (learnt_connects c.self.inside.guests c.self.inside.flows.flows.parts c.learn.new.self.flows.parts c.learn.ensures.learnt)
+    subst (λ (s : SlirpState). ConnectYet s.flows.flows.slots c.learn.new.self.flows.slots) c.self.view_is
+    (learnt_connects c.self.inside.guests c.self.inside.flows.flows.slots c.learn.new.self.flows.slots c.learn.ensures.learnt)
 
 pub returns-clause-stays : goal.returns-clause-stays
 returns-clause-stays c = subst (λ (s : SlirpState). Stays s.flows c.learn.new.self) c.self.view_is c.learn.ensures.stays

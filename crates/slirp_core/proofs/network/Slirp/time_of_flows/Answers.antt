@@ -9,21 +9,21 @@ use Rattle.slirp_core.proofs.network.Slirp.time_of_flows.Goals as goal
 
 -- a time suits the flows by each record for which they stand
 abbrev Suits : SlirpState → Bool → Option ℕ → Type 0
-Suits s blocked time = (config : Config) (before : ℕ) (past : List Entry) → CoreHolds config before true None s.flows.flows past → SuitsFlows config s.moment blocked s.flows.flows.parts past time
+Suits s blocked time = (config : Config) (before : ℕ) (past : List Entry) → CoreHolds config before true None s.flows.flows past → SuitsFlows config s.moment blocked s.flows.flows.slots past time
 
 pub returns-in_err-due-clause-suits : goal.returns-in_err-due-clause-suits
 returns-in_err-due-clause-suits c =
     let i = c.self.inside in
     subst (λ (s : SlirpState). Suits s c.args.blocked c.from_residual.result) c.self.view_is
     (λ config before past holds.
-    suits_due config i.moment c.args.blocked i.flows.flows.parts past None c.from_residual.result c.from_residual.ensures (c.in_err-due.ensures.for_some config before past holds) (c.in_err-due.ensures.in_time config before true past holds))
+    suits_due config i.moment c.args.blocked i.flows.flows.slots past None c.from_residual.result c.from_residual.ensures (c.in_err-due.ensures.for_some config before past holds) (c.in_err-due.ensures.in_time config before true past holds))
 
 pub returns-clause-suits : goal.returns-clause-suits
 returns-clause-suits c =
     let i = c.self.inside in
     subst (λ (s : SlirpState). Suits s c.args.blocked (Some c.saturating_sub.result)) c.self.view_is
     (λ config before past holds.
-    suits_due config i.moment c.args.blocked i.flows.flows.parts past (Some c.in_ok-due.due) (Some c.saturating_sub.result) (ap Some c.saturating_sub.ensures) (c.in_ok-due.ensures.for_some config before past holds)
+    suits_due config i.moment c.args.blocked i.flows.flows.slots past (Some c.in_ok-due.due) (Some c.saturating_sub.result) (ap Some c.saturating_sub.ensures) (c.in_ok-due.ensures.for_some config before past holds)
     (c.in_ok-due.ensures.in_time config before true past holds))
 
 -- where the link is blocked and the first is due already
@@ -33,7 +33,7 @@ returns-in_err-later-clause-suits c =
     let i = c.self.inside in
     subst (λ (s : SlirpState). Suits s c.args.blocked c.from_residual-in_err-later.result) c.self.view_is
     (λ config before past holds.
-    suits_after config i.moment c.args.blocked i.flows.flows.parts past None c.from_residual-in_err-later.result c.from_residual-in_err-later.ensures (c.in_err-later.ensures.for_some config before past holds) c.if-blocked.true
+    suits_after config i.moment c.args.blocked i.flows.flows.slots past None c.from_residual-in_err-later.result c.from_residual-in_err-later.ensures (c.in_err-later.ensures.for_some config before past holds) c.if-blocked.true
     (c.in_err-later.ensures.in_time config before true past holds))
 
 pub returns-then-due-self-clause-suits : goal.returns-then-due-self-clause-suits
@@ -41,5 +41,5 @@ returns-then-due-self-clause-suits c =
     let i = c.self.inside in
     subst (λ (s : SlirpState). Suits s c.args.blocked (Some (c.in_ok-later.later - i.moment))) c.self.view_is
     (λ config before past holds.
-    suits_after config i.moment c.args.blocked i.flows.flows.parts past (Some c.in_ok-later.later) (Some (c.in_ok-later.later - i.moment)) refl (c.in_ok-later.ensures.for_some config before past holds) c.if-blocked.true
+    suits_after config i.moment c.args.blocked i.flows.flows.slots past (Some c.in_ok-later.later) (Some (c.in_ok-later.later - i.moment)) refl (c.in_ok-later.ensures.for_some config before past holds) c.if-blocked.true
     (c.in_ok-later.ensures.in_time config before true past holds))

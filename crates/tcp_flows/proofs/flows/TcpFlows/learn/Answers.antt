@@ -7,22 +7,22 @@ use Rattle.tcp_flows.proofs.flows.TcpFlows.learn.Goals as goal
 pub returns-then-self-eq0-clause-learnt : goal.returns-then-self-eq0-clause-learnt
 returns-then-self-eq0-clause-learnt c =
     let are = c.self.invariant.0.seeking_are in
-    subst (λ (s : Kept). HaveLearnt c.args.guests.now s.flows.parts s.flows.parts) c.self.view_is
-    (learnt_all c.args.guests.now _ (none_seeks c.self.inside.parts.items (sym are ∙ c.if-self-eq0.true)))
+    subst (λ (s : Kept). HaveLearnt c.args.guests.now s.flows.slots s.flows.slots) c.self.view_is
+    (learnt_all c.args.guests.now _ (none_seeks c.self.inside.slots.items (sym are ∙ c.if-self-eq0.true)))
 
 pub returns-then-self-eq0-clause-told : goal.returns-then-self-eq0-clause-told
-returns-then-self-eq0-clause-told c = learnt_told c.args.guests.now c.args.self.now.flows.parts c.args.self.now.flows.parts (returns-then-self-eq0-clause-learnt c)
+returns-then-self-eq0-clause-told c = learnt_told c.args.guests.now c.args.self.now.flows.slots c.args.self.now.flows.slots (returns-then-self-eq0-clause-learnt c)
 
 pub returns-clause-told : goal.returns-clause-told
-returns-clause-told c = learnt_told c.args.guests.now c.args.self.now.flows.parts c.learn_all.new.self.flows.parts c.learn_all.ensures.learnt
+returns-clause-told c = learnt_told c.args.guests.now c.args.self.now.flows.slots c.learn_all.new.self.flows.slots c.learn_all.ensures.learnt
 
 pub returns-clause-idle : goal.returns-clause-idle
 returns-clause-idle c none =
     let are = c.self.invariant.0.seeking_are in
-    absurd (c.if-self-eq0.false (are ∙ idle_seeks c.self.inside.parts.items (subst (λ (s : Kept). NoneInSlots s.flows.parts) (sym c.self.view_is) none)))
+    absurd (c.if-self-eq0.false (are ∙ idle_seeks c.self.inside.slots.items (subst (λ (s : Kept). NoneInSlots s.flows.slots) (sym c.self.view_is) none)))
 
 pub returns-clause-ahead : goal.returns-clause-ahead
-returns-clause-ahead c = learnt_in_time c.args.guests.now c.args.self.now.flows.parts c.learn_all.new.self.flows.parts c.learn_all.ensures.learnt
+returns-clause-ahead c = learnt_in_time c.args.guests.now c.args.self.now.flows.slots c.learn_all.new.self.flows.slots c.learn_all.ensures.learnt
 
 pub returns-clause-calm : goal.returns-clause-calm
-returns-clause-calm c = learnt_calm c.args.guests.now c.args.self.now.flows.parts c.learn_all.new.self.flows.parts c.learn_all.ensures.learnt
+returns-clause-calm c = learnt_calm c.args.guests.now c.args.self.now.flows.slots c.learn_all.new.self.flows.slots c.learn_all.ensures.learnt

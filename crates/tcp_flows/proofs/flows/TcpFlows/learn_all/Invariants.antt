@@ -8,7 +8,7 @@ use Rattle.tcp_flows.proofs.flows.TcpFlows.learn_all.Given as goal
 abbrev pub invariant-loop-slot : goal.invariant-loop-slot
 invariant-loop-slot l = record {
   learns : Learns l.guests l.fn.self l.self;
-  below : HaveLearntBelow l.guests l.slot l.fn.self.flows.parts l.self.flows.parts;
+  below : HaveLearntBelow l.guests l.slot l.fn.self.flows.slots l.self.flows.slots;
   stays : Stays l.fn.self l.self;
   same : l.self ≡ with_flows l.self.flows l.self.owing l.fn.self;
 }

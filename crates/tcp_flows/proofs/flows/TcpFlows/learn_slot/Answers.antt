@@ -5,6 +5,7 @@ use Rattle.tcp_transmit.specs.Transmission.{octets_read}
 use Rattle.flow_splice.specs.Splice.{Splice}
 use Rattle.flows_follow.specs.Core.{ends_of}
 use Rattle.flows_follow.proofs.Options.{some_same}
+use Rattle.row_lists.proofs.Places.{set_same}
 use Rattle.tcp_flows.specs.Kept.{Kept, part_of}
 use Rattle.tcp_flows.specs.Reading.{learnt_from}
 use Rattle.tcp_flows.specs.Rows.{table_at}
@@ -13,15 +14,15 @@ use Rattle.tcp_flows.proofs.Changing.{in_waits, waits_here, waits_seen}
 use Rattle.tcp_flows.proofs.Following.{has_tuple}
 use Rattle.tcp_flows.proofs.Keeping.{flows_as, ours_then, served_same, settings_as, slot_raw, table_is}
 use Rattle.tcp_flows.proofs.Learning.{learns_of, seeking_is, slot_part, table_stays, learnt_is, told_at, unsought}
-use Rattle.tcp_flows.proofs.Lists.{get_map, set_same}
+use Rattle.tcp_flows.proofs.Lists.{get_map}
 use Rattle.tcp_flows.proofs.Seated.{part_is}
 use Rattle.tcp_flows.proofs.Staying.{stays_same, stays_set}
 use Rattle.tcp_flows.proofs.flows.TcpFlows.learn_slot.Goals as goal
 
 pub at-seeks-requires : goal.at-seeks-requires
 at-seeks-requires c =
-    let parts = c.self.inside.parts.items in
-    let at = slot_part parts _ (ap (λ (s : Kept). s.flows.parts) c.self.view_is) c.args.slot c.requires.slot in
+    let parts = c.self.inside.slots.items in
+    let at = slot_part parts _ (ap (λ (s : Kept). s.flows.slots) c.self.view_is) c.args.slot c.requires.slot in
     in_waits parts _ _ _ _ _ _ _ _ c.self.invariant.0 c.args.slot at.0 at.1
 
 pub returns-then-not-seeks-clause-learns : goal.returns-then-not-seeks-clause-learns
@@ -29,28 +30,28 @@ returns-then-not-seeks-clause-learns c config now aged past is between = between
 
 pub returns-then-not-seeks-clause-parts : goal.returns-then-not-seeks-clause-parts
 returns-then-not-seeks-clause-parts c x here =
-    let parts = c.self.inside.parts.items in
-    let view = ap (λ (s : Kept). s.flows.parts) c.self.view_is in
+    let parts = c.self.inside.slots.items in
+    let view = ap (λ (s : Kept). s.flows.slots) c.self.view_is in
     let at = slot_part parts _ view c.args.slot c.requires.slot in
     let seen = waits_seen _ c.args.slot at.0 c.at-seeks.result (waits_here parts _ _ _ _ _ _ _ _ c.self.invariant.0 c.args.slot at.0 at.1) c.at-seeks.ensures.value in
     let none = sym (ap (λ (w : Waits). w.mac) seen) ∙ c.if-not-seeks.true in
     let x_is = some_same x (part_of at.0) (sym here ∙ sym (ap (λ (l : List (Option Splice)). slice_get l c.args.slot) view) ∙ get_map part_of parts c.args.slot at.0 at.1) in
-    sym (set_same c.args.self.now.flows.parts c.args.slot (option_map (learnt_from c.args.guests.now) x) (here ∙ ap Some (x_is ∙ sym (unsought c.args.guests.now at.0 none) ∙ ap (option_map (learnt_from c.args.guests.now)) (sym x_is))))
+    sym (set_same c.args.self.now.flows.slots c.args.slot (option_map (learnt_from c.args.guests.now) x) (here ∙ ap Some (x_is ∙ sym (unsought c.args.guests.now at.0 none) ∙ ap (option_map (learnt_from c.args.guests.now)) (sym x_is))))
 
 pub returns-then-not-seeks-clause-stays : goal.returns-then-not-seeks-clause-stays
 returns-then-not-seeks-clause-stays c = stays_same c.args.self.now
 
 pub index_mut-part-requires : goal.index_mut-part-requires
 index_mut-part-requires c =
-    let parts = c.self.inside.parts.items in
-    let at = slot_part parts _ (ap (λ (s : Kept). s.flows.parts) c.self.view_is) c.args.slot c.requires.slot in
+    let parts = c.self.inside.slots.items in
+    let at = slot_part parts _ (ap (λ (s : Kept). s.flows.slots) c.self.view_is) c.args.slot c.requires.slot in
     let w = slice_get_within parts c.args.slot at.0 at.1 in
-    omega (arith, w, c.self.inside.parts.ok.0)
+    omega (arith, w, c.self.inside.slots.ok.0)
 
 pub follow-requires-clause-some : goal.follow-requires-clause-some
 follow-requires-clause-some c =
-    let parts = c.self.inside.parts.items in
-    let view = ap (λ (s : Kept). s.flows.parts) c.self.view_is in
+    let parts = c.self.inside.slots.items in
+    let view = ap (λ (s : Kept). s.flows.slots) c.self.view_is in
     let is =
     told_at c.args.guests.now parts _ view c.self.inside.rows.waits.each c.self.invariant.0.waits_are c.args.slot c.requires.slot c.at-seeks.result c.at-seeks.ensures.value c.if-not-seeks.false c.index_mut-part.result.now c.learn.new.self
     c.index_mut-part.ensures.value c.of-before.result.place c.of-before.ensures.place c.of-before.result.is_open c.of-before.ensures.open c.guest.result c.guest.ensures c.find-mac.result c.find-mac.ensures c.learn.ensures in
@@ -58,8 +59,8 @@ follow-requires-clause-some c =
 
 pub follow-requires-clause-rows : goal.follow-requires-clause-rows
 follow-requires-clause-rows c =
-    let parts = c.self.inside.parts.items in
-    let view = ap (λ (s : Kept). s.flows.parts) c.self.view_is in
+    let parts = c.self.inside.slots.items in
+    let view = ap (λ (s : Kept). s.flows.slots) c.self.view_is in
     let is =
     told_at c.args.guests.now parts _ view c.self.inside.rows.waits.each c.self.invariant.0.waits_are c.args.slot c.requires.slot c.at-seeks.result c.at-seeks.ensures.value c.if-not-seeks.false c.index_mut-part.result.now c.learn.new.self
     c.index_mut-part.ensures.value c.of-before.result.place c.of-before.ensures.place c.of-before.result.is_open c.of-before.ensures.open c.guest.result c.guest.ensures c.find-mac.result c.find-mac.ensures c.learn.ensures in
@@ -67,8 +68,8 @@ follow-requires-clause-rows c =
 
 pub invariant_of-self : goal.invariant_of-self
 invariant_of-self c =
-    let parts = c.self.inside.parts.items in
-    let view = ap (λ (s : Kept). s.flows.parts) c.self.view_is in
+    let parts = c.self.inside.slots.items in
+    let view = ap (λ (s : Kept). s.flows.slots) c.self.view_is in
     let is =
     told_at c.args.guests.now parts _ view c.self.inside.rows.waits.each c.self.invariant.0.waits_are c.args.slot c.requires.slot c.at-seeks.result c.at-seeks.ensures.value c.if-not-seeks.false c.index_mut-part.result.now c.learn.new.self
     c.index_mut-part.ensures.value c.of-before.result.place c.of-before.ensures.place c.of-before.result.is_open c.of-before.ensures.open c.guest.result c.guest.ensures c.find-mac.result c.find-mac.ensures c.learn.ensures in
@@ -84,8 +85,8 @@ invariant_of-self c =
 
 pub returns-clause-learns : goal.returns-clause-learns
 returns-clause-learns c =
-    let parts = c.self.inside.parts.items in
-    let view = ap (λ (s : Kept). s.flows.parts) c.self.view_is in
+    let parts = c.self.inside.slots.items in
+    let view = ap (λ (s : Kept). s.flows.slots) c.self.view_is in
     let is =
     told_at c.args.guests.now parts _ view c.self.inside.rows.waits.each c.self.invariant.0.waits_are c.args.slot c.requires.slot c.at-seeks.result c.at-seeks.ensures.value c.if-not-seeks.false c.index_mut-part.result.now c.learn.new.self
     c.index_mut-part.ensures.value c.of-before.result.place c.of-before.ensures.place c.of-before.result.is_open c.of-before.ensures.open c.guest.result c.guest.ensures c.find-mac.result c.find-mac.ensures c.learn.ensures in
@@ -100,8 +101,8 @@ returns-clause-learns c =
 
 pub returns-clause-parts : goal.returns-clause-parts
 returns-clause-parts c x here =
-    let parts = c.self.inside.parts.items in
-    let view = ap (λ (s : Kept). s.flows.parts) c.self.view_is in
+    let parts = c.self.inside.slots.items in
+    let view = ap (λ (s : Kept). s.flows.slots) c.self.view_is in
     let is =
     told_at c.args.guests.now parts _ view c.self.inside.rows.waits.each c.self.invariant.0.waits_are c.args.slot c.requires.slot c.at-seeks.result c.at-seeks.ensures.value c.if-not-seeks.false c.index_mut-part.result.now c.learn.new.self
     c.index_mut-part.ensures.value c.of-before.result.place c.of-before.ensures.place c.of-before.result.is_open c.of-before.ensures.open c.guest.result c.guest.ensures c.find-mac.result c.find-mac.ensures c.learn.ensures in
@@ -115,8 +116,8 @@ returns-clause-parts c x here =
 
 pub returns-clause-stays : goal.returns-clause-stays
 returns-clause-stays c =
-    let parts = c.self.inside.parts.items in
-    let view = ap (λ (s : Kept). s.flows.parts) c.self.view_is in
+    let parts = c.self.inside.slots.items in
+    let view = ap (λ (s : Kept). s.flows.slots) c.self.view_is in
     let is =
     told_at c.args.guests.now parts _ view c.self.inside.rows.waits.each c.self.invariant.0.waits_are c.args.slot c.requires.slot c.at-seeks.result c.at-seeks.ensures.value c.if-not-seeks.false c.index_mut-part.result.now c.learn.new.self
     c.index_mut-part.ensures.value c.of-before.result.place c.of-before.ensures.place c.of-before.result.is_open c.of-before.ensures.open c.guest.result c.guest.ensures c.find-mac.result c.find-mac.ensures c.learn.ensures in

@@ -23,13 +23,13 @@ returns-in_default-clause-stays c = stays_same c.args.self.now
 
 pub leave_slot-requires : goal.leave_slot-requires
 leave_slot-requires c =
-    let parts = c.self.inside.parts.items in
+    let parts = c.self.inside.slots.items in
     let back = tuple_back c.self.inside.rows.table.slots parts c.self.invariant.0.slots_are c.in-Some.slot c.args.ends.now c.in-Some.ensures.found in
-    record { slot = (back.0, seen_here parts c.in-Some.slot back.0 _ (ap (λ (s : Kept). s.flows.parts) c.self.view_is) back.1 back.2) }
+    record { slot = (back.0, seen_here parts c.in-Some.slot back.0 _ (ap (λ (s : Kept). s.flows.slots) c.self.view_is) back.1 back.2) }
 
 pub returns-clause-way : goal.returns-clause-way
 returns-clause-way c =
-    let parts = c.self.inside.parts.items in
+    let parts = c.self.inside.slots.items in
     let k : ℕ = c.in-Some.slot in
     let back = tuple_back c.self.inside.rows.table.slots parts c.self.invariant.0.slots_are k c.args.ends.now c.in-Some.ensures.found in
     let rests = rests_only c.args.self.now.flows.table.slots c.args.ends.now k (subst (λ (s : Kept). HasTuple s.flows.table.slots k c.args.ends.now) c.self.view_is c.in-Some.ensures.found) c.requires.unused in
@@ -37,10 +37,10 @@ returns-clause-way c =
       k,
       back.0,
       rests.0,
-      seen_here parts k back.0 _ (ap (λ (s : Kept). s.flows.parts) c.self.view_is) back.1 back.2,
+      seen_here parts k back.0 _ (ap (λ (s : Kept). s.flows.slots) c.self.view_is) back.1 back.2,
       rests.1,
-      subst (λ (s : Kept). AreKept s.flows.table.slots s.flows.table.turns) c.self.view_is c.self.invariant.0.kept,
-      λ i. record { table = c.leave_slot.ensures.table i; parts = c.leave_slot.ensures.parts i; opened = c.leave_slot.ensures.stays.opened i },
+      subst (λ (s : Kept). AreKept s.flows.table.slots s.flows.table.rest_order) c.self.view_is c.self.invariant.0.kept,
+      λ i. record { table = c.leave_slot.ensures.table i; slots = c.leave_slot.ensures.parts i; opened = c.leave_slot.ensures.stays.opened i },
     )
 
 pub returns-clause-none : goal.returns-clause-none
@@ -49,7 +49,7 @@ returns-clause-none c =
     let old : Flows = c.args.self.now.flows.table in
     let rests = rests_only old.slots c.args.ends.now k (subst (λ (s : Kept). HasTuple s.flows.table.slots k c.args.ends.now) c.self.view_is c.in-Some.ensures.found) c.requires.unused in
     subst (λ (t : Flows). NoneHas t.slots c.args.ends.now) (sym c.leave_slot.ensures.table)
-    (none_left old.slots old.turns k c.args.ends.now rests.0 (subst (λ (s : Kept). AreKept s.flows.table.slots s.flows.table.turns) c.self.view_is c.self.invariant.0.kept) rests.1)
+    (none_left old.slots old.rest_order k c.args.ends.now rests.0 (subst (λ (s : Kept). AreKept s.flows.table.slots s.flows.table.rest_order) c.self.view_is c.self.invariant.0.kept) rests.1)
 
 pub returns-clause-room : goal.returns-clause-room
 returns-clause-room c =

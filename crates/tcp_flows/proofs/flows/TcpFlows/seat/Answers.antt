@@ -40,14 +40,14 @@ returns-in_default-clause-opened c =
 
 pub index_mut-part-requires : goal.index_mut-part-requires
 index_mut-part-requires c =
-    let parts = c.self.inside.parts.items in
+    let parts = c.self.inside.slots.items in
     let taken = taken_unused c.self.inside.rows.table parts c.self.invariant.0.slots_are c.in-Some.slot c.in-Some.ensures.which in
     let w = slice_get_within parts c.in-Some.slot taken.0 taken.1 in
-    omega (arith, w, c.self.inside.parts.ok.0)
+    omega (arith, w, c.self.inside.slots.ok.0)
 
 pub start-requires-clause-new : goal.start-requires-clause-new
 start-requires-clause-new c =
-    let parts = c.self.inside.parts.items in
+    let parts = c.self.inside.slots.items in
     let taken = taken_unused c.self.inside.rows.table parts c.self.invariant.0.slots_are c.in-Some.slot c.in-Some.ensures.which in
     let is = read_here parts c.in-Some.slot taken.0 c.index_mut-part.result.now taken.1 c.index_mut-part.ensures.value in
     let ours = c.self.invariant.2 c.in-Some.slot taken.0 taken.1 in
@@ -57,7 +57,7 @@ start-requires-clause-new c =
 
 pub start-requires-clause-size : goal.start-requires-clause-size
 start-requires-clause-size c =
-    let parts = c.self.inside.parts.items in
+    let parts = c.self.inside.slots.items in
     let taken = taken_unused c.self.inside.rows.table parts c.self.invariant.0.slots_are c.in-Some.slot c.in-Some.ensures.which in
     let is = read_here parts c.in-Some.slot taken.0 c.index_mut-part.result.now taken.1 c.index_mut-part.ensures.value in
     let ours = c.self.invariant.2 c.in-Some.slot taken.0 taken.1 in
@@ -65,7 +65,7 @@ start-requires-clause-size c =
 
 pub begin-requires-clause-rows : goal.begin-requires-clause-rows
 begin-requires-clause-rows c =
-    let parts = c.self.inside.parts.items in
+    let parts = c.self.inside.slots.items in
     let table = c.self.inside.rows.table in
     let begins = c.start.ensures.begins in
     let taken = taken_unused table parts c.self.invariant.0.slots_are c.in-Some.slot c.in-Some.ensures.which in
@@ -75,7 +75,7 @@ begin-requires-clause-rows c =
       taken.0,
       table,
       joins_are table parts c.self.invariant.0.slots_are c.in-Some.slot c.in-Some.ensures.which c.start.new.self c.args.number c.args.ends.now (ap is_open begins) (ap number_of begins) (ap (λ (x : Splice). ends_of x.face) begins) none
-          (λ k p at open_yet. c.requires.above k p (seen_open parts k p _ (ap (λ (s : Kept). s.flows.parts) c.self.view_is) at open_yet).here),
+          (λ k p at open_yet. c.requires.above k p (seen_open parts k p _ (ap (λ (s : Kept). s.flows.slots) c.self.view_is) at open_yet).here),
       roomy parts table.slots c.self.inside.rows.sockets.room c.self.invariant.0.slots_are c.self.invariant.1 room,
       c.self.invariant.0,
     )
@@ -83,14 +83,14 @@ begin-requires-clause-rows c =
 pub begin-requires-clause-few : goal.begin-requires-clause-few
 begin-requires-clause-few c =
     let room = subst (λ (s : Kept). in_use_slots s.flows.table.slots < length s.flows.table.slots) (sym c.self.view_is) c.requires.room in
-    let few = roomy c.self.inside.parts.items c.self.inside.rows.table.slots c.self.inside.rows.sockets.room c.self.invariant.0.slots_are c.self.invariant.1 room in
+    let few = roomy c.self.inside.slots.items c.self.inside.rows.table.slots c.self.inside.rows.sockets.room c.self.invariant.0.slots_are c.self.invariant.1 room in
     let used = c.self.invariant.0.used_are in
     let count_is = c.self.invariant.1 in
-    omega (arith, few, used, count_is, c.self.inside.parts.ok.0)
+    omega (arith, few, used, count_is, c.self.inside.slots.ok.0)
 
 pub invariant_of-self-2 : goal.invariant_of-self-2
 invariant_of-self-2 c =
-    let parts = c.self.inside.parts.items in
+    let parts = c.self.inside.slots.items in
     let table = c.self.inside.rows.table in
     let begins = c.start.ensures.begins in
     let q : Splice = c.start.new.self in
@@ -99,7 +99,7 @@ invariant_of-self-2 c =
     let none = subst (λ (s : Kept). NoneHas s.flows.table.slots c.args.ends.now) (sym c.self.view_is) c.requires.none in
     let joins =
     joins_are table parts c.self.invariant.0.slots_are c.in-Some.slot c.in-Some.ensures.which q c.args.number c.args.ends.now (ap is_open begins) (ap number_of begins) (ap (λ (x : Splice). ends_of x.face) begins) none
-    (λ k p at open_yet. c.requires.above k p (seen_open parts k p _ (ap (λ (s : Kept). s.flows.parts) c.self.view_is) at open_yet).here) in (
+    (λ k p at open_yet. c.requires.above k p (seen_open parts k p _ (ap (λ (s : Kept). s.flows.slots) c.self.view_is) at open_yet).here) in (
       c.begin.ensures.rows parts taken.0 table joins (c.in-Some.ensures.taken ∙ ap (with_slot table c.in-Some.slot) (sym (ap (λ (x : Splice). slot_of x) begins))) c.self.invariant.0,
       c.begin.ensures.room ∙ c.self.invariant.1 ∙ sym (length-set parts c.in-Some.slot q),
       begun_ours c.self.inside.sizes.ring c.self.inside.sizes.mru c.self.inside.sizes.vhost.0 parts c.self.invariant.2 c.in-Some.slot taken.0 q taken.1
@@ -112,7 +112,7 @@ invariant_of-self-2 c =
 
 pub returns-clause-seat : goal.returns-clause-seat
 returns-clause-seat c =
-    let parts = c.self.inside.parts.items in
+    let parts = c.self.inside.slots.items in
     let table = c.self.inside.rows.table in
     let view = c.self.view_is in
     let begins = c.start.ensures.begins in
@@ -127,15 +127,15 @@ returns-clause-seat c =
       slot = k;
       part = q;
       taken = subst (λ (s : Kept). MayBeTaken s.flows.table k) view c.in-Some.ensures.which;
-      kept = subst (λ (s : Kept). AreKept s.flows.table.slots s.flows.table.turns) view c.self.invariant.0.kept;
-      fit = subst (λ (s : Kept). length s.flows.parts ≡ length s.flows.table.slots) view
+      kept = subst (λ (s : Kept). AreKept s.flows.table.slots s.flows.table.rest_order) view c.self.invariant.0.kept;
+      fit = subst (λ (s : Kept). length s.flows.slots ≡ length s.flows.table.slots) view
           (length-map parts part_of ∙ sym (length-map parts slot_of) ∙ sym (ap (λ (l : List Slot). length l) c.self.invariant.0.slots_are));
       number_is = ap number_of begins;
       mac_is = ap (λ (x : Splice). x.mac) begins;
       unasked = ap (λ (x : Splice). x.asked) begins;
       seated = flows_as (c.begin.ensures.table ∙ c.in-Some.ensures.taken) (set parts k q) (opened + 1)
-          ∙ ap (λ l. record { table = with_slot table k (SlotInUse c.args.ends.now); parts = l; opened = opened + 1 }) (map-set part_of parts k q ∙ ap (λ x. set (map part_of parts) k (part_at x q)) (ap (λ (x : Splice). x.place) begins))
-          ∙ ap (λ (s : Kept). record { table = with_slot s.flows.table k (SlotInUse c.args.ends.now); parts = set s.flows.parts k (Some q); opened = s.flows.opened + 1 }) view;
+          ∙ ap (λ l. record { table = with_slot table k (SlotInUse c.args.ends.now); slots = l; opened = opened + 1 }) (map-set part_of parts k q ∙ ap (λ x. set (map part_of parts) k (part_at x q)) (ap (λ (x : Splice). x.place) begins))
+          ∙ ap (λ (s : Kept). record { table = with_slot s.flows.table k (SlotInUse c.args.ends.now); slots = set s.flows.slots k (Some q); opened = s.flows.opened + 1 }) view;
       connects = λ config syn ours_first most for_it some most_is conn_is.
           let its = subst (IsFor config) (sym view) for_it in
           c.start.ensures.connects (flow_settings config) syn ours_first most refl (subst (λ n. n ≤ 1048576) (sym its.ring) ring_most)
@@ -147,7 +147,7 @@ returns-clause-seat c =
     }
 
 pub returns-in_default-clause-slots : goal.returns-in_default-clause-slots
-returns-in_default-clause-slots c = ap (λ (s : Kept). length s.flows.parts) c.self.view_is
+returns-in_default-clause-slots c = ap (λ (s : Kept). length s.flows.slots) c.self.view_is
 
 pub returns-in_default-clause-numbers : goal.returns-in_default-clause-numbers
 returns-in_default-clause-numbers c k p here =
@@ -155,10 +155,10 @@ returns-in_default-clause-numbers c k p here =
     absurd (none_taken c.self.inside.rows.table.slots c.in_default.ensures.free c.in_default.ensures.resting room)
 
 pub returns-clause-slots : goal.returns-clause-slots
-returns-clause-slots c = as_long c.self.inside.parts.items c.args.self.now.flows.parts (ap (λ (s : Kept). s.flows.parts) c.self.view_is) c.in-Some.slot c.start.new.self
+returns-clause-slots c = as_long c.self.inside.slots.items c.args.self.now.flows.slots (ap (λ (s : Kept). s.flows.slots) c.self.view_is) c.in-Some.slot c.start.new.self
 
 pub returns-clause-numbers : goal.returns-clause-numbers
 returns-clause-numbers c =
-    let parts = c.self.inside.parts.items in
+    let parts = c.self.inside.slots.items in
     let taken = taken_unused c.self.inside.rows.table parts c.self.invariant.0.slots_are c.in-Some.slot c.in-Some.ensures.which in
-    begun_numbers c.args.number c.args.self.now.flows.parts parts c.in-Some.slot taken.0 c.start.new.self (ap (λ (s : Kept). s.flows.parts) c.self.view_is) taken.1 (ap number_of c.start.ensures.begins)
+    begun_numbers c.args.number c.args.self.now.flows.slots parts c.in-Some.slot taken.0 c.start.new.self (ap (λ (s : Kept). s.flows.slots) c.self.view_is) taken.1 (ap number_of c.start.ensures.begins)

@@ -13,6 +13,7 @@ use Rattle.tcp_flows.specs.declared.guest.Heard.TheVariants.{Strange, Taken}
 use Rattle.tcp_flows.proofs.Following.{has_tuple}
 use Rattle.tcp_flows.proofs.Hearing.{hears_used}
 use Rattle.tcp_flows.proofs.Keeping.{flows_as, in_use_is, may_take, ours_as_old, raw_here, raw_placed, read_here, served_same, settings_as, slot_raw, table_is, used_awake, used_moves}
+use Rattle.tcp_flows.proofs.Reached.{had_place, reached}
 use Rattle.tcp_flows.proofs.Staying.{stays_set}
 use Rattle.tcp_flows.proofs.flows.TcpFlows.take_in_use.Goals as goal
 
@@ -22,96 +23,90 @@ same_part x y is = cc
 pub index_mut-part-requires : goal.index_mut-part-requires
 index_mut-part-requires g c =
     let o = c.requires.slot in
-    let parts = c.self.inside.parts.items in
-    let raw = raw_here parts c.args.slot o.0 (ap (λ (s : Kept). slice_get s.flows.parts c.args.slot) c.self.view_is ∙ o.1) in
+    let parts = c.self.inside.slots.items in
+    let raw = raw_here parts c.args.slot o.0 (ap (λ (s : Kept). slice_get s.flows.slots c.args.slot) c.self.view_is ∙ o.1) in
     let w = slice_get_within parts c.args.slot o.0 raw in
-    omega (arith, w, c.self.inside.parts.ok.0)
+    omega (arith, w, c.self.inside.slots.ok.0)
 
 pub guest_segment-unfit-requires-clause-few : goal.guest_segment-unfit-requires-clause-few
 guest_segment-unfit-requires-clause-few g c =
     let o = c.requires.slot in
-    let parts = c.self.inside.parts.items in
-    let raw = raw_here parts c.args.slot o.0 (ap (λ (s : Kept). slice_get s.flows.parts c.args.slot) c.self.view_is ∙ o.1) in
-    let some = raw_placed parts c.args.slot o.0 (ap (λ (s : Kept). slice_get s.flows.parts c.args.slot) c.self.view_is ∙ o.1) in
+    let parts = c.self.inside.slots.items in
+    let raw = raw_here parts c.args.slot o.0 (ap (λ (s : Kept). slice_get s.flows.slots c.args.slot) c.self.view_is ∙ o.1) in
+    let some = raw_placed parts c.args.slot o.0 (ap (λ (s : Kept). slice_get s.flows.slots c.args.slot) c.self.view_is ∙ o.1) in
     let few = may_take c.self.inside.turn c.self.inside.served.items parts c.self.invariant.3 c.args.slot o.0 raw some c.self.invariant.5 (length c.args.segment.now.body.now) c.requires.body in
     subst (λ (x : Splice). x.up.written + length c.args.segment.now.body.now + 2097152 < 4611686018427387904) (sym (read_here parts c.args.slot o.0 c.index_mut-part.result.now raw c.index_mut-part.ensures.value)) few
 
-pub follow-requires-clause-some : goal.follow-requires-clause-some
-follow-requires-clause-some g c =
-    let o = c.requires.slot in
-    let parts = c.self.inside.parts.items in
-    let raw = raw_here parts c.args.slot o.0 (ap (λ (s : Kept). slice_get s.flows.parts c.args.slot) c.self.view_is ∙ o.1) in
-    let is = read_here parts c.args.slot o.0 c.index_mut-part.result.now raw c.index_mut-part.ensures.value in
-    λ empty. raw_placed parts c.args.slot o.0 (ap (λ (s : Kept). slice_get s.flows.parts c.args.slot) c.self.view_is ∙ o.1) (sym (ap (λ (x : Splice). x.place) is) ∙ sym c.of-before.ensures.place ∙ empty)
-
 pub follow-requires-clause-rows : goal.follow-requires-clause-rows
 follow-requires-clause-rows g c =
-    let o = c.requires.slot in
-    let parts = c.self.inside.parts.items in
-    let raw = raw_here parts c.args.slot o.0 (ap (λ (s : Kept). slice_get s.flows.parts c.args.slot) c.self.view_is ∙ o.1) in
-    let is = read_here parts c.args.slot o.0 c.index_mut-part.result.now raw c.index_mut-part.ensures.value in
     let q : Splice = c.guest_segment-unfit.new.self in
+    let o = c.requires.slot in
+    let parts = c.self.inside.slots.items in
+    let r = reached parts c.args.slot _ o.0 c.index_mut-part.result.now _ _ (ap (λ (s : Kept). s.flows.slots) c.self.view_is) o.1
+    c.index_mut-part.ensures.value c.of-before.ensures.place c.of-before.ensures.open in
     let used = in_use_is o.0 o.2 in (
       parts,
       o.0,
-      raw,
-      c.of-before.ensures.place ∙ ap (λ (x : Splice). x.place) is,
-      c.of-before.ensures.open ∙ ap is_open is,
-      used_moves o.0 q used (c.guest_segment-unfit.ensures.same.face ∙ ap (λ (x : Splice). x.face) is)
-          (λ shut. c.guest_segment-unfit.ensures.closed (ap is_open is ∙ shut) (used_awake c.index_mut-part.result.now (ap (λ (x : Splice). x.place) is ∙ used)) ∙ is),
+      r.at,
+      r.place_is,
+      r.open_is,
+      used_moves o.0 q used (c.guest_segment-unfit.ensures.stays.same.face ∙ ap (λ (x : Splice). x.face) r.is)
+          (λ shut. c.guest_segment-unfit.ensures.closed (ap is_open r.is ∙ shut) (used_awake c.index_mut-part.result.now (ap (λ (x : Splice). x.place) r.is ∙ used)) ∙ r.is),
       c.self.invariant.0,
     )
 
+pub follow-requires-clause-some : goal.follow-requires-clause-some
+follow-requires-clause-some g c =
+    had_place c.self.inside.slots.items c.args.slot c.requires.slot.0 c.index_mut-part.result.now _ _
+    (reached c.self.inside.slots.items c.args.slot _ c.requires.slot.0 c.index_mut-part.result.now _ _ (ap (λ (s : Kept). s.flows.slots) c.self.view_is)
+    c.requires.slot.1 c.index_mut-part.ensures.value c.of-before.ensures.place c.of-before.ensures.open)
+
 pub invariant_of-self : goal.invariant_of-self
 invariant_of-self g c =
-    let o = c.requires.slot in
-    let parts = c.self.inside.parts.items in
-    let raw = raw_here parts c.args.slot o.0 (ap (λ (s : Kept). slice_get s.flows.parts c.args.slot) c.self.view_is ∙ o.1) in
-    let some = raw_placed parts c.args.slot o.0 (ap (λ (s : Kept). slice_get s.flows.parts c.args.slot) c.self.view_is ∙ o.1) in
-    let is = read_here parts c.args.slot o.0 c.index_mut-part.result.now raw c.index_mut-part.ensures.value in
     let q : Splice = c.guest_segment-unfit.new.self in
+    let o = c.requires.slot in
+    let parts = c.self.inside.slots.items in
+    let r = reached parts c.args.slot _ o.0 c.index_mut-part.result.now _ _ (ap (λ (s : Kept). s.flows.slots) c.self.view_is) o.1
+    c.index_mut-part.ensures.value c.of-before.ensures.place c.of-before.ensures.open in
     let used = in_use_is o.0 o.2 in
-    let as_old = subst (λ (x : Splice). IsAsOld x q) is c.guest_segment-unfit.ensures.same in
-    let moves = used_moves o.0 q used as_old.face (λ shut. c.guest_segment-unfit.ensures.closed (ap is_open is ∙ shut) (used_awake c.index_mut-part.result.now (ap (λ (x : Splice). x.place) is ∙ used)) ∙ is) in (
-      c.follow.ensures.rows parts o.0 raw (c.of-before.ensures.place ∙ ap (λ (x : Splice). x.place) is) (c.of-before.ensures.open ∙ ap is_open is) moves c.self.invariant.0,
+    let as_old = subst (λ (x : Splice). IsAsOld x q) r.is c.guest_segment-unfit.ensures.stays.same in
+    let moves = used_moves o.0 q used as_old.face (λ shut. c.guest_segment-unfit.ensures.closed (ap is_open r.is ∙ shut) (used_awake c.index_mut-part.result.now (ap (λ (x : Splice). x.place) r.is ∙ used)) ∙ r.is) in (
+      c.follow.ensures.rows parts o.0 r.at r.place_is r.open_is moves c.self.invariant.0,
       c.follow.ensures.room ∙ c.self.invariant.1 ∙ sym (length-set parts c.args.slot q),
-      ours_as_old c.self.inside.sizes.ring c.self.inside.sizes.mru c.self.inside.sizes.vhost.0 parts c.self.invariant.2 c.args.slot o.0 raw q some as_old,
-      served_same c.self.inside.turn c.self.inside.served.items parts c.self.invariant.3 c.args.slot o.0 raw q some
-          (c.guest_segment-unfit.ensures.up ∙ ap (λ (x : Splice). x.up.written) is) (c.guest_segment-unfit.ensures.down ∙ ap (λ (x : Splice). octets_read x.down) is),
+      ours_as_old c.self.inside.sizes.ring c.self.inside.sizes.mru c.self.inside.sizes.vhost.0 parts c.self.invariant.2 c.args.slot o.0 r.at q r.some as_old,
+      served_same c.self.inside.turn c.self.inside.served.items parts c.self.invariant.3 c.args.slot o.0 r.at q r.some
+          (c.guest_segment-unfit.ensures.stays.up ∙ ap (λ (x : Splice). x.up.written) r.is) (c.guest_segment-unfit.ensures.stays.down ∙ ap (λ (x : Splice). octets_read x.down) r.is),
       c.self.invariant.4,
       c.self.invariant.5,
     )
 
 pub returns-clause-makes : goal.returns-clause-makes
 returns-clause-makes g c p here =
-    let parts = c.self.inside.parts.items in
+    let q : Splice = c.guest_segment-unfit.new.self in
+    let parts = c.self.inside.slots.items in
     let table = c.self.inside.rows.table in
     let view = c.self.view_is in
-    let seen = ap (λ (s : Kept). slice_get s.flows.parts c.args.slot) view ∙ here in
-    let raw = raw_here parts c.args.slot p seen in
-    let some = raw_placed parts c.args.slot p seen in
-    let is = read_here parts c.args.slot p c.index_mut-part.result.now raw c.index_mut-part.ensures.value in
-    let q : Splice = c.guest_segment-unfit.new.self in
+    let r = reached parts c.args.slot _ p c.index_mut-part.result.now _ _ (ap (λ (s : Kept). s.flows.slots) view) here
+    c.index_mut-part.ensures.value c.of-before.ensures.place c.of-before.ensures.open in
     let o = c.requires.slot in
     let used = in_use_is p (subst (λ (x : Splice). is_in_use x.place ≡ true) (same_part o.0 p (sym o.1 ∙ here)) o.2) in
-    let as_old = subst (λ (x : Splice). IsAsOld x q) is c.guest_segment-unfit.ensures.same in
-    let moves = used_moves p q used as_old.face (λ shut. c.guest_segment-unfit.ensures.closed (ap is_open is ∙ shut) (used_awake c.index_mut-part.result.now (ap (λ (x : Splice). x.place) is ∙ used)) ∙ is) in
-    let slot = slot_raw table parts c.self.invariant.0.slots_are c.args.slot p raw in
-    let has = has_tuple false table c.args.slot p q moves some slot in
-    let table_then = c.follow.ensures.table (ends_of p.face) has ∙ table_is (c.of-before.ensures.place ∙ ap (λ (x : Splice). x.place) is) false q.place c.args.slot (ends_of p.face) table in
+    let as_old = subst (λ (x : Splice). IsAsOld x q) r.is c.guest_segment-unfit.ensures.stays.same in
+    let moves = used_moves p q used as_old.face (λ shut. c.guest_segment-unfit.ensures.closed (ap is_open r.is ∙ shut) (used_awake c.index_mut-part.result.now (ap (λ (x : Splice). x.place) r.is ∙ used)) ∙ r.is) in
+    let slot = slot_raw table parts c.self.invariant.0.slots_are c.args.slot p r.at in
+    let has = has_tuple false table c.args.slot p q moves r.some slot in
+    let table_then = c.follow.ensures.table (ends_of p.face) has ∙ table_is r.place_is false q.place c.args.slot (ends_of p.face) table in
     makes_as _ _ _ _ c.guest_segment-unfit.ensures.makes
     (λ made hears.
-    hears_used c.args.now table parts c.self.inside.opened c.args.self.now _ (sym (ap (λ (s : Kept). s.flows) view)) c.self.invariant.0.slots_are c.self.invariant.0.kept c.args.slot p q raw some
+    hears_used c.args.now table parts c.self.inside.opened c.args.self.now _ (sym (ap (λ (s : Kept). s.flows) view)) c.self.invariant.0.slots_are c.self.invariant.0.kept c.args.slot p q r.at r.some
     (λ config. settings_as view refl) as_old (tcp_of c.args.segment.now) c.acknowledgement-acknowledgement.ensures.bits used (flows_as table_then (set parts c.args.slot q) c.self.inside.opened) made
-    (subst (λ (x : Splice). HearsOne x q (tcp_of c.args.segment.now) c.args.now made) is hears.0) hears.1 c.taken.result
-    (c.taken.ensures ∙ ap (λ b. if b then Strange else Taken) (c.guest_segment-unfit.ensures.unfit ∙ ap (λ (x : Splice). turns_away x (tcp_of c.args.segment.now) c.args.now) is)))
+    (subst (λ (x : Splice). HearsOne x q (tcp_of c.args.segment.now) c.args.now made) r.is hears.0) hears.1 c.taken.result
+    (c.taken.ensures ∙ ap (λ b. if b then Strange else Taken) (c.guest_segment-unfit.ensures.unfit ∙ ap (λ (x : Splice). turns_away x (tcp_of c.args.segment.now) c.args.now) r.is)))
 
 pub returns-clause-stays : goal.returns-clause-stays
 returns-clause-stays g c =
     let o = c.requires.slot in
-    let parts = c.self.inside.parts.items in
-    let raw = raw_here parts c.args.slot o.0 (ap (λ (s : Kept). slice_get s.flows.parts c.args.slot) c.self.view_is ∙ o.1) in
-    let some = raw_placed parts c.args.slot o.0 (ap (λ (s : Kept). slice_get s.flows.parts c.args.slot) c.self.view_is ∙ o.1) in
-    let is = read_here parts c.args.slot o.0 c.index_mut-part.result.now raw c.index_mut-part.ensures.value in
-    stays_set c.args.self.now _ parts c.args.slot o.0 c.guest_segment-unfit.new.self (ap (λ (s : Kept). s.flows.parts) c.self.view_is) raw some (c.guest_segment-unfit.ensures.same.face ∙ ap (λ (x : Splice). x.face) is) refl
+    let parts = c.self.inside.slots.items in
+    let r = reached parts c.args.slot _ o.0 c.index_mut-part.result.now _ _ (ap (λ (s : Kept). s.flows.slots) c.self.view_is) o.1
+    c.index_mut-part.ensures.value c.of-before.ensures.place c.of-before.ensures.open in
+    stays_set c.args.self.now _ parts c.args.slot o.0 c.guest_segment-unfit.new.self (ap (λ (s : Kept). s.flows.slots) c.self.view_is) r.at r.some (c.guest_segment-unfit.ensures.stays.same.face ∙ ap (λ (x : Splice). x.face) r.is) refl
     (ap (λ (s : Kept). s.flows.opened) c.self.view_is)

@@ -1,6 +1,6 @@
 use Rattle.std.proofs.Common.{ℕ, ◌≡◌, ◌<◌, ◌+◌, All, List, [], ◌∷◌, ◌++◌, length, length-append, Some, Option, sym, ◌∙◌, ap, subst, arith}
 use Rattle.std.proofs.lemmas.List.Sorted.{All-permutation}
-use Rattle.udp_assoc.specs.Links.{AreLinks, link_of, unless_none, walk}
+use Rattle.udp_assoc.specs.Links.{AreLinks, neighbours_of, unless_none, walk}
 use Rattle.udp_assoc.specs.Rows.{Rise}
 use Rattle.udp_assoc.proofs.Ordering.{as_long, as_often, rise_last}
 use Rattle.udp_assoc.proofs.Tabling.{came_last, came_list, order_is}
@@ -59,7 +59,7 @@ returns c =
     let above = subst (λ (l : List ℕ). All (λ n. n < m) l) (sym c.self.view_is ∙ seen) c.requires.above in
     let one_link = ap length c.push-2.ensures.items ∙ length-append i.links.items _ in
     let one_number = ap length c.push.ensures.items ∙ length-append i.numbers.items (m ∷ []) in
-    ap (walk (length c.push.new.self.items) (link_of c.push.new.self.items c.put_last.new.links.items)) c.unless_none-self-inside.ensures
+    ap (walk (length c.push.new.self.items) (neighbours_of c.push.new.self.items c.put_last.new.links.items)) c.unless_none-self-inside.ensures
     ∙ came_list i.numbers.items i.links.items i.first i.last are m above c.push.new.self.items c.push-2.new.self.items c.put_last.new.links.items c.push.ensures.items _ c.push-2.ensures.items
     (omega (arith, one_link, one_number, are.beside, c.put_last.ensures.beside)) c.put_last.ensures.links
     ∙ ap (λ (l : List ℕ). l ++ (m ∷ [])) (sym seen ∙ c.self.view_is)

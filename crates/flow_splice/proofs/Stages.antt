@@ -1,0 +1,45 @@
+-- What follows from the stage of a connection, from where its flow stands, and from tests of these.
+use Rattle.std.proofs.Common.{refl, ◌≡◌, not, ◌&&◌, ◌||◌, Bool, true, false, Option, None, Some, if◌then◌else◌, ap}
+use Rattle.tcp_guest.specs.Connection.{is_opening}
+use Rattle.tcp_guest.specs.declared.Owed.{Owed}
+use Rattle.tcp_guest.specs.declared.Stage.{Stage}
+use Rattle.tcp_guest.specs.declared.Stage.TheVariants as stage
+use Rattle.connection_follows.specs.Holding.{is_calls, is_connects}
+use Rattle.flow_splice.specs.Sends.{takes_part_at}
+use Rattle.flow_splice.specs.Splice.{is_in_use}
+use Rattle.flow_splice.specs.declared.Place.{Place}
+use Rattle.flow_splice.specs.declared.Place.TheVariants.{Empty, InUse, Resting}
+
+-- of one that was closed nothing is under way, and it doesn't connect
+pub no_way : (a b : Bool) → b ≡ true → (a && not b) ≡ false
+no_way true b is = ap not is
+no_way false b is = refl
+
+pub no_connecting : (a b : Bool) → b ≡ true → not (a || b) ≡ false
+no_connecting true b is = refl
+no_connecting false b is = ap not is
+
+-- where one of these is owed if at all, and none is
+pub if_none : (b : Bool) (w : Owed) → (if b then Some w else None) ≡ None → b ≡ false
+if_none true w is = absurd cc
+if_none false w is = refl
+
+-- one whose socket is open is in use, and owes what its connection does
+pub in_use : (a b : Bool) → (a && not b) ≡ true → a ≡ true
+in_use true b is = refl
+in_use false b is = absurd cc
+
+pub takes : (p : Place) (q : Option Owed) → is_in_use p ≡ true → takes_part_at p q ≡ None → q ≡ None
+takes Empty q is none = absurd cc
+takes InUse q is none = none
+takes (Resting since) q is none = absurd cc
+
+-- a stage that calls a guest opens a connection, whose socket has connected
+pub calls_opens : (t : Stage) → is_calls t ≡ true → (is_opening t ≡ true) × (is_connects t ≡ false)
+calls_opens stage.Connects is = absurd cc
+calls_opens stage.Calls is = (refl, refl)
+calls_opens stage.Answers is = absurd cc
+calls_opens stage.Synchronized is = absurd cc
+calls_opens stage.Rests is = absurd cc
+calls_opens (stage.Resets seq ack) is = absurd cc
+calls_opens stage.Gone is = absurd cc

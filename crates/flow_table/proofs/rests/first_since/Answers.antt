@@ -1,0 +1,12 @@
+use Rattle.std.proofs.Common.{ltb, rules}
+use Rattle.std.proofs.lemmas.List.Sorted.{IsPartitionPoint-from_clause, IsPartitionedBy-ltb}
+use Rattle.flow_table.specs.declared.Rest.{Rest}
+use Rattle.flow_table.proofs.Finding.{first_since_is}
+use Rattle.flow_table.proofs.rests.first_since.Goals as goal
+
+pub returns : goal.returns
+returns c =
+    let rests = c.args.rests.now in
+    let since = c.args.since in
+    let parted = IsPartitionedBy-ltb (λ (r : Rest). r.since) rests since c.requires in
+    first_since_is rests since c.partition_point.result c.partition_point.ensures.bound (IsPartitionPoint-from_clause (λ (r : Rest). ltb r.since since) _ _ c.partition_point.ensures.partitioned parted (λ a r q k. search rules))
