@@ -24,10 +24,7 @@ pub fn options_read() -> Table<5>
         54: 4 to 4, once;
         61: 2 to 255, repeats;
     ];
-    let Some(table) = Table::new(FORM, rows) else {
-        unreachable!();
-    };
-    table
+    Table::of(FORM, rows)
 }
 
 /// The table of the options that are written: mask, router, name server, the client's name and its domain, the time of a lease, the kind of the message, the server, the TFTP server's name and the file.
@@ -46,8 +43,5 @@ pub fn options_written() -> Table<10>
         66: 1 to 127, once;
         67: 1 to 127, once;
     ];
-    let Some(table) = Table::new(FORM, rows) else {
-        unreachable!();
-    };
-    table
+    Table::of(FORM, rows)
 }

@@ -1,5 +1,5 @@
 -- What a pump makes.
-use Rattle.std.specs.Prelude.{◌≡◌, ℕ, ◌+◌, ◌%◌, ◌^◌, ◌<◌, ◌≤◌, List, [], ◌++◌, Bool, true, false, ◌&&◌, ◌||◌, nat_eq, nat_le, nat_lt, Option, None, Some, if◌then◌else◌}
+use Rattle.std.specs.Prelude.{◌≡◌, ℕ, ◌+◌, ◌%◌, ◌^◌, ◌<◌, ◌≤◌, List, [], ◌++◌, Bool, true, false, ◌&&◌, ◌||◌, ◌⊎◌, nat_eq, nat_le, nat_lt, Option, None, Some, if◌then◌else◌}
 use Rattle.net_octets.specs.declared.Mac.{Mac}
 use Rattle.world_face.specs.Journal.{Entry}
 use Rattle.stream_netdev.specs.Keeps.{Keeps}
@@ -8,6 +8,7 @@ use Rattle.stream_netdev.specs.declared.Offered.{Offered}
 use Rattle.stream_netdev.specs.declared.Offered.TheVariants.{Taken, Blocked, Failed}
 use Rattle.tcp_guest.specs.Owing.{after_gone, change_gone, owed_of}
 use Rattle.tcp_guest.specs.declared.Owed.{Owed}
+use Rattle.tcp_guest.specs.declared.Owed.TheVariants.{Ack}
 use Rattle.flow_laws.specs.Settings.{Settings}
 use Rattle.flow_laws.specs.Event.{Story}
 use Rattle.connection_follows.specs.Sending.{is_rst}
@@ -45,6 +46,10 @@ ident_if Failed ident = ident
 -- the connection after what it owed went out
 abbrev pub went_out : Splice → Owed → ℕ → Splice
 went_out f what now = record f { conn = after_gone what f.conn f.up now }
+
+-- one at rest acknowledges, or goes on as it was: it stays where it rests
+abbrev pub Acknowledges : (old new : Splice) → ℕ → Type 0
+Acknowledges old new now = (new ≡ old) ⊎ (new ≡ went_out old Ack now)
 
 -- the flow then: after a reset its place is empty, and where both ends passed its socket is closed
 abbrev pub GoesOut : Bool → Owed → Splice → Splice → ℕ → List Entry → Type 0

@@ -56,6 +56,22 @@ is_at_rest Empty = false
 is_at_rest InUse = false
 is_at_rest (Resting since) = true
 
+-- a connection of which both ends passed, in TIME-WAIT (RFC 9293, 3.6)
+abbrev pub is_time_wait : Stage → Bool
+is_time_wait stage.Connects = false
+is_time_wait stage.Calls = false
+is_time_wait stage.Answers = false
+is_time_wait stage.Synchronized = false
+is_time_wait stage.Rests = true
+is_time_wait (stage.Resets seq ack) = false
+is_time_wait stage.Gone = false
+
+-- a flow rests only where its connection is in TIME-WAIT
+abbrev pub rests_by : Place → Stage → Bool
+rests_by Empty st = true
+rests_by InUse st = true
+rests_by (Resting since) st = is_time_wait st
+
 -- its socket is open
 abbrev pub is_open : Splice → Bool
 is_open f = is_in_use f.place && not f.shut

@@ -8,7 +8,7 @@ ghost use Rattle.ether_frame.specs.Ether.{ether_octets};
 ghost use Rattle.ipv4_head.specs.Ip.{head_with, summed_head};
 ghost use Rattle.sock_buffers.specs.Downward.{Downward};
 ghost use Rattle.tcp_guest.specs.declared.Head.{Head as Header};
-ghost use Rattle.tcp_segment.specs.Tcp.{head_octets, mss_octets, scale_octets, tcp_length, tcp_octets, tcp_of, words_of as words_by};
+ghost use Rattle.tcp_segment.specs.Tcp.{head_octets, mss_octets, scale_octets, tcp_length, tcp_octets, tcp_of};
 ghost use Rattle.connection_follows.specs.Sending.{carried, mss_in, with_head};
 ghost use Rattle.flow_splice.specs.Frames.{IsHeld, IsSized, bit_if, flags_of, frame_length, request_frame, segment_frame, tcp_out};
 ghost use Rattle.net_octets.specs.declared.Endpoint.{Endpoint as AnEndpoint};
@@ -23,7 +23,7 @@ use net_octets::{
 };
 use sock_buffers::Down;
 use tcp_guest::{Head, Owed};
-use tcp_segment::{ACK, FIN, PSH, RST, SYN, TcpView};
+use tcp_segment::{ACK, FIN, PSH, RST, SYN, TcpView, head_size, put_head};
 
 /// The hardware address of everyone.
 const EVERYONE: Mac = Mac([255; 6]);
@@ -33,9 +33,6 @@ const NOBODY: Mac = Mac([0; 6]);
 
 /// The octets of the headers of Ethernet and IPv4.
 const FRONT: usize = 34;
-
-/// The octets of a header of TCP without options.
-const HEAD: usize = 20;
 
 /// Between whom a datagram goes, and which one it is.
 #[derive(Clone, Copy)]
@@ -118,68 +115,14 @@ fn outline(route: &Route, head: &Head, what: &Owed, mru: u16) -> TcpView<'static
     }
 }
 
-/// The octets that options take.
-fn mss_size(mss: Option<u16>) -> usize
-    ensures length { result ≡ length (mss_octets mss) }
-    ensures few { result ≤ 4 }
-{
-    if mss.is_some() { 4 } else { 0 }
-}
-
-fn scale_size(scale: Option<u8>) -> usize
-    ensures length { result ≡ length (scale_octets scale) }
-    ensures few { result ≤ 4 }
-{
-    if scale.is_some() { 4 } else { 0 }
-}
-
-/// The options, with octets of no meaning after them: a pad stands before the window scale.
-fn options(mss: Option<u16>, scale: Option<u8>) -> [u8; 8]
-    ensures { mss_octets mss ++ scale_octets scale
-        ≡ take (length (mss_octets mss) + length (scale_octets scale)) result }
-{
-    let [high, low] = mss.unwrap_or(0).to_be_bytes();
-    let shift = scale.unwrap_or(0);
-    if mss.is_some() {
-        [2, 4, high, low, 1, 3, 3, shift]
-    } else {
-        [1, 3, 3, shift, 0, 0, 0, 0]
-    }
-}
-
-/// The words of four octets that a header takes.
-fn words_of(v: &TcpView<'_>) -> u8
-    ensures words { result ≡ words_by (tcp_of v.now) }
-    ensures few { result < 16 }
-{
-    ((HEAD + mss_size(v.mss) + scale_size(v.scale)) / 4) as u8
-}
-
-/// A header without options, with 0 in the place of the sum.
-fn header(v: &TcpView<'_>) -> [u8; HEAD]
-    ensures { result ≡ head_octets (tcp_of v.now) }
-{
-    let mut head = [0; HEAD];
-    BigEndian::write_u16(&mut head[..2], v.from_port);
-    BigEndian::write_u16(&mut head[2..4], v.to_port);
-    BigEndian::write_u32(&mut head[4..8], v.seq.0);
-    BigEndian::write_u32(&mut head[8..12], v.ack.0);
-    head[12] = words_of(v) * 16;
-    head[13] = v.flags;
-    BigEndian::write_u16(&mut head[14..16], v.window);
-    head
-}
-
-/// Writes a header, its options, and the octets that the segment carries.
-fn put(head: &[u8], options: &[u8], what: &Owed, down: &Down, segment: &mut [u8])
+/// Writes a header with its options, with 0 in the place of the sum, and the octets that the segment carries.
+fn put(v: &TcpView<'_>, what: &Owed, down: &Down, segment: &mut [u8])
     requires held { IsHeld down.now what.now }
-    requires room { length segment.old ≡ length head.now + length options.now + length (carried down.now what.now) }
-    ensures { segment.new ≡ head.now ++ options.now ++ carried down.now what.now }
+    requires room { length segment.old ≡ tcp_length (record (tcp_of v.now) { body = carried down.now what.now }) }
+    ensures { segment.new ≡ head_octets (tcp_of v.now) ++ (mss_octets v.now.mss ++ scale_octets v.now.scale) ++ carried down.now what.now }
 {
-    let options_end = head.len() + options.len();
-    segment[..head.len()].copy_from_slice(head);
-    segment[head.len()..options_end].copy_from_slice(options);
-    put_payload(what, down, &mut segment[options_end..]);
+    let size = put_head(v, segment);
+    put_payload(what, down, &mut segment[size..]);
 }
 
 /// Writes a segment into exactly as many octets as it takes. They are summed once, with 0 in the place of the sum.
@@ -189,9 +132,7 @@ fn write_segment(v: &TcpView<'_>, from: Ip4, to: Ip4, what: &Owed, down: &Down, 
     requires room { length segment.old ≡ tcp_length (record (tcp_of v.now) { body = carried down.now what.now }) }
     ensures { segment.new ≡ tcp_octets from.0 to.0 (record (tcp_of v.now) { body = carried down.now what.now }) }
 {
-    let options = options(v.mss, v.scale);
-    let options_size = mss_size(v.mss) + scale_size(v.scale);
-    put(&header(v), &options[..options_size], what, down, segment);
+    put(v, what, down, segment);
     let start = pseudo(from, to, TCP_PROTO, segment.len() as u16);
     let sum = checksum_after(start, segment);
     BigEndian::write_u16(&mut segment[16..18], sum);
@@ -245,7 +186,7 @@ fn segment_size(v: &TcpView<'_>, what: &Owed) -> usize
     requires { (down : Downward) × IsHeld down what.now }
     ensures { (down : Downward) → IsHeld down what.now → result ≡ tcp_length (record (tcp_of v.now) { body = carried down what.now }) }
 {
-    HEAD + mss_size(v.mss) + scale_size(v.scale) + payload(what)
+    head_size(v) + payload(what)
 }
 
 /// Writes a frame with a segment of so many octets.

@@ -18,7 +18,7 @@ impl Spliced {
     ghost use Rattle.flow_splice.specs.Guests.{Hears, ends_rest as ends_rest_by, heard, heard_at_rest, is_unfit, renews, turns_away};
     ghost use Rattle.flow_splice.specs.Stays.{StaysButHeard};
     ghost use Rattle.flow_splice.specs.Shapes.{is_at_most_a_close};
-    ghost use Rattle.flow_splice.specs.Splice.{is_at_rest, is_open as is_open_by};
+    ghost use Rattle.flow_splice.specs.Splice.{is_at_rest, is_open as is_open_by, is_time_wait, rests_by};
     ghost use Rattle.flow_splice.specs.declared.Place.TheVariants.{Empty, Resting};
 
     /// A segment of the guest arrived. Where it resets the connection, or both ends passed with it, the socket is closed. True exactly where it is to be
@@ -66,6 +66,7 @@ impl Spliced {
         requires now { now ≤ 2 ^ 62 }
         requires body { length seg.now.body.now ≤ 65535 }
         requires few { self.old.up.written + length seg.now.body.now + 2 ^ 21 < 2 ^ 62 }
+        requires rests { is_at_rest self.old.place ≡ true → ends_rest_by self.old.conn (tcp_of seg.now) ≡ false }
         ensures change { result ≡ change_at self.old.conn self.old.up self.old.down (tcp_of seg.now) now }
         ensures heard { self.new ≡ heard self.old (tcp_of seg.now) now }
         ensures buffers { HasBuffers self.new.conn self.new.up self.new.down }
@@ -74,6 +75,7 @@ impl Spliced {
         ensures number { seg.now.seq.0 < 2 ^ 32 }
         ensures acknowledgement { seg.now.ack.0 < 2 ^ 32 }
         ensures read { octets_read self.new.down ≡ octets_read self.old.down }
+        ensures rests { rests_by self.new.place self.new.conn.stage ≡ true }
     {
         let (_number, _acknowledgement) = (seg.seq.0, seg.ack.0);
         let held = self.up.held();
@@ -90,6 +92,7 @@ impl Spliced {
         requires now { now ≤ 2 ^ 62 }
         requires body { length seg.now.body.now ≤ 65535 }
         requires few { self.old.up.written + length seg.now.body.now + 2 ^ 21 < 2 ^ 62 }
+        requires rests { self.old.place ≡ Resting since }
         ensures heard { self.new ≡ heard_at_rest self.old since (tcp_of seg.now) now }
         ensures up { self.new.up.written ≡ self.old.up.written }
         ensures down { octets_read self.new.down ≡ octets_read self.old.down }
@@ -120,6 +123,7 @@ impl Spliced {
 
     // It rests on, or anew.
     fn rest(&mut self, now: u64, since: u64, seg: &TcpView<'_>)
+        requires { is_time_wait self.old.conn.stage ≡ true }
         ensures { self.new ≡ record self.old { place = Resting (if renews (tcp_of seg.now) then now else since) } }
     {
         let anew = seg.is_fin() && seg.is_ack() && !seg.is_syn() && !seg.is_rst();

@@ -79,8 +79,8 @@ pub struct Spliced {
 }
 
 impl Model for Spliced {
-    ghost use Rattle.std.specs.Prelude.{◌≡◌, ◌≤◌, ◌^◌, length};
-    ghost use Rattle.flow_splice.specs.Splice.{Splice, IsSound};
+    ghost use Rattle.std.specs.Prelude.{◌≡◌, ◌≤◌, ◌^◌, length, true};
+    ghost use Rattle.flow_splice.specs.Splice.{Splice, IsSound, rests_by};
 
     ghost Value = { Splice };
 
@@ -99,7 +99,7 @@ impl Model for Spliced {
       mru = s.mru;
     } };
 
-    ghost invariant = { λ s. IsSound s.conn s.up s.down s.asked s.mru × (s.since ≤ 2 ^ 62) × (length s.buffer.items ≡ 16384) };
+    ghost invariant = { λ s. IsSound s.conn s.up s.down s.asked s.mru × (s.since ≤ 2 ^ 62) × (length s.buffer.items ≡ 16384) × (rests_by s.place s.conn.stage ≡ true) };
 }
 
 impl Spliced {

@@ -161,15 +161,15 @@ impl Spliced {
     ghost use Rattle.flow_splice.specs.Stays.{Stays};
     ghost use Rattle.flow_splice.specs.Left.{left};
     ghost use Rattle.flow_splice.specs.Shapes.{IsPumpWork};
-    ghost use Rattle.flow_splice.specs.Splice.{is_open as is_open_by};
-    ghost use Rattle.flow_splice.specs.Sends.{IsClear, IsPumped, SendsOn, asked, asks_now, learnt, or_known, takes_part};
+    ghost use Rattle.flow_splice.specs.Splice.{is_at_rest, is_open as is_open_by, rests_by};
+    ghost use Rattle.flow_splice.specs.Sends.{Acknowledges, IsClear, IsPumped, SendsOn, asked, asks_now, learnt, or_known, takes_part};
     ghost use Rattle.flow_splice.specs.declared.Place.TheVariants.{Empty};
     ghost use Rattle.stream_netdev.specs.declared.Pumped.TheVariants.{Clear, Blocked, Failed};
 
     /// Sends all that the flow owes, one segment at a time, until the link is blocked. Each datagram that goes out has the number `ident`, which is one more
     /// then, modulo 2^16. `mac` is the guest's hardware address, where it is known: the flow keeps it. A flow that calls a guest whose address isn't known
     /// asks for it in place of its SYN. Where both ends passed with what went out the socket is closed. No other call is made: it only writes on the link, and
-    /// failed exactly where its last write did.
+    /// failed exactly where its last write did. A flow at rest only acknowledges (RFC 9293, 3.10.7.4, TIME-WAIT), and rests on.
     pub fn pump<W: World>(
         &mut self,
         world: &mut W,
@@ -190,6 +190,7 @@ impl Spliced {
         ensures same { under_way link.new ≡ under_way link.old }
         ensures stays { IsPumped mac self.old self.new }
         ensures closed { is_open_by self.old ≡ false → is_open_by self.new ≡ false }
+        ensures rests { is_at_rest self.old.place ≡ true → Acknowledges (learnt self.old mac) self.new now }
         // Where the connection's timer wasn't due, it isn't due then.
         ensures ahead { (s : Settings) (past : Story) (before : ℕ) → Follows s self.old past before → IsAhead self.old.conn now → IsAhead self.new.conn now }
     {
@@ -222,7 +223,8 @@ impl Spliced {
 
     // What it owes, if it has its place.
     fn owed(&self) -> Option<Owed>
-        ensures { result ≡ takes_part self.now (owed_of self.now.conn self.now.up self.now.down) }
+        ensures owed { result ≡ takes_part self.now (owed_of self.now.conn self.now.up self.now.down) }
+        ensures rests { rests_by self.now.place self.now.conn.stage ≡ true }
     {
         if self.place == Place::Empty {
             None
@@ -247,6 +249,7 @@ impl Spliced {
         ensures same { under_way link.new ≡ under_way link.old }
         ensures stays { IsPumped None self.old self.new }
         ensures closed { is_open_by self.old ≡ false → is_open_by self.new ≡ false }
+        ensures rests { is_at_rest self.old.place ≡ true → self.new ≡ self.old }
         ensures conn { self.new.conn ≡ self.old.conn }
     {
         if !self.asks_now(now) {
@@ -312,6 +315,7 @@ impl Spliced {
         ensures clear { result ≡ Clear → takes_part self.new (owed_of self.new.conn self.new.up self.new.down) ≡ None }
         ensures same { under_way link.new ≡ under_way link.old }
         ensures stays { Stays self.old self.new }
+        ensures rests { is_at_rest self.old.place ≡ true → Acknowledges self.old self.new now }
         ensures closed { is_open_by self.old ≡ false → is_open_by self.new ≡ false }
         ensures early { IsEarly now self.old.conn → IsEarly now self.new.conn }
     {
@@ -341,6 +345,7 @@ impl Spliced {
         requires free { link.old.blocked ≡ false }
         requires mac { self.old.mac ≡ Some mac }
         requires owed { takes_part self.old (owed_of self.old.conn self.old.up self.old.down) ≡ Some what.now }
+        requires rests { rests_by self.old.place self.old.conn.stage ≡ true }
         ensures makes { Makes (W.tells world.old) (W.tells world.new)
             (λ made. SendsOn self.old self.new link.old link.new ident.old ident.new now made × IsPumpWork result made) }
         ensures blocked { result ≡ Blocked → link.new.blocked ≡ true }
@@ -349,6 +354,7 @@ impl Spliced {
         ensures less { result ≡ Clear → left self.new < left self.old }
         ensures same { under_way link.new ≡ under_way link.old }
         ensures stays { Stays self.old self.new }
+        ensures rests { is_at_rest self.old.place ≡ true → Acknowledges self.old self.new now }
         ensures closed { is_open_by self.old ≡ false → is_open_by self.new ≡ false }
         ensures early { IsEarly now self.old.conn → IsEarly now self.new.conn }
     {

@@ -47,9 +47,9 @@ connecting_before (b ∷ beats) past is =
     (none_stays (is_accepted (beats ++ past)) (has_connected (beats ++ past)) (is_closed (beats ++ past)) (is_accepted (b ∷ (beats ++ past))) (has_connected (b ∷ (beats ++ past))) (is_closed (b ∷ (beats ++ past)))
     (accepted_stays b (beats ++ past)) (connected_stays b (beats ++ past)) (closed_stays b (beats ++ past)) is)
 
--- of an open flow that sent
-sent_yet : (now first last : ℕ) (told : Option Mac) (p q : Splice) (made : List Entry) → Sends p q first last now made → IsPumped told p q → (is_open p ≡ false → is_open q ≡ false) → ConnectsYet now p q
-sent_yet now first last told p q made sends pumped shut has low is_open_then connects = by (is_open p) refl
+-- of a flow that was pumped
+pub connects_yet : (now first last : ℕ) (told : Option Mac) (p q : Splice) (made : List Entry) → Sends p q first last now made → IsPumped told p q → (is_open p ≡ false → is_open q ≡ false) → ConnectsYet now p q
+connects_yet now first last told p q made sends pumped shut has low is_open_then connects = by (is_open p) refl
   where
     serves : Serves has.settings q false false false first now has.story made
     serves = (sends has.settings has.story has.at false false low has.follows).0
@@ -64,15 +64,6 @@ sent_yet now first last told p q made sends pumped shut has low is_open_then con
       ap (λ (n : ℕ). n + 75000) (sym pumped.since),
     )
     by false was = absurd (let never : false ≡ true = sym (shut was) ∙ is_open_then in cc)
-
--- and of one that gave up its place, or not
-pub connects_yet : (now first last : ℕ) (told : Option Mac) (p mid q : Splice) (made : List Entry) → Sends p mid first last now made → IsPumped told p mid → (is_open p ≡ false → is_open mid ≡ false) → (q ≡ mid) ⊎ (q ≡ record mid { place = Empty }) → ConnectsYet now p q
-connects_yet now first last told p mid q made sends pumped shut change has low is_open_then connects = elim change [
-  | inl same ↦
-      let yet = sent_yet now first last told p mid made sends pumped shut has low (ap is_open (sym same) ∙ is_open_then) (ap (λ (x : Splice). is_connects x.conn.stage) (sym same) ∙ connects) in
-      (yet.0, yet.1, yet.2 ∙ ap connect_end (sym same))
-  | inr gone ↦ absurd (let never : false ≡ true = ap is_open (sym gone) ∙ is_open_then in cc)
-]
 
 -- ---- all flows
 

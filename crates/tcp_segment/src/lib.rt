@@ -149,9 +149,7 @@ fn head_in(octets: &[u8], from: Ip4, to: Ip4) -> Result<usize, Fault>
 fn options_in(options: &[u8]) -> Result<Options, Fault>
     ensures { result ≡ options_reading options.now }
 {
-    let Some(table) = Table::new(FORM, rows![2: 2 to 2, repeats; 3: 1 to 1, repeats]) else {
-        unreachable!();
-    };
+    let table = Table::of(FORM, rows![2: 2 to 2, repeats; 3: 1 to 1, repeats]);
     let Ok(fields) = table.read(options) else {
         return Err(Fault {
             kind: FaultKind::BadLength,
@@ -219,17 +217,19 @@ fn length_of(v: &TcpView<'_>) -> usize
     requires { tcp_length (tcp_of v.now) < 2 ^ 16 }
     ensures { result ≡ tcp_length (tcp_of v.now) }
 {
-    HEAD + mss_size(v.mss) + scale_size(v.scale) + v.body.len()
+    head_size(v) + v.body.len()
 }
 
 fn mss_size(mss: Option<u16>) -> usize
-    ensures { result ≡ length (mss_octets mss) }
+    ensures length { result ≡ length (mss_octets mss) }
+    ensures few { result ≤ 4 }
 {
     if mss.is_some() { 4 } else { 0 }
 }
 
 fn scale_size(scale: Option<u8>) -> usize
-    ensures { result ≡ length (scale_octets scale) }
+    ensures length { result ≡ length (scale_octets scale) }
+    ensures few { result ≤ 4 }
 {
     if scale.is_some() { 4 } else { 0 }
 }
@@ -243,23 +243,64 @@ fn fill(v: &TcpView<'_>, from: Ip4, to: Ip4, segment: &mut [u8])
     ensures fits { Fits (tcp_of v.now) }
     ensures mss { IfSome v.now.mss (λ mss. mss < 2 ^ 16) }
 {
-    let options = written_options(v.mss, v.scale);
-    let options_size = mss_size(v.mss) + scale_size(v.scale);
-    put(&head(v), &options[..options_size], v.body, segment);
+    put_unsummed(v, segment);
     let start = pseudo(from, to, TCP_PROTO, segment.len() as u16);
     let sum = checksum_after(start, segment);
     BigEndian::write_u16(&mut segment[16..18], sum);
 }
 
-/// Writes three parts one after another.
-fn put(head: &[u8], options: &[u8], body: &[u8], segment: &mut [u8])
-    requires { length segment.old ≡ length head.now + length options.now + length body.now }
-    ensures { segment.new ≡ head.now ++ options.now ++ body.now }
+/// Writes it with 0 in the place of the sum.
+fn put_unsummed(v: &TcpView<'_>, segment: &mut [u8])
+    requires { length segment.old ≡ tcp_length (tcp_of v.now) }
+    ensures written { segment.new ≡ head_octets (tcp_of v.now) ++ (mss_octets v.now.mss ++ scale_octets v.now.scale) ++ v.now.body.now }
+    ensures fits { Fits (tcp_of v.now) }
+    ensures mss { IfSome v.now.mss (λ mss. mss < 2 ^ 16) }
 {
-    let options_end = head.len() + options.len();
-    segment[..head.len()].copy_from_slice(head);
-    segment[head.len()..options_end].copy_from_slice(options);
-    segment[options_end..].copy_from_slice(body);
+    let size = put_head(v, segment);
+    segment[size..].copy_from_slice(v.body);
+}
+
+/// Writes the header of a segment with its options at the front of `into`, which has the room for them, with 0 in the place of the sum, and answers its
+/// length, from 20 to 28 octets (RFC 9293, 3.1). What the segment carries isn't written, and past the header `into` is unchanged.
+pub fn put_head(v: &TcpView<'_>, into: &mut [u8]) -> usize
+    requires room { 20 + length (mss_octets v.now.mss) + length (scale_octets v.now.scale) ≤ length into.old }
+    ensures written { into.new ≡ (head_octets (tcp_of v.now) ++ mss_octets v.now.mss ++ scale_octets v.now.scale) ++ drop result into.old }
+    ensures length { result ≡ 20 + length (mss_octets v.now.mss) + length (scale_octets v.now.scale) }
+    ensures fits { Fits (tcp_of v.now) }
+    ensures mss { IfSome v.now.mss (λ mss. mss < 2 ^ 16) }
+{
+    let size = head_size(v);
+    fill_head(v, &mut into[..size]);
+    size
+}
+
+/// The octets that a header takes with its options, from 20 to 28.
+pub fn head_size(v: &TcpView<'_>) -> usize
+    ensures length { result ≡ 20 + length (mss_octets v.now.mss) + length (scale_octets v.now.scale) }
+    ensures few { result ≤ 28 }
+{
+    HEAD + mss_size(v.mss) + scale_size(v.scale)
+}
+
+/// Writes a header with its options into exactly as many octets as they take.
+fn fill_head(v: &TcpView<'_>, into: &mut [u8])
+    requires { length into.old ≡ 20 + length (mss_octets v.now.mss) + length (scale_octets v.now.scale) }
+    ensures written { into.new ≡ head_octets (tcp_of v.now) ++ mss_octets v.now.mss ++ scale_octets v.now.scale }
+    ensures fits { Fits (tcp_of v.now) }
+    ensures mss { IfSome v.now.mss (λ mss. mss < 2 ^ 16) }
+{
+    let options = written_options(v.mss, v.scale);
+    let options_size = mss_size(v.mss) + scale_size(v.scale);
+    put(&head(v), &options[..options_size], into);
+}
+
+/// Writes two parts one after another.
+fn put(head: &[u8], options: &[u8], into: &mut [u8])
+    requires { length into.old ≡ length head.now + length options.now }
+    ensures { into.new ≡ head.now ++ options.now }
+{
+    into[..head.len()].copy_from_slice(head);
+    into[head.len()..].copy_from_slice(options);
 }
 
 /// The header without options and with 0 in the place of the sum.
@@ -283,7 +324,7 @@ fn words_of(v: &TcpView<'_>) -> u8
     ensures words { result ≡ words_by (tcp_of v.now) }
     ensures few { result < 16 }
 {
-    ((HEAD + mss_size(v.mss) + scale_size(v.scale)) / 4) as u8
+    (head_size(v) / 4) as u8
 }
 
 /// The options that we write, with octets of no meaning after them.

@@ -118,6 +118,15 @@ impl<const N: usize> Table<N> {
         }
     }
 
+    /// The table of this form and these rows, where they make one: the codes are strictly rising, none is the end or pad code, and no row's least exceeds its
+    /// greatest.
+    pub fn of(form: Form, rows: [Row; N]) -> Table<N>
+        requires { is_table form rows ≡ true }
+        ensures { result ≡ record { form = form; rows = rows.entry } }
+    {
+        Table { form, rows }
+    }
+
     /// Reads options from the front on, up to the end code. Options of codes without a row are passed
     /// over. The fault is the first in the order of the octets; of one option, first Cut, then
     /// BadLength, then Repeated.

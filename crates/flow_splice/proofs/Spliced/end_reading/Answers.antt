@@ -1,9 +1,18 @@
+use Rattle.std.proofs.Common.{ap, ◌∙◌}
+use Rattle.tcp_guest.specs.Connection.{Connection}
+use Rattle.tcp_guest.specs.declared.HostNews.TheVariants.{Ended}
+use Rattle.flow_splice.proofs.AtRest.{news_rests, rests_on}
 use Rattle.flow_splice.proofs.Spliced.end_reading.Goals as goal
 
 pub invariant_of-self : goal.invariant_of-self
 invariant_of-self c =
     let kept = c.self.invariant in
-    (record { buffers = c.on_host.ensures.buffers _ _ kept.0.buffers; size = kept.0.size; room = kept.0.room; few = kept.0.few; segments = kept.0.segments }, kept.1, kept.2)
+    let i = c.self.inside in (
+      record { buffers = c.on_host.ensures.buffers _ _ kept.0.buffers; size = kept.0.size; room = kept.0.room; few = kept.0.few; segments = kept.0.segments },
+      kept.1,
+      kept.2,
+      rests_on i.place i.conn.stage _ kept.3 (λ resting at. ap (λ (x : Connection). x.stage) c.on_host.ensures.connection ∙ news_rests Ended i.conn c.args.now at),
+    )
 
 pub returns-clause-buffers : goal.returns-clause-buffers
 returns-clause-buffers c = c.on_host.ensures.buffers _ _ c.self.invariant.0.buffers

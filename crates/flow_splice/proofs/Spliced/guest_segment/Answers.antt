@@ -8,6 +8,9 @@ use Rattle.flow_splice.specs.Splice.{Splice}
 use Rattle.flow_splice.proofs.Resting.{at_rest_as_old, hears_at_rest, hears_nothing}
 use Rattle.flow_splice.proofs.Spliced.guest_segment.Goals as goal
 
+pub take_at_rest-requires-clause-rests : goal.take_at_rest-requires-clause-rests
+take_at_rest-requires-clause-rests g c = sym c.place.ensures ∙ c.in-Resting.is
+
 pub returns-in-Resting-clause-makes : goal.returns-in-Resting-clause-makes
 returns-in-Resting-clause-makes g c =
     let f : Splice = c.args.self.now in

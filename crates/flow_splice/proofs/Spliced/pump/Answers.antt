@@ -1,9 +1,9 @@
-use Rattle.std.proofs.Common.{◌≡◌, ℕ, [], None, refl, arith, subst, sym, ap, ◌∙◌}
+use Rattle.std.proofs.Common.{◌≡◌, ℕ, [], None, refl, arith, subst, sym, ap, inl, ◌∙◌}
 use Rattle.world_face.proofs.Telling.{makes_as, makes_none}
 use Rattle.stream_netdev.specs.State.{LinkState}
 use Rattle.flow_splice.specs.Asks.{AsksOnce}
-use Rattle.flow_splice.specs.Sends.{SendsOn}
-use Rattle.flow_splice.specs.Splice.{Splice, is_open}
+use Rattle.flow_splice.specs.Sends.{Acknowledges, SendsOn}
+use Rattle.flow_splice.specs.Splice.{Splice, is_at_rest, is_open}
 use Rattle.tcp_guest.specs.Connection.{Connection}
 use Rattle.flow_splice.specs.Ahead.{IsAhead, IsEarly}
 use Rattle.flow_splice.proofs.Ahead.{follows_waits}
@@ -78,3 +78,13 @@ returns-in-None-clause-closed g c shut = c.seek.ensures.closed (ap is_open c.lea
 
 pub returns-then-blocked-clause-closed : goal.returns-then-blocked-clause-closed
 returns-then-blocked-clause-closed g c shut = ap is_open c.learn.ensures ∙ shut
+
+pub returns-in-Some-clause-rests : goal.returns-in-Some-clause-rests
+returns-in-Some-clause-rests g c resting =
+    subst (λ (x : Splice). Acknowledges x c.send_all.new.self c.args.now) c.learn.ensures (c.send_all.ensures.rests (ap (λ (x : Splice). is_at_rest x.place) c.learn.ensures ∙ resting))
+
+pub returns-in-None-clause-rests : goal.returns-in-None-clause-rests
+returns-in-None-clause-rests g c resting = inl (c.seek.ensures.rests (ap (λ (x : Splice). is_at_rest x.place) c.learn.ensures ∙ resting) ∙ c.learn.ensures)
+
+pub returns-then-blocked-clause-rests : goal.returns-then-blocked-clause-rests
+returns-then-blocked-clause-rests g c resting = inl c.learn.ensures

@@ -11,6 +11,7 @@ use Rattle.flow_splice.specs.Sends.{Sends, SendsOn, asked, asks_now}
 use Rattle.flow_splice.specs.Shapes.{IsPumpWork}
 use Rattle.flow_splice.specs.Splice.{Splice}
 use Rattle.stream_netdev.specs.declared.Pumped.{Pumped}
+use Rattle.flow_splice.proofs.AtRest.{asks_none}
 use Rattle.flow_splice.proofs.Asking.{requests}
 use Rattle.flow_splice.proofs.Marking.{makes_allowed, sends_none}
 use Rattle.flow_splice.proofs.Shaping.{request_works}
@@ -45,3 +46,6 @@ returns-clause-makes g c =
       subst (λ (es : List Entry). IsPumpWork c.outcome.result es) (sym writes.1) (subst (λ (p : Pumped). IsPumpWork p (LinkWrite (spelling (request_frame f.face)) writes.0 ∷ [])) (sym c.outcome.ensures) works),
       inr (record { due = due; answer = writes.0; one = writes.1; change = change; fits = offer.ensures.fits }),
     ))
+
+pub returns-clause-rests : goal.returns-clause-rests
+returns-clause-rests g c resting = absurd (asks_none c.args.self.now c.args.now resting (sym c.asks_now.ensures ∙ c.if-not-asks_now.false))

@@ -18,6 +18,7 @@ use Rattle.flow_splice.specs.declared.Place.{Place}
 use Rattle.flow_splice.specs.declared.Place.TheVariants.{Empty, InUse, Resting}
 use Rattle.stream_netdev.specs.declared.Pumped.{Pumped}
 use Rattle.stream_netdev.specs.declared.Pumped.TheVariants.{Clear, Blocked as PumpBlocked}
+use Rattle.flow_splice.proofs.AtRest.{marks_acknowledge}
 use Rattle.flow_splice.proofs.Ahead.{marks_early}
 use Rattle.flow_splice.proofs.Going.{sends}
 use Rattle.flow_splice.proofs.Marking.{closes_keep, makes_allowed, marks_less, marks_stay}
@@ -91,3 +92,9 @@ returns-clause-closed g c =
     let offer = c.offer_owed-offered in
     (marks_stay offer.result c.args.what.now c.args.self.now c.mark.new.self c.args.now c.mark.ensures.makes.made
     (subst (λ (x : Splice). Marks offer.result c.args.what.now x c.mark.new.self c.args.now c.mark.ensures.makes.made) offer.ensures.change c.mark.ensures.makes.holds)).shut
+
+pub returns-clause-rests : goal.returns-clause-rests
+returns-clause-rests g c =
+    let offer = c.offer_owed-offered in
+    marks_acknowledge offer.result c.args.what.now c.args.self.now c.mark.new.self c.args.now c.mark.ensures.makes.made c.requires.rests c.requires.owed
+    (subst (λ (x : Splice). Marks offer.result c.args.what.now x c.mark.new.self c.args.now c.mark.ensures.makes.made) offer.ensures.change c.mark.ensures.makes.holds)

@@ -1,7 +1,11 @@
-use Rattle.std.proofs.Common.{arith, ap, sym, ◌∙◌}
+use Rattle.std.proofs.Common.{◌≡◌, false, true, arith, ap, subst, sym, ◌∙◌}
 use Rattle.sock_buffers.specs.Downward.{Downward}
 use Rattle.sock_buffers.specs.Upward.{Upward}
 use Rattle.tcp_segment.specs.Tcp.{tcp_of}
+use Rattle.tcp_guest.specs.Connection.{Connection}
+use Rattle.flow_splice.specs.Guests.{ends_rest}
+use Rattle.flow_splice.specs.Splice.{Splice, is_at_rest}
+use Rattle.flow_splice.proofs.AtRest.{rests_on, segment_rests}
 use Rattle.flow_splice.proofs.Coming.{down_sized, up_sized}
 use Rattle.flow_splice.proofs.Spliced.take_in.Goals as goal
 
@@ -21,4 +25,13 @@ invariant_of-self c =
     let size = ap (λ (u : Upward). u.size) c.on_segment-change.ensures.up ∙ up_sized i.conn i.up i.down (tcp_of c.args.seg.now) in
     let down_size = ap (λ (d : Downward). d.size) c.on_segment-change.ensures.down ∙ down_sized i.conn i.up i.down (tcp_of c.args.seg.now) in
     let room = kept.0.room in
-    (record { buffers = c.on_segment-change.ensures.buffers; size = down_size ∙ kept.0.size ∙ sym size; room = omega (arith, size, room); few = kept.0.few; segments = kept.0.segments }, kept.1, kept.2)
+    let rests = subst (λ (f : Splice). is_at_rest f.place ≡ true → ends_rest f.conn (tcp_of c.args.seg.now) ≡ false) (sym c.self.view_is) c.requires.rests in (
+      record { buffers = c.on_segment-change.ensures.buffers; size = down_size ∙ kept.0.size ∙ sym size; room = omega (arith, size, room); few = kept.0.few; segments = kept.0.segments },
+      kept.1,
+      kept.2,
+      rests_on i.place i.conn.stage _ kept.3
+          (λ resting at. ap (λ (x : Connection). x.stage) c.on_segment-change.ensures.connection ∙ segment_rests i.conn i.up i.down (tcp_of c.args.seg.now) c.args.now at (rests resting)),
+    )
+
+pub returns-clause-rests : goal.returns-clause-rests
+returns-clause-rests c = (invariant_of-self c).3

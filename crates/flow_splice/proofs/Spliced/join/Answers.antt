@@ -1,0 +1,15 @@
+use Rattle.std.proofs.Common.{ap, ◌∙◌}
+use Rattle.tcp_guest.specs.Connection.{Connection}
+use Rattle.tcp_guest.specs.declared.HostNews.TheVariants.{Connected}
+use Rattle.flow_splice.proofs.AtRest.{news_rests, rests_on}
+use Rattle.flow_splice.proofs.Spliced.join.Goals as goal
+
+pub invariant_of-self : goal.invariant_of-self
+invariant_of-self c =
+    let kept = c.self.invariant in
+    let i = c.self.inside in (
+      record { buffers = c.on_host.ensures.buffers _ _ kept.0.buffers; size = kept.0.size; room = kept.0.room; few = kept.0.few; segments = kept.0.segments },
+      kept.1,
+      kept.2,
+      rests_on i.place i.conn.stage _ kept.3 (λ resting at. ap (λ (x : Connection). x.stage) c.on_host.ensures.connection ∙ news_rests Connected i.conn c.args.now at),
+    )
