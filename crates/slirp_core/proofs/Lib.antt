@@ -19,7 +19,6 @@ pub mod Marking
 pub mod Merging
 pub mod Guests
 pub mod Names
-pub mod NextFrames
 pub mod Parts
 pub mod Pumping
 pub mod Relaying

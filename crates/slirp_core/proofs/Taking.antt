@@ -36,9 +36,9 @@ use Rattle.slirp_core.specs.Fragments.{after_frame, after_ip, after_octets}
 use Rattle.slirp_core.specs.Packets.{Request, owed_at_once, request_for_udp, is_message_to_us, is_segment, leases_with, owed_for, owed_for_arrived, owed_for_ether, reply_to, udp_in, udp_of, udp_of_arrived, udp_of_ether, with_arp, with_ip, with_ether}
 use Rattle.run_laws.specs.Fragments.{fragment_by, fragment_in, fragment_of}
 use Rattle.run_laws.specs.Packets.{Datagram}
-use Rattle.slirp_core.specs.Outgoing.{segment_octets}
+use Rattle.owed_frames.specs.Outgoing.{segment_octets}
 use Rattle.slirp_core.specs.State.{SlirpState, serving_of}
-use Rattle.slirp_core.specs.declared.outgoing.Course.{Course}
+use Rattle.owed_frames.specs.declared.outgoing.Course.{Course}
 use Rattle.slirp_core.proofs.Datagramming.{none_of_others}
 
 -- a frame that carries a packet asks for what the packet does

@@ -5,9 +5,9 @@ ghost use Rattle.tftp_server.specs.Serving.{IsFromServer, said_by};
 
 use crate::datagrams::DatagramView;
 use crate::network::Slirp;
-use crate::outgoing::Outgoing;
 use crate::sending::course;
 use host_policy::{Policy, Reply};
+use owed_frames::Outgoing;
 use udp_assoc::UdpView;
 use world_face::World;
 

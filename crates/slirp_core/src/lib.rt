@@ -2,14 +2,12 @@
 #![tactic(auto)]
 
 mod arp;
-mod cutting;
 mod datagrams;
 mod files;
 mod forwards;
 mod fragments;
 mod icmp;
 mod network;
-mod outgoing;
 mod ports;
 mod sending;
 mod tcp;

@@ -3,9 +3,9 @@ ghost use Rattle.net_octets.specs.Octets.{our_mac};
 ghost use Rattle.std.specs.Prelude.{[], ◌≡◌, ◌<◌, ◌≤◌, length};
 
 use crate::network::Slirp;
-use crate::outgoing::{Course, datagrams_in};
 use host_policy::Policy;
 use net_octets::{Ip4, Mac};
+use owed_frames::{Course, datagrams_in};
 use stream_netdev::{Link, Offered, Pumped, outcome};
 use world_face::World;
 

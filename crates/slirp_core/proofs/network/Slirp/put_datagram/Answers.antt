@@ -3,7 +3,7 @@ use Rattle.net_octets.specs.Kinds.{udp_proto}
 use Rattle.udp_assoc.specs.Udp.{udp_octets}
 use Rattle.slirp_laws.specs.Answers.{answer_of, datagram_frames, frames_of}
 use Rattle.slirp_core.specs.State.{SlirpState}
-use Rattle.slirp_core.specs.declared.outgoing.Course.{Course}
+use Rattle.owed_frames.specs.declared.outgoing.Course.{Course}
 use Rattle.slirp_core.proofs.Taking.{datagram_sent}
 use Rattle.slirp_core.proofs.network.Slirp.put_datagram.Goals as goal
 

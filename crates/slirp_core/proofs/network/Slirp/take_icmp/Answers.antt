@@ -5,7 +5,7 @@ use Rattle.icmp_echo.specs.Icmp.{icmp_octets, icmp_of, read_icmp}
 use Rattle.slirp_laws.specs.Answers.{datagram_frames, frames_of, owed_for_icmp}
 use Rattle.slirp_core.specs.Packets.{owed_for}
 use Rattle.slirp_core.specs.State.{SlirpState}
-use Rattle.slirp_core.specs.declared.outgoing.Course.{Course}
+use Rattle.owed_frames.specs.declared.outgoing.Course.{Course}
 use Rattle.slirp_core.proofs.Taking.{echoed}
 use Rattle.slirp_core.proofs.network.Slirp.take_icmp.Goals as goal
 

@@ -14,7 +14,7 @@ use Rattle.slirp_laws.specs.Leasing.{sending_of}
 use Rattle.slirp_core.specs.Datagrams.{datagram_of}
 use Rattle.slirp_core.specs.Leases.{after_message}
 use Rattle.slirp_core.specs.State.{SlirpState}
-use Rattle.slirp_core.specs.declared.outgoing.Course.{Course}
+use Rattle.owed_frames.specs.declared.outgoing.Course.{Course}
 use Rattle.slirp_core.proofs.Taking.{lease_count, lease_sent}
 use Rattle.slirp_core.proofs.network.Slirp.take_message.Goals as goal
 

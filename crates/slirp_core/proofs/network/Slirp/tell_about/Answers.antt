@@ -7,7 +7,7 @@ use Rattle.icmp_echo.specs.Icmp.{unreachable_octets}
 use Rattle.slirp_laws.specs.Answers.{datagram_frames, is_untold, frames_of, told_about}
 use Rattle.slirp_core.specs.Datagrams.{datagram_of}
 use Rattle.slirp_core.specs.State.{SlirpState}
-use Rattle.slirp_core.specs.declared.outgoing.Course.{Course}
+use Rattle.owed_frames.specs.declared.outgoing.Course.{Course}
 use Rattle.slirp_core.proofs.Taking.{told, both_false}
 use Rattle.slirp_core.proofs.network.Slirp.tell_about.Goals as goal
 

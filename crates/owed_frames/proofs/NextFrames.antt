@@ -4,8 +4,8 @@ use Rattle.std.proofs.lemmas.Bool.Decides.{nat_tests}
 use Rattle.ipv4_head.specs.Cuts.{cut_at, cuts_from}
 use Rattle.ipv4_head.specs.Sets.{Part}
 use Rattle.slirp_laws.specs.Answers.{part_frame, uncut}
-use Rattle.slirp_core.specs.Outgoing.{frames_in, frames_left}
-use Rattle.slirp_core.specs.declared.cutting.Plan.{Plan}
+use Rattle.owed_frames.specs.Outgoing.{frames_in, frames_left}
+use Rattle.owed_frames.specs.declared.cutting.Plan.{Plan}
 
 -- a frame that has octets is there
 framed : (length : ℕ) (octets : List ℕ) → 0 < length → frames_in length octets ≡ take length octets ∷ []

@@ -6,7 +6,7 @@ ghost use Rattle.ether_frame.specs.Ether.{ether_octets};
 ghost use Rattle.icmp_echo.specs.Icmp.{CanWrite, icmp_of, icmp_with};
 ghost use Rattle.udp_assoc.specs.Udp.{udp_of};
 ghost use Rattle.tcp_segment.specs.Tcp.{tcp_length, tcp_of};
-ghost use Rattle.slirp_core.specs.Outgoing.{MayBeCut, message_frames, segment_frames, udp_frames};
+ghost use Rattle.owed_frames.specs.Outgoing.{MayBeCut, message_frames, segment_frames, udp_frames};
 ghost use Rattle.slirp_laws.specs.Answers.{datagrams_in};
 ghost use Rattle.net_octets.specs.Sizes.{most_carried, most_frame};
 ghost use Rattle.world_face.specs.Limits.{most_to_udp};
@@ -46,7 +46,7 @@ pub struct Course {
 
 impl Model for Outgoing {
     ghost use Rattle.std.specs.Prelude.{◌≡◌, ℕ, ◌≤◌, ◌++◌, [], List, length};
-    ghost use Rattle.slirp_core.specs.Outgoing.{frames_in};
+    ghost use Rattle.owed_frames.specs.Outgoing.{frames_in};
     ghost use Rattle.net_octets.specs.Sizes.{most_frame};
 
     ghost Value = { List (List ℕ) };

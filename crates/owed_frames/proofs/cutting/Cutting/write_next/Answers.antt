@@ -1,8 +1,8 @@
 use Rattle.std.proofs.Common.{ℕ, ◌<◌, List, take, ◌∙◌, ap, arith}
 use Rattle.ipv4_head.specs.Cuts.{cut_at}
 use Rattle.slirp_laws.specs.Answers.{part_frame, uncut}
-use Rattle.slirp_core.proofs.NextFrames.{next_frame}
-use Rattle.slirp_core.proofs.cutting.Cutting.write_next.Goals as goal
+use Rattle.owed_frames.proofs.NextFrames.{next_frame}
+use Rattle.owed_frames.proofs.cutting.Cutting.write_next.Goals as goal
 
 pub returns-clause-frame : goal.returns-clause-frame
 returns-clause-frame c =

@@ -7,7 +7,7 @@ ghost use Rattle.ipv4_head.specs.Ip.{fragment_of, ip_with};
 ghost use Rattle.icmp_echo.specs.Icmp.{CanWrite, icmp_of, icmp_with, icmp_octets};
 ghost use Rattle.udp_assoc.specs.Udp.{udp_of, udp_octets};
 ghost use Rattle.tcp_segment.specs.Tcp.{tcp_length, tcp_of};
-ghost use Rattle.slirp_core.specs.Outgoing.{MayBeCut, message_frames, segment_frames, segment_octets, udp_frames};
+ghost use Rattle.owed_frames.specs.Outgoing.{MayBeCut, message_frames, segment_frames, segment_octets, udp_frames};
 ghost use Rattle.slirp_laws.specs.Answers.{part_frame, uncut};
 ghost use Rattle.net_octets.specs.Sizes.{most_carried, most_frame};
 ghost use Rattle.world_face.specs.Limits.{most_to_udp};
@@ -49,7 +49,7 @@ pub struct Cutting {
 impl Model for Cutting {
     ghost use Rattle.std.specs.Prelude.{◌≡◌, ℕ, ◌+◌, ◌≤◌, List, length};
     ghost use Rattle.ipv4_head.specs.Cuts.{cut_count};
-    ghost use Rattle.slirp_core.specs.Outgoing.{frames_left};
+    ghost use Rattle.owed_frames.specs.Outgoing.{frames_left};
     ghost use Rattle.net_octets.specs.Sizes.{most_carried};
 
     ghost Value = { List (List ℕ) };
@@ -62,7 +62,7 @@ impl Model for Cutting {
 
 impl Cutting {
     ghost use Rattle.std.specs.Prelude.{[], ◌++◌, IfOk};
-    ghost use Rattle.slirp_core.specs.Outgoing.{frames_in};
+    ghost use Rattle.owed_frames.specs.Outgoing.{frames_in};
 
     /// No datagram, and the room for one.
     pub fn open(alloc: Global) -> Result<Cutting, NoMemory>
