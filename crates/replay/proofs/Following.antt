@@ -120,7 +120,3 @@ used_up old mid new e next done lines used live stop faults =
       stop = stop ∙ done.stop;
       faults = faults ∙ ap (counted e) done.faults;
     }
-
--- a World that goes on is live
-pub still_live : (old new : Script) (e : Entry) → FitsNext old e → Advances old new e → new.live ≡ false → ⊥
-still_live old new e next to dead = cc (sym (to.live ∙ next.live) ∙ dead)

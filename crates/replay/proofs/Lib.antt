@@ -15,5 +15,6 @@ pub mod Rowing
 pub mod Sayable
 pub mod Scheduling
 pub mod Starring
+pub mod Telling
 pub mod Words
 pub mod Unreading

@@ -1,9 +1,9 @@
 -- Lists of lines, one of which is completed.
-use Rattle.std.proofs.Common.{◌≡◌, ℕ, zero, suc, ◌+◌, ◌<◌, ◌≤◌, true, false, cond, List, [], ◌∷◌, ◌++◌, length, take, get_or, slice_get, slice_set, Option, Some, None, IfSome, IfNone, refl, sym, ◌∙◌, ap, subst, arith, add-one}
+use Rattle.std.proofs.Common.{◌≡◌, ℕ, zero, suc, ◌+◌, ◌<◌, ◌≤◌, true, false, cond, List, [], ◌∷◌, ◌++◌, length, take, get_or, slice_get, slice_set, Some, None, refl, sym, ◌∙◌, ap, subst, arith, add-one}
 use Rattle.std.specs.Option.{option_map}
 use Rattle.std.proofs.lemmas.Option.{slice_get-map, slice_get_read, slice_get_past, slice_get_within, same_Some}
 use Rattle.world_face.specs.Journal.{Entry, Now, Wait, LinkOpen, LinkRead, LinkWrite, Connect, Connected, Listen, Accept, TcpRead, TcpWrite, TcpEnd, Close, UdpOpen, UdpSend, UdpRecv, FileLen, FileRead, Call, CallNow, CallWait, CallLinkOpen, CallLinkRead, CallLinkWrite, CallConnect, CallConnected, CallListen, CallAccept, CallTcpRead, CallTcpWrite, CallTcpEnd, CallClose, CallUdpOpen, CallUdpSend, CallUdpRecv, CallFileLen, CallFileRead, call_of}
-use Rattle.replay.specs.Fitting.{FitsRow, FitsNext, FitsNone, Refuses, with_answer}
+use Rattle.replay.specs.Fitting.{FitsRow, FitsNext, FitsNone, IsOf, Refuses, Serves, answered, with_answer}
 use Rattle.replay.specs.Lines.{row_of, rows_of}
 use Rattle.replay.specs.Names.{name_of, name_text}
 use Rattle.replay.specs.Room.{IsRoomy, AreRoomy}
@@ -143,13 +143,11 @@ next_fits script row e live at fits = record {
   allowed = fits.allowed;
 }
 
-pub found_next : {A : Type 0} (result : Option A) (f : A → Entry) (script : Script) (row : Row) → script.live ≡ true → slice_get script.lines script.used ≡ Some row → IfSome result (λ a. FitsRow row (f a)) → IfSome result (λ a. FitsNext script (f a))
-found_next None f script row live at h = tt
-found_next (Some a) f script row live at h = next_fits script row (f a) live at h
+-- a line that is of the call is that of an entry of it
+pub served_next : (script : Script) (row : Row) (call : Call) → script.live ≡ true → slice_get script.lines script.used ≡ Some row → Serves row call → (e : Entry) × FitsNext script e × (call_of e ≡ call)
+served_next script row call live at serves =
+    let is : FitsRow row (answered row call) = record { of = subst (IsOf row) (sym serves.asks) serves.of; is = ap (answered row) serves.asks; allowed = serves.allowed } in
+    (answered row call, next_fits script row (answered row call) live at is, serves.asks)
 
-refuses_next : (lines : List Row) (used : ℕ) (row : Row) (call : Call) → slice_get lines used ≡ Some row → Refuses row call → FitsNone lines used call
+pub refuses_next : (lines : List Row) (used : ℕ) (row : Row) (call : Call) → slice_get lines used ≡ Some row → Refuses row call → FitsNone lines used call
 refuses_next lines used row call at refuses r is = subst (λ x. Refuses x call) (same_Some row r (sym at ∙ is)) refuses
-
-pub none_next : {A : Type 0} (result : Option A) (script : Script) (row : Row) (call : Call) → slice_get script.lines script.used ≡ Some row → IfNone result (Refuses row call) → IfNone result (script.live ≡ true → FitsNone script.lines script.used call)
-none_next None script row call at h = λ live. refuses_next script.lines script.used row call at h
-none_next (Some a) script row call at h = tt

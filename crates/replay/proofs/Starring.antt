@@ -1,5 +1,5 @@
 -- A star is read as arguments of no meaning, and `all` as a count of none.
-use Rattle.std.proofs.Common.{◌≡◌, ◌≢◌, ◌↔◌, ℕ, ◌<◌, ◌^◌, Bool, true, false, cond, IsTrue, List, [], ◌∷◌, ◌++◌, length, decimal, codes, refl, sym, ◌∙◌, ap, subst, arith, length-append, None}
+use Rattle.std.proofs.Common.{◌≡◌, ◌≢◌, ◌↔◌, ℕ, ◌<◌, ◌^◌, Bool, true, false, cond, IsTrue, List, [], ◌∷◌, ◌++◌, length, decimal, codes, refl, sym, ◌∙◌, ap, subst, arith, append_assoc, length-append, None}
 use Rattle.world_face.specs.declared.Io.{Io}
 use Rattle.world_face.specs.declared.Io.TheVariants.{Done, End, NotYet, Failed}
 use Rattle.world_face.specs.Journal.{AreOctets, AtEndpoint, Entry, Now, Wait, LinkOpen, LinkRead, LinkWrite, Connect, Connected, Listen, Accept, TcpRead, TcpWrite, TcpEnd, Close, UdpOpen, UdpSend, UdpRecv, FileLen, FileRead, Call, CallNow, CallWait, CallLinkOpen, CallLinkRead, CallLinkWrite, CallConnect, CallConnected, CallListen, CallAccept, CallTcpRead, CallTcpWrite, CallTcpEnd, CallClose, CallUdpOpen, CallUdpSend, CallUdpRecv, CallFileLen, CallFileRead, call_of}
@@ -15,7 +15,7 @@ use Rattle.replay.specs.Spelling.{IsSpelt, IsWritten, HasArguments, SaidArgument
 use Rattle.address_text.specs.Texts.{address_text, endpoint_text, place_text}
 use Rattle.address_text.proofs.Parting.{is_digit, decimal_digits}
 use Rattle.address_text.proofs.Numbers.{zero_text}
-use Rattle.replay.specs.Text.{answer_text, call_text, written_text, hexadecimal}
+use Rattle.replay.specs.Text.{answer_text, call_text, timeout_text, wants_text, written_text, hexadecimal}
 use Rattle.replay.proofs.Parting.{first}
 use Rattle.replay.proofs.Rowing.{answer_kept}
 use Rattle.hex.specs.Hex.{encode_with, lower_digits}
@@ -330,15 +330,48 @@ answer_written : (name : CallName) (answer said : List ℕ) (all : Bool) (e : En
 answer_written name answer said true e tells said_is spelt = (tells.0 refl).1
 answer_written name answer said false e tells said_is spelt = sym said_is ∙ spelt ∙ sym (answer_kept (call_of e) e)
 
-pub row_written : (name : CallName) (args answer given said : List ℕ) (starred all : Bool) (e : Entry) → (IsTrue starred ↔ (args ≡ codes "*")) → (IsTrue all ↔ (IsTrue (is_write name) × (answer ≡ codes "all")))
-    → given ≡ given_args starred name args → said ≡ counted_answer all answer → name_of (call_of e) ≡ name → IsSpelt (name_text name ++ 32 ∷ given) said e
-    → IsWritten (name_text name ++ 32 ∷ args) answer (record { entry = with_answer all (call_of e) e; starred = starred; all = all })
-row_written name args answer given said starred all e tells_star tells_all given_is said_is is spelt = (call_written name args given starred all e tells_star given_is is spelt.0, answer_written name answer said all e tells_all said_is spelt.1)
+-- the arguments after the name are the call
+pair_text : (a b : List ℕ) → a ++ 32 ∷ b ≡ (a ++ 32 ∷ []) ++ b
+pair_text a b = sym (append_assoc a (32 ∷ []) b)
 
-pub row_readable : (name : CallName) (args answer : List ℕ) (starred all : Bool) (e : Entry) → name ≢ names.Now → (IsTrue all ↔ (IsTrue (is_write name) × (answer ≡ codes "all"))) → name_of (call_of e) ≡ name → IsSayable e
+three_text : (a b c : List ℕ) → a ++ 32 ∷ (b ++ 32 ∷ c) ≡ (((a ++ 32 ∷ []) ++ b) ++ 32 ∷ []) ++ c
+three_text a b c = simp append_assoc
+
+with_arguments : (c : Call) (args : List ℕ) → HasArguments c args → name_text (name_of c) ++ 32 ∷ args ≡ call_text c
+unfolding call_text
+with_arguments CallNow args has = absurd has
+with_arguments (CallWait wants timeout) args has = ap (λ t. codes "wait " ++ t) (has ∙ pair_text (timeout_text timeout) (wants_text wants))
+with_arguments (CallLinkOpen at) args has = ap (λ t. codes "lopen " ++ t) has
+with_arguments (CallLinkRead asked) args has = ap (λ t. codes "lread " ++ t) has
+with_arguments (CallLinkWrite octets) args has = ap (λ t. codes "lwrite " ++ t) has
+with_arguments (CallConnect socket to) args has = ap (λ t. codes "connect " ++ t) (has ∙ pair_text (decimal socket) (endpoint_text to))
+with_arguments (CallConnected socket) args has = ap (λ t. codes "connected " ++ t) has
+with_arguments (CallListen socket at) args has = ap (λ t. codes "listen " ++ t) (has ∙ pair_text (decimal socket) (endpoint_text at))
+with_arguments (CallAccept listener socket) args has = ap (λ t. codes "accept " ++ t) (has ∙ pair_text (decimal listener) (decimal socket))
+with_arguments (CallTcpRead socket asked) args has = ap (λ t. codes "tread " ++ t) (has ∙ pair_text (decimal socket) (decimal asked))
+with_arguments (CallTcpWrite socket octets) args has = ap (λ t. codes "twrite " ++ t) (has ∙ pair_text (decimal socket) (hexadecimal octets))
+with_arguments (CallTcpEnd socket) args has = ap (λ t. codes "tend " ++ t) has
+with_arguments (CallClose socket) args has = ap (λ t. codes "close " ++ t) has
+with_arguments (CallUdpOpen socket at) args has = ap (λ t. codes "uopen " ++ t) (has ∙ pair_text (decimal socket) (endpoint_text at))
+with_arguments (CallUdpSend socket to octets) args has = ap (λ t. codes "usend " ++ t) (has ∙ three_text (decimal socket) (endpoint_text to) (hexadecimal octets))
+with_arguments (CallUdpRecv socket asked) args has = ap (λ t. codes "urecv " ++ t) (has ∙ pair_text (decimal socket) (decimal asked))
+with_arguments (CallFileLen name) args has = ap (λ t. codes "flen " ++ t) has
+with_arguments (CallFileRead name place asked) args has = ap (λ t. codes "fread " ++ t) (has ∙ three_text (hexadecimal name) (decimal place) (decimal asked))
+
+says_spelt : (name : CallName) (args answer : List ℕ) (e : Entry) → Says name args answer e → IsSpelt (name_text name ++ 32 ∷ args) answer e
+says_spelt name args answer e says = (ap (λ n. name_text n ++ 32 ∷ args) (sym says.0) ∙ with_arguments (call_of e) args says.1, says.2)
+
+pub row_written : (name : CallName) (args answer given said : List ℕ) (starred all : Bool) (e : Entry) → (IsTrue starred ↔ (args ≡ codes "*")) → (IsTrue all ↔ (IsTrue (is_write name) × (answer ≡ codes "all")))
+    → given ≡ given_args starred name args → said ≡ counted_answer all answer → Says name given said e
+    → IsWritten (name_text name ++ 32 ∷ args) answer (record { entry = with_answer all (call_of e) e; starred = starred; all = all })
+row_written name args answer given said starred all e tells_star tells_all given_is said_is says =
+    let spelt = says_spelt name given said e says in
+    (call_written name args given starred all e tells_star given_is says.0 spelt.0, answer_written name answer said all e tells_all said_is spelt.1)
+
+pub row_readable : (name : CallName) (args answer given said : List ℕ) (starred all : Bool) (e : Entry) → name ≢ names.Now → (IsTrue all ↔ (IsTrue (is_write name) × (answer ≡ codes "all"))) → Says name given said e
     → (AnswersInRange e → AnswersInRange (with_answer all (call_of e) e)) → IsReadable (record { entry = with_answer all (call_of e) e; starred = starred; all = all })
-row_readable name args answer starred all e some tells is h range = record {
-  range = (subst InRange (sym (call_kept all e)) h.0, range h.1);
-  star = λ starred now. some (sym is ∙ sym (ap name_of (call_kept all e)) ∙ now);
-  all = λ every. subst (λ b. TakesAll (with_answer b (call_of e) e)) (sym every) (counts_all e (subst (λ n. IsTrue (is_write n)) (sym is) (tells.0 every).0));
+row_readable name args answer given said starred all e some tells says range = record {
+  range = (subst InRange (sym (call_kept all e)) says.3.0, range says.3.1);
+  star = λ starred now. some (sym says.0 ∙ sym (ap name_of (call_kept all e)) ∙ now);
+  all = λ every. subst (λ b. TakesAll (with_answer b (call_of e) e)) (sym every) (counts_all e (subst (λ n. IsTrue (is_write n)) (sym says.0) (tells.0 every).0));
 }

@@ -55,6 +55,12 @@ pub record FitsRow (row : Row) (e : Entry) : Type 0 where
   pub is : answered row (call_of e) ≡ e
   pub allowed : Allowed e
 
+-- it is of this call, with an answer that a World may give
+pub record Serves (row : Row) (call : Call) : Type 0 where
+  pub of : IsOf row call
+  pub asks : call_of (answered row call) ≡ call
+  pub allowed : Allowed (answered row call)
+
 -- it isn't of this call, or not with an answer that a World may give
 abbrev pub Refuses : Row → Call → Type 0
 Refuses row call = IsOf row call → ¬ Allowed (answered row call)

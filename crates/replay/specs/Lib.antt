@@ -1,4 +1,5 @@
 pub mod Fitting
+pub mod Last
 pub mod Lines
 pub mod Names
 pub mod Pieces

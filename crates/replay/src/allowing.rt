@@ -5,29 +5,29 @@ ghost use Rattle.std.specs.Prelude.{◌≡◌, ◌↔◌, IsTrue};
 ghost use Rattle.std.specs.Prelude.{◌||◌, ◌&&◌};
 ghost use Rattle.std.specs.List.{list_any};
 ghost use Rattle.poll_list.specs.Listing.{are_wants, differ, is_who, number_of, same_number};
-ghost use Rattle.world_face.specs.Journal.{MayRead, MayReadFile, MayWrite, AreOctets, MayAccept, MayMeasure, MayGet, MayWait, count_of, count_got, place_of};
+ghost use Rattle.world_face.specs.Journal.{MayRead, MayReadFile, MayWrite, MayGet, MayWait, AtPath, AtEndpoint};
 ghost use Rattle.replay.specs.Lines.{place_at};
 
 use crate::line::Seat;
 use crate::reported::Reported;
-use world_face::{Accepted, FileSize, Got, Io, LinkAt, MOST_READY, Waited, Want, Who};
+use world_face::{Endpoint, Got, Io, MOST_READY, Waited, Want, Who};
 
-pub fn may_read(asked: usize, answer: Io, len: usize) -> bool
-    ensures { IsTrue result ↔ (MayRead asked answer × (len ≡ count_of answer)) }
+pub fn may_read(asked: usize, answer: Io) -> bool
+    ensures { IsTrue result ↔ MayRead asked answer }
 {
     match answer {
-        Io::Done(n) => 0 < n && n <= asked && len == n,
-        _ => len == 0,
+        Io::Done(n) => 0 < n && n <= asked,
+        _ => true,
     }
 }
 
-pub fn may_read_file(asked: usize, answer: Io, len: usize) -> bool
-    ensures { IsTrue result ↔ (MayReadFile asked answer × (len ≡ count_of answer)) }
+pub fn may_read_file(asked: usize, answer: Io) -> bool
+    ensures { IsTrue result ↔ MayReadFile asked answer }
 {
     match answer {
-        Io::Done(n) => 0 < n && n <= asked && len == n,
+        Io::Done(n) => 0 < n && n <= asked,
         Io::NotYet => false,
-        _ => len == 0,
+        _ => true,
     }
 }
 
@@ -41,12 +41,12 @@ pub fn may_write(offered: usize, answer: Io) -> bool
     }
 }
 
-pub fn may_get(asked: usize, answer: Got, len: usize) -> bool
-    ensures { IsTrue result ↔ (MayGet asked answer × (len ≡ count_got answer)) }
+pub fn may_get(asked: usize, answer: Got) -> bool
+    ensures { IsTrue result ↔ MayGet asked answer }
 {
     match answer {
-        Got::From(_, n) => n <= asked && len == n,
-        _ => len == 0,
+        Got::From(_, n) => n <= asked,
+        _ => true,
     }
 }
 
@@ -74,27 +74,6 @@ pub fn same_wants(a: &[Want], b: &[Want]) -> bool
         }
     }
     true
-}
-
-pub fn octets_of(octets: &Vec<u8>) -> &[u8]
-    ensures value { result.now ≡ octets.now.items }
-    ensures range { AreOctets result.now }
-{
-    octets.as_slice()
-}
-
-pub fn peer_of(answer: Accepted) -> Accepted
-    ensures value { result ≡ answer }
-    ensures range { MayAccept answer }
-{
-    answer
-}
-
-pub fn size_of(answer: FileSize) -> FileSize
-    ensures value { result ≡ answer }
-    ensures range { MayMeasure answer }
-{
-    answer
 }
 
 // Each has a direction.
@@ -178,12 +157,20 @@ pub fn may_wait(wants: &[Want], answer: Waited, ready: &Reported) -> bool
     }
 }
 
-pub fn is_at(seat: &Seat, at: &LinkAt) -> bool
-    ensures { IsTrue result ↔ (place_at seat.now ≡ place_of at.now) }
+pub fn is_path(seat: &Seat, path: &[u8]) -> bool
+    ensures { IsTrue result ↔ (place_at seat.now ≡ AtPath path.now) }
 {
-    match (seat.at, at) {
-        (None, LinkAt::Unix(name)) => same(&seat.path, name.as_str().as_bytes()),
-        (Some(a), LinkAt::Tcp(b)) => a == *b,
-        _ => false,
+    match seat.at {
+        None => same(&seat.path, path),
+        Some(_) => false,
+    }
+}
+
+pub fn is_endpoint(seat: &Seat, at: Endpoint) -> bool
+    ensures { IsTrue result ↔ (place_at seat.now ≡ AtEndpoint at) }
+{
+    match seat.at {
+        None => false,
+        Some(here) => here == at,
     }
 }

@@ -2,6 +2,7 @@
 #![tactic(auto)]
 
 mod allowing;
+mod answering;
 mod giving;
 mod line;
 mod printing;

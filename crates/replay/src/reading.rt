@@ -2,7 +2,7 @@
 #![tactic(auto, unfolding(crate::specs::Text::call_text, crate::specs::Text::answer_text))]
 
 ghost use Rattle.std.specs.Prelude.{◌≡◌, ◌≢◌, ◌++◌, ◌∷◌, [], ℕ, List, Err, IfOk, OnErr, IsTrue, ◌↔◌, codes, decimal, length, ◌<◌, true};
-ghost use Rattle.replay.specs.Names.{name_of, name_text};
+ghost use Rattle.replay.specs.Names.{name_text};
 ghost use Rattle.replay.specs.Fitting.{with_answer};
 ghost use Rattle.replay.specs.Lines.{entry_of, place_at, row_of};
 ghost use Rattle.replay.specs.Rows.{Row as ARow, IsReadable, row_text};
@@ -22,8 +22,8 @@ ghost use Rattle.world_face.specs.declared.Waited.{Waited as AWaited};
 ghost use Rattle.world_face.specs.Journal.{Place, Entry, AreOctets, IsEndpoint, IsNumber, IsPlace, MayAccept, MayMeasure, Leaves, LeavesGot, call_of};
 ghost use Rattle.replay.specs.declared.CallName.TheVariants.{Now, Wait, LinkOpen, LinkRead, LinkWrite, Connect, Connected, Listen, Accept, TcpRead, TcpWrite, TcpEnd, Close, UdpOpen, UdpSend, UdpRecv, FileLen, FileRead};
 ghost use Rattle.replay.specs.declared.tokens.Unread.TheVariants.{NoReading};
-ghost use Rattle.replay.specs.Range.{AnswersInRange, LeavesReady, Counts, IsAtOnce, ComesFrom, IsSayable};
-ghost use Rattle.replay.specs.Spelling.{IsSpelt, IsWritten, Says, SaysRow, blank_args, counted_answer, given_args, is_write};
+ghost use Rattle.replay.specs.Range.{AnswersInRange, LeavesReady, Counts, IsAtOnce, ComesFrom};
+ghost use Rattle.replay.specs.Spelling.{IsWritten, Says, SaysRow, blank_args, counted_answer, given_args, is_write};
 
 use crate::CallName;
 use crate::allowing::same;
@@ -84,7 +84,7 @@ fn read_call(alloc: Global, call: &[u8], answer: &[u8]) -> Result<Row, Unread>
     ensures range { IfOk result (λ row. IsReadable (row_of row)) }
     ensures refused { result ≡ Err NoReading → (row : ARow) → IsReadable row → ¬ IsWritten call.now answer.now row }
 {
-    if is_now(call) {
+    if same(call, b"now") {
         return read_now(answer);
     }
     let (word, args) = split_at(call, b' ')?;
@@ -99,7 +99,7 @@ fn read_row(alloc: Global, name: CallName, args: &[u8], answer: &[u8]) -> Result
     ensures range { IfOk result (λ row. IsReadable (row_of row)) }
     ensures refused { result ≡ Err NoReading → (row : ARow) → ¬ SaysRow name args.now answer.now row }
 {
-    let starred = is_star(args);
+    let starred = same(args, b"*");
     let all = is_all(name, answer);
     let given = given_args(starred, name, args);
     let said = counted_answer(all, answer);
@@ -111,26 +111,14 @@ fn read_row(alloc: Global, name: CallName, args: &[u8], answer: &[u8]) -> Result
     })
 }
 
-fn is_star(args: &[u8]) -> bool
-    ensures { IsTrue result ↔ (args.now ≡ codes "*") }
-{
-    matches!(args, b"*")
-}
-
 // All that a write offered was taken.
 fn is_all(name: CallName, answer: &[u8]) -> bool
     ensures { IsTrue result ↔ (IsTrue (is_write name) × (answer.now ≡ codes "all")) }
 {
     match name {
-        CallName::LinkWrite | CallName::TcpWrite => is_all_text(answer),
+        CallName::LinkWrite | CallName::TcpWrite => same(answer, b"all"),
         _ => false,
     }
-}
-
-fn is_all_text(answer: &[u8]) -> bool
-    ensures { IsTrue result ↔ (answer.now ≡ codes "all") }
-{
-    matches!(answer, b"all")
 }
 
 fn given_args(starred: bool, name: CallName, args: &[u8]) -> &[u8]
@@ -190,17 +178,9 @@ fn counted(line: Line, all: bool) -> Line
     }
 }
 
-fn is_now(call: &[u8]) -> bool
-    ensures { IsTrue result ↔ (call.now ≡ codes "now") }
-{
-    matches!(call, b"now")
-}
-
 fn read_named(alloc: Global, name: CallName, args: &[u8], answer: &[u8]) -> Result<Line, Unread>
-    ensures line { IfOk result (λ line. IsSpelt (name_text name ++ 32 ∷ args.now) answer.now (entry_of line)) }
-    ensures named { IfOk result (λ line. name_of (call_of (entry_of line)) ≡ name) }
+    ensures said { IfOk result (λ line. Says name args.now answer.now (entry_of line)) }
     ensures some { IfOk result (λ line. name ≢ Now) }
-    ensures range { IfOk result (λ line. IsSayable (entry_of line)) }
     ensures refused { result ≡ Err NoReading → (e : Entry) → ¬ Says name args.now answer.now e }
 {
     match name {
@@ -239,9 +219,7 @@ fn read_now(answer: &[u8]) -> Result<Row, Unread>
 }
 
 fn read_wait(alloc: Global, args: &[u8], answer: &[u8]) -> Result<Line, Unread>
-    ensures line { IfOk result (λ line. IsSpelt (codes "wait" ++ 32 ∷ args.now) answer.now (entry_of line)) }
-    ensures named { IfOk result (λ line. name_of (call_of (entry_of line)) ≡ Wait) }
-    ensures range { IfOk result (λ line. IsSayable (entry_of line)) }
+    ensures said { IfOk result (λ line. Says Wait args.now answer.now (entry_of line)) }
     ensures refused { result ≡ Err NoReading → (e : Entry) → ¬ Says Wait args.now answer.now e }
 {
     let (time, list) = split_at(args, b' ')?;
@@ -252,9 +230,7 @@ fn read_wait(alloc: Global, args: &[u8], answer: &[u8]) -> Result<Line, Unread>
 }
 
 fn read_link_open(alloc: Global, args: &[u8], answer: &[u8]) -> Result<Line, Unread>
-    ensures line { IfOk result (λ line. IsSpelt (codes "lopen" ++ 32 ∷ args.now) answer.now (entry_of line)) }
-    ensures named { IfOk result (λ line. name_of (call_of (entry_of line)) ≡ LinkOpen) }
-    ensures range { IfOk result (λ line. IsSayable (entry_of line)) }
+    ensures said { IfOk result (λ line. Says LinkOpen args.now answer.now (entry_of line)) }
     ensures refused { result ≡ Err NoReading → (e : Entry) → ¬ Says LinkOpen args.now answer.now e }
 {
     let text = read_octets(alloc, args)?;
@@ -264,9 +240,7 @@ fn read_link_open(alloc: Global, args: &[u8], answer: &[u8]) -> Result<Line, Unr
 }
 
 fn read_link_read(alloc: Global, args: &[u8], answer: &[u8]) -> Result<Line, Unread>
-    ensures line { IfOk result (λ line. IsSpelt (codes "lread" ++ 32 ∷ args.now) answer.now (entry_of line)) }
-    ensures named { IfOk result (λ line. name_of (call_of (entry_of line)) ≡ LinkRead) }
-    ensures range { IfOk result (λ line. IsSayable (entry_of line)) }
+    ensures said { IfOk result (λ line. Says LinkRead args.now answer.now (entry_of line)) }
     ensures refused { result ≡ Err NoReading → (e : Entry) → ¬ Says LinkRead args.now answer.now e }
 {
     let asked = read_number(args)?;
@@ -275,9 +249,7 @@ fn read_link_read(alloc: Global, args: &[u8], answer: &[u8]) -> Result<Line, Unr
 }
 
 fn read_link_write(alloc: Global, args: &[u8], answer: &[u8]) -> Result<Line, Unread>
-    ensures line { IfOk result (λ line. IsSpelt (codes "lwrite" ++ 32 ∷ args.now) answer.now (entry_of line)) }
-    ensures named { IfOk result (λ line. name_of (call_of (entry_of line)) ≡ LinkWrite) }
-    ensures range { IfOk result (λ line. IsSayable (entry_of line)) }
+    ensures said { IfOk result (λ line. Says LinkWrite args.now answer.now (entry_of line)) }
     ensures refused { result ≡ Err NoReading → (e : Entry) → ¬ Says LinkWrite args.now answer.now e }
 {
     let octets = read_octets(alloc, args)?;
@@ -286,9 +258,7 @@ fn read_link_write(alloc: Global, args: &[u8], answer: &[u8]) -> Result<Line, Un
 }
 
 fn read_connect(args: &[u8], answer: &[u8]) -> Result<Line, Unread>
-    ensures line { IfOk result (λ line. IsSpelt (codes "connect" ++ 32 ∷ args.now) answer.now (entry_of line)) }
-    ensures named { IfOk result (λ line. name_of (call_of (entry_of line)) ≡ Connect) }
-    ensures range { IfOk result (λ line. IsSayable (entry_of line)) }
+    ensures said { IfOk result (λ line. Says Connect args.now answer.now (entry_of line)) }
     ensures refused { result ≡ Err NoReading → (e : Entry) → ¬ Says Connect args.now answer.now e }
 {
     let (socket, to) = read_socket_at(args)?;
@@ -297,9 +267,7 @@ fn read_connect(args: &[u8], answer: &[u8]) -> Result<Line, Unread>
 }
 
 fn read_connected(args: &[u8], answer: &[u8]) -> Result<Line, Unread>
-    ensures line { IfOk result (λ line. IsSpelt (codes "connected" ++ 32 ∷ args.now) answer.now (entry_of line)) }
-    ensures named { IfOk result (λ line. name_of (call_of (entry_of line)) ≡ Connected) }
-    ensures range { IfOk result (λ line. IsSayable (entry_of line)) }
+    ensures said { IfOk result (λ line. Says Connected args.now answer.now (entry_of line)) }
     ensures refused { result ≡ Err NoReading → (e : Entry) → ¬ Says Connected args.now answer.now e }
 {
     let socket = read_number(args)?;
@@ -308,9 +276,7 @@ fn read_connected(args: &[u8], answer: &[u8]) -> Result<Line, Unread>
 }
 
 fn read_listen(args: &[u8], answer: &[u8]) -> Result<Line, Unread>
-    ensures line { IfOk result (λ line. IsSpelt (codes "listen" ++ 32 ∷ args.now) answer.now (entry_of line)) }
-    ensures named { IfOk result (λ line. name_of (call_of (entry_of line)) ≡ Listen) }
-    ensures range { IfOk result (λ line. IsSayable (entry_of line)) }
+    ensures said { IfOk result (λ line. Says Listen args.now answer.now (entry_of line)) }
     ensures refused { result ≡ Err NoReading → (e : Entry) → ¬ Says Listen args.now answer.now e }
 {
     let (socket, at) = read_socket_at(args)?;
@@ -319,9 +285,7 @@ fn read_listen(args: &[u8], answer: &[u8]) -> Result<Line, Unread>
 }
 
 fn read_accept(args: &[u8], answer: &[u8]) -> Result<Line, Unread>
-    ensures line { IfOk result (λ line. IsSpelt (codes "accept" ++ 32 ∷ args.now) answer.now (entry_of line)) }
-    ensures named { IfOk result (λ line. name_of (call_of (entry_of line)) ≡ Accept) }
-    ensures range { IfOk result (λ line. IsSayable (entry_of line)) }
+    ensures said { IfOk result (λ line. Says Accept args.now answer.now (entry_of line)) }
     ensures refused { result ≡ Err NoReading → (e : Entry) → ¬ Says Accept args.now answer.now e }
 {
     let (listener, socket) = read_two_numbers(args)?;
@@ -330,9 +294,7 @@ fn read_accept(args: &[u8], answer: &[u8]) -> Result<Line, Unread>
 }
 
 fn read_tcp_read(alloc: Global, args: &[u8], answer: &[u8]) -> Result<Line, Unread>
-    ensures line { IfOk result (λ line. IsSpelt (codes "tread" ++ 32 ∷ args.now) answer.now (entry_of line)) }
-    ensures named { IfOk result (λ line. name_of (call_of (entry_of line)) ≡ TcpRead) }
-    ensures range { IfOk result (λ line. IsSayable (entry_of line)) }
+    ensures said { IfOk result (λ line. Says TcpRead args.now answer.now (entry_of line)) }
     ensures refused { result ≡ Err NoReading → (e : Entry) → ¬ Says TcpRead args.now answer.now e }
 {
     let (socket, asked) = read_two_numbers(args)?;
@@ -341,9 +303,7 @@ fn read_tcp_read(alloc: Global, args: &[u8], answer: &[u8]) -> Result<Line, Unre
 }
 
 fn read_tcp_write(alloc: Global, args: &[u8], answer: &[u8]) -> Result<Line, Unread>
-    ensures line { IfOk result (λ line. IsSpelt (codes "twrite" ++ 32 ∷ args.now) answer.now (entry_of line)) }
-    ensures named { IfOk result (λ line. name_of (call_of (entry_of line)) ≡ TcpWrite) }
-    ensures range { IfOk result (λ line. IsSayable (entry_of line)) }
+    ensures said { IfOk result (λ line. Says TcpWrite args.now answer.now (entry_of line)) }
     ensures refused { result ≡ Err NoReading → (e : Entry) → ¬ Says TcpWrite args.now answer.now e }
 {
     let (first, second) = split_at(args, b' ')?;
@@ -354,9 +314,7 @@ fn read_tcp_write(alloc: Global, args: &[u8], answer: &[u8]) -> Result<Line, Unr
 }
 
 fn read_tcp_end(args: &[u8], answer: &[u8]) -> Result<Line, Unread>
-    ensures line { IfOk result (λ line. IsSpelt (codes "tend" ++ 32 ∷ args.now) answer.now (entry_of line)) }
-    ensures named { IfOk result (λ line. name_of (call_of (entry_of line)) ≡ TcpEnd) }
-    ensures range { IfOk result (λ line. IsSayable (entry_of line)) }
+    ensures said { IfOk result (λ line. Says TcpEnd args.now answer.now (entry_of line)) }
     ensures refused { result ≡ Err NoReading → (e : Entry) → ¬ Says TcpEnd args.now answer.now e }
 {
     let socket = read_number(args)?;
@@ -365,22 +323,18 @@ fn read_tcp_end(args: &[u8], answer: &[u8]) -> Result<Line, Unread>
 }
 
 fn read_close(args: &[u8], answer: &[u8]) -> Result<Line, Unread>
-    ensures line { IfOk result (λ line. IsSpelt (codes "close" ++ 32 ∷ args.now) answer.now (entry_of line)) }
-    ensures named { IfOk result (λ line. name_of (call_of (entry_of line)) ≡ Close) }
-    ensures range { IfOk result (λ line. IsSayable (entry_of line)) }
+    ensures said { IfOk result (λ line. Says Close args.now answer.now (entry_of line)) }
     ensures refused { result ≡ Err NoReading → (e : Entry) → ¬ Says Close args.now answer.now e }
 {
     let socket = read_number(args)?;
-    match answer {
-        b"done" => Ok(Line::Close(socket)),
-        _ => Err(Unread::NoReading),
+    if same(answer, b"done") {
+        return Ok(Line::Close(socket));
     }
+    Err(Unread::NoReading)
 }
 
 fn read_udp_open(args: &[u8], answer: &[u8]) -> Result<Line, Unread>
-    ensures line { IfOk result (λ line. IsSpelt (codes "uopen" ++ 32 ∷ args.now) answer.now (entry_of line)) }
-    ensures named { IfOk result (λ line. name_of (call_of (entry_of line)) ≡ UdpOpen) }
-    ensures range { IfOk result (λ line. IsSayable (entry_of line)) }
+    ensures said { IfOk result (λ line. Says UdpOpen args.now answer.now (entry_of line)) }
     ensures refused { result ≡ Err NoReading → (e : Entry) → ¬ Says UdpOpen args.now answer.now e }
 {
     let (socket, at) = read_socket_at(args)?;
@@ -389,9 +343,7 @@ fn read_udp_open(args: &[u8], answer: &[u8]) -> Result<Line, Unread>
 }
 
 fn read_udp_send(alloc: Global, args: &[u8], answer: &[u8]) -> Result<Line, Unread>
-    ensures line { IfOk result (λ line. IsSpelt (codes "usend" ++ 32 ∷ args.now) answer.now (entry_of line)) }
-    ensures named { IfOk result (λ line. name_of (call_of (entry_of line)) ≡ UdpSend) }
-    ensures range { IfOk result (λ line. IsSayable (entry_of line)) }
+    ensures said { IfOk result (λ line. Says UdpSend args.now answer.now (entry_of line)) }
     ensures refused { result ≡ Err NoReading → (e : Entry) → ¬ Says UdpSend args.now answer.now e }
 {
     let (first, rest) = split_at(args, b' ')?;
@@ -404,9 +356,7 @@ fn read_udp_send(alloc: Global, args: &[u8], answer: &[u8]) -> Result<Line, Unre
 }
 
 fn read_udp_recv(alloc: Global, args: &[u8], answer: &[u8]) -> Result<Line, Unread>
-    ensures line { IfOk result (λ line. IsSpelt (codes "urecv" ++ 32 ∷ args.now) answer.now (entry_of line)) }
-    ensures named { IfOk result (λ line. name_of (call_of (entry_of line)) ≡ UdpRecv) }
-    ensures range { IfOk result (λ line. IsSayable (entry_of line)) }
+    ensures said { IfOk result (λ line. Says UdpRecv args.now answer.now (entry_of line)) }
     ensures refused { result ≡ Err NoReading → (e : Entry) → ¬ Says UdpRecv args.now answer.now e }
 {
     let (socket, asked) = read_two_numbers(args)?;
@@ -415,9 +365,7 @@ fn read_udp_recv(alloc: Global, args: &[u8], answer: &[u8]) -> Result<Line, Unre
 }
 
 fn read_file_len(alloc: Global, args: &[u8], answer: &[u8]) -> Result<Line, Unread>
-    ensures line { IfOk result (λ line. IsSpelt (codes "flen" ++ 32 ∷ args.now) answer.now (entry_of line)) }
-    ensures named { IfOk result (λ line. name_of (call_of (entry_of line)) ≡ FileLen) }
-    ensures range { IfOk result (λ line. IsSayable (entry_of line)) }
+    ensures said { IfOk result (λ line. Says FileLen args.now answer.now (entry_of line)) }
     ensures refused { result ≡ Err NoReading → (e : Entry) → ¬ Says FileLen args.now answer.now e }
 {
     let name = read_octets(alloc, args)?;
@@ -426,9 +374,7 @@ fn read_file_len(alloc: Global, args: &[u8], answer: &[u8]) -> Result<Line, Unre
 }
 
 fn read_file_read(alloc: Global, args: &[u8], answer: &[u8]) -> Result<Line, Unread>
-    ensures line { IfOk result (λ line. IsSpelt (codes "fread" ++ 32 ∷ args.now) answer.now (entry_of line)) }
-    ensures named { IfOk result (λ line. name_of (call_of (entry_of line)) ≡ FileRead) }
-    ensures range { IfOk result (λ line. IsSayable (entry_of line)) }
+    ensures said { IfOk result (λ line. Says FileRead args.now answer.now (entry_of line)) }
     ensures refused { result ≡ Err NoReading → (e : Entry) → ¬ Says FileRead args.now answer.now e }
 {
     let (first, rest) = split_at(args, b' ')?;
@@ -500,10 +446,16 @@ fn read_waited(alloc: Global, text: &[u8]) -> Result<(Waited, Reported), Unread>
     ensures range { IfOk result (λ pair. LeavesReady pair.0 pair.1) }
     ensures refused { result ≡ Err NoReading → (answer : AWaited) (ready : List AWant) → LeavesReady answer ready → text.now ≢ waited_text answer ready }
 {
+    if same(text, b"ready") {
+        return Ok((Waited::Ready, Reported::none(alloc)));
+    }
+    if same(text, b"stop") {
+        return Ok((Waited::Stop, Reported::none(alloc)));
+    }
+    if same(text, b"fail") {
+        return Ok((Waited::Failed, Reported::none(alloc)));
+    }
     match text {
-        b"ready" => Ok((Waited::Ready, Reported::none(alloc))),
-        b"stop" => Ok((Waited::Stop, Reported::none(alloc))),
-        b"fail" => Ok((Waited::Failed, Reported::none(alloc))),
         [b'r', b'e', b'a', b'd', b'y', b' ', items @ ..] => {
             Ok((Waited::Ready, read_reported(alloc, items)?))
         }
@@ -528,11 +480,13 @@ fn read_made(text: &[u8]) -> Result<Made, Unread>
     ensures answer { IfOk result (λ answer. text.now ≡ made_text answer) }
     ensures refused { OnErr result ((answer : AMade) → text.now ≢ made_text answer) }
 {
-    match text {
-        b"done" => Ok(Made::Done),
-        b"fail" => Ok(Made::Failed),
-        _ => Err(Unread::NoReading),
+    if same(text, b"done") {
+        return Ok(Made::Done);
     }
+    if same(text, b"fail") {
+        return Ok(Made::Failed);
+    }
+    Err(Unread::NoReading)
 }
 
 fn read_read(alloc: Global, text: &[u8]) -> Result<(Io, Vec<u8>), Unread>
@@ -540,11 +494,13 @@ fn read_read(alloc: Global, text: &[u8]) -> Result<(Io, Vec<u8>), Unread>
     ensures range { IfOk result (λ pair. Leaves pair.0 pair.1.items) }
     ensures refused { result ≡ Err NoReading → (answer : AnIo) (octets : List ℕ) → Leaves answer octets → text.now ≢ read_text answer octets }
 {
-    match text {
-        b"end" => Ok((Io::End, Vec::new(alloc))),
-        b"notyet" => Ok((Io::NotYet, Vec::new(alloc))),
-        _ => read_file_done(alloc, text),
+    if same(text, b"end") {
+        return Ok((Io::End, Vec::new(alloc)));
     }
+    if same(text, b"notyet") {
+        return Ok((Io::NotYet, Vec::new(alloc)));
+    }
+    read_file_done(alloc, text)
 }
 
 fn read_file_answer(alloc: Global, text: &[u8]) -> Result<(Io, Vec<u8>), Unread>
@@ -553,10 +509,10 @@ fn read_file_answer(alloc: Global, text: &[u8]) -> Result<(Io, Vec<u8>), Unread>
     ensures at_once { IfOk result (λ pair. IsAtOnce pair.0) }
     ensures refused { result ≡ Err NoReading → (answer : AnIo) (octets : List ℕ) → IsAtOnce answer → Leaves answer octets → text.now ≢ read_text answer octets }
 {
-    match text {
-        b"end" => Ok((Io::End, Vec::new(alloc))),
-        _ => read_file_done(alloc, text),
+    if same(text, b"end") {
+        return Ok((Io::End, Vec::new(alloc)));
     }
+    read_file_done(alloc, text)
 }
 
 fn read_file_done(alloc: Global, text: &[u8]) -> Result<(Io, Vec<u8>), Unread>
@@ -566,8 +522,10 @@ fn read_file_done(alloc: Global, text: &[u8]) -> Result<(Io, Vec<u8>), Unread>
     ensures done { result ≡ Err NoReading → (octets : List ℕ) → AreOctets octets → text.now ≢ codes "done " ++ hexadecimal octets }
     ensures fail { result ≡ Err NoReading → text.now ≢ codes "fail" }
 {
+    if same(text, b"fail") {
+        return Ok((Io::Failed, Vec::new(alloc)));
+    }
     match text {
-        b"fail" => Ok((Io::Failed, Vec::new(alloc))),
         [b'd', b'o', b'n', b'e', b' ', octets @ ..] => {
             let octets = read_octets(alloc, octets)?;
             Ok((Io::Done(octets.len()), octets))
@@ -581,9 +539,13 @@ fn read_written(text: &[u8]) -> Result<Io, Unread>
     ensures range { IfOk result (λ answer. Counts answer) }
     ensures refused { OnErr result ((answer : AnIo) → Counts answer → text.now ≢ written_text answer) }
 {
+    if same(text, b"notyet") {
+        return Ok(Io::NotYet);
+    }
+    if same(text, b"fail") {
+        return Ok(Io::Failed);
+    }
     match text {
-        b"notyet" => Ok(Io::NotYet),
-        b"fail" => Ok(Io::Failed),
         [b'd', b'o', b'n', b'e', b' ', count @ ..] => Ok(Io::Done(read_number(count)? as usize)),
         _ => Err(Unread::NoReading),
     }
@@ -593,12 +555,16 @@ fn read_joined(text: &[u8]) -> Result<Joined, Unread>
     ensures answer { IfOk result (λ answer. text.now ≡ joined_answer answer) }
     ensures refused { OnErr result ((answer : AJoined) → text.now ≢ joined_answer answer) }
 {
-    match text {
-        b"yes" => Ok(Joined::Yes),
-        b"notyet" => Ok(Joined::NotYet),
-        b"fail" => Ok(Joined::Failed),
-        _ => Err(Unread::NoReading),
+    if same(text, b"yes") {
+        return Ok(Joined::Yes);
     }
+    if same(text, b"notyet") {
+        return Ok(Joined::NotYet);
+    }
+    if same(text, b"fail") {
+        return Ok(Joined::Failed);
+    }
+    Err(Unread::NoReading)
 }
 
 fn read_accepted(text: &[u8]) -> Result<Accepted, Unread>
@@ -606,9 +572,13 @@ fn read_accepted(text: &[u8]) -> Result<Accepted, Unread>
     ensures range { IfOk result (λ answer. MayAccept answer) }
     ensures refused { OnErr result ((answer : AnAccepted) → MayAccept answer → text.now ≢ accepted_text answer) }
 {
+    if same(text, b"notyet") {
+        return Ok(Accepted::NotYet);
+    }
+    if same(text, b"fail") {
+        return Ok(Accepted::Failed);
+    }
     match text {
-        b"notyet" => Ok(Accepted::NotYet),
-        b"fail" => Ok(Accepted::Failed),
         [b'f', b'r', b'o', b'm', b' ', peer @ ..] => Ok(Accepted::From(read_endpoint(peer)?)),
         _ => Err(Unread::NoReading),
     }
@@ -618,12 +588,16 @@ fn read_sent(text: &[u8]) -> Result<Sent, Unread>
     ensures answer { IfOk result (λ answer. text.now ≡ sent_text answer) }
     ensures refused { OnErr result ((answer : ASent) → text.now ≢ sent_text answer) }
 {
-    match text {
-        b"done" => Ok(Sent::Done),
-        b"notyet" => Ok(Sent::NotYet),
-        b"fail" => Ok(Sent::Failed),
-        _ => Err(Unread::NoReading),
+    if same(text, b"done") {
+        return Ok(Sent::Done);
     }
+    if same(text, b"notyet") {
+        return Ok(Sent::NotYet);
+    }
+    if same(text, b"fail") {
+        return Ok(Sent::Failed);
+    }
+    Err(Unread::NoReading)
 }
 
 fn read_got(alloc: Global, text: &[u8]) -> Result<(Got, Vec<u8>), Unread>
@@ -632,9 +606,13 @@ fn read_got(alloc: Global, text: &[u8]) -> Result<(Got, Vec<u8>), Unread>
     ensures refused { result ≡ Err NoReading → (answer : AGot) (octets : List ℕ) → ComesFrom answer → LeavesGot answer octets
         → text.now ≢ got_text answer octets }
 {
+    if same(text, b"notyet") {
+        return Ok((Got::NotYet, Vec::new(alloc)));
+    }
+    if same(text, b"fail") {
+        return Ok((Got::Failed, Vec::new(alloc)));
+    }
     match text {
-        b"notyet" => Ok((Got::NotYet, Vec::new(alloc))),
-        b"fail" => Ok((Got::Failed, Vec::new(alloc))),
         [b'f', b'r', b'o', b'm', b' ', rest @ ..] => read_datagram(alloc, rest),
         _ => Err(Unread::NoReading),
     }
@@ -657,9 +635,13 @@ fn read_size(text: &[u8]) -> Result<FileSize, Unread>
     ensures range { IfOk result (λ answer. MayMeasure answer) }
     ensures refused { OnErr result ((answer : ASize) → MayMeasure answer → text.now ≢ size_text answer) }
 {
+    if same(text, b"missing") {
+        return Ok(FileSize::Missing);
+    }
+    if same(text, b"fail") {
+        return Ok(FileSize::Failed);
+    }
     match text {
-        b"missing" => Ok(FileSize::Missing),
-        b"fail" => Ok(FileSize::Failed),
         [b'l', b'e', b'n', b' ', count @ ..] => Ok(FileSize::Length(read_number(count)?)),
         _ => Err(Unread::NoReading),
     }

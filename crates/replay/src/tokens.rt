@@ -1,5 +1,5 @@
 // The parts of a line, as octets.
-ghost use Rattle.std.specs.Prelude.{◌≡◌, ◌≢◌, ◌++◌, ◌∷◌, [], ℕ, List, Bool, true, Option, IfOk, OnOk, OnErr, Err, IsTrue, ◌↔◌, codes, decimal, find, length, option_copied, ◌<◌};
+ghost use Rattle.std.specs.Prelude.{◌≡◌, ◌≢◌, ◌++◌, ◌∷◌, [], ℕ, List, Bool, true, Option, IfOk, OnOk, OnErr, Err, decimal, find, length, option_copied, ◌<◌};
 ghost use Rattle.std.specs.Prelude.{◌||◌};
 ghost use Rattle.std.specs.List.{list_all};
 ghost use Rattle.replay.specs.declared.tokens.Unread.TheVariants.{NoReading, NoMemory};
@@ -17,6 +17,7 @@ ghost use Rattle.replay.specs.Spelling.{is_lower};
 ghost use Rattle.replay.specs.Text.{hexadecimal, who_text, want_text, joined_text, wants_text, timeout_text, direction_text};
 
 use crate::CallName;
+use crate::allowing::same;
 use hex::FromHexError;
 use std::alloc::Global;
 use world_face::{Endpoint, Want, Who};
@@ -62,13 +63,6 @@ pub fn split_at(text: &[u8], octet: u8) -> Result<(&[u8], &[u8]), Unread>
     }
 }
 
-// A dash, which stands for nothing.
-fn is_dash(text: &[u8]) -> bool
-    ensures { IsTrue result ↔ (text.now ≡ codes "-") }
-{
-    matches!(text, [b'-'])
-}
-
 // A number in decimal digits, the first of them no needless zero.
 pub fn read_number(text: &[u8]) -> Result<u64, Unread>
     ensures number { IfOk result (λ n. text.now ≡ decimal n) }
@@ -99,7 +93,7 @@ pub fn read_octets(alloc: Global, text: &[u8]) -> Result<Vec<u8>, Unread>
     ensures range { IfOk result (λ octets. AreOctets octets.items) }
     ensures refused { result ≡ Err NoReading → (octets : List ℕ) → AreOctets octets → text.now ≢ hexadecimal octets }
 {
-    if is_dash(text) {
+    if same(text, b"-") {
         return Ok(Vec::new(alloc));
     }
     if text.is_empty() {
@@ -141,8 +135,10 @@ fn read_who(text: &[u8]) -> Result<Who, Unread>
     ensures range { IfOk result (λ who. is_who who ≡ true) }
     ensures refused { OnErr result ((who : AWho) → is_who who ≡ true → text.now ≢ who_text who) }
 {
+    if same(text, b"link") {
+        return Ok(Who::Link);
+    }
     match text {
-        b"link" => Ok(Who::Link),
         [b'l', number @ ..] => Ok(Who::Listener(read_number(number)?)),
         [b'u', number @ ..] => Ok(Who::Udp(read_number(number)?)),
         [b't', number @ ..] => Ok(Who::Tcp(read_number(number)?)),
@@ -209,7 +205,7 @@ pub fn read_wants(alloc: Global, text: &[u8]) -> Result<Vec<Want>, Unread>
     ensures range { IfOk result (λ wants. are_wants wants.items ≡ true) }
     ensures refused { result ≡ Err NoReading → (wants : List AWant) → are_wants wants ≡ true → text.now ≢ wants_text wants }
 {
-    if is_dash(text) {
+    if same(text, b"-") {
         return Ok(Vec::new(alloc));
     }
     let wants = read_items(alloc, text)?;
@@ -221,7 +217,7 @@ pub fn read_timeout(text: &[u8]) -> Result<Option<u64>, Unread>
     ensures range { IfOk result (λ timeout. IsTimeout timeout) }
     ensures refused { OnErr result ((timeout : Option ℕ) → IsTimeout timeout → text.now ≢ timeout_text timeout) }
 {
-    if is_dash(text) {
+    if same(text, b"-") {
         return Ok(None);
     }
     Ok(Some(read_number(text)?))

@@ -5,6 +5,7 @@ ghost use Rattle.world_face.specs.Journal.{IsPlace};
 mod fitting;
 mod schedule;
 
+use crate::answering::{accepted, brought, got, io, joined, made, reported, sent, size, waited};
 use crate::line::Stop;
 use crate::row::Row;
 use std::marker::Model;
@@ -94,16 +95,8 @@ impl World for ScriptWorld {
         ensures answers { Answers (script_tells self.old) (script_tells self.new) (Now result) }
         ensures last { self.new.live ≡ false → result ≡ last_moment (script_tells self.new).kept }
     {
-        match self.next_now() {
-            Some(moment) => {
-                self.advance(Stop::Now, &[], &[]);
-                moment
-            }
-            None => {
-                self.cease(Stop::Now, &[], &[]);
-                self.moment
-            }
-        }
+        self.follow(Stop::Now, &[], &[]);
+        self.moment
     }
 
     fn wait(&mut self, wants: &Wants, timeout: Option<u64>, ready: &mut ReadyList) -> Waited
@@ -115,18 +108,10 @@ impl World for ScriptWorld {
         ensures ceased { self.new.live ≡ false → result ≡ Waited.Failed }
     {
         let items = wants.items();
-        match self.next_wait(items, timeout) {
-            Some((answer, found)) => {
-                list(ready, found);
-                self.advance(Stop::Wait(timeout), &[], items);
-                answer
-            }
-            None => {
-                ready.clear();
-                self.cease(Stop::Wait(timeout), &[], items);
-                Waited::Failed
-            }
-        }
+        self.follow(Stop::Wait(timeout), &[], items);
+        let line = self.last();
+        list(ready, reported(line));
+        waited(line)
     }
 
     fn link_open(&mut self, at: &LinkAt) -> Made
@@ -134,16 +119,8 @@ impl World for ScriptWorld {
         ensures answers { Answers (script_tells self.old) (script_tells self.new) (LinkOpen (place_of at.now) result) }
         ensures ceased { self.new.live ≡ false → result ≡ Made.Failed }
     {
-        match self.next_link_open(at) {
-            Some(answer) => {
-                self.advance_open(at);
-                answer
-            }
-            None => {
-                self.cease_open(at);
-                Made::Failed
-            }
-        }
+        self.follow_open(at);
+        made(self.last())
     }
 
     fn link_read(&mut self, into: &mut [u8]) -> Io
@@ -151,18 +128,10 @@ impl World for ScriptWorld {
         ensures answers { Answers (script_tells self.old) (script_tells self.new) (LinkRead (length into.old) result (filled result into.new)) }
         ensures ceased { self.new.live ≡ false → result ≡ Io.Failed }
     {
-        let asked = into.len();
-        match self.next_link_read(asked) {
-            Some((answer, octets)) => {
-                fill(into, octets);
-                self.advance(Stop::LinkRead(asked), &[], &[]);
-                answer
-            }
-            None => {
-                self.cease(Stop::LinkRead(asked), &[], &[]);
-                Io::Failed
-            }
-        }
+        self.follow(Stop::LinkRead(into.len()), &[], &[]);
+        let line = self.last();
+        fill(into, brought(line));
+        io(line)
     }
 
     fn link_write(&mut self, from: &[u8]) -> Io
@@ -171,80 +140,40 @@ impl World for ScriptWorld {
         ensures answers { Answers (script_tells self.old) (script_tells self.new) (LinkWrite from.now result) }
         ensures ceased { self.new.live ≡ false → result ≡ Io.Failed }
     {
-        match self.next_link_write(from) {
-            Some(answer) => {
-                self.advance(Stop::LinkWrite, from, &[]);
-                answer
-            }
-            None => {
-                self.cease(Stop::LinkWrite, from, &[]);
-                Io::Failed
-            }
-        }
+        self.follow(Stop::LinkWrite, from, &[]);
+        io(self.last())
     }
 
     fn connect(&mut self, c: u64, to: Endpoint) -> Made
         ensures answers { Answers (script_tells self.old) (script_tells self.new) (Connect c to result) }
         ensures ceased { self.new.live ≡ false → result ≡ Made.Failed }
     {
-        match self.next_connect(c, to) {
-            Some(answer) => {
-                self.advance(Stop::Connect(c, to), &[], &[]);
-                answer
-            }
-            None => {
-                self.cease(Stop::Connect(c, to), &[], &[]);
-                Made::Failed
-            }
-        }
+        self.follow(Stop::Connect(c, to), &[], &[]);
+        made(self.last())
     }
 
     fn connected(&mut self, c: u64) -> Joined
         ensures answers { Answers (script_tells self.old) (script_tells self.new) (Connected c result) }
         ensures ceased { self.new.live ≡ false → result ≡ Joined.Failed }
     {
-        match self.next_connected(c) {
-            Some(answer) => {
-                self.advance(Stop::Connected(c), &[], &[]);
-                answer
-            }
-            None => {
-                self.cease(Stop::Connected(c), &[], &[]);
-                Joined::Failed
-            }
-        }
+        self.follow(Stop::Connected(c), &[], &[]);
+        joined(self.last())
     }
 
     fn listen(&mut self, l: u64, at: Endpoint) -> Made
         ensures answers { Answers (script_tells self.old) (script_tells self.new) (Listen l at result) }
         ensures ceased { self.new.live ≡ false → result ≡ Made.Failed }
     {
-        match self.next_listen(l, at) {
-            Some(answer) => {
-                self.advance(Stop::Listen(l, at), &[], &[]);
-                answer
-            }
-            None => {
-                self.cease(Stop::Listen(l, at), &[], &[]);
-                Made::Failed
-            }
-        }
+        self.follow(Stop::Listen(l, at), &[], &[]);
+        made(self.last())
     }
 
     fn accept(&mut self, l: u64, c: u64) -> Accepted
         ensures answers { Answers (script_tells self.old) (script_tells self.new) (Accept l c result) }
         ensures ceased { self.new.live ≡ false → result ≡ Accepted.Failed }
     {
-        match self.next_accept(l, c) {
-            Some(answer) => {
-                self.advance(Stop::Accept(l, c), &[], &[]);
-                answer
-            }
-            None => {
-                self.cease(Stop::Accept(l, c), &[], &[]);
-                Accepted::Failed
-            }
-        }
+        self.follow(Stop::Accept(l, c), &[], &[]);
+        accepted(self.last())
     }
 
     fn tcp_read(&mut self, c: u64, into: &mut [u8]) -> Io
@@ -252,18 +181,10 @@ impl World for ScriptWorld {
         ensures answers { Answers (script_tells self.old) (script_tells self.new) (TcpRead c (length into.old) result (filled result into.new)) }
         ensures ceased { self.new.live ≡ false → result ≡ Io.Failed }
     {
-        let asked = into.len();
-        match self.next_tcp_read(c, asked) {
-            Some((answer, octets)) => {
-                fill(into, octets);
-                self.advance(Stop::TcpRead(c, asked), &[], &[]);
-                answer
-            }
-            None => {
-                self.cease(Stop::TcpRead(c, asked), &[], &[]);
-                Io::Failed
-            }
-        }
+        self.follow(Stop::TcpRead(c, into.len()), &[], &[]);
+        let line = self.last();
+        fill(into, brought(line));
+        io(line)
     }
 
     fn tcp_write(&mut self, c: u64, from: &[u8]) -> Io
@@ -272,55 +193,28 @@ impl World for ScriptWorld {
         ensures answers { Answers (script_tells self.old) (script_tells self.new) (TcpWrite c from.now result) }
         ensures ceased { self.new.live ≡ false → result ≡ Io.Failed }
     {
-        match self.next_tcp_write(c, from) {
-            Some(answer) => {
-                self.advance(Stop::TcpWrite(c), from, &[]);
-                answer
-            }
-            None => {
-                self.cease(Stop::TcpWrite(c), from, &[]);
-                Io::Failed
-            }
-        }
+        self.follow(Stop::TcpWrite(c), from, &[]);
+        io(self.last())
     }
 
     fn tcp_end(&mut self, c: u64) -> Made
         ensures answers { Answers (script_tells self.old) (script_tells self.new) (TcpEnd c result) }
         ensures ceased { self.new.live ≡ false → result ≡ Made.Failed }
     {
-        match self.next_tcp_end(c) {
-            Some(answer) => {
-                self.advance(Stop::TcpEnd(c), &[], &[]);
-                answer
-            }
-            None => {
-                self.cease(Stop::TcpEnd(c), &[], &[]);
-                Made::Failed
-            }
-        }
+        self.follow(Stop::TcpEnd(c), &[], &[]);
+        made(self.last())
     }
 
     fn close(&mut self, s: u64) {
-        match self.next_close(s) {
-            Some(()) => self.advance(Stop::Close(s), &[], &[]),
-            None => self.cease(Stop::Close(s), &[], &[]),
-        }
+        self.follow(Stop::Close(s), &[], &[]);
     }
 
     fn udp_open(&mut self, s: u64, at: Endpoint) -> Made
         ensures answers { Answers (script_tells self.old) (script_tells self.new) (UdpOpen s at result) }
         ensures ceased { self.new.live ≡ false → result ≡ Made.Failed }
     {
-        match self.next_udp_open(s, at) {
-            Some(answer) => {
-                self.advance(Stop::UdpOpen(s, at), &[], &[]);
-                answer
-            }
-            None => {
-                self.cease(Stop::UdpOpen(s, at), &[], &[]);
-                Made::Failed
-            }
-        }
+        self.follow(Stop::UdpOpen(s, at), &[], &[]);
+        made(self.last())
     }
 
     fn udp_send(&mut self, s: u64, to: Endpoint, from: &[u8]) -> Sent
@@ -328,16 +222,8 @@ impl World for ScriptWorld {
         ensures answers { Answers (script_tells self.old) (script_tells self.new) (UdpSend s to from.now result) }
         ensures ceased { self.new.live ≡ false → result ≡ Sent.Failed }
     {
-        match self.next_udp_send(s, to, from) {
-            Some(answer) => {
-                self.advance(Stop::UdpSend(s, to), from, &[]);
-                answer
-            }
-            None => {
-                self.cease(Stop::UdpSend(s, to), from, &[]);
-                Sent::Failed
-            }
-        }
+        self.follow(Stop::UdpSend(s, to), from, &[]);
+        sent(self.last())
     }
 
     fn udp_recv(&mut self, s: u64, into: &mut [u8]) -> Got
@@ -345,18 +231,10 @@ impl World for ScriptWorld {
         ensures answers { Answers (script_tells self.old) (script_tells self.new) (UdpRecv s (length into.old) result (filled_got result into.new)) }
         ensures ceased { self.new.live ≡ false → result ≡ Got.Failed }
     {
-        let asked = into.len();
-        match self.next_udp_recv(s, asked) {
-            Some((answer, octets)) => {
-                fill(into, octets);
-                self.advance(Stop::UdpRecv(s, asked), &[], &[]);
-                answer
-            }
-            None => {
-                self.cease(Stop::UdpRecv(s, asked), &[], &[]);
-                Got::Failed
-            }
-        }
+        self.follow(Stop::UdpRecv(s, into.len()), &[], &[]);
+        let line = self.last();
+        fill(into, brought(line));
+        got(line)
     }
 
     fn file_len(&mut self, name: &str) -> FileSize
@@ -366,16 +244,8 @@ impl World for ScriptWorld {
         ensures ceased { self.new.live ≡ false → result ≡ FileSize.Failed }
     {
         let file = name.as_bytes();
-        match self.next_file_len(file) {
-            Some(answer) => {
-                self.advance(Stop::FileLen, file, &[]);
-                answer
-            }
-            None => {
-                self.cease(Stop::FileLen, file, &[]);
-                FileSize::Failed
-            }
-        }
+        self.follow(Stop::FileLen, file, &[]);
+        size(self.last())
     }
 
     fn file_read(&mut self, name: &str, at: u64, into: &mut [u8]) -> Io
@@ -386,17 +256,9 @@ impl World for ScriptWorld {
         ensures ceased { self.new.live ≡ false → result ≡ Io.Failed }
     {
         let file = name.as_bytes();
-        let asked = into.len();
-        match self.next_file_read(file, at, asked) {
-            Some((answer, octets)) => {
-                fill(into, octets);
-                self.advance(Stop::FileRead(at, asked), file, &[]);
-                answer
-            }
-            None => {
-                self.cease(Stop::FileRead(at, asked), file, &[]);
-                Io::Failed
-            }
-        }
+        self.follow(Stop::FileRead(at, into.len()), file, &[]);
+        let line = self.last();
+        fill(into, brought(line));
+        io(line)
     }
 }

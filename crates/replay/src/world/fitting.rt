@@ -1,15 +1,15 @@
 // Whether the next line fits a call, and what becomes of the World after it.
 ghost use Rattle.std.specs.Prelude.{◌≡◌, ◌+◌, ◌≤◌, ◌<◌, length};
-ghost use Rattle.world_face.specs.Journal.{AreOctets, IsPlace, place_of};
+ghost use Rattle.world_face.specs.Journal.{IsPlace, place_of};
 ghost use Rattle.replay.specs.Fitting.{raise};
 ghost use Rattle.world_face.specs.Limits.{most_to_udp, most_wants};
 
 use crate::CallName;
 use crate::giving::{keep, keep_wants};
-use crate::line::{Stop, has_failed, moment_after, name_of};
+use crate::line::{Line, Stop, has_failed, moment_after, name_of};
 use crate::row::Row;
 use crate::world::ScriptWorld;
-use world_face::{Accepted, Endpoint, FileSize, Got, Io, Joined, LinkAt, Made, Sent, Waited, Want};
+use world_face::{LinkAt, Want};
 
 // One more, up to the last count.
 fn raise(count: u64) -> u64
@@ -20,13 +20,15 @@ fn raise(count: u64) -> u64
 
 impl ScriptWorld {
     ghost use Rattle.std.specs.Prelude.{true, false, Some, None, IfSome, IfNone, slice_get};
-    ghost use Rattle.world_face.specs.Journal.{Entry, CallLinkOpen, call_of};
+    ghost use Rattle.world_face.specs.Journal.{Entry, call_of};
     ghost use Rattle.replay.specs.Lines.{row_of, call_at};
     ghost use Rattle.replay.specs.Fitting.{Advances, Ceases, FitsNext, FitsNone, IsCompleted, raised};
     ghost use Rattle.replay.specs.Room.{MayBring};
+    ghost use Rattle.replay.specs.Rows.{AreReadable};
 
     // The next line, while it answers.
     fn next(&self) -> Option<&Row>
+        ensures readable { AreReadable self.now.lines }
         ensures live { IfSome result (λ row. self.now.live ≡ true) }
         ensures row { IfSome result (λ row. slice_get self.now.lines self.now.used ≡ Some (row_of row.now)) }
         ensures none { IfNone result (self.now.live ≡ true → slice_get self.now.lines self.now.used ≡ None) }
@@ -53,7 +55,7 @@ impl ScriptWorld {
     }
 
     // Uses up the next line, which stands for a call with these arguments.
-    pub(super) fn advance(&mut self, given: Stop, octets: &[u8], wants: &[Want])
+    fn advance(&mut self, given: Stop, octets: &[u8], wants: &[Want])
         requires fits { (e : Entry) × FitsNext self.old e × (call_of e ≡ call_at given octets.now wants.now) }
         requires few { MayBring given (length octets.now) (length wants.now) }
         ensures { (e : Entry) → FitsNext self.old e → call_of e ≡ call_at given octets.now wants.now → Advances self.old self.new e }
@@ -102,35 +104,12 @@ impl ScriptWorld {
         }
     }
 
-    // Uses up the next line, which stands for this opening of the link.
-    pub(super) fn advance_open(&mut self, at: &LinkAt)
-        requires { (e : Entry) × FitsNext self.old e × (call_of e ≡ CallLinkOpen (place_of at.now)) }
-        ensures { (e : Entry) → FitsNext self.old e → call_of e ≡ CallLinkOpen (place_of at.now) → Advances self.old self.new e }
-    {
-        match at {
-            LinkAt::Unix(path) => self.advance(Stop::LinkOpenPath, path.as_str().as_bytes(), &[]),
-            LinkAt::Tcp(at) => self.advance(Stop::LinkOpenAt(*at), &[], &[]),
-        }
-    }
-
-    // Ceases at an opening of the link.
-    pub(super) fn cease_open(&mut self, at: &LinkAt)
-        requires { self.old.live ≡ true → FitsNone self.old.lines self.old.used (CallLinkOpen (place_of at.now)) }
-        ensures { Ceases self.old self.new (CallLinkOpen (place_of at.now)) }
-    {
-        match at {
-            LinkAt::Unix(path) => self.cease(Stop::LinkOpenPath, path.as_str().as_bytes(), &[]),
-            LinkAt::Tcp(at) => self.cease(Stop::LinkOpenAt(*at), &[], &[]),
-        }
-    }
-
     // Ceases at this call, which has failed.
-    pub(super) fn cease(&mut self, stop: Stop, octets: &[u8], wants: &[Want])
+    fn cease(&mut self, stop: Stop, octets: &[u8], wants: &[Want])
         requires octets { length octets.now ≤ most_to_udp }
         requires wants { length wants.now ≤ most_wants }
         requires fits_none { self.old.live ≡ true → FitsNone self.old.lines self.old.used (call_at stop octets.now wants.now) }
-        ensures ceases { Ceases self.old self.new (call_at stop octets.now wants.now) }
-        ensures octets { AreOctets octets.now }
+        ensures { Ceases self.old self.new (call_at stop octets.now wants.now) }
     {
         self.stop_at(stop, octets, wants);
         self.count(stop.name());
@@ -138,147 +117,64 @@ impl ScriptWorld {
 }
 
 impl ScriptWorld {
-    ghost use Rattle.std.specs.Prelude.{true, IfSome, IfNone};
-    ghost use Rattle.world_face.specs.Journal.{CallNow, CallWait, CallLinkOpen, CallLinkRead, CallLinkWrite, CallConnect, CallConnected, CallListen, CallAccept, Now, Wait, LinkOpen, LinkRead, LinkWrite, Connect, Connected, Listen, Accept};
-    ghost use Rattle.poll_list.specs.Listing.{AreWants};
+    ghost use Rattle.std.specs.Prelude.{true, false, IsTrue, option_map, option_copied};
+    ghost use Rattle.world_face.specs.Journal.{Entry, CallLinkOpen, call_of};
+    ghost use Rattle.world_face.specs.Tells.{Answers};
     ghost use Rattle.replay.specs.Fitting.{FitsNext, FitsNone};
+    ghost use Rattle.replay.specs.Last.{answer_to, last_of};
+    ghost use Rattle.replay.specs.Lines.{call_at, entry_of};
+    ghost use Rattle.replay.specs.Range.{InRange};
+    ghost use Rattle.replay.specs.Room.{MayBring};
+    ghost use Rattle.replay.specs.Rows.{AreReadable};
+    ghost use Rattle.replay.specs.Script.{script_tells};
 
-    // What the next line answers to a call that fits it.
-    pub(super) fn next_now(&self) -> Option<u64>
-        ensures found { IfSome result (λ moment. FitsNext self.now (Now moment)) }
-        ensures none { IfNone result (self.now.live ≡ true → FitsNone self.now.lines self.now.used CallNow) }
+    // Whether the next line answers this call.
+    fn fits_next(&self, given: Stop, octets: &[u8], wants: &[Want]) -> bool
+        requires { InRange (call_at given octets.now wants.now) }
+        ensures found { IsTrue result → (e : Entry) × FitsNext self.now e × (call_of e ≡ call_at given octets.now wants.now) }
+        ensures none { result ≡ false → self.now.live ≡ true → FitsNone self.now.lines self.now.used (call_at given octets.now wants.now) }
+        ensures readable { AreReadable self.now.lines }
     {
-        self.next()?.now()
+        match self.next() {
+            Some(row) => row.fits(given, octets, wants),
+            None => false,
+        }
     }
 
-    pub(super) fn next_wait(
-        &self,
-        wants: &[Want],
-        timeout: Option<u64>,
-    ) -> Option<(Waited, &[Want])>
-        requires { AreWants wants.now }
-        ensures found { IfSome result (λ found. FitsNext self.now (Wait wants.now timeout found.0 found.1.now)) }
-        ensures none { IfNone result (self.now.live ≡ true → FitsNone self.now.lines self.now.used (CallWait wants.now timeout)) }
+    // Goes on by the next line where that answers this call, and else ceases at it.
+    pub(super) fn follow(&mut self, given: Stop, octets: &[u8], wants: &[Want])
+        requires asked { InRange (call_at given octets.now wants.now) }
+        requires few { MayBring given (length octets.now) (length wants.now) }
+        ensures { Answers (script_tells self.old) (script_tells self.new) (answer_to self.new (call_at given octets.now wants.now)) }
     {
-        self.next()?.wait(wants, timeout)
+        if self.fits_next(given, octets, wants) {
+            self.advance(given, octets, wants);
+        } else {
+            self.cease(given, octets, wants);
+        }
     }
 
-    pub(super) fn next_link_open(&self, at: &LinkAt) -> Option<Made>
+    // The same for an opening of the link.
+    pub(super) fn follow_open(&mut self, at: &LinkAt)
         requires { IsPlace (place_of at.now) }
-        ensures found { IfSome result (λ answer. FitsNext self.now (LinkOpen (place_of at.now) answer)) }
-        ensures none { IfNone result (self.now.live ≡ true → FitsNone self.now.lines self.now.used (CallLinkOpen (place_of at.now))) }
+        ensures { Answers (script_tells self.old) (script_tells self.new) (answer_to self.new (CallLinkOpen (place_of at.now))) }
     {
-        self.next()?.link_open(at)
+        match at {
+            LinkAt::Unix(path) => self.follow(Stop::LinkOpenPath, path.as_str().as_bytes(), &[]),
+            LinkAt::Tcp(at) => self.follow(Stop::LinkOpenAt(*at), &[], &[]),
+        }
     }
 
-    pub(super) fn next_link_read(&self, asked: usize) -> Option<(Io, &[u8])>
-        ensures found { IfSome result (λ found. FitsNext self.now (LinkRead asked found.0 found.1.now)) }
-        ensures none { IfNone result (self.now.live ≡ true → FitsNone self.now.lines self.now.used (CallLinkRead asked)) }
+    // The line that was used up last, while it answers.
+    pub(super) fn last(&self) -> Option<&Line>
+        ensures { option_map entry_of (option_copied result) ≡ last_of self.now }
     {
-        self.next()?.link_read(asked)
-    }
-
-    pub(super) fn next_link_write(&self, from: &[u8]) -> Option<Io>
-        ensures found { IfSome result (λ answer. FitsNext self.now (LinkWrite from.now answer)) }
-        ensures none { IfNone result (self.now.live ≡ true → FitsNone self.now.lines self.now.used (CallLinkWrite from.now)) }
-    {
-        self.next()?.link_write(from)
-    }
-
-    pub(super) fn next_connect(&self, c: u64, to: Endpoint) -> Option<Made>
-        ensures found { IfSome result (λ answer. FitsNext self.now (Connect c to answer)) }
-        ensures none { IfNone result (self.now.live ≡ true → FitsNone self.now.lines self.now.used (CallConnect c to)) }
-    {
-        self.next()?.connect(c, to)
-    }
-
-    pub(super) fn next_connected(&self, c: u64) -> Option<Joined>
-        ensures found { IfSome result (λ answer. FitsNext self.now (Connected c answer)) }
-        ensures none { IfNone result (self.now.live ≡ true → FitsNone self.now.lines self.now.used (CallConnected c)) }
-    {
-        self.next()?.connected(c)
-    }
-
-    pub(super) fn next_listen(&self, l: u64, at: Endpoint) -> Option<Made>
-        ensures found { IfSome result (λ answer. FitsNext self.now (Listen l at answer)) }
-        ensures none { IfNone result (self.now.live ≡ true → FitsNone self.now.lines self.now.used (CallListen l at)) }
-    {
-        self.next()?.listen(l, at)
-    }
-
-    pub(super) fn next_accept(&self, l: u64, c: u64) -> Option<Accepted>
-        ensures found { IfSome result (λ answer. FitsNext self.now (Accept l c answer)) }
-        ensures none { IfNone result (self.now.live ≡ true → FitsNone self.now.lines self.now.used (CallAccept l c)) }
-    {
-        self.next()?.accept(l, c)
-    }
-}
-
-impl ScriptWorld {
-    ghost use Rattle.std.specs.Prelude.{true, IfSome, IfNone};
-    ghost use Rattle.world_face.specs.Journal.{CallTcpRead, CallTcpWrite, CallTcpEnd, CallClose, CallUdpOpen, CallUdpSend, CallUdpRecv, CallFileLen, CallFileRead, TcpRead, TcpWrite, TcpEnd, Close, UdpOpen, UdpSend, UdpRecv, FileLen, FileRead};
-    ghost use Rattle.replay.specs.Fitting.{FitsNext, FitsNone};
-
-    pub(super) fn next_tcp_read(&self, c: u64, asked: usize) -> Option<(Io, &[u8])>
-        ensures found { IfSome result (λ found. FitsNext self.now (TcpRead c asked found.0 found.1.now)) }
-        ensures none { IfNone result (self.now.live ≡ true → FitsNone self.now.lines self.now.used (CallTcpRead c asked)) }
-    {
-        self.next()?.tcp_read(c, asked)
-    }
-
-    pub(super) fn next_tcp_write(&self, c: u64, from: &[u8]) -> Option<Io>
-        ensures found { IfSome result (λ answer. FitsNext self.now (TcpWrite c from.now answer)) }
-        ensures none { IfNone result (self.now.live ≡ true → FitsNone self.now.lines self.now.used (CallTcpWrite c from.now)) }
-    {
-        self.next()?.tcp_write(c, from)
-    }
-
-    pub(super) fn next_tcp_end(&self, c: u64) -> Option<Made>
-        ensures found { IfSome result (λ answer. FitsNext self.now (TcpEnd c answer)) }
-        ensures none { IfNone result (self.now.live ≡ true → FitsNone self.now.lines self.now.used (CallTcpEnd c)) }
-    {
-        self.next()?.tcp_end(c)
-    }
-
-    pub(super) fn next_close(&self, s: u64) -> Option<()>
-        ensures found { IfSome result (λ _. FitsNext self.now (Close s)) }
-        ensures none { IfNone result (self.now.live ≡ true → FitsNone self.now.lines self.now.used (CallClose s)) }
-    {
-        self.next()?.close(s)
-    }
-
-    pub(super) fn next_udp_open(&self, s: u64, at: Endpoint) -> Option<Made>
-        ensures found { IfSome result (λ answer. FitsNext self.now (UdpOpen s at answer)) }
-        ensures none { IfNone result (self.now.live ≡ true → FitsNone self.now.lines self.now.used (CallUdpOpen s at)) }
-    {
-        self.next()?.udp_open(s, at)
-    }
-
-    pub(super) fn next_udp_send(&self, s: u64, to: Endpoint, from: &[u8]) -> Option<Sent>
-        ensures found { IfSome result (λ answer. FitsNext self.now (UdpSend s to from.now answer)) }
-        ensures none { IfNone result (self.now.live ≡ true → FitsNone self.now.lines self.now.used (CallUdpSend s to from.now)) }
-    {
-        self.next()?.udp_send(s, to, from)
-    }
-
-    pub(super) fn next_udp_recv(&self, s: u64, asked: usize) -> Option<(Got, &[u8])>
-        ensures found { IfSome result (λ found. FitsNext self.now (UdpRecv s asked found.0 found.1.now)) }
-        ensures none { IfNone result (self.now.live ≡ true → FitsNone self.now.lines self.now.used (CallUdpRecv s asked)) }
-    {
-        self.next()?.udp_recv(s, asked)
-    }
-
-    pub(super) fn next_file_len(&self, name: &[u8]) -> Option<FileSize>
-        ensures found { IfSome result (λ answer. FitsNext self.now (FileLen name.now answer)) }
-        ensures none { IfNone result (self.now.live ≡ true → FitsNone self.now.lines self.now.used (CallFileLen name.now)) }
-    {
-        self.next()?.file_len(name)
-    }
-
-    pub(super) fn next_file_read(&self, name: &[u8], at: u64, asked: usize) -> Option<(Io, &[u8])>
-        ensures found { IfSome result (λ found. FitsNext self.now (FileRead name.now at asked found.0 found.1.now)) }
-        ensures none { IfNone result (self.now.live ≡ true → FitsNone self.now.lines self.now.used (CallFileRead name.now at asked)) }
-    {
-        self.next()?.file_read(name, at, asked)
+        if self.stop.is_some() {
+            return None;
+        }
+        if self.used == 0 {
+            return None;
+        }
+        Some(&self.rows[self.used - 1].line)
     }
 }

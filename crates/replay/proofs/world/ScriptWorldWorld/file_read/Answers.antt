@@ -1,27 +1,22 @@
-use Rattle.std.proofs.Common.{refl, ◌≡◌, List, ℕ, [], length, take, rules, sym, subst}
-use Rattle.world_face.specs.Journal.{Allowed, FileRead, filled}
-use Rattle.world_face.specs.declared.Io.TheVariants.{Failed as IoFailed}
+use Rattle.std.proofs.Common.{◌≤◌, List, ℕ, length, sym, ◌∙◌, ap, subst}
+use Rattle.world_face.specs.declared.Io.{Io}
+use Rattle.world_face.specs.Journal.{FileRead, filled}
 use Rattle.world_face.specs.Tells.{Answers}
+use Rattle.replay.specs.Last.{last_of, io_of, octets_of}
 use Rattle.replay.specs.Script.{script_tells}
-use Rattle.replay.specs.Fitting.{FitsNext}
-use Rattle.replay.proofs.Following.{fits, ceases, still_live}
+use Rattle.replay.proofs.Telling.{none_last, file_fits, read_told}
 use Rattle.replay.proofs.world.ScriptWorldWorld.file_read.Goals as goal
 
-pub returns-in-Some-clause-answers : goal.returns-in-Some-clause-answers
-returns-in-Some-clause-answers c =
-    let into = c.fill.new.into in
-    let name = c.as_bytes-file.result.now in
-    let back : filled c.in-Some.answer into ≡ c.in-Some.octets.now = subst (λ (n : ℕ). take n into ≡ c.in-Some.octets.now) c.in-Some.ensures.found.allowed.1.0 c.fill.ensures in
-    let next = subst (λ (l : List ℕ). FitsNext c.args.self.now (FileRead name c.args.at (length c.args.into.now) c.in-Some.answer l)) (sym back) c.in-Some.ensures.found in
-    subst (λ (n : List ℕ). Answers (script_tells c.args.self.now) (script_tells c.advance.new.self) (FileRead n c.args.at (length c.args.into.now) c.in-Some.answer (filled c.in-Some.answer into))) c.as_bytes-file.ensures.value
-    (fits c.args.self.now c.advance.new.self (FileRead name c.args.at (length c.args.into.now) c.in-Some.answer (filled c.in-Some.answer into)) next (c.advance.ensures _ next refl))
+pub fill-requires : goal.fill-requires
+fill-requires c =
+    let last = last_of c.follow.new.self in
+    let few = file_fits (length c.args.into.now) (io_of last) (octets_of last) c.follow.ensures.allowed.0 c.follow.ensures.allowed.1 in
+    subst (λ (l : List ℕ). length l ≤ length c.args.into.now) (sym (c.brought.ensures ∙ ap octets_of c.last-line.ensures)) few
 
-pub returns-in-None-clause-answers : goal.returns-in-None-clause-answers
-returns-in-None-clause-answers c =
-    let name = c.as_bytes-file.result.now in
-    let allowed : Allowed (FileRead name c.args.at (length c.args.into.now) IoFailed []) = search rules in
-    subst (λ (n : List ℕ). Answers (script_tells c.args.self.now) (script_tells c.cease.new.self) (FileRead n c.args.at (length c.args.into.now) IoFailed [])) c.as_bytes-file.ensures.value
-    (ceases c.args.self.now c.cease.new.self (FileRead name c.args.at (length c.args.into.now) IoFailed []) allowed c.cease.ensures.ceases)
+pub returns-clause-answers : goal.returns-clause-answers
+returns-clause-answers c =
+    let told = read_told _ _ (λ (a : Io) (o : List ℕ). FileRead c.as_bytes-file.result.now c.args.at (length c.args.into.now) a o) _ _ c.brought.result.now _ c.fill.new.into (c.io.ensures ∙ ap io_of c.last-line.ensures) (c.brought.ensures ∙ ap octets_of c.last-line.ensures) c.follow.ensures.allowed.1.0 c.fill.ensures c.follow.ensures in
+    subst (λ (n : List ℕ). Answers (script_tells c.args.self.now) (script_tells c.follow.new.self) (FileRead n c.args.at (length c.args.into.now) c.io.result (filled c.io.result c.fill.new.into))) c.as_bytes-file.ensures.value told
 
-pub returns-in-Some-clause-ceased : goal.returns-in-Some-clause-ceased
-returns-in-Some-clause-ceased c dead = absurd (still_live c.args.self.now c.advance.new.self _ c.in-Some.ensures.found (c.advance.ensures _ c.in-Some.ensures.found refl) dead)
+pub returns-clause-ceased : goal.returns-clause-ceased
+returns-clause-ceased c dead = c.io.ensures ∙ ap io_of (c.last-line.ensures ∙ none_last c.follow.new.self dead)

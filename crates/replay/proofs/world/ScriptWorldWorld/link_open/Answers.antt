@@ -1,16 +1,15 @@
-use Rattle.std.proofs.Common.{refl, rules}
-use Rattle.world_face.specs.Journal.{Allowed, LinkOpen, place_of}
-use Rattle.world_face.specs.declared.Made.TheVariants.{Failed as MadeFailed}
-use Rattle.replay.proofs.Following.{fits, ceases, still_live}
+use Rattle.std.proofs.Common.{sym, ◌∙◌, ap, subst}
+use Rattle.world_face.specs.declared.Made.{Made}
+use Rattle.world_face.specs.Journal.{LinkOpen, place_of}
+use Rattle.world_face.specs.Tells.{Answers}
+use Rattle.replay.specs.Last.{made_of}
+use Rattle.replay.specs.Script.{script_tells}
+use Rattle.replay.proofs.Telling.{none_last}
 use Rattle.replay.proofs.world.ScriptWorldWorld.link_open.Goals as goal
 
-pub returns-in-Some-clause-answers : goal.returns-in-Some-clause-answers
-returns-in-Some-clause-answers c = fits c.args.self.now c.advance_open.new.self (LinkOpen (place_of c.args.at.now) c.in-Some.answer) c.in-Some.ensures.found (c.advance_open.ensures _ c.in-Some.ensures.found refl)
+pub returns-clause-answers : goal.returns-clause-answers
+returns-clause-answers c =
+    subst (λ (a : Made). Answers (script_tells c.args.self.now) (script_tells c.follow_open.new.self) (LinkOpen (place_of c.args.at.now) a)) (sym (c.made.ensures ∙ ap made_of c.last.ensures)) c.follow_open.ensures
 
-pub returns-in-None-clause-answers : goal.returns-in-None-clause-answers
-returns-in-None-clause-answers c =
-    let allowed : Allowed (LinkOpen (place_of c.args.at.now) MadeFailed) = search rules in
-    ceases c.args.self.now c.cease_open.new.self (LinkOpen (place_of c.args.at.now) MadeFailed) allowed c.cease_open.ensures
-
-pub returns-in-Some-clause-ceased : goal.returns-in-Some-clause-ceased
-returns-in-Some-clause-ceased c dead = absurd (still_live c.args.self.now c.advance_open.new.self _ c.in-Some.ensures.found (c.advance_open.ensures _ c.in-Some.ensures.found refl) dead)
+pub returns-clause-ceased : goal.returns-clause-ceased
+returns-clause-ceased c dead = c.made.ensures ∙ ap made_of (c.last.ensures ∙ none_last c.follow_open.new.self dead)

@@ -1,16 +1,15 @@
-use Rattle.std.proofs.Common.{refl, rules}
-use Rattle.world_face.specs.Journal.{Allowed, UdpOpen}
-use Rattle.world_face.specs.declared.Made.TheVariants.{Failed as MadeFailed}
-use Rattle.replay.proofs.Following.{fits, ceases, still_live}
+use Rattle.std.proofs.Common.{sym, ◌∙◌, ap, subst}
+use Rattle.world_face.specs.declared.Made.{Made}
+use Rattle.world_face.specs.Journal.{UdpOpen}
+use Rattle.world_face.specs.Tells.{Answers}
+use Rattle.replay.specs.Last.{made_of}
+use Rattle.replay.specs.Script.{script_tells}
+use Rattle.replay.proofs.Telling.{none_last}
 use Rattle.replay.proofs.world.ScriptWorldWorld.udp_open.Goals as goal
 
-pub returns-in-Some-clause-answers : goal.returns-in-Some-clause-answers
-returns-in-Some-clause-answers c = fits c.args.self.now c.advance.new.self (UdpOpen c.args.s c.args.at c.in-Some.answer) c.in-Some.ensures.found (c.advance.ensures _ c.in-Some.ensures.found refl)
+pub returns-clause-answers : goal.returns-clause-answers
+returns-clause-answers c =
+    subst (λ (a : Made). Answers (script_tells c.args.self.now) (script_tells c.follow.new.self) (UdpOpen c.args.s c.args.at a)) (sym (c.made.ensures ∙ ap made_of c.last.ensures)) c.follow.ensures
 
-pub returns-in-None-clause-answers : goal.returns-in-None-clause-answers
-returns-in-None-clause-answers c =
-    let allowed : Allowed (UdpOpen c.args.s c.args.at MadeFailed) = search rules in
-    ceases c.args.self.now c.cease.new.self (UdpOpen c.args.s c.args.at MadeFailed) allowed c.cease.ensures.ceases
-
-pub returns-in-Some-clause-ceased : goal.returns-in-Some-clause-ceased
-returns-in-Some-clause-ceased c dead = absurd (still_live c.args.self.now c.advance.new.self _ c.in-Some.ensures.found (c.advance.ensures _ c.in-Some.ensures.found refl) dead)
+pub returns-clause-ceased : goal.returns-clause-ceased
+returns-clause-ceased c dead = c.made.ensures ∙ ap made_of (c.last.ensures ∙ none_last c.follow.new.self dead)

@@ -1,21 +1,18 @@
-use Rattle.std.proofs.Common.{refl, ◌≡◌, List, ℕ, [], length, take, rules, sym, subst}
-use Rattle.world_face.specs.Journal.{Allowed, UdpRecv, filled_got}
-use Rattle.world_face.specs.declared.Got.TheVariants.{Failed as GotFailed}
-use Rattle.replay.specs.Fitting.{FitsNext}
-use Rattle.replay.proofs.Following.{fits, ceases, still_live}
+use Rattle.std.proofs.Common.{◌≤◌, List, ℕ, length, sym, ◌∙◌, ap, subst}
+use Rattle.world_face.specs.Journal.{UdpRecv}
+use Rattle.replay.specs.Last.{last_of, got_of, octets_of}
+use Rattle.replay.proofs.Telling.{none_last, got_fits, got_told}
 use Rattle.replay.proofs.world.ScriptWorldWorld.udp_recv.Goals as goal
 
-pub returns-in-Some-clause-answers : goal.returns-in-Some-clause-answers
-returns-in-Some-clause-answers c =
-    let into = c.fill.new.into in
-    let back : filled_got c.in-Some.answer into ≡ c.in-Some.octets.now = subst (λ (n : ℕ). take n into ≡ c.in-Some.octets.now) c.in-Some.ensures.found.allowed.1.0 c.fill.ensures in
-    let next = subst (λ (l : List ℕ). FitsNext c.args.self.now (UdpRecv c.args.s (length c.args.into.now) c.in-Some.answer l)) (sym back) c.in-Some.ensures.found in
-    fits c.args.self.now c.advance.new.self (UdpRecv c.args.s (length c.args.into.now) c.in-Some.answer (filled_got c.in-Some.answer into)) next (c.advance.ensures _ next refl)
+pub fill-requires : goal.fill-requires
+fill-requires c =
+    let last = last_of c.follow.new.self in
+    let few = got_fits (length c.args.into.now) (got_of last) (octets_of last) c.follow.ensures.allowed.0 c.follow.ensures.allowed.1 in
+    subst (λ (l : List ℕ). length l ≤ length c.args.into.now) (sym (c.brought.ensures ∙ ap octets_of c.last-line.ensures)) few
 
-pub returns-in-None-clause-answers : goal.returns-in-None-clause-answers
-returns-in-None-clause-answers c =
-    let allowed : Allowed (UdpRecv c.args.s (length c.args.into.now) GotFailed []) = search rules in
-    ceases c.args.self.now c.cease.new.self (UdpRecv c.args.s (length c.args.into.now) GotFailed []) allowed c.cease.ensures.ceases
+pub returns-clause-answers : goal.returns-clause-answers
+returns-clause-answers c =
+    got_told _ _ (UdpRecv c.args.s (length c.args.into.now)) _ _ c.brought.result.now _ c.fill.new.into (c.got.ensures ∙ ap got_of c.last-line.ensures) (c.brought.ensures ∙ ap octets_of c.last-line.ensures) c.follow.ensures.allowed.1.0 c.fill.ensures c.follow.ensures
 
-pub returns-in-Some-clause-ceased : goal.returns-in-Some-clause-ceased
-returns-in-Some-clause-ceased c dead = absurd (still_live c.args.self.now c.advance.new.self _ c.in-Some.ensures.found (c.advance.ensures _ c.in-Some.ensures.found refl) dead)
+pub returns-clause-ceased : goal.returns-clause-ceased
+returns-clause-ceased c dead = c.got.ensures ∙ ap got_of (c.last-line.ensures ∙ none_last c.follow.new.self dead)
