@@ -4,7 +4,6 @@ ghost use Rattle.poll_list.specs.Listing.{AreWants};
 
 use crate::asker::{Asker, LINK, here};
 use poll_list::{Want, Who};
-use std::io::{Read, Write};
 use world_face::{Accepted, Endpoint, FileSize, Got, Io, Ip4, Joined, Made, Sent, World};
 
 /// What a wait is for: the link, the listener 5, the socket for datagrams 3, or the connection 7. For reading, where nothing else is said.
@@ -68,6 +67,8 @@ impl Wanted {
 /// A call, with what it is to answer. Numbers are those of `Wanted`, and the port is one of the host itself.
 #[derive(Clone, Copy)]
 pub enum Call {
+    /// The moment lies between these, or is one of them.
+    Now(u64, u64),
     /// A wait of so many milliseconds tells this.
     Told(Wanted, u64),
     /// It doesn't.
@@ -104,7 +105,7 @@ pub enum Call {
 
 use Call::{
     Accept, AcceptFrom, Close, Connect, Connected, FileLen, FileRead, LinkRead, LinkWrite, Listen,
-    NotTold, TcpEnd, TcpRead, TcpWrite, TellsOf, Told, UdpFrom, UdpOpen, UdpRecv, UdpSend,
+    NotTold, Now, TcpEnd, TcpRead, TcpWrite, TellsOf, Told, UdpFrom, UdpOpen, UdpRecv, UdpSend,
 };
 
 /// Whether the link, read into so many octets, answers that, and these come.
@@ -174,7 +175,8 @@ fn answers<W: World>(asker: &mut Asker, world: &mut W, port: u16, call: Call) ->
     match call {
         Told(wanted, limit) => asker.is_ready(world, wanted.want(), limit),
         NotTold(wanted, limit) => !asker.is_ready(world, wanted.want(), limit),
-        TellsOf(wanted, told) => asker.tells(world, wanted.want(), told.want()),
+        TellsOf(wanted, told) => asker.tells(world, wanted.want(), 1000, told.want()),
+        Now(first, last) => (first..=last).contains(&world.now()),
         LinkRead(room, answer, octets) => link_reads(world, room, answer, octets),
         LinkWrite(octets, answer) => link_writes(world, octets, answer),
         FileLen(name, size) => measures(world, name, size),
@@ -208,75 +210,6 @@ fn socket_answers<W: World>(world: &mut W, port: u16, call: Call) -> bool {
 pub fn follow<W: World>(asker: &mut Asker, world: &mut W, port: u16, calls: &[Call]) -> bool {
     for call in calls {
         if !answers(asker, world, port, *call) {
-            return false;
-        }
-    }
-    true
-}
-
-/// What a peer does, or is done on the World meanwhile.
-#[derive(Clone, Copy)]
-pub enum Step {
-    /// The peer writes these octets.
-    Sends(&'static [u8]),
-    /// The peer reads just these.
-    Gets(&'static [&'static [u8]]),
-    /// Nothing is there for the peer.
-    HasNothing,
-    Calls(&'static [Call]),
-}
-
-/// Whether these octets stand there.
-fn stands_at(octets: &[u8], place: usize, part: &[u8]) -> bool {
-    match octets.get(place..) {
-        Some(rest) => rest.starts_with(part),
-        None => false,
-    }
-}
-
-/// Whether these parts are all that octets begin with, of which there are so many.
-fn are_just(octets: &[u8], count: usize, parts: &[&[u8]]) -> bool {
-    let mut place = 0usize;
-    for part in parts {
-        if !stands_at(octets, place, part) {
-            return false;
-        }
-        place = place.saturating_add(part.len());
-    }
-    place == count
-}
-
-fn gets<P: Read>(peer: &mut P, parts: &[&[u8]]) -> bool {
-    let mut into = [0u8; 200];
-    match peer.read(&mut into) {
-        Ok(count) => are_just(&into, count, parts),
-        Err(_) => false,
-    }
-}
-
-fn takes_step<W: World, P: Read + Write>(
-    asker: &mut Asker,
-    world: &mut W,
-    peer: &mut P,
-    step: Step,
-) -> bool {
-    match step {
-        Step::Sends(octets) => peer.write_all(octets).is_ok(),
-        Step::Gets(parts) => gets(peer, parts),
-        Step::HasNothing => peer.read(&mut [0u8; 8]).is_err(),
-        Step::Calls(calls) => follow(asker, world, 0, calls),
-    }
-}
-
-/// Takes the steps, as long as each goes as it is to go.
-pub fn take_steps<W: World, P: Read + Write>(
-    asker: &mut Asker,
-    world: &mut W,
-    peer: &mut P,
-    steps: &[Step],
-) -> bool {
-    for step in steps {
-        if !takes_step(asker, world, peer, *step) {
             return false;
         }
     }

@@ -6,14 +6,20 @@ mod asker;
 #[cfg(test)]
 mod calls;
 #[cfg(test)]
+mod file_cases;
+#[cfg(test)]
 mod files;
+#[cfg(test)]
+mod host;
+#[cfg(test)]
+mod link_cases;
 #[cfg(test)]
 mod links;
 #[cfg(test)]
-mod short_frames;
+mod socket_cases;
 #[cfg(test)]
 mod sockets;
 #[cfg(test)]
-mod tests;
+mod steps;
 #[cfg(test)]
-mod turns;
+mod tests;

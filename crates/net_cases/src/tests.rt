@@ -1,6 +1,10 @@
 //! Tests over the system's sockets, files and clock.
 use crate::asker::Asker;
-use crate::{files, links, sockets, turns};
+use crate::file_cases::FILES;
+use crate::host::Host;
+use crate::link_cases;
+use crate::socket_cases::SOCKETS;
+use crate::steps::{Step, take_parts};
 use net_world::NetWorld;
 use std::alloc::Global;
 use std::fs::Files;
@@ -8,77 +12,72 @@ use std::net::{Net, TcpListener, TcpStream};
 use std::sync::Wait;
 use std::test::Fail;
 use std::time::Clock;
-use world_face::World;
+use world_face::{NoMemory, World};
 
-/// What is shown of a World.
+/// What happens in one World.
 #[derive(Clone, Copy)]
 enum Case {
     LinkAtAPath,
     LinkAtAnEndpoint,
     LinkAlone,
-    NoFileOfLinkAlone,
-    LinkLeftOver,
-    NoFileLeftOver,
-    Turns,
-    Datagrams,
-    Connections,
-    Wanted,
-    Listener,
-    Waits,
+    LinkWhereOneWasLeft,
+    LinkBesideForty,
+    LastWrite,
+    AfterTheLastWrite,
+    Sockets,
     Files,
-    NoFiles,
 }
 
-use Case::{
-    Connections, Datagrams, LinkAlone, LinkAtAPath, LinkAtAnEndpoint, LinkLeftOver, Listener,
-    NoFileLeftOver, NoFileOfLinkAlone, NoFiles, Turns, Waits, Wanted,
-};
-
 /// The cases of one World after the other.
-const LINK: [&[Case]; 5] = [
-    &[LinkAtAPath],
-    &[LinkAtAnEndpoint],
-    &[LinkAlone],
-    &[NoFileOfLinkAlone, LinkLeftOver],
-    &[NoFileLeftOver, Turns],
+const LINK: [Case; 7] = [
+    Case::LinkAtAPath,
+    Case::LinkAtAnEndpoint,
+    Case::LinkAlone,
+    Case::LinkWhereOneWasLeft,
+    Case::LinkBesideForty,
+    Case::LastWrite,
+    Case::AfterTheLastWrite,
 ];
 
-const SOCKETS: [&[Case]; 1] = [&[Datagrams, Connections, Wanted, Listener]];
-
-const FILES: [&[Case]; 1] = [&[Waits, Case::Files, NoFiles]];
-
-fn is_shown<
-    R: Net<Listener = TcpListener, Stream = TcpStream> + Files + Alloc<A = Global>,
-    W: World,
->(rt: &R, asker: &mut Asker, world: &mut W, case: Case) -> Result<bool, Fail> {
+fn parts_of(case: Case) -> &'static [&'static [Step]] {
     match case {
-        LinkAtAPath => links::at_a_path(rt, asker, world),
-        LinkAtAnEndpoint => links::at_an_endpoint(rt, asker, world),
-        LinkAlone => links::opens_alone(rt, world),
-        NoFileOfLinkAlone => links::is_free(rt, "lonely"),
-        LinkLeftOver => links::where_one_was_left(rt, asker, world),
-        NoFileLeftOver => links::is_free(rt, links::LONG),
-        Turns => turns::are_taken(rt, asker, world),
-        Datagrams => sockets::exchange(rt, asker, world),
-        Connections => sockets::connect(rt, asker, world),
-        Wanted => sockets::tell_what_is_wanted(rt, asker, world),
-        Listener => sockets::accept(rt, asker, world),
-        Waits => Ok(files::waits(asker, world)),
-        Case::Files => files::are_read(rt, asker, world),
-        NoFiles => files::are_regular(rt, world),
+        Case::LinkAtAPath => &link_cases::AT_A_PATH,
+        Case::LinkAtAnEndpoint => &link_cases::AT_AN_ENDPOINT,
+        Case::LinkAlone => &link_cases::ALONE,
+        Case::LinkWhereOneWasLeft => &link_cases::WHERE_ONE_WAS_LEFT,
+        Case::LinkBesideForty => &link_cases::BESIDE_FORTY,
+        Case::LastWrite => &link_cases::LAST_WRITE,
+        Case::AfterTheLastWrite => &link_cases::AFTER_THE_LAST_WRITE,
+        Case::Sockets => &SOCKETS,
+        Case::Files => &FILES,
     }
 }
 
-/// How many of these cases are shown, up to the first that isn't.
-fn shown<R: Net<Listener = TcpListener, Stream = TcpStream> + Files + Alloc<A = Global>, W: World>(
+fn goes<R: Net<Listener = TcpListener, Stream = TcpStream> + Files + Alloc<A = Global>, W: World>(
     rt: &R,
     asker: &mut Asker,
     world: &mut W,
-    cases: &[Case],
-) -> Result<usize, Fail> {
+    host: &mut Host,
+    case: Case,
+) -> bool {
+    take_parts(rt, asker, world, host, parts_of(case))
+}
+
+/// Whether a case goes in a new World.
+fn goes_in_one<
+    R: Net<Listener = TcpListener, Stream = TcpStream> + Wait + Files + Clock + Alloc<A = Global>,
+>(rt: &R, asker: &mut Asker, host: &mut Host, case: Case) -> Result<bool, NoMemory> {
+    let mut world = NetWorld::open(rt, rt.alloc())?;
+    Ok(goes(rt, asker, &mut world, host, case))
+}
+
+/// How many cases go, up to the first that doesn't.
+fn gone<
+    R: Net<Listener = TcpListener, Stream = TcpStream> + Wait + Files + Clock + Alloc<A = Global>,
+>(rt: &R, asker: &mut Asker, host: &mut Host, cases: &[Case]) -> Result<usize, NoMemory> {
     let mut count = 0usize;
     for case in cases {
-        if !is_shown(rt, asker, world, *case)? {
+        if !goes_in_one(rt, asker, host, *case)? {
             break;
         }
         count = count.saturating_add(1);
@@ -86,47 +85,31 @@ fn shown<R: Net<Listener = TcpListener, Stream = TcpStream> + Files + Alloc<A = 
     Ok(count)
 }
 
-/// How many cases a new World shows.
-fn shown_of_one<
+/// The same with a host of their own.
+fn gone_from_here<
     R: Net<Listener = TcpListener, Stream = TcpStream> + Wait + Files + Clock + Alloc<A = Global>,
->(rt: &R, asker: &mut Asker, cases: &[Case]) -> Result<usize, Fail> {
-    let mut world = NetWorld::open(rt, rt.alloc())?;
-    shown(rt, asker, &mut world, cases)
-}
-
-/// How many cases new Worlds show, each its own, one after the other.
-fn shown_of<
-    R: Net<Listener = TcpListener, Stream = TcpStream> + Wait + Files + Clock + Alloc<A = Global>,
->(rt: &R, asker: &mut Asker, worlds: &[&[Case]]) -> Result<usize, Fail> {
-    let mut count = 0usize;
-    for cases in worlds {
-        let here = shown_of_one(rt, asker, cases)?;
-        count = count.saturating_add(here);
-        if here < cases.len() {
-            break;
-        }
-    }
-    Ok(count)
+>(rt: &R, cases: &[Case]) -> Result<usize, NoMemory> {
+    let mut asker = Asker::open(rt.alloc())?;
+    let mut host = Host::new();
+    let count = gone(rt, &mut asker, &mut host, cases);
+    host.leave();
+    count
 }
 
 #[test]
 fn the_link(rt: HostRuntime) -> Result<(), Fail> {
-    let mut asker = Asker::open(rt.alloc())?;
-    assert_eq!(rt; shown_of(&rt, &mut asker, &LINK)?, 7);
-    assert!(rt; links::ends_with_nothing_left(&rt, &mut asker)?, "the end");
+    assert_eq!(rt; gone_from_here(&rt, &LINK)?, 7);
     Ok(())
 }
 
 #[test]
 fn sockets_of_the_host(rt: HostRuntime) -> Result<(), Fail> {
-    let mut asker = Asker::open(rt.alloc())?;
-    assert_eq!(rt; shown_of(&rt, &mut asker, &SOCKETS)?, 4);
+    assert_eq!(rt; gone_from_here(&rt, &[Case::Sockets])?, 1);
     Ok(())
 }
 
 #[test]
 fn files_and_the_clock(rt: HostRuntime) -> Result<(), Fail> {
-    let mut asker = Asker::open(rt.alloc())?;
-    assert_eq!(rt; shown_of(&rt, &mut asker, &FILES)?, 3);
+    assert_eq!(rt; gone_from_here(&rt, &[Case::Files])?, 1);
     Ok(())
 }

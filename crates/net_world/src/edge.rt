@@ -43,11 +43,11 @@ pub(crate) struct Edge {
 impl Edge {
     /// No socket, and room for all.
     pub fn open<R: Net + Clock>(rt: &R, alloc: Global) -> Result<Edge, NoMemory> {
-        let link = Link::open(alloc)?;
-        let sockets = Sockets::open(alloc)?;
         let Ok(events) = Events::with_capacity(alloc, MOST) else {
             return Err(NoMemory);
         };
+        let sockets = Sockets::open(alloc)?;
+        let link = Link::open(alloc)?;
         Ok(Edge {
             link,
             sockets,
@@ -93,16 +93,10 @@ impl Edge {
         self.link.write(poll.registry(), from)
     }
 
-    pub fn connect<R: Net>(&mut self, rt: &R, number: u64, to: Endpoint) -> bool {
+    /// Opens a socket: a connection to an endpoint, or a listener or a socket for datagrams that is bound there.
+    pub fn open_socket<R: Net>(&mut self, rt: &R, of: Who, at: Endpoint) -> bool {
         match &self.poll {
-            Some(poll) => self.sockets.connect(rt, poll.registry(), number, to),
-            None => false,
-        }
-    }
-
-    pub fn listen<R: Net>(&mut self, rt: &R, number: u64, at: Endpoint) -> bool {
-        match &self.poll {
-            Some(poll) => self.sockets.listen(rt, poll.registry(), number, at),
+            Some(poll) => self.sockets.open_socket(rt, poll.registry(), of, at),
             None => false,
         }
     }
@@ -111,13 +105,6 @@ impl Edge {
         match &self.poll {
             Some(poll) => self.sockets.accept(poll.registry(), listener, number),
             None => Accepted::Failed,
-        }
-    }
-
-    pub fn udp_open<R: Net>(&mut self, rt: &R, number: u64, at: Endpoint) -> bool {
-        match &self.poll {
-            Some(poll) => self.sockets.udp_open(rt, poll.registry(), number, at),
-            None => false,
         }
     }
 
@@ -175,7 +162,6 @@ impl Edge {
         ensures out { OnFalse result (self.new.link.pace.holds ≡ false) }
         ensures capacity { ready.new.capacity ≡ ready.old.capacity }
     {
-        ready.clear();
         self.offer_known(wants, ready);
         if !ready.items().is_empty() && self.answered < MOST_KNOWN {
             self.answered += 1;
@@ -186,15 +172,13 @@ impl Edge {
         }
         self.link.let_out();
         self.answered = self.answered.saturating_add(1);
-        ready.clear();
         self.offer_known(wants, ready);
         !ready.items().is_empty()
     }
 
     // What is known to be ready. Where octets of the link were read ahead and it is wanted it is the link alone; where none were, a link that may have some waits until the system is asked.
     fn offer_known(&self, wants: &Wants, ready: &mut ReadyList)
-        requires none { ready.old.items ≡ [] }
-        requires room { length wants.now.items ≤ ready.old.capacity }
+        requires { length wants.now.items ≤ ready.old.capacity }
         ensures picked { IsPickedFrom wants.now.items ready.new.items }
         ensures few { length ready.new.items ≤ length wants.now.items }
         ensures capacity { ready.new.capacity ≡ ready.old.capacity }
@@ -227,24 +211,17 @@ impl Edge {
         ensures few { length ready.new.items ≤ length wants.now.items }
         ensures capacity { ready.new.capacity ≡ ready.old.capacity }
     {
-        let until = timeout.map(|limit| self.moment.saturating_add(limit));
+        let until = end_of(self.moment, timeout);
+        self.flush();
+        self.offer_all(wants, ready);
         for _ in 0..MOST_ASKED {
-            self.flush();
-            ready.clear();
-            self.offer_all(wants, ready);
-            let limit = if ready.items().is_empty() {
-                until.map(|until| until.saturating_sub(self.moment))
-            } else {
-                Some(0)
-            };
+            let limit = time_left(self.moment, until, !ready.items().is_empty());
             if !self.ask(rt, limit) {
                 ready.clear();
                 return false;
             }
-            ready.clear();
             self.offer_all(wants, ready);
-            let over = matches!(until, Some(until) if until <= self.moment);
-            if over || !ready.items().is_empty() {
+            if is_over(self.moment, until) || !ready.items().is_empty() {
                 return true;
             }
         }
@@ -254,8 +231,7 @@ impl Edge {
 
     // All that is ready, the link too.
     fn offer_all(&self, wants: &Wants, ready: &mut ReadyList)
-        requires none { ready.old.items ≡ [] }
-        requires room { length wants.now.items ≤ ready.old.capacity }
+        requires { length wants.now.items ≤ ready.old.capacity }
         ensures picked { IsPickedFrom wants.now.items ready.new.items }
         ensures few { length ready.new.items ≤ length wants.now.items }
         ensures capacity { ready.new.capacity ≡ ready.old.capacity }
@@ -274,15 +250,12 @@ impl Edge {
         }
     }
 
-    // Asks the system what is ready, for at most so many milliseconds.
-    fn ask<R: Net + Files + Clock>(&mut self, rt: &R, limit: Option<u64>) -> bool {
+    // Asks the system what is ready, for at most so long.
+    fn ask<R: Net + Files + Clock>(&mut self, rt: &R, limit: Option<Duration>) -> bool {
         let Some(poll) = &mut self.poll else {
             return false;
         };
-        if poll
-            .poll(&mut self.events, limit.map(Duration::from_millis))
-            .is_err()
-        {
+        if poll.poll(&mut self.events, limit).is_err() {
             return false;
         }
         note_events(&self.events, &mut self.link, &mut self.sockets);
@@ -300,8 +273,28 @@ impl Edge {
     }
 
     /// Ends what stands: what was gathered goes out, as much as is taken at once, and no file of a listener stays.
-    pub fn shut<R: Net + Files>(&mut self, rt: &R) {
+    pub fn shut<R: Net + Files>(mut self, rt: &R) {
         self.link.shut(rt);
+    }
+}
+
+// The moment at which a wait is over that begins now, if it ends.
+fn end_of(now: u64, timeout: Option<u64>) -> Option<u64> {
+    Some(now.saturating_add(timeout?))
+}
+
+// For how long the system is asked at most: where something is known to be ready, not at all.
+fn time_left(now: u64, until: Option<u64>, is_some_ready: bool) -> Option<Duration> {
+    if is_some_ready {
+        return Some(Duration::ZERO);
+    }
+    Some(Duration::from_millis(until?.saturating_sub(now)))
+}
+
+fn is_over(now: u64, until: Option<u64>) -> bool {
+    match until {
+        Some(until) => until <= now,
+        None => false,
     }
 }
 

@@ -42,10 +42,9 @@ impl<R: Files> OpenedFile<R> {
         ensures { MayReadFile (length into.old) result }
     {
         if self.name.as_str() != name {
-            match open_regular(rt, name) {
-                Ok((file, _)) => self.keep(name, file),
-                Err(_) => return Io::Failed,
-            }
+            let FileSize::Length(_) = self.measure(rt, name) else {
+                return Io::Failed;
+            };
         }
         match &mut self.file {
             Some(file) => read_at(file, at, into),

@@ -8,7 +8,7 @@ ghost use Rattle.poll_list.specs.Picks.{IsPart, IsPickedFrom, GoesOn, Adds, Begi
 use crate::sockets::{Known, Listed, Sockets, rank};
 use poll_list::{ReadyList, Want, Wants, Who};
 
-/// Puts the parts of the wants that are known to be ready into an empty list. What is known of the link is told. Each socket that is ready for reading is looked up among the wants, and the sockets of the wants for writing that lie between those are looked up by their numbers. So a connection that idles, which is ready for writing and not wanted for it, costs one look at its want.
+/// Puts the parts of the wants that are known to be ready into a list, in place of what it held. What is known of the link is told. Each socket that is ready for reading is looked up among the wants, and the sockets of the wants for writing that lie between those are looked up by their numbers. So a connection that idles, which is ready for writing and not wanted for it, costs one look at its want.
 ///
 /// At most `most` sockets are told for reading. Where more are ready, those are told that stand past the one that was told last, and the others at later waits: so each has its turn.
 pub(crate) fn gather(
@@ -18,13 +18,13 @@ pub(crate) fn gather(
     most: usize,
     ready: &mut ReadyList,
 )
-    requires none { ready.old.items ≡ [] }
-    requires room { length wants.now.items ≤ ready.old.capacity }
+    requires { length wants.now.items ≤ ready.old.capacity }
     ensures picked { IsPickedFrom wants.now.items ready.new.items }
     ensures link { BeginsWithLink link.read link.write wants.now.items ready.new.items }
     ensures few { length ready.new.items ≤ length wants.now.items }
     ensures capacity { ready.new.capacity ≡ ready.old.capacity }
 {
+    ready.clear();
     let mut left = gather_first(wants.items(), link, ready);
     let mut room = most;
     for listed in in_turn(left, sockets.readable(), sockets, most) {
@@ -39,15 +39,15 @@ pub(crate) fn gather(
     gather_written(left, sockets, ready);
 }
 
-/// Puts the link alone into an empty list, where it is wanted for reading, or for writing and takes octets.
+/// Puts the link alone into a list, in place of what it held, where it is wanted for reading, or for writing and takes octets.
 pub(crate) fn gather_link(wants: &Wants, write: bool, ready: &mut ReadyList)
-    requires none { ready.old.items ≡ [] }
-    requires room { length wants.now.items ≤ ready.old.capacity }
+    requires { length wants.now.items ≤ ready.old.capacity }
     ensures picked { IsPickedFrom wants.now.items ready.new.items }
     ensures link { BeginsWithLink true write wants.now.items ready.new.items }
     ensures few { length ready.new.items ≤ length wants.now.items }
     ensures capacity { ready.new.capacity ≡ ready.old.capacity }
 {
+    ready.clear();
     let known = Known { read: true, write };
     gather_first(wants.items(), known, ready);
 }

@@ -86,64 +86,46 @@ impl Link {
         if !matches!(self.place, Place::Closed) {
             return false;
         }
-        let listening = match at {
-            LinkAt::Unix(path) => self.listen_at_path(rt, path.as_str()),
-            LinkAt::Tcp(at) => match TcpListener::bind(rt, address(*at)) {
-                Ok(listener) => {
-                    self.place = Place::ListensTcp(listener);
-                    true
-                }
-                Err(_) => false,
-            },
-        };
-        if listening && !register(&mut self.place, registry) {
-            self.shut(rt);
+        let Some(listener) = bind(rt, at) else {
             return false;
+        };
+        self.move_to(listener);
+        if let LinkAt::Unix(path) = at {
+            self.path = *path;
         }
-        listening
-    }
-
-    // Listens at a path, and keeps it as the place of its file.
-    fn listen_at_path<R: Net + Files>(&mut self, rt: &R, path: &str) -> bool {
-        match socket_file::listen(rt, path) {
-            Ok(listener) => {
-                self.place = Place::ListensUnix(listener);
-                self.path.clear();
-                self.path.try_push_str(path).is_ok()
-            }
-            Err(_) => false,
-        }
+        self.stay_registered(rt, registry)
     }
 
     /// Takes the first peer, where one came. The listener is closed by that, and its file is removed.
     pub fn take_peer<R: Net + Files>(&mut self, rt: &R, registry: &Registry) {
-        let peer = match &self.place {
-            Place::ListensUnix(listener) => match listener.accept() {
-                Ok((stream, _)) => Place::Unix(stream),
-                Err(_) => return,
-            },
-            Place::ListensTcp(listener) => match listener.accept() {
-                Ok((stream, _)) => {
-                    send_at_once(&stream);
-                    Place::Tcp(stream)
-                }
-                Err(_) => return,
-            },
-            _ => return,
+        let Some(peer) = first_peer(&self.place) else {
+            return;
         };
-        self.place = peer;
+        self.move_to(peer);
         self.readable = true;
         self.takes = true;
         self.remove_file(rt);
-        if !register(&mut self.place, registry) {
+        self.stay_registered(rt, registry);
+    }
+
+    // Stands there from now on, and closes what it stood at.
+    fn move_to(&mut self, place: Place) {
+        self.place = place;
+    }
+
+    // Has the system tell when something came, and closes where it can't.
+    fn stay_registered<R: Net + Files>(&mut self, rt: &R, registry: &Registry) -> bool {
+        let registered = register(&mut self.place, registry);
+        if !registered {
             self.shut(rt);
         }
+        registered
     }
 
     /// Closes it. What was gathered goes out before, as much as is taken at once.
     pub fn shut<R: Net + Files>(&mut self, rt: &R) {
         self.write_out();
-        self.place = Place::Closed;
+        self.move_to(Place::Closed);
         self.remove_file(rt);
     }
 
@@ -157,12 +139,10 @@ impl Link {
 
     /// Notes what the system told of it.
     pub fn note(&mut self, event: &Event) {
-        self.ended = self.ended || event.is_error() || event.is_read_closed();
-        self.readable = self.readable || self.ended || event.is_readable();
-        self.takes = self.takes
-            || event.is_error()
-            || event.is_writable()
-            || event.is_write_closed();
+        let fails = event.is_error();
+        self.ended |= fails | event.is_read_closed();
+        self.readable |= self.ended | event.is_readable();
+        self.takes |= fails | event.is_writable() | event.is_write_closed();
     }
 
     /// Whether a read may bring something.
@@ -319,7 +299,37 @@ impl Link {
             _ => return,
         };
         self.watched = wanted;
-        self.broken = self.broken || done.is_err();
+        self.broken |= done.is_err();
+    }
+}
+
+// A listener at a place.
+fn bind<R: Net + Files>(rt: &R, at: &LinkAt) -> Option<Place> {
+    match at {
+        LinkAt::Unix(path) => {
+            let listener = socket_file::listen(rt, path.as_str()).ok()?;
+            Some(Place::ListensUnix(listener))
+        }
+        LinkAt::Tcp(at) => {
+            let listener = TcpListener::bind(rt, address(*at)).ok()?;
+            Some(Place::ListensTcp(listener))
+        }
+    }
+}
+
+// The first peer that came to a listener.
+fn first_peer(place: &Place) -> Option<Place> {
+    match place {
+        Place::ListensUnix(listener) => {
+            let (stream, _) = listener.accept().ok()?;
+            Some(Place::Unix(stream))
+        }
+        Place::ListensTcp(listener) => {
+            let (stream, _) = listener.accept().ok()?;
+            send_at_once(&stream);
+            Some(Place::Tcp(stream))
+        }
+        _ => None,
     }
 }
 

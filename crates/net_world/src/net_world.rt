@@ -1,4 +1,5 @@
 // The World that has real sockets.
+use crate::counting::{after, after_io, counted};
 use crate::edge::Edge;
 use crate::files::OpenedFile;
 use net_octets::NoMemory;
@@ -10,7 +11,7 @@ use std::sync::Wait;
 use std::time::Clock;
 use world_face::{
     Accepted, Endpoint, FileSize, Got, Io, Joined, LinkAt, Made, ReadyList, Sent, Waited, Wants,
-    World,
+    Who, World,
 };
 
 /// A World that has the sockets, files and clock of the system. It tells nothing but how often its calls have failed.
@@ -57,18 +58,17 @@ impl<'a, R: Net + Wait + Files + Clock> NetWorld<'a, R> {
 
 impl<'a, R: Net + Wait + Files + Clock> Drop for NetWorld<'a, R> {
     /// What was gathered goes out, as much as is taken at once, and no file of a listener stays.
-    fn drop(mut self) {
-        let rt = self.rt;
-        self.edge.shut(rt);
+    fn drop(self) {
         let NetWorld {
-            rt: _,
-            edge: _edge,
+            rt,
+            edge,
             file: _file,
             link_faults: _,
             wait_faults: _,
             socket_faults: _,
             file_faults: _,
         } = self;
+        edge.shut(rt);
     }
 }
 
@@ -105,9 +105,7 @@ impl<'a, R: Net + Wait + Files + Clock> World for NetWorld<'a, R> {
         ensures counts { self.new ≡ record self.old { wait = raised (waited_failed result) self.old.wait } }
     {
         let waited = self.edge.wait(self.rt, wants, timeout, ready);
-        if waited == Waited::Failed {
-            self.wait_faults = self.wait_faults.saturating_add(1);
-        }
+        self.wait_faults = after(self.wait_faults, waited == Waited::Failed);
         waited
     }
 
@@ -117,12 +115,8 @@ impl<'a, R: Net + Wait + Files + Clock> World for NetWorld<'a, R> {
         ensures answers { Answers (tells_faults self.old) (tells_faults self.new) (LinkOpen (place_of at.now) result) }
         ensures counts { self.new ≡ record self.old { link = raised (made_failed result) self.old.link } }
     {
-        if self.edge.link_open(self.rt, at) {
-            Made::Done
-        } else {
-            self.link_faults = self.link_faults.saturating_add(1);
-            Made::Failed
-        }
+        let done = self.edge.link_open(self.rt, at);
+        counted(&mut self.link_faults, done)
     }
 
     fn link_read(&mut self, into: &mut [u8]) -> Io
@@ -131,9 +125,7 @@ impl<'a, R: Net + Wait + Files + Clock> World for NetWorld<'a, R> {
         ensures counts { self.new ≡ record self.old { link = raised (io_failed result) self.old.link } }
     {
         let read = self.edge.link_read(self.rt, into);
-        if read == Io::Failed {
-            self.link_faults = self.link_faults.saturating_add(1);
-        }
+        self.link_faults = after_io(self.link_faults, read);
         read
     }
 
@@ -145,9 +137,7 @@ impl<'a, R: Net + Wait + Files + Clock> World for NetWorld<'a, R> {
         ensures counts { self.new ≡ record self.old { link = raised (io_failed result) self.old.link } }
     {
         let written = self.edge.link_write(self.rt, from);
-        if written == Io::Failed {
-            self.link_faults = self.link_faults.saturating_add(1);
-        }
+        self.link_faults = after_io(self.link_faults, written);
         written
     }
 
@@ -155,12 +145,8 @@ impl<'a, R: Net + Wait + Files + Clock> World for NetWorld<'a, R> {
         ensures answers { Answers (tells_faults self.old) (tells_faults self.new) (Connect c to result) }
         ensures counts { self.new ≡ record self.old { socket = raised (made_failed result) self.old.socket } }
     {
-        if self.edge.connect(self.rt, c, to) {
-            Made::Done
-        } else {
-            self.socket_faults = self.socket_faults.saturating_add(1);
-            Made::Failed
-        }
+        let done = self.edge.open_socket(self.rt, Who::Tcp(c), to);
+        counted(&mut self.socket_faults, done)
     }
 
     fn connected(&mut self, c: u64) -> Joined
@@ -168,9 +154,7 @@ impl<'a, R: Net + Wait + Files + Clock> World for NetWorld<'a, R> {
         ensures counts { self.new ≡ record self.old { socket = raised (join_failed result) self.old.socket } }
     {
         let joined = self.edge.sockets.connected(c);
-        if joined == Joined::Failed {
-            self.socket_faults = self.socket_faults.saturating_add(1);
-        }
+        self.socket_faults = after(self.socket_faults, joined == Joined::Failed);
         joined
     }
 
@@ -178,12 +162,8 @@ impl<'a, R: Net + Wait + Files + Clock> World for NetWorld<'a, R> {
         ensures answers { Answers (tells_faults self.old) (tells_faults self.new) (Listen l at result) }
         ensures counts { self.new ≡ record self.old { socket = raised (made_failed result) self.old.socket } }
     {
-        if self.edge.listen(self.rt, l, at) {
-            Made::Done
-        } else {
-            self.socket_faults = self.socket_faults.saturating_add(1);
-            Made::Failed
-        }
+        let done = self.edge.open_socket(self.rt, Who::Listener(l), at);
+        counted(&mut self.socket_faults, done)
     }
 
     /// Where the system has no descriptor for a connection that came, it waits until a socket is closed, and the listener isn't ready before.
@@ -192,9 +172,7 @@ impl<'a, R: Net + Wait + Files + Clock> World for NetWorld<'a, R> {
         ensures counts { self.new ≡ record self.old { socket = raised (accept_failed result) self.old.socket } }
     {
         let accepted = self.edge.accept(l, c);
-        if accepted == Accepted::Failed {
-            self.socket_faults = self.socket_faults.saturating_add(1);
-        }
+        self.socket_faults = after(self.socket_faults, accepted == Accepted::Failed);
         accepted
     }
 
@@ -204,9 +182,7 @@ impl<'a, R: Net + Wait + Files + Clock> World for NetWorld<'a, R> {
         ensures counts { self.new ≡ record self.old { socket = raised (io_failed result) self.old.socket } }
     {
         let read = self.edge.sockets.tcp_read(c, into);
-        if read == Io::Failed {
-            self.socket_faults = self.socket_faults.saturating_add(1);
-        }
+        self.socket_faults = after_io(self.socket_faults, read);
         read
     }
 
@@ -217,9 +193,7 @@ impl<'a, R: Net + Wait + Files + Clock> World for NetWorld<'a, R> {
         ensures counts { self.new ≡ record self.old { socket = raised (io_failed result) self.old.socket } }
     {
         let written = self.edge.sockets.tcp_write(c, from);
-        if written == Io::Failed {
-            self.socket_faults = self.socket_faults.saturating_add(1);
-        }
+        self.socket_faults = after_io(self.socket_faults, written);
         written
     }
 
@@ -227,12 +201,8 @@ impl<'a, R: Net + Wait + Files + Clock> World for NetWorld<'a, R> {
         ensures answers { Answers (tells_faults self.old) (tells_faults self.new) (TcpEnd c result) }
         ensures counts { self.new ≡ record self.old { socket = raised (made_failed result) self.old.socket } }
     {
-        if self.edge.sockets.tcp_end(c) {
-            Made::Done
-        } else {
-            self.socket_faults = self.socket_faults.saturating_add(1);
-            Made::Failed
-        }
+        let done = self.edge.sockets.tcp_end(c);
+        counted(&mut self.socket_faults, done)
     }
 
     fn close(&mut self, s: u64)
@@ -246,12 +216,8 @@ impl<'a, R: Net + Wait + Files + Clock> World for NetWorld<'a, R> {
         ensures answers { Answers (tells_faults self.old) (tells_faults self.new) (UdpOpen s at result) }
         ensures counts { self.new ≡ record self.old { socket = raised (made_failed result) self.old.socket } }
     {
-        if self.edge.udp_open(self.rt, s, at) {
-            Made::Done
-        } else {
-            self.socket_faults = self.socket_faults.saturating_add(1);
-            Made::Failed
-        }
+        let done = self.edge.open_socket(self.rt, Who::Udp(s), at);
+        counted(&mut self.socket_faults, done)
     }
 
     fn udp_send(&mut self, s: u64, to: Endpoint, from: &[u8]) -> Sent
@@ -260,9 +226,7 @@ impl<'a, R: Net + Wait + Files + Clock> World for NetWorld<'a, R> {
         ensures counts { self.new ≡ record self.old { socket = raised (sent_failed result) self.old.socket } }
     {
         let sent = self.edge.sockets.udp_send(s, to, from);
-        if sent == Sent::Failed {
-            self.socket_faults = self.socket_faults.saturating_add(1);
-        }
+        self.socket_faults = after(self.socket_faults, sent == Sent::Failed);
         sent
     }
 
@@ -272,9 +236,7 @@ impl<'a, R: Net + Wait + Files + Clock> World for NetWorld<'a, R> {
         ensures counts { self.new ≡ record self.old { socket = raised (got_failed result) self.old.socket } }
     {
         let got = self.edge.sockets.udp_recv(s, into);
-        if got == Got::Failed {
-            self.socket_faults = self.socket_faults.saturating_add(1);
-        }
+        self.socket_faults = after(self.socket_faults, got == Got::Failed);
         got
     }
 
@@ -286,9 +248,7 @@ impl<'a, R: Net + Wait + Files + Clock> World for NetWorld<'a, R> {
         ensures counts { self.new ≡ record self.old { file = raised (size_failed result) self.old.file } }
     {
         let size = self.file.measure(self.rt, name);
-        if size == FileSize::Failed {
-            self.file_faults = self.file_faults.saturating_add(1);
-        }
+        self.file_faults = after(self.file_faults, size == FileSize::Failed);
         size
     }
 
@@ -301,9 +261,7 @@ impl<'a, R: Net + Wait + Files + Clock> World for NetWorld<'a, R> {
         ensures counts { self.new ≡ record self.old { file = raised (io_failed result) self.old.file } }
     {
         let read = self.file.read(self.rt, name, at, into);
-        if read == Io::Failed {
-            self.file_faults = self.file_faults.saturating_add(1);
-        }
+        self.file_faults = after_io(self.file_faults, read);
         read
     }
 }

@@ -1,5 +1,5 @@
 // The sockets of the host, each under its number.
-ghost use Rattle.std.specs.Prelude.{◌<◌, ◌≤◌, length, vec_capacity};
+ghost use Rattle.std.specs.Prelude.{◌<◌, ◌≤◌, IfSome, length, vec_capacity};
 ghost use Rattle.std.specs.List.Sorted.{IsSearchInRange};
 ghost use Rattle.std.specs.Bool.{OnFalse};
 ghost use Rattle.slab.specs.Slab.{slab_len};
@@ -23,7 +23,7 @@ use world_face::{Accepted, Endpoint, Got, Io, Ip4, Joined, Sent};
 pub(crate) const MOST: usize = 5160;
 
 /// Whether a read may bring something, and whether a write may be taken.
-#[derive(Clone, Copy, Debug, PartialEq, Eq)]
+#[derive(Clone, Copy)]
 pub(crate) struct Known {
     pub read: bool,
     pub write: bool,
@@ -153,12 +153,22 @@ impl Sockets {
         self.slots.len() >= MOST
     }
 
-    // Puts a socket under its number, and has the system tell what it is ready for.
-    fn add(&mut self, registry: &Registry, number: u64, of: Who, mut socket: Socket) -> bool {
-        if self.slots.len() >= MOST || self.places.len() >= MOST {
-            return false;
+    // The place of a number that isn't taken, where there is room for one more.
+    fn free_place(&self, number: u64) -> Option<usize>
+        ensures at { IfSome result (λ at. at ≤ length self.now.places.items) }
+        ensures places { IfSome result (λ _. length self.now.places.items < MOST) }
+        ensures slots { IfSome result (λ _. slab_len self.now.slots < MOST) }
+    {
+        if self.is_full() || self.places.len() >= MOST {
+            return None;
         }
-        let Err(at) = find(&self.places, number) else {
+        find(&self.places, number).err()
+    }
+
+    // Puts a socket under its number, and has the system tell what it is ready for.
+    fn add(&mut self, registry: &Registry, of: Who, mut socket: Socket) -> bool {
+        let (_, number) = rank(of);
+        let Some(at) = self.free_place(number) else {
             return false;
         };
         let token = Token(self.slots.vacant_key());
@@ -222,55 +232,17 @@ impl Sockets {
         }
     }
 
-    pub fn connect<R: Net>(
+    /// Opens a socket: a connection to an endpoint, or a listener or a socket for datagrams that is bound there.
+    pub fn open_socket<R: Net>(
         &mut self,
         rt: &R,
         registry: &Registry,
-        number: u64,
-        to: Endpoint,
-    ) -> bool {
-        match TcpStream::connect(rt, address(to)) {
-            Ok(stream) => {
-                send_at_once(&stream);
-                self.add(registry, number, Who::Tcp(number), Socket::Stream(stream))
-            }
-            Err(_) => false,
-        }
-    }
-
-    pub fn listen<R: Net>(
-        &mut self,
-        rt: &R,
-        registry: &Registry,
-        number: u64,
+        of: Who,
         at: Endpoint,
     ) -> bool {
-        match TcpListener::bind(rt, address(at)) {
-            Ok(listener) => self.add(
-                registry,
-                number,
-                Who::Listener(number),
-                Socket::Listener(listener),
-            ),
-            Err(_) => false,
-        }
-    }
-
-    pub fn udp_open<R: Net>(
-        &mut self,
-        rt: &R,
-        registry: &Registry,
-        number: u64,
-        at: Endpoint,
-    ) -> bool {
-        match UdpSocket::bind(rt, address(at)) {
-            Ok(socket) => self.add(
-                registry,
-                number,
-                Who::Udp(number),
-                Socket::Datagrams(socket),
-            ),
-            Err(_) => false,
+        match new_socket(rt, of, at) {
+            Some(socket) => self.add(registry, of, socket),
+            None => false,
         }
     }
 
@@ -291,12 +263,12 @@ impl Sockets {
             return Accepted::Failed;
         };
         let came = if full { starve(slot) } else { accept(slot) };
-        self.starved = self.starved || slot.starved;
+        self.starved |= slot.starved;
         self.list(key);
         match came {
             Came::From(stream, peer) => {
                 send_at_once(&stream);
-                if self.add(registry, number, Who::Tcp(number), Socket::Stream(stream)) {
+                if self.add(registry, Who::Tcp(number), Socket::Stream(stream)) {
                     Accepted::From(peer)
                 } else {
                     Accepted::Failed
@@ -387,7 +359,7 @@ impl Sockets {
             };
             let key = place.key;
             if let Some(slot) = self.slots.get_mut(key) {
-                slot.readable = slot.readable || slot.starved;
+                slot.readable |= slot.starved;
                 slot.starved = false;
                 self.list(key);
             }
@@ -419,6 +391,26 @@ pub(crate) fn rank(of: Who) -> (u8, u64) {
     }
 }
 
+// A socket of that kind, if the system gives one.
+fn new_socket<R: Net>(rt: &R, of: Who, at: Endpoint) -> Option<Socket> {
+    match of {
+        Who::Link => None,
+        Who::Listener(_) => {
+            let listener = TcpListener::bind(rt, address(at)).ok()?;
+            Some(Socket::Listener(listener))
+        }
+        Who::Udp(_) => {
+            let socket = UdpSocket::bind(rt, address(at)).ok()?;
+            Some(Socket::Datagrams(socket))
+        }
+        Who::Tcp(_) => {
+            let stream = TcpStream::connect(rt, address(at)).ok()?;
+            send_at_once(&stream);
+            Some(Socket::Stream(stream))
+        }
+    }
+}
+
 // Has the system tell what a socket is ready for. Nobody waits until datagrams can be sent.
 fn register(socket: &mut Socket, registry: &Registry, token: Token) -> bool {
     match socket {
@@ -434,9 +426,9 @@ fn register(socket: &mut Socket, registry: &Registry, token: Token) -> bool {
 
 fn note(slot: &mut Slot, event: &Event) {
     let fails = event.is_error();
-    slot.ended = slot.ended || fails || event.is_read_closed();
-    slot.readable = slot.readable || slot.ended || event.is_readable();
-    slot.writable = slot.writable || fails || event.is_writable() || event.is_write_closed();
+    slot.ended |= fails | event.is_read_closed();
+    slot.readable |= slot.ended | event.is_readable();
+    slot.writable |= fails | event.is_writable() | event.is_write_closed();
 }
 
 fn joined(slot: &mut Slot) -> Joined {

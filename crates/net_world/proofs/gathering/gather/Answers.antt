@@ -4,8 +4,8 @@ use Rattle.net_world.proofs.gathering.gather.Goals as goal
 
 pub loop-listed-init : goal.loop-listed-init
 loop-listed-init c = record {
-  picks = goes_on_from _ _ _ _ _ c.items.ensures c.requires.none c.gather_first-left.ensures.goes_on;
-  link = λ want others is. c.gather_first-left.ensures.link c.requires.none want others (c.items.ensures ∙ is);
+  picks = goes_on_from _ _ _ _ _ c.items.ensures c.clear.ensures.items c.gather_first-left.ensures.goes_on;
+  link = λ want others is. c.gather_first-left.ensures.link c.clear.ensures.items want others (c.items.ensures ∙ is);
   few = search rules;
   capacity = search rules;
 }

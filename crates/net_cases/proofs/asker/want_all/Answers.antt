@@ -1,7 +1,7 @@
 use Rattle.std.proofs.Common.{true, false, length-append, arith}
 use Rattle.poll_list.specs.declared.Who.TheVariants.{Udp}
 use Rattle.net_cases.proofs.Wanting.{wants_and_one, reads_one}
-use Rattle.net_cases.proofs.turns.want_all.Goals as goal
+use Rattle.net_cases.proofs.asker.want_all.Goals as goal
 
 pub loop-number-preserved : goal.loop-number-preserved
 loop-number-preserved c = record {

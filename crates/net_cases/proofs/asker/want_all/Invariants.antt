@@ -1,6 +1,6 @@
 use Rattle.std.proofs.Common.{◌≡◌, ◌+◌, ◌≤◌, length}
 use Rattle.poll_list.specs.Listing.{AreWants}
-use Rattle.net_cases.proofs.turns.want_all.Given as goal
+use Rattle.net_cases.proofs.asker.want_all.Given as goal
 
 abbrev pub invariant-loop-number : goal.invariant-loop-number
 invariant-loop-number l = record {
