@@ -1,5 +1,5 @@
 -- What an outcome tells, status by status.
-use Rattle.std.proofs.Common.{◌≡◌, ◌↔◌, ◌≢◌, ◌⊎◌, inl, inr, ℕ, ◌<◌, List, [], ◌∷◌, Option, Result, Ok, Err, IsTrue, false, refl, sym, ◌∙◌, ap, subst, arith}
+use Rattle.std.proofs.Common.{◌≡◌, ◌↔◌, ◌≢◌, ◌⊎◌, inl, inr, ℕ, ◌<◌, List, [], ◌∷◌, Option, Result, Ok, Err, IsTrue, false, refl, sym, ◌∙◌, ap, subst}
 use Rattle.host_policy.specs.Addresses.{Config}
 use Rattle.replay.specs.Unread.{IsFirstUnread}
 use Rattle.replay.specs.declared.Divergence.{Divergence}
@@ -12,6 +12,7 @@ use Rattle.slirp_app.specs.Statuses.{outcome_of}
 use Rattle.app_edges.specs.Texts.{text_of}
 use Rattle.app_edges.specs.declared.status.Outcome.{Outcome}
 use Rattle.app_edges.specs.declared.status.Outcome.TheVariants.{Done, Usage, BadConfig, ScheduleRead, ScheduleTooLarge, ScheduleLine, Diverged, FrameTooLong, FrameCut, LinkFault, WaitFault, TurnsSpent, ListenRefused, SinkFault, NoMemory}
+use Rattle.slirp_app.proofs.Courses.{other}
 use Rattle.slirp_app.proofs.Ending.{ends_by, long_frame, waits_spent, meant_by}
 use Rattle.serve_loop.specs.Ends.{end_of}
 use Rattle.slirp_laws.specs.Laws.{Lawful}
@@ -52,50 +53,50 @@ got old new f g text (Err e) puts calm = absurd (calm (puts.err refl))
 pub no_text : (outcome : Outcome) → (code_of outcome ≡ 0) ⊎ (code_of outcome ≡ 12) → text_of outcome ≡ []
 no_text Done is = refl
 no_text SinkFault is = refl
-no_text _ (inl is) = absurd (omega (arith, is))
-no_text _ (inr is) = absurd (omega (arith, is))
+no_text _ (inl is) = absurd (other 0 _ is refl refl)
+no_text _ (inr is) = absurd (other 12 _ is refl refl)
 
 -- the outcome that has a status
 is_misspelt : (outcome : Outcome) → code_of outcome ≡ 4 → (line : ℕ) × (outcome ≡ ScheduleLine line)
 is_misspelt (ScheduleLine line) is = (line, refl)
-is_misspelt _ is = cc
+is_misspelt _ is = absurd (other 4 _ is refl refl)
 
 is_divergence : (outcome : Outcome) → code_of outcome ≡ 5 → (divergence : Divergence) × (outcome ≡ Diverged divergence)
 is_divergence (Diverged divergence) is = (divergence, refl)
-is_divergence _ is = cc
+is_divergence _ is = absurd (other 5 _ is refl refl)
 
 is_length : (outcome : Outcome) → code_of outcome ≡ 6 → (n : ℕ) × (outcome ≡ FrameTooLong n)
 is_length (FrameTooLong n) is = (n, refl)
-is_length _ is = cc
+is_length _ is = absurd (other 6 _ is refl refl)
 
 is_done : (outcome : Outcome) → code_of outcome ≡ 0 → outcome ≡ Done
 is_done Done is = refl
-is_done _ is = cc
+is_done _ is = absurd (other 0 _ is refl refl)
 
 is_no_schedule : (outcome : Outcome) → code_of outcome ≡ 3 → (outcome ≡ ScheduleRead) ⊎ (outcome ≡ ScheduleTooLarge)
 is_no_schedule ScheduleRead is = inl refl
 is_no_schedule ScheduleTooLarge is = inr refl
-is_no_schedule _ is = cc
+is_no_schedule _ is = absurd (other 3 _ is refl refl)
 
 is_cut : (outcome : Outcome) → code_of outcome ≡ 7 → (n : ℕ) × (outcome ≡ FrameCut n)
 is_cut (FrameCut n) is = (n, refl)
-is_cut _ is = cc
+is_cut _ is = absurd (other 7 _ is refl refl)
 
 is_link_fault : (outcome : Outcome) → code_of outcome ≡ 8 → outcome ≡ LinkFault
 is_link_fault LinkFault is = refl
-is_link_fault _ is = cc
+is_link_fault _ is = absurd (other 8 _ is refl refl)
 
 is_wait_fault : (outcome : Outcome) → code_of outcome ≡ 9 → outcome ≡ WaitFault
 is_wait_fault WaitFault is = refl
-is_wait_fault _ is = cc
+is_wait_fault _ is = absurd (other 9 _ is refl refl)
 
 is_spent : (outcome : Outcome) → code_of outcome ≡ 10 → (n : ℕ) × (outcome ≡ TurnsSpent n)
 is_spent (TurnsSpent n) is = (n, refl)
-is_spent _ is = cc
+is_spent _ is = absurd (other 10 _ is refl refl)
 
 is_refusal : (outcome : Outcome) → code_of outcome ≡ 11 → (n : ℕ) × (outcome ≡ ListenRefused n)
 is_refusal (ListenRefused n) is = (n, refl)
-is_refusal _ is = absurd (omega (arith, is))
+is_refusal _ is = absurd (other 11 _ is refl refl)
 
 -- the same record, of which more is known
 replayed_as : (config : Config) (status : ℕ) (schedule : List ℕ) (old new : Option (List ℕ)) (P Q : List Entry → Type 0) → Replayed config status schedule old new P → ((journal : List Entry) → Lawful config journal → P journal → Q journal) → Replayed config status schedule old new Q

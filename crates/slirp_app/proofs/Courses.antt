@@ -1,5 +1,5 @@
 -- What is done by what the words mean, and the status of it.
-use Rattle.std.proofs.Common.{◌≡◌, ◌≢◌, ◌↔◌, ◌⊎◌, inl, inr, ℕ, ◌<◌, ◌≤◌, ltb, Bool, true, false, cond, length, List, [], Option, Some, None, Result, Ok, Err, MatchOption, refl, sym, ◌∙◌, ap, subst, arith}
+use Rattle.std.proofs.Common.{◌≡◌, ◌≢◌, ◌↔◌, ◌⊎◌, inl, inr, ℕ, ◌<◌, ◌≤◌, ◌==◌, ltb, Bool, true, false, cond, length, List, [], Option, Some, None, Result, Ok, Err, MatchOption, refl, sym, ◌∙◌, ap, subst, arith}
 use Rattle.std.proofs.lemmas.Bool.Decides.{nat_tests}
 use Rattle.world_face.specs.Journal.{Entry, Place}
 use Rattle.world_face.specs.Tells.{Telling, Makes}
@@ -24,6 +24,10 @@ use Rattle.app_edges.specs.Statuses.{code_of, is_unrun}
 use Rattle.slirp_app.specs.Statuses.{outcome_of}
 use Rattle.app_edges.specs.declared.status.Outcome.{Outcome}
 use Rattle.app_edges.specs.declared.status.Outcome.TheVariants.{BadConfig, NoMemory}
+
+-- two numbers that a test tells apart
+pub other : (n m : ℕ) → m ≡ n → (m == n) ≡ false → (n == n) ≡ true → ⊥
+other n m is differs same = let clash : ◌≡◌ {A = Bool} true false = sym (subst (λ k. (k == n) ≡ true) (sym is) same) ∙ differs in cc clash
 
 -- what no option gives is not asked for
 is_built : (config : Config) (given : Word → Option Word) → AreSettings given config → IsBuilt config
@@ -153,7 +157,7 @@ one_none o field is none = cc
 module _ (words : List Word) (outcome : Outcome) (world world_new : Telling) (old new : Option (List ℕ)) where
   pub usage : Course words outcome world world_new old new → (code_of outcome ≡ 1) ↔ ((meaning : Meaning) → ¬ Means words meaning)
   usage (Meant m means one sound not_usage not_config does) = (λ code. absurd (not_usage code), λ none. absurd (none m means))
-  usage (Misset m field means all is makes) = (λ code. (let two : code_of outcome ≡ 2 = ap code_of is in absurd (omega (arith, two, code))), λ none. absurd (none m means))
+  usage (Misset m field means all is makes) = (λ code. (let two : code_of outcome ≡ 2 = ap code_of is in absurd (other 1 2 (sym two ∙ code) refl refl)), λ none. absurd (none m means))
   usage (Misused none is makes) = (λ code. none, λ n. ap code_of is)
 
   pub bad_config : Course words outcome world world_new old new → (meaning : Meaning) (field : Field) → Means words meaning → broken_in meaning ≡ Some field → outcome ≡ BadConfig field
@@ -165,7 +169,7 @@ module _ (words : List Word) (outcome : Outcome) (world world_new : Telling) (ol
   pub only_config : Course words outcome world world_new old new → code_of outcome ≡ 2 → (meaning : Meaning) × (field : Field) × Means words meaning × (broken_in meaning ≡ Some field)
   only_config (Meant m means one sound not_usage not_config does) code = absurd (not_config code)
   only_config (Misset m field means all is makes) code = (m, field, means, all m means)
-  only_config (Misused none is makes) code = (let one : code_of outcome ≡ 1 = ap code_of is in absurd (omega (arith, code, one)))
+  only_config (Misused none is makes) code = (let one : code_of outcome ≡ 1 = ap code_of is in absurd (other 2 1 (sym one ∙ code) refl refl))
 
   pub untouched : Course words outcome world world_new old new → (code_of outcome ≡ 1) ⊎ (code_of outcome ≡ 2) → Makes world world_new (λ made. made ≡ [])
   untouched (Meant m means one sound not_usage not_config does) (inl code) = absurd (not_usage code)

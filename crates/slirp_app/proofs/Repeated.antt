@@ -8,6 +8,7 @@ use Rattle.replay.specs.Text.{text}
 use Rattle.run_laws.specs.Moments.{waits}
 use Rattle.run_laws.specs.Shape.{By, Refused, Phase, Opening, Started, Woken, Working, Over, is_over, phase}
 use Rattle.serve_loop.specs.Ends.{end_of}
+use Rattle.slirp_app.proofs.Courses.{other}
 use Rattle.slirp_app.proofs.Copied.{allowed_before, another, goes_on, later_than, onto}
 use Rattle.slirp_app.proofs.Ending.{waits_spent}
 use Rattle.slirp_app.proofs.Halted.{no_more, nothing_later, waits_no_more}
@@ -42,13 +43,13 @@ spent_where config (Opening opened forwards) is = refl
 spent_where config Started is = refl
 spent_where config Woken is = refl
 spent_where config Working is = refl
-spent_where config (Over (By LinkEnded)) is = absurd (omega (arith, is))
-spent_where config (Over (By (LinkCut octets))) is = absurd (omega (arith, is))
-spent_where config (Over (By (LongFrame size))) is = absurd (omega (arith, is))
-spent_where config (Over (By LinkFailed)) is = absurd (omega (arith, is))
-spent_where config (Over (By Stopped)) is = absurd (omega (arith, is))
-spent_where config (Over (By WaitFailed)) is = absurd (omega (arith, is))
-spent_where config (Over (Refused forward)) is = absurd (omega (arith, is))
+spent_where config (Over (By LinkEnded)) is = absurd (other 10 _ is refl refl)
+spent_where config (Over (By (LinkCut octets))) is = absurd (other 10 _ is refl refl)
+spent_where config (Over (By (LongFrame size))) is = absurd (other 10 _ is refl refl)
+spent_where config (Over (By LinkFailed)) is = absurd (other 10 _ is refl refl)
+spent_where config (Over (By Stopped)) is = absurd (other 10 _ is refl refl)
+spent_where config (Over (By WaitFailed)) is = absurd (other 10 _ is refl refl)
+spent_where config (Over (Refused forward)) is = absurd (other 10 _ is refl refl)
 
 -- ---- what a replay of a record prints
 

@@ -1,5 +1,5 @@
 -- How networks and the place of the link are written on a command line, and what is held of a text.
-use Rattle.std.specs.Prelude.{◌≡◌, ℕ, ◌/◌, ◌^◌, ◌<◌, ◌≤◌, nat_le, List, [], ◌∷◌, ◌++◌, length, codes, decimal, if◌then◌else◌}
+use Rattle.std.specs.Prelude.{◌≡◌, ℕ, ◌^◌, ◌<◌, ◌≤◌, nat_le, List, [], ◌∷◌, ◌++◌, length, codes, decimal, if◌then◌else◌}
 use Rattle.world_face.specs.Journal.{IsEndpoint, Place, AtPath, AtEndpoint}
 use Rattle.address_text.specs.Texts.{address_text, place_text}
 use Rattle.host_policy.specs.Ranges.{mask_of}

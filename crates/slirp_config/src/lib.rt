@@ -70,7 +70,7 @@ pub enum Command {
 }
 
 /// What `serve` puts while it runs.
-#[derive(Clone, Copy, Debug, PartialEq, Eq)]
+#[derive(Clone, Copy)]
 pub enum Tap {
     /// Nothing.
     Off,
@@ -110,7 +110,7 @@ fn check_driven(octets: u64) -> Result<(), Field>
 }
 
 /// Why words aren't followed.
-#[derive(Clone, Copy, Debug, PartialEq, Eq)]
+#[derive(Clone, Copy, PartialEq)]
 pub enum WordFault {
     /// They have no reading.
     Usage,

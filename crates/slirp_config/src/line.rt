@@ -12,7 +12,7 @@ use arrayvec::ArrayVec;
 const ALONE: usize = 34;
 
 /// An option that was given, with its value; that of a flag is empty.
-#[derive(Clone, Copy, Debug, Default)]
+#[derive(Clone, Copy, Default)]
 pub(crate) struct Given<'a> {
     name: &'a str,
     value: &'a str,

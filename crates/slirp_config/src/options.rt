@@ -5,7 +5,7 @@ ghost use Rattle.slirp_config.specs.Options.{takes_value, has_row, is_row};
 ghost use Rattle.slirp_config.specs.Walking.{row_of};
 
 /// The commands that have options.
-#[derive(Clone, Copy, Debug, PartialEq, Eq)]
+#[derive(Clone, Copy)]
 pub(crate) enum Verb {
     Replay,
     Serve,

@@ -1,8 +1,8 @@
 //! The settings that options give.
-ghost use Rattle.std.specs.Prelude.{◌≡◌, ℕ, ◌+◌, ◌%◌, ◌^◌, ◌||◌, [], IfOk, MatchOption, None, OnErr, Option, Some, codes, is_some, map, min, option_copied};
+ghost use Rattle.std.specs.Prelude.{◌≡◌, ℕ, ◌+◌, ◌%◌, ◌^◌, ◌||◌, [], IfOk, MatchOption, None, OnErr, OnOk, Option, Some, codes, is_some, map, min, option_copied};
 ghost use Rattle.std.specs.Option.{option_map, option_map_or};
 ghost use Rattle.host_policy.specs.Addresses.{Config};
-ghost use Rattle.host_policy.specs.Settings.{settings};
+ghost use Rattle.host_policy.specs.Settings.{settings, usual as usual_settings};
 ghost use Rattle.net_octets.specs.declared.Endpoint.{Endpoint as AnEndpoint};
 ghost use Rattle.slirp_config.specs.Meaning.{AreSettings, version_of};
 ghost use Rattle.slirp_config.specs.Options.{value_in};
@@ -28,19 +28,20 @@ impl<'a> Line<'a> {
         ensures refused { OnErr result ((config : Config) → AreSettings (value_in (walk_of self.now).options) config
             → ¬ AreRules (map (λ rule. rule.now) rules.now) config.dhcp_start config.forwards) }
     {
-        let mut config = self.without_forwards()?;
+        let mut config = SlirpConfig::usual();
+        self.put_settings(&mut config)?;
         put_forwards(rules, config.vdhcp_start, &mut config.forwards)?;
         Ok(config)
     }
 
-    // The settings that the options give, without a forward.
-    fn without_forwards(&self) -> Result<SlirpConfig, NoReading>
-        ensures set { IfOk result (λ c. (config : Config) × AreSettings (value_in (walk_of self.now).options) config
-            × (settings c ≡ narrowed_settings config)) }
-        ensures none { IfOk result (λ c. c.forwards.items ≡ []) }
-        ensures refused { OnErr result ((config : Config) → ¬ AreSettings (value_in (walk_of self.now).options) config) }
+    // Puts the settings that the options give in the place of the usual ones. No forward is among them.
+    fn put_settings(&self, config: &mut SlirpConfig) -> Result<(), NoReading>
+        requires { settings config.old ≡ usual_settings }
+        ensures set { OnOk result ((given : Config) × AreSettings (value_in (walk_of self.now).options) given
+            × (settings config.new ≡ narrowed_settings given)) }
+        ensures none { OnOk result (config.new.forwards.items ≡ []) }
+        ensures refused { OnErr result ((given : Config) → ¬ AreSettings (value_in (walk_of self.now).options) given) }
     {
-        let mut config = SlirpConfig::usual();
         let (network, mask) = self.network(config.vnetwork, config.vnetmask)?;
         config.vnetwork = network;
         config.vnetmask = mask;
@@ -65,7 +66,7 @@ impl<'a> Line<'a> {
         config.disable_dhcp = self.has("--no-dhcp");
         config.congestion = self.has("--congestion");
         config.version = self.version();
-        Ok(config)
+        Ok(())
     }
 
     // The network and its mask.

@@ -16,20 +16,34 @@ pub fn verdict(alloc: Global, line: &str) -> Result<String, AllocError> {
     let (asked, wanted) = line.split_once(" = ").unwrap_or((line, ""));
     let mut words = asked.split_whitespace();
     let verb = words.next().unwrap_or("");
-    let number = words.next().and_then(|word| word.parse::<u64>().ok());
-    let octets = words.next().and_then(|word| word.parse::<u64>().ok());
+    let (number, octets) = (number_of(words.next()), number_of(words.next()));
     let (Some(number), Some(octets)) = (number, octets) else {
         return "no case".to_string(alloc);
     };
     if octets > MOST_OCTETS {
         return "too many octets".to_string(alloc);
     }
+    if verb == "drill" {
+        return drilled(alloc, number, octets);
+    }
+    match how_of(verb) {
+        Some(how) => faulted(alloc, how, number, octets, wanted),
+        None => "no case".to_string(alloc),
+    }
+}
+
+// The number that a word says, if it says one.
+fn number_of(word: Option<&str>) -> Option<u64> {
+    word?.parse::<u64>().ok()
+}
+
+// The fault of a case that begins with this word, if it is one with a fault.
+fn how_of(verb: &str) -> Option<How> {
     match verb {
-        "drill" => drilled(alloc, number, octets),
-        "fail" => faulted(alloc, How::Fail, number, octets, wanted),
-        "short" => faulted(alloc, How::Short, number, octets, wanted),
-        "not_yet" => faulted(alloc, How::NotYet, number, octets, wanted),
-        _ => "no case".to_string(alloc),
+        "fail" => Some(How::Fail),
+        "short" => Some(How::Short),
+        "not_yet" => Some(How::NotYet),
+        _ => None,
     }
 }
 
@@ -43,26 +57,34 @@ fn faulted(
 ) -> Result<String, AllocError>
     requires { octets ≤ 10000000 }
 {
-    let mut given = 0usize;
     for at in 0..MOST_CALLS {
         let ran = run_with(alloc, how, at, number, octets)?;
         let Some(kind) = ran.given else {
-            return if given == 0 {
-                "FAILED: no call got the fault".to_string(alloc)
-            } else {
-                "passed".to_string(alloc)
-            };
+            return over_at(at).to_string(alloc);
         };
-        given = given.saturating_add(1);
         if !wanted.split(',').any(|one| is_met(one, kind, &ran)) {
-            let (end, up, down, wrong) = (name_of(ran.end), ran.up, ran.down, ran.wrong);
-            return format!(in alloc;
-                "FAILED: with the fault from call {at} on, of the {}, it came to {end}, up {up}, down {down}, wrong {wrong}",
-                kind_name(kind)
-            );
+            return missed(alloc, at, kind, &ran);
         }
     }
     "FAILED: it never ended without a fault".to_string(alloc)
+}
+
+// What is told of a case whose run made no call from this number on that could get the fault.
+fn over_at(at: u64) -> &'static str {
+    if at == 0 {
+        "FAILED: no call got the fault"
+    } else {
+        "passed"
+    }
+}
+
+// Tells that a run came to something else.
+fn missed(alloc: Global, at: u64, kind: Kind, ran: &Ran) -> Result<String, AllocError> {
+    let (end, up, down, wrong) = (name_of(ran.end), ran.up, ran.down, ran.wrong);
+    format!(in alloc;
+        "FAILED: with the fault from call {at} on, of the {}, it came to {end}, up {up}, down {down}, wrong {wrong}",
+        kind_name(kind)
+    )
 }
 
 // Whether a run with the fault at a call of this kind came to what is wanted of that kind.
@@ -71,9 +93,7 @@ fn is_met(wanted: &str, kind: Kind, ran: &Ran) -> bool {
     if words.next() != Some(kind_name(kind)) || words.next() != Some(name_of(ran.end)) {
         return false;
     }
-    let up = words.next().and_then(|word| word.parse::<u64>().ok());
-    let down = words.next().and_then(|word| word.parse::<u64>().ok());
-    match (up, down) {
+    match (number_of(words.next()), number_of(words.next())) {
         (Some(up), Some(down)) => ran.up >= up && ran.down >= down && ran.wrong == 0,
         _ => false,
     }

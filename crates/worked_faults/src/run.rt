@@ -7,7 +7,7 @@ use serve_loop::{End, Service};
 use std::alloc::{AllocError, Global};
 use world_face::{VecSink, World};
 
-/// Room for a summary.
+/// Room for two summaries.
 const ROOM: usize = 1024;
 
 /// How many flows the guest has, and how many there is usually room for.
@@ -16,7 +16,7 @@ const FLOWS: u32 = 8;
 const USUAL_FLOWS: u32 = 256;
 
 /// What a run came to in which a call may have got a fault.
-#[derive(Drop)]
+#[derive(Clone, Copy)]
 pub struct Ran {
     pub given: Option<Kind>,
     pub end: End,
@@ -35,18 +35,17 @@ pub fn run_with(
 ) -> Result<Ran, AllocError>
     requires { octets ≤ 10000000 }
 {
-    let (service, mut world) = opened(alloc, FLOWS, number, octets, at, how)?;
-    let end = served(service, &mut world);
-    let summary = summary_of(alloc, world.inner());
-    let given = world.given();
-    let_go(world);
-    let summary = summary?;
+    let Ok(mut counted) = VecSink::open(alloc, ROOM, None) else {
+        return Err(AllocError);
+    };
+    let (given, end) = run(alloc, FLOWS, number, octets, at, how, &mut counted)?;
+    let lines = text_of(&counted);
     Ok(Ran {
         given,
         end,
-        up: count_of(summary.as_str(), "up"),
-        down: count_of(summary.as_str(), "down"),
-        wrong: count_of(summary.as_str(), "wrong"),
+        up: last_count(lines, "up"),
+        down: last_count(lines, "down"),
+        wrong: last_count(lines, "wrong"),
     })
 }
 
@@ -54,44 +53,53 @@ pub fn run_with(
 pub fn drilled(alloc: Global, number: u64, octets: u64) -> Result<String, AllocError>
     requires { octets ≤ 10000000 }
 {
-    let (service, mut world) = opened(alloc, USUAL_FLOWS, number, octets, u64::MAX, How::Fail)?;
-    let before = summary_of(alloc, world.inner());
-    let _end = served(service, &mut world);
-    let behind = summary_of(alloc, world.inner());
-    let_go(world);
-    let (before, behind) = (before?, behind?);
-    let before = joined(alloc, before.as_str())?;
-    let behind = joined(alloc, behind.as_str())?;
-    format!(in alloc; "{before}; then {behind}")
+    let Ok(mut counted) = VecSink::open(alloc, ROOM, None) else {
+        return Err(AllocError);
+    };
+    run(
+        alloc,
+        USUAL_FLOWS,
+        number,
+        octets,
+        u64::MAX,
+        How::Fail,
+        &mut counted,
+    )?;
+    joined(alloc, text_of(&counted))
 }
 
-// A network that has served nothing, and its World, whose call with this number, or the first behind it that can, gets the fault.
-fn opened(
+// Runs the network on a World whose call with this number, or the first behind it that can, gets the fault. Answers the kind of that call, and how the run ended; what
+// the World counted before and behind it is put.
+fn run(
     alloc: Global,
     flows: u32,
     number: u64,
     octets: u64,
     at: u64,
     how: How,
-) -> Result<(Service, FaultWorld<DriveWorld>), AllocError>
+    counted: &mut VecSink,
+) -> Result<(Option<Kind>, End), AllocError>
     requires { octets ≤ 10000000 }
-    ensures { IfOk result (λ opened. IsNew opened.0) }
 {
-    let service = service_for(alloc, flows)?;
-    match DriveWorld::open(alloc, number, octets) {
-        Ok(world) => Ok((service, FaultWorld::new(world, at, how))),
-        Err(_) => Err(AllocError),
-    }
+    let Ok(world) = DriveWorld::open(alloc, number, octets) else {
+        return Err(AllocError);
+    };
+    let mut world = FaultWorld::new(world, at, how);
+    let _before = world.inner().summary(counted);
+    let end = served(alloc, flows, &mut world);
+    let _behind = world.inner().summary(counted);
+    let given = world.given();
+    let_go(world);
+    Ok((given, end?))
 }
 
 // What a World holds is let go of here alone: each function that does has it all in its proof.
 fn let_go(_world: FaultWorld<DriveWorld>) {}
 
-// Runs a service that has served nothing. What it promises is not needed here.
-fn served<W: World>(mut service: Service, world: &mut W) -> End
-    requires { IsNew service }
-{
-    service.serve(world)
+// Runs a network that has room for so many flows. What it promises is not needed here.
+fn served<W: World>(alloc: Global, flows: u32, world: &mut W) -> Result<End, AllocError> {
+    let mut service = service_for(alloc, flows)?;
+    Ok(service.serve(world))
 }
 
 // A network with the usual settings that has room for so many flows, and has served nothing.
@@ -109,34 +117,41 @@ fn service_for(alloc: Global, flows: u32) -> Result<Service, AllocError>
     Ok(service)
 }
 
-fn summary_of(alloc: Global, world: &DriveWorld) -> Result<String, AllocError> {
-    let Ok(mut sink) = VecSink::open(alloc, ROOM, None) else {
-        return Err(AllocError);
-    };
-    let _put = world.summary(&mut sink);
-    str::from_utf8(sink.octets()).unwrap_or("").to_string(alloc)
+// The lines that were put.
+fn text_of(counted: &VecSink) -> &str {
+    str::from_utf8(counted.octets()).unwrap_or("")
 }
 
-// The lines of a summary, one behind another.
-fn joined(alloc: Global, summary: &str) -> Result<String, AllocError> {
+// The lines of two summaries, one behind another.
+fn joined(alloc: Global, summaries: &str) -> Result<String, AllocError> {
     let mut text = String::new(alloc);
-    for line in summary.lines() {
+    for line in summaries.lines() {
         if !text.is_empty() {
-            text.push_str(", ")?;
+            text.push_str(mark_before(line))?;
         }
         text.push_str(line)?;
     }
     Ok(text)
 }
 
-// The count of this name. The greatest number where there is none.
-fn count_of(summary: &str, name: &str) -> u64 {
-    for line in summary.lines() {
+// What stands before a line that isn't the first: a summary begins with the number of its World.
+fn mark_before(line: &str) -> &'static str {
+    if line.starts_with("number ") {
+        "; then "
+    } else {
+        ", "
+    }
+}
+
+// The last count of this name. The greatest number where there is none.
+fn last_count(lines: &str, name: &str) -> u64 {
+    let mut found = u64::MAX;
+    for line in lines.lines() {
         if let Some((first, count)) = line.split_once(' ') {
             if first == name {
-                return count.parse::<u64>().unwrap_or(u64::MAX);
+                found = count.parse::<u64>().unwrap_or(u64::MAX);
             }
         }
     }
-    u64::MAX
+    found
 }

@@ -14,16 +14,16 @@ use Rattle.slirp_config.proofs.line.Line.settings.Goals as goal
 pub returns-in_err-put_forwards-clause-refused : goal.returns-in_err-put_forwards-clause-refused
 returns-in_err-put_forwards-clause-refused c = let p = err_from_is_err_and c.from_residual-in_err-put_forwards.result c.from_residual-in_err-put_forwards.ensures.1 in rw (p.1) (λ config are rules.
     let given : Word → Option Word = value_in (walk_of c.args.self.now).options in
-    let set = c.in_ok-config.ensures.set in
-    let start : config.dhcp_start ≡ c.in_ok-config.config.vdhcp_start.0 = one_start given config set.0 are set.1 ∙ sym (ap (λ (k : Config). k.dhcp_start) set.2) in
+    let set = c.in_ok-put_settings.ensures.set in
+    let start : config.dhcp_start ≡ c.put_settings.new.config.vdhcp_start.0 = one_start given config set.0 are set.1 ∙ sym (ap (λ (k : Config). k.dhcp_start) set.2) in
     c.in_err-put_forwards.ensures.refused config.forwards (subst (λ (n : ℕ). AreRules (rule_words c.args.rules.now) n config.forwards) start rules))
 
 pub returns-clause-set : goal.returns-clause-set
 returns-clause-set c =
     let given : Word → Option Word = value_in (walk_of c.args.self.now).options in
-    let set = c.in_ok-config.ensures.set in
+    let set = c.in_ok-put_settings.ensures.set in
     let put = c.in_ok-put_forwards.ensures.put in
-    let start : c.in_ok-config.config.vdhcp_start.0 ≡ set.0.dhcp_start = ap (λ (k : Config). k.dhcp_start) set.2 in (
+    let start : c.put_settings.new.config.vdhcp_start.0 ≡ set.0.dhcp_start = ap (λ (k : Config). k.dhcp_start) set.2 in (
       record set.0 { forwards = put.0 },
       with_forwards given set.0 put.0 set.1,
       subst (λ (n : ℕ). AreRules (rule_words c.args.rules.now) n put.0) start put.1,

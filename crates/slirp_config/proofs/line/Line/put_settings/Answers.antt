@@ -10,7 +10,7 @@ use Rattle.address_text.specs.Texts.{IsNumber}
 use Rattle.slirp_config.specs.Texts.{IsNetwork}
 use Rattle.slirp_config.proofs.Finding.{match_default}
 use Rattle.slirp_config.proofs.Settled.{made}
-use Rattle.slirp_config.proofs.line.Line.without_forwards.Goals as goal
+use Rattle.slirp_config.proofs.line.Line.put_settings.Goals as goal
 
 pub returns-in_err-network-clause-refused : goal.returns-in_err-network-clause-refused
 returns-in_err-network-clause-refused c = let p = err_from_is_err_and c.from_residual.result c.from_residual.ensures.1 in rw (p.1) (λ config are. c.in_err-network.ensures.refused config.network config.mask usual.network usual.mask are.net)
@@ -47,11 +47,11 @@ returns-in_err-config-8-clause-refused c = let p = err_from_is_err_and c.from_re
 
 pub returns-clause-set : goal.returns-clause-set
 returns-clause-set c =
-    let is = c.usual-config.ensures.usual in
+    let is = c.requires in
     let given : Word → Option Word = value_in (walk_of c.args.self.now).options in
     let network = c.in_ok-network.network.0 in
     let mask = c.in_ok-network.mask.0 in
-    let base = c.usual-config.result in
+    let base = c.args.config.now in
     let mtu = c.in_ok-config-4.field-0 in
     let mru = c.in_ok-config-5.field-0 in
     let flows = c.in_ok-number.field-0 in
@@ -60,15 +60,15 @@ returns-clause-set c =
     let turns = c.in_ok-config-7.field-0 in
     let outbound = option_map (λ a. a.0) c.in_ok-config-8.field-0 in
     let folder = option_map (λ path. path.bytes) c.folder-config.result in
-    let set = λ (u : Config) (f r : ℕ). made u network mask c.in_ok-config.field-0.0 c.in_ok-config-2.field-0.0 c.in_ok-config-3.field-0.0 c.has.result c.has-2.result c.text-config.result.items c.text-config-2.result.items c.text-config-3.result.items c.text-config-4.result.items folder mtu mru f r resolver turns outbound c.has-3.result c.has-4.result c.has-5.result c.version.result u.forwards in (
+    let set = λ (u : Config) (f r : ℕ). made u network mask c.in_ok-config.field-0.0 c.in_ok-config-2.field-0.0 c.in_ok-config-3.field-0.0 c.has-config.result c.has-config-2.result c.text-config.result.items c.text-config-2.result.items c.text-config-3.result.items c.text-config-4.result.items folder mtu mru f r resolver turns outbound c.has-config-3.result c.has-config-4.result c.has-config-5.result c.version-config.result u.forwards in (
       set usual flows ring,
       record {
         net = match_default (given (codes "--net")) ((network ≡ base.vnetwork.0) × (mask ≡ base.vnetmask.0)) ((network ≡ usual.network) × (mask ≡ usual.mask)) (λ text. IsNetwork text network mask) (λ d. (d.0 ∙ ap (λ (u : Config). u.network) is, d.1 ∙ ap (λ (u : Config). u.mask) is)) c.in_ok-network.ensures.read;
         host = c.in_ok-config.ensures.read;
         dns = c.in_ok-config-2.ensures.read;
         dhcp_start = c.in_ok-config-3.ensures.read;
-        restricted = c.has.ensures;
-        no_loopback = c.has-2.ensures;
+        restricted = c.has-config.ensures;
+        no_loopback = c.has-config-2.ensures;
         hostname = c.text-config.ensures;
         domainname = c.text-config-2.ensures;
         tftp_server_name = c.text-config-3.ensures;
@@ -81,14 +81,14 @@ returns-clause-set c =
         resolver = c.in_ok-config-6.ensures.read;
         turns = match_default (given (codes "--turns")) (turns ≡ base.turns) (turns ≡ usual.turns) (λ text. IsNumber 64 text turns) (λ d. d ∙ ap (λ (u : Config). u.turns) is) c.in_ok-config-7.ensures.read;
         outbound = c.in_ok-config-8.ensures.read;
-        no_dns = c.has-3.ensures;
-        no_dhcp = c.has-4.ensures;
-        congestion = c.has-5.ensures;
-        version = c.version.ensures;
+        no_dns = c.has-config-3.ensures;
+        no_dhcp = c.has-config-4.ensures;
+        congestion = c.has-config-5.ensures;
+        version = c.version-config.ensures;
         rest = refl;
       },
-      ap (λ (u : Config). set u c.narrow.result c.narrow-2.result) is ∙ ap (λ (n : ℕ). set usual n c.narrow-2.result) c.narrow.ensures ∙ ap (λ (n : ℕ). set usual (narrowed flows) n) c.narrow-2.ensures,
+      ap (λ (u : Config). set u c.narrow-config.result c.narrow-config-2.result) is ∙ ap (λ (n : ℕ). set usual n c.narrow-config-2.result) c.narrow-config.ensures ∙ ap (λ (n : ℕ). set usual (narrowed flows) n) c.narrow-config-2.ensures,
     )
 
 pub returns-clause-none : goal.returns-clause-none
-returns-clause-none c = ap (λ (u : Config). u.forwards) c.usual-config.ensures.usual
+returns-clause-none c = ap (λ (u : Config). u.forwards) c.requires
