@@ -1,5 +1,5 @@
 -- An acknowledgement alone goes out.
-use Rattle.std.proofs.Common.{refl, ◌≡◌, ℕ, ◌+◌, ◌^◌, ◌<◌, ◌≤◌, ◌∷◌, Bool, true, false, not, ◌&&◌, ◌||◌, Option, None, Some, if◌then◌else◌, IsTrue, nat_lt, max, arith, ap, subst, sym, ◌∙◌}
+use Rattle.std.proofs.Common.{refl, ◌≡◌, ℕ, ◌+◌, ◌^◌, ◌<◌, ◌≤◌, ◌∷◌, Bool, true, false, not, ◌&&◌, ◌||◌, Option, None, Some, if◌then◌else◌, IsTrue, nat_lt, max, pos, arith, ap, subst, sym, ◌∙◌}
 use Rattle.std.proofs.lemmas.Bool.Decides.{nat_tests}
 use Rattle.sock_buffers.specs.Downward.{Downward}
 use Rattle.sock_buffers.specs.Upward.{Upward}
@@ -15,7 +15,7 @@ use Rattle.tcp_guest.specs.declared.Stage.{Stage}
 use Rattle.tcp_guest.specs.declared.Stage.TheVariants as stage
 use Rattle.flow_laws.specs.Settings.{Settings}
 use Rattle.flow_laws.specs.Event.{At, Departs, Segment, Story}
-use Rattle.flow_laws.specs.Host.{acked, answered, sent}
+use Rattle.flow_laws.specs.Host.{acked, answered, our_place, sent}
 use Rattle.flow_laws.specs.Flow.{host, is_under_way, syn_is_out}
 use Rattle.flow_laws.specs.Lawful.{is_overdue, is_prompted, repeats}
 use Rattle.halves_follow.specs.Resends.{Resends}
@@ -69,6 +69,9 @@ module _ (s : Settings) (c : Connection) (up : Upward) (down : Downward) (past :
   way : is_under_way after ≡ is_under_way past
   way = way_same past after (outward_of c.transmission down) (outward_of c.transmission down) h.gives.keeps kept refl refl refl refl
 
+  at_end : our_place (host past) seg.number ≡ pos (sent (host past))
+  at_end = stands s c up down past now m seg on h known out refl refl refl refl refl refl refl c.transmission.sent refl low (omega arith) near refl ∙ ap (λ (n : ℕ). pos n) h.gives.keeps.sent
+
   ack_gives : Gives s (told c up (our_shift c)) down after m
   ack_gives =
       let g = h.gives in
@@ -96,7 +99,8 @@ module _ (s : Settings) (c : Connection) (up : Upward) (down : Downward) (past :
     buffers = buffers;
     within = h.within;
     goes = leaves_goes s c up down past now m seg on h known out refl refl refl refl refl refl refl c.transmission.sent refl low (omega arith) near refl (omega arith)
-        (prompted_is seg.rst (not (repeats past seg)) (is_prompted past) (is_overdue m past seg) prompted) (λ is. absurd cc);
+        (prompted_is seg.rst (not (repeats past seg)) (is_prompted past) (is_overdue m past seg) prompted) (λ is. absurd cc)
+        (record { carries = λ is. absurd cc; acknowledges = ((λ is. refl), (λ is. absurd cc)); next = λ is. at_end; window = λ is. absurd cc });
     opened = opened_told s c up (our_shift c) after (opened_on s c past after (record { ours = refl; connecting = refl; out = refl; accepted = refl; theirs = refl; unasked = refl }) refl h.opened);
     awaits = λ is. let not_it = sym is ∙ known in absurd cc;
     receives = λ is. leaves_received s c up down past now m seg on h known out refl refl refl refl refl refl refl c.transmission.sent refl low (omega arith) near refl;

@@ -8,7 +8,7 @@ use Rattle.tcp_guest.specs.declared.Stage.TheVariants as stage
 use Rattle.flow_laws.specs.Settings.{Settings}
 use Rattle.flow_laws.specs.Event.{AsksAddress, At, Connected, ConnectsYet, Story, Event}
 use Rattle.flow_laws.specs.Host.{Down, answered}
-use Rattle.flow_laws.specs.Flow.{is_accepted, is_closed, has_connected}
+use Rattle.flow_laws.specs.Flow.{is_accepted, is_closed, is_connecting, has_connected}
 use Rattle.flow_laws.specs.Lawful.{AskConnected}
 use Rattle.halves_follow.proofs.Acts.{may_ask, must_ask}
 use Rattle.halves_follow.proofs.Resent.{IsQuiet}
@@ -33,12 +33,12 @@ module _ (s : Settings) (c : Connection) (up : Upward) (down : Downward) (past :
   }
 
   -- the host hasn't connected yet
-  pub connects_yet : Holds s c up down past now → Holds s c up down (At m ConnectsYet ∷ past) m
-  connects_yet h = quietly ConnectsYet tt
+  pub connects_yet : is_connects c.stage ≡ true → Holds s c up down past now → Holds s c up down (At m ConnectsYet ∷ past) m
+  connects_yet joins h = quietly ConnectsYet tt
       (record { ours = refl; connecting = refl; out = refl; accepted = refl; theirs = refl; unasked = refl })
       (record { guest = refl; ended = refl; edge = refl; prompted = refl; answered = refl })
       (record { host = refl; window = refl; fin_out = refl })
-      (does s past now m ConnectsYet AskConnected h.goes on (λ o. o) refl (may_ask s past m h.goes.well h.goes.open_yet) (must_ask s past m h.goes.free) h.goes.open_yet refl refl)
+      (does s past now m ConnectsYet AskConnected h.goes on (λ o. o) refl (may_ask s past m h.goes.well h.goes.open_yet (h.opened.connects ∙ joins)) (must_ask s past m h.goes.free) h.goes.open_yet refl refl)
       h
 
   -- a request for the guest's address went out
@@ -55,8 +55,8 @@ module _ (s : Settings) (c : Connection) (up : Upward) (down : Downward) (past :
   any_or_true true b = refl
   any_or_true false b = refl
 
-  connected_goes : Goes s past now → Goes s (At m Connected ∷ past) m
-  connected_goes g = does s past now m Connected AskConnected g on (λ o. o) refl (may_ask s past m g.well g.open_yet) (must_ask s past m g.free) g.open_yet refl refl
+  connected_goes : is_connecting past ≡ true → Goes s past now → Goes s (At m Connected ∷ past) m
+  connected_goes connects g = does s past now m Connected AskConnected g on (λ o. o) refl (may_ask s past m g.well g.open_yet connects) (must_ask s past m g.free) g.open_yet refl refl
 
   pub connects_now : c.stage ≡ stage.Connects → HasBuffers (record c { stage = stage.Answers; syn_owed = true }) up down
       → Holds s c up down past now → Holds s (record c { stage = stage.Answers; syn_owed = true }) up down (At m Connected ∷ past) m
@@ -71,7 +71,7 @@ module _ (s : Settings) (c : Connection) (up : Upward) (down : Downward) (past :
         suits = record { ring = h.suits.ring; congestion = h.suits.congestion; scales = h.suits.scales; few = h.suits.few };
         buffers = buffers;
         within = h.within;
-        goes = connected_goes h.goes;
+        goes = connected_goes (o.connects ∙ ap (λ (st : Stage). is_connects st) is) h.goes;
         opened = record {
           live = refl;
           ours = o.ours;

@@ -64,6 +64,7 @@ module _ (s : Settings) (c : Connection) (up : Upward) (down : Downward) (past :
       (λ sent. (sym (ap (λ (o : Option ℕ). is_some o) unknown), λ is. absurd cc))
       (λ is. absurd cc) h.goes.well (λ is. absurd cc) (λ is. absurd (none_if (is_closed past) h.goes.open_yet is))
       (λ is. granted s c past h.opened h.goes.open_yet (ap (λ (st : Stage). is_connects st) at)) opens
+      (record { carries = λ is. absurd cc; acknowledges = ((λ is. absurd cc), (λ is. refl)); next = λ is. absurd cc; window = λ is. absurd cc })
       (refl, scale_is s.scales (is_scaled s past) (least_shift c.ring) (least_told s.ring) h.suits.scales (ap least_shift h.suits.ring ∙ sym (least_same s.ring))))
       (must_send s past m seg tells h.goes.free)
       h.goes.open_yet refl refl

@@ -101,13 +101,13 @@ module _ (s : Settings) (c : Connection) (up : Upward) (down : Downward) (past :
   pub refused_closes : (at_end : Bool) → is_connects c.stage ≡ true → is_opening c.stage ≡ true → IsOver s (reset c) (At m (Closes false at_end known) ∷ At m ConnectFails ∷ past) m
   refused_closes at_end connects opening =
       resets_over s c up down past now m h (At m ConnectFails ∷ past) refl refl refl h.gives.keeps (λ n come. come) false at_end known
-      (fails at_end ConnectFails AskConnected (λ none. none) refl (may_ask s past m h.goes.well h.goes.open_yet) (must_ask s past m h.goes.free) h.goes.open_yet refl)
+      (fails at_end ConnectFails AskConnected (λ none. none) refl (may_ask s past m h.goes.well h.goes.open_yet (h.opened.connects ∙ connects)) (must_ask s past m h.goes.free) h.goes.open_yet refl)
       (failed_owes (At m ConnectFails ∷ past) m false at_end known refl (unanswered_not_done (At m ConnectFails ∷ past) (unanswered opening)))
 
-  pub read_fails_closes : (at_end : Bool) → is_open c.transmission.end ≡ true → IsOver s (reset c) (At m (Closes false at_end known) ∷ At m ReadFails ∷ past) m
-  read_fails_closes at_end yet =
+  pub read_fails_closes : (at_end : Bool) → is_open c.transmission.end ≡ true → is_connects c.stage ≡ false → IsOver s (reset c) (At m (Closes false at_end known) ∷ At m ReadFails ∷ past) m
+  read_fails_closes at_end yet joined =
       resets_over s c up down past now m h (At m ReadFails ∷ past) refl refl refl h.gives.keeps (λ n come. come) false at_end known
-      (fails at_end ReadFails Read (λ none. none) refl (may_read s past m none_ended h.goes.well h.goes.open_yet) (must_read s past m h.goes.free) h.goes.open_yet refl)
+      (fails at_end ReadFails Read (λ none. none) refl (may_read s past m none_ended h.goes.well h.goes.open_yet (h.opened.connects ∙ joined)) (must_read s past m h.goes.free) h.goes.open_yet refl)
       (failed_owes (At m ReadFails ∷ past) m false at_end known refl (unacked_not_done (At m ReadFails ∷ past) not_acked))
     where
       none_ended : got_end (host past) ≡ false
@@ -127,7 +127,7 @@ module _ (s : Settings) (c : Connection) (up : Upward) (down : Downward) (past :
           our_fin (outward_of c.transmission down) past h.gives.keeps ∙ apart c.transmission.acked (octets_read down) (let order = h.buffers.feeds.sound.order in omega (arith, order, low))
 
   -- while the host wasn't told the guest's end
-  module _ (reached : is_calls c.stage ≡ false) (untold : c.host_ended ≡ false) where
+  module _ (reached : is_calls c.stage ≡ false) (joined : is_connects c.stage ≡ false) (untold : c.host_ended ≡ false) where
     not_ended : host_was_ended past ≡ false
     not_ended = (h.receives reached).host_ended ∙ untold
 
@@ -136,14 +136,14 @@ module _ (s : Settings) (c : Connection) (up : Upward) (down : Downward) (past :
         let w = wrote s.ring (part_of c up) (guest past) k 0 (omega arith) (omega (arith, all)) (h.receives reached).follows in
         let enough : OffersEnough past (take k up.held) = subst (λ (j : ℕ). OffersEnough past (take j up.held)) (sym all) (offers s past (part_of c up) (h.receives reached).follows) in
         resets_over s c up down past now m h (At m (WriteFails (take k up.held)) ∷ past) refl refl refl h.gives.keeps (λ n come honest. come (honest_before (At m (WriteFails (take k up.held))) past honest)) false at_end known
-        (fails at_end (WriteFails (take k up.held)) (Write (take k up.held)) (λ none. none) refl (may_write s past m (take k up.held) w.1 w.2 h.goes.well h.goes.open_yet) (must_write s past m (take k up.held) enough h.goes.free) h.goes.open_yet refl)
+        (fails at_end (WriteFails (take k up.held)) (Write (take k up.held)) (λ none. none) refl (may_write s past m (take k up.held) w.1 w.2 h.goes.well h.goes.open_yet (h.opened.connects ∙ joined)) (must_write s past m (take k up.held) enough h.goes.free) h.goes.open_yet refl)
         (failed_owes (At m (WriteFails (take k up.held)) ∷ past) m false at_end known refl (unended_not_done (At m (WriteFails (take k up.held)) ∷ past) not_ended))
 
     pub end_fails_closes : (at_end : Bool) → up.held ≡ [] → c.received.ended ≡ true → IsOver s (reset c) (At m (Closes false at_end known) ∷ At m EndFails ∷ past) m
     end_fails_closes at_end none ended =
         let t = told_the_end s.ring (part_of c up) (guest past) none ended untold (h.receives reached).follows in
         resets_over s c up down past now m h (At m EndFails ∷ past) refl refl refl h.gives.keeps (λ n come honest. come (honest_before (At m EndFails) past honest)) false at_end known
-        (fails at_end EndFails EndHost (λ none. none) refl (may_end s past m (t.1, t.2) h.goes.well h.goes.open_yet) (must_end s past m h.goes.free) h.goes.open_yet refl)
+        (fails at_end EndFails EndHost (λ none. none) refl (may_end s past m (t.1, t.2) h.goes.well h.goes.open_yet (h.opened.connects ∙ joined)) (must_end s past m h.goes.free) h.goes.open_yet refl)
         (failed_owes (At m EndFails ∷ past) m false at_end known refl (unended_not_done (At m EndFails ∷ past) not_ended))
 
   -- ---- both ends passed

@@ -6,8 +6,8 @@ use Rattle.cwnd.specs.Congestion.{Congestion}
 use Rattle.seq_space.specs.Places.{shifted_place}
 use Rattle.seq_space.specs.declared.Seq.{Seq}
 use Rattle.sock_buffers.specs.Downward.{Downward}
-use Rattle.tcp_transmit.specs.Acks.{IsSeenAs, acknowledged, congested, congested_by, is_duplicate, is_newer, octets_acked, opened, place_acked, windowed}
-use Rattle.tcp_transmit.specs.Transmission.{Feeds, IsSentOf, Transmission, edge_of, octets_read}
+use Rattle.tcp_transmit.specs.Acks.{IsSeenAs, acknowledged, congested, cwnd_acked, is_duplicate, is_newer, octets_acked, opened, place_acked, windowed}
+use Rattle.tcp_transmit.specs.Transmission.{Feeds, IsSentOf, Transmission, edge_of, flight, octets_read}
 use Rattle.tcp_transmit.specs.declared.AckSeen.{AckSeen}
 use Rattle.tcp_transmit.specs.declared.AckSeen.TheVariants.{Old, Same, Forward, FinToo, TooFar}
 use Rattle.tcp_transmit.specs.declared.End.{End}
@@ -95,13 +95,7 @@ windowed_stays t seq w = by (is_newer t.window seq.0 t.acked)
 pub congested_stays : (t : Transmission) (w : ℕ) (bare : Bool) (seen : AckSeen)
     → Stays t (congested t w bare seen) × ((congested t w bare seen).acked ≡ t.acked) × ((congested t w bare seen).window ≡ t.window) × ((congested t w bare seen).resend ≡ t.resend)
     × ((congested t w bare seen).timed ≡ t.timed)
-congested_stays t w bare seen = by t.cwnd
-  where
-    by : (o : Option Congestion) → Stays t (congested_by o t (is_duplicate t w bare seen) (octets_acked seen)) × ((congested_by o t (is_duplicate t w bare seen) (octets_acked seen)).acked ≡ t.acked)
-        × ((congested_by o t (is_duplicate t w bare seen) (octets_acked seen)).window ≡ t.window) × ((congested_by o t (is_duplicate t w bare seen) (octets_acked seen)).resend ≡ t.resend)
-        × ((congested_by o t (is_duplicate t w bare seen) (octets_acked seen)).timed ≡ t.timed)
-    by None = (record { first = refl; mss = refl; sent = refl; end = refl }, refl, refl, refl, refl)
-    by (Some c) = (record { first = refl; mss = refl; sent = refl; end = refl }, refl, refl, refl, refl)
+congested_stays t w bare seen = (record { first = refl; mss = refl; sent = refl; end = refl }, refl, refl, refl, refl)
 
 acknowledged_stays : (t : Transmission) (seen : AckSeen) (now : ℕ) → Stays t (acknowledged t seen now) × ((acknowledged t seen now).acked ≡ acked_by t seen) × ((acknowledged t seen now).window ≡ t.window)
 acknowledged_stays t Old now = (record { first = refl; mss = refl; sent = refl; end = refl }, refl, refl)
@@ -173,4 +167,4 @@ heard_alone t seq w bare now seen none = opened_cwnd (windowed (acknowledged (co
     acknowledged_cwnd t TooFar = refl
 
     first : (congested t w bare seen).cwnd ≡ None
-    first = ap (λ (o : Option Congestion). (congested_by o t (is_duplicate t w bare seen) (octets_acked seen)).cwnd) none ∙ none
+    first = ap (λ (o : Option Congestion). cwnd_acked o (is_duplicate t w bare seen) (flight t) (octets_acked seen)) none

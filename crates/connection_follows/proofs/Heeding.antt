@@ -71,6 +71,7 @@ congested_feeds c down f = by c.congestion
         steady = f.sound.steady;
         begins = f.sound.begins;
         segments = let most = f.sound.most in (refl, many (has_gone_again c.sendings) c.transmission.mss, omega (arith, most));
+        recovers = f.sound.recovers;
         early = f.sound.early;
         probes = f.sound.probes;
       };

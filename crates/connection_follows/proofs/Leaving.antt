@@ -15,7 +15,7 @@ use Rattle.flow_laws.specs.Event.{At, Departs, Segment, Story}
 use Rattle.flow_laws.specs.Host.{Down, Sent, StandAt, acked, answered, got, our_place, sent}
 use Rattle.flow_laws.specs.Flow.{has_connected, host, is_accepted, is_closed, syn_is_out}
 use Rattle.flow_laws.specs.Windows.{is_scaled, least_shift as least_told, our_shift as shift_told}
-use Rattle.flow_laws.specs.Lawful.{IsPiece, May, Send, SendsAgainWithReason, SendsEndAfterAll, SendsWhatTheHostSent, SendsWithinMss}
+use Rattle.flow_laws.specs.Lawful.{HasHeaderOf, IsPiece, May, Send, SendsAgainWithReason, SendsEndAfterAll, SendsWhatTheHostSent, SendsWithinMss}
 use Rattle.flow_laws.proofs.Sides.{host_sent}
 use Rattle.halves_follow.specs.Sends.{Keeps}
 use Rattle.halves_follow.proofs.Acts.{may_send, must_send}
@@ -120,21 +120,21 @@ module _ (s : Settings) (c : Connection) (up : Upward) (down : Downward) (past :
   and_left false b is = absurd cc
 
   -- it may go out
-  pub leaves_lawfully : SendsWithinMss s past (Send seg) → SendsAgainWithReason past m (Send seg) → SendsEndAfterAll past (Send seg) → May s past m (Send seg)
-  leaves_lawfully within reason end_after = may_send s past m seg carries within reason end_after
+  pub leaves_lawfully : SendsWithinMss s past (Send seg) → SendsAgainWithReason past m (Send seg) → SendsEndAfterAll past (Send seg) → HasHeaderOf past seg → May s past m (Send seg)
+  leaves_lawfully within reason end_after header = may_send s past m seg carries within reason end_after
       (acknowledges s c up past now m seg h.suits h.goes h.opened known h.gives.fin_out (h.receives known) ack rst number)
       (λ is. absurd (none_if seg.rst rst is))
       h.goes.well
       (λ is. absurd (none_if seg.rst rst is))
       (λ is. absurd (none_if (is_closed past) h.goes.open_yet is))
       (λ is. granted s c past h.opened h.goes.open_yet unconnecting)
-      ((λ is. absurd (and_false (not seg.rst) (syn_is_out past) is (h.opened.out ∙ out))), (λ is. absurd (none_if seg.syn syn (and_left seg.syn (not seg.rst) is)))) (
+      ((λ is. absurd (and_false (not seg.rst) (syn_is_out past) is (h.opened.out ∙ out))), (λ is. absurd (none_if seg.syn syn (and_left seg.syn (not seg.rst) is)))) header (
         no_mss ∙ sym (ap (λ (b : Bool). if b && not seg.rst then Some (s.mru - 40) else None) syn),
         no_scale_said ∙ sym (ap (λ (b : Bool). if s.scales && b && not seg.rst && (not seg.ack || is_scaled s past) then Some (least_told s.ring) else None) syn ∙ no_scale s.scales (not seg.rst) (not seg.ack || is_scaled s past) (least_told s.ring)),
       )
 
-  pub leaves_goes : SendsWithinMss s past (Send seg) → SendsAgainWithReason past m (Send seg) → SendsEndAfterAll past (Send seg) → Goes s (At m (Departs seg) ∷ past) m
-  leaves_goes within reason end_after = does s past now m (Departs seg) (Send seg) h.goes on (λ none. none) refl (leaves_lawfully within reason end_after)
+  pub leaves_goes : SendsWithinMss s past (Send seg) → SendsAgainWithReason past m (Send seg) → SendsEndAfterAll past (Send seg) → HasHeaderOf past seg → Goes s (At m (Departs seg) ∷ past) m
+  leaves_goes within reason end_after header = does s past now m (Departs seg) (Send seg) h.goes on (λ none. none) refl (leaves_lawfully within reason end_after header)
       (must_send s past m seg (tells_room s c up past now m seg h.suits h.goes h.opened known h.gives.fin_out (h.receives known) ack rst number window_told) h.goes.free)
       h.goes.open_yet refl refl
 

@@ -26,7 +26,7 @@ use Rattle.flow_laws.specs.Guest.{is_empty}
 use Rattle.flow_laws.specs.Host.{acked, answered, got, got_end, our_place, sent}
 use Rattle.flow_laws.specs.Flow.{host, is_under_way, syn_is_out}
 use Rattle.flow_laws.specs.Close.{fin_is_out}
-use Rattle.flow_laws.specs.Lawful.{Send, SendsAgainWithReason, SendsEndAfterAll, is_overdue, is_prompted}
+use Rattle.flow_laws.specs.Lawful.{HasHeaderOf, Send, SendsAgainWithReason, SendsEndAfterAll, is_overdue, is_prompted}
 use Rattle.halves_follow.specs.Resends.{Resends, Timer as FlowTimer, Until}
 use Rattle.halves_follow.specs.Sends.{Keeps, Outward}
 use Rattle.halves_follow.proofs.Gone.{first_goes, next_goes, oldest_goes, oldest_goes_anyway}
@@ -240,6 +240,19 @@ module _ (s : Settings) (c : Connection) (up : Upward) (down : Downward) (past :
       )
       by false is fin = absurd cc
 
+  not_alone : (xs : List ℕ) (fin : Bool) → 0 < length xs + (if fin then 1 else 0) → IsTrue (true && true && not fin && is_empty xs) → ⊥
+  not_alone xs true is alone = absurd cc
+  not_alone [] false is alone = absurd (omega arith)
+  not_alone (x ∷ xs) false is alone = absurd cc
+
+  header : HasHeaderOf past seg
+  header = record {
+    carries = λ is. answered_now;
+    acknowledges = ((λ is. refl), (λ is. absurd cc));
+    next = λ is. absurd (not_alone (octets_of down p) p.fin (omega (arith, some, whole)) is);
+    window = λ is. absurd cc;
+  }
+
   -- ---- the timer
 
   order : t.acked ≤ t.sent
@@ -368,7 +381,7 @@ module _ (s : Settings) (c : Connection) (up : Upward) (down : Downward) (past :
     suits = record { ring = h.suits.ring; congestion = h.suits.congestion; scales = h.suits.scales; few = h.suits.few };
     buffers = buffers;
     within = h.within;
-    goes = leaves_goes s c up down past now m seg on h known (h.opened.sent synchronized) refl refl refl refl refl refl refl p.place refl low joins (near kind) cut within (reason kind) end_after;
+    goes = leaves_goes s c up down past now m seg on h known (h.opened.sent synchronized) refl refl refl refl refl refl refl p.place refl low joins (near kind) cut within (reason kind) end_after header;
     opened = opened_sending s (told c up (our_shift c)) (after_sent t p m) after refl (opened_told s c up (our_shift c) after (opened_on s c past after (record { ours = refl; connecting = refl; out = refl; accepted = refl; theirs = refl; unasked = refl }) refl h.opened));
     awaits = λ is. let not_it = sym is ∙ known in absurd cc;
     receives = λ is. receives_sending s (told c up (our_shift c)) (after_sent t p m) up after

@@ -20,7 +20,7 @@ use Rattle.halves_follow.proofs.Reasons.{reason_later, reason_stays}
 use Rattle.halves_follow.proofs.Resent.{quiet}
 use Rattle.halves_follow.proofs.Sendings.{rises}
 use Rattle.halves_follow.proofs.SendSteps.{reads as reads_step, reads_end as end_step}
-use Rattle.connection_follows.specs.Holding.{Gives, Holds}
+use Rattle.connection_follows.specs.Holding.{Gives, Holds, is_connects}
 use Rattle.connection_follows.specs.Seen.{count_of, outward_of, resending_of, timer_of}
 use Rattle.connection_follows.proofs.Going.{does}
 use Rattle.connection_follows.proofs.Quiet.{awaits_on, awaits_sending, opened_on, opened_sending, receives_on, receives_sending}
@@ -40,7 +40,7 @@ sent_within our_end.Sent sent octets is all = absurd cc
 not_all : (acked n k : ℕ) → acked ≤ n → n ≤ k → nat_eq acked (k + 1) ≡ nat_eq acked (n + 1)
 not_all acked n k low on = let a : nat_eq acked (k + 1) ≡ false = grind (arith, nat_tests) in let b : nat_eq acked (n + 1) ≡ false = grind (arith, nat_tests) in a ∙ sym b
 
-module _ (s : Settings) (c : Connection) (up : Upward) (down : Downward) (past : Story) (now m : ℕ) (on : now ≤ m) (h : Holds s c up down past now) (yet : is_open c.transmission.end ≡ true) where
+module _ (s : Settings) (c : Connection) (up : Upward) (down : Downward) (past : Story) (now m : ℕ) (on : now ≤ m) (h : Holds s c up down past now) (yet : is_open c.transmission.end ≡ true) (joined : is_connects c.stage ≡ false) where
   none_ended : got_end (host past) ≡ false
   none_ended = sym h.gives.keeps.ended ∙ ap not yet
 
@@ -82,7 +82,7 @@ module _ (s : Settings) (c : Connection) (up : Upward) (down : Downward) (past :
         suits = record { ring = h.suits.ring; congestion = h.suits.congestion; scales = h.suits.scales; few = h.suits.few };
         buffers = buffers;
         within = fits;
-        goes = does s past now m (Reads xs) Read h.goes on (λ none. none) refl (may_read s past m none_ended h.goes.well h.goes.open_yet) (must_read s past m h.goes.free) h.goes.open_yet refl refl;
+        goes = does s past now m (Reads xs) Read h.goes on (λ none. none) refl (may_read s past m none_ended h.goes.well h.goes.open_yet (h.opened.connects ∙ joined)) (must_read s past m h.goes.free) h.goes.open_yet refl refl;
         opened = opened_sending s c (watched_over c.transmission (with_octets xs) m) (At m (Reads xs) ∷ past) (watched_mss c.transmission down (nat_lt c.transmission.sent (places c.transmission (with_octets xs))) m) o;
         awaits = λ is. awaits_sending s c (watched_over c.transmission (with_octets xs) m) up (At m (Reads xs) ∷ past)
             (awaits_on s c up past (At m (Reads xs) ∷ past) (record { ours = refl; connecting = refl; out = refl; accepted = refl; theirs = refl; unasked = refl }) (record { guest = refl; ended = refl; edge = refl; prompted = refl; answered = refl }) (h.awaits is));
@@ -125,7 +125,7 @@ module _ (s : Settings) (c : Connection) (up : Upward) (down : Downward) (past :
         suits = record { ring = h.suits.ring; congestion = h.suits.congestion; scales = h.suits.scales; few = h.suits.few };
         buffers = buffers;
         within = h.within;
-        goes = does s past now m ReadsEnd Read h.goes on (λ none. none) refl (may_read s past m none_ended h.goes.well h.goes.open_yet) (must_read s past m h.goes.free) h.goes.open_yet refl refl;
+        goes = does s past now m ReadsEnd Read h.goes on (λ none. none) refl (may_read s past m none_ended h.goes.well h.goes.open_yet (h.opened.connects ∙ joined)) (must_read s past m h.goes.free) h.goes.open_yet refl refl;
         opened = opened_sending s c (watched unsent_end true m) (At m ReadsEnd ∷ past) (watched_mss unsent_end down true m) o;
         awaits = λ is. awaits_sending s c (watched unsent_end true m) up (At m ReadsEnd ∷ past)
             (awaits_on s c up past (At m ReadsEnd ∷ past) (record { ours = refl; connecting = refl; out = refl; accepted = refl; theirs = refl; unasked = refl }) (record { guest = refl; ended = refl; edge = refl; prompted = refl; answered = refl }) (h.awaits is));

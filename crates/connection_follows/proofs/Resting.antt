@@ -102,7 +102,8 @@ module _ (s : Settings) (c : Connection) (up : Upward) (down : Downward) (past :
   may : May s past m (Send seg)
   may = may_send s past m seg carries (omega arith) (prompted_is seg.rst (not (repeats past seg)) (is_prompted past) (is_overdue m past seg) (h.prompted owed)) (λ is. absurd cc)
       (λ is. (sym is_known, λ yes_ honest. step.1 honest)) (λ is. absurd cc) h.over.well (λ is. absurd cc) (λ is. (refl, refl, refl, ap (λ (o : Option ℕ). is_some o) h.begun)) (λ is. h.granted)
-      ((λ is. absurd (none_if (syn_is_out past) h.out is)), (λ is. absurd cc)) (refl, no_scale s.scales true (not true || is_scaled s past) (least_shift s.ring))
+      ((λ is. absurd (none_if (syn_is_out past) h.out is)), (λ is. absurd cc))
+      (record { carries = λ is. absurd cc; acknowledges = ((λ is. refl), (λ is. absurd cc)); next = λ is. at_end; window = λ is. absurd cc }) (refl, no_scale s.scales true (not true || is_scaled s past) (least_shift s.ring))
 
   none_must : MustClose past → ⊥
   none_must must = let not_it = sym must.2 ∙ h.over.closed in absurd cc

@@ -237,7 +237,8 @@ module _ (s : Settings) (c : Connection) (up : Upward) (down : Downward) (past :
       (may_send s past m seg (refl, refl) (omega arith) (syn_reason s c down up past now m seg on late h opening refl refl owed) (λ is. absurd cc)
       (acknowledges s c up past now m seg h.suits h.goes h.opened known h.gives.fin_out (h.receives known) refl refl refl)
       (λ is. absurd cc) h.goes.well (λ is. absurd cc) (λ is. absurd (none_if (is_closed past) h.goes.open_yet is))
-      (λ is. granted s c past h.opened h.goes.open_yet (ap (λ (st : Stage). is_connects st) at)) opens options)
+      (λ is. granted s c past h.opened h.goes.open_yet (ap (λ (st : Stage). is_connects st) at)) opens
+      (record { carries = λ is. absurd cc; acknowledges = ((λ is. refl), (λ is. absurd cc)); next = λ is. absurd cc; window = λ is. absurd cc }) options)
       (must_send s past m seg (tells_room s c up past now m seg h.suits h.goes h.opened known h.gives.fin_out (h.receives known) refl refl refl refl) h.goes.free)
       h.goes.open_yet refl refl
 

@@ -9,7 +9,7 @@ use Rattle.retransmit.specs.declared.Timer.TheVariants as timer
 use Rattle.retransmit.proofs.Steady.{steady_expired}
 use Rattle.sock_buffers.specs.Downward.{Downward}
 use Rattle.sock_buffers.specs.Upward.{Upward}
-use Rattle.tcp_transmit.specs.Timing.{after_expired, cwnd_expired}
+use Rattle.tcp_transmit.specs.Timing.{after_expired, cwnd_expired, timed_out}
 use Rattle.tcp_transmit.specs.Transmission.{Transmission, flight, is_sent, octets_read}
 use Rattle.tcp_guest.specs.Connection.{Connection, HasBuffers, has_gone, is_opening}
 use Rattle.flow_laws.specs.Settings.{Settings}
@@ -64,8 +64,8 @@ module _ (past : Story) (now at : ℕ) (late : at ≤ now) where
 expired_is : (r : Resending) → is_given_up r ≡ false → resend_expired r ≡ record r { estimate = after_expiry r.estimate; timer = expired_by r.timer r.estimate.wait }
 expired_is r is = ap (λ (b : Bool). if b then r else record r { estimate = after_expiry r.estimate; timer = expired_by r.timer r.estimate.wait }) is
 
-transmission_is : (t : Transmission) → is_given_up t.resend ≡ false → after_expired t ≡ record t { resend = resend_expired t.resend; cwnd = cwnd_expired t.cwnd (flight t) t.again }
-transmission_is t is = ap (λ (b : Bool). if b then t else record t { resend = resend_expired t.resend; cwnd = cwnd_expired t.cwnd (flight t) t.again }) is
+transmission_is : (t : Transmission) → is_given_up t.resend ≡ false → after_expired t ≡ timed_out t
+transmission_is t is = ap (λ (b : Bool). if b then t else timed_out t) is
 
 module _ (s : Settings) (c : Connection) (up : Upward) (down : Downward) (past : Story) (now : ℕ) (h : Holds s c up down past now) (at : ℕ) (late : at ≤ now) where
   ran : (r : Resending) → resending_of c ≡ r → Resends past now (timer_of r) (count_of (is_under_way past) r) r.estimate.wait

@@ -51,6 +51,7 @@ limited_feeds t down k low alone f = record {
     steady = f.sound.steady;
     begins = f.sound.begins;
     segments = subst (λ (o : Option Congestion). IsOfSegments o (min t.mss k)) (sym alone) tt;
+    recovers = f.sound.recovers;
     early = f.sound.early;
     probes = f.sound.probes;
   };

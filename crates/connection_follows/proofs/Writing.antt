@@ -18,7 +18,7 @@ use Rattle.halves_follow.proofs.Resets.{ended_current, wrote_current}
 use Rattle.halves_follow.proofs.Rests.{quiet_ends}
 use Rattle.halves_follow.proofs.Steps.{told_the_end, wrote}
 use Rattle.halves_follow.proofs.Wanting.{offers}
-use Rattle.connection_follows.specs.Holding.{Holds, Receives, is_calls, without}
+use Rattle.connection_follows.specs.Holding.{Holds, Receives, is_calls, is_connects, without}
 use Rattle.connection_follows.specs.Seen.{part_of}
 use Rattle.connection_follows.proofs.Going.{does}
 use Rattle.connection_follows.proofs.Quiet.{gives_as, gives_on, opened_beside, opened_on}
@@ -40,7 +40,7 @@ or_true : (a b : Bool) → b ≡ true → (a || b) ≡ true
 or_true true b is = refl
 or_true false b is = is
 
-module _ (s : Settings) (c : Connection) (up : Upward) (down : Downward) (past : Story) (now m : ℕ) (on : now ≤ m) (known : is_calls c.stage ≡ false) where
+module _ (s : Settings) (c : Connection) (up : Upward) (down : Downward) (past : Story) (now m : ℕ) (on : now ≤ m) (known : is_calls c.stage ≡ false) (joined : is_connects c.stage ≡ false) where
   -- the front of what is held was offered, and the host took so many octets
   module _ (k n : ℕ) (few : n ≤ k) (all : k ≡ min 16384 (length up.held)) where
     within : k ≤ length up.held
@@ -73,7 +73,7 @@ module _ (s : Settings) (c : Connection) (up : Upward) (down : Downward) (past :
           buffers = buffers;
           within = h.within;
           goes = does s past now m (Writes (take k up.held) n) (Write (take k up.held)) h.goes on (λ o. o) refl
-              (may_write s past m (take k up.held) w.1 w.2 h.goes.well h.goes.open_yet) (must_write s past m (take k up.held) enough h.goes.free) h.goes.open_yet refl refl;
+              (may_write s past m (take k up.held) w.1 w.2 h.goes.well h.goes.open_yet (h.opened.connects ∙ joined)) (must_write s past m (take k up.held) enough h.goes.free) h.goes.open_yet refl refl;
           opened = opened_on s c past (At m (Writes (take k up.held) n) ∷ past) (record { ours = refl; connecting = refl; out = refl; accepted = refl; theirs = refl; unasked = refl }) refl h.opened;
           awaits = λ is. let not_it = sym is ∙ known in absurd cc;
           receives = λ is. written_receives r;
@@ -107,7 +107,7 @@ module _ (s : Settings) (c : Connection) (up : Upward) (down : Downward) (past :
         suits = record { ring = h.suits.ring; congestion = h.suits.congestion; scales = h.suits.scales; few = h.suits.few };
         buffers = buffers;
         within = h.within;
-        goes = does s past now m EndsHost EndHost h.goes on (λ o. o) refl (may_end s past m (t.1, t.2) h.goes.well h.goes.open_yet) (must_end s past m h.goes.free) h.goes.open_yet refl refl;
+        goes = does s past now m EndsHost EndHost h.goes on (λ o. o) refl (may_end s past m (t.1, t.2) h.goes.well h.goes.open_yet (h.opened.connects ∙ joined)) (must_end s past m h.goes.free) h.goes.open_yet refl refl;
         opened = opened_beside s c (record c { host_ended = true }) (At m EndsHost ∷ past) refl refl (λ is. is) o.quiet o;
         awaits = λ is. let not_it = sym is ∙ known in absurd cc;
         receives = λ is. ended_receives none ended untold r;

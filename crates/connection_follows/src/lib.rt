@@ -22,7 +22,7 @@ ghost use Rattle.flow_laws.specs.Event.{Story, At, Departs, Writes};
 ghost use Rattle.flow_laws.specs.Lawful.{May, Send, Write};
 ghost use Rattle.flow_laws.specs.Dutiful.{Must};
 ghost use Rattle.halves_follow.specs.Settled.{IsSettledIf};
-ghost use Rattle.connection_follows.specs.Holding.{Holds, is_calls, without};
+ghost use Rattle.connection_follows.specs.Holding.{Holds, is_calls, is_connects, without};
 ghost use Rattle.connection_follows.specs.Sending.{segment_out};
 
 /// What a connection owes may be sent, as it must be: a SYN, a SYN-ACK, a piece of the host's stream or an acknowledgement,
@@ -40,17 +40,17 @@ pub fn what_is_owed_may_be_sent()
         → Holds s (gone what c up m) up down (At m (Departs (segment_out s.mru c up down what)) ∷ past) m }
 {}
 
-/// The octets of the guest that are held may be offered to the host, 16,384 at most, and the connection follows the story
-/// however many of them the host took.
+/// The octets of the guest that are held may be offered to a host that has connected, 16,384 at most, and the connection
+/// follows the story however many of them the host took.
 pub fn octets_that_are_held_may_be_written()
     ensures lawful { (s : Settings) (c : Connection) (up : Upward) (down : Downward) (past : Story) (now m k n : ℕ)
-        → Holds s c up down past now → now ≤ m → is_calls c.stage ≡ false → n ≤ k → k ≡ min 16384 (length up.held)
+        → Holds s c up down past now → now ≤ m → is_calls c.stage ≡ false → is_connects c.stage ≡ false → n ≤ k → k ≡ min 16384 (length up.held)
         → HasBuffers c (without up n) down → May s past m (Write (take k up.held)) }
     ensures dutiful { (s : Settings) (c : Connection) (up : Upward) (down : Downward) (past : Story) (now m k n : ℕ)
-        → Holds s c up down past now → now ≤ m → is_calls c.stage ≡ false → n ≤ k → k ≡ min 16384 (length up.held)
+        → Holds s c up down past now → now ≤ m → is_calls c.stage ≡ false → is_connects c.stage ≡ false → n ≤ k → k ≡ min 16384 (length up.held)
         → HasBuffers c (without up n) down → Must s past m (Write (take k up.held)) }
     ensures follows { (s : Settings) (c : Connection) (up : Upward) (down : Downward) (past : Story) (now m k n : ℕ)
-        → Holds s c up down past now → now ≤ m → is_calls c.stage ≡ false → n ≤ k → k ≡ min 16384 (length up.held)
+        → Holds s c up down past now → now ≤ m → is_calls c.stage ≡ false → is_connects c.stage ≡ false → n ≤ k → k ≡ min 16384 (length up.held)
         → HasBuffers c (without up n) down
         → Holds s c (without up n) down (At m (Writes (take k up.held) n) ∷ past) m }
 {}

@@ -1,6 +1,5 @@
 -- What each change keeps.
 use Rattle.std.proofs.Common.{◌≡◌, ℕ, ◌<◌, ◌≤◌, ◌^◌, ◌+◌, Bool, true, false, Option, None, Some, refl, sym, subst, ◌∙◌, arith, if◌then◌else◌, length, drop, length-drop}
-use Rattle.cwnd.specs.Congestion.{Congestion}
 use Rattle.sock_buffers.specs.Downward.{Downward}
 use Rattle.sock_buffers.specs.Upward.{Upward}
 use Rattle.seq_space.specs.declared.Seq.{Seq}
@@ -31,10 +30,6 @@ first_if : (b : Bool) (x y : Transmission) (n : ℕ) → x.first ≡ n → y.fir
 first_if true x y n x_is y_is = x_is
 first_if false x y n x_is y_is = y_is
 
-first_congested : (cwnd : Option Congestion) (t : Transmission) (duplicate : Bool) (octets : ℕ) → (congested_by cwnd t duplicate octets).first ≡ t.first
-first_congested None t duplicate octets = refl
-first_congested (Some w) t duplicate octets = refl
-
 first_acknowledged : (t : Transmission) (seen : AckSeen) (now : ℕ) → (transmission_acknowledged t seen now).first ≡ t.first
 first_acknowledged t Old now = refl
 first_acknowledged t Same now = refl
@@ -54,11 +49,10 @@ first_watched t unsent now = first_if _ _ _ t.first refl refl
 pub first_acked : (t : Transmission) (down : Downward) (seq : Seq) (window : ℕ) (bare : Bool) (now : ℕ) (seen : AckSeen) → (after_ack t down seq window bare now seen).first ≡ t.first
 first_acked t down seq window bare now seen =
     first_if (is_acceptable seen) _ t t.first (
-    first_watched (transmission_opened (windowed (transmission_acknowledged (congested_by t.cwnd t _ (octets_acked seen)) seen now) seq window)) _ now
-    ∙ first_opened (windowed (transmission_acknowledged (congested_by t.cwnd t _ (octets_acked seen)) seen now) seq window)
-    ∙ first_windowed (transmission_acknowledged (congested_by t.cwnd t _ (octets_acked seen)) seen now) seq window
-    ∙ first_acknowledged (congested_by t.cwnd t _ (octets_acked seen)) seen now
-    ∙ first_congested t.cwnd t _ (octets_acked seen)
+    first_watched (transmission_opened (windowed (transmission_acknowledged (congested_by t _ (octets_acked seen)) seen now) seq window)) _ now
+    ∙ first_opened (windowed (transmission_acknowledged (congested_by t _ (octets_acked seen)) seen now) seq window)
+    ∙ first_windowed (transmission_acknowledged (congested_by t _ (octets_acked seen)) seen now) seq window
+    ∙ first_acknowledged (congested_by t _ (octets_acked seen)) seen now
     ) refl
 
 pub first_expired : (t : Transmission) → (after_expired t).first ≡ t.first

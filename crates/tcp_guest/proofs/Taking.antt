@@ -1,12 +1,16 @@
 -- What a segment changes, from what the two halves say of it.
 use Rattle.std.proofs.Common.{◌≡◌, ℕ, ◌+◌, Bool, ◌||◌, ap, ◌∙◌}
+use Rattle.seq_space.specs.declared.Seq.{Seq}
+use Rattle.sock_buffers.specs.Downward.{Downward}
 use Rattle.sock_buffers.specs.Upward.{Upward}
 use Rattle.tcp_receive.specs.Received.{Received}
 use Rattle.tcp_segment.specs.Tcp.{Tcp}
+use Rattle.tcp_transmit.specs.Acks.{after_ack, octets_acked, without}
+use Rattle.tcp_transmit.specs.Transmission.{Transmission}
 use Rattle.tcp_transmit.specs.declared.AckSeen.{AckSeen}
 use Rattle.tcp_guest.specs.Checks.{is_fin}
 use Rattle.tcp_guest.specs.Connection.{Connection}
-use Rattle.tcp_guest.specs.Segments.{arrived, count_taken, is_end_taken, is_fin_too, is_to_acknowledge, is_too_far, noted, received_after}
+use Rattle.tcp_guest.specs.Segments.{arrived, confirmed, count_taken, is_end_taken, is_fin_too, is_to_acknowledge, is_too_far, noted, received_after}
 
 received_is : (r q : Received) (up : Upward) (seg : Tcp) (n : ℕ) (fin : Bool)
     → q ≡ record r { taken = r.taken + n; ended = r.ended || fin }
@@ -34,3 +38,11 @@ noted_is s d is seen fin far fin_is far_is =
     ap (λ (b : Bool). record s { fin_acked = s.fin_acked || b; ack_owed = s.ack_owed || far }) fin_is
     ∙ ap (λ (b : Bool). record s { fin_acked = s.fin_acked || is_fin_too seen; ack_owed = s.ack_owed || b }) far_is
     ∙ ap (λ (x : Connection). noted x seen) is
+
+pub confirmed_is : (s c : Connection) → s ≡ c → (down after : Downward) (seq : Seq) (window : ℕ) (bare : Bool) (now : ℕ) (seen : AckSeen) (t : Transmission)
+    → after ≡ without (octets_acked seen) down
+    → t ≡ after_ack s.transmission after seq window bare now seen
+    → record s { transmission = t } ≡ confirmed c down seq window bare now seen
+confirmed_is s c is down after seq window bare now seen t after_is t_is =
+    ap (λ (u : Transmission). record s { transmission = u }) (t_is ∙ ap (λ (d : Downward). after_ack s.transmission d seq window bare now seen) after_is)
+    ∙ ap (λ (x : Connection). confirmed x down seq window bare now seen) is

@@ -10,9 +10,9 @@ use Rattle.retransmit.specs.declared.Timer.TheVariants.{Off, Since, Expired}
 use Rattle.retransmit.proofs.Steady.{steady_answered, steady_expired, steady_moved, steady_sent, steady_start, steady_stop}
 use Rattle.sock_buffers.specs.Downward.{Downward}
 use Rattle.seq_space.specs.declared.Seq.{Seq}
-use Rattle.tcp_transmit.specs.Acks.{IsSeenAs, acknowledged, after_ack, congested, congested_by, cwnd_after, is_acceptable, is_duplicate, is_last_window, is_newer, is_same, is_third, moved, octets_acked, opened, windowed, without}
+use Rattle.tcp_transmit.specs.Acks.{IsSeenAs, acknowledged, after_ack, congested, congested_by, cwnd_acked, cwnd_after, is_acceptable, is_duplicate, is_last_window, is_newer, is_same, is_third, moved, octets_acked, opened, owes_again, windowed, without}
 use Rattle.tcp_transmit.specs.Pieces.{end_of, next, numbers, piece_owed}
-use Rattle.tcp_transmit.specs.Timing.{after_expired, after_sent, cwnd_expired, goes_again, is_given_up, round_trip, watched, watched_over}
+use Rattle.tcp_transmit.specs.Timing.{after_expired, after_sent, cwnd_expired, goes_again, is_given_up, round_trip, timed_out, watched, watched_over}
 use Rattle.tcp_transmit.specs.Transmission.{Feeds, IsOfSegments, IsSentOf, IsSound, Transmission, edge_of, end_places, flight, is_closed, octets_read, places}
 use Rattle.tcp_transmit.specs.declared.AckSeen.{AckSeen}
 use Rattle.tcp_transmit.specs.declared.AckSeen.TheVariants.{Old, Same, Forward, FinToo, TooFar}
@@ -36,6 +36,7 @@ rested t resend sound rests steady none = record {
   steady = steady;
   begins = λ _. none;
   segments = sound.segments;
+  recovers = sound.recovers;
   early = sound.early;
   probes = sound.probes;
 }
@@ -159,6 +160,7 @@ sent_feeds t down p now soon feeds owed =
         steady = steady_sent t.resend (goes_again t p) now soon feeds.sound.steady;
         begins = λ at. absurd (omega (arith, lies.under_way));
         segments = feeds.sound.segments;
+        recovers = let recovers = feeds.sound.recovers in omega arith;
         early = λ no. cc;
         probes = λ _. lies.under_way;
       };
@@ -184,8 +186,12 @@ segments_expired (Some c) mss flight again segments = by_tests (nat_lt 0 flight)
     by_tests true true = (segments.0, omega (arith, segments.0), segments.2)
     by_tests true false = (segments.0, omega (arith, segments.0), omega (arith, segments.0))
 
+at_most : (b : Bool) (sent recover : ℕ) → recover ≤ sent → (if b then sent else recover) ≤ sent
+at_most true sent recover low = omega arith
+at_most false sent recover low = low
+
 expired_now : (t : Transmission) (down : Downward) → is_given_up t ≡ false → Feeds t down
-    → Feeds (record t { resend = resending.after_expired t.resend; cwnd = cwnd_expired t.cwnd (flight t) t.again }) down
+    → Feeds (timed_out t) down
 expired_now t down on feeds =
     let r = t.resend in
     let timer_is : (resending.after_expired r).timer ≡ expired_by r.timer r.estimate.wait =
@@ -202,6 +208,7 @@ expired_now t down on feeds =
         steady = steady_expired r feeds.sound.steady;
         begins = λ at. resent_is ∙ feeds.sound.begins at;
         segments = segments_expired t.cwnd t.mss (flight t) t.again feeds.sound.segments;
+        recovers = at_most (nat_lt t.acked t.sent) t.sent t.recover feeds.sound.recovers;
         early = feeds.sound.early;
         probes = feeds.sound.probes;
       };
@@ -215,7 +222,7 @@ expired_now t down on feeds =
 pub expired_feeds : (t : Transmission) (down : Downward) → Feeds t down → Feeds (after_expired t) down
 expired_feeds t down feeds = by_test (is_given_up t) refl
   where
-    by_test : (b : Bool) → is_given_up t ≡ b → Feeds (if b then t else record t { resend = resending.after_expired t.resend; cwnd = cwnd_expired t.cwnd (flight t) t.again }) down
+    by_test : (b : Bool) → is_given_up t ≡ b → Feeds (if b then t else timed_out t) down
     by_test true is = feeds
     by_test false is = expired_now t down is feeds
 
@@ -241,22 +248,25 @@ segments_after c mss flight octets false most segments = by_tests (nat_lt 0 octe
     by_tests true true = (segments.0, omega (arith, segments.1), segments.2)
     by_tests true false = (segments.0, omega (arith, segments.2), segments.2)
 
-congested_sound : (cwnd : Option Congestion) (t : Transmission) (duplicate : Bool) (octets : ℕ) → t.cwnd ≡ cwnd → (duplicate ≡ true → t.acked < t.sent) → IsSound t
-    → IsSound (congested_by cwnd t duplicate octets)
-congested_sound None t duplicate octets is under sound = sound
-congested_sound (Some c) t duplicate octets is under sound = record {
+cwnd_segments : (cwnd : Option Congestion) (mss flight octets : ℕ) (duplicate : Bool) → mss ≤ 1460 → IsOfSegments cwnd mss → IsOfSegments (cwnd_acked cwnd duplicate flight octets) mss
+cwnd_segments None mss flight octets duplicate most segments = segments
+cwnd_segments (Some c) mss flight octets duplicate most segments = segments_after c mss flight octets duplicate most segments
+
+congested_sound : (t : Transmission) (duplicate : Bool) (octets : ℕ) → (duplicate ≡ true → t.acked < t.sent) → IsSound t → IsSound (congested_by t duplicate octets)
+congested_sound t duplicate octets under sound = record {
   least = sound.least;
   most = sound.most;
   order = sound.order;
   set = sound.set;
   steady = sound.steady;
   begins = sound.begins;
-  segments = segments_after c t.mss (flight t) octets duplicate sound.most (subst (λ w. IsOfSegments w t.mss) is sound.segments);
+  segments = cwnd_segments t.cwnd t.mss (flight t) octets duplicate sound.most sound.segments;
+  recovers = at_most (is_third t duplicate) t.sent t.recover sound.recovers;
   early = by_test t.early duplicate refl under;
   probes = sound.probes;
 }
   where
-    by_test : (e d : Bool) → t.early ≡ e → (d ≡ true → t.acked < t.sent) → (e || is_third c d) ≡ true → t.acked < t.sent
+    by_test : (e d : Bool) → t.early ≡ e → (d ≡ true → t.acked < t.sent) → (e || is_third t d) ≡ true → t.acked < t.sent
     by_test true d early under owed = sound.early early
     by_test false true early under owed = under refl
     by_test false false early under owed = cc
@@ -270,11 +280,10 @@ duplicate_under t window bare seen is = by_tests bare (is_same seen) (nat_lt t.a
     by_tests true false c under is = cc
     by_tests false b c under is = cc
 
-pub congested_feeds : (cwnd : Option Congestion) (t : Transmission) (down : Downward) (duplicate : Bool) (octets : ℕ) → t.cwnd ≡ cwnd → (duplicate ≡ true → t.acked < t.sent) → Feeds t down
-    → Feeds (congested_by cwnd t duplicate octets) down
-congested_feeds None t down duplicate octets is under feeds = feeds
-congested_feeds (Some c) t down duplicate octets is under feeds = record {
-  sound = congested_sound (Some c) t duplicate octets is under feeds.sound;
+pub congested_feeds : (t : Transmission) (down : Downward) (duplicate : Bool) (octets : ℕ) → (duplicate ≡ true → t.acked < t.sent) → Feeds t down
+    → Feeds (congested_by t duplicate octets) down
+congested_feeds t down duplicate octets under feeds = record {
+  sound = congested_sound t duplicate octets under feeds.sound;
   first = feeds.first;
   all = feeds.all;
   few = feeds.few;
@@ -282,14 +291,13 @@ congested_feeds (Some c) t down duplicate octets is under feeds = record {
   waits = feeds.waits;
 }
 
-pub congested_seen : (cwnd : Option Congestion) (t : Transmission) (down : Downward) (duplicate : Bool) (octets : ℕ) (at : ℤ) (seen : AckSeen) → IsSeenAs t down at seen
-    → IsSeenAs (congested_by cwnd t duplicate octets) down at seen
-congested_seen None t down duplicate octets at seen is = is
-congested_seen (Some c) t down duplicate octets at Old is = is
-congested_seen (Some c) t down duplicate octets at Same is = is
-congested_seen (Some c) t down duplicate octets at (Forward n) is = is
-congested_seen (Some c) t down duplicate octets at (FinToo n) is = is
-congested_seen (Some c) t down duplicate octets at TooFar is = is
+pub congested_seen : (t : Transmission) (down : Downward) (duplicate : Bool) (octets : ℕ) (at : ℤ) (seen : AckSeen) → IsSeenAs t down at seen
+    → IsSeenAs (congested_by t duplicate octets) down at seen
+congested_seen t down duplicate octets at Old is = is
+congested_seen t down duplicate octets at Same is = is
+congested_seen t down duplicate octets at (Forward n) is = is
+congested_seen t down duplicate octets at (FinToo n) is = is
+congested_seen t down duplicate octets at TooFar is = is
 
 -- the window, and a probe for which it has room
 windowed_step : (t : Transmission) (seq : Seq) (window : ℕ) → IsSound t → Steps t (windowed t seq window)
@@ -308,6 +316,7 @@ windowed_step t seq window sound = by_test (is_newer t.window seq.0 t.acked)
         steady = sound.steady;
         begins = sound.begins;
         segments = sound.segments;
+        recovers = sound.recovers;
         early = sound.early;
         probes = sound.probes;
       };
@@ -330,6 +339,7 @@ opened_step t sound = by_test (nat_lt t.acked (edge_of t.window)) t.probing refl
         steady = sound.steady;
         begins = sound.begins;
         segments = sound.segments;
+        recovers = sound.recovers;
         early = λ _. sound.probes probing;
         probes = λ no. cc;
       };
@@ -351,7 +361,8 @@ moved_sound t place now soon sound within = record {
   steady = steady_moved t.resend (round_trip t.timed place now) (nat_lt place t.sent) now soon sound.steady;
   begins = λ _. refl;
   segments = sound.segments;
-  early = λ no. cc;
+  recovers = sound.recovers;
+  early = λ (owed : owes_again t place ≡ true). let recovers = sound.recovers in grind (arith, nat_tests);
   probes = λ no. cc;
 }
 
@@ -364,6 +375,7 @@ same_sound t sound = record {
   steady = steady_answered t.resend sound.steady;
   begins = λ _. refl;
   segments = sound.segments;
+  recovers = sound.recovers;
   early = sound.early;
   probes = sound.probes;
 }
@@ -415,8 +427,8 @@ pub ack_feeds : (t : Transmission) (down : Downward) (seq : Seq) (window : ℕ) 
     → Feeds (watched_over (opened (windowed (acknowledged (congested t window bare seen) seen now) seq window)) (without (octets_acked seen) down) now) (without (octets_acked seen) down)
 ack_feeds t down seq window bare now at seen soon feeds is acceptable =
     acknowledged_feeds (congested t window bare seen) down seq window now at seen soon
-    (congested_feeds t.cwnd t down (is_duplicate t window bare seen) (octets_acked seen) refl (duplicate_under t window bare seen) feeds)
-    (congested_seen t.cwnd t down (is_duplicate t window bare seen) (octets_acked seen) at seen is) acceptable
+    (congested_feeds t down (is_duplicate t window bare seen) (octets_acked seen) (duplicate_under t window bare seen) feeds)
+    (congested_seen t down (is_duplicate t window bare seen) (octets_acked seen) at seen is) acceptable
 
 -- no octet of the stream is lost by it
 pub ack_reads : (t : Transmission) (down : Downward) (at : ℤ) (seen : AckSeen) → Feeds t down → IsSeenAs t down at seen
@@ -433,10 +445,6 @@ record Stays (t u : Transmission) : Type 0 where
   sent : t.sent ≡ u.sent
   end : t.end ≡ u.end
   resend : t.resend ≡ u.resend
-
-congested_stays : (cwnd : Option Congestion) (t : Transmission) (duplicate : Bool) (octets : ℕ) → Stays t (congested_by cwnd t duplicate octets)
-congested_stays None t duplicate octets = record { acked = refl; sent = refl; end = refl; resend = refl }
-congested_stays (Some c) t duplicate octets = record { acked = refl; sent = refl; end = refl; resend = refl }
 
 windowed_stays : (t : Transmission) (seq : Seq) (window : ℕ) → Stays t (windowed t seq window)
 windowed_stays t seq window = by_test (is_newer t.window seq.0 t.acked)
@@ -481,17 +489,16 @@ pub same_steady : (t : Transmission) (down after : Downward) (seq : Seq) (window
     → (after_ack t after seq window bare now Same).resend.timer ≡ t.resend.timer
 same_steady t down after seq window bare now feeds read on left =
     let c = congested t window bare Same in
-    let one = congested_stays t.cwnd t (is_duplicate t window bare Same) 0 in
     let a = acknowledged c Same now in
     let w = windowed a seq window in
     let two = windowed_stays a seq window in
     let u = opened w in
     let three = opened_stays w in
     let timer : u.resend.timer ≡ t.resend.timer =
-    ap (λ (r : Resending). r.timer) (sym three.resend) ∙ ap (λ (r : Resending). r.timer) (sym two.resend) ∙ ap (λ (r : Resending). r.timer) (sym one.resend) in
-    let acked : t.acked ≡ u.acked = one.acked ∙ two.acked ∙ three.acked in
-    let sent : t.sent ≡ u.sent = one.sent ∙ two.sent ∙ three.sent in
-    let end : t.end ≡ u.end = one.end ∙ two.end ∙ three.end in
+    ap (λ (r : Resending). r.timer) (sym three.resend) ∙ ap (λ (r : Resending). r.timer) (sym two.resend) in
+    let acked : t.acked ≡ u.acked = two.acked ∙ three.acked in
+    let sent : t.sent ≡ u.sent = two.sent ∙ three.sent in
+    let end : t.end ≡ u.end = two.end ∙ three.end in
     watched_steady u (nat_lt u.sent (places u after)) now (ap is_off timer ∙ on)
     (λ rests.
     let at : t.acked ≡ t.sent = let order = feeds.sound.order in grind (arith, nat_tests) in

@@ -1,5 +1,5 @@
--- What an acknowledgement does (RFC 9293, 3.10.7.4; RFC 6298, 5.2 and 5.3; RFC 5681, 3).
-use Rattle.std.specs.Prelude.{◌≡◌, ℕ, ◌+◌, ◌-◌, ◌<◌, ◌≤◌, ◌^◌, Bool, true, false, ◌&&◌, ◌||◌, nat_lt, nat_le, nat_eq, Option, None, Some, drop, ℤ, pos, ◌<ℤ◌, if◌then◌else◌}
+-- What an acknowledgement does (RFC 9293, 3.10.7.4; RFC 6298, 5.2 and 5.3; RFC 5681, 3; RFC 6582, 3.2).
+use Rattle.std.specs.Prelude.{◌≡◌, ℕ, ◌+◌, ◌-◌, ◌<◌, ◌≤◌, ◌^◌, Bool, true, false, ◌&&◌, ◌||◌, nat_lt, nat_le, nat_eq, Option, None, Some, drop, min, ℤ, pos, ◌<ℤ◌, if◌then◌else◌}
 use Rattle.cwnd.specs.Congestion.{Congestion, after_acked, after_duplicate}
 use Rattle.retransmit.specs.Resending.{after_answered, after_moved}
 use Rattle.seq_space.specs.Places.{place, steps_up}
@@ -43,14 +43,20 @@ octets_acked TooFar = 0
 abbrev pub without : ℕ → Downward → Downward
 without n down = record down { octets = drop n down.octets; first = down.first + n }
 
+-- An acknowledgement that moves to a place owes the piece there again, at once, where the place is below what was sent
+-- when a loss was noticed last: the acknowledgement is a partial one, and that piece was lost too (RFC 6582, 3.2).
+abbrev pub owes_again : Transmission → (place : ℕ) → Bool
+owes_again t place = nat_lt place t.recover
+
 -- 5.2 and 5.3: where the acknowledgement moves the timer is set again, or cleared once all is acknowledged; a round trip
--- is taken before; what was owed again is no longer owed
+-- is taken before; what was owed again is no longer owed, the piece at the new place may be, and duplicates count anew
 abbrev pub moved : Transmission → ℕ → ℕ → Transmission
 moved t place now = record t {
   acked = place;
   resend = after_moved t.resend (round_trip t.timed place now) (nat_lt place t.sent) now;
   timed = timed_past t.timed place;
-  early = false;
+  duplicates = 0;
+  early = owes_again t place;
   again = false;
   probing = false;
 }
@@ -85,20 +91,27 @@ abbrev pub cwnd_after : Congestion → (duplicate : Bool) → (flight octets : �
 cwnd_after c duplicate flight octets =
     if duplicate then after_duplicate c flight else (if nat_lt 0 octets then after_acked c octets else c)
 
--- the third duplicate makes the oldest piece owed again
-abbrev pub is_third : Congestion → (duplicate : Bool) → Bool
-is_third c duplicate = duplicate && nat_eq c.duplicates 2
+abbrev pub cwnd_acked : Option Congestion → (duplicate : Bool) → (flight octets : ℕ) → Option Congestion
+cwnd_acked None duplicate flight octets = None
+cwnd_acked (Some c) duplicate flight octets = Some (cwnd_after c duplicate flight octets)
 
--- What an acknowledgement says of congestion, where there is a congestion window.
-abbrev pub congested_by : Option Congestion → Transmission → (duplicate : Bool) → (octets : ℕ) → Transmission
-congested_by None t duplicate octets = t
-congested_by (Some c) t duplicate octets = record t {
-  cwnd = Some (cwnd_after c duplicate (flight t) octets);
-  early = t.early || is_third c duplicate;
+-- whether it is the third duplicate
+abbrev pub is_third : Transmission → (duplicate : Bool) → Bool
+is_third t duplicate = duplicate && nat_eq t.duplicates 2
+
+-- What an acknowledgement says of loss and of congestion. The third duplicate tells of a loss (RFC 5681, 3.2): the oldest
+-- piece is owed again, and what is sent by now is what is to be acknowledged before the loss is over (RFC 6582, 3.2,
+-- step 2). A congestion window takes its step, where there is one.
+abbrev pub congested_by : Transmission → (duplicate : Bool) → (octets : ℕ) → Transmission
+congested_by t duplicate octets = record t {
+  cwnd = cwnd_acked t.cwnd duplicate (flight t) octets;
+  recover = if is_third t duplicate then t.sent else t.recover;
+  duplicates = if duplicate then min 3 (t.duplicates + 1) else t.duplicates;
+  early = t.early || is_third t duplicate;
 }
 
 abbrev pub congested : Transmission → (window : ℕ) → (bare : Bool) → AckSeen → Transmission
-congested t window bare seen = congested_by t.cwnd t (is_duplicate t window bare seen) (octets_acked seen)
+congested t window bare seen = congested_by t (is_duplicate t window bare seen) (octets_acked seen)
 
 -- the number a is after b (3.4)
 abbrev pub is_after : ℕ → ℕ → Bool

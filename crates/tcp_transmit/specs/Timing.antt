@@ -64,9 +64,15 @@ abbrev pub cwnd_expired : Option Congestion → (flight : ℕ) → Bool → Opti
 cwnd_expired None flight again = None
 cwnd_expired (Some c) flight again = if nat_lt 0 flight then Some (after_expiry c flight again) else Some c
 
--- 5.4 to 5.6: after the timer expired what it makes owed waits to be sent, and the wait is doubled
-abbrev pub after_expired : Transmission → Transmission
-after_expired t = if is_given_up t then t else record t {
+-- 5.4 to 5.6: the timer expired. What it makes owed waits to be sent, and the wait is doubled; where numbers are under way
+-- a loss is noticed with it, and duplicates count anew (RFC 6582, 3.2, step 4).
+abbrev pub timed_out : Transmission → Transmission
+timed_out t = record t {
   resend = resend_expired t.resend;
   cwnd = cwnd_expired t.cwnd (flight t) t.again;
+  recover = if nat_lt t.acked t.sent then t.sent else t.recover;
+  duplicates = if nat_lt t.acked t.sent then 0 else t.duplicates;
 }
+
+abbrev pub after_expired : Transmission → Transmission
+after_expired t = if is_given_up t then t else timed_out t

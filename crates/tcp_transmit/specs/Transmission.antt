@@ -13,6 +13,9 @@ use Rattle.tcp_transmit.specs.declared.Window.{Window}
 -- after the SYN and so many places are SND.UNA and SND.NXT); what is known of our end; the guest's window, once our SYN
 -- was acknowledged; the timer with the estimate of its timeout, and how often it made the oldest piece go again since the
 -- last acceptable acknowledgement; the piece whose round trip is measured; and the congestion window, where there is one.
+-- Of a loss: how many places were sent when the last was noticed, at an expiry with numbers under way or at a third
+-- duplicate, and 0 at first (`recover` of RFC 6582, as a place); and how many duplicate acknowledgements came since the
+-- acknowledgement moved or the timer expired with numbers under way, where 3 stands for more too.
 -- Further: whether the oldest piece is owed again before its timer expired; whether it went again since the timer expired
 -- and since the acknowledgement moved; and whether what is under way began past the guest's window.
 pub record Transmission : Type 0 where
@@ -25,6 +28,8 @@ pub record Transmission : Type 0 where
   pub resend : Resending
   pub timed : Option Timed
   pub cwnd : Option Congestion
+  pub recover : ℕ
+  pub duplicates : ℕ
   pub early : Bool
   pub again : Bool
   pub probing : Bool
@@ -41,6 +46,8 @@ unanswered first mss = record {
   resend = at_rest;
   timed = None;
   cwnd = None;
+  recover = 0;
+  duplicates = 0;
   early = false;
   again = false;
   probing = false;
@@ -108,8 +115,8 @@ IsOfSegments (Some c) mss = (c.mss ≡ mss) × (mss ≤ c.window) × (mss ≤ c.
 
 -- What holds of every connection. A piece has at most from 64 to 1,460 octets; what was acknowledged was sent; the timer
 -- is set while numbers are under way (RFC 6298, 5.1); the oldest piece goes again at most eight times, and the timeout is
--- doubled each time, from a second up to a minute (5.5). Nothing is owed again early, or went past the window, where
--- nothing is under way.
+-- doubled each time, from a second up to a minute (5.5). What was sent when a loss was noticed is no more than what is
+-- sent. Nothing is owed again early, or went past the window, where nothing is under way.
 pub record IsSound (t : Transmission) : Type 0 where
   pub least : 64 ≤ t.mss
   pub most : t.mss ≤ 1460
@@ -118,6 +125,7 @@ pub record IsSound (t : Transmission) : Type 0 where
   pub steady : IsSteady t.resend
   pub begins : t.acked ≡ t.sent → t.resend.resent ≡ 0
   pub segments : IsOfSegments t.cwnd t.mss
+  pub recovers : t.recover ≤ t.sent
   pub early : t.early ≡ true → t.acked < t.sent
   pub probes : t.probing ≡ true → t.acked < t.sent
 

@@ -1,7 +1,7 @@
 // What an acknowledgement of the guest is, and what it changes (RFC 9293, 3.10.7.4).
 ghost use Rattle.std.specs.Prelude.{◌≡◌, ℤ, ◌^◌, ◌<◌, ◌≤◌, ◌⊎◌, pos, IsSome, true};
 ghost use Rattle.retransmit.specs.Resending.{due_of};
-ghost use Rattle.tcp_transmit.specs.Acks.{IsSeenAs, acknowledged, after_ack, congested_by, cwnd_after, is_acceptable, is_duplicate as is_duplicate_by, is_last_window as is_last_window_by, is_newer as newer_by, is_same as is_same_as, is_third, moved, octets_acked, opened, place_acked, windowed, without};
+ghost use Rattle.tcp_transmit.specs.Acks.{IsSeenAs, acknowledged, after_ack, congested_by, cwnd_acked, is_acceptable, is_duplicate as is_duplicate_by, is_last_window as is_last_window_by, is_newer as newer_by, is_same as is_same_as, moved, octets_acked, opened, place_acked, windowed, without};
 ghost use Rattle.tcp_transmit.specs.Transmission.{Feeds, is_closed, octets_read};
 
 use crate::timing::{round_trip, timed_past};
@@ -9,6 +9,9 @@ use crate::{AckSeen, Transmit, Window, octets_read};
 use cwnd::Cwnd;
 use seq_space::{Seq, ahead, nearest};
 use sock_buffers::Down;
+
+/// The duplicate acknowledgement at which the oldest piece goes again (RFC 5681, 3.2).
+const THIRD: u8 = 3;
 
 impl AckSeen {
     /// Whether the acknowledgement is acceptable: of what was sent, and no older than the last.
@@ -46,7 +49,9 @@ impl Transmit {
     /// An acceptable or other acknowledgement of the guest, with the number of its segment and the window that this gives
     /// (RFC 9293, 3.10.7.4), scaled already (RFC 7323, 2.3); `bare` says that the segment has no octets, SYN or FIN. Octets
     /// that are acknowledged for the first time leave `down`, and the timer is set again, or cleared where nothing is left
-    /// under way (RFC 6298, 5.2 and 5.3). What isn't acceptable changes nothing.
+    /// under way (RFC 6298, 5.2 and 5.3). A third duplicate owes the oldest piece again (RFC 5681, 3.2), and so does an
+    /// acknowledgement that moves and is below what was sent at the last third duplicate or expiry (RFC 6582, 3.2). What
+    /// isn't acceptable changes nothing.
     pub fn acked(
         &mut self,
         down: &mut Down,
@@ -145,7 +150,8 @@ impl Transmit {
         let measured = round_trip(self.timed, place, now);
         self.timed = timed_past(self.timed, place);
         self.acked = place;
-        self.early = false;
+        self.duplicates = 0;
+        self.early = place < self.recover;
         self.again = false;
         self.probing = false;
         self.resend.moved(measured, place < self.sent, now);
@@ -158,15 +164,20 @@ impl Transmit {
         bare && seen.is_same() && self.acked < self.sent && is_last_window(self.window, window)
     }
 
-    /// Counts a duplicate, or octets that were acknowledged for the first time, in the congestion window.
+    /// Counts a duplicate, or octets that were acknowledged for the first time. The third duplicate makes the oldest piece
+    /// owed again.
     fn count_congestion(&mut self, is_duplicate: bool, octets: usize)
-        ensures { self.new ≡ congested_by self.old.cwnd self.old is_duplicate octets }
+        ensures { self.new ≡ congested_by self.old is_duplicate octets }
     {
-        if let Some(cwnd) = self.cwnd {
-            let flight = self.sent - self.acked;
-            let (cwnd, is_third) = cwnd_after_ack(cwnd, is_duplicate, flight, octets as u64);
-            self.cwnd = Some(cwnd);
-            self.early = self.early || is_third;
+        let flight = self.sent - self.acked;
+        self.cwnd = cwnd_after_ack(self.cwnd, is_duplicate, flight, octets as u64);
+        let is_third = is_duplicate && self.duplicates == THIRD - 1;
+        self.early = self.early || is_third;
+        if is_third {
+            self.recover = self.sent;
+        }
+        if is_duplicate {
+            self.duplicates = THIRD.min(self.duplicates + 1);
         }
     }
 
@@ -195,21 +206,17 @@ impl Transmit {
     }
 }
 
-/// The congestion window after a duplicate, or after octets were acknowledged, while so many numbers were under way; and
-/// whether the oldest piece is to go again.
-fn cwnd_after_ack(cwnd: Cwnd, is_duplicate: bool, flight: u64, octets: u64) -> (Cwnd, bool)
-    ensures cwnd { result.0 ≡ cwnd_after cwnd is_duplicate flight octets }
-    ensures third { result.1 ≡ is_third cwnd is_duplicate }
+/// The congestion window after a duplicate, or after octets were acknowledged, while so many numbers were under way.
+fn cwnd_after_ack(cwnd: Option<Cwnd>, is_duplicate: bool, flight: u64, octets: u64) -> Option<Cwnd>
+    ensures { result ≡ cwnd_acked cwnd is_duplicate flight octets }
 {
-    let mut cwnd = cwnd;
+    let mut cwnd = cwnd?;
     if is_duplicate {
-        let is_third = cwnd.duplicate(flight);
-        return (cwnd, is_third);
-    }
-    if octets > 0 {
+        cwnd.duplicate(flight);
+    } else if octets > 0 {
         cwnd.acked(octets);
     }
-    (cwnd, false)
+    Some(cwnd)
 }
 
 /// Whether the last window that was taken is so large.

@@ -81,6 +81,8 @@ pub struct Transmit {
     resend: Resend,
     timed: Option<Timed>,
     cwnd: Option<Cwnd>,
+    recover: u64,
+    duplicates: u8,
     early: bool,
     again: bool,
     probing: bool,
@@ -102,12 +104,14 @@ impl Model for Transmit {
       resend = t.resend;
       timed = t.timed;
       cwnd = t.cwnd;
+      recover = t.recover;
+      duplicates = t.duplicates;
       early = t.early;
       again = t.again;
       probing = t.probing;
     } };
 
-    ghost invariant = { λ t. (64 ≤ t.mss) × (t.mss ≤ 1460) × (t.acked ≤ t.sent) × (t.sent ≤ 2 ^ 62) };
+    ghost invariant = { λ t. (64 ≤ t.mss) × (t.mss ≤ 1460) × (t.acked ≤ t.sent) × (t.sent ≤ 2 ^ 62) × (t.duplicates ≤ 3) };
 }
 
 impl Transmit {
@@ -129,6 +133,8 @@ impl Transmit {
             resend: Resend::new(),
             timed: None,
             cwnd: None,
+            recover: 0,
+            duplicates: 0,
             early: false,
             again: false,
             probing: false,
@@ -249,7 +255,7 @@ impl Transmit {
     }
 }
 
-/// Without a congestion window the guest's window alone limits what is sent, and duplicates change nothing.
+/// Without a congestion window the guest's window alone limits what is sent, whatever is acknowledged or expires.
 pub fn without_a_congestion_window()
     ensures { (t : Transmission) → t.cwnd ≡ None → IsAlone t }
 {}

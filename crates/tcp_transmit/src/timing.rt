@@ -37,7 +37,8 @@ impl Transmit {
 
     /// The timer expired. True where the connection is given up, since the oldest piece went again eight times with no
     /// acceptable acknowledgement between (RFC 9293, 3.8.3); nothing changes then. Else the wait is doubled, and that
-    /// piece, or where nothing is under way a probe, is owed (RFC 6298, 5.4 and 5.5).
+    /// piece, or where nothing is under way a probe, is owed (RFC 6298, 5.4 and 5.5). What is under way was lost, for all
+    /// that is known: until it is acknowledged, each acknowledgement that moves owes the next piece (RFC 6582, 3.2).
     pub fn expired(&mut self) -> bool
         requires runs { IsSome (due_of self.old.resend) }
         ensures given_up { IsTrue result ↔ (8 ≤ self.old.resend.resent) }
@@ -51,6 +52,10 @@ impl Transmit {
             return true;
         }
         self.cwnd = cwnd_after_expiry(self.cwnd, self.sent - self.acked, self.again);
+        if self.acked < self.sent {
+            self.recover = self.sent;
+            self.duplicates = 0;
+        }
         false
     }
 

@@ -14,19 +14,19 @@ acknowledge-requires-clause-feeds c =
     let t : Transmission = c.args.self.now in
     let seen = c.seen-seen.result in
     let is : c.count_congestion.new.self ≡ congested t c.args.window c.args.bare seen =
-    c.count_congestion.ensures ∙ (λ i. congested_by t.cwnd t (c.is_duplicate-is_duplicate.ensures i) (c.octets.ensures i)) in
+    c.count_congestion.ensures ∙ (λ i. congested_by t (c.is_duplicate-is_duplicate.ensures i) (c.octets.ensures i)) in
     subst (λ (x : Transmission). Feeds x c.args.down.now) (sym is)
-    (congested_feeds t.cwnd t c.args.down.now (is_duplicate t c.args.window c.args.bare seen) (octets_acked seen) refl (duplicate_under t c.args.window c.args.bare seen) c.requires.feeds)
+    (congested_feeds t c.args.down.now (is_duplicate t c.args.window c.args.bare seen) (octets_acked seen) (duplicate_under t c.args.window c.args.bare seen) c.requires.feeds)
 
 pub acknowledge-requires-clause-seen : goal.acknowledge-requires-clause-seen
 acknowledge-requires-clause-seen c =
     let t : Transmission = c.args.self.now in
     let seen = c.seen-seen.result in
     let is : c.count_congestion.new.self ≡ congested t c.args.window c.args.bare seen =
-    c.count_congestion.ensures ∙ (λ i. congested_by t.cwnd t (c.is_duplicate-is_duplicate.ensures i) (c.octets.ensures i)) in (
+    c.count_congestion.ensures ∙ (λ i. congested_by t (c.is_duplicate-is_duplicate.ensures i) (c.octets.ensures i)) in (
       place_acked t c.args.ack.0,
       subst (λ (x : Transmission). IsSeenAs x c.args.down.now (place_acked t c.args.ack.0) seen) (sym is)
-          (congested_seen t.cwnd t c.args.down.now (is_duplicate t c.args.window c.args.bare seen) (octets_acked seen) (place_acked t c.args.ack.0) seen c.seen-seen.ensures),
+          (congested_seen t c.args.down.now (is_duplicate t c.args.window c.args.bare seen) (octets_acked seen) (place_acked t c.args.ack.0) seen c.seen-seen.ensures),
     )
 
 pub returns-clause-feeds : goal.returns-clause-feeds
@@ -36,7 +36,7 @@ returns-clause-feeds c =
     let acceptable : is_acceptable seen ≡ true = grind arith in
     let ready = ack_feeds t c.args.down.now c.args.seq c.args.window c.args.bare c.args.now (place_acked t c.args.ack.0) seen c.requires.now c.requires.feeds c.seen-seen.ensures acceptable in
     let is : c.count_congestion.new.self ≡ congested t c.args.window c.args.bare seen =
-    c.count_congestion.ensures ∙ (λ i. congested_by t.cwnd t (c.is_duplicate-is_duplicate.ensures i) (c.octets.ensures i)) in
+    c.count_congestion.ensures ∙ (λ i. congested_by t (c.is_duplicate-is_duplicate.ensures i) (c.octets.ensures i)) in
     let stepped : c.owe_probe.new.self ≡ opened (windowed (acknowledged (congested t c.args.window c.args.bare seen) seen c.args.now) c.args.seq c.args.window) =
     c.owe_probe.ensures ∙ ap opened (c.take_window.ensures ∙ ap (λ (x : Transmission). windowed x c.args.seq c.args.window)
     (c.acknowledge.ensures.change ∙ ap (λ (x : Transmission). acknowledged x seen c.args.now) is)) in
