@@ -20,11 +20,12 @@ use crate::steps::WorldAct::{
 };
 use world_face::{FileSize, Io, Joined, Made};
 
-/// Before a peer came nothing is read or written.
-const NO_PEER: [Call; 4] = [
+/// Before a peer came nothing is read or written, and none of both is told.
+const NO_PEER: [Call; 5] = [
     LinkRead(4, Io::NotYet, b""),
     LinkWrite(b"x", Io::NotYet),
     NotTold(Wanted::Link, 0),
+    NotTold(Wanted::LinkForWriting, 0),
     LinkRead(4, Io::NotYet, b""),
 ];
 
@@ -180,10 +181,14 @@ const LETS_NOBODY_IN: [Step; 6] = [
 /// The second goes, too.
 const NOBODY_IS_LEFT: [Step; 2] = [Host(Turns), Host(HangsUp)];
 
+/// What waited for a peer goes out once one came.
+const TAKES_WHAT_WAITED: [Step; 1] = [Calls(&[Told(Wanted::LinkForWriting, 1000)])];
+
 /// The first peer at a path is taken and served until it ends.
-pub static AT_A_PATH: [&[Step]; 10] = [
+pub static AT_A_PATH: [&[Step]; 11] = [
     &LEAVES_WHAT_STANDS,
     &OPENS_AT_A_PATH,
+    &TAKES_WHAT_WAITED,
     &SERVES,
     &LETS_NOBODY_IN,
     &BY_OCTETS,
@@ -205,7 +210,13 @@ const OPENS_AT_AN_ENDPOINT: [Step; 6] = [
 ];
 
 /// A peer at an endpoint is served until it ends.
-pub static AT_AN_ENDPOINT: [&[Step]; 4] = [&OPENS_AT_AN_ENDPOINT, &SERVES, &SHORT_WAITS, &ENDS];
+pub static AT_AN_ENDPOINT: [&[Step]; 5] = [
+    &OPENS_AT_AN_ENDPOINT,
+    &TAKES_WHAT_WAITED,
+    &SERVES,
+    &SHORT_WAITS,
+    &ENDS,
+];
 
 /// The link opens, and its file is there while no peer comes.
 const OPENS_ALONE: [Step; 2] = [
@@ -302,3 +313,88 @@ pub static LAST_WRITE: [&[Step]; 1] = [&WRITES];
 const HAS_COME: [Step; 3] = [Host(Gets(&[b"bye"])), Host(Gets(&[])), Host(HangsUp)];
 
 pub static AFTER_THE_LAST_WRITE: [&[Step]; 1] = [&HAS_COME];
+
+/// The peer goes with octets unread, which resets the stream. What it sent before is read, then the end comes, and stays.
+const IS_RESET: [Step; 4] = [
+    Calls(&[
+        Told(Wanted::LinkForWriting, 1000),
+        LinkRead(4, Io::NotYet, b""),
+        LinkWrite(b"unread", Io::Done(6)),
+        NotTold(Wanted::Link, 0),
+    ]),
+    Host(Sends(b"one")),
+    Host(HangsUp),
+    Calls(&[
+        Told(Wanted::Link, 1000),
+        LinkRead(4, Io::Done(3), b"one"),
+        Told(Wanted::Link, 1000),
+        LinkRead(4, Io::End, b""),
+        Told(Wanted::Link, 1000),
+        LinkRead(4, Io::End, b""),
+    ]),
+];
+
+const OPENS_TO_BE_RESET: [Step; 2] = [LinkOpens("reset", Made::Done), Host(ConnectsAt("reset"))];
+
+const OPENS_TO_BE_RESET_AT_AN_ENDPOINT: [Step; 4] = [
+    Host(Listens),
+    Host(StopsListening),
+    LinkOpensAtPort(Made::Done),
+    Host(Connects),
+];
+
+/// A reset found by a read.
+pub static RESET: [&[Step]; 2] = [&OPENS_TO_BE_RESET, &IS_RESET];
+
+pub static RESET_AT_AN_ENDPOINT: [&[Step]; 2] = [&OPENS_TO_BE_RESET_AT_AN_ENDPOINT, &IS_RESET];
+
+/// The peer goes, and a write that is to make room finds that: it takes nothing, and the writes after it are taken and lost. What the peer sent before is read, then the end comes.
+const IS_GONE_AT_A_WRITE: [Step; 5] = [
+    Calls(&[Told(Wanted::LinkForWriting, 1000)]),
+    Host(Sends(b"two")),
+    Host(HangsUp),
+    World(LinkFills),
+    Calls(&FOUND_GONE),
+];
+
+const FOUND_GONE: [Call; 8] = [
+    Told(Wanted::LinkForWriting, 0),
+    LinkWrite(b"x", Io::Done(1)),
+    LinkWrite(&[7; 1518], Io::Done(1518)),
+    Told(Wanted::Link, 1000),
+    LinkRead(4, Io::Done(3), b"two"),
+    Told(Wanted::Link, 1000),
+    LinkRead(4, Io::End, b""),
+    LinkWrite(b"x", Io::Done(1)),
+];
+
+const OPENS_TO_BE_GONE: [Step; 2] = [LinkOpens("gone", Made::Done), Host(ConnectsAt("gone"))];
+
+/// A broken pipe found by a write.
+pub static GONE_AT_A_WRITE: [&[Step]; 2] = [&OPENS_TO_BE_GONE, &IS_GONE_AT_A_WRITE];
+
+/// The link is full, and its peer goes with octets unread: a wait finds that, and tells both directions.
+const IS_GONE_WHILE_FULL: [Step; 5] = [
+    Calls(&[Told(Wanted::LinkForWriting, 1000)]),
+    World(LinkFills),
+    Host(Sends(b"two")),
+    Host(HangsUp),
+    Calls(&FOUND_GONE_BY_A_WAIT),
+];
+
+const FOUND_GONE_BY_A_WAIT: [Call; 6] = [
+    LinkWrite(&[7; 1518], Io::NotYet),
+    Told(Wanted::LinkBothWays, 1000),
+    LinkWrite(b"x", Io::Done(1)),
+    LinkRead(4, Io::Done(3), b"two"),
+    Told(Wanted::Link, 1000),
+    LinkRead(4, Io::End, b""),
+];
+
+const OPENS_TO_BE_GONE_WHILE_FULL: [Step; 2] = [
+    LinkOpens("full", Made::Done),
+    Host(ConnectsAt("full")),
+];
+
+/// The same found by a wait.
+pub static GONE_WHILE_FULL: [&[Step]; 2] = [&OPENS_TO_BE_GONE_WHILE_FULL, &IS_GONE_WHILE_FULL];

@@ -24,12 +24,16 @@ enum Case {
     LinkBesideForty,
     LastWrite,
     AfterTheLastWrite,
+    LinkReset,
+    LinkResetAtAnEndpoint,
+    LinkGoneAtAWrite,
+    LinkGoneWhileFull,
     Sockets,
     Files,
 }
 
 /// The cases of one World after the other.
-const LINK: [Case; 7] = [
+const LINK: [Case; 11] = [
     Case::LinkAtAPath,
     Case::LinkAtAnEndpoint,
     Case::LinkAlone,
@@ -37,6 +41,10 @@ const LINK: [Case; 7] = [
     Case::LinkBesideForty,
     Case::LastWrite,
     Case::AfterTheLastWrite,
+    Case::LinkReset,
+    Case::LinkResetAtAnEndpoint,
+    Case::LinkGoneAtAWrite,
+    Case::LinkGoneWhileFull,
 ];
 
 fn parts_of(case: Case) -> &'static [&'static [Step]] {
@@ -48,6 +56,10 @@ fn parts_of(case: Case) -> &'static [&'static [Step]] {
         Case::LinkBesideForty => &link_cases::BESIDE_FORTY,
         Case::LastWrite => &link_cases::LAST_WRITE,
         Case::AfterTheLastWrite => &link_cases::AFTER_THE_LAST_WRITE,
+        Case::LinkReset => &link_cases::RESET,
+        Case::LinkResetAtAnEndpoint => &link_cases::RESET_AT_AN_ENDPOINT,
+        Case::LinkGoneAtAWrite => &link_cases::GONE_AT_A_WRITE,
+        Case::LinkGoneWhileFull => &link_cases::GONE_WHILE_FULL,
         Case::Sockets => &SOCKETS,
         Case::Files => &FILES,
     }
@@ -98,7 +110,7 @@ fn gone_from_here<
 
 #[test]
 fn the_link(rt: HostRuntime) -> Result<(), Fail> {
-    assert_eq!(rt; gone_from_here(&rt, &LINK)?, 7);
+    assert_eq!(rt; gone_from_here(&rt, &LINK)?, 11);
     Ok(())
 }
 

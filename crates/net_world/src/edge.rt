@@ -1,5 +1,5 @@
 // The sockets of a World, the clock, and what the system tells of them.
-ghost use Rattle.std.specs.Prelude.{◌≡◌, ◌≤◌, ◌<◌, false, [], length};
+ghost use Rattle.std.specs.Prelude.{◌≡◌, ◌≤◌, ◌<◌, ℕ, false, [], length};
 ghost use Rattle.std.specs.Bool.{OnFalse};
 ghost use Rattle.poll_list.specs.Listing.{AreWants};
 ghost use Rattle.poll_list.specs.Picks.{IsPickedFrom};
@@ -84,7 +84,8 @@ impl Edge {
 
     pub fn link_write<R: Net + Files>(&mut self, rt: &R, from: &[u8]) -> Io
         requires { 0 < length from.now }
-        ensures { MayWrite (length from.now) result }
+        ensures may { MayWrite (length from.now) result }
+        ensures whole { (count : ℕ) → result ≡ Io.Done count → count ≡ length from.now }
     {
         let Some(poll) = &self.poll else {
             return Io::Failed;

@@ -1,10 +1,12 @@
 // The stream to the guest.
-ghost use Rattle.std.specs.Prelude.{◌≡◌, ◌<◌, length};
+ghost use Rattle.std.specs.Prelude.{◌≡◌, ℕ, ◌+◌, ◌<◌, ◌≤◌, ◌++◌, true, false, length, take, min, IfOk, OnErr};
 ghost use Rattle.world_face.specs.Journal.{MayRead, MayWrite};
+ghost use Rattle.world_face.specs.Limits.{most_to_link};
 ghost use Rattle.ack_pace.specs.Paces.{let_out};
+ghost use Rattle.net_world.specs.Linking.{is_open, is_told_readable, is_told_writable, listens, after_read, after_write, at_end, read_answer};
 
 use crate::socket_file;
-use crate::sockets::{address, is_not_yet, send_at_once};
+use crate::sockets::{address, send_at_once};
 use ack_pace::Pace;
 use arrayvec::ArrayString;
 use mio::event::Event;
@@ -15,6 +17,7 @@ use octet_buffer::Buffer;
 use std::alloc::Global;
 use std::fs::Files;
 use std::io;
+use std::io::ErrorKind;
 use std::net::Net;
 use world_face::{Io, LinkAt, MOST_TO_LINK};
 
@@ -40,6 +43,26 @@ enum Place {
     Tcp(TcpStream),
 }
 
+/// What becomes of what is written.
+#[derive(Clone, Copy, PartialEq, Eq)]
+enum Outlet {
+    /// It goes out.
+    Open,
+    /// The peer is gone: it is lost, and a read finds the end.
+    Gone,
+    /// A write failed: no more is taken.
+    Broken,
+}
+
+/// Why a call on the stream moved nothing.
+#[derive(Clone, Copy, PartialEq, Eq)]
+enum Fault {
+    WouldWait,
+    /// The peer closed the stream with octets unread, or before it read these.
+    PeerGone,
+    Other,
+}
+
 /// The link. What came is kept in `inbox` until it is read, and what goes out in `outbox` until it is flushed.
 #[derive(Drop)]
 pub(crate) struct Link {
@@ -56,8 +79,7 @@ pub(crate) struct Link {
     ended: bool,
     /// The system is to tell when it takes octets again.
     watched: bool,
-    /// A write failed.
-    broken: bool,
+    outlet: Outlet,
     /// Whether short frames wait.
     pace: Pace,
 }
@@ -76,7 +98,7 @@ impl Link {
             takes: false,
             ended: false,
             watched: false,
-            broken: false,
+            outlet: Outlet::Open,
             pace: Pace::new(),
         })
     }
@@ -145,8 +167,10 @@ impl Link {
         self.takes |= fails | event.is_writable() | event.is_write_closed();
     }
 
-    /// Whether a read may bring something.
-    pub fn is_readable(&self) -> bool {
+    /// Whether a read may bring something. Once one answered NotYet it may not, until the system tells more.
+    pub fn is_readable(&self) -> bool
+        ensures { result ≡ is_told_readable self.now }
+    {
         self.readable || !self.inbox.is_empty()
     }
 
@@ -155,17 +179,34 @@ impl Link {
         !self.inbox.is_empty()
     }
 
-    /// Whether a write would be taken.
-    pub fn is_writable(&self) -> bool {
-        self.broken || (self.outbox.room() >= MOST_TO_LINK && !self.pace.holds())
+    /// Whether a write is answered by more than NotYet: a guest has come, or the link is closed, and the longest frame finds room, or is lost, or fails. A short frame may have to wait all the same; then this is false until it is let out.
+    pub fn is_writable(&self) -> bool
+        ensures { result ≡ is_told_writable self.now }
+    {
+        !self.listens()
+            && (!self.is_open() || (self.outbox.room() >= MOST_TO_LINK && !self.pace.holds()))
     }
 
-    /// How many sockets may be read before what was gathered is written, so that the frames of what comes from a connection find room. A broken link holds none back: what comes then finds the fault.
+    // Whether no guest has come yet.
+    fn listens(&self) -> bool
+        ensures { result ≡ listens self.now.place }
+    {
+        matches!(self.place, Place::ListensUnix(_) | Place::ListensTcp(_))
+    }
+
+    // Whether what is written goes out.
+    fn is_open(&self) -> bool
+        ensures { result ≡ is_open self.now.outlet }
+    {
+        self.outlet == Outlet::Open
+    }
+
+    /// How many sockets may be read before what was gathered is written, so that the frames of what comes from a connection find room. A link whose peer is gone, or that is broken, holds none back: what comes then finds that.
     pub fn bears(&self) -> usize {
-        if self.broken {
-            usize::MAX
-        } else {
+        if self.is_open() {
             self.outbox.room() / FRAMED
+        } else {
+            usize::MAX
         }
     }
 
@@ -188,67 +229,107 @@ impl Link {
         self.pace.let_out();
     }
 
-    /// Reads octets that came.
+    /// Reads octets that came. The end comes behind them where the peer closed the stream or reset it, or where a write found it gone.
     pub fn read(&mut self, into: &mut [u8]) -> Io
         requires { 0 < length into.old }
-        ensures { MayRead (length into.old) result }
+        ensures may { MayRead (length into.old) result }
+        // What was read ahead comes first, in its order.
+        ensures ahead { 0 < length self.old.inbox.octets → result ≡ Io.Done (min (length into.old) (length self.old.inbox.octets)) }
+        ensures order { 0 < length self.old.inbox.octets → (count : ℕ) → result ≡ Io.Done count → self.old.inbox.octets ≡ take count into.new ++ self.new.inbox.octets }
+        ensures rests { result ≡ Io.NotYet → is_told_readable self.new ≡ false }
     {
         if self.inbox.is_empty() {
             match self.read_ahead() {
-                Ok(0) => return Io::End,
-                Ok(_) => {}
-                Err(fault) if is_not_yet(&fault) => return Io::NotYet,
-                Err(_) => return Io::Failed,
+                Io::Done(_) => {}
+                Io::End => return Io::End,
+                Io::NotYet => return Io::NotYet,
+                Io::Failed => return Io::Failed,
             }
         }
-        match self.inbox.take(into) {
-            0 => Io::NotYet,
-            count => {
-                self.pace.read_on(count);
-                Io::Done(count)
-            }
-        }
+        let count = self.inbox.take(into);
+        self.pace.read_on(count);
+        Io::Done(count)
     }
 
     // Reads as much as there is room for. Where less came there is no more for now.
-    fn read_ahead(&mut self) -> io::Result<usize> {
+    fn read_ahead(&mut self) -> Io
+        requires { length self.old.inbox.octets ≡ 0 }
+        ensures came { (count : ℕ) → result ≡ Io.Done count → 0 < length self.new.inbox.octets }
+        ensures rests { result ≡ Io.NotYet → is_told_readable self.new ≡ false }
+    {
         self.inbox.settle();
         let room = self.inbox.room();
-        let read = match &mut self.place {
-            Place::Unix(stream) => self.inbox.fill(stream),
-            Place::Tcp(stream) => self.inbox.fill(stream),
-            Place::ListensUnix(_) | Place::ListensTcp(_) => {
-                Err(io::Error::from(io::ErrorKind::WouldBlock))
+        match fill(&mut self.place, &mut self.inbox) {
+            Ok(0) => self.end(),
+            Ok(count) => {
+                self.readable = self.ended || count == room;
+                Io::Done(count)
             }
-            Place::Closed => Err(io::Error::from(io::ErrorKind::NotConnected)),
-        };
-        self.readable = match &read {
-            Ok(count) => self.ended || *count == 0 || *count == room,
-            Err(fault) => !is_not_yet(fault),
-        };
-        read
+            Err(fault) => self.read_none(fault_of(fault.kind())),
+        }
     }
 
-    /// Gathers octets that go out. A short frame may wait. Where there is no room the link is flushed before, and none is taken where that makes no room.
+    // What a read answers that brought nothing.
+    fn read_none(&mut self, fault: Fault) -> Io
+        requires { length self.old.inbox.octets ≡ 0 }
+        ensures answer { result ≡ read_answer self.old.outlet fault }
+        ensures change { self.new ≡ after_read result self.old }
+    {
+        match fault {
+            Fault::WouldWait if self.outlet != Outlet::Gone => {
+                self.readable = false;
+                Io::NotYet
+            }
+            Fault::WouldWait | Fault::PeerGone => self.end(),
+            Fault::Other => Io::Failed,
+        }
+    }
+
+    // The end, which stays.
+    fn end(&mut self) -> Io
+        ensures answer { result ≡ Io.End }
+        ensures change { self.new ≡ at_end self.old }
+    {
+        self.ended = true;
+        self.readable = true;
+        Io::End
+    }
+
+    /// Gathers octets that go out. A short frame may wait. Where there is no room the link is flushed before, and none is taken where that makes no room. What is written once the peer was found gone is taken and lost.
     pub fn write(&mut self, registry: &Registry, from: &[u8]) -> Io
         requires { 0 < length from.now }
-        ensures { MayWrite (length from.now) result }
+        ensures may { MayWrite (length from.now) result }
+        ensures whole { (count : ℕ) → result ≡ Io.Done count → count ≡ length from.now }
+        // Where a wait may tell it ready for writing a frame that is no short one is answered.
+        ensures served { is_told_writable self.old ≡ true → length from.now ≤ most_to_link → result ≡ Io.NotYet → self.new.pace.holds ≡ true }
     {
         match &self.place {
             Place::Unix(_) | Place::Tcp(_) => {}
             Place::ListensUnix(_) | Place::ListensTcp(_) => return Io::NotYet,
             Place::Closed => return Io::Failed,
         }
+        match self.outlet {
+            Outlet::Open => self.gather(registry, from),
+            Outlet::Gone => Io::Done(from.len()),
+            Outlet::Broken => Io::Failed,
+        }
+    }
+
+    // Gathers octets, all of them, where there is room or a flush makes some, and they needn't wait.
+    fn gather(&mut self, registry: &Registry, from: &[u8]) -> Io
+        requires { 0 < length from.now }
+        ensures may { MayWrite (length from.now) result }
+        ensures whole { (count : ℕ) → result ≡ Io.Done count → count ≡ length from.now }
+        ensures served { length from.now ≤ self.old.outbox.room → result ≡ Io.NotYet → self.new.pace.holds ≡ true }
+    {
         let ahead = self.is_ahead();
-        if !self.broken && self.pace.keeps(from.len(), ahead) {
+        if self.pace.keeps(from.len(), ahead) {
             return Io::NotYet;
         }
         if self.outbox.room() < from.len() {
             self.flush(registry);
         }
-        if self.broken {
-            Io::Failed
-        } else if self.outbox.put(from) {
+        if self.outbox.put(from) {
             Io::Done(from.len())
         } else {
             Io::NotYet
@@ -257,7 +338,7 @@ impl Link {
 
     /// Writes what was gathered by one call, where the system may take it. Where it doesn't take all of it, it is to tell when it takes more.
     pub fn flush(&mut self, registry: &Registry) {
-        if self.takes && !self.outbox.is_empty() && !self.broken {
+        if self.takes && !self.outbox.is_empty() && self.is_open() {
             self.write_out();
             self.watch(registry);
         }
@@ -265,7 +346,7 @@ impl Link {
 
     // Writes what was gathered by one call, as much as is taken.
     fn write_out(&mut self) {
-        if self.outbox.is_empty() || self.broken {
+        if self.outbox.is_empty() || !self.is_open() {
             return;
         }
         let written = match &mut self.place {
@@ -276,15 +357,29 @@ impl Link {
         self.outbox.settle();
         self.takes = self.outbox.is_empty();
         match written {
-            Ok(0) => self.broken = true,
+            Ok(0) => self.outlet = Outlet::Broken,
             Ok(_) => {}
-            Err(fault) => self.broken = !is_not_yet(&fault),
+            Err(fault) => self.write_none(fault_of(fault.kind())),
+        }
+    }
+
+    // What becomes of the link where a write took nothing. Where the peer is gone a read is to find the end.
+    fn write_none(&mut self, fault: Fault)
+        ensures change { self.new ≡ after_write fault self.old }
+    {
+        match fault {
+            Fault::WouldWait => {}
+            Fault::PeerGone => {
+                self.outlet = Outlet::Gone;
+                self.readable = true;
+            }
+            Fault::Other => self.outlet = Outlet::Broken,
         }
     }
 
     // Has the system tell when it takes octets again, exactly while some are left.
     fn watch(&mut self, registry: &Registry) {
-        let wanted = !self.outbox.is_empty() && !self.broken;
+        let wanted = !self.outbox.is_empty() && self.is_open();
         if wanted == self.watched {
             return;
         }
@@ -299,7 +394,37 @@ impl Link {
             _ => return,
         };
         self.watched = wanted;
-        self.broken |= done.is_err();
+        if done.is_err() {
+            self.outlet = Outlet::Broken;
+        }
+    }
+}
+
+// Reads what came into a buffer, as much as it has room for.
+fn fill(place: &mut Place, inbox: &mut Buffer) -> io::Result<usize>
+    ensures came { IfOk result (λ count. length inbox.new.octets ≡ length inbox.old.octets + count) }
+    ensures none { OnErr result (inbox.new ≡ inbox.old) }
+{
+    match place {
+        Place::Unix(stream) => inbox.fill(stream),
+        Place::Tcp(stream) => inbox.fill(stream),
+        Place::ListensUnix(_) | Place::ListensTcp(_) => {
+            Err(io::Error::from(ErrorKind::WouldBlock))
+        }
+        Place::Closed => Err(io::Error::from(ErrorKind::NotConnected)),
+    }
+}
+
+// Why a call that failed so moved nothing: a reset and a broken pipe say that the peer is gone.
+fn fault_of(kind: ErrorKind) -> Fault
+    ensures wait { kind ≡ ErrorKind.WouldBlock → result ≡ Fault.WouldWait }
+    ensures reset { kind ≡ ErrorKind.ConnectionReset → result ≡ Fault.PeerGone }
+    ensures pipe { kind ≡ ErrorKind.BrokenPipe → result ≡ Fault.PeerGone }
+{
+    match kind {
+        ErrorKind::WouldBlock => Fault::WouldWait,
+        ErrorKind::ConnectionReset | ErrorKind::BrokenPipe => Fault::PeerGone,
+        _ => Fault::Other,
     }
 }
 

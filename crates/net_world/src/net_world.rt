@@ -16,7 +16,7 @@ use world_face::{
 
 /// A World that has the sockets, files and clock of the system. It tells nothing but how often its calls have failed.
 ///
-/// A frame that it took may still lie in its own buffer: it goes out before the next wait that really waits, and a fault of the link is told at a later call. What a wait reports may be known from before, so something that is ready may be told some waits later.
+/// A frame that it took may still lie in its own buffer: it goes out before the next wait that really waits, and a fault of the link is told at a later call. A reset or a broken pipe of the link is no fault but its end: what a peer that is gone was sent is lost. What a wait reports may be known from before, so something that is ready may be told some waits later.
 pub struct NetWorld<'a, R: Net + Wait + Files + Clock> {
     rt: &'a R,
     edge: Edge,
@@ -73,7 +73,7 @@ impl<'a, R: Net + Wait + Files + Clock> Drop for NetWorld<'a, R> {
 }
 
 impl<'a, R: Net + Wait + Files + Clock> World for NetWorld<'a, R> {
-    ghost use Rattle.std.specs.Prelude.{◌≡◌, ◌<◌, ◌≤◌, length};
+    ghost use Rattle.std.specs.Prelude.{◌≡◌, ◌<◌, ◌≤◌, ℕ, length};
     ghost use Rattle.poll_list.specs.Listing.{AreWants};
     ghost use Rattle.world_face.specs.Faults.{io_failed, made_failed, join_failed, accept_failed, sent_failed, got_failed, size_failed, waited_failed};
     ghost use Rattle.world_face.specs.Journal.{filled, filled_got, place_of, IsPlace, Now, Wait as Waits, LinkOpen, LinkRead, LinkWrite, Connect, Connected, Listen, Accept, TcpRead, TcpWrite, TcpEnd, Close, UdpOpen, UdpSend, UdpRecv, FileLen, FileRead};
@@ -119,6 +119,7 @@ impl<'a, R: Net + Wait + Files + Clock> World for NetWorld<'a, R> {
         counted(&mut self.link_faults, done)
     }
 
+    /// The end comes where the peer closed the stream or reset it, or where a write found the pipe broken, behind all that came.
     fn link_read(&mut self, into: &mut [u8]) -> Io
         requires { 0 < length into.old }
         ensures answers { Answers (tells_faults self.old) (tells_faults self.new) (LinkRead (length into.old) result (filled result into.new)) }
@@ -129,12 +130,13 @@ impl<'a, R: Net + Wait + Files + Clock> World for NetWorld<'a, R> {
         read
     }
 
-    /// All of it is taken, or none. A frame of at most 58 octets with its length, such as an acknowledgement alone, isn't taken while other octets that came are to be read, or other sockets to be served, before the system is asked again.
+    /// All of it is taken, or none; none before a peer came. Once a write to the system found the peer gone all is taken and lost, so that nothing stays owed to it and the end is read. A frame of at most 58 octets with its length, such as an acknowledgement alone, isn't taken while other octets that came are to be read, or other sockets to be served, before the system is asked again.
     fn link_write(&mut self, from: &[u8]) -> Io
         requires some { 0 < length from.now }
         requires fits { length from.now ≤ most_to_link }
         ensures answers { Answers (tells_faults self.old) (tells_faults self.new) (LinkWrite from.now result) }
         ensures counts { self.new ≡ record self.old { link = raised (io_failed result) self.old.link } }
+        ensures whole { (count : ℕ) → result ≡ Io.Done count → count ≡ length from.now }
     {
         let written = self.edge.link_write(self.rt, from);
         self.link_faults = after_io(self.link_faults, written);

@@ -1,7 +1,8 @@
 // The sockets of the host, each under its number.
-ghost use Rattle.std.specs.Prelude.{◌<◌, ◌≤◌, IfSome, length, vec_capacity};
+ghost use Rattle.std.specs.Prelude.{◌≡◌, ℕ, ◌<◌, ◌≤◌, true, false, IfSome, length, vec_capacity};
 ghost use Rattle.std.specs.List.Sorted.{IsSearchInRange};
 ghost use Rattle.std.specs.Bool.{OnFalse};
+ghost use Rattle.mio.specs.Event.{is_priority, is_readable};
 ghost use Rattle.slab.specs.Slab.{slab_len};
 ghost use Rattle.world_face.specs.Journal.{MayRead, MayWrite, MayGet};
 ghost use Rattle.net_world.specs.declared.sockets.TheConstants.{MOST};
@@ -48,8 +49,8 @@ struct Slot {
     socket: Socket,
     readable: bool,
     writable: bool,
-    /// No more will come than what has.
-    ended: bool,
+    /// It is read until a read brings nothing: its end came, or octets before which a read stops, those that are marked as urgent.
+    until_none: bool,
     /// The system refused to give a connection that has come, since it had no descriptor for it.
     starved: bool,
     /// It stands in the list of those that are ready for reading.
@@ -180,7 +181,7 @@ impl Sockets {
             socket,
             readable: false,
             writable: false,
-            ended: false,
+            until_none: false,
             starved: false,
             listed: false,
         });
@@ -418,20 +419,29 @@ fn register(socket: &mut Socket, registry: &Registry, token: Token) -> bool {
             .register(listener, token, Interest::READABLE)
             .is_ok(),
         Socket::Stream(stream) => registry
-            .register(stream, token, Interest::READABLE | Interest::WRITABLE)
+            .register(
+                stream,
+                token,
+                Interest::READABLE | Interest::WRITABLE | Interest::PRIORITY,
+            )
             .is_ok(),
         Socket::Datagrams(socket) => registry.register(socket, token, Interest::READABLE).is_ok(),
     }
 }
 
-fn note(slot: &mut Slot, event: &Event) {
+fn note(slot: &mut Slot, event: &Event)
+    ensures readable { is_readable event.now ≡ true → slot.new.readable ≡ true }
+    ensures urgent { is_priority event.now ≡ true → slot.new.until_none ≡ true }
+{
     let fails = event.is_error();
-    slot.ended |= fails | event.is_read_closed();
-    slot.readable |= slot.ended | event.is_readable();
+    slot.until_none |= fails | event.is_read_closed() | event.is_priority();
+    slot.readable |= slot.until_none | event.is_readable();
     slot.writable |= fails | event.is_writable() | event.is_write_closed();
 }
 
-fn joined(slot: &mut Slot) -> Joined {
+fn joined(slot: &mut Slot) -> Joined
+    ensures rests { result ≡ Joined.NotYet → slot.new.writable ≡ false }
+{
     let Socket::Stream(stream) = &slot.socket else {
         return Joined::Failed;
     };
@@ -482,10 +492,12 @@ fn starve(slot: &mut Slot) -> Came {
     Came::Failed
 }
 
-// Where less came than was asked for there is no more for now.
+// Where less came than was asked for there is no more for now, unless it is read until nothing comes.
 fn read(slot: &mut Slot, into: &mut [u8]) -> Io
     requires { 0 < length into.old }
-    ensures { MayRead (length into.old) result }
+    ensures may { MayRead (length into.old) result }
+    ensures rests { result ≡ Io.NotYet → slot.new.readable ≡ false }
+    ensures goes_on { slot.old.until_none ≡ true → slot.old.readable ≡ true → (count : ℕ) → result ≡ Io.Done count → (slot.new.until_none ≡ true) × (slot.new.readable ≡ true) }
 {
     let Socket::Stream(stream) = &mut slot.socket else {
         return Io::Failed;
@@ -494,11 +506,12 @@ fn read(slot: &mut Slot, into: &mut [u8]) -> Io
     match again::read(stream, into) {
         Ok(0) => Io::End,
         Ok(count) => {
-            slot.readable = slot.ended || count == asked;
+            slot.readable = slot.until_none || count == asked;
             Io::Done(count)
         }
         Err(fault) if is_not_yet(&fault) => {
             slot.readable = false;
+            slot.until_none = false;
             Io::NotYet
         }
         Err(_) => Io::Failed,
@@ -508,7 +521,8 @@ fn read(slot: &mut Slot, into: &mut [u8]) -> Io
 // Where less was taken than was offered the system takes no more for now.
 fn write(slot: &mut Slot, from: &[u8]) -> Io
     requires { 0 < length from.now }
-    ensures { MayWrite (length from.now) result }
+    ensures may { MayWrite (length from.now) result }
+    ensures rests { result ≡ Io.NotYet → slot.new.writable ≡ false }
 {
     let Socket::Stream(stream) = &mut slot.socket else {
         return Io::Failed;
@@ -546,7 +560,8 @@ fn send(slot: &Slot, to: Endpoint, octets: &[u8]) -> Sent {
 }
 
 fn receive(slot: &mut Slot, into: &mut [u8]) -> Got
-    ensures { MayGet (length into.old) result }
+    ensures may { MayGet (length into.old) result }
+    ensures rests { result ≡ Got.NotYet → slot.new.readable ≡ false }
 {
     let Socket::Datagrams(socket) = &slot.socket else {
         return Got::Failed;
