@@ -1,16 +1,16 @@
 -- Of an honest guest the test misses nothing: what the law allows passes it, sentence by sentence.
-use Rattle.std.proofs.Common.{refl, ◌≡◌, ℕ, ◌+◌, ◌^◌, ◌<◌, ◌≤◌, List, [], ◌∷◌, ◌++◌, length, Option, None, Some, is_some, inl, inr, arith, not, ◌&&◌, ◌||◌, IsTrue, MatchOption, IfSome, pos, ◌+ℤ◌, nat_lt, nat_eq}
+use Rattle.std.proofs.Common.{refl, ◌≡◌, ℕ, ◌+◌, ◌^◌, ◌<◌, ◌≤◌, List, [], ◌∷◌, ◌++◌, length, Option, None, Some, is_some, inl, inr, arith, Bool, true, false, not, ◌&&◌, ◌||◌, IsTrue, MatchOption, IfSome, pos, ◌+ℤ◌, nat_lt, nat_eq}
 use Rattle.std.proofs.lemmas.Bool.Decides.{nat_tests}
 use Rattle.seq_space.specs.Places.{number_of, steps_up}
 use Rattle.flow_laws.specs.Settings.{Settings}
 use Rattle.flow_laws.specs.Event.{Segment, Story}
 use Rattle.flow_laws.specs.Guest.{Up, Acked, is_empty, Honest, HasCome, front, written, has_ended, ackd}
-use Rattle.flow_laws.specs.Host.{got, got_end, our_place}
-use Rattle.flow_laws.specs.Flow.{guest, host, their_number, our_number, next_number, is_closed, is_accepted, has_connected, syn_is_out}
+use Rattle.flow_laws.specs.Host.{answered, got, got_end, our_place, sent}
+use Rattle.flow_laws.specs.Flow.{guest, host, their_number, our_number, next_number, is_closed, is_accepted, is_connecting, has_connected, syn_is_out}
 use Rattle.flow_laws.specs.Close.{is_done, IsReset, newest_rst, before, follows_reset, host_failed, gives_up, connects_too_long, finds_no_guest, owes_reset, is_owed_reset, rests_since}
-use Rattle.flow_laws.specs.Lawful.{our_mss, our_scale, Act, AskConnected, Write, EndHost, Read, Send, Close, May, WritesWhatTheGuestSent, WritesWhatCame, SendsWhatTheHostSent, EndsAfterAll, SendsEndAfterAll, ReadsToTheEnd, AcknowledgesWhatCame, ClosesWithCause, ClosesAfterFailure, CallsOpenSocket, ResetsWhereOwed, SendsNothingAfterClose, OpensAfterHost, OpensWithSyn, SendsItsOptions, SendsAgainWithReason, SendsWithinMss, ResetsAtWhatCame}
+use Rattle.flow_laws.specs.Lawful.{our_mss, our_scale, Act, AskConnected, Write, EndHost, Read, Send, Close, May, WritesWhatTheGuestSent, WritesWhatCame, SendsWhatTheHostSent, EndsAfterAll, SendsEndAfterAll, ReadsToTheEnd, AcknowledgesWhatCame, ClosesWithCause, ClosesAfterFailure, CallsOpenSocket, ResetsWhereOwed, SendsNothingAfterClose, OpensAfterHost, OpensWithSyn, AsksUntilConnected, HasHeaderOf, SendsItsHeader, is_ack_alone, SendsItsOptions, SendsAgainWithReason, SendsWithinMss, ResetsAtWhatCame}
 use Rattle.flow_laws.specs.Computed.{are_sized, ends_at, has_come, is_at, is_number, same_bool}
-use Rattle.flow_laws.specs.Check.{writes_what_the_guest_sent, writes_what_came, sends_what_the_host_sent, sends_again_with_reason, ends_after_all, sends_end_after_all, reads_to_the_end, acknowledges_what_came, closes_with_cause, closes_after_failure, calls_open_socket, resets_where_owed, sends_nothing_after_close, opens_after_host, opens_with_syn, sends_its_options, acks_syn, is_reset, is_reset_at, may_stream, may_end, may_close, may_open, may, sends_within_mss, has_number_that_came, resets_at_what_came, may_be_sent}
+use Rattle.flow_laws.specs.Check.{writes_what_the_guest_sent, writes_what_came, sends_what_the_host_sent, sends_again_with_reason, ends_after_all, sends_end_after_all, reads_to_the_end, acknowledges_what_came, closes_with_cause, closes_after_failure, calls_open_socket, resets_where_owed, sends_nothing_after_close, opens_after_host, opens_with_syn, asks_until_connected, has_header_of, sends_its_header, sends_its_options, acks_syn, is_reset, is_reset_at, may_stream, may_end, may_close, may_open, may, sends_within_mss, has_number_that_came, resets_at_what_came, may_be_sent}
 use Rattle.flow_laws.proofs.Streams.{carried_length, front_carried, near_top}
 use Rattle.flow_laws.proofs.Acks.{acked_exact}
 use Rattle.flow_laws.proofs.GuestLaws.{honest_before}
@@ -180,6 +180,29 @@ options_hold : (s : Settings) (past : Story) (act : Act) → SendsItsOptions s p
 options_hold s past (Send seg) is = and_true (is_number seg.mss (our_mss s seg)) (is_number seg.scale (our_scale s past seg)) (same_numbers seg.mss (our_mss s seg) is.0) (same_numbers seg.scale (our_scale s past seg) is.1)
 options_hold s past _ is = refl
 
+asks_hold : (past : Story) (act : Act) → AsksUntilConnected past act → IsTrue (asks_until_connected past act)
+asks_hold past AskConnected is = is
+asks_hold past (Write xs) is = not_true (is_connecting past) is
+asks_hold past EndHost is = not_true (is_connecting past) is
+asks_hold past Read is = not_true (is_connecting past) is
+asks_hold past (Send seg) is = refl
+asks_hold past (Close directly ended known) is = refl
+
+else_holds : (a b : Bool) → (a ≡ false → IsTrue b) → IsTrue (a || b)
+else_holds true b f = refl
+else_holds false b f = f refl
+
+header_holds : (past : Story) (act : Act) → SendsItsHeader past act → IsTrue (sends_its_header past act)
+header_holds past (Send seg) is =
+    four_true (not (not seg.rst && (seg.fin || not (is_empty seg.octets))) || answered (host past)) ((not (not seg.rst && not seg.syn) || seg.ack) && (seg.ack || nat_eq seg.acknowledgement 0))
+    (not (is_ack_alone seg) || is_at (our_place (host past) seg.number) (sent (host past))) (not seg.rst || nat_eq seg.window 0)
+    (implied (not seg.rst && (seg.fin || not (is_empty seg.octets))) (answered (host past)) is.carries)
+    (and_true (not (not seg.rst && not seg.syn) || seg.ack) (seg.ack || nat_eq seg.acknowledgement 0) (implied (not seg.rst && not seg.syn) seg.ack is.acknowledges.0)
+    (else_holds seg.ack (nat_eq seg.acknowledgement 0) (λ none. same_nat seg.acknowledgement 0 (is.acknowledges.1 none))))
+    (implied (is_ack_alone seg) (is_at (our_place (host past) seg.number) (sent (host past))) (λ alone. at_holds (our_place (host past) seg.number) (sent (host past)) (is.next alone)))
+    (implied seg.rst (nat_eq seg.window 0) (λ rst. same_nat seg.window 0 (is.window rst)))
+header_holds past _ is = refl
+
 -- ---- all
 
 -- What may be done for an honest guest passes the test.
@@ -193,6 +216,8 @@ may_holds s past now act honest sized m =
     (four_true (closes_with_cause past now act) (closes_after_failure past act) (calls_open_socket past act) (resets_where_owed past act)
     (cause_holds past honest now act m.closes_with_cause) (failure_holds past act m.closes_after_failure) (socket_holds past act m.calls_open_socket) (owed_holds past act m.resets_where_owed))
     (and_true (may_open past act) (may_be_sent s past act)
+    (and_true (opens_after_host past act && opens_with_syn past act) (asks_until_connected past act && sends_its_header past act)
     (and_true (opens_after_host past act) (opens_with_syn past act) (after_holds past act m.opens_after_host) (syn_holds past act m.opens_with_syn))
+    (and_true (asks_until_connected past act) (sends_its_header past act) (asks_hold past act m.asks_until_connected) (header_holds past act m.sends_its_header)))
     (four_true (sends_within_mss s past act) (resets_at_what_came past act) (sends_nothing_after_close past act) (sends_its_options s past act)
     (within_holds s past act m.sends_within_mss) (reset_holds past honest act m.resets_at_what_came) (quiet_holds past act m.sends_nothing_after_close) (options_hold s past act m.sends_its_options)))

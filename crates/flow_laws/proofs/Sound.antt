@@ -1,16 +1,16 @@
 -- Where the test of a story holds, the story is lawful: sentence by sentence.
-use Rattle.std.proofs.Common.{◌≡◌, ℕ, ◌+◌, ◌^◌, ◌<◌, ◌≤◌, [], ◌∷◌, ◌++◌, length, Option, None, Some, is_some, inl, inr, arith, Bool, false, not, ◌&&◌, ◌||◌, IsTrue, MatchOption, IfSome, pos, ◌+ℤ◌, nat_lt, nat_eq}
+use Rattle.std.proofs.Common.{◌≡◌, ℕ, ◌+◌, ◌^◌, ◌<◌, ◌≤◌, [], ◌∷◌, ◌++◌, length, Option, None, Some, is_some, inl, inr, arith, Bool, true, false, not, ◌&&◌, ◌||◌, IsTrue, MatchOption, IfSome, pos, ◌+ℤ◌, nat_lt, nat_eq}
 use Rattle.std.proofs.lemmas.Bool.Decides.{nat_tests}
 use Rattle.seq_space.specs.Places.{number_of, steps_up}
 use Rattle.flow_laws.specs.Settings.{Settings}
 use Rattle.flow_laws.specs.Event.{Segment, At, Story}
 use Rattle.flow_laws.specs.Guest.{is_empty, Acked, Honest, HasCome, front, written, has_ended, ackd}
-use Rattle.flow_laws.specs.Host.{got, got_end, our_place}
-use Rattle.flow_laws.specs.Flow.{guest, host, their_number, our_number, next_number, is_closed, is_accepted, has_connected, syn_is_out}
+use Rattle.flow_laws.specs.Host.{answered, got, got_end, our_place, sent}
+use Rattle.flow_laws.specs.Flow.{guest, host, their_number, our_number, next_number, is_closed, is_accepted, is_connecting, has_connected, syn_is_out}
 use Rattle.flow_laws.specs.Close.{is_done, IsReset, newest_rst, before, follows_reset, host_failed, gives_up, connects_too_long, finds_no_guest, owes_reset, is_owed_reset, rests_since}
-use Rattle.flow_laws.specs.Lawful.{our_mss, our_scale, Act, AskConnected, Write, EndHost, Read, Send, Close, act_of, HasCause, May, IsLawful, WritesWhatTheGuestSent, WritesWhatCame, SendsWhatTheHostSent, SendsAgainWithReason, EndsAfterAll, SendsEndAfterAll, ReadsToTheEnd, AcknowledgesWhatCame, ClosesWithCause, ClosesAfterFailure, CallsOpenSocket, ResetsWhereOwed, SendsNothingAfterClose, OpensAfterHost, OpensWithSyn, SendsItsOptions, SendsWithinMss, ResetsAtWhatCame}
+use Rattle.flow_laws.specs.Lawful.{our_mss, our_scale, Act, AskConnected, Write, EndHost, Read, Send, Close, act_of, HasCause, May, IsLawful, WritesWhatTheGuestSent, WritesWhatCame, SendsWhatTheHostSent, SendsAgainWithReason, EndsAfterAll, SendsEndAfterAll, ReadsToTheEnd, AcknowledgesWhatCame, ClosesWithCause, ClosesAfterFailure, CallsOpenSocket, ResetsWhereOwed, SendsNothingAfterClose, OpensAfterHost, OpensWithSyn, AsksUntilConnected, HasHeaderOf, SendsItsHeader, is_ack_alone, SendsItsOptions, SendsWithinMss, ResetsAtWhatCame}
 use Rattle.flow_laws.specs.Computed.{ends_at, has_come, is_at, is_number, same_bool}
-use Rattle.flow_laws.specs.Check.{writes_what_the_guest_sent, writes_what_came, sends_what_the_host_sent, sends_again_with_reason, ends_after_all, sends_end_after_all, reads_to_the_end, acknowledges_what_came, closes_with_cause, closes_after_failure, calls_open_socket, resets_where_owed, sends_nothing_after_close, opens_after_host, opens_with_syn, sends_its_options, acks_syn, has_cause, is_reset, is_reset_at, may_stream, may_end, may_close, may_open, may, may_happen, is_lawful, sends_within_mss, has_number_that_came, resets_at_what_came, may_be_sent}
+use Rattle.flow_laws.specs.Check.{writes_what_the_guest_sent, writes_what_came, sends_what_the_host_sent, sends_again_with_reason, ends_after_all, sends_end_after_all, reads_to_the_end, acknowledges_what_came, closes_with_cause, closes_after_failure, calls_open_socket, resets_where_owed, sends_nothing_after_close, opens_after_host, opens_with_syn, asks_until_connected, has_header_of, sends_its_header, sends_its_options, acks_syn, has_cause, is_reset, is_reset_at, may_stream, may_end, may_close, may_open, may, may_happen, is_lawful, sends_within_mss, has_number_that_came, resets_at_what_came, may_be_sent}
 use Rattle.flow_laws.proofs.Computing.{all_brought, at_is, begins_prefix, both, either, empty_is, imply, is_false, nat_same, number_is, same_bool_is, sends_read_is, four_parts}
 use Rattle.flow_laws.proofs.Ends.{ends_at_is, has_come_is}
 
@@ -158,6 +158,37 @@ options_is s past (Send seg) is =
     (number_is seg.mss (our_mss s seg) o.0, number_is seg.scale (our_scale s past seg) o.1)
 options_is s past _ is = tt
 
+asks_is : (past : Story) (act : Act) → IsTrue (asks_until_connected past act) → AsksUntilConnected past act
+asks_is past AskConnected is = is
+asks_is past (Write xs) is = is_false (is_connecting past) is
+asks_is past EndHost is = is_false (is_connecting past) is
+asks_is past Read is = is_false (is_connecting past) is
+asks_is past (Send seg) is = tt
+asks_is past (Close directly ended known) is = tt
+
+or_else : (a b : Bool) → IsTrue (a || b) → a ≡ false → IsTrue b
+or_else true b is none = absurd cc
+or_else false b is none = is
+
+header_of : (past : Story) (seg : Segment) → IsTrue (has_header_of past seg) → HasHeaderOf past seg
+header_of past seg is =
+    let all = four_parts (not (not seg.rst && (seg.fin || not (is_empty seg.octets))) || answered (host past)) ((not (not seg.rst && not seg.syn) || seg.ack) && (seg.ack || nat_eq seg.acknowledgement 0))
+    (not (is_ack_alone seg) || is_at (our_place (host past) seg.number) (sent (host past))) (not seg.rst || nat_eq seg.window 0) is in
+    let acks = both (not (not seg.rst && not seg.syn) || seg.ack) (seg.ack || nat_eq seg.acknowledgement 0) all.1 in
+    record {
+      carries = λ some. imply (not seg.rst && (seg.fin || not (is_empty seg.octets))) (answered (host past)) all.0 some;
+      acknowledges = (
+        (λ plain. imply (not seg.rst && not seg.syn) seg.ack acks.0 plain),
+        (λ none. nat_same seg.acknowledgement 0 (or_else seg.ack (nat_eq seg.acknowledgement 0) acks.1 none)),
+      );
+      next = λ alone. at_is (our_place (host past) seg.number) (sent (host past)) (imply (is_ack_alone seg) (is_at (our_place (host past) seg.number) (sent (host past))) all.2 alone);
+      window = λ rst. nat_same seg.window 0 (imply seg.rst (nat_eq seg.window 0) all.3 rst);
+    }
+
+header_is : (past : Story) (act : Act) → IsTrue (sends_its_header past act) → SendsItsHeader past act
+header_is past (Send seg) is = header_of past seg is
+header_is past _ is = tt
+
 -- ---- all
 
 pub may_is : (s : Settings) (past : Story) (now : ℕ) (act : Act) → IsTrue (may s past now act) → May s past now act
@@ -167,7 +198,9 @@ may_is s past now act is =
     let ends = four_parts (ends_after_all past act) (sends_end_after_all past act) (reads_to_the_end past act) (acknowledges_what_came past act) all.1 in
     let closes = four_parts (closes_with_cause past now act) (closes_after_failure past act) (calls_open_socket past act) (resets_where_owed past act) all.2 in
     let last = both (may_open past act) (may_be_sent s past act) all.3 in
-    let opens = both (opens_after_host past act) (opens_with_syn past act) last.0 in
+    let opening = both (opens_after_host past act && opens_with_syn past act) (asks_until_connected past act && sends_its_header past act) last.0 in
+    let opens = both (opens_after_host past act) (opens_with_syn past act) opening.0 in
+    let heads = both (asks_until_connected past act) (sends_its_header past act) opening.1 in
     let sent = four_parts (sends_within_mss s past act) (resets_at_what_came past act) (sends_nothing_after_close past act) (sends_its_options s past act) last.1 in
     record {
       writes_what_the_guest_sent = writes_guest_is past act streams.0;
@@ -187,6 +220,8 @@ may_is s past now act is =
       sends_nothing_after_close = nothing_is past act sent.2;
       opens_after_host = opens_after_is past act opens.0;
       opens_with_syn = opens_with_is past act opens.1;
+      asks_until_connected = asks_is past act heads.0;
+      sends_its_header = header_is past act heads.1;
       sends_its_options = options_is s past act sent.3;
     }
 

@@ -5,10 +5,10 @@ use Rattle.seq_space.specs.Places.{number_of, steps_up}
 use Rattle.flow_laws.specs.Settings.{Settings}
 use Rattle.flow_laws.specs.Event.{Segment, At, Story}
 use Rattle.flow_laws.specs.Guest.{Up, is_empty, Acked, front, written, has_ended, ackd}
-use Rattle.flow_laws.specs.Host.{got, got_end, our_place}
-use Rattle.flow_laws.specs.Flow.{guest, host, their_number, our_number, next_number, is_closed, is_accepted, has_connected, syn_is_out}
+use Rattle.flow_laws.specs.Host.{answered, got, got_end, our_place, sent}
+use Rattle.flow_laws.specs.Flow.{guest, host, their_number, our_number, next_number, is_closed, is_accepted, is_connecting, has_connected, syn_is_out}
 use Rattle.flow_laws.specs.Close.{is_done, newest_rst, before, follows_reset, host_failed, gives_up, connects_too_long, finds_no_guest, owes_reset, is_owed_reset, rests_since}
-use Rattle.flow_laws.specs.Lawful.{our_mss, our_scale, Act, Write, EndHost, Read, Send, Close, act_of, is_prompted, is_overdue, repeats}
+use Rattle.flow_laws.specs.Lawful.{our_mss, our_scale, Act, AskConnected, Write, EndHost, Read, Send, Close, act_of, is_ack_alone, is_prompted, is_overdue, repeats}
 use Rattle.flow_laws.specs.Windows.{mss}
 use Rattle.flow_laws.specs.Computed.{begins_with, brings_all, ends_at, has_come, is_at, is_number, same_bool, sends_read}
 
@@ -119,6 +119,24 @@ abbrev pub sends_its_options : Settings → Story → Act → Bool
 sends_its_options s past (Send seg) = is_number seg.mss (our_mss s seg) && is_number seg.scale (our_scale s past seg)
 sends_its_options s past _ = true
 
+abbrev pub asks_until_connected : Story → Act → Bool
+asks_until_connected past AskConnected = is_connecting past
+asks_until_connected past (Write octets) = not (is_connecting past)
+asks_until_connected past EndHost = not (is_connecting past)
+asks_until_connected past Read = not (is_connecting past)
+asks_until_connected past _ = true
+
+abbrev pub has_header_of : Story → Segment → Bool
+has_header_of past seg =
+    (not (not seg.rst && (seg.fin || not (is_empty seg.octets))) || answered (host past))
+    && ((not (not seg.rst && not seg.syn) || seg.ack) && (seg.ack || nat_eq seg.acknowledgement 0))
+    && (not (is_ack_alone seg) || is_at (our_place (host past) seg.number) (sent (host past)))
+    && (not seg.rst || nat_eq seg.window 0)
+
+abbrev pub sends_its_header : Story → Act → Bool
+sends_its_header past (Send seg) = has_header_of past seg
+sends_its_header past _ = true
+
 -- ---- all sentences
 
 abbrev pub may_stream : Story → ℕ → Act → Bool
@@ -135,7 +153,7 @@ abbrev pub may_close : Story → ℕ → Act → Bool
 may_close past now act = closes_with_cause past now act && closes_after_failure past act && calls_open_socket past act && resets_where_owed past act
 
 abbrev pub may_open : Story → Act → Bool
-may_open past act = opens_after_host past act && opens_with_syn past act
+may_open past act = (opens_after_host past act && opens_with_syn past act) && (asks_until_connected past act && sends_its_header past act)
 
 abbrev pub may : Settings → Story → ℕ → Act → Bool
 may s past now act = may_stream past now act && may_end past act && may_close past now act && (may_open past act && may_be_sent s past act)

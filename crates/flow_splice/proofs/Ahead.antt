@@ -8,8 +8,8 @@ use Rattle.retransmit.specs.declared.Timer.TheVariants as timer
 use Rattle.net_octets.specs.declared.Mac.{Mac}
 use Rattle.sock_buffers.specs.Downward.{Downward}
 use Rattle.sock_buffers.specs.Upward.{Upward}
-use Rattle.tcp_transmit.specs.Timing.{after_expired as transmission_expired, cwnd_expired, goes_again}
-use Rattle.tcp_transmit.specs.Transmission.{Transmission, flight}
+use Rattle.tcp_transmit.specs.Timing.{after_expired as transmission_expired, goes_again, timed_out}
+use Rattle.tcp_transmit.specs.Transmission.{Transmission}
 use Rattle.tcp_transmit.specs.declared.Piece.{Piece}
 use Rattle.tcp_guest.specs.Connection.{Connection, HasBuffers, closes_first, has_gone, is_opening}
 use Rattle.tcp_guest.specs.Hosts.{reset}
@@ -87,8 +87,7 @@ expired_none r is =
 
 pieces_none : (t : Transmission) → is_given_up t.resend ≡ false → resend_due (transmission_expired t).resend ≡ None
 pieces_none t is =
-    let next : Transmission = record t { resend = resend_expired t.resend; cwnd = cwnd_expired t.cwnd (flight t) t.again } in
-    let same : transmission_expired t ≡ next = ap (λ (b : Bool). if b then t else next) is in
+    let same : transmission_expired t ≡ timed_out t = ap (λ (b : Bool). if b then t else timed_out t) is in
     ap (λ (x : Transmission). resend_due x.resend) same ∙ expired_none t.resend is
 
 opening_due : (st : Stage) (c : Connection) → is_opening st ≡ true → resend_due c.syn ≡ None → due_by st c ≡ None

@@ -1,11 +1,32 @@
 -- Two calls, calls after one, and a call among others.
 use Rattle.std.proofs.Common.{refl, ◌≡◌, List, [], ◌∷◌, ◌++◌, Bool, true, false, ◌||◌, subst, sym}
-use Rattle.world_face.specs.Journal.{Allowed, Close, Entry, TcpRead}
+use Rattle.world_face.specs.Journal.{Allowed, Close, Connected, Entry, TcpEnd, TcpRead, TcpWrite}
 use Rattle.world_face.specs.Tells.{Answers, Makes, Telling}
 use Rattle.world_face.proofs.Telling.{makes_next, makes_one, makes_then}
-use Rattle.flow_splice.specs.Hosts.{ReadsOn, ServesReport, is_for_reading, is_for_writing, reads_or_shuts, some_is}
+use Rattle.connection_follows.specs.Holding.{is_connects}
+use Rattle.flow_splice.specs.Hosts.{ReadsOn, ServesReport, is_for_reading, is_for_writing, reads_or_shuts, serves_write, some_is}
 use Rattle.flow_splice.specs.Splice.{Splice}
 use Rattle.flow_splice.specs.Wants.{reads, writes}
+
+-- what a report for writing asks for is a call for writing
+pub for_writing : (connects : Bool) (e : Entry) → serves_write connects e ≡ true → is_for_writing e ≡ true
+for_writing true (Connected socket answer) is = refl
+for_writing false (TcpWrite socket octets answer) is = refl
+for_writing false (TcpEnd socket answer) is = refl
+for_writing true _ is = absurd cc
+for_writing false _ is = absurd cc
+
+pub some_for : (a b : Entry → Bool) → ((e : Entry) → a e ≡ true → b e ≡ true) → (made : List Entry) → some_is a made ≡ true → some_is b made ≡ true
+some_for a b then [] is = absurd cc
+some_for a b then (e ∷ made) is = by (a e) refl is (some_for a b then made)
+  where
+    or_behind : (t : Bool) → some_is b made ≡ true → (t || some_is b made) ≡ true
+    or_behind true is = refl
+    or_behind false is = is
+
+    by : (t : Bool) → a e ≡ t → (t || some_is a made) ≡ true → (some_is a made ≡ true → some_is b made ≡ true) → (b e || some_is b made) ≡ true
+    by true here is more = rw (then e here) refl
+    by false none is more = or_behind (b e) (more is)
 
 pub two_calls : (a b c : Telling) (first second : Entry) (Q : List Entry → Type 0) → Answers a b first → Answers b c second → (Allowed first → Allowed second → Q (second ∷ first ∷ [])) → Makes a c Q
 two_calls a b c first second Q one two here =
@@ -62,9 +83,9 @@ reads_behind true second first so later = is_already reads_or_shuts second first
 reads_behind false second first so later = still_is reads_or_shuts second first so
 
 -- the calls for writing, and then those for reading
-pub serves_both : (read write : Bool) (old mid : Splice) (first second : List Entry) → (write ≡ true → writes old ≡ true → some_is is_for_writing first ≡ true) → ReadsOn old mid first
+pub serves_both : (read write : Bool) (old mid : Splice) (first second : List Entry) → (write ≡ true → writes old ≡ true → some_is (serves_write (is_connects old.conn.stage)) first ≡ true) → ReadsOn old mid first
     → (read ≡ true → reads mid ≡ true → some_is is_for_reading second ≡ true) → ServesReport read write old (second ++ first)
 serves_both read write old mid first second written on later = record {
-  writing = λ is waits. still_is is_for_writing second first (written is waits);
+  writing = λ is waits. still_is (serves_write (is_connects old.conn.stage)) second first (written is waits);
   reading = λ is waits. reads_behind (reads mid) second first (on waits) (later is);
 }

@@ -88,7 +88,7 @@ module _ (f : Splice) (now : ℕ) (open_yet : is_open f ≡ true) where
           are = ([], refl, (refl, refl));
           follows = open_follows s f (At now ConnectsYet ∷ past) now open_yet
               (goes_on s f f.conn f.up f.down f.told_end past before now ConnectsYet (λ none. none) o
-              (connects_yet s f.conn f.up f.down past before now on o.holds) o.told o.unfinished o.unsent (λ unowed. refl));
+              (connects_yet s f.conn f.up f.down past before now on connects o.holds) o.told o.unfinished o.unsent (λ unowed. refl));
         }
 
     pub host_refused : GoesOn f (closed (record f { conn = reset f.conn }) now) false now (Close f.face.number ∷ Connected f.face.number JoinFailed ∷ [])
@@ -103,7 +103,7 @@ module _ (f : Splice) (now : ℕ) (open_yet : is_open f ≡ true) where
 
   -- ---- octets are offered
 
-  module _ (owes : owes_octets f ≡ true) where
+  module _ (owes : owes_octets f ≡ true) (joined : is_connects f.conn.stage ≡ false) where
     two : (0 < length f.up.held) × (f.told_end ≡ false)
     two = both (nat_lt 0 (length f.up.held)) f.told_end refl owes
       where
@@ -130,7 +130,7 @@ module _ (f : Splice) (now : ℕ) (open_yet : is_open f ≡ true) where
     takes n few buffers s past before on o =
         open_follows s (record f { up = without f.up n }) (At now (Writes front n) ∷ past) now open_yet
         (goes_on s f f.conn (without f.up n) f.down f.told_end past before now (Writes front n) (λ none. none) o
-        (writes s f.conn f.up f.down past before now on (reached s past before o) (min 16384 (length f.up.held)) n few refl buffers o.holds) o.told o.unfinished o.unsent (λ unowed. refl))
+        (writes s f.conn f.up f.down past before now on (reached s past before o) joined (min 16384 (length f.up.held)) n few refl buffers o.holds) o.told o.unfinished o.unsent (λ unowed. refl))
 
     pub host_takes : (answer : Io) → count_of answer ≤ min 16384 (length f.up.held) → HasBuffers f.conn (without f.up (count_of answer)) f.down → (answer ≡ Failed → ⊥)
         → GoesOn f (record f { up = without f.up (count_of answer) }) false now (TcpWrite f.face.number front answer ∷ [])
@@ -149,12 +149,12 @@ module _ (f : Splice) (now : ℕ) (open_yet : is_open f ≡ true) where
           beats = At now (Closes false ended known) ∷ At now (WriteFails front) ∷ [];
           are = (At now (WriteFails front) ∷ [], ([], refl, (refl, refl)), (refl, refl, failed_cause s f.conn f.up f.down past before now on o.holds known false (At now (WriteFails front) ∷ past) refl));
           follows = reset_follows s f past (At now (WriteFails front) ∷ past) before now false ended known o refl
-              (write_fails_closes s f.conn f.up f.down past before now on o.holds known (reached s past before o) (untold s past before o) ended (min 16384 (length f.up.held)) refl);
+              (write_fails_closes s f.conn f.up f.down past before now on o.holds known (reached s past before o) joined (untold s past before o) ended (min 16384 (length f.up.held)) refl);
         }
 
   -- ---- the guest's end is passed on
 
-  module _ (owes_none : owes_octets f ≡ false) (ends : may_end f ≡ true) where
+  module _ (owes_none : owes_octets f ≡ false) (ends : may_end f ≡ true) (joined : is_connects f.conn.stage ≡ false) where
     both : (a b : Bool) → (a && not b) ≡ true → (a ≡ true) × (b ≡ false)
     both true false is = (refl, refl)
     both true true is = absurd cc
@@ -193,7 +193,7 @@ module _ (f : Splice) (now : ℕ) (open_yet : is_open f ≡ true) where
           beats = At now (Closes false ended known) ∷ At now EndFails ∷ [];
           are = (At now EndFails ∷ [], ([], refl, (refl, refl)), (refl, refl, failed_cause s f.conn f.up f.down past before now on o.holds known false (At now EndFails ∷ past) refl));
           follows = reset_follows s f past (At now EndFails ∷ past) before now false ended known o refl
-              (end_fails_closes s f.conn f.up f.down past before now on o.holds known (got_here s past before o) (unended s past before o) ended none_held taken);
+              (end_fails_closes s f.conn f.up f.down past before now on o.holds known (got_here s past before o) joined (unended s past before o) ended none_held taken);
         }
 
     -- it was told: either both ends passed with that, or not
@@ -202,7 +202,7 @@ module _ (f : Splice) (now : ℕ) (open_yet : is_open f ≡ true) where
 
     ends_holds : HasBuffers (settled told) f.up f.down → (s : Settings) (past : Story) (before : ℕ) → before ≤ now → IsOpen s f past before → Holds s told f.up f.down (At now EndsHost ∷ past) now
     ends_holds buffers s past before on o =
-        ends_host s f.conn f.up f.down past before now on (got_here s past before o) none_held taken (unended s past before o) (unsettled told f.up f.down buffers) o.holds
+        ends_host s f.conn f.up f.down past before now on (got_here s past before o) joined none_held taken (unended s past before o) (unsettled told f.up f.down buffers) o.holds
 
     pub host_ends : HasBuffers (settled told) f.up f.down → (b : Bool) → ends_by (settling told) ≡ b → (new : Splice) (made : List Entry)
         → Sees b (record f { conn = settled told; told_end = true }) new now made → GoesOn f new false now (made ++ (TcpEnd f.face.number MadeDone ∷ []))
@@ -241,6 +241,9 @@ module _ (f : Splice) (now : ℕ) (open_yet : is_open f ≡ true) where
     yet : is_host_open f.conn.transmission.end ≡ true
     yet = (three (is_connects f.conn.stage) (is_host_open f.conn.transmission.end) (nat_lt 0 (f.down.size - length f.down.octets)) may).1
 
+    joined_yet : is_connects f.conn.stage ≡ false
+    joined_yet = (three (is_connects f.conn.stage) (is_host_open f.conn.transmission.end) (nat_lt 0 (f.down.size - length f.down.octets)) may).0
+
     -- as many as there is room for are asked for
     asks : (s : Settings) (past : Story) (before : ℕ) → IsOpen s f past before → f.down.size ≡ f.up.size → min 16384 (f.down.size - length f.down.octets) ≡ read_size s past
     asks s past before o size = ap (λ (n : ℕ). min 16384 (n - length f.down.octets)) (size ∙ o.holds.buffers.size ∙ o.holds.suits.ring) ∙ sym (asks_for_all_room s f.conn f.up f.down past before o.holds yet)
@@ -254,7 +257,7 @@ module _ (f : Splice) (now : ℕ) (open_yet : is_open f ≡ true) where
         let next = given f octets now in
         open_follows s next (At now (Reads octets) ∷ past) now open_yet
         (goes_on s f next.conn f.up next.down f.told_end past before now (Reads octets) (λ none. none) o
-        (reads s f.conn f.up f.down past before now on o.holds yet octets (let long = length-append f.down.octets octets in let within = o.holds.within in let ring = size ∙ o.holds.buffers.size ∙ o.holds.suits.ring in omega (arith, long, ring, few, within)) buffers)
+        (reads s f.conn f.up f.down past before now on o.holds yet joined_yet octets (let long = length-append f.down.octets octets in let within = o.holds.within in let ring = size ∙ o.holds.buffers.size ∙ o.holds.suits.ring in omega (arith, long, ring, few, within)) buffers)
         o.told o.unfinished o.unsent (λ unowed. refl))
 
     pub host_gives : (answer : Io) (octets : List ℕ) → gives_octets answer ≡ true → f.down.size ≡ f.up.size → length octets ≤ asked → HasBuffers (given f octets now).conn f.up (given f octets now).down
@@ -272,7 +275,7 @@ module _ (f : Splice) (now : ℕ) (open_yet : is_open f ≡ true) where
     pub host_gives_end : (octets : List ℕ) → f.down.size ≡ f.up.size → HasBuffers (host_ended f.conn now) f.up f.down → GoesOn f (record f { conn = host_ended f.conn now }) false now (TcpRead f.face.number asked End octets ∷ [])
     host_gives_end octets size buffers s past before ident ended known on h =
         let o = open_is s f past before open_yet h in
-        let next : Connection = record f.conn { transmission = watched (unsent_end s f.conn f.up f.down past before now on o.holds yet) true now } in
+        let next : Connection = record f.conn { transmission = watched (unsent_end s f.conn f.up f.down past before now on o.holds yet joined_yet) true now } in
         let is : host_ended f.conn now ≡ next = ap (λ (b : Bool). if b then next else f.conn) yet in
         record {
           beats = At now ReadsEnd ∷ [];
@@ -280,7 +283,7 @@ module _ (f : Splice) (now : ℕ) (open_yet : is_open f ≡ true) where
           follows = subst (λ (c : Connection). Follows s (record f { conn = c }) (At now ReadsEnd ∷ past) now) (sym is)
               (open_follows s (record f { conn = next }) (At now ReadsEnd ∷ past) now open_yet
               (goes_on s f next f.up f.down f.told_end past before now ReadsEnd (λ none. none) o
-              (reads_end s f.conn f.up f.down past before now on o.holds yet (subst (λ (c : Connection). HasBuffers c f.up f.down) is buffers)) o.told o.unfinished o.unsent (λ unowed. refl)));
+              (reads_end s f.conn f.up f.down past before now on o.holds yet joined_yet (subst (λ (c : Connection). HasBuffers c f.up f.down) is buffers)) o.told o.unfinished o.unsent (λ unowed. refl)));
         }
 
     -- the read failed
@@ -291,7 +294,7 @@ module _ (f : Splice) (now : ℕ) (open_yet : is_open f ≡ true) where
           beats = At now (Closes false ended known) ∷ At now ReadFails ∷ [];
           are = (At now ReadFails ∷ [], ([], refl, (refl, asks s past before o size, refl)), (refl, refl, failed_cause s f.conn f.up f.down past before now on o.holds known false (At now ReadFails ∷ past) refl));
           follows = reset_follows s f past (At now ReadFails ∷ past) before now false ended known o refl
-              (read_fails_closes s f.conn f.up f.down past before now on o.holds known ended yet);
+              (read_fails_closes s f.conn f.up f.down past before now on o.holds known ended yet joined_yet);
         }
 
 -- the host was told the guest's end: its socket is closed, or reading goes on

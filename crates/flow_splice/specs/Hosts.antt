@@ -8,6 +8,7 @@ use Rattle.tcp_transmit.specs.Timing.{watched_over}
 use Rattle.world_face.specs.Journal.{Entry, Close, Connected, TcpRead, TcpWrite, TcpEnd}
 use Rattle.world_face.specs.declared.Io.{Io}
 use Rattle.world_face.specs.declared.Io.TheVariants.{Done, End, NotYet, Failed}
+use Rattle.connection_follows.specs.Holding.{is_connects}
 use Rattle.flow_splice.specs.Splice.{Splice, closed, is_open}
 use Rattle.flow_splice.specs.Wants.{reads, writes}
 
@@ -68,6 +69,14 @@ is_for_writing (TcpWrite socket octets answer) = true
 is_for_writing (TcpEnd socket answer) = true
 is_for_writing _ = false
 
+-- what a report for writing asks for: whether a host that is asked to connect has connected, and octets or the end for one that has
+abbrev pub serves_write : (connects : Bool) → Entry → Bool
+serves_write true (Connected socket answer) = true
+serves_write true _ = false
+serves_write false (TcpWrite socket octets answer) = true
+serves_write false (TcpEnd socket answer) = true
+serves_write false _ = false
+
 abbrev pub is_for_reading : Entry → Bool
 is_for_reading (TcpRead socket asked answer octets) = true
 is_for_reading _ = false
@@ -91,7 +100,7 @@ ReadsOn old new made = reads old ≡ true → (reads new || some_is reads_or_shu
 
 -- Each direction that was reported and waited for has its call; for reading, unless a call for writing closed the socket before it.
 pub record ServesReport (read write : Bool) (f : Splice) (made : List Entry) : Type 0 where
-  pub writing : write ≡ true → writes f ≡ true → some_is is_for_writing made ≡ true
+  pub writing : write ≡ true → writes f ≡ true → some_is (serves_write (is_connects f.conn.stage)) made ≡ true
   pub reading : read ≡ true → reads f ≡ true → some_is reads_or_shuts made ≡ true
 
 -- The guest's end isn't held back: where the socket is open, the end was taken and none of the guest's octets is held, the host was told it.

@@ -19,7 +19,7 @@ use world_face::{Io, Joined, MOST_TO_FLOW, Made, World};
 impl Spliced {
     ghost use Rattle.flow_splice.specs.Splice.{closed, is_open as is_open_by};
     ghost use Rattle.flow_splice.specs.Serves.{GoesOn};
-    ghost use Rattle.flow_splice.specs.Hosts.{PassesEnd, ReadsOn, ServesReport, is_for_reading, is_for_writing, some_is};
+    ghost use Rattle.flow_splice.specs.Hosts.{PassesEnd, ReadsOn, ServesReport, is_for_reading, serves_write, some_is};
     ghost use Rattle.flow_splice.specs.Stays.{Stays, StaysButRead, StaysButServed, StaysButWritten};
     ghost use Rattle.flow_splice.specs.Shapes.{IsHostWork, is_ending, is_reading, is_writing};
     ghost use Rattle.flow_splice.specs.Wants.{may_end, owes_octets as owes_octets_by, reads, writes};
@@ -47,7 +47,7 @@ impl Spliced {
         requires now { now ≤ 2 ^ 62 }
         ensures makes { Makes (W.tells world.old) (W.tells world.new)
             (λ made. GoesOn self.old self.new false now made × (is_writing made ≡ true) × (ready ≡ false → made ≡ [])
-            × (ready ≡ true → writes self.old ≡ true → some_is is_for_writing made ≡ true) × ReadsOn self.old self.new made) }
+            × (ready ≡ true → writes self.old ≡ true → some_is (serves_write (is_connects self.old.conn.stage)) made ≡ true) × ReadsOn self.old self.new made) }
         ensures stays { StaysButWritten self.old self.new }
         ensures idle { ready ≡ false → (self.new ≡ self.old) × (W.tells world.new ≡ W.tells world.old) }
         ensures passes_end { ready ≡ true → is_connects self.old.conn.stage ≡ false → PassesEnd self.new }
@@ -89,7 +89,7 @@ impl Spliced {
         requires open_yet { is_open_by self.old ≡ true }
         requires connects { is_connects self.old.conn.stage ≡ true }
         ensures makes { Makes (W.tells world.old) (W.tells world.new)
-            (λ made. GoesOn self.old self.new false now made × (is_writing made ≡ true) × (some_is is_for_writing made ≡ true)) }
+            (λ made. GoesOn self.old self.new false now made × (is_writing made ≡ true) × (some_is (serves_write true) made ≡ true)) }
         ensures stays { Stays self.old self.new }
     {
         match world.connected(self.number) {
@@ -137,7 +137,7 @@ impl Spliced {
         requires connected { is_connects self.old.conn.stage ≡ false }
         requires owes { owes_octets_by self.old ≡ true }
         ensures makes { Makes (W.tells world.old) (W.tells world.new)
-            (λ made. GoesOn self.old self.new false now made × (is_writing made ≡ true) × (some_is is_for_writing made ≡ true)
+            (λ made. GoesOn self.old self.new false now made × (is_writing made ≡ true) × (some_is (serves_write false) made ≡ true)
             × ReadsOn self.old self.new made) }
         ensures stays { StaysButWritten self.old self.new }
         ensures passes_end { PassesEnd self.new }
@@ -185,7 +185,7 @@ impl Spliced {
         requires all { owes_octets_by self.old ≡ false }
         requires ends { may_end self.old ≡ true }
         ensures makes { Makes (W.tells world.old) (W.tells world.new)
-            (λ made. GoesOn self.old self.new false now made × (is_ending made ≡ true) × (some_is is_for_writing made ≡ true)
+            (λ made. GoesOn self.old self.new false now made × (is_ending made ≡ true) × (some_is (serves_write false) made ≡ true)
             × ReadsOn self.old self.new made) }
         ensures stays { Stays self.old self.new }
         ensures passes_end { PassesEnd self.new }

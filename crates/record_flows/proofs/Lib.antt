@@ -18,6 +18,7 @@ pub mod TcpResets
 pub mod TcpFailures
 pub mod TcpPairs
 pub mod TcpGivesUp
+pub mod TcpHeaders
 pub mod TcpForwards
 pub mod TcpRefused
 pub mod Lots

@@ -1,5 +1,5 @@
 -- How long a run may wait, and how long it waits at least.
-use Rattle.std.specs.Prelude.{ℕ, ◌+◌, Bool, true, false, List, [], ◌∷◌, ◌++◌, filter, map, Option, Some, None}
+use Rattle.std.specs.Prelude.{ℕ, ◌+◌, nat_lt, Bool, true, false, List, [], ◌∷◌, ◌++◌, filter, map, Option, Some, None}
 use Rattle.world_face.specs.Journal.{Entry}
 use Rattle.world_face.specs.Frames.{is_blocked}
 use Rattle.host_policy.specs.Addresses.{Config}
@@ -12,10 +12,10 @@ use Rattle.flow_laws.specs.Event.{Story}
 use Rattle.flow_laws.specs.Dutiful.{connect_deadline, resend_deadline, wakes}
 use Rattle.record_flows.specs.Book.{book, is_young, longest_rest}
 use Rattle.record_flows.specs.Flows.{Flow, Rest}
-use Rattle.slirp_laws.specs.Answers.{serving}
+use Rattle.slirp_laws.specs.Answers.{is_free, ledger, serving}
 use Rattle.slirp_laws.specs.Ports.{associations_open, used_at}
 use Rattle.slirp_laws.specs.Questions.{questions_open}
-use Rattle.tftp_server.specs.Transfers.{Transfer}
+use Rattle.tftp_server.specs.Transfers.{Transfer, ticked}
 
 -- the moments that each flow has
 abbrev pub of_flows : (Story → List ℕ) → List Flow → List ℕ
@@ -32,15 +32,10 @@ question_lives config past = map (λ socket. used_at socket past + question_life
 abbrev pub lives : Config → List Entry → List ℕ
 lives config past = association_lives config past ++ question_lives config past
 
--- a wait doesn't pass the end of a host's time to connect, nor of an idle life, nor, unless the link is blocked, a minute since what is under way went out
+-- what has to go out has a moment only while the link isn't blocked
 abbrev pub unless_blocked : Bool → List ℕ → List ℕ
 unless_blocked true moments = []
 unless_blocked false moments = moments
-
-abbrev pub deadlines : Config → List Entry → List ℕ
-deadlines config past =
-    of_flows connect_deadline (book config past).flows ++ lives config past
-    ++ unless_blocked (is_blocked past) (of_flows resend_deadline (book config past).flows)
 
 -- when the first of fragments that wait are dropped, and the flows that rest are through
 abbrev pub drops : Config → List Entry → List ℕ
@@ -49,9 +44,17 @@ drops config past = map (λ (s : PartSet). s.since + 60000) (waiting config past
 abbrev pub rest_ends : Config → List Entry → List ℕ
 rest_ends config past = map (λ (r : Rest). r.since + longest_rest) (filter (is_young (moment past)) (book config past).rests)
 
--- when the packet that was sent last of each file is due to go again
+-- when a packet of each file is due to go again, as this wait leaves them: it counts the packet that is on its way
 abbrev pub file_alarms : Config → List Entry → List ℕ
-file_alarms config past = map (λ (t : Transfer). t.due) (serving config past).files.transfers
+file_alarms config past =
+    filter (nat_lt (moment past)) (map (λ (t : Transfer). t.due) (ticked (moment past) (is_free (ledger config past)) (serving config past).files.transfers))
+
+-- a wait doesn't pass the end of a host's time to connect, of an idle life or of a rest, nor, unless the link is blocked, a minute since what is under
+-- way went out, nor the moment at which a packet of a file goes again
+abbrev pub deadlines : Config → List Entry → List ℕ
+deadlines config past =
+    of_flows connect_deadline (book config past).flows ++ lives config past ++ rest_ends config past
+    ++ unless_blocked (is_blocked past) (of_flows resend_deadline (book config past).flows ++ file_alarms config past)
 
 -- the moments for which a wait may be cut short
 abbrev pub alarms : Config → List Entry → List ℕ

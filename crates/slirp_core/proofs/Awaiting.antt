@@ -455,8 +455,8 @@ must_wait config at slirp link past wants timeout holds none_again quiet young r
       (all_ahead config past holds.lawful slirp.moment (subst (λ l. All (λ q. is_idle_question slirp.moment q ≡ false) l) (sym holds.relayed.questions) recent)
       (lives_ahead config past holds.lawful slirp.moment (subst (λ l. All (λ a. is_idle_association slirp.moment a ≡ false) l) (sym holds.relayed.list) young)));
   closed = each_waits config at slirp link past holds early;
-  until = until_is config at slirp link past holds timeout times early (λ free. let now = calm free in (now.0.clear, now.1)) young recent;
-  from = from_is config at slirp link past holds timeout times fresh young recent;
+  until = until_is config at slirp link past holds timeout times none_again early (λ free. let now = calm free in (now.0.clear, now.1)) young recent;
+  from = from_is config at slirp link past holds timeout times none_again fresh young recent;
 }
   where
     sent_is : is_all_sent config past ≡ is_settled slirp link

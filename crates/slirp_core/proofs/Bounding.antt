@@ -9,19 +9,20 @@ use Rattle.udp_assoc.specs.Associations.{idle_life, is_over as is_idle_associati
 use Rattle.udp_assoc.specs.declared.assocs.Association.{Association}
 use Rattle.dns_relay.specs.Questions.{is_over as is_idle_question, numbers as question_numbers, question_life}
 use Rattle.dns_relay.specs.declared.Question.{Question}
-use Rattle.tftp_server.specs.Transfers.{Transfer, are_left, goes_again, is_due, most_again, next_again, ticked_by}
+use Rattle.tftp_server.specs.Transfers.{Transfer, next_again, ticked}
+use Rattle.tftp_server.proofs.Turning.{next_left, ticked_none}
 use Rattle.flow_laws.specs.Close.{is_in_use}
 use Rattle.flow_laws.specs.Dutiful.{AreAhead, connect_deadline, moment_if, resend_deadline, waits_since, wakes}
 use Rattle.flow_laws.specs.Event.{Story}
 use Rattle.flow_laws.specs.Flow.{has_connected, is_accepted, is_closed, is_under_way, opened_at}
 use Rattle.halves_follow.specs.Bounds.{IsBy, IsFrom}
-use Rattle.record_flows.specs.Book.{book}
-use Rattle.record_flows.specs.Flows.{Flow}
+use Rattle.record_flows.specs.Book.{book, is_young as is_young_rest, longest_rest}
+use Rattle.record_flows.specs.Flows.{Flow, Rest}
 use Rattle.record_flows.specs.Laws.{flow_settings}
 use Rattle.run_laws.specs.Fragments.{waiting}
 use Rattle.run_laws.specs.Moments.{moment}
 use Rattle.run_laws.specs.Sockets.{is_among, next_number}
-use Rattle.slirp_laws.specs.Answers.{serving}
+use Rattle.slirp_laws.specs.Answers.{is_free, is_out, ledger, left, serving}
 use Rattle.slirp_laws.specs.Names.{questions}
 use Rattle.slirp_laws.specs.Ports.{associations_open, used_at}
 use Rattle.slirp_laws.specs.Questions.{questions_open}
@@ -45,13 +46,14 @@ use Rattle.waiting_flows.proofs.Bounding.{by_any, by_both, by_earlier, flows_by,
 use Rattle.waiting_flows.proofs.Placing.{each, not_in_use}
 use Rattle.tcp_flows.specs.Reading.{AllClear}
 use Rattle.tcp_flows.specs.Settled.{IsInTime}
-use Rattle.tcp_flows.specs.Waits.{IsForSome, IsInTimeAfter, IsInTimeFor}
+use Rattle.tcp_flows.specs.Waits.{IsForSome, IsInTimeAfter, IsInTimeFor, RestOnce, young_rests}
+use Rattle.tcp_flows.proofs.Apart.{are_once, once_filter}
 use Rattle.tcp_flows.proofs.Ahead.{have_stories, story_ahead}
 use Rattle.tcp_flows.proofs.Awaiting.{same_later}
 use Rattle.slirp_core.specs.Connecting.{AreInTime}
 use Rattle.slirp_core.specs.Fragments.{IsHeld}
 use Rattle.slirp_core.specs.Holds.{Holds, Standing, flowing}
-use Rattle.slirp_core.specs.Owed.{IsOwed, kept_by}
+use Rattle.slirp_core.specs.Owed.{IsOwed}
 use Rattle.slirp_core.specs.Pumps.{question_left, time_left}
 use Rattle.slirp_core.specs.State.{SlirpState}
 use Rattle.world_face.specs.Moments.{sooner}
@@ -115,16 +117,25 @@ by_next now (m ∷ ms) is = ((let low = is.0 in omega (arith, low)), by_next now
 
 module _ (config : Config) (now : ℕ) (blocked : Bool) (parts : List (Option Splice)) (past : List Entry) (due time : Option ℕ) (left : time ≡ option_map (λ at. at - now) due) (for_some : IsForSome config past due) where
   -- what is due first suits them
-  pub suits_due : IsInTimeFor config parts past due → SuitsFlows config now blocked parts past time
-  suits_due in_time = record { due = due; left = left; connects = λ ahead. in_time.connects; resends = λ free clear. in_time.resends clear; for_some = for_some }
+  pub suits_due : IsInTimeFor config parts past due → (RestOnce config past → IsBy due (rest_ends config past)) → SuitsFlows config now blocked parts past time
+  suits_due in_time rests = record { due = due; left = left; connects = λ ahead. in_time.connects; resends = λ free clear. in_time.resends clear; rests = λ once ahead. rests once; for_some = for_some }
+
+  all_after : (ms : List ℕ) → AreAhead now ms → filter (nat_lt now) ms ≡ ms
+  all_after [] ahead = refl
+  all_after (m ∷ ms) ahead = by (nat_lt now m) (let later = ahead.0 in grind (arith, nat_tests, later)) (all_after ms ahead.1)
+    where
+      by : (b : Bool) → b ≡ true → filter (nat_lt now) ms ≡ ms → cond b (m ∷ filter (nat_lt now) ms) (filter (nat_lt now) ms) ≡ m ∷ ms
+      by true is more = ap (λ l. m ∷ l) more
+      by false is more = absurd cc
 
   -- and where the link is blocked so does what is due first after now
-  pub suits_after : blocked ≡ true → IsInTimeAfter config now past due → SuitsFlows config now blocked parts past time
-  suits_after waits in_time = record {
+  pub suits_after : blocked ≡ true → IsInTimeAfter config now past due → (RestOnce config past → IsBy due (filter (nat_lt now) (rest_ends config past))) → SuitsFlows config now blocked parts past time
+  suits_after waits in_time rests = record {
     due = due;
     left = left;
     connects = λ ahead. subst (λ (ms : List ℕ). IsBy due ms) (same_later now (book config past).flows ahead) in_time;
     resends = λ free clear. absurd (true_false (sym waits ∙ free));
+    rests = λ once ahead. subst (λ (ms : List ℕ). IsBy due ms) (all_after (rest_ends config past) ahead) (rests once);
     for_some = for_some;
   }
 
@@ -157,43 +168,70 @@ fresh_stay now (s ∷ sets) fresh = by (is_young now s) refl (fresh_stay now set
 abbrev dues : List Transfer → List ℕ
 dues transfers = map (λ (t : Transfer). t.due) transfers
 
--- one of them is due then
-any_from : (at : ℕ) (ts : List Transfer) → Any (λ (t : Transfer). t.due ≡ at) ts → IsFrom (Some at) (dues ts)
-any_from at [] (k, x, low, here, is) = absurd (omega (arith, low))
-any_from at (t ∷ ts) (zero, x, low, here, is) = let first : t.due ≡ at = ap (λ (u : Transfer). u.due) here ∙ is in inl (omega (arith, first))
-any_from at (t ∷ ts) (suc k, x, low, here, is) = inr (any_from at ts (k, x, omega (arith, low), here, is))
-
--- what is from some of them is from all
-fewer_from : (p : Transfer → Bool) (at : ℕ) (ts : List Transfer) → IsFrom (Some at) (dues (filter p ts)) → IsFrom (Some at) (dues ts)
-fewer_from p at [] is = is
-fewer_from p at (t ∷ ts) is = by (p t) (fewer_from p at ts) is
+-- one of them is due then, after now
+later_from : (now at : ℕ) (ts : List Transfer) → now < at → Any (λ (t : Transfer). t.due ≡ at) ts → IsFrom (Some at) (filter (nat_lt now) (dues ts))
+later_from now at [] later (k, x, low, here, is) = absurd (omega (arith, low))
+later_from now at (t ∷ ts) later (zero, x, low, here, is) = by (nat_lt now t.due) refl
   where
-    by : (b : Bool) → (IsFrom (Some at) (dues (filter p ts)) → IsFrom (Some at) (dues ts)) → IsFrom (Some at) (dues (cond b (t ∷ filter p ts) (filter p ts))) → (t.due ≤ at) ⊎ IsFrom (Some at) (dues ts)
-    by true more (inl low) = inl low
-    by true more (inr rest) = inr (more rest)
-    by false more rest = inr (more rest)
+    first : t.due ≡ at
+    first = ap (λ (u : Transfer). u.due) here ∙ is
 
--- one that goes again was due before
-again_from : (now at : ℕ) → now ≤ at → (ts : List Transfer) (t : Transfer) → next_again now ts ≡ Some t → IsFrom (Some at) (dues ts)
-again_from now at later [] t found = absurd cc
-again_from now at later (u ∷ ts) t found = by (goes_again now u) refl found (again_from now at later ts t)
+    by : (b : Bool) → nat_lt now t.due ≡ b → IsFrom (Some at) (cond b (t.due ∷ filter (nat_lt now) (dues ts)) (filter (nat_lt now) (dues ts)))
+    by true after = inl (omega (arith, first))
+    by false over = absurd (let same = first in grind (arith, nat_tests, over, later, same))
+later_from now at (t ∷ ts) later (suc k, x, low, here, is) = by (nat_lt now t.due) (later_from now at ts later (k, x, omega (arith, low), here, is))
   where
-    due_by : (a b : Bool) → nat_le u.due now ≡ a → (a && b) ≡ true → u.due ≤ at
-    due_by true b is goes = grind (arith, nat_tests, is, later)
-    due_by false b is goes = absurd cc
+    by : (b : Bool) → IsFrom (Some at) (filter (nat_lt now) (dues ts)) → IsFrom (Some at) (cond b (t.due ∷ filter (nat_lt now) (dues ts)) (filter (nat_lt now) (dues ts)))
+    by true rest = inr rest
+    by false rest = rest
 
-    by : (b : Bool) → goes_again now u ≡ b → cond b (Some u) (next_again now ts) ≡ Some t → (next_again now ts ≡ Some t → IsFrom (Some at) (dues ts)) → (u.due ≤ at) ⊎ IsFrom (Some at) (dues ts)
-    by true goes one rest = inl (due_by (is_due now u) (nat_lt u.again most_again) refl goes)
-    by false goes one rest = inr (rest one)
-
--- what is due of those that are kept before a wait
-kept_from : (now at : ℕ) (free : Bool) (ts : List Transfer) → now ≤ at → Any (λ (t : Transfer). t.due ≡ at) (kept_by true free now ts) → IsFrom (Some at) (dues ts)
-kept_from now at false ts later some = fewer_from (λ (t : Transfer). not (is_due now t) || nat_lt t.again most_again) at ts (any_from at (are_left now ts) some)
-kept_from now at true ts later some = by (next_again now ts) refl some
+-- none after now is due before
+later_by : (now at : ℕ) (ts : List Transfer) → All (λ (t : Transfer). now < t.due → at ≤ t.due) ts → IsBy (Some at) (filter (nat_lt now) (dues ts))
+later_by now at [] first = tt
+later_by now at (t ∷ ts) first = by (nat_lt now t.due) refl (later_by now at ts (λ k d low. first (suc k) d (omega (arith, low))))
   where
-    by : (o : Option Transfer) → next_again now ts ≡ o → Any (λ (t : Transfer). t.due ≡ at) (ticked_by now (are_left now ts) o) → IsFrom (Some at) (dues ts)
-    by None is some = fewer_from (λ (t : Transfer). not (is_due now t) || nat_lt t.again most_again) at ts (any_from at (are_left now ts) some)
-    by (Some t) is some = again_from now at later ts t is
+    by : (b : Bool) → nat_lt now t.due ≡ b → IsBy (Some at) (filter (nat_lt now) (dues ts)) → IsBy (Some at) (cond b (t.due ∷ filter (nat_lt now) (dues ts)) (filter (nat_lt now) (dues ts)))
+    by true after rest = (first 0 t (omega arith) (grind (arith, nat_tests, after)), rest)
+    by false over rest = rest
+
+-- where none is due after now there is nothing to wait for
+none_by : (now : ℕ) (ts : List Transfer) → All (λ (t : Transfer). t.due ≤ now) ts → IsBy None (filter (nat_lt now) (dues ts))
+none_by now [] over = tt
+none_by now (t ∷ ts) over = by (nat_lt now t.due) refl (none_by now ts (λ k d low. over (suc k) d (omega (arith, low))))
+  where
+    by : (b : Bool) → nat_lt now t.due ≡ b → IsBy None (filter (nat_lt now) (dues ts)) → IsBy None (cond b (t.due ∷ filter (nat_lt now) (dues ts)) (filter (nat_lt now) (dues ts)))
+    by true after rest = let low = over 0 t (omega arith) in absurd (grind (arith, nat_tests, after, low))
+    by false before rest = rest
+
+-- no frame is left where all are out
+all_out : (frames : List (List ℕ)) → is_out frames ≡ true → frames ≡ []
+all_out [] is = refl
+all_out (f ∷ frames) is = absurd cc
+
+-- the transfers that are kept are those that a wait leaves
+waited_files : (config : Config) (slirp : SlirpState) (past : List Entry) → (serving config past).now ≡ slirp.moment → (slirp.pending ≡ [] → next_again slirp.moment slirp.transfers ≡ None) → IsOwed config true slirp past
+    → slirp.transfers ≡ ticked (serving config past).now (is_free (ledger config past)) (serving config past).files.transfers
+waited_files config slirp past at none_again (inl l) = by (is_free (ledger config past)) refl
+  where
+    now_is : ℕ
+    now_is = (serving config past).now
+
+    ts : List Transfer
+    ts = (serving config past).files.transfers
+
+    first_true : (a b : Bool) → (a && b) ≡ true → a ≡ true
+    first_true true b is = refl
+    first_true false b is = absurd cc
+
+    by : (b : Bool) → is_free (ledger config past) ≡ b → slirp.transfers ≡ ticked now_is b ts
+    by false held = l.files
+    by true free =
+        let none : slirp.pending ≡ [] = all_out slirp.pending (ap is_out (sym l.left) ∙ first_true (is_out (left config past)) (not (is_some (serving config past).again)) free) in
+        let over : next_again now_is ts ≡ None =
+        sym (next_left now_is ts) ∙ ap (next_again now_is) (sym l.files) ∙ ap (λ (m : ℕ). next_again m slirp.transfers) at ∙ none_again none in
+        l.files ∙ sym (ticked_none now_is true ts over)
+waited_files config slirp past at none_again (inr f) =
+    f.files ∙ ap (λ (frames : List (List ℕ)). ticked (serving config past).now (is_out frames && not (is_some (serving config past).again)) (serving config past).files.transfers) (sym f.left)
 
 -- ---- a wait
 
@@ -294,7 +332,7 @@ module _ (config : Config) (at : Standing) (slirp : SlirpState) (link : LinkStat
 
     -- ---- until, and from
 
-    module _ (timeout : Option ℕ) (times : (held : List PartSet) → IsHeld slirp.fragments held → IsTimeout slirp link.blocked held timeout) where
+    module _ (timeout : Option ℕ) (times : (held : List PartSet) → IsHeld slirp.fragments held → IsTimeout slirp link.blocked held timeout) (none_again : slirp.pending ≡ [] → next_again slirp.moment slirp.transfers ≡ None) where
       abbrev held : List PartSet
       held = holds.guests.fragments.held
 
@@ -322,23 +360,6 @@ module _ (config : Config) (at : Standing) (slirp : SlirpState) (link : LinkStat
       until_datagrams : (ms : List ℕ) → IsBy (wait_end now datagrams) ms → IsBy (wait_end now all) ms
       until_datagrams ms is = by_first now more time.files ms (by_first now some time.flows ms (by_first now datagrams time.fragments ms is))
 
-      until_all : AreInTime now slirp.flows.flows.slots → (link.blocked ≡ false → AllClear slirp.flows.flows.slots × ((n : ℕ) → IsInTime now slirp.flows.flows.slots n)) → IsBy (wait_end now all) (deadlines config past)
-      until_all early calm =
-          by_both (wait_end now all) (of_flows connect_deadline flows ++ lives config past) (unless_blocked (is_blocked past) (of_flows resend_deadline flows))
-          (by_both (wait_end now all) (of_flows connect_deadline flows) (lives config past)
-          (until_flows (of_flows connect_deadline flows) (until_left now suits.due time.flows (of_flows connect_deadline flows) suits.left (connects_ahead early) (suits.connects (connects_ahead early))))
-          (by_both (wait_end now all) (association_lives config past) (question_lives config past)
-          (until_datagrams (association_lives config past) (by_first now (time_left now slirp.associations) (question_left now slirp.questions) (association_lives config past) associations_until))
-          (until_datagrams (question_lives config past) (by_second now (time_left now slirp.associations) (question_left now slirp.questions) (question_lives config past) questions_until))))
-          (subst (λ (b : Bool). IsBy (wait_end now all) (unless_blocked b (of_flows resend_deadline flows))) (sym holds.keeps.blocked) (by_link link.blocked refl))
-        where
-          by_link : (b : Bool) → link.blocked ≡ b → IsBy (wait_end now all) (unless_blocked b (of_flows resend_deadline flows))
-          by_link true is = tt
-          by_link false is =
-              let both = calm is in
-              let ahead = resends_ahead both.0 both.1 in
-              until_flows (of_flows resend_deadline flows) (until_left now suits.due time.flows (of_flows resend_deadline flows) suits.left ahead (suits.resends is both.0))
-
       -- ---- and at least
 
       drops_left : AreFresh now slirp.fragments → IsFrom (wait_end now time.fragments) (drops config past)
@@ -357,22 +378,71 @@ module _ (config : Config) (at : Standing) (slirp : SlirpState) (link : LinkStat
               (drops_from due (waiting config past) is.0.one.0 is.0.one.1.0 (sym (ap (λ (sets : List PartSet). slice_get sets is.0.one.0) same_sets) ∙ first.0) low)
 
       -- the files that the record knows of
-      owed_from : (due : ℕ) → now ≤ due → Any (λ (t : Transfer). t.due ≡ due) slirp.transfers → IsOwed config true slirp past → IsFrom (Some due) (file_alarms config past)
-      owed_from due later found (inl l) =
-          kept_from (serving config past).now due false (serving config past).files.transfers (let at_now = now_is config past ∙ holds.clock.moment in omega (arith, later, at_now))
-          (subst (λ (ts : List Transfer). Any (λ (t : Transfer). t.due ≡ due) ts) l.files found)
-      owed_from due later found (inr f) =
-          kept_from (serving config past).now due (not (is_some (serving config past).again)) (serving config past).files.transfers (let at_now = now_is config past ∙ holds.clock.moment in omega (arith, later, at_now))
-          (subst (λ (ts : List Transfer). Any (λ (t : Transfer). t.due ≡ due) ts) f.files found)
+      files_are : file_alarms config past ≡ filter (nat_lt now) (dues slirp.transfers)
+      files_are =
+          ap (λ (m : ℕ). filter (nat_lt (moment past)) (dues (ticked m (is_free (ledger config past)) (serving config past).files.transfers))) (sym (now_is config past))
+          ∙ ap (λ (ts : List Transfer). filter (nat_lt (moment past)) (dues ts)) (sym (waited_files config slirp past (now_is config past ∙ holds.clock.moment) none_again holds.answers.owed))
+          ∙ ap (λ (m : ℕ). filter (nat_lt m) (dues slirp.transfers)) holds.clock.moment
 
       files_left : IsFrom (wait_end now time.files) (file_alarms config past)
-      files_left = by time.files time.of_files
+      files_left = subst (λ (ms : List ℕ). IsFrom (wait_end now time.files) ms) (sym files_are) (by time.files time.of_files)
         where
-          by : (o : Option ℕ) → IsFileTime now slirp.transfers o → IsFrom (wait_end now o) (file_alarms config past)
+          by : (o : Option ℕ) → IsFileTime now slirp.transfers o → IsFrom (wait_end now o) (filter (nat_lt now) (dues slirp.transfers))
           by None none = tt
+          by (Some left) (due, is) = from_left now (Some due) (Some left) (filter (nat_lt now) (dues slirp.transfers)) (ap Some is.1) (later_from now due slirp.transfers is.0.0 is.0.1)
+
+      until_files : IsBy (wait_end now time.files) (file_alarms config past)
+      until_files = subst (λ (ms : List ℕ). IsBy (wait_end now time.files) ms) (sym files_are) (by time.files time.of_files)
+        where
+          all_later : (ms : List ℕ) → AreAhead now (filter (nat_lt now) ms)
+          all_later [] = tt
+          all_later (m ∷ ms) = by_test (nat_lt now m) refl (all_later ms)
+            where
+              by_test : (b : Bool) → nat_lt now m ≡ b → AreAhead now (filter (nat_lt now) ms) → AreAhead now (cond b (m ∷ filter (nat_lt now) ms) (filter (nat_lt now) ms))
+              by_test true after rest = (grind (arith, nat_tests, after), rest)
+              by_test false before rest = rest
+
+          by : (o : Option ℕ) → IsFileTime now slirp.transfers o → IsBy (wait_end now o) (filter (nat_lt now) (dues slirp.transfers))
+          by None none = none_by now slirp.transfers none
           by (Some left) (due, is) =
-              from_left now (Some due) (Some left) (file_alarms config past) (ap Some is.1)
-              (owed_from due (let later = is.0.0 in omega (arith, later)) is.0.1 holds.answers.owed)
+              until_left now (Some due) (Some left) (filter (nat_lt now) (dues slirp.transfers)) (ap Some is.1) (all_later (dues slirp.transfers)) (later_by now due slirp.transfers is.0.2)
+
+      rest_once : RestOnce config past
+      rest_once = once_filter (is_young_rest (moment past)) (book config past).rests (are_once config past holds.lawful)
+
+      -- the rests that aren't over end later
+      rests_ahead : AreAhead now (rest_ends config past)
+      rests_ahead = subst (λ (n : ℕ). AreAhead n (rest_ends config past)) holds.clock.moment (young_ahead (moment past) (book config past).rests)
+        where
+          young_ahead : (m : ℕ) (rests : List Rest) → AreAhead m (map (λ (r : Rest). r.since + longest_rest) (filter (is_young_rest m) rests))
+          young_ahead m [] = tt
+          young_ahead m (r ∷ rests) = by (nat_lt m (r.since + longest_rest)) refl (young_ahead m rests)
+            where
+              by : (b : Bool) → nat_lt m (r.since + longest_rest) ≡ b → AreAhead m (map (λ (x : Rest). x.since + longest_rest) (filter (is_young_rest m) rests))
+                  → AreAhead m (map (λ (x : Rest). x.since + longest_rest) (cond b (r ∷ filter (is_young_rest m) rests) (filter (is_young_rest m) rests)))
+              by true is more = (grind (arith, nat_tests, is), more)
+              by false is more = more
+
+      until_all : AreInTime now slirp.flows.flows.slots → (link.blocked ≡ false → AllClear slirp.flows.flows.slots × ((n : ℕ) → IsInTime now slirp.flows.flows.slots n)) → IsBy (wait_end now all) (deadlines config past)
+      until_all early calm =
+          by_both (wait_end now all) (of_flows connect_deadline flows ++ lives config past ++ rest_ends config past) (unless_blocked (is_blocked past) (of_flows resend_deadline flows ++ file_alarms config past))
+          (by_both (wait_end now all) (of_flows connect_deadline flows ++ lives config past) (rest_ends config past)
+          (by_both (wait_end now all) (of_flows connect_deadline flows) (lives config past)
+          (until_flows (of_flows connect_deadline flows) (until_left now suits.due time.flows (of_flows connect_deadline flows) suits.left (connects_ahead early) (suits.connects (connects_ahead early))))
+          (by_both (wait_end now all) (association_lives config past) (question_lives config past)
+          (until_datagrams (association_lives config past) (by_first now (time_left now slirp.associations) (question_left now slirp.questions) (association_lives config past) associations_until))
+          (until_datagrams (question_lives config past) (by_second now (time_left now slirp.associations) (question_left now slirp.questions) (question_lives config past) questions_until))))
+          (until_flows (rest_ends config past) (until_left now suits.due time.flows (rest_ends config past) suits.left rests_ahead (suits.rests rest_once rests_ahead))))
+          (subst (λ (b : Bool). IsBy (wait_end now all) (unless_blocked b (of_flows resend_deadline flows ++ file_alarms config past))) (sym holds.keeps.blocked) (by_link link.blocked refl))
+        where
+          by_link : (b : Bool) → link.blocked ≡ b → IsBy (wait_end now all) (unless_blocked b (of_flows resend_deadline flows ++ file_alarms config past))
+          by_link true is = tt
+          by_link false is =
+              let both = calm is in
+              let ahead = resends_ahead both.0 both.1 in
+              by_both (wait_end now all) (of_flows resend_deadline flows) (file_alarms config past)
+              (until_flows (of_flows resend_deadline flows) (until_left now suits.due time.flows (of_flows resend_deadline flows) suits.left ahead (suits.resends is both.0)))
+              (by_second now more time.files (file_alarms config past) until_files)
 
       abbrev awake : List ℕ
       awake = of_flows wakes flows
@@ -414,23 +484,23 @@ module _ (config : Config) (at : Standing) (slirp : SlirpState) (link : LinkStat
 
 -- A wait lasts no longer than to what has a time: where no host had its time to connect, no socket for datagrams is idle for long, and the flows are clear and in time unless the link is blocked.
 pub until_is : (config : Config) (at : Standing) (slirp : SlirpState) (link : LinkState) (past : List Entry) → Holds config at slirp (flowing true slirp.flows) link past
-    → (timeout : Option ℕ) → ((held : List PartSet) → IsHeld slirp.fragments held → IsTimeout slirp link.blocked held timeout) → AreInTime slirp.moment slirp.flows.flows.slots
+    → (timeout : Option ℕ) → ((held : List PartSet) → IsHeld slirp.fragments held → IsTimeout slirp link.blocked held timeout) → (slirp.pending ≡ [] → next_again slirp.moment slirp.transfers ≡ None) → AreInTime slirp.moment slirp.flows.flows.slots
     → (link.blocked ≡ false → AllClear slirp.flows.flows.slots × ((n : ℕ) → IsInTime slirp.moment slirp.flows.flows.slots n))
     → All (λ a. is_idle_association slirp.moment a ≡ false) slirp.associations → All (λ q. is_idle_question slirp.moment q ≡ false) slirp.questions
     → IsBy (wait_end (moment past) timeout) (deadlines config past)
 unfolding time
-until_is config at slirp link past holds timeout times early calm young_now recent =
+until_is config at slirp link past holds timeout times none_again early calm young_now recent =
     subst (λ (n : ℕ). IsBy (wait_end n timeout) (deadlines config past)) (sym holds.clock.moment)
     (subst (λ (o : Option ℕ). IsBy (wait_end slirp.moment o) (deadlines config past)) (sym (times holds.guests.fragments.held holds.guests.fragments.is_held).is)
-    (until_all config at slirp link past holds young_now recent timeout times early calm))
+    (until_all config at slirp link past holds young_now recent timeout times none_again early calm))
 
 -- And it is cut short for nothing else than what the record has a time for, where no fragments that wait are to be dropped yet.
 pub from_is : (config : Config) (at : Standing) (slirp : SlirpState) (link : LinkState) (past : List Entry) → Holds config at slirp (flowing true slirp.flows) link past
-    → (timeout : Option ℕ) → ((held : List PartSet) → IsHeld slirp.fragments held → IsTimeout slirp link.blocked held timeout) → AreFresh slirp.moment slirp.fragments
+    → (timeout : Option ℕ) → ((held : List PartSet) → IsHeld slirp.fragments held → IsTimeout slirp link.blocked held timeout) → (slirp.pending ≡ [] → next_again slirp.moment slirp.transfers ≡ None) → AreFresh slirp.moment slirp.fragments
     → All (λ a. is_idle_association slirp.moment a ≡ false) slirp.associations → All (λ q. is_idle_question slirp.moment q ≡ false) slirp.questions
     → IsFrom (wait_end (moment past) timeout) (alarms config past)
 unfolding time
-from_is config at slirp link past holds timeout times fresh young_now recent =
+from_is config at slirp link past holds timeout times none_again fresh young_now recent =
     subst (λ (n : ℕ). IsFrom (wait_end n timeout) (alarms config past)) (sym holds.clock.moment)
     (subst (λ (o : Option ℕ). IsFrom (wait_end slirp.moment o) (alarms config past)) (sym (times holds.guests.fragments.held holds.guests.fragments.is_held).is)
-    (from_all config at slirp link past holds young_now recent timeout times fresh))
+    (from_all config at slirp link past holds young_now recent timeout times none_again fresh))

@@ -8,10 +8,10 @@ use Rattle.flow_laws.specs.Dutiful.{AreAhead, connect_deadline, resend_deadline}
 use Rattle.halves_follow.specs.Bounds.{IsBy}
 use Rattle.record_flows.specs.Book.{book}
 use Rattle.flow_splice.specs.Splice.{Splice}
-use Rattle.run_duties.specs.Times.{of_flows}
+use Rattle.run_duties.specs.Times.{of_flows, rest_ends}
 use Rattle.flows_follow.specs.Core.{CoreHolds}
 use Rattle.tcp_flows.specs.Reading.{AllClear, IsDue, IsDueAfter, NoneDue, NoneDueAfter}
-use Rattle.tcp_flows.specs.Waits.{IsForSome}
+use Rattle.tcp_flows.specs.Waits.{IsForSome, RestOnce}
 use Rattle.slirp_core.specs.Pumps.{question_left, time_left}
 use Rattle.slirp_core.specs.State.{SlirpState}
 use Rattle.world_face.specs.Moments.{sooner}
@@ -30,12 +30,13 @@ IsFlowTime true now parts (Some left) = (at : ℕ) × (IsDueAfter now parts at �
 IsFlowTime false now parts None = NoneDue parts
 IsFlowTime false now parts (Some left) = (at : ℕ) × (IsDue parts at × (left ≡ at - now))
 
--- By the record a wait that ends with this time suits the flows. It isn't too long for one that connects, if no host's time to connect is over, nor, where the link isn't blocked and no flow owes a frame, for one that waits for its guest; and it isn't too short: something of a flow is to be done by then, or a rest is over.
+-- By the record a wait that ends with this time suits the flows. It isn't too long for one that connects, if no host's time to connect is over, nor, where the link isn't blocked and no flow owes a frame, for one that waits for its guest, nor for one that rests; and it isn't too short: something of a flow is to be done by then, or a rest is over.
 pub record SuitsFlows (config : Config) (now : ℕ) (blocked : Bool) (parts : List (Option Splice)) (past : List Entry) (time : Option ℕ) : Type 0 where
   pub due : Option ℕ
   pub left : time ≡ option_map (λ at. at - now) due
   pub connects : AreAhead now (of_flows connect_deadline (book config past).flows) → IsBy due (of_flows connect_deadline (book config past).flows)
   pub resends : blocked ≡ false → AllClear parts → IsBy due (of_flows resend_deadline (book config past).flows)
+  pub rests : RestOnce config past → AreAhead now (rest_ends config past) → IsBy due (rest_ends config past)
   pub for_some : IsForSome config past due
 
 -- what is left until the first packet of these transfers is due to go again, of those that aren't due yet

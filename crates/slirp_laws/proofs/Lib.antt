@@ -31,6 +31,7 @@ pub mod NameRows
 pub mod Numbers
 pub mod Octets
 pub mod Only
+pub mod OpenPorts
 pub mod OpenSockets
 pub mod Outcomes
 pub mod Owing

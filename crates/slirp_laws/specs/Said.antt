@@ -12,6 +12,7 @@ use Rattle.world_face.specs.Limits.{most_to_udp}
 use Rattle.net_octets.specs.declared.Endpoint.{Endpoint}
 use Rattle.net_octets.specs.Kinds.{ipv4_kind, udp_proto}
 use Rattle.host_policy.specs.declared.Forward.{Forward}
+use Rattle.host_policy.specs.declared.Proto.{Proto}
 use Rattle.host_policy.specs.declared.Proto.TheVariants.{Udp as ByUdp}
 use Rattle.host_policy.specs.declared.Verdict.TheVariants.{Go}
 use Rattle.host_policy.specs.Addresses.{Config, address, endpoint}
@@ -33,7 +34,7 @@ use Rattle.run_laws.specs.Happenings.{Arrival, happens}
 use Rattle.run_laws.specs.Moments.{moment}
 use Rattle.run_laws.specs.Packets.{Datagram, DatagramPacket, Packet}
 use Rattle.slirp_laws.specs.Datagrams.{Fate, ForLeases, ForFiles, fate}
-use Rattle.run_laws.specs.Sockets.{is_among}
+use Rattle.run_laws.specs.Sockets.{Kind, Association as OfAssociation, DnsSocket, Forward as OfForward, Listener as OfListener, Flow as OfFlow, is_among}
 use Rattle.slirp_laws.specs.Answers.{Answer, IpAnswer, Serving, begins_again, ledger, may_go_again, name_reply, serving, told_of_files, datagrams_out, frames_for, frames_of, identification, is_first, left, no_network, owed_for_packet, reply_for, reset_for, strays, told_about}
 use Rattle.slirp_laws.specs.Ports.{associations_open, last_datagram, last_use, mac_for, mac_of, opened_for, used_at}
 use Rattle.slirp_laws.specs.Sending.{is_well_sent, may_ask, speaks_yet}
@@ -176,6 +177,19 @@ pub record AsksForGuest (config : Config) (past : List Entry) (frame : List ℕ)
   pub guest : ℕ
   pub asked : asked_in frame ≡ Some guest
   pub may : may_ask config past frame (Some guest) ≡ true
+
+-- at the port of the host of one of these forwards, with this protocol
+abbrev pub OpensGiven : List Forward → Proto → Endpoint → Type 0
+OpensGiven forwards proto at = (k : ℕ) × (f : Forward) × (slice_get forwards k ≡ Some f) × (f.proto ≡ proto) × (at ≡ f.host)
+
+-- the socket of a port of the host that is given to a guest, for connections or for datagrams
+abbrev pub is_given : Option Kind → Bool
+is_given None = false
+is_given (Some OfAssociation) = false
+is_given (Some DnsSocket) = false
+is_given (Some OfForward) = true
+is_given (Some OfListener) = true
+is_given (Some OfFlow) = false
 
 -- the ports of guests to which the settings give ports of the host are endpoints
 abbrev pub HasPorts : Config → Type 0

@@ -17,7 +17,8 @@ use Rattle.slirp_laws.specs.Laws.{Lawful}
 use Rattle.slirp_laws.proofs.Bools.{among_without, first_of, same}
 use Rattle.flows_follow.specs.FlowsHold.{FlowsState, rests_at}
 use Rattle.flows_follow.specs.Only.{AreOf, IsOf}
-use Rattle.flow_splice.specs.Hosts.{ServesReport, is_for_writing, reads_or_shuts, some_is}
+use Rattle.connection_follows.specs.Holding.{is_connects}
+use Rattle.flow_splice.specs.Hosts.{ServesReport, is_for_writing, reads_or_shuts, serves_write, some_is}
 use Rattle.flow_splice.specs.Splice.{Splice, is_open}
 use Rattle.flow_splice.specs.Wants.{reads, writes}
 use Rattle.flow_splice.proofs.Promises.{wants_are}
@@ -29,6 +30,7 @@ use Rattle.run_duties.specs.Waiting.{is_read, is_written, reads_flow, writes_flo
 use Rattle.run_duties.proofs.Going.{stays_below}
 use Rattle.run_duties.proofs.Serving.{read_since, reading_on, unread, unwritten, write_since, writing_on}
 use Rattle.waiting_flows.proofs.Placing.{placed}
+use Rattle.flow_splice.proofs.Calls.{for_writing, some_for}
 use Rattle.tcp_flows.specs.Reading.{NoneOpen}
 use Rattle.tcp_flows.specs.Told.{IsTold}
 
@@ -42,12 +44,15 @@ module _ (config : Config) (number : ℕ) where
   or_left true b is = refl
   or_left false b is = absurd cc
 
-  write_served : (past made : List Entry) → AreOf config number past made → some_is is_for_writing made ≡ true → some_writes (OnTcp number) made ≡ true
-  write_served past [] of is = absurd cc
-  write_served past (Connected socket answer ∷ made) of is = or_left (number == socket) (some_writes (OnTcp number) made) (it_is socket of.0)
-  write_served past (TcpWrite socket octets answer ∷ made) of is = or_left (number == socket) (some_writes (OnTcp number) made) (it_is socket of.0)
-  write_served past (TcpEnd socket answer ∷ made) of is = or_left (number == socket) (some_writes (OnTcp number) made) (it_is socket of.0)
-  write_served past (_ ∷ made) of is = write_served past made of.1 is
+  any_served : (past made : List Entry) → AreOf config number past made → some_is is_for_writing made ≡ true → some_writes (OnTcp number) made ≡ true
+  any_served past [] of is = absurd cc
+  any_served past (Connected socket answer ∷ made) of is = or_left (number == socket) (some_writes (OnTcp number) made) (it_is socket of.0)
+  any_served past (TcpWrite socket octets answer ∷ made) of is = or_left (number == socket) (some_writes (OnTcp number) made) (it_is socket of.0)
+  any_served past (TcpEnd socket answer ∷ made) of is = or_left (number == socket) (some_writes (OnTcp number) made) (it_is socket of.0)
+  any_served past (_ ∷ made) of is = any_served past made of.1 is
+
+  write_served : (connects : Bool) (past made : List Entry) → AreOf config number past made → some_is (serves_write connects) made ≡ true → some_writes (OnTcp number) made ≡ true
+  write_served connects past made of is = any_served past made of (some_for (serves_write connects) is_for_writing (λ e serves. for_writing connects e serves) made is)
 
   -- a socket that was closed isn't read any more
   no_more : (a : Bool) (n : ℕ) → (not (n == n) && a) ≡ false
@@ -172,5 +177,5 @@ module _ (config : Config) (now : ℕ) (aged : Bool) (task : Option Call) (state
       by_read false unwaited is = reading_on config made past (OnTcp (number_of p)) as_often (unread config past (OnTcp (number_of p)) (reads_as k p at ∙ unwaited))
 
       by_write : (b : Bool) → is_written config past (OnTcp (number_of p)) ≡ b → write ≡ true → is_left_to_write config (made ++ past) (OnTcp (number_of p)) ≡ false
-      by_write true waited is = write_since config made past (OnTcp (number_of p)) as_often (write_served config (number_of p) past made of (serves.writing is (writes_as k p at waited)))
+      by_write true waited is = write_since config made past (OnTcp (number_of p)) as_often (write_served config (number_of p) (is_connects p.conn.stage) past made of (serves.writing is (writes_as k p at waited)))
       by_write false unwaited is = writing_on config made past (OnTcp (number_of p)) as_often (unwritten config past (OnTcp (number_of p)) unwaited)

@@ -5,7 +5,7 @@ use Rattle.world_face.specs.declared.Made.TheVariants.{Done, Failed}
 use Rattle.tcp_guest.specs.Connection.{HasBuffers}
 use Rattle.tcp_guest.specs.Hosts.{write_ended}
 use Rattle.tcp_guest.specs.Segments.{settled}
-use Rattle.flow_splice.specs.Hosts.{Sees, ends, is_for_writing}
+use Rattle.flow_splice.specs.Hosts.{Sees, ends, serves_write}
 use Rattle.flow_splice.specs.Serves.{GoesOn}
 use Rattle.flow_splice.specs.Splice.{Splice}
 use Rattle.flow_splice.specs.Wants.{reads}
@@ -22,7 +22,7 @@ returns-in-Failed-clause-makes g c =
     two_calls _ _ _ (TcpEnd f.face.number Failed) (Close f.face.number) _ told c.fail.ensures.closes
     (λ one two. (
       subst (λ (x : Splice). GoesOn f x false now (Close f.face.number ∷ TcpEnd f.face.number Failed ∷ [])) (sym c.fail.ensures.change)
-          (host_end_fails f now c.requires.open_yet c.requires.all c.requires.ends),
+          (host_end_fails f now c.requires.open_yet c.requires.all c.requires.ends c.requires.connected),
       refl,
       refl,
       λ reading. or_last (reads c.fail.new.self) true refl,
@@ -38,9 +38,9 @@ returns-in-Done-clause-makes g c =
     let told = subst (λ (x : Splice). Answers (g.W.World.tells c.args.world.now) (g.W.World.tells c.tcp_end.new.self) (TcpEnd x.face.number Done)) c.self.view_is c.in-Done.ensures in
     calls_after _ _ _ (TcpEnd f.face.number Done) (Sees (ends marked.result) marked.new.self c.see.new.self now) _ told c.see.ensures
     (λ made sees. (
-      host_ends f now c.requires.open_yet c.requires.all c.requires.ends (subst (λ (x : Splice). HasBuffers x.conn x.up x.down) is marked.ensures.buffers)
+      host_ends f now c.requires.open_yet c.requires.all c.requires.ends c.requires.connected (subst (λ (x : Splice). HasBuffers x.conn x.up x.down) is marked.ensures.buffers)
           (ends marked.result) (sym (ap ends marked.ensures.change)) c.see.new.self made (subst (λ (x : Splice). Sees (ends marked.result) x c.see.new.self now made) is sees),
       sees_ending (ends marked.result) marked.new.self c.see.new.self now made f.face.number Done sees,
-      still_is is_for_writing made (TcpEnd f.face.number Done ∷ []) refl,
+      still_is (serves_write false) made (TcpEnd f.face.number Done ∷ []) refl,
       told_reads (ends marked.result) f marked.new.self c.see.new.self now made f.face.number Done marked.ensures.ended (ap ends marked.ensures.change) sees,
     ))

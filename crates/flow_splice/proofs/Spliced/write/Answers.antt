@@ -13,7 +13,7 @@ use Rattle.flow_splice.proofs.Calls.{calls_after, or_already, or_last, still_is,
 use Rattle.flow_splice.proofs.Events.{goes_then}
 use Rattle.flow_splice.proofs.Hosting.{host_takes, host_takes_none}
 use Rattle.flow_splice.proofs.Shaping.{gives_ending}
-use Rattle.flow_splice.specs.Hosts.{is_for_writing, reads_or_shuts}
+use Rattle.flow_splice.specs.Hosts.{reads_or_shuts, serves_write}
 use Rattle.flow_splice.specs.Wants.{reads}
 use Rattle.flow_splice.proofs.Spliced.write.Goals as goal
 
@@ -30,7 +30,7 @@ returns-in-Failed-clause-makes g c =
     let offers = subst (λ (answer : Io). Answers (g.W.World.tells c.args.world.now) (g.W.World.tells c.offer.new.world) (TcpWrite f.face.number front answer)) c.in-Failed.is c.offer.ensures.offers in
     let closes = subst (λ (x : Splice). Answers (g.W.World.tells c.offer.new.world) (g.W.World.tells c.fail.new.world) (Close x.face.number)) same c.fail.ensures.closes in
     two_calls _ _ _ (TcpWrite f.face.number front Failed) (Close f.face.number) _ offers closes
-    (λ one two. (subst (λ (x : Splice). GoesOn f x false now (Close f.face.number ∷ TcpWrite f.face.number front Failed ∷ [])) (sym shut) (host_takes_none f now c.requires.open_yet c.requires.owes), refl, refl, λ reading. or_last (reads c.fail.new.self) true refl))
+    (λ one two. (subst (λ (x : Splice). GoesOn f x false now (Close f.face.number ∷ TcpWrite f.face.number front Failed ∷ [])) (sym shut) (host_takes_none f now c.requires.open_yet c.requires.owes c.requires.connected), refl, refl, λ reading. or_last (reads c.fail.new.self) true refl))
 
 not_failed : (answer : Io) → ((n : ℕ) × (answer ≡ Done n)) ⊎ ((answer ≡ End) ⊎ (answer ≡ NotYet)) → answer ≡ Failed → ⊥
 not_failed answer (inl is) failed = let not_it = sym is.1 ∙ failed in cc
@@ -47,11 +47,11 @@ returns-in-Done-clause-makes g c =
     let change = c.offer.ensures.change in
     let offered : Entry = TcpWrite f.face.number (take (min 16384 (length f.up.held)) f.up.held) answer in
     let first : GoesOn f mid false now (offered ∷ []) = subst (λ (x : Splice). GoesOn f x false now (offered ∷ [])) (sym change)
-    (host_takes f now c.requires.open_yet c.requires.owes answer c.offer.ensures.few (subst (λ (x : Splice). HasBuffers x.conn x.up x.down) change c.offer.ensures.buffers) (not_failed answer c.in-Done.is)) in
+    (host_takes f now c.requires.open_yet c.requires.owes c.requires.connected answer c.offer.ensures.few (subst (λ (x : Splice). HasBuffers x.conn x.up x.down) change c.offer.ensures.buffers) (not_failed answer c.in-Done.is)) in
     calls_after _ _ _ offered _ _ c.offer.ensures.offers c.end_after_octets.ensures.makes
     (λ made more. (
       goes_then f mid new false now (offered ∷ []) made c.end_after_octets.ensures.stays.same.face c.end_after_octets.ensures.stays.same.mac first more.0,
       gives_ending made f.face.number (take (min 16384 (length f.up.held)) f.up.held) answer more.1,
-      still_is is_for_writing made (offered ∷ []) refl,
+      still_is (serves_write false) made (offered ∷ []) refl,
       λ reading. or_already (reads new) reads_or_shuts made (offered ∷ []) (more.2 (ap reads change ∙ reading)),
     ))
