@@ -11,7 +11,7 @@ fn unread(alloc: Global, words: &[&str]) -> Result<bool, Fail> {
     for word in words {
         list.push(String::from_str(alloc, word)?)?;
     }
-    Ok(read_words(&list).err() == Some(WordFault::Usage))
+    Ok(matches!(read_words(&list).err(), Some(WordFault::Usage(_))))
 }
 
 #[test]

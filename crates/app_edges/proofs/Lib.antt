@@ -1,1 +1,2 @@
 mod Fetched
+pub mod Told

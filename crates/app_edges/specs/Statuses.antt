@@ -5,7 +5,7 @@ use Rattle.app_edges.specs.declared.status.Outcome.TheVariants.{Done, Usage, Bad
 
 abbrev pub code_of : Outcome → ℕ
 code_of Done = 0
-code_of Usage = 1
+code_of (Usage stop) = 1
 code_of (BadConfig field) = 2
 code_of ScheduleRead = 3
 code_of ScheduleTooLarge = 3

@@ -1,5 +1,12 @@
 -- The texts that tell what the program came to.
-use Rattle.std.specs.Prelude.{◌≡◌, ℕ, List, [], ◌∷◌, ◌++◌, codes, decimal, Option, Some, None}
+use Rattle.std.specs.Prelude.{◌≡◌, ℕ, ◌+◌, ◌&&◌, nat_le, List, [], ◌∷◌, ◌++◌, map, take, slice_get, codes, decimal, Option, Some, None, if◌then◌else◌}
+use Rattle.std.specs.Option.{option_map_or}
+use Rattle.address_text.specs.Texts.{endpoint_text}
+use Rattle.host_policy.specs.declared.Forward.{Forward}
+use Rattle.host_policy.specs.declared.Proto.{Proto}
+use Rattle.host_policy.specs.declared.Proto.TheVariants.{Tcp, Udp}
+use Rattle.slirp_config.specs.declared.Stop.{Stop}
+use Rattle.slirp_config.specs.declared.Stop.TheVariants.{Word as AtWord, End as AtEnd}
 use Rattle.world_face.specs.Puts.{added}
 use Rattle.host_policy.specs.Names.{field_name}
 use Rattle.replay.specs.Names.{name_text}
@@ -13,23 +20,59 @@ abbrev pub wanted_text : Option CallName → List ℕ
 wanted_text (Some wanted) = codes ", schedule has " ++ name_text wanted
 wanted_text None = codes ", no line left"
 
-abbrev pub text_of : Outcome → List ℕ
-text_of Done = []
-text_of Usage = codes "usage: slirpd serve --link AT [OPTIONS] [RULE]... | replay FILE [OPTIONS] [RULE]... | drive NUMBER OCTETS"
-text_of (BadConfig field) = codes "slirpd: config: " ++ field_name field
-text_of ScheduleRead = codes "slirpd: schedule cannot be read"
-text_of ScheduleTooLarge = codes "slirpd: schedule cannot be read"
-text_of (ScheduleLine line) = codes "slirpd: schedule line " ++ decimal line
-text_of (Diverged divergence) =
+-- an octet that is no letter, digit, sign or blank of ASCII is shown as a question mark
+abbrev pub shown_octet : ℕ → ℕ
+shown_octet octet = if nat_le 32 octet && nat_le octet 126 then octet else 63
+
+-- of a word the first 200 octets are shown
+abbrev pub shown : List ℕ → List ℕ
+shown word = map shown_octet (take 200 word)
+
+abbrev pub word_text : (number : ℕ) → List ℕ → List ℕ
+word_text number word = codes "slirpd: word " ++ decimal number ++ codes ": " ++ shown word
+
+abbrev pub missing_text : List ℕ
+missing_text = codes "slirpd: a word is missing"
+
+-- the word at which reading stops, counted from 1
+abbrev pub mistake_text : List (List ℕ) → Stop → List ℕ
+mistake_text words (AtWord place) = option_map_or (word_text (place + 1)) (slice_get words place) missing_text
+mistake_text words AtEnd = missing_text
+
+abbrev pub usage_text : List ℕ
+usage_text = codes "usage: slirpd serve --link AT [OPTIONS] [RULE]... | replay FILE [OPTIONS] [RULE]... | drive NUMBER OCTETS"
+
+-- a port of the host, as RULEs name it
+abbrev pub type_text : Proto → List ℕ
+type_text Tcp = codes "tcp "
+type_text Udp = codes "udp "
+
+abbrev pub forward_text : Forward → List ℕ
+forward_text forward = type_text forward.proto ++ endpoint_text forward.host
+
+-- which port it was, where the settings have a forward of this number
+abbrev pub port_text : Option Forward → List ℕ
+port_text None = []
+port_text (Some forward) = codes ": " ++ forward_text forward
+
+-- of these words of the command line, whose settings have these forwards
+abbrev pub text_of : (words : List (List ℕ)) (forwards : List Forward) → Outcome → List ℕ
+text_of words forwards Done = []
+text_of words forwards (Usage stop) = mistake_text words stop ++ 10 ∷ usage_text
+text_of words forwards (BadConfig field) = codes "slirpd: config: " ++ field_name field
+text_of words forwards ScheduleRead = codes "slirpd: schedule cannot be read"
+text_of words forwards ScheduleTooLarge = codes "slirpd: schedule cannot be read"
+text_of words forwards (ScheduleLine line) = codes "slirpd: schedule line " ++ decimal line
+text_of words forwards (Diverged divergence) =
     codes "slirpd: diverged at line " ++ decimal divergence.line ++ codes ": made " ++ name_text divergence.made ++ wanted_text divergence.wanted
-text_of (FrameTooLong length) = codes "slirpd: frame of " ++ decimal length ++ codes " octets"
-text_of (FrameCut octets) = codes "slirpd: link ended inside a frame, " ++ decimal octets ++ codes " octets"
-text_of LinkFault = codes "slirpd: link fault"
-text_of WaitFault = codes "slirpd: wait fault"
-text_of (TurnsSpent turns) = codes "slirpd: " ++ decimal turns ++ codes " turns spent"
-text_of (ListenRefused forward) = codes "slirpd: forward " ++ decimal forward ++ codes " refused"
-text_of SinkFault = []
-text_of NoMemory = codes "slirpd: out of memory"
+text_of words forwards (FrameTooLong length) = codes "slirpd: frame of " ++ decimal length ++ codes " octets"
+text_of words forwards (FrameCut octets) = codes "slirpd: link ended inside a frame, " ++ decimal octets ++ codes " octets"
+text_of words forwards LinkFault = codes "slirpd: link fault"
+text_of words forwards WaitFault = codes "slirpd: wait fault"
+text_of words forwards (TurnsSpent turns) = codes "slirpd: " ++ decimal turns ++ codes " turns spent"
+text_of words forwards (ListenRefused number) = codes "slirpd: forward " ++ decimal number ++ codes " refused" ++ port_text (slice_get forwards number)
+text_of words forwards SinkFault = []
+text_of words forwards NoMemory = codes "slirpd: out of memory"
 
 -- a text and a line feed; nothing where there is no text
 abbrev pub with_feed : List ℕ → List ℕ
@@ -37,13 +80,54 @@ with_feed [] = []
 with_feed (x ∷ text) = (x ∷ text) ++ 10 ∷ []
 
 -- what is put to tell an outcome
-abbrev pub told_text : Outcome → List ℕ
-told_text outcome = with_feed (text_of outcome)
+abbrev pub told_text : (words : List (List ℕ)) (forwards : List Forward) → Outcome → List ℕ
+told_text words forwards outcome = with_feed (text_of words forwards outcome)
 
 -- Where its count of faults didn't rise a sink got exactly the text of the outcome and a line feed.
-abbrev pub Got : (old new : Option (List ℕ)) (faults faults_new : ℕ) → Outcome → Type 0
-Got old new faults faults_new outcome = ¬ Rose faults faults_new → new ≡ added (told_text outcome) old
+abbrev pub Got : (words : List (List ℕ)) (forwards : List Forward) (old new : Option (List ℕ)) (faults faults_new : ℕ) → Outcome → Type 0
+Got words forwards old new faults faults_new outcome = ¬ Rose faults faults_new → new ≡ added (told_text words forwards outcome) old
 
 -- the last line of a transcript
 abbrev pub end_line : ℕ → List ℕ
 end_line status = codes "end " ++ decimal status ++ 10 ∷ []
+
+-- how the words are written: the line of usage, and a line for each option
+abbrev pub lines_text : List (List ℕ) → List ℕ
+lines_text [] = []
+lines_text (line ∷ lines) = line ++ 10 ∷ lines_text lines
+
+abbrev pub option_lines : List (List ℕ)
+option_lines =
+    codes "  --link AT             serve: where to listen, unix:PATH or tcp:A:PORT"
+    ∷ codes "  --record              serve: put each call with its answer, a schedule for replay"
+    ∷ codes "  --capture             serve: put the frames of the link, classic pcap"
+    ∷ codes "  --net A/N             the network, 10.0.2.0/24"
+    ∷ codes "  --host A              the host's address in it, .2"
+    ∷ codes "  --dns A               the name server's address in it, .3"
+    ∷ codes "  --dhcpstart A         the first of 16 addresses for DHCP, .15"
+    ∷ codes "  --restrict            nothing leaves the network"
+    ∷ codes "  --no-loopback         nothing reaches the host's loopback"
+    ∷ codes "  --hostname T          the guest's name, told by DHCP"
+    ∷ codes "  --domainname T        the guest's domain, told by DHCP"
+    ∷ codes "  --tftp-server-name T  the name of the server to boot from, told by DHCP"
+    ∷ codes "  --bootfile T          the file to boot, told by DHCP"
+    ∷ codes "  --mtu N               the longest datagram to the guest, 1500"
+    ∷ codes "  --mru N               the longest datagram from the guest, 1500"
+    ∷ codes "  --flows N             connections at once, 256"
+    ∷ codes "  --ring N              octets of a connection's buffer in each direction, 65535"
+    ∷ codes "  --turns N             how often the run may wait, 2^44"
+    ∷ codes "  --congestion          bound what is under way by a congestion window"
+    ∷ codes "  --no-dhcp             answer nothing at the port of DHCP"
+    ∷ codes "  --resolver A:PORT     who answers questions to the name server"
+    ∷ codes "  --no-dns              nothing goes to the name server"
+    ∷ codes "  --outbound A          the host's address from which datagrams go out"
+    ∷ codes "  --tftp FOLDER         the folder whose files a guest may fetch"
+    ∷ codes "  --help, help          this, alone"
+    ∷ codes "  --version             the version, alone"
+    ∷ []
+
+abbrev pub help_text : List ℕ
+help_text = lines_text (usage_text ∷ option_lines)
+
+abbrev pub version_text : List ℕ
+version_text = codes "slirpd 0.9.0" ++ 10 ∷ []

@@ -3,11 +3,14 @@
 
 mod fetching;
 mod gathering;
+mod help;
+mod mistake;
 mod record;
 mod status;
 mod std_sink;
 
 pub use fetching::{Unread, read_file};
+pub use help::{put_help, put_version};
 pub use record::put_record;
 pub use status::Outcome;
 pub use std_sink::StdSink;

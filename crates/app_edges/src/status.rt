@@ -1,23 +1,27 @@
 // The statuses of the program, and their texts.
 #![tactic(auto, using(world_face::proofs::Putting::puts_then, world_face::proofs::Putting::puts_failed, replay::proofs::Putting::added_none))]
 
-ghost use Rattle.std.specs.Prelude.{◌≡◌, ◌++◌, [], codes, decimal};
+ghost use Rattle.std.specs.Prelude.{◌≡◌, ◌++◌, ◌∷◌, [], map, codes, decimal, option_copied, slice_get};
+ghost use Rattle.std.specs.String.{string_bytes};
 ghost use Rattle.replay.specs.Names.{name_text};
 ghost use Rattle.world_face.specs.Puts.{Puts};
 ghost use Rattle.app_edges.specs.Statuses.{code_of};
-ghost use Rattle.app_edges.specs.Texts.{text_of, told_text, wanted_text};
-ghost use Rattle.app_edges.specs.declared.status.Outcome.TheVariants.{Diverged as IsDiverged};
+ghost use Rattle.app_edges.specs.Texts.{port_text, text_of, told_text, wanted_text};
+ghost use Rattle.app_edges.specs.declared.status.Outcome.TheVariants.{Diverged as IsDiverged, Usage as IsUsage};
 
-use host_policy::Field;
+use crate::mistake::{put_forward, tell_mistake};
+use host_policy::{Field, Forward};
 use itoa::Buffer;
 use replay::{CallName, Divergence};
+use slirp_config::Stop;
 use world_face::{Failed, Sink};
 
 /// What the program came to.
 #[derive(Clone, Copy)]
 pub enum Outcome {
     Done,
-    Usage,
+    /// The words have no reading, which stops here.
+    Usage(Stop),
     /// This field of the settings isn't in its range.
     BadConfig(Field),
     ScheduleRead,
@@ -43,7 +47,7 @@ impl Outcome {
     {
         match self {
             Outcome::Done => 0,
-            Outcome::Usage => 1,
+            Outcome::Usage(_) => 1,
             Outcome::BadConfig(_) => 2,
             Outcome::ScheduleRead | Outcome::ScheduleTooLarge => 3,
             Outcome::ScheduleLine(_) => 4,
@@ -59,14 +63,19 @@ impl Outcome {
         }
     }
 
-    /// Puts the text that tells it, with a line feed. There is none where all went well or a sink failed.
-    pub fn tell<E: Sink>(&self, err: &mut E) -> Result<(), Failed>
-        ensures text { Puts (E.holds err.old) (E.holds err.new) (E.faults err.old) (E.faults err.new) (told_text self.now) result }
-        ensures silent { text_of self.now ≡ [] → (E.holds err.new ≡ E.holds err.old) × (E.faults err.new ≡ E.faults err.old) }
+    /// Puts the text that tells it, with a line feed, of these words of the command line, whose settings have these forwards. There is none where all went well or a sink failed.
+    pub fn tell<E: Sink>(
+        &self,
+        words: &[String],
+        forwards: &[Forward],
+        err: &mut E,
+    ) -> Result<(), Failed>
+        ensures text { Puts (E.holds err.old) (E.holds err.new) (E.faults err.old) (E.faults err.new) (told_text (map string_bytes words.now) forwards.now self.now) result }
+        ensures silent { text_of (map string_bytes words.now) forwards.now self.now ≡ [] → (E.holds err.new ≡ E.holds err.old) × (E.faults err.new ≡ E.faults err.old) }
     {
         match self {
             Outcome::Done | Outcome::SinkFault => Ok(()),
-            Outcome::Usage => err.put(USAGE),
+            Outcome::Usage(stop) => tell_usage(err, words, *stop),
             Outcome::BadConfig(field) => {
                 tell_named(err, b"slirpd: config: ", field.name(), b"\n")
             }
@@ -95,19 +104,43 @@ impl Outcome {
             Outcome::LinkFault => err.put(b"slirpd: link fault\n"),
             Outcome::WaitFault => err.put(b"slirpd: wait fault\n"),
             Outcome::TurnsSpent(turns) => tell_number(err, b"slirpd: ", *turns, b" turns spent\n"),
-            Outcome::ListenRefused(forward) => tell_number(
-                err,
-                b"slirpd: forward ",
-                *forward as u64,
-                b" refused\n",
-            ),
+            Outcome::ListenRefused(forward) => tell_refused(err, *forward, forwards),
             Outcome::NoMemory => err.put(b"slirpd: out of memory\n"),
         }
     }
 }
 
-const USAGE: &[u8] =
+pub(crate) const USAGE: &[u8] =
     b"usage: slirpd serve --link AT [OPTIONS] [RULE]... | replay FILE [OPTIONS] [RULE]... | drive NUMBER OCTETS\n";
+
+// The word that has no reading, and how words are written.
+fn tell_usage<E: Sink>(err: &mut E, words: &[String], stop: Stop) -> Result<(), Failed>
+    ensures { Puts (E.holds err.old) (E.holds err.new) (E.faults err.old) (E.faults err.new) (told_text (map string_bytes words.now) [] (IsUsage stop)) result }
+{
+    tell_mistake(err, words, stop)?;
+    err.put(USAGE)
+}
+
+// Which port of the host was refused.
+fn tell_refused<E: Sink>(err: &mut E, number: usize, forwards: &[Forward]) -> Result<(), Failed>
+    ensures { Puts (E.holds err.old) (E.holds err.new) (E.faults err.old) (E.faults err.new) (codes "slirpd: forward " ++ decimal number ++ codes " refused" ++ port_text (slice_get forwards.now number) ++ 10 ∷ []) result }
+{
+    tell_number(err, b"slirpd: forward ", number as u64, b" refused")?;
+    tell_port(err, forwards.get(number))?;
+    err.put(b"\n")
+}
+
+fn tell_port<E: Sink>(err: &mut E, forward: Option<&Forward>) -> Result<(), Failed>
+    ensures { Puts (E.holds err.old) (E.holds err.new) (E.faults err.old) (E.faults err.new) (port_text (option_copied forward.entry)) result }
+{
+    match forward {
+        Some(forward) => {
+            err.put(b": ")?;
+            put_forward(err, forward)
+        }
+        None => err.put(b""),
+    }
+}
 
 // A name between two texts.
 fn tell_named<E: Sink>(err: &mut E, before: &[u8], name: &str, after: &[u8]) -> Result<(), Failed>
@@ -118,8 +151,13 @@ fn tell_named<E: Sink>(err: &mut E, before: &[u8], name: &str, after: &[u8]) -> 
     err.put(after)
 }
 
-// A number between two texts.
-fn tell_number<E: Sink>(err: &mut E, before: &[u8], number: u64, after: &[u8]) -> Result<(), Failed>
+/// Puts a number between two texts.
+pub(crate) fn tell_number<E: Sink>(
+    err: &mut E,
+    before: &[u8],
+    number: u64,
+    after: &[u8],
+) -> Result<(), Failed>
     ensures { Puts (E.holds err.old) (E.holds err.new) (E.faults err.old) (E.faults err.new) (before.now ++ decimal number ++ after.now) result }
 {
     let mut digits = Buffer::new();
@@ -129,7 +167,7 @@ fn tell_number<E: Sink>(err: &mut E, before: &[u8], number: u64, after: &[u8]) -
 }
 
 fn tell_divergence<E: Sink>(err: &mut E, divergence: Divergence) -> Result<(), Failed>
-    ensures { Puts (E.holds err.old) (E.holds err.new) (E.faults err.old) (E.faults err.new) (told_text (IsDiverged divergence)) result }
+    ensures { Puts (E.holds err.old) (E.holds err.new) (E.faults err.old) (E.faults err.new) (told_text [] [] (IsDiverged divergence)) result }
 {
     tell_number(
         err,

@@ -1,6 +1,7 @@
 -- What an outcome tells, status by status.
 use Rattle.std.proofs.Common.{◌≡◌, ◌↔◌, ◌≢◌, ◌⊎◌, inl, inr, ℕ, ◌<◌, List, [], ◌∷◌, Option, Result, Ok, Err, IsTrue, false, refl, sym, ◌∙◌, ap, subst}
 use Rattle.host_policy.specs.Addresses.{Config}
+use Rattle.host_policy.specs.declared.Forward.{Forward}
 use Rattle.replay.specs.Unread.{IsFirstUnread}
 use Rattle.replay.specs.declared.Divergence.{Divergence}
 use Rattle.slirp_app.specs.Causes.{Came, CannotRead, Caused, IsTooLarge, RanOn}
@@ -50,11 +51,11 @@ pub got : {X : Type 0} (old new : Option (List ℕ)) (f g : ℕ) (text : List �
 got old new f g text (Ok x) puts calm = puts.ok refl
 got old new f g text (Err e) puts calm = absurd (calm (puts.err refl))
 
-pub no_text : (outcome : Outcome) → (code_of outcome ≡ 0) ⊎ (code_of outcome ≡ 12) → text_of outcome ≡ []
-no_text Done is = refl
-no_text SinkFault is = refl
-no_text _ (inl is) = absurd (other 0 _ is refl refl)
-no_text _ (inr is) = absurd (other 12 _ is refl refl)
+pub no_text : (words : List (List ℕ)) (forwards : List Forward) (outcome : Outcome) → (code_of outcome ≡ 0) ⊎ (code_of outcome ≡ 12) → text_of words forwards outcome ≡ []
+no_text words forwards Done is = refl
+no_text words forwards SinkFault is = refl
+no_text words forwards _ (inl is) = absurd (other 0 _ is refl refl)
+no_text words forwards _ (inr is) = absurd (other 12 _ is refl refl)
 
 -- the outcome that has a status
 is_misspelt : (outcome : Outcome) → code_of outcome ≡ 4 → (line : ℕ) × (outcome ≡ ScheduleLine line)
@@ -142,7 +143,7 @@ module _ (config : Config) (world world_new : Telling) (file : List ℕ) (old ne
 
   pub ran : (outcome : Outcome) → By_calls outcome → IsTrue (is_run (code_of outcome)) → RanOn config world world_new (code_of outcome) old new (AtEnd (code_of outcome))
   ran Done makes is = ended_run Done makes refl (λ schedule came. came)
-  ran Usage _ is = absurd (not_run is)
+  ran (Usage stop) _ is = absurd (not_run is)
   ran (BadConfig field) _ is = absurd (not_run is)
   ran ScheduleRead _ is = absurd (not_run is)
   ran ScheduleTooLarge _ is = absurd (not_run is)

@@ -1,14 +1,18 @@
 -- What is done by what the words mean, and the status of it.
-use Rattle.std.proofs.Common.{◌≡◌, ◌≢◌, ◌↔◌, ◌⊎◌, inl, inr, ℕ, ◌<◌, ◌≤◌, ◌==◌, ltb, Bool, true, false, cond, length, List, [], Option, Some, None, Result, Ok, Err, MatchOption, refl, sym, ◌∙◌, ap, subst, arith}
+use Rattle.std.proofs.Common.{◌≡◌, ◌≢◌, ◌↔◌, ◌⊎◌, inl, inr, ℕ, ◌<◌, ◌≤◌, ◌==◌, ltb, Bool, true, false, cond, length, List, [], Option, Some, None, Result, Ok, Err, IsOk, IsErr, MatchOption, refl, sym, ◌∙◌, ap, subst, arith}
 use Rattle.std.proofs.lemmas.Bool.Decides.{nat_tests}
 use Rattle.world_face.specs.Journal.{Entry, Place}
-use Rattle.world_face.specs.Tells.{Telling, Makes}
+use Rattle.world_face.specs.Puts.{Puts, added}
+use Rattle.world_face.specs.Tells.{Telling, Makes, Rose}
+use Rattle.world_face.specs.declared.sink.Failed.{Failed}
 use Rattle.host_policy.specs.Addresses.{Config}
 use Rattle.host_policy.specs.declared.config.Field.{Field}
 use Rattle.host_policy.specs.declared.config.Field.TheVariants.{Octets}
-use Rattle.slirp_config.specs.Meaning.{AnswersBy, AreSettings, Drives, HasPlace, Meaning, Means, MeansReplay, MeansServe, Replays, Serves, broken_in, config_of, said}
+use Rattle.slirp_config.specs.Meaning.{AnswersBy, AreSettings, Drives, HasPlace, Helps, TellsVersion, Meaning, Means, MeansReplay, MeansServe, Replays, Serves, broken_in, config_of, said}
 use Rattle.slirp_config.specs.Options.{Word, value_of}
+use Rattle.slirp_config.specs.Stops.{StopsAt}
 use Rattle.slirp_config.specs.declared.Command.{Command}
+use Rattle.slirp_config.specs.declared.Stop.{Stop}
 use Rattle.slirp_config.specs.declared.Tap.{Tap}
 use Rattle.slirp_config.specs.declared.Tap.TheVariants.{Off, Record, Capture}
 use Rattle.slirp_config.specs.declared.WordFault.{WordFault}
@@ -17,13 +21,13 @@ use Rattle.run_laws.specs.Shape.{phase}
 use Rattle.serve_loop.specs.Ends.{end_of}
 use Rattle.serve_loop.specs.declared.service.End.{End}
 use Rattle.serve_loop.specs.declared.service.End.TheVariants.{Done as EndDone, TooLong, Cut, LinkFault as EndLink, WaitFault as EndWait, TurnsSpent as EndTurns, ListenRefused as EndRefused}
-use Rattle.slirp_app.specs.Doing.{CanBeDone, Course, Meant, Misset, Misused, Does, refusal_of}
+use Rattle.slirp_app.specs.Doing.{CanBeDone, Course, Meant, Misset, Misused, Does, TellsText, refusal_of}
 use Rattle.serve_loop.specs.Served.{IsBuilt}
 use Rattle.slirp_app.specs.Serving.{HasNoMemory, IsGiven, IsRefused, IsUnopened, OpensAt, Records, Runs, Serves as Served, ServesAt, Took, TookNot}
 use Rattle.app_edges.specs.Statuses.{code_of, is_unrun}
 use Rattle.slirp_app.specs.Statuses.{outcome_of}
 use Rattle.app_edges.specs.declared.status.Outcome.{Outcome}
-use Rattle.app_edges.specs.declared.status.Outcome.TheVariants.{BadConfig, NoMemory}
+use Rattle.app_edges.specs.declared.status.Outcome.TheVariants.{BadConfig, Done, NoMemory, SinkFault, Usage}
 
 -- two numbers that a test tells apart
 pub other : (n m : ℕ) → m ≡ n → (m == n) ≡ false → (n == n) ≡ true → ⊥
@@ -46,6 +50,8 @@ pub built : (words : List Word) (meaning : Meaning) → Means words meaning → 
 built words (Replays file config) (behind, is, meant) = built_replay config behind file meant
 built words (Serves config at tap) (behind, is, meant) = built_serve config behind at tap meant
 built words (Drives number octets) means = record { guest_forwards = refl; control = refl }
+built words Helps means = record { guest_forwards = refl; control = refl }
+built words TellsVersion means = record { guest_forwards = refl; control = refl }
 
 named : (behind : List Word) (file : Word) (config : Config) → MeansReplay behind file config → (0 < length file) × (length file ≤ 1280)
 named behind file config (line, rules, same, all, alone, some, few, are, set) = (some, few)
@@ -62,6 +68,8 @@ pub can_be_done : (words : List Word) (meaning : Meaning) → Means words meanin
 can_be_done words (Replays file config) (behind, is, meant) place none = named behind file config meant
 can_be_done words (Serves config at tap) means place none = place
 can_be_done words (Drives number octets) means place none = few octets (ltb 10000000 octets) refl none
+can_be_done words Helps means place none = tt
+can_be_done words TellsVersion means place none = tt
 
 -- what is answered is the one meaning of the words
 other_by : (other : Meaning) (o : Option Field) (result : Result Command WordFault) (command : Command) → result ≡ Ok command
@@ -89,6 +97,33 @@ unbroken other (Some field) result command is that = cc
 
 pub none_broken : (result : Result Command WordFault) (command : Command) → result ≡ Ok command → AnswersBy result (said command) → broken_in (said command) ≡ None
 none_broken result command is answers = unbroken (said command) (broken_in (said command)) result command is answers
+
+-- words that mean what can be done are answered by a command
+pub answered_by_none : (other : Meaning) (o : Option Field) (result : Result Command WordFault) (fault : WordFault) → result ≡ Err fault → o ≡ None
+    → MatchOption o ((c : Command) × (result ≡ Ok c) × (said c ≡ other)) (λ field. result ≡ Err (BadField field)) → ⊥
+answered_by_none other None result fault is whole (c, that, says) = cc
+answered_by_none other (Some field) result fault is whole that = cc
+
+-- what comes of a text that is put
+pub record Texted (text : List ℕ) (outcome : Outcome) (old new : Option (List ℕ)) (f g : ℕ) : Type 0 where
+  pub ends : (code_of outcome ≡ 0) ⊎ (code_of outcome ≡ 12)
+  pub put : code_of outcome ≡ 0 → new ≡ added text old
+  pub ran : is_unrun (code_of outcome) ≡ false
+  pub refused : code_of outcome ≡ 12 → Rose f g
+
+pub texted : {X : Type 0} (text : List ℕ) (outcome : Outcome) (old new : Option (List ℕ)) (f g : ℕ) (put : Result X Failed) → (IsOk put → outcome ≡ Done) → (IsErr put → outcome ≡ SinkFault) → Puts old new f g text put → Texted text outcome old new f g
+texted text outcome old new f g (Ok x) done failed puts =
+    let is = done refl in
+    record { ends = inl (ap code_of is); put = λ zero. puts.ok refl; ran = ap (λ (o : Outcome). is_unrun (code_of o)) is; refused = λ twelve. absurd (other 12 0 (sym (ap code_of is) ∙ twelve) refl refl) }
+texted text outcome old new f g (Err e) done failed puts =
+    let is = failed refl in
+    record { ends = inr (ap code_of is); put = λ zero. absurd (other 0 12 (sym (ap code_of is) ∙ zero) refl refl); ran = ap (λ (o : Outcome). is_unrun (code_of o)) is; refused = λ twelve. puts.err refl }
+
+pub texted_tells : (text : List ℕ) (outcome : Outcome) (world : Telling) (old new : Option (List ℕ)) (f g : ℕ) → Makes world world (λ made. made ≡ []) → Texted text outcome old new f g → TellsText text (code_of outcome) world world old new
+texted_tells text outcome world old new f g makes t = record { untouched = makes; ends = t.ends; put = t.put }
+
+pub texted_nothing : (text : List ℕ) (outcome : Outcome) (old new : Option (List ℕ)) (f g : ℕ) → Texted text outcome old new f g → is_unrun (code_of outcome) ≡ true → new ≡ old
+texted_nothing text outcome old new f g t unrun = let clash : ◌≡◌ {A = Bool} true false = sym unrun ∙ t.ran in absurd (cc clash)
 
 -- A run's own end comes neither to a status of what wasn't run nor to that of a fault of `out`.
 pub record IsOfRun (outcome : Outcome) : Type 0 where
@@ -146,6 +181,10 @@ module _ (config : Config) (at : Place) (tap : Tap) (outcome : Outcome) (world w
   pub serves_nothing : is_unrun (code_of outcome) ≡ true → new ≡ old
   serves_nothing unrun = nothing_put outcome (served_code config at tap outcome old new makes.made makes.holds) unrun
 
+pub tells_read : (status : ℕ) → (status ≡ 0) ⊎ (status ≡ 12) → (status ≢ 1) × (status ≢ 2)
+tells_read status (inl is) = (λ one. cc, λ two. cc)
+tells_read status (inr is) = (λ one. cc, λ two. cc)
+
 pub drives_read : (status : ℕ) → (status ≡ 0) ⊎ (status ≡ 12) ⊎ (status ≡ 13) → (status ≢ 1) × (status ≢ 2)
 drives_read status (inl is) = (λ one. cc, λ two. cc)
 drives_read status (inr (inl is)) = (λ one. cc, λ two. cc)
@@ -158,35 +197,47 @@ module _ (words : List Word) (outcome : Outcome) (world world_new : Telling) (ol
   pub usage : Course words outcome world world_new old new → (code_of outcome ≡ 1) ↔ ((meaning : Meaning) → ¬ Means words meaning)
   usage (Meant m means one sound not_usage not_config does) = (λ code. absurd (not_usage code), λ none. absurd (none m means))
   usage (Misset m field means all is makes) = (λ code. (let two : code_of outcome ≡ 2 = ap code_of is in absurd (other 1 2 (sym two ∙ code) refl refl)), λ none. absurd (none m means))
-  usage (Misused none is makes) = (λ code. none, λ n. ap code_of is)
+  usage (Misused stop at none is makes) = (λ code. none, λ n. ap code_of is)
+
+  -- where reading stops
+  pub mistake : Course words outcome world world_new old new → code_of outcome ≡ 1 → (stop : Stop) × StopsAt words stop × (outcome ≡ Usage stop)
+  mistake (Meant m means one sound not_usage not_config does) code = absurd (not_usage code)
+  mistake (Misset m field means all is makes) code = (let two : code_of outcome ≡ 2 = ap code_of is in absurd (other 1 2 (sym two ∙ code) refl refl))
+  mistake (Misused stop at none is makes) code = (stop, at, is)
 
   pub bad_config : Course words outcome world world_new old new → (meaning : Meaning) (field : Field) → Means words meaning → broken_in meaning ≡ Some field → outcome ≡ BadConfig field
   bad_config (Meant m means one sound not_usage not_config does) meaning field this broken =
       absurd (one_none (broken_in meaning) field broken (ap broken_in (one meaning this) ∙ sound))
   bad_config (Misset m f means all is makes) meaning field this broken = (let same : Some f ≡ Some field = sym (all meaning this) ∙ broken in let that : f ≡ field = cc in is ∙ ap BadConfig that)
-  bad_config (Misused none is makes) meaning field this broken = absurd (none meaning this)
+  bad_config (Misused stop at none is makes) meaning field this broken = absurd (none meaning this)
 
   pub only_config : Course words outcome world world_new old new → code_of outcome ≡ 2 → (meaning : Meaning) × (field : Field) × Means words meaning × (broken_in meaning ≡ Some field)
   only_config (Meant m means one sound not_usage not_config does) code = absurd (not_config code)
   only_config (Misset m field means all is makes) code = (m, field, means, all m means)
-  only_config (Misused none is makes) code = (let one : code_of outcome ≡ 1 = ap code_of is in absurd (other 2 1 (sym one ∙ code) refl refl))
+  only_config (Misused stop at none is makes) code = (let one : code_of outcome ≡ 1 = ap code_of is in absurd (other 2 1 (sym one ∙ code) refl refl))
 
   pub untouched : Course words outcome world world_new old new → (code_of outcome ≡ 1) ⊎ (code_of outcome ≡ 2) → Makes world world_new (λ made. made ≡ [])
   untouched (Meant m means one sound not_usage not_config does) (inl code) = absurd (not_usage code)
   untouched (Meant m means one sound not_usage not_config does) (inr code) = absurd (not_config code)
   untouched (Misset m field means all is makes) code = makes
-  untouched (Misused none is makes) code = makes
+  untouched (Misused stop at none is makes) code = makes
 
   pub does : Course words outcome world world_new old new → (meaning : Meaning) → Means words meaning → broken_in meaning ≡ None → Does meaning outcome world world_new old new
   does (Meant m means one sound not_usage not_config done) meaning this sound_too = subst (λ k. Does k outcome world world_new old new) (sym (one meaning this)) done
   does (Misset m field means all is makes) meaning this sound_too = absurd (one_none (broken_in meaning) field (all meaning this) sound_too)
-  does (Misused none is makes) meaning this sound_too = absurd (none meaning this)
+  does (Misused stop at none is makes) meaning this sound_too = absurd (none meaning this)
+
+-- words whose reading stops
+no_answer : (other : Meaning) (o : Option Field) (result : Result Command WordFault) (stop : Stop) → result ≡ Err (Misread stop)
+    → MatchOption o ((c : Command) × (result ≡ Ok c) × (said c ≡ other)) (λ field. result ≡ Err (BadField field)) → ⊥
+no_answer other None result stop is (c, that, says) = cc
+no_answer other (Some field) result stop is that = cc
 
 -- words that aren't followed
 pub refused_course : (words : List Word) (result : Result Command WordFault) (fault : WordFault) (world : Telling) (old : Option (List ℕ)) → result ≡ Err fault
     → ((field : Field) → result ≡ Err (BadField field) → (meaning : Meaning) × Means words meaning × (broken_in meaning ≡ Some field))
-    → (result ≡ Err Misread → (meaning : Meaning) → ¬ Means words meaning) → ((meaning : Meaning) → Means words meaning → AnswersBy result meaning)
+    → ((stop : Stop) → result ≡ Err (Misread stop) → StopsAt words stop) → ((meaning : Meaning) → Means words meaning → AnswersBy result meaning)
     → Makes world world (λ made. made ≡ []) → Course words (refusal_of fault) world world old old
-refused_course words result Misread world old is bad none only makes = Misused (none is) refl makes
-refused_course words result (BadField field) world old is bad none only makes =
+refused_course words result (Misread stop) world old is bad stops only makes = Misused stop (stops stop is) (λ meaning means. no_answer meaning (broken_in meaning) result stop is (only meaning means)) refl makes
+refused_course words result (BadField field) world old is bad stops only makes =
     let found = bad field is in Misset found.0 field found.1 (λ other this. one_field result field other is (only other this)) refl makes

@@ -18,7 +18,7 @@ use Rattle.app_edges.specs.declared.status.Outcome.TheVariants.{Done, Usage, Bad
 -- Where a run was made, a record of it was put. It diverged, or came to its end.
 abbrev pub Came : Config → Outcome → (schedule : List ℕ) → (old new : Option (List ℕ)) → Type 0
 Came config Done schedule old new = Replayed config 0 schedule old new (IsAtEnd config Done)
-Came config Usage schedule old new = Unit {0}
+Came config (Usage stop) schedule old new = Unit {0}
 Came config (BadConfig field) schedule old new = Unit {0}
 Came config ScheduleRead schedule old new = Unit {0}
 Came config ScheduleTooLarge schedule old new = Unit {0}

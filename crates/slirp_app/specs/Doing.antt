@@ -5,13 +5,17 @@ use Rattle.world_face.specs.Journal.{Follows, IsPlace, Place}
 use Rattle.world_face.specs.Puts.{added}
 use Rattle.world_face.specs.Tells.{Telling, Makes}
 use Rattle.host_policy.specs.Addresses.{Config}
+use Rattle.host_policy.specs.declared.Forward.{Forward}
 use Rattle.host_policy.specs.declared.config.Field.{Field}
 use Rattle.drive_world.specs.Runs.{Run, summary_text}
 use Rattle.replay.specs.Unread.{IsFirstUnread}
 use Rattle.replay.specs.declared.Divergence.{Divergence}
 use Rattle.run_laws.specs.Moments.{waits}
 use Rattle.run_laws.specs.Shape.{Over, Refused, phase}
-use Rattle.slirp_config.specs.Meaning.{Meaning, Means, Replays, Serves, Drives, broken_in}
+use Rattle.slirp_config.specs.Meaning.{Meaning, Means, Replays, Serves, Drives, Helps, TellsVersion, broken_in, config_of, said}
+use Rattle.slirp_config.specs.Stops.{StopsAt}
+use Rattle.slirp_config.specs.declared.Command.{Command}
+use Rattle.slirp_config.specs.declared.Stop.{Stop}
 use Rattle.slirp_config.specs.Options.{Word}
 use Rattle.slirp_config.specs.declared.Tap.{Tap}
 use Rattle.slirp_config.specs.declared.WordFault.{WordFault}
@@ -23,6 +27,7 @@ use Rattle.app_edges.specs.Fetching.{IsWhole, MayFetch, is_read, octets_read}
 use Rattle.slirp_app.specs.Ran.{Ceased, EndsBy}
 use Rattle.slirp_app.specs.Serving.{ServesAt}
 use Rattle.app_edges.specs.Statuses.{code_of, is_run}
+use Rattle.app_edges.specs.Texts.{help_text, version_text}
 use Rattle.slirp_app.specs.Statuses.{outcome_of}
 use Rattle.app_edges.specs.declared.status.Outcome.{Outcome}
 use Rattle.app_edges.specs.declared.status.Outcome.TheVariants.{BadConfig, Diverged, FrameCut, FrameTooLong, ListenRefused, ScheduleLine, TurnsSpent, Usage}
@@ -72,21 +77,38 @@ pub record DrivesRun (number octets : ℕ) (status : ℕ) (world world_new : Tel
   -- with 0 the summary of a run from this number was put, and nothing else
   pub summary : status ≡ 0 → (run : Run) × (run.number ≡ number) × (new ≡ added (summary_text run) old)
 
+-- What `--help` and `--version` do: a text is put.
+pub record TellsText (text : List ℕ) (status : ℕ) (world world_new : Telling) (old new : Option (List ℕ)) : Type 0 where
+  -- no call is made on the outer World
+  pub untouched : Makes world world_new (λ made. made ≡ [])
+  -- the text was put, or `out` failed to take some of it
+  pub ends : (status ≡ 0) ⊎ (status ≡ 12)
+  pub put : status ≡ 0 → new ≡ added text old
+
 -- what comes of the outcome alone; the settings of a run are those of the words as far as they are built
 abbrev pub Does : Meaning → Outcome → (world world_new : Telling) → (old new : Option (List ℕ)) → Type 0
 Does (Replays file config) outcome world world_new old new = Makes world world_new (λ made. Follows (MayFetch file) made × Caused config outcome made old new)
 Does (Serves config at tap) outcome world world_new old new = Makes world world_new (ServesAt config at tap outcome old new)
 Does (Drives number octets) outcome world world_new old new = DrivesRun number octets (code_of outcome) world world_new old new
+Does Helps outcome world world_new old new = TellsText help_text (code_of outcome) world world_new old new
+Does TellsVersion outcome world world_new old new = TellsText version_text (code_of outcome) world world_new old new
 
 -- a file has a name that can be asked for, a link a place at which it can be opened, a drill as many octets as it may have
 abbrev pub CanBeDone : Meaning → Type 0
 CanBeDone (Replays file config) = (0 < length file) × (length file ≤ 1280)
 CanBeDone (Serves config at tap) = IsPlace at
 CanBeDone (Drives number octets) = octets ≤ 10000000
+CanBeDone Helps = Unit {0}
+CanBeDone TellsVersion = Unit {0}
+
+-- the forwards of the settings of a command; none without one
+abbrev pub forwards_in : Option Command → List Forward
+forwards_in (Some command) = (config_of (said command)).forwards
+forwards_in None = []
 
 -- what comes of words that aren't followed
 abbrev pub refusal_of : WordFault → Outcome
-refusal_of Misread = Usage
+refusal_of (Misread stop) = Usage stop
 refusal_of (BadField field) = BadConfig field
 
 -- The words mean one thing, and it is done; or they mean one of which a field isn't in its range; or nothing.
@@ -95,4 +117,4 @@ pub data Course (words : List Word) (outcome : Outcome) (world world_new : Telli
       → Does meaning outcome world world_new old new → Course words outcome world world_new old new
   Misset : (meaning : Meaning) (field : Field) → Means words meaning → ((other : Meaning) → Means words other → broken_in other ≡ Some field) → outcome ≡ BadConfig field
       → Makes world world_new (λ made. made ≡ []) → Course words outcome world world_new old new
-  Misused : ((meaning : Meaning) → ¬ Means words meaning) → outcome ≡ Usage → Makes world world_new (λ made. made ≡ []) → Course words outcome world world_new old new
+  Misused : (stop : Stop) → StopsAt words stop → ((meaning : Meaning) → ¬ Means words meaning) → outcome ≡ Usage stop → Makes world world_new (λ made. made ≡ []) → Course words outcome world world_new old new

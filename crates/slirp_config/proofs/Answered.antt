@@ -5,26 +5,29 @@ use Rattle.host_policy.specs.Ranges.{IsSound}
 use Rattle.host_policy.specs.declared.config.Field.{Field}
 use Rattle.slirp_config.specs.declared.Command.{Command}
 use Rattle.slirp_config.specs.declared.WordFault.{WordFault}
-use Rattle.slirp_config.specs.declared.WordFault.TheVariants.{Usage, BadConfig}
-use Rattle.slirp_config.specs.Meaning.{Meaning, Replays, Serves, Drives, AnswersBy, broken_in, config_of, said}
+use Rattle.slirp_config.specs.declared.WordFault.TheVariants.{BadConfig}
+use Rattle.slirp_config.specs.Meaning.{Meaning, Replays, Serves, Drives, Helps, TellsVersion, AnswersBy, broken_in, config_of, said}
 use Rattle.slirp_config.specs.Narrowing.{narrowed_meaning}
 use Rattle.slirp_config.proofs.Narrow.{same_broken, same_settings}
 
 pub record IsAnswer (Of : Meaning → Type 0) (result : Result Command WordFault) : Type 0 where
   pub meant : IfOk result (λ command. Of (said command))
   pub bad_config : (field : Field) → result ≡ Err (BadConfig field) → (meaning : Meaning) × Of meaning × (broken_in meaning ≡ Some field)
-  pub usage : result ≡ Err Usage → (meaning : Meaning) → ¬ Of meaning
   pub only : (meaning : Meaning) → Of meaning → AnswersBy result meaning
 
 broken_still : (meaning : Meaning) → broken_in (narrowed_meaning meaning) ≡ broken_in meaning
 broken_still (Replays file config) = same_broken config
 broken_still (Serves config at tap) = same_broken config
 broken_still (Drives number octets) = refl
+broken_still Helps = refl
+broken_still TellsVersion = refl
 
 nothing_narrowed : (meaning : Meaning) → IsSound (config_of (narrowed_meaning meaning)) → narrowed_meaning meaning ≡ meaning
 nothing_narrowed (Replays file config) sound = ap (Replays file) (same_settings config sound)
 nothing_narrowed (Serves config at tap) sound = ap (λ (c : Config). Serves c at tap) (same_settings config sound)
 nothing_narrowed (Drives number octets) sound = refl
+nothing_narrowed Helps sound = refl
+nothing_narrowed TellsVersion sound = refl
 
 module _ (Of : Meaning → Type 0) (one : (m n : Meaning) → Of m → Of n → m ≡ n) where
   -- of a command whose settings are checked
@@ -39,7 +42,6 @@ module _ (Of : Meaning → Type 0) (one : (m n : Meaning) → Of m → Of n → 
       record {
         meant = subst Of (sym meant) of;
         bad_config = λ field h. absurd (cc h);
-        usage = λ h. absurd (cc h);
         only = λ m h. let e : m ≡ meaning = one m meaning h of in
             let quiet : broken_in m ≡ None = ap broken_in e ∙ none in
             subst (λ (o : Option Field). MatchOption o ((command : Command) × (◌≡◌ {A = Result Command WordFault} (Ok c) (Ok command)) × (said command ≡ m)) (λ field. ◌≡◌ {A = Result Command WordFault} (Ok c) (Err (BadConfig field)))) (sym quiet) (c, refl, meant ∙ sym e);
@@ -51,7 +53,6 @@ module _ (Of : Meaning → Type 0) (one : (m n : Meaning) → Of m → Of n → 
       record {
         meant = tt;
         bad_config = λ other h. (meaning, of, named ∙ (let same_fault : ◌≡◌ {A = Result Command WordFault} (Err (BadConfig field)) (Err (BadConfig other)) = sym fault_is ∙ h in let e : field ≡ other = cc in ap (λ (f : Field). Some f) e));
-        usage = λ h. let clash : ◌≡◌ {A = Result Command WordFault} (Err (BadConfig field)) (Err Usage) = sym fault_is ∙ h in absurd (cc clash);
         only = λ m h. let e : m ≡ meaning = one m meaning h of in
             let there : broken_in m ≡ Some field = ap broken_in e ∙ named in
             subst (λ (o : Option Field). MatchOption o ((command : Command) × (◌≡◌ {A = Result Command WordFault} (Err fault) (Ok command)) × (said command ≡ m)) (λ field. ◌≡◌ {A = Result Command WordFault} (Err fault) (Err (BadConfig field)))) (sym there) fault_is;

@@ -69,7 +69,7 @@ another_network = (
     record { pieces = Plain (codes "F") ∷ Joined (codes "--net") (codes "10.1.0.0/16") ∷ Apart (codes "--host") (codes "10.1.0.9") ∷ []; behind = None },
     [],
     refl,
-    ((refl, ((refl, omega arith), ((refl, omega arith, refl), tt))), refl, omega arith),
+    ((refl, ((refl, omega arith), ((refl, omega arith, refl), tt))), refl),
     refl,
     omega arith,
     omega arith,
@@ -90,7 +90,7 @@ first_guest = (
   (
     record { pieces = Joined (codes "--link") (codes "unix:s") ∷ Plain (codes "hostfwd=tcp:127.0.0.1:2222-:22") ∷ Joined (codes "--dhcpstart") (codes "10.0.2.100") ∷ []; behind = None },
     refl,
-    (((refl, omega arith), (refl, ((refl, omega arith), tt))), refl, omega arith),
+    (((refl, omega arith), (refl, ((refl, omega arith), tt))), refl),
     (refl, (omega arith, omega arith)),
     (refl, refl),
     (
@@ -131,7 +131,7 @@ datagrams = (
     record { pieces = Plain (codes "F") ∷ Plain (codes "udp::53-:53") ∷ Joined (codes "--resolver") (codes "192.0.2.1:53") ∷ Apart (codes "--outbound") (codes "192.0.2.9") ∷ []; behind = None },
     codes "udp::53-:53" ∷ [],
     refl,
-    ((refl, (refl, ((refl, omega arith), ((refl, omega arith, refl), tt)))), refl, omega arith),
+    ((refl, (refl, ((refl, omega arith), ((refl, omega arith, refl), tt)))), refl),
     refl,
     omega arith,
     omega arith,

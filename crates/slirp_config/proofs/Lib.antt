@@ -7,7 +7,17 @@ pub mod Few
 pub mod Steps
 pub mod Back
 pub mod Walks
+pub mod Kept
+pub mod Wanted
+pub mod Proper
+pub mod Coming
+pub mod Whole
+pub mod Given
+pub mod Good
+pub mod Reading
 pub mod Meant
+pub mod Completing
+pub mod Stopping
 pub mod Ruled
 pub mod Putting
 pub mod Only

@@ -1,21 +1,43 @@
 -- What words mean, by the walk over them.
-use Rattle.std.proofs.Common.{◌≡◌, ◌<◌, ◌≤◌, List, ◌∷◌, length, codes, Option, Some, None, MatchOption, is_some, sym, ◌∙◌, ap, subst}
+use Rattle.std.proofs.Common.{◌≡◌, ℕ, ◌<◌, ◌≤◌, Bool, true, false, ◌&&◌, List, [], ◌∷◌, length, bytes_eq, codes, Option, Some, None, MatchOption, is_some, refl, sym, ◌∙◌, ap, subst}
 use Rattle.host_policy.specs.Addresses.{Config}
 use Rattle.world_face.specs.Journal.{Place}
 use Rattle.slirp_config.specs.declared.Tap.{Tap}
+use Rattle.slirp_config.specs.declared.Tap.TheVariants.{Off, Record, Capture}
+use Rattle.slirp_config.specs.declared.options.Kind.TheVariants.{Link}
 use Rattle.slirp_config.specs.declared.options.Verb.{Verb}
 use Rattle.slirp_config.specs.declared.options.Verb.TheVariants.{Replay, Serve}
-use Rattle.slirp_config.specs.Meaning.{AreSettings, IsTap, MeansReplay, MeansServe}
-use Rattle.slirp_config.specs.Options.{Word, Given, words_alone, options_of, value_in}
+use Rattle.slirp_config.specs.Meaning.{AreSettings, IsTap, MeansReplay, MeansServe, is_capture, is_record}
+use Rattle.slirp_config.specs.Options.{Word, Given, Piece, Apart, Joined, Flag, Plain, ArePieces, words_alone, options_of, takes_value, value_in}
 use Rattle.slirp_config.specs.Rules.{AreRules}
 use Rattle.slirp_config.specs.Texts.{IsLink}
-use Rattle.slirp_config.specs.Walking.{Walk, walked}
+use Rattle.slirp_config.specs.Values.{CanHave}
+use Rattle.slirp_config.specs.Walking.{AreWanted, IsGood, Walk, walked}
+use Rattle.slirp_config.proofs.Names.{same_text}
+use Rattle.slirp_config.proofs.Reading.{all_given, settings_read, weaken}
 use Rattle.slirp_config.proofs.Back.{same_walk}
 use Rattle.slirp_config.proofs.Walks.{arrived, line_walked, walk_read}
+use Rattle.slirp_config.proofs.Whole.{rules_are_words}
+
+-- a name that a command doesn't have isn't given
+other_name : (verb : Verb) (word name : Word) (b : Bool) → takes_value verb word ≡ Some b → takes_value verb name ≡ None → bytes_eq word name ≡ false
+other_name verb word name b takes none = by_test (bytes_eq word name) refl
+  where
+    by_test : (t : Bool) → bytes_eq word name ≡ t → t ≡ false
+    by_test true e = let clash : ◌≡◌ {A = Option Bool} None (Some b) = sym none ∙ ap (takes_value verb) (sym (same_text word name e)) ∙ takes in absurd (cc clash)
+    by_test false e = refl
+
+unnamed : (verb : Verb) (name : Word) → takes_value verb name ≡ None → (pieces : List Piece) → ArePieces verb pieces → is_some (value_in (options_of pieces) name) ≡ false
+unnamed verb name none [] are = refl
+unnamed verb name none (Plain word ∷ pieces) are = unnamed verb name none pieces are.1
+unnamed verb name none (Flag word ∷ pieces) are = rw (other_name verb word name false are.0 none) (unnamed verb name none pieces are.1)
+unnamed verb name none (Joined word value ∷ pieces) are = rw (other_name verb word name true are.0.0 none) (unnamed verb name none pieces are.1)
+unnamed verb name none (Apart word value ∷ pieces) are = rw (other_name verb word name true are.0.0 none) (unnamed verb name none pieces are.1)
 
 pub record ReplayRead (words : List Word) (file : Word) (config : Config) : Type 0 where
   pub walk : Walk
   pub read : walked Replay words ≡ Some walk
+  pub good : IsGood walk
   pub rules : List Word
   pub alone : walk.alone ≡ file ∷ rules
   pub some : 0 < length file
@@ -41,6 +63,12 @@ pub replay_meant : (words : List Word) (file : Word) (config : Config) → Means
 replay_meant words file config m = record {
   walk = arrived Replay (options_of m.0.pieces) (words_alone m.0) (is_some m.0.behind);
   read = ap (walked Replay) m.2 ∙ line_walked Replay m.0 m.3;
+  good = record {
+    wanted = subst (λ (a : List Word). AreWanted Replay a) (sym m.4) ((m.5, m.6), rules_are_words m.1 config.dhcp_start config.forwards m.7);
+    given = all_given Replay (options_of m.0.pieces) m.3.1 (settings_read Replay (value_in (options_of m.0.pieces)) config m.8 (λ is. absurd (cc is)));
+    one = ap (λ (b : Bool). b && is_some (value_in (options_of m.0.pieces) (codes "--capture"))) (unnamed Replay (codes "--record") refl m.0.pieces m.3.0);
+    linked = λ ended. refl;
+  };
   rules = m.1;
   alone = m.4;
   some = m.5;
@@ -53,9 +81,23 @@ replay_meant words file config m = record {
 abbrev pub IsLinkAt : Option Word → Place → Type 0
 IsLinkAt given at = MatchOption given ⊥ (λ text. IsLink text at)
 
+is_told : (given : Option Word) (at : Place) → IsLinkAt given at → is_some given ≡ true
+is_told None at h = absurd h
+is_told (Some text) at h = refl
+
+one_tap : (tap : Tap) → is_record tap && is_capture tap ≡ false
+one_tap Off = refl
+one_tap Record = refl
+one_tap Capture = refl
+
+not_both : (given : Word → Option Word) (tap : Tap) → IsTap given tap → is_some (given (codes "--record")) && is_some (given (codes "--capture")) ≡ false
+not_both given tap is =
+    ap (λ (b : Bool). b && is_some (given (codes "--capture"))) is.0 ∙ ap (λ (b : Bool). is_record tap && b) is.1 ∙ one_tap tap
+
 pub record ServeRead (words : List Word) (config : Config) (at : Place) (tap : Tap) : Type 0 where
   pub walk : Walk
   pub read : walked Serve words ≡ Some walk
+  pub good : IsGood walk
   pub link : IsLinkAt (value_in walk.options (codes "--link")) at
   pub taps : IsTap (value_in walk.options) tap
   pub forwards : AreRules walk.alone config.dhcp_start config.forwards
@@ -77,6 +119,13 @@ pub serve_meant : (words : List Word) (config : Config) (at : Place) (tap : Tap)
 serve_meant words config at tap m = record {
   walk = arrived Serve (options_of m.0.pieces) (words_alone m.0) (is_some m.0.behind);
   read = ap (walked Serve) m.1 ∙ line_walked Serve m.0 m.2;
+  good = record {
+    wanted = rules_are_words (words_alone m.0) config.dhcp_start config.forwards m.5;
+    given = all_given Serve (options_of m.0.pieces) m.2.1 (settings_read Serve (value_in (options_of m.0.pieces)) config m.6
+        (λ is. weaken (value_in (options_of m.0.pieces) (codes "--link")) ⊥ (λ text. IsLink text at) (CanHave Link) (λ text h. (at, h)) m.3));
+    one = not_both (value_in (options_of m.0.pieces)) tap m.4;
+    linked = λ ended. is_told (value_in (options_of m.0.pieces) (codes "--link")) at m.3;
+  };
   link = m.3;
   taps = m.4;
   forwards = m.5;
@@ -87,5 +136,8 @@ serve_meant words config at tap m = record {
 pub one_walk : (verb : Verb) (words : List Word) (v w : Walk) → walked verb words ≡ Some v → walked verb words ≡ Some w → v ≡ w
 one_walk verb words v w hv hw = same_walk v w (sym hv ∙ hw)
 
-pub never : (o : Option Walk) (w : Walk) → o ≡ None → o ≡ Some w → ⊥
-never o w none some = let clash : ◌≡◌ {A = Option Walk} None (Some w) = sym none ∙ some in cc clash
+abbrev pub ReplayMeant : List Word → Type 0
+ReplayMeant words = (file : List ℕ) × (config : Config) × MeansReplay words file config
+
+abbrev pub ServeMeant : List Word → Type 0
+ServeMeant words = (config : Config) × (at : Place) × (tap : Tap) × MeansServe words config at tap

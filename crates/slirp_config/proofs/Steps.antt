@@ -7,7 +7,7 @@ use Rattle.slirp_config.specs.declared.options.Verb.{Verb}
 use Rattle.slirp_config.specs.Options.{Word, Given, takes_value, is_dashed, value_in}
 use Rattle.address_text.specs.Texts.{is_other}
 use Rattle.address_text.proofs.Parting.{both, no_part}
-use Rattle.slirp_config.specs.Walking.{Walk, put_option, put_alone, put_joined, put_name, step, is_sign}
+use Rattle.slirp_config.specs.Walking.{Walk, put_option, put_joined, put_name, step, is_sign}
 use Rattle.slirp_config.proofs.Names.{is_name, name_is, same_text}
 use Rattle.slirp_config.proofs.Few.{refuted}
 
@@ -54,17 +54,13 @@ module _ (verb : Verb) (o : List Given) (a : List Word) where
   pub flag_step : (name : Word) → takes_value verb name ≡ Some false → step (at verb o a) name ≡ put_option (at verb o a) name []
   flag_step name is = begins_name name (name_parts name (name_is verb name false is)) ∙ rw is refl
 
-  pub waits_step : (name : Word) → takes_value verb name ≡ Some true → step (at verb o a) name ≡ Some (waiting verb o a name)
-  waits_step name is = begins_name name (name_parts name (name_is verb name true is)) ∙ rw is refl
+  pub waits_step : (name : Word) → takes_value verb name ≡ Some true → is_some (value_in o name) ≡ false → step (at verb o a) name ≡ Some (waiting verb o a name)
+  waits_step name is free = begins_name name (name_parts name (name_is verb name true is)) ∙ rw (is, free) refl
 
   pub apart_step : (name value : Word) → 0 < length value → is_dashed value ≡ false → step (waiting verb o a name) value ≡ put_option (at verb o a) name value
   apart_step name value some plain = let is : ltb 0 (length value) ≡ true = grind (arith, nat_tests, some) in rw (is, plain) refl
 
-  -- one more word stands by itself where there is room
-  pub put_room : (w : Walk) (word : Word) → length w.alone < 34 → put_alone w word ≡ Some (record w { alone = w.alone ++ word ∷ [] })
-  put_room w word room = let is : ltb (length w.alone) 34 ≡ true = grind (arith, nat_tests, room) in rw is refl
-
-  pub plain_step : (word : Word) → is_dashed word ≡ false → step (at verb o a) word ≡ put_alone (at verb o a) word
+  pub plain_step : (word : Word) → is_dashed word ≡ false → step (at verb o a) word ≡ Some (at verb o (a ++ word ∷ []))
   plain_step word plain =
       let by_test : (t : Bool) → bytes_eq word (codes "--") ≡ t → t ≡ false = λ t.
       (elim t as (λ b. bytes_eq word (codes "--") ≡ b → b ≡ false) [
@@ -74,7 +70,7 @@ module _ (verb : Verb) (o : List Given) (a : List Word) where
       let other : bytes_eq word (codes "--") ≡ false = by_test (bytes_eq word (codes "--")) refl in
       rw (other, plain) refl
 
-  dashed_joined : (name value : Word) → is_dashed name ≡ true → is_dashed (name ++ 61 ∷ value) ≡ true
+  pub dashed_joined : (name value : Word) → is_dashed name ≡ true → is_dashed (name ++ 61 ∷ value) ≡ true
   dashed_joined [] value h = absurd (cc h)
   dashed_joined (x ∷ xs) value h = h
 

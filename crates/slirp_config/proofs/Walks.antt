@@ -1,16 +1,15 @@
 -- The walk over words reads exactly the lines that they are.
-use Rattle.std.proofs.Common.{◌≡◌, ◌<◌, ◌≤◌, Bool, true, false, cond, ltb, List, [], ◌∷◌, ◌++◌, length, map, bytes_eq, codes, Option, Some, None, is_some, refl, sym, ◌∙◌, ap, subst, arith, append_assoc, append-nil, length-append}
+use Rattle.std.proofs.Common.{◌≡◌, ◌<◌, ◌≤◌, Bool, true, false, cond, List, [], ◌∷◌, ◌++◌, length, map, bytes_eq, codes, Option, Some, None, is_some, refl, sym, ◌∙◌, ap, subst, arith, append_assoc, append-nil, length-append}
 use Rattle.std.specs.List.{list_any, list_all}
-use Rattle.std.proofs.lemmas.Bool.Decides.{nat_tests}
 use Rattle.host_policy.specs.Ranges.{none_twice}
 use Rattle.slirp_config.specs.declared.options.Verb.{Verb}
 use Rattle.slirp_config.specs.Options.{Word, Row, Given, Piece, Apart, Joined, Flag, Plain, Line, ArePieces, IsLine, pieces_words, words_behind, line_words, options_of, plain_words, alone_behind, words_alone, same_name, rows, takes_value}
-use Rattle.slirp_config.specs.Walking.{Walk, put_alone, step, next, walk_on, finished, fresh, walked}
-use Rattle.slirp_config.proofs.Back.{chosen, same_walk, stepped, Stepped, Ends, Alone, Joins, Waits, Flags, value_back}
+use Rattle.slirp_config.specs.Walking.{Walk, step, next, walk_on, finished, fresh, walked}
+use Rattle.slirp_config.proofs.Back.{same_walk, stepped, Stepped, Ends, Alone, Joins, Waits, Flags, value_back}
 use Rattle.slirp_config.proofs.Few.{few, fresh_there, once_more}
 use Rattle.slirp_config.proofs.Names.{name_known}
 use Rattle.address_text.proofs.Parting.{pair}
-use Rattle.slirp_config.proofs.Steps.{at, waiting, behind_end, given, flag_step, waits_step, apart_step, plain_step, joined_step, put_fresh, put_room}
+use Rattle.slirp_config.proofs.Steps.{at, waiting, behind_end, given, flag_step, waits_step, apart_step, plain_step, joined_step, put_fresh}
 
 -- what the walk comes to
 abbrev pub arrived : Verb → List Given → List Word → Bool → Walk
@@ -21,52 +20,49 @@ go : (f : Walk → Option Walk) (o : Option Walk) (s : Walk) (r : Option Walk) �
 go f o s r e h = ap (next f) e ∙ h
 
 module _ (verb : Verb) (o : List Given) where
-  end_kept : (words : List Word) (a : List Word) → length (a ++ words) ≤ 34 → walk_on words (behind_end verb o a) ≡ Some (behind_end verb o (a ++ words))
-  end_kept [] a k = ap (λ (x : List Word). Some (behind_end verb o x)) (sym (append-nil a))
-  end_kept (word ∷ words) a k =
+  end_kept : (words : List Word) (a : List Word) → walk_on words (behind_end verb o a) ≡ Some (behind_end verb o (a ++ words))
+  end_kept [] a = ap (λ (x : List Word). Some (behind_end verb o x)) (sym (append-nil a))
+  end_kept (word ∷ words) a =
       let moved : (a ++ word ∷ []) ++ words ≡ a ++ word ∷ words = append_assoc a (word ∷ []) words in
-      let room : length a < 34 = omega (arith, k, length-append a (word ∷ words)) in
-      go (walk_on words) (put_alone (behind_end verb o a) word) (behind_end verb o (a ++ word ∷ [])) _ (put_room verb o a (behind_end verb o a) word room)
-      (end_kept words (a ++ word ∷ []) (rw moved k) ∙ ap (λ (x : List Word). Some (behind_end verb o x)) moved)
+      end_kept words (a ++ word ∷ []) ∙ ap (λ (x : List Word). Some (behind_end verb o x)) moved
 
 pub line_kept : (verb : Verb) (pieces : List Piece) (behind : Option (List Word)) (o : List Given) (a : List Word) → ArePieces verb pieces
-    → none_twice same_name (o ++ options_of pieces) ≡ true → length (o ++ options_of pieces) ≤ 24 → length (a ++ (plain_words pieces ++ alone_behind behind)) ≤ 34
+    → none_twice same_name (o ++ options_of pieces) ≡ true → length (o ++ options_of pieces) ≤ 24
     → walk_on (pieces_words pieces ++ words_behind behind) (at verb o a) ≡ Some (arrived verb (o ++ options_of pieces) (a ++ (plain_words pieces ++ alone_behind behind)) (is_some behind))
-line_kept verb [] None o a p once few k = ap (λ (x : List Word). Some (arrived verb o x false)) (sym (append-nil a)) ∙ ap (λ (x : List Given). Some (arrived verb x (a ++ []) false)) (sym (append-nil o))
-line_kept verb [] (Some words) o a p once few k = end_kept verb o words a k ∙ ap (λ (x : List Given). Some (arrived verb x (a ++ words) true)) (sym (append-nil o))
-line_kept verb (Plain word ∷ pieces) behind o a p once few k =
+line_kept verb [] None o a p once few = ap (λ (x : List Word). Some (arrived verb o x false)) (sym (append-nil a)) ∙ ap (λ (x : List Given). Some (arrived verb x (a ++ []) false)) (sym (append-nil o))
+line_kept verb [] (Some words) o a p once few = end_kept verb o words a ∙ ap (λ (x : List Given). Some (arrived verb x (a ++ words) true)) (sym (append-nil o))
+line_kept verb (Plain word ∷ pieces) behind o a p once few =
     let left = plain_words pieces ++ alone_behind behind in
     let moved : (a ++ word ∷ []) ++ left ≡ a ++ word ∷ left = append_assoc a (word ∷ []) left in
-    let room : length a < 34 = omega (arith, k, length-append a (word ∷ left)) in
     go (walk_on (pieces_words pieces ++ words_behind behind)) (step (at verb o a) word) (at verb o (a ++ word ∷ [])) _
-    (plain_step verb o a word p.0 ∙ put_room verb o a (at verb o a) word room)
-    (line_kept verb pieces behind o (a ++ word ∷ []) p.1 once few (rw moved k) ∙ ap (λ (x : List Word). Some (arrived verb (o ++ options_of pieces) x (is_some behind))) moved)
-line_kept verb (Flag name ∷ pieces) behind o a p once few k =
+    (plain_step verb o a word p.0)
+    (line_kept verb pieces behind o (a ++ word ∷ []) p.1 once few ∙ ap (λ (x : List Word). Some (arrived verb (o ++ options_of pieces) x (is_some behind))) moved)
+line_kept verb (Flag name ∷ pieces) behind o a p once few =
     let g = given name [] in
     let all = a ++ (plain_words pieces ++ alone_behind behind) in
     let moved : (o ++ g ∷ []) ++ options_of pieces ≡ o ++ g ∷ options_of pieces = append_assoc o (g ∷ []) (options_of pieces) in
     let room : length o < 24 = omega (arith, few, length-append o (g ∷ options_of pieces)) in
     go (walk_on (pieces_words pieces ++ words_behind behind)) (step (at verb o a) name) (at verb (o ++ g ∷ []) a) _
     (flag_step verb o a name p.0 ∙ put_fresh verb o a name [] (fresh_there o g (options_of pieces) once) room)
-    (line_kept verb pieces behind (o ++ g ∷ []) a p.1 (rw moved once) (rw moved few) k ∙ ap (λ (x : List Given). Some (arrived verb x all (is_some behind))) moved)
-line_kept verb (Joined name value ∷ pieces) behind o a p once few k =
+    (line_kept verb pieces behind (o ++ g ∷ []) a p.1 (rw moved once) (rw moved few) ∙ ap (λ (x : List Given). Some (arrived verb x all (is_some behind))) moved)
+line_kept verb (Joined name value ∷ pieces) behind o a p once few =
     let g = given name value in
     let all = a ++ (plain_words pieces ++ alone_behind behind) in
     let moved : (o ++ g ∷ []) ++ options_of pieces ≡ o ++ g ∷ options_of pieces = append_assoc o (g ∷ []) (options_of pieces) in
     let room : length o < 24 = omega (arith, few, length-append o (g ∷ options_of pieces)) in
     go (walk_on (pieces_words pieces ++ words_behind behind)) (step (at verb o a) (name ++ codes "=" ++ value)) (at verb (o ++ g ∷ []) a) _
     (ap (step (at verb o a)) (append_assoc name (61 ∷ []) value) ∙ joined_step verb o a name value p.0.0 p.0.1 ∙ put_fresh verb o a name value (fresh_there o g (options_of pieces) once) room)
-    (line_kept verb pieces behind (o ++ g ∷ []) a p.1 (rw moved once) (rw moved few) k ∙ ap (λ (x : List Given). Some (arrived verb x all (is_some behind))) moved)
-line_kept verb (Apart name value ∷ pieces) behind o a p once few k =
+    (line_kept verb pieces behind (o ++ g ∷ []) a p.1 (rw moved once) (rw moved few) ∙ ap (λ (x : List Given). Some (arrived verb x all (is_some behind))) moved)
+line_kept verb (Apart name value ∷ pieces) behind o a p once few =
     let g = given name value in
     let all = a ++ (plain_words pieces ++ alone_behind behind) in
     let moved : (o ++ g ∷ []) ++ options_of pieces ≡ o ++ g ∷ options_of pieces = append_assoc o (g ∷ []) (options_of pieces) in
     let room : length o < 24 = omega (arith, few, length-append o (g ∷ options_of pieces)) in
     go (walk_on (value ∷ pieces_words pieces ++ words_behind behind)) (step (at verb o a) name) (waiting verb o a name) _
-    (waits_step verb o a name p.0.0)
+    (waits_step verb o a name p.0.0 (fresh_there o g (options_of pieces) once))
     (go (walk_on (pieces_words pieces ++ words_behind behind)) (step (waiting verb o a name) value) (at verb (o ++ g ∷ []) a) _
     (apart_step verb o a name value p.0.1 p.0.2 ∙ put_fresh verb o a name value (fresh_there o g (options_of pieces) once) room)
-    (line_kept verb pieces behind (o ++ g ∷ []) a p.1 (rw moved once) (rw moved few) k ∙ ap (λ (x : List Given). Some (arrived verb x all (is_some behind))) moved))
+    (line_kept verb pieces behind (o ++ g ∷ []) a p.1 (rw moved once) (rw moved few) ∙ ap (λ (x : List Given). Some (arrived verb x all (is_some behind))) moved))
 
 abbrev names : List Word
 names = map (λ (row : Row). row.name) rows
@@ -81,10 +77,10 @@ all_known verb (Apart name value ∷ pieces) p = pair _ _ (name_known verb name 
 pub line_walked : (verb : Verb) (line : Line) → IsLine verb line → walked verb (line_words line) ≡ Some (arrived verb (options_of line.pieces) (words_alone line) (is_some line.behind))
 line_walked verb line is =
     let fits : length (options_of line.pieces) ≤ 24 = few names (options_of line.pieces) is.1 (all_known verb line.pieces is.0) in
-    ap (next finished) (line_kept verb line.pieces line.behind [] [] is.0 is.1 fits is.2)
+    ap (next finished) (line_kept verb line.pieces line.behind [] [] is.0 is.1 fits)
 
 -- and back
-next_some : (f : Walk → Option Walk) (o : Option Walk) (w : Walk) → next f o ≡ Some w → (s : Walk) × (o ≡ Some s) × (f s ≡ Some w)
+pub next_some : (f : Walk → Option Walk) (o : Option Walk) (w : Walk) → next f o ≡ Some w → (s : Walk) × (o ≡ Some s) × (f s ≡ Some w)
 next_some f None w h = absurd (cc h)
 next_some f (Some s) w h = (s, refl, h)
 
@@ -96,34 +92,24 @@ pub record Split (verb : Verb) (words : List Word) (o : List Given) (a : List Wo
   pub options : w.options ≡ o ++ options_of pieces
   pub once : none_twice same_name w.options ≡ true
   pub alone : w.alone ≡ a ++ (plain_words pieces ++ alone_behind behind)
-  pub fits : length w.alone ≤ 34
-
--- of a word that stands by itself
-put_back : (w v : Walk) (word : Word) → put_alone w word ≡ Some v → (length w.alone < 34) × (v ≡ record w { alone = w.alone ++ word ∷ [] })
-put_back w v word is = let c = chosen (ltb (length w.alone) 34) (Some (record w { alone = w.alone ++ word ∷ [] })) v is in (grind (arith, nat_tests, c.0), sym (same_walk (record w { alone = w.alone ++ word ∷ [] }) v c.1))
 
 record EndSplit (o : List Given) (words a : List Word) (w : Walk) : Type 0 where
   alone : w.alone ≡ a ++ words
   options : w.options ≡ o
-  fits : length w.alone ≤ 34
 
-end_split : (verb : Verb) (o : List Given) (words : List Word) (a : List Word) (w : Walk) → length a ≤ 34 → walk_on words (behind_end verb o a) ≡ Some w → EndSplit o words a w
-end_split verb o [] a w small is =
+end_split : (verb : Verb) (o : List Given) (words : List Word) (a : List Word) (w : Walk) → walk_on words (behind_end verb o a) ≡ Some w → EndSplit o words a w
+end_split verb o [] a w is =
     let e = same_walk (behind_end verb o a) w is in
     record {
       alone = sym (ap (λ (x : Walk). x.alone) e) ∙ sym (append-nil a);
       options = sym (ap (λ (x : Walk). x.options) e);
-      fits = subst (λ (x : Walk). length x.alone ≤ 34) e small;
     }
-end_split verb o (word ∷ words) a w small is =
-    let n = next_some (walk_on words) (put_alone (behind_end verb o a) word) w is in
-    let p = put_back (behind_end verb o a) n.0 word n.1 in
-    let longer : length (a ++ word ∷ []) ≤ 34 = omega (arith, p.0, length-append a (word ∷ [])) in
-    let r = end_split verb o words (a ++ word ∷ []) w longer (subst (λ (x : Walk). walk_on words x ≡ Some w) p.1 n.2) in
-    record { alone = r.alone ∙ append_assoc a (word ∷ []) words; options = r.options; fits = r.fits }
+end_split verb o (word ∷ words) a w is =
+    let r = end_split verb o words (a ++ word ∷ []) w is in
+    record { alone = r.alone ∙ append_assoc a (word ∷ []) words; options = r.options }
 
 abbrev Splits : Verb → List Word → Walk → Type 0
-Splits verb words w = (o : List Given) (a : List Word) → none_twice same_name o ≡ true → length a ≤ 34 → walk_on words (at verb o a) ≡ Some w → Split verb words o a w
+Splits verb words w = (o : List Given) (a : List Word) → none_twice same_name o ≡ true → walk_on words (at verb o a) ≡ Some w → Split verb words o a w
 
 abbrev SplitsBehind : Verb → List Word → Walk → Type 0
 SplitsBehind verb [] w = Unit {0}
@@ -131,16 +117,16 @@ SplitsBehind verb (value ∷ words) w = Splits verb words w
 
 module _ (verb : Verb) (w : Walk) (done : w.waits ≡ None) where
   -- behind the name of an option
-  with_value : (name : Word) (words : List Word) (o : List Given) (a : List Word) → SplitsBehind verb words w → none_twice same_name o ≡ true → length a ≤ 34 → takes_value verb name ≡ Some true → walk_on words (waiting verb o a name) ≡ Some w → Split verb (name ∷ words) o a w
-  with_value name [] o a later once small takes is =
+  with_value : (name : Word) (words : List Word) (o : List Given) (a : List Word) → SplitsBehind verb words w → none_twice same_name o ≡ true → takes_value verb name ≡ Some true → walk_on words (waiting verb o a name) ≡ Some w → Split verb (name ∷ words) o a w
+  with_value name [] o a later once takes is =
       let e = same_walk (waiting verb o a name) w is in
       let waits : ◌≡◌ {A = Option Word} (Some name) None = ap (λ (x : Walk). x.waits) e ∙ done in
       absurd (cc waits)
-  with_value name (value ∷ words) o a later once small takes is =
+  with_value name (value ∷ words) o a later once takes is =
       let n = next_some (walk_on words) (step (waiting verb o a name) value) w is in
       let v = value_back verb o a name value n.0 n.1 in
       let g = given name value in
-      let r = later (o ++ g ∷ []) a (once_more o g once v.free) small (subst (λ (x : Walk). walk_on words x ≡ Some w) v.after n.2) in
+      let r = later (o ++ g ∷ []) a (once_more o g once v.free) (subst (λ (x : Walk). walk_on words x ≡ Some w) v.after n.2) in
       record {
         pieces = Apart name value ∷ r.pieces;
         behind = r.behind;
@@ -149,12 +135,11 @@ module _ (verb : Verb) (w : Walk) (done : w.waits ≡ None) where
         options = r.options ∙ append_assoc o (g ∷ []) (options_of r.pieces);
         once = r.once;
         alone = r.alone;
-        fits = r.fits;
       }
 
-  one : (word : Word) (words : List Word) → Splits verb words w → SplitsBehind verb words w → (o : List Given) (a : List Word) → none_twice same_name o ≡ true → length a ≤ 34 → (s : Walk) → Stepped verb o a word s → walk_on words s ≡ Some w → Split verb (word ∷ words) o a w
-  one word words rest later o a once small s (Ends is after) on =
-      let e = end_split verb o words a w small (subst (λ (x : Walk). walk_on words x ≡ Some w) after on) in
+  one : (word : Word) (words : List Word) → Splits verb words w → SplitsBehind verb words w → (o : List Given) (a : List Word) → none_twice same_name o ≡ true → (s : Walk) → Stepped verb o a word s → walk_on words s ≡ Some w → Split verb (word ∷ words) o a w
+  one word words rest later o a once s (Ends is after) on =
+      let e = end_split verb o words a w (subst (λ (x : Walk). walk_on words x ≡ Some w) after on) in
       record {
         pieces = [];
         behind = Some words;
@@ -163,11 +148,9 @@ module _ (verb : Verb) (w : Walk) (done : w.waits ≡ None) where
         options = e.options ∙ sym (append-nil o);
         once = subst (λ (x : List Given). none_twice same_name x ≡ true) (sym e.options) once;
         alone = e.alone;
-        fits = e.fits;
       }
-  one word words rest later o a once small s (Alone plain room after) on =
-      let longer : length (a ++ word ∷ []) ≤ 34 = omega (arith, room, length-append a (word ∷ [])) in
-      let r = rest o (a ++ word ∷ []) once longer (subst (λ (x : Walk). walk_on words x ≡ Some w) after on) in
+  one word words rest later o a once s (Alone plain after) on =
+      let r = rest o (a ++ word ∷ []) once (subst (λ (x : Walk). walk_on words x ≡ Some w) after on) in
       record {
         pieces = Plain word ∷ r.pieces;
         behind = r.behind;
@@ -176,11 +159,10 @@ module _ (verb : Verb) (w : Walk) (done : w.waits ≡ None) where
         options = r.options;
         once = r.once;
         alone = r.alone ∙ append_assoc a (word ∷ []) (plain_words r.pieces ++ alone_behind r.behind);
-        fits = r.fits;
       }
-  one word words rest later o a once small s (Joins name value is takes some free after) on =
+  one word words rest later o a once s (Joins name value is takes some free after) on =
       let g = given name value in
-      let r = rest (o ++ g ∷ []) a (once_more o g once free) small (subst (λ (x : Walk). walk_on words x ≡ Some w) after on) in
+      let r = rest (o ++ g ∷ []) a (once_more o g once free) (subst (λ (x : Walk). walk_on words x ≡ Some w) after on) in
       record {
         pieces = Joined name value ∷ r.pieces;
         behind = r.behind;
@@ -189,12 +171,11 @@ module _ (verb : Verb) (w : Walk) (done : w.waits ≡ None) where
         options = r.options ∙ append_assoc o (g ∷ []) (options_of r.pieces);
         once = r.once;
         alone = r.alone;
-        fits = r.fits;
       }
-  one word words rest later o a once small s (Waits takes after) on = with_value word words o a later once small takes (subst (λ (x : Walk). walk_on words x ≡ Some w) after on)
-  one word words rest later o a once small s (Flags takes free after) on =
+  one word words rest later o a once s (Waits takes free after) on = with_value word words o a later once takes (subst (λ (x : Walk). walk_on words x ≡ Some w) after on)
+  one word words rest later o a once s (Flags takes free after) on =
       let g = given word [] in
-      let r = rest (o ++ g ∷ []) a (once_more o g once free) small (subst (λ (x : Walk). walk_on words x ≡ Some w) after on) in
+      let r = rest (o ++ g ∷ []) a (once_more o g once free) (subst (λ (x : Walk). walk_on words x ≡ Some w) after on) in
       record {
         pieces = Flag word ∷ r.pieces;
         behind = r.behind;
@@ -203,16 +184,15 @@ module _ (verb : Verb) (w : Walk) (done : w.waits ≡ None) where
         options = r.options ∙ append_assoc o (g ∷ []) (options_of r.pieces);
         once = r.once;
         alone = r.alone;
-        fits = r.fits;
       }
 
   next_one : (word : Word) (words : List Word) → Splits verb words w → SplitsBehind verb words w → Splits verb (word ∷ words) w
-  next_one word words rest later o a once small is =
+  next_one word words rest later o a once is =
       let n = next_some (walk_on words) (step (at verb o a) word) w is in
-      one word words rest later o a once small n.0 (stepped verb o a word n.0 n.1) n.2
+      one word words rest later o a once n.0 (stepped verb o a word n.0 n.1) n.2
 
   split : (words : List Word) → Splits verb words w
-  split [] o a once small is =
+  split [] o a once is =
       let e = same_walk (at verb o a) w is in
       record {
         pieces = [];
@@ -222,10 +202,9 @@ module _ (verb : Verb) (w : Walk) (done : w.waits ≡ None) where
         options = sym (ap (λ (x : Walk). x.options) e) ∙ sym (append-nil o);
         once = subst (λ (x : Walk). none_twice same_name x.options ≡ true) e once;
         alone = sym (ap (λ (x : Walk). x.alone) e) ∙ sym (append-nil a);
-        fits = subst (λ (x : Walk). length x.alone ≤ 34) e small;
       }
-  split (word ∷ []) o a once small is = next_one word [] (split []) tt o a once small is
-  split (word ∷ (value ∷ words)) o a once small is = next_one word (value ∷ words) (split (value ∷ words)) (split words) o a once small is
+  split (word ∷ []) o a once is = next_one word [] (split []) tt o a once is
+  split (word ∷ (value ∷ words)) o a once is = next_one word (value ∷ words) (split (value ∷ words)) (split words) o a once is
 
 -- the line that was read
 pub record IsRead (verb : Verb) (words : List Word) (w : Walk) : Type 0 where
@@ -235,7 +214,7 @@ pub record IsRead (verb : Verb) (words : List Word) (w : Walk) : Type 0 where
   pub options : w.options ≡ options_of line.pieces
   pub alone : w.alone ≡ words_alone line
 
-ended : (s w : Walk) → finished s ≡ Some w → (s ≡ w) × (w.waits ≡ None)
+pub ended : (s w : Walk) → finished s ≡ Some w → (s ≡ w) × (w.waits ≡ None)
 ended s w is = by_case s.waits refl is
   where
     by_case : (t : Option Word) → s.waits ≡ t → (cond (is_some t) None (Some s)) ≡ Some w → (s ≡ w) × (w.waits ≡ None)
@@ -246,11 +225,11 @@ pub walk_read : (verb : Verb) (words : List Word) (w : Walk) → walked verb wor
 walk_read verb words w is =
     let n = next_some finished (walk_on words (fresh verb)) w is in
     let e = ended n.0 w n.2 in
-    let r = split verb w e.1 words [] [] refl (omega arith) (n.1 ∙ ap (λ (x : Walk). Some x) e.0) in
+    let r = split verb w e.1 words [] [] refl (n.1 ∙ ap (λ (x : Walk). Some x) e.0) in
     record {
       line = record { pieces = r.pieces; behind = r.behind };
       spelt = r.spelt;
-      proper = (r.proper, subst (λ (x : List Given). none_twice same_name x ≡ true) r.options r.once, subst (λ (x : List Word). length x ≤ 34) r.alone r.fits);
+      proper = (r.proper, subst (λ (x : List Given). none_twice same_name x ≡ true) r.options r.once);
       options = r.options;
       alone = r.alone;
     }

@@ -1,6 +1,8 @@
 pub mod Texts
 pub mod Rules
 pub mod Options
+pub mod Values
 pub mod Meaning
+pub mod Stops
 pub mod Walking
 pub mod Narrowing

@@ -1,5 +1,5 @@
 -- What the words of a command line mean.
-use Rattle.std.specs.Prelude.{◌≡◌, ℕ, ◌+◌, ◌%◌, ◌^◌, ◌<◌, ◌≤◌, ◌||◌, nat_lt, Bool, true, false, List, [], ◌∷◌, length, codes, Option, Some, None, is_some, Result, Ok, Err, MatchOption, if◌then◌else◌}
+use Rattle.std.specs.Prelude.{◌≡◌, ◌⊎◌, ℕ, ◌+◌, ◌%◌, ◌^◌, ◌<◌, ◌≤◌, ◌||◌, nat_lt, Bool, true, false, List, [], ◌∷◌, length, codes, Option, Some, None, is_some, Result, Ok, Err, MatchOption, if◌then◌else◌}
 use Rattle.std.specs.Option.{option_map, option_map_or}
 use Rattle.net_octets.specs.declared.Endpoint.{Endpoint}
 use Rattle.host_policy.specs.Addresses.{Config}
@@ -9,7 +9,7 @@ use Rattle.host_policy.specs.declared.config.Field.{Field}
 use Rattle.host_policy.specs.declared.config.Field.TheVariants.{Octets}
 use Rattle.world_face.specs.Journal.{IsPlace, Place, place_of}
 use Rattle.slirp_config.specs.declared.Command.{Command}
-use Rattle.slirp_config.specs.declared.Command.TheVariants.{Drive as DriveOf, Replay as ReplayOf, Serve as ServeOf}
+use Rattle.slirp_config.specs.declared.Command.TheVariants.{Drive as DriveOf, Help as HelpOf, Replay as ReplayOf, Serve as ServeOf, Version as VersionOf}
 use Rattle.slirp_config.specs.declared.Tap.{Tap}
 use Rattle.slirp_config.specs.declared.Tap.TheVariants.{Record, Capture}
 use Rattle.slirp_config.specs.declared.WordFault.{WordFault}
@@ -20,23 +20,29 @@ use Rattle.slirp_config.specs.Rules.{AreRules}
 use Rattle.address_text.specs.Texts.{IsNumber, IsAddress, IsEndpointText}
 use Rattle.slirp_config.specs.Texts.{IsNetwork, IsLink, held_folder, held_text}
 
--- A schedule in a file is replayed, or the link at a place is served, with these settings, and perhaps what is called is recorded or the link's frames are captured; or a drill of so many octets is run, on a World that is made from a number.
+-- A schedule in a file is replayed, or the link at a place is served, with these settings, and perhaps what is called is recorded or the link's frames are captured; or a drill of so many octets is run, on a World that is made from a number; or how the words are written is told, or the version.
 pub data Meaning : Type 0 where
   Replays : (file : Word) (config : Config) → Meaning
   Serves : (config : Config) (at : Place) (tap : Tap) → Meaning
   Drives : (number octets : ℕ) → Meaning
+  Helps : Meaning
+  TellsVersion : Meaning
 
--- those of a drill are the usual ones
+-- those of a drill are the usual ones, as are those where nothing is run
 abbrev pub config_of : Meaning → Config
 config_of (Replays file config) = config
 config_of (Serves config at tap) = config
 config_of (Drives number octets) = usual
+config_of Helps = usual
+config_of TellsVersion = usual
 
 -- The first field that isn't in its range. A drill has up to 10,000,000 octets; they are checked as a field of their own, which no settings have.
 abbrev pub broken_in : Meaning → Option Field
 broken_in (Replays file config) = first_broken config
 broken_in (Serves config at tap) = first_broken config
 broken_in (Drives number octets) = if nat_lt 10000000 octets then Some Octets else None
+broken_in Helps = None
+broken_in TellsVersion = None
 
 -- a command with an option that only version 2 of the settings has is of that version
 abbrev pub version_of : (given : Word → Option Word) → ℕ
@@ -122,23 +128,33 @@ MeansServe words config at tap =
 abbrev pub MeansDrive : List Word → (number octets : ℕ) → Type 0
 MeansDrive words number octets = (one : Word) × (two : Word) × (words ≡ one ∷ two ∷ []) × IsNumber 64 one number × IsNumber 64 two octets
 
+-- the word that tells how words are written, by itself
+abbrev pub IsHelp : Word → Type 0
+IsHelp word = (word ≡ codes "--help") ⊎ (word ≡ codes "help")
+
 -- The first word is the command. Words of another command mean nothing.
 abbrev pub Means : List Word → Meaning → Type 0
 Means words (Replays file config) = (behind : List Word) × (words ≡ codes "replay" ∷ behind) × MeansReplay behind file config
 Means words (Serves config at tap) = (behind : List Word) × (words ≡ codes "serve" ∷ behind) × MeansServe behind config at tap
 Means words (Drives number octets) = (behind : List Word) × (words ≡ codes "drive" ∷ behind) × MeansDrive behind number octets
+Means words Helps = (word : Word) × (words ≡ word ∷ []) × IsHelp word
+Means words TellsVersion = words ≡ codes "--version" ∷ []
 
 -- what a command says
 abbrev pub said : Command → Meaning
 said (ReplayOf file config) = Replays file.bytes (settings config)
 said (ServeOf config at tap) = Serves (settings config) (place_of at) tap
 said (DriveOf number octets) = Drives number octets
+said HelpOf = Helps
+said VersionOf = TellsVersion
 
 -- the link can be opened there
 abbrev pub HasPlace : Meaning → Type 0
 HasPlace (Replays file config) = Unit {0}
 HasPlace (Serves config at tap) = IsPlace at
 HasPlace (Drives number octets) = Unit {0}
+HasPlace Helps = Unit {0}
+HasPlace TellsVersion = Unit {0}
 
 -- Words of this meaning are answered by it where each field is in its range, else by the first that isn't.
 abbrev pub AnswersBy : Result Command WordFault → Meaning → Type 0

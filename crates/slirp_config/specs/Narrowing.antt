@@ -4,7 +4,7 @@ use Rattle.host_policy.specs.Addresses.{Config}
 use Rattle.host_policy.specs.Targets.{anywhere}
 use Rattle.host_policy.specs.declared.Forward.{Forward}
 use Rattle.host_policy.specs.declared.Proto.TheVariants.{Tcp}
-use Rattle.slirp_config.specs.Meaning.{Meaning, Replays, Serves, Drives}
+use Rattle.slirp_config.specs.Meaning.{Meaning, Replays, Serves, Drives, Helps, TellsVersion}
 
 -- a number that 32 bits don't hold is the greatest that they hold
 abbrev pub narrowed : ℕ → ℕ
@@ -25,3 +25,5 @@ abbrev pub narrowed_meaning : Meaning → Meaning
 narrowed_meaning (Replays file config) = Replays file (narrowed_settings config)
 narrowed_meaning (Serves config at tap) = Serves (narrowed_settings config) at tap
 narrowed_meaning (Drives number octets) = Drives number octets
+narrowed_meaning Helps = Helps
+narrowed_meaning TellsVersion = TellsVersion

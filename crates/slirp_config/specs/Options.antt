@@ -1,57 +1,58 @@
 -- The options, and what a command line is made of.
-use Rattle.std.specs.Prelude.{◌≡◌, ℕ, ◌==◌, ◌&&◌, ◌<◌, ◌≤◌, not, Bool, true, false, List, [], ◌∷◌, ◌++◌, length, bytes_eq, codes, Option, Some, None, find}
+use Rattle.std.specs.Prelude.{◌≡◌, ℕ, ◌==◌, ◌&&◌, ◌<◌, not, Bool, true, false, List, [], ◌∷◌, ◌++◌, length, bytes_eq, codes, Option, Some, None, find}
 use Rattle.std.specs.Option.{option_map}
 use Rattle.host_policy.specs.Ranges.{none_twice}
+use Rattle.slirp_config.specs.declared.options.Kind.{Kind}
+use Rattle.slirp_config.specs.declared.options.Kind.TheVariants.{Nothing, Text, Short, Number, Address, AddressPort, Network, Link}
 use Rattle.slirp_config.specs.declared.options.Verb.{Verb}
 use Rattle.slirp_config.specs.declared.options.Verb.TheVariants.{Replay, Serve}
 
 abbrev pub Word : Type 0
 Word = List ℕ
 
--- an option, its name with the dashes: whether it has a value, else it is a flag; and whether `serve` alone has it
+-- an option, its name with the dashes: what its value can be, and whether `serve` alone has it
 pub record Row : Type 0 where
   pub name : Word
-  pub has_value : Bool
+  pub kind : Kind
   pub serve_alone : Bool
 
-abbrev pub valued : Word → Row
-valued name = record { name = name; has_value = true; serve_alone = false }
+-- one without a value is a flag
+abbrev pub has_value : Kind → Bool
+has_value Nothing = false
+has_value _ = true
 
-abbrev pub flag : Word → Row
-flag name = record { name = name; has_value = false; serve_alone = false }
+abbrev pub of_all : Word → Kind → Row
+of_all name kind = record { name = name; kind = kind; serve_alone = false }
 
-abbrev pub valued_of_serve : Word → Row
-valued_of_serve name = record { name = name; has_value = true; serve_alone = true }
-
-abbrev pub flag_of_serve : Word → Row
-flag_of_serve name = record { name = name; has_value = false; serve_alone = true }
+abbrev pub of_serve : Word → Kind → Row
+of_serve name kind = record { name = name; kind = kind; serve_alone = true }
 
 abbrev pub rows : List Row
 rows =
-    valued_of_serve (codes "--link")
-    ∷ flag_of_serve (codes "--record")
-    ∷ flag_of_serve (codes "--capture")
-    ∷ valued (codes "--net")
-    ∷ valued (codes "--host")
-    ∷ valued (codes "--dns")
-    ∷ valued (codes "--dhcpstart")
-    ∷ flag (codes "--restrict")
-    ∷ flag (codes "--no-loopback")
-    ∷ valued (codes "--hostname")
-    ∷ valued (codes "--domainname")
-    ∷ valued (codes "--tftp-server-name")
-    ∷ valued (codes "--bootfile")
-    ∷ valued (codes "--mtu")
-    ∷ valued (codes "--mru")
-    ∷ valued (codes "--flows")
-    ∷ valued (codes "--ring")
-    ∷ valued (codes "--turns")
-    ∷ flag (codes "--congestion")
-    ∷ flag (codes "--no-dhcp")
-    ∷ valued (codes "--resolver")
-    ∷ flag (codes "--no-dns")
-    ∷ valued (codes "--outbound")
-    ∷ valued (codes "--tftp")
+    of_serve (codes "--link") Link
+    ∷ of_serve (codes "--record") Nothing
+    ∷ of_serve (codes "--capture") Nothing
+    ∷ of_all (codes "--net") Network
+    ∷ of_all (codes "--host") Address
+    ∷ of_all (codes "--dns") Address
+    ∷ of_all (codes "--dhcpstart") Address
+    ∷ of_all (codes "--restrict") Nothing
+    ∷ of_all (codes "--no-loopback") Nothing
+    ∷ of_all (codes "--hostname") Text
+    ∷ of_all (codes "--domainname") Text
+    ∷ of_all (codes "--tftp-server-name") Text
+    ∷ of_all (codes "--bootfile") Text
+    ∷ of_all (codes "--mtu") Short
+    ∷ of_all (codes "--mru") Short
+    ∷ of_all (codes "--flows") Number
+    ∷ of_all (codes "--ring") Number
+    ∷ of_all (codes "--turns") Number
+    ∷ of_all (codes "--congestion") Nothing
+    ∷ of_all (codes "--no-dhcp") Nothing
+    ∷ of_all (codes "--resolver") AddressPort
+    ∷ of_all (codes "--no-dns") Nothing
+    ∷ of_all (codes "--outbound") Address
+    ∷ of_all (codes "--tftp") Text
     ∷ []
 
 abbrev pub has_row : Verb → Row → Bool
@@ -61,9 +62,13 @@ has_row Replay row = not row.serve_alone
 abbrev pub is_row : Verb → Word → Row → Bool
 is_row verb name row = bytes_eq row.name name && has_row verb row
 
--- whether the command's option of this name has a value; None where it has no such option
+-- what the value of the command's option of this name can be; None where it has no such option
+abbrev pub kind_of : Verb → Word → Option Kind
+kind_of verb name = option_map (λ row. row.kind) (find (is_row verb name) rows)
+
+-- whether it has a value
 abbrev pub takes_value : Verb → Word → Option Bool
-takes_value verb name = option_map (λ row. row.has_value) (find (is_row verb name) rows)
+takes_value verb name = option_map has_value (kind_of verb name)
 
 -- an option that was given, with its value; that of a flag is empty
 pub record Given : Type 0 where
@@ -144,9 +149,9 @@ words_alone line = plain_words line.pieces ++ alone_behind line.behind
 abbrev pub same_name : Given → Given → Bool
 same_name a b = bytes_eq a.name b.name
 
--- each option stands at most once, and at most 34 words stand by themselves: a file, and one RULE more than the settings have room for
+-- each option stands at most once
 abbrev pub IsLine : Verb → Line → Type 0
-IsLine verb line = ArePieces verb line.pieces × (none_twice same_name (options_of line.pieces) ≡ true) × (length (words_alone line) ≤ 34)
+IsLine verb line = ArePieces verb line.pieces × (none_twice same_name (options_of line.pieces) ≡ true)
 
 -- the value with which the option of this name is given; None where it isn't
 abbrev pub value_in : List Given → Word → Option Word

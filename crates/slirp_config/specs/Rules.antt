@@ -45,3 +45,11 @@ AreRules [] dhcp_start [] = Unit {0}
 AreRules [] dhcp_start (forward ∷ forwards) = ⊥
 AreRules (word ∷ words) dhcp_start [] = ⊥
 AreRules (word ∷ words) dhcp_start (forward ∷ forwards) = IsRule word dhcp_start forward × AreRules words dhcp_start forwards
+
+-- A word is a RULE or isn't, whichever address is the first that is lent.
+abbrev pub IsRuleWord : (text : List ℕ) → Type 0
+IsRuleWord text = (forward : Forward) × IsRule text 0 forward
+
+abbrev pub AreRuleWords : (words : List (List ℕ)) → Type 0
+AreRuleWords [] = Unit {0}
+AreRuleWords (word ∷ words) = IsRuleWord word × AreRuleWords words

@@ -17,6 +17,10 @@ IsLinkPlace (AtEndpoint at) = IsEndpoint at
 abbrev pub IsLink : (text : List ℕ) (at : Place) → Type 0
 IsLink text at = (text ≡ place_text at) × IsLinkPlace at
 
+-- the name of a file has 1 to 1,280 octets
+abbrev pub IsFile : (word : List ℕ) → Type 0
+IsFile word = (0 < length word) × (length word ≤ 1280)
+
 -- a text as the settings hold it. One of more octets than there is room for isn't held: in its place stands an octet that no text has, for which its field is refused
 abbrev pub held : (room : ℕ) → List ℕ → List ℕ
 held room text = if nat_le (length text) room then text else 0 ∷ []

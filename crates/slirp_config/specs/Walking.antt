@@ -1,14 +1,21 @@
 -- The walk over the words behind a command: what is kept of those that were read, and what the next one adds.
-use Rattle.std.specs.Prelude.{ℕ, ◌==◌, ◌&&◌, not, nat_lt, Bool, true, false, List, [], ◌∷◌, ◌++◌, length, bytes_eq, codes, map, Option, Some, None, is_some, option_copied, if◌then◌else◌}
-use Rattle.std.specs.List.{before_first, after_first, position_or_len}
+use Rattle.std.specs.Prelude.{◌≡◌, ℕ, ◌+◌, ◌==◌, ◌&&◌, ◌||◌, not, nat_lt, Bool, true, false, List, [], ◌∷◌, ◌++◌, length, take, bytes_eq, codes, map, MatchBool, MatchOption, Option, Some, None, is_some, option_copied, if◌then◌else◌}
+use Rattle.std.specs.List.{before_first, after_first, list_all, list_any, position_or_len}
+use Rattle.host_policy.specs.Ranges.{none_twice}
 use Rattle.slirp_config.specs.declared.options.Verb.{Verb}
+use Rattle.slirp_config.specs.declared.options.Verb.TheVariants.{Replay, Serve}
 use Rattle.slirp_config.specs.declared.line.Given.{Given as GivenHere}
 use Rattle.slirp_config.specs.declared.line.Line.{Line as LineHere}
 use Rattle.slirp_config.specs.declared.options.Row.{Row as RowHere}
-use Rattle.slirp_config.specs.Options.{Word, Given, Row, is_dashed, takes_value, value_in}
+use Rattle.slirp_config.specs.declared.Stop.{Stop}
+use Rattle.slirp_config.specs.declared.Stop.TheVariants.{Word as AtWord, End as AtEnd}
+use Rattle.slirp_config.specs.Options.{Word, Given, Row, is_dashed, kind_of, rows, same_name, takes_value, value_in}
+use Rattle.slirp_config.specs.Values.{CanHave}
+use Rattle.slirp_config.specs.Rules.{AreRuleWords, IsRuleWord}
+use Rattle.slirp_config.specs.Texts.{IsFile}
 
 abbrev pub row_of : RowHere → Row
-row_of row = record { name = row.name.now; has_value = row.has_value; serve_alone = row.serve_alone }
+row_of row = record { name = row.name.now; kind = row.kind; serve_alone = row.serve_alone }
 
 -- the options that were given; the words that stand by themselves; the option that waits for its value; and whether `--` came
 pub record Walk : Type 0 where
@@ -34,9 +41,9 @@ put_option walk name value =
     then Some (record walk { options = walk.options ++ record { name = name; value = value } ∷ [] })
     else None
 
--- at most 34 words stand by themselves
-abbrev pub put_alone : Walk → Word → Option Walk
-put_alone walk word = if nat_lt (length walk.alone) 34 then Some (record walk { alone = walk.alone ++ word ∷ [] }) else None
+-- one more word stands by itself; `keep` says how many of these are kept
+abbrev pub put_alone : (keep : List Word → List Word) → Walk → Word → Option Walk
+put_alone keep walk word = Some (record walk { alone = keep (walk.alone ++ word ∷ []) })
 
 -- a value that stands apart
 abbrev pub put_apart : Walk → Word → Word → Option Walk
@@ -50,12 +57,12 @@ put_joined walk name value =
       | Some takes ↦ if takes && nat_lt 0 (length value) then put_option walk name value else None
     ]
 
--- a name alone: a flag, or an option that waits for its value
+-- a name alone: a flag, or an option that wasn't given yet and waits for its value
 abbrev pub put_name : Walk → Word → Option Walk
 put_name walk name =
     elim (takes_value walk.verb name) [
       | None ↦ None
-      | Some takes ↦ if takes then Some (record walk { waits = Some name }) else put_option walk name []
+      | Some takes ↦ if takes then (if not (is_some (value_in walk.options name)) then Some (record walk { waits = Some name }) else None) else put_option walk name []
     ]
 
 abbrev pub is_sign : ℕ → Bool
@@ -67,15 +74,91 @@ put_dashed walk word =
     then put_joined walk (before_first is_sign word) (after_first is_sign word)
     else put_name walk word
 
-abbrev pub begin : Walk → Word → Option Walk
-begin walk word =
+abbrev pub begin : (keep : List Word → List Word) → Walk → Word → Option Walk
+begin keep walk word =
     if bytes_eq word (codes "--") then Some (record walk { ended = true })
-    else (if is_dashed word then put_dashed walk word else put_alone walk word)
+    else (if is_dashed word then put_dashed walk word else put_alone keep walk word)
 
+abbrev pub step_with : (keep : List Word → List Word) → Walk → Word → Option Walk
+step_with keep walk word =
+    if walk.ended then put_alone keep walk word
+    else elim walk.waits [ None ↦ begin keep walk word | Some name ↦ put_apart walk name word ]
+
+-- all words that stand by themselves are kept
 abbrev pub step : Walk → Word → Option Walk
-step walk word =
-    if walk.ended then put_alone walk word
-    else elim walk.waits [ None ↦ begin walk word | Some name ↦ put_apart walk name word ]
+step walk word = step_with (λ words. words) walk word
+
+-- A line has room for the first 34 of them: a file, and one RULE more than the settings have room for.
+abbrev pub kept : List Word → List Word
+kept words = take 34 words
+
+abbrev pub kept_of : Walk → Walk
+kept_of walk = record walk { alone = kept walk.alone }
+
+abbrev pub is_replay : Verb → Bool
+is_replay Replay = true
+is_replay Serve = false
+
+-- a word that stands by itself is the name of a file where `replay` has none yet, else a RULE
+abbrev pub IsWanted : (is_file : Bool) → Word → Type 0
+IsWanted is_file word = MatchBool is_file (IsFile word) (IsRuleWord word)
+
+abbrev pub has_none : List Word → Bool
+has_none [] = true
+has_none (word ∷ words) = false
+
+abbrev pub wants_file : Walk → Bool
+wants_file walk = is_replay walk.verb && has_none walk.alone
+
+abbrev pub stands_alone : Walk → Word → Bool
+stands_alone walk word = walk.ended || (not (is_some walk.waits) && not (is_dashed word))
+
+-- the option that a word completes
+abbrev pub flag_of : Verb → Word → Option Given
+flag_of verb word =
+    elim (takes_value verb word) [
+      | None ↦ None
+      | Some takes ↦ if takes then None else Some (record { name = word; value = [] })
+    ]
+
+abbrev pub named : Verb → Word → Option Given
+named verb word =
+    if nat_lt (position_or_len is_sign word) (length word)
+    then Some (record { name = before_first is_sign word; value = after_first is_sign word })
+    else flag_of verb word
+
+abbrev pub completed : Walk → Word → Option Given
+completed walk word =
+    if walk.ended then None
+    else elim walk.waits [ None ↦ if is_dashed word then named walk.verb word else None | Some name ↦ Some (record { name = name; value = word }) ]
+
+-- its value is one that it can have
+abbrev pub IsGiven : Verb → Given → Type 0
+IsGiven verb given = MatchOption (kind_of verb given.name) (Unit {0}) (λ kind. CanHave kind given.value)
+
+-- a run isn't recorded and captured
+abbrev pub is_both : List Given → Bool
+is_both options = is_some (value_in options (codes "--record")) && is_some (value_in options (codes "--capture"))
+
+-- behind `--` the place of the link can't be told any more
+abbrev pub has_link : Verb → List Given → Bool
+has_link verb options = is_replay verb || is_some (value_in options (codes "--link"))
+
+abbrev pub ends : Walk → Word → Bool
+ends walk word = not walk.ended && not (is_some walk.waits) && bytes_eq word (codes "--")
+
+abbrev pub can_end : Walk → Word → Bool
+can_end walk word = not (ends walk word) || has_link walk.verb walk.options
+
+abbrev pub FitsAlone : Walk → Word → Type 0
+FitsAlone walk word = MatchBool (stands_alone walk word) (IsWanted (wants_file walk) word) (Unit {0})
+
+abbrev pub FitsOption : Walk → Word → Type 0
+FitsOption walk word = MatchOption (completed walk word) (Unit {0}) (λ given. IsGiven walk.verb given × (is_both (walk.options ++ given ∷ []) ≡ false))
+
+-- the next word is one with which a reading can go on, where it has a step
+abbrev pub Fits : Walk → Word → Type 0
+Fits walk word = FitsAlone walk word × FitsOption walk word × (can_end walk word ≡ true)
 
 abbrev pub next : (Walk → Option Walk) → Option Walk → Option Walk
 next go None = None
@@ -91,3 +174,53 @@ finished walk = if is_some walk.waits then None else Some walk
 
 abbrev pub walked : Verb → List Word → Option Walk
 walked verb words = next finished (walk_on words (fresh verb))
+
+-- the words that stand by themselves are what their places want
+abbrev pub AreWanted : Verb → List Word → Type 0
+AreWanted Replay [] = Unit {0}
+AreWanted Replay (file ∷ rules) = IsFile file × AreRuleWords rules
+AreWanted Serve rules = AreRuleWords rules
+
+abbrev pub AreGiven : Verb → List Given → Type 0
+AreGiven verb [] = Unit {0}
+AreGiven verb (given ∷ options) = IsGiven verb given × AreGiven verb options
+
+-- what was read can go on to a reading
+pub record IsGood (walk : Walk) : Type 0 where
+  pub wanted : AreWanted walk.verb walk.alone
+  pub given : AreGiven walk.verb walk.options
+  pub one : is_both walk.options ≡ false
+  pub linked : walk.ended ≡ true → has_link walk.verb walk.options ≡ true
+
+abbrev pub option_names : List Word
+option_names = map (λ (row : Row). row.name) rows
+
+-- what every walk keeps: no option stands twice, each is in the table, and one that waits for its value has one and wasn't given
+pub record IsProper (walk : Walk) : Type 0 where
+  pub once : none_twice same_name walk.options ≡ true
+  pub known : list_all (λ (given : Given). list_any (λ name. bytes_eq name given.name) option_names) walk.options ≡ true
+  pub waiting : MatchOption walk.waits (Unit {0}) (λ name. (takes_value walk.verb name ≡ Some true) × (is_some (value_in walk.options name) ≡ false))
+  pub quiet : walk.ended ≡ true → walk.waits ≡ None
+
+-- Words are walked so far, and can go on.
+pub record Walks (verb : Verb) (words : List Word) : Type 0 where
+  pub walk : Walk
+  pub walks : walk_on words (fresh verb) ≡ Some walk
+  pub verb_is : walk.verb ≡ verb
+  pub good : IsGood walk
+  pub proper : IsProper walk
+
+-- the walk over words, of which a line keeps what it has room for
+pub record HasWalked (verb : Verb) (words : List Word) (line : LineHere) : Type 0 where
+  pub walk : Walk
+  pub walks : walked verb words ≡ Some walk
+  pub verb_is : walk.verb ≡ verb
+  pub good : IsGood walk
+  pub far : Walks verb words
+  pub keeps : kept_of walk ≡ walk_of line
+
+-- The walk stops at a word: those before it can go on, and nothing that begins with the words up to it can. Or all can go on, and an option waits for its value.
+abbrev pub WalkStops : Verb → List Word → Stop → Type 0
+WalkStops verb words (AtWord place) = (before : List Word) × (word : Word) × (behind : List Word) × (words ≡ before ++ word ∷ behind) × (place ≡ length before + 1)
+    × Walks verb before × ((more : List Word) (walk : Walk) → walked verb ((before ++ word ∷ []) ++ more) ≡ Some walk → ¬ IsGood walk)
+WalkStops verb words AtEnd = Walks verb words × ((walk : Walk) → walked verb words ≡ Some walk → ⊥)

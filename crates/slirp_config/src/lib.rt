@@ -2,8 +2,8 @@
 //!
 //! `replay FILE [OPTIONS] [RULE]...`, `serve --link AT [OPTIONS] [RULE]...` and `drive NUMBER OCTETS` have a reading; FILE has 1 to 1,280 octets. An option is written
 //! `--name value` or `--name=value`, a flag `--name`, each once and anywhere behind the command. Behind the word `--` no word is an option. No name is
-//! shortened and no value is empty; numbers are decimal digits without a needless zero in front. At most 34 words stand by themselves: the first of
-//! `replay` is FILE, and each other is a RULE.
+//! shortened and no value is empty; numbers are decimal digits without a needless zero in front. Of the words that stand by themselves
+//! the first of `replay` is FILE, and each other is a RULE.
 //!
 //! | Option | Value | Without it |
 //! |---|---|---|
@@ -34,7 +34,7 @@ mod rules;
 mod settings;
 mod values;
 
-ghost use Rattle.std.specs.Prelude.{◌≡◌, ℕ, List, Err, IfErr, IfOk, OnErr, OnOk, None, Some, map, nat_lt, true, ◌∷◌, ◌<◌, ◌≤◌, length, if◌then◌else◌};
+ghost use Rattle.std.specs.Prelude.{◌≡◌, ◌≢◌, ℕ, List, [], Err, IfErr, IfOk, MatchBool, OnErr, OnOk, None, Some, map, nat_lt, true, ◌∷◌, ◌<◌, ◌≤◌, length, if◌then◌else◌};
 ghost use Rattle.std.specs.String.{string_bytes};
 ghost use Rattle.std.specs.Result.{result_err};
 ghost use Rattle.host_policy.specs.Addresses.{Config};
@@ -43,10 +43,13 @@ ghost use Rattle.host_policy.specs.Settings.{usual};
 ghost use Rattle.host_policy.specs.declared.config.Field.{Field as AField};
 ghost use Rattle.host_policy.specs.declared.config.Field.TheVariants.{Octets};
 ghost use Rattle.world_face.specs.Journal.{Place};
-ghost use Rattle.slirp_config.specs.Meaning.{AnswersBy, Drives, HasPlace, Meaning, Means, MeansDrive, MeansReplay, MeansServe, Replays, Serves, broken_in, config_of, is_capture, is_record, said};
+ghost use Rattle.slirp_config.specs.Meaning.{AnswersBy, Drives, HasPlace, IsHelp, Meaning, Means, MeansDrive, MeansReplay, MeansServe, Replays, Serves, broken_in, config_of, is_capture, is_record, said};
 ghost use Rattle.slirp_config.specs.Narrowing.{narrowed_meaning, narrowed_settings};
 ghost use Rattle.slirp_config.specs.Options.{Word};
+ghost use Rattle.slirp_config.specs.Stops.{StopsAt, StopsBehind};
 ghost use Rattle.address_text.specs.Texts.{IsNumber};
+ghost use Rattle.slirp_config.specs.declared.Stop.{Stop as AStop};
+ghost use Rattle.slirp_config.specs.declared.Stop.TheVariants.{Word as AtWord};
 ghost use Rattle.slirp_config.specs.declared.Tap.{Tap as ATap};
 ghost use Rattle.slirp_config.specs.declared.WordFault.TheVariants.{BadConfig, Usage};
 
@@ -67,6 +70,10 @@ pub enum Command {
     Serve(SlirpConfig, LinkAt, Tap),
     /// A drill is run with the usual settings: from this number, of so many octets.
     Drive(u64, u64),
+    /// How the words are written is told.
+    Help,
+    /// The version is told.
+    Version,
 }
 
 /// What `serve` puts while it runs.
@@ -93,8 +100,17 @@ impl Command {
             Command::Replay(_, config) => config.check(),
             Command::Serve(config, ..) => config.check(),
             Command::Drive(_, octets) => check_driven(*octets),
+            Command::Help | Command::Version => check_usual(),
         }
     }
+}
+
+// The usual settings are in their ranges.
+fn check_usual() -> Result<(), Field>
+    ensures sound { OnOk result (IsSound usual) }
+    ensures first { result_err result ≡ None }
+{
+    Ok(())
 }
 
 // The octets of a drill are checked as a field that no settings have.
@@ -109,17 +125,26 @@ fn check_driven(octets: u64) -> Result<(), Field>
     }
 }
 
+/// Where the reading of words stops.
+#[derive(Clone, Copy, PartialEq)]
+pub enum Stop {
+    /// At the word of this place, counted from 0, the command first: no reading goes on with it, though some go on with those before it.
+    Word(usize),
+    /// Behind all of them: a word is missing.
+    End,
+}
+
 /// Why words aren't followed.
 #[derive(Clone, Copy, PartialEq)]
 pub enum WordFault {
-    /// They have no reading.
-    Usage,
+    /// They have no reading, which stops here.
+    Usage(Stop),
     /// They have one, and this is the first field of its settings that isn't in its range.
     BadConfig(Field),
 }
 
 /// Reads the words of the command line, without the program's name. Of `replay`, `serve` and `drive` they say what is asked for and with which settings, which are
-/// then checked; all other words have no reading.
+/// then checked; `--help` or `help`, and `--version`, stand alone; all other words have no reading.
 pub fn read_words(words: &Vec<String>) -> Result<Command, WordFault>
     // A command is what the words mean, with each field in its range.
     ensures meant { IfOk result (λ command. Means (map string_bytes words.now.items) (said command)) }
@@ -129,14 +154,14 @@ pub fn read_words(words: &Vec<String>) -> Result<Command, WordFault>
     // A field is named where the words mean something of which it is the first that isn't in its range.
     ensures bad_config { (field : AField) → result ≡ Err (BadConfig field) → (meaning : Meaning) × Means (map string_bytes words.now.items) meaning
         × (broken_in meaning ≡ Some field) }
-    // Words are refused where they mean nothing.
-    ensures usage { result ≡ Err Usage → (meaning : Meaning) → ¬ Means (map string_bytes words.now.items) meaning }
+    // Words are refused where they mean nothing, with the first word by which no reading can go on.
+    ensures usage { (stop : AStop) → result ≡ Err (Usage stop) → StopsAt (map string_bytes words.now.items) stop }
     // Whatever the words mean is answered: so each of the above comes exactly there.
     ensures only { (meaning : Meaning) → Means (map string_bytes words.now.items) meaning → AnswersBy result meaning }
 {
     match command_of(words.as_slice()) {
         Ok(command) => checked(command),
-        Err(_) => Err(WordFault::Usage),
+        Err(stop) => Err(WordFault::Usage(stop)),
     }
 }
 
@@ -160,14 +185,19 @@ fn checked(command: Command) -> Result<Command, WordFault>
     }
 }
 
+/// Where reading stops nothing is meant.
+pub fn stopped_words_mean_nothing()
+    ensures { (words : List Word) (stop : AStop) → StopsAt words stop → (meaning : Meaning) → ¬ Means words meaning }
+{}
+
 // What the words ask for.
-fn command_of(words: &[String]) -> Result<Command, NoReading>
+fn command_of(words: &[String]) -> Result<Command, Stop>
     ensures meant { IfOk result (λ command. (meaning : Meaning) × Means (map string_bytes words.now) meaning × (said command ≡ narrowed_meaning meaning)) }
     ensures place { IfOk result (λ command. HasPlace (said command)) }
-    ensures refused { OnErr result ((meaning : Meaning) → ¬ Means (map string_bytes words.now) meaning) }
+    ensures refused { IfErr result (λ stop. StopsAt (map string_bytes words.now) stop) }
 {
     let Some((command, behind)) = words.split_first() else {
-        return Err(NoReading);
+        return Err(Stop::End);
     };
     if command.as_str() == "replay" {
         return replay_of(behind);
@@ -178,22 +208,51 @@ fn command_of(words: &[String]) -> Result<Command, NoReading>
     if command.as_str() == "drive" {
         return drive_of(behind);
     }
-    Err(NoReading)
+    if is_help(command.as_str()) {
+        return alone(behind, Command::Help);
+    }
+    if command.as_str() == "--version" {
+        return alone(behind, Command::Version);
+    }
+    Err(Stop::Word(0))
+}
+
+// Whether a word asks how words are written.
+fn is_help(word: &str) -> bool
+    ensures { MatchBool result (IsHelp word.now) (¬ IsHelp word.now) }
+{
+    word == "--help" || word == "help"
+}
+
+// A command behind which no word stands.
+fn alone(behind: &[String], command: Command) -> Result<Command, Stop>
+    ensures alone { IfOk result (λ c. (c ≡ command) × (behind.now ≡ [])) }
+    ensures refused { IfErr result (λ stop. (stop ≡ AtWord 1) × (behind.now ≢ [])) }
+{
+    if behind.is_empty() {
+        Ok(command)
+    } else {
+        Err(Stop::Word(1))
+    }
 }
 
 // What the words behind `replay` ask for.
-fn replay_of(words: &[String]) -> Result<Command, NoReading>
+fn replay_of(words: &[String]) -> Result<Command, Stop>
     ensures meant { IfOk result (λ command. (file : List ℕ) × (config : Config) × MeansReplay (map string_bytes words.now) file config
         × (said command ≡ Replays file (narrowed_settings config))) }
     ensures place { IfOk result (λ command. HasPlace (said command)) }
-    ensures refused { OnErr result ((file : List ℕ) (config : Config) → ¬ MeansReplay (map string_bytes words.now) file config) }
+    ensures refused { IfErr result (λ stop. StopsBehind (λ words. (file : List ℕ) × (config : Config) × MeansReplay words file config) (map string_bytes words.now) stop) }
 {
     let line = Line::read(Verb::Replay, words)?;
     let Some((file, rules)) = line.alone().split_first() else {
-        return Err(NoReading);
+        return Err(Stop::End);
     };
-    let file = file_of(file)?;
-    let config = line.settings(rules)?;
+    let Ok(file) = file_of(file) else {
+        return Err(Stop::End);
+    };
+    let Ok(config) = line.settings(rules) else {
+        return Err(Stop::End);
+    };
     Ok(Command::Replay(file, config))
 }
 
@@ -212,19 +271,25 @@ fn file_of(word: &str) -> Result<ArrayString<1280>, NoReading>
 }
 
 // What the words behind `serve` ask for.
-fn serve_of(words: &[String]) -> Result<Command, NoReading>
+fn serve_of(words: &[String]) -> Result<Command, Stop>
     ensures meant { IfOk result (λ command. (config : Config) × (at : Place) × (tap : ATap) × MeansServe (map string_bytes words.now) config at tap
         × (said command ≡ Serves (narrowed_settings config) at tap)) }
     ensures place { IfOk result (λ command. HasPlace (said command)) }
-    ensures refused { OnErr result ((config : Config) (at : Place) (tap : ATap) → ¬ MeansServe (map string_bytes words.now) config at tap) }
+    ensures refused { IfErr result (λ stop. StopsBehind (λ words. (config : Config) × (at : Place) × (tap : ATap) × MeansServe words config at tap) (map string_bytes words.now) stop) }
 {
     let line = Line::read(Verb::Serve, words)?;
     let Some(link) = line.value("--link") else {
-        return Err(NoReading);
+        return Err(Stop::End);
     };
-    let at = read_link(link)?;
-    let tap = tap_of(line.has("--record"), line.has("--capture"))?;
-    let config = line.settings(line.alone())?;
+    let Ok(at) = read_link(link) else {
+        return Err(Stop::End);
+    };
+    let Ok(tap) = tap_of(line.has("--record"), line.has("--capture")) else {
+        return Err(Stop::End);
+    };
+    let Ok(config) = line.settings(line.alone()) else {
+        return Err(Stop::End);
+    };
     Ok(Command::Serve(config, at, tap))
 }
 
@@ -243,17 +308,27 @@ fn tap_of(recorded: bool, captured: bool) -> Result<Tap, NoReading>
 }
 
 // What the words behind `drive` ask for.
-fn drive_of(words: &[String]) -> Result<Command, NoReading>
+fn drive_of(words: &[String]) -> Result<Command, Stop>
     ensures meant { IfOk result (λ command. (number : ℕ) × (octets : ℕ) × MeansDrive (map string_bytes words.now) number octets
         × (said command ≡ Drives number octets)) }
     ensures place { IfOk result (λ command. HasPlace (said command)) }
-    ensures refused { OnErr result ((number octets : ℕ) → ¬ MeansDrive (map string_bytes words.now) number octets) }
+    ensures refused { IfErr result (λ stop. StopsBehind (λ words. (number : ℕ) × (octets : ℕ) × MeansDrive words number octets) (map string_bytes words.now) stop) }
 {
-    let [number, octets] = words else {
-        return Err(NoReading);
+    let Some((number, behind)) = words.split_first() else {
+        return Err(Stop::End);
     };
-    let number = number_of(number)?;
-    let octets = number_of(octets)?;
+    let Ok(number) = number_of(number) else {
+        return Err(Stop::Word(1));
+    };
+    let Some((octets, behind)) = behind.split_first() else {
+        return Err(Stop::End);
+    };
+    let Ok(octets) = number_of(octets) else {
+        return Err(Stop::Word(2));
+    };
+    if !behind.is_empty() {
+        return Err(Stop::Word(3));
+    }
     Ok(Command::Drive(number, octets))
 }
 

@@ -1,14 +1,17 @@
 //! The walk over the words behind a command.
-ghost use Rattle.std.specs.Prelude.{◌≡◌, bytes_eq, ◌≤◌, ◌&&◌, ◌<◌, nat_lt, not, length, map, None, Some, OnOk, OnErr, IfOk, is_some, option_copied, find};
+ghost use Rattle.std.specs.Prelude.{◌≡◌, ◌⊎◌, ◌++◌, ◌∷◌, [], bytes_eq, ◌≤◌, ◌&&◌, ◌<◌, nat_lt, not, false, length, map, MatchBool, None, Some, OnOk, OnErr, IfErr, IfOk, is_some, option_copied, option_map, find};
 ghost use Rattle.std.specs.String.{string_bytes};
 ghost use Rattle.slirp_config.specs.Options.{is_dashed, value_in};
-ghost use Rattle.slirp_config.specs.Walking.{walk_of, put_option, put_alone, put_apart, put_joined, put_name, put_dashed, begin, step, walked};
+ghost use Rattle.slirp_config.specs.Walking.{Fits, FitsAlone, FitsOption, HasWalked, IsGiven, IsWanted, WalkStops, begin, can_end, completed, ends, flag_of, given_of, has_link, is_both, kept, named, put_alone, put_apart, put_dashed, put_joined, put_name, put_option, stands_alone, step_with, walk_of, wants_file};
 
-use crate::options::{COUNT, Verb, takes_value};
+use crate::Stop;
+use crate::options::{COUNT, Verb, kind_of, takes_value};
+use crate::rules::is_rule;
+use crate::values::{can_have, is_file_name};
 use address_text::NoReading;
 use arrayvec::ArrayVec;
 
-/// How many words may stand by themselves: a file, and one RULE more than the settings have room for.
+/// How many of the words that stand by themselves are kept: a file, and one RULE more than the settings have room for.
 const ALONE: usize = 34;
 
 /// An option that was given, with its value; that of a flag is empty.
@@ -23,7 +26,7 @@ pub(crate) struct Given<'a> {
 pub(crate) struct Line<'a> {
     verb: Verb,
     options: ArrayVec<Given<'a>, COUNT>,
-    /// The words that stand by themselves.
+    /// The first of the words that stand by themselves.
     alone: ArrayVec<&'a str, ALONE>,
     /// The name of the option that waits for its value.
     waits: Option<&'a str>,
@@ -33,9 +36,9 @@ pub(crate) struct Line<'a> {
 
 impl<'a> Line<'a> {
     /// Reads the words behind a command, from the front.
-    pub(crate) fn read(verb: Verb, words: &'a [String]) -> Result<Line<'a>, NoReading>
-        ensures read { IfOk result (λ line. walked verb (map string_bytes words.now) ≡ Some (walk_of line)) }
-        ensures refused { OnErr result (walked verb (map string_bytes words.now) ≡ None) }
+    pub(crate) fn read(verb: Verb, words: &'a [String]) -> Result<Line<'a>, Stop>
+        ensures read { IfOk result (λ line. HasWalked verb (map string_bytes words.now) line) }
+        ensures refused { IfErr result (λ stop. WalkStops verb (map string_bytes words.now) stop) }
     {
         let mut line = Line {
             verb,
@@ -44,22 +47,131 @@ impl<'a> Line<'a> {
             waits: None,
             ended: false,
         };
-        for word in words {
-            line.take(word.as_str())?;
+        for (place, word) in words.iter().enumerate() {
+            if line.take(word.as_str()).is_err() {
+                return Err(Stop::Word(place + 1));
+            }
         }
         match line.waits {
-            Some(_) => Err(NoReading),
+            Some(_) => Err(Stop::End),
             None => Ok(line),
         }
     }
 
     // Takes the next word.
     fn take(&mut self, word: &'a str) -> Result<(), NoReading>
-        ensures taken { OnOk result (step (walk_of self.old) word.now ≡ Some (walk_of self.new)) }
-        ensures refused { OnErr result (step (walk_of self.old) word.now ≡ None) }
+        ensures taken { OnOk result (step_with kept (walk_of self.old) word.now ≡ Some (walk_of self.new)) }
+        ensures fits { OnOk result (Fits (walk_of self.old) word.now) }
+        ensures refused { OnErr result ((step_with kept (walk_of self.old) word.now ≡ None) ⊎ ¬ Fits (walk_of self.old) word.now) }
+    {
+        if !self.fits(word) {
+            return Err(NoReading);
+        }
+        self.step(word)
+    }
+
+    // Whether the next word is one with which a reading can go on, where it can be put.
+    fn fits(&self, word: &'a str) -> bool
+        ensures { MatchBool result (Fits (walk_of self.now) word.now) (¬ Fits (walk_of self.now) word.now) }
+    {
+        if !self.fits_alone(word) {
+            return false;
+        }
+        if !self.fits_option(word) {
+            return false;
+        }
+        self.can_end(word)
+    }
+
+    fn fits_alone(&self, word: &str) -> bool
+        ensures { MatchBool result (FitsAlone (walk_of self.now) word.now) (¬ FitsAlone (walk_of self.now) word.now) }
+    {
+        if self.stands_alone(word) {
+            is_wanted(self.wants_file(), word)
+        } else {
+            true
+        }
+    }
+
+    fn stands_alone(&self, word: &str) -> bool
+        ensures { result ≡ stands_alone (walk_of self.now) word.now }
+    {
+        self.ended || (self.waits.is_none() && !is_dashed(word))
+    }
+
+    fn fits_option(&self, word: &'a str) -> bool
+        ensures { MatchBool result (FitsOption (walk_of self.now) word.now) (¬ FitsOption (walk_of self.now) word.now) }
+    {
+        match self.completed(word) {
+            Some(given) => is_given(self.verb, &given) && !self.is_both_with(&given),
+            None => true,
+        }
+    }
+
+    // The option that the next word completes.
+    fn completed(&self, word: &'a str) -> Option<Given<'a>>
+        ensures { option_map given_of result ≡ completed (walk_of self.now) word.now }
     {
         if self.ended {
-            return self.put_alone(word);
+            return None;
+        }
+        match self.waits {
+            Some(name) => Some(Given { name, value: word }),
+            None if is_dashed(word) => named(self.verb, word),
+            None => None,
+        }
+    }
+
+    // Whether with this option a run would be both recorded and captured.
+    fn is_both_with(&self, given: &Given<'_>) -> bool
+        ensures { result ≡ is_both ((walk_of self.now).options ++ given_of given.now ∷ []) }
+    {
+        self.has_with(given, "--record") && self.has_with(given, "--capture")
+    }
+
+    // Whether this option or one before it has the name.
+    fn has_with(&self, given: &Given<'_>, name: &str) -> bool
+        ensures { result ≡ is_some (value_in ((walk_of self.now).options ++ given_of given.now ∷ []) name.now) }
+    {
+        self.has(name) || given.name == name
+    }
+
+    // Whether no option is wanted any more, where the word ends them.
+    fn can_end(&self, word: &str) -> bool
+        ensures { result ≡ can_end (walk_of self.now) word.now }
+    {
+        if self.ends(word) {
+            self.has_link()
+        } else {
+            true
+        }
+    }
+
+    // Whether no word behind this one is an option.
+    fn ends(&self, word: &str) -> bool
+        ensures { result ≡ ends (walk_of self.now) word.now }
+    {
+        !self.ended && self.waits.is_none() && word == "--"
+    }
+
+    // Whether the place of the link is told, or isn't wanted.
+    fn has_link(&self) -> bool
+        ensures { result ≡ has_link (walk_of self.now).verb (walk_of self.now).options }
+    {
+        match self.verb {
+            Verb::Replay => true,
+            Verb::Serve => self.has("--link"),
+        }
+    }
+
+    // Puts the next word.
+    fn step(&mut self, word: &'a str) -> Result<(), NoReading>
+        ensures taken { OnOk result (step_with kept (walk_of self.old) word.now ≡ Some (walk_of self.new)) }
+        ensures refused { OnErr result (step_with kept (walk_of self.old) word.now ≡ None) }
+    {
+        if self.ended {
+            self.put_alone(word);
+            return Ok(());
         }
         match self.waits {
             Some(name) => self.put_apart(name, word),
@@ -67,13 +179,22 @@ impl<'a> Line<'a> {
         }
     }
 
-    fn put_alone(&mut self, word: &'a str) -> Result<(), NoReading>
-        ensures taken { OnOk result (put_alone (walk_of self.old) word.now ≡ Some (walk_of self.new)) }
-        ensures refused { OnErr result (put_alone (walk_of self.old) word.now ≡ None) }
+    // Whether the next word that stands by itself names a file, and isn't a RULE.
+    fn wants_file(&self) -> bool
+        ensures { result ≡ wants_file (walk_of self.now) }
     {
-        match self.alone.try_push(word) {
-            Ok(()) => Ok(()),
-            Err(_) => Err(NoReading),
+        match self.verb {
+            Verb::Replay => self.alone.is_empty(),
+            Verb::Serve => false,
+        }
+    }
+
+    // Puts a word that stands by itself. One for which there is no room isn't kept.
+    fn put_alone(&mut self, word: &'a str)
+        ensures { put_alone kept (walk_of self.old) word.now ≡ Some (walk_of self.new) }
+    {
+        if !self.alone.is_full() {
+            self.alone.push(word);
         }
     }
 
@@ -104,18 +225,18 @@ impl<'a> Line<'a> {
 
     // Takes what stands neither behind `--` nor behind an option that waits.
     fn begin(&mut self, word: &'a str) -> Result<(), NoReading>
-        ensures taken { OnOk result (begin (walk_of self.old) word.now ≡ Some (walk_of self.new)) }
-        ensures refused { OnErr result (begin (walk_of self.old) word.now ≡ None) }
+        ensures taken { OnOk result (begin kept (walk_of self.old) word.now ≡ Some (walk_of self.new)) }
+        ensures refused { OnErr result (begin kept (walk_of self.old) word.now ≡ None) }
     {
         if word == "--" {
             self.ended = true;
             return Ok(());
         }
         if is_dashed(word) {
-            self.put_dashed(word)
-        } else {
-            self.put_alone(word)
+            return self.put_dashed(word);
         }
+        self.put_alone(word);
+        Ok(())
     }
 
     fn put_dashed(&mut self, word: &'a str) -> Result<(), NoReading>
@@ -143,6 +264,7 @@ impl<'a> Line<'a> {
         ensures refused { OnErr result (put_name (walk_of self.old) name.now ≡ None) }
     {
         match takes_value(self.verb, name) {
+            Some(true) if self.has(name) => Err(NoReading),
             Some(true) => {
                 self.waits = Some(name);
                 Ok(())
@@ -162,7 +284,7 @@ impl<'a> Line<'a> {
         }
     }
 
-    /// The words that stand by themselves, in their order.
+    /// The first 34 of the words that stand by themselves, in their order.
     pub(crate) fn alone(&self) -> &[&'a str]
         ensures { map (λ word. word.now) result.now ≡ (walk_of self.now).alone }
     {
@@ -182,6 +304,49 @@ fn find_given<'a, 'b>(options: &'b [Given<'a>], name: &str) -> Option<&'b Given<
     ensures { option_copied result ≡ find (λ given. bytes_eq given.name.now name.now) options.now }
 {
     options.iter().find(|given| given.name == name)
+}
+
+// The option that a word names with its value, or as a flag.
+fn named<'a>(verb: Verb, word: &'a str) -> Option<Given<'a>>
+    ensures { option_map given_of result ≡ named verb word.now }
+{
+    match word.split_once('=') {
+        Some((name, value)) => Some(Given { name, value }),
+        None => flag_of(verb, word),
+    }
+}
+
+fn flag_of<'a>(verb: Verb, word: &'a str) -> Option<Given<'a>>
+    ensures { option_map given_of result ≡ flag_of verb word.now }
+{
+    match takes_value(verb, word) {
+        Some(false) => Some(Given {
+            name: word,
+            value: "",
+        }),
+        _ => None,
+    }
+}
+
+// Whether the value is one that the command's option of this name can have.
+fn is_given(verb: Verb, given: &Given<'_>) -> bool
+    ensures { MatchBool result (IsGiven verb (given_of given.now)) (¬ IsGiven verb (given_of given.now)) }
+{
+    match kind_of(verb, given.name) {
+        Some(kind) => can_have(kind, given.value),
+        None => true,
+    }
+}
+
+// Whether a word that stands by itself is what is wanted: the name of a file, or a RULE.
+fn is_wanted(is_file: bool, word: &str) -> bool
+    ensures { MatchBool result (IsWanted is_file word.now) (¬ IsWanted is_file word.now) }
+{
+    if is_file {
+        is_file_name(word)
+    } else {
+        is_rule(word)
+    }
 }
 
 // Whether a word begins with a dash.

@@ -1,7 +1,7 @@
 //! The table of the options.
 ghost use Rattle.std.specs.Prelude.{◌≡◌, find, map, option_copied};
 ghost use Rattle.std.specs.Option.{option_map};
-ghost use Rattle.slirp_config.specs.Options.{takes_value, has_row, is_row};
+ghost use Rattle.slirp_config.specs.Options.{takes_value, kind_of, has_value, has_row, is_row};
 ghost use Rattle.slirp_config.specs.Walking.{row_of};
 
 /// The commands that have options.
@@ -11,10 +11,29 @@ pub(crate) enum Verb {
     Serve,
 }
 
-// An option: its name, whether a value goes with it (else it is a flag), and whether `serve` alone has it.
+/// What the value of an option can be.
+#[derive(Clone, Copy)]
+pub(crate) enum Kind {
+    /// There is none: the option is a flag.
+    Nothing,
+    Text,
+    /// A number of 16 bits.
+    Short,
+    /// A number of 64 bits.
+    Number,
+    Address,
+    /// An address, a colon and a port.
+    AddressPort,
+    /// An address, a slash and how many ones its mask has.
+    Network,
+    /// The place of the link.
+    Link,
+}
+
+// An option: its name, what its value can be, and whether `serve` alone has it.
 struct Row {
     name: &'static str,
-    has_value: bool,
+    kind: Kind,
     serve_alone: bool,
 }
 
@@ -23,12 +42,18 @@ macro_rules! rows {
     ($($name:literal $kind:ident of $commands:ident),* $(,)?) => {
         [$(Row {
             name: $name,
-            has_value: rows!(@ $kind),
+            kind: rows!(@ $kind),
             serve_alone: rows!(@ $commands),
         }),*]
     };
-    (@ value) => { true };
-    (@ flag) => { false };
+    (@ flag) => { Kind::Nothing };
+    (@ text) => { Kind::Text };
+    (@ short) => { Kind::Short };
+    (@ number) => { Kind::Number };
+    (@ address) => { Kind::Address };
+    (@ port) => { Kind::AddressPort };
+    (@ network) => { Kind::Network };
+    (@ link) => { Kind::Link };
     (@ serve) => { true };
     (@ all) => { false };
 }
@@ -37,46 +62,71 @@ macro_rules! rows {
 pub(crate) const COUNT: usize = 24;
 
 const OPTIONS: [Row; COUNT] = rows![
-    "--link" value of serve,
+    "--link" link of serve,
     "--record" flag of serve,
     "--capture" flag of serve,
-    "--net" value of all,
-    "--host" value of all,
-    "--dns" value of all,
-    "--dhcpstart" value of all,
+    "--net" network of all,
+    "--host" address of all,
+    "--dns" address of all,
+    "--dhcpstart" address of all,
     "--restrict" flag of all,
     "--no-loopback" flag of all,
-    "--hostname" value of all,
-    "--domainname" value of all,
-    "--tftp-server-name" value of all,
-    "--bootfile" value of all,
-    "--mtu" value of all,
-    "--mru" value of all,
-    "--flows" value of all,
-    "--ring" value of all,
-    "--turns" value of all,
+    "--hostname" text of all,
+    "--domainname" text of all,
+    "--tftp-server-name" text of all,
+    "--bootfile" text of all,
+    "--mtu" short of all,
+    "--mru" short of all,
+    "--flows" number of all,
+    "--ring" number of all,
+    "--turns" number of all,
     "--congestion" flag of all,
     "--no-dhcp" flag of all,
-    "--resolver" value of all,
+    "--resolver" port of all,
     "--no-dns" flag of all,
-    "--outbound" value of all,
-    "--tftp" value of all,
+    "--outbound" address of all,
+    "--tftp" text of all,
 ];
 
 /// Whether a value goes with the command's option of this name; None where it has no such option.
 pub(crate) fn takes_value(verb: Verb, name: &str) -> Option<bool>
     ensures { result ≡ takes_value verb name.now }
 {
-    value_among(&OPTIONS, verb, name)
+    match kind_of(verb, name) {
+        Some(kind) => Some(has_value(kind)),
+        None => None,
+    }
 }
 
-// Whether a value goes with the command's option of this name, by these rows.
-fn value_among(rows: &[Row], verb: Verb, name: &str) -> Option<bool>
-    ensures { result ≡ option_map (λ row. row.has_value) (find (is_row verb name.now) (map row_of rows.now)) }
+/// What the value of the command's option of this name can be; None where it has no such option.
+pub(crate) fn kind_of(verb: Verb, name: &str) -> Option<Kind>
+    ensures { result ≡ kind_of verb name.now }
+{
+    kind_among(&OPTIONS, verb, name)
+}
+
+// What the value of the command's option of this name can be, by these rows.
+fn kind_among(rows: &[Row], verb: Verb, name: &str) -> Option<Kind>
+    ensures { result ≡ option_map (λ row. row.kind) (find (is_row verb name.now) (map row_of rows.now)) }
 {
     match find_row(rows, verb, name) {
-        Some(row) => Some(row.has_value),
+        Some(row) => Some(row.kind),
         None => None,
+    }
+}
+
+fn has_value(kind: Kind) -> bool
+    ensures { result ≡ has_value kind }
+{
+    match kind {
+        Kind::Nothing => false,
+        Kind::Text
+        | Kind::Short
+        | Kind::Number
+        | Kind::Address
+        | Kind::AddressPort
+        | Kind::Network
+        | Kind::Link => true,
     }
 }
 

@@ -1,10 +1,10 @@
 //! RULEs: ports of the host that are given to a guest.
-ghost use Rattle.std.specs.Prelude.{◌≡◌, ◌↔◌, ℕ, ◌∷◌, ◌++◌, List, [], IfOk, IsTrue, OnErr, OnOk, codes, map, take};
+ghost use Rattle.std.specs.Prelude.{◌≡◌, ◌↔◌, ℕ, ◌∷◌, ◌++◌, List, [], IfOk, IsTrue, MatchBool, OnErr, OnOk, codes, map, take};
 ghost use Rattle.host_policy.specs.declared.Forward.{Forward as AForward};
 ghost use Rattle.host_policy.specs.declared.Proto.{Proto as AProto};
 ghost use Rattle.net_octets.specs.declared.Endpoint.{Endpoint as AnEndpoint};
 ghost use Rattle.slirp_config.specs.Narrowing.{held_forwards};
-ghost use Rattle.slirp_config.specs.Rules.{AreRules, IsAddressOr, IsForward, IsPortAt, IsRule, IsType};
+ghost use Rattle.slirp_config.specs.Rules.{AreRules, IsAddressOr, IsForward, IsPortAt, IsRule, IsRuleWord, IsType};
 
 use address_text::{NoReading, read_address, read_short, split_at};
 use arrayvec::ArrayVec;
@@ -65,6 +65,16 @@ fn put_one(forward: Forward, forwards: &mut ArrayVec<Forward, ROOM>)
 {
     if !forwards.is_full() {
         forwards.push(forward);
+    }
+}
+
+/// Whether a word is a RULE.
+pub(crate) fn is_rule(word: &str) -> bool
+    ensures { MatchBool result (IsRuleWord word.now) (¬ IsRuleWord word.now) }
+{
+    match read_rule(word, Ip4(0)) {
+        Ok(_) => true,
+        Err(_) => false,
     }
 }
 

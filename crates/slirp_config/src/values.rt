@@ -1,14 +1,20 @@
 //! The values of options beside numbers and addresses: networks, texts and the place of the link.
-ghost use Rattle.std.specs.Prelude.{◌≡◌, ◌∷◌, ◌<◌, ◌≤◌, ℕ, IfOk, OnErr, length};
+ghost use Rattle.std.specs.Prelude.{◌≡◌, ◌∷◌, ◌<◌, ◌≤◌, ℕ, IfOk, MatchBool, OnErr, length};
 ghost use Rattle.host_policy.specs.Ranges.{mask_of};
 ghost use Rattle.world_face.specs.Journal.{AreOctets, AtPath, IsPlace, Place, place_of as link_place};
 ghost use Rattle.address_text.specs.Texts.{IsNumber};
-ghost use Rattle.slirp_config.specs.Texts.{IsNetwork, IsLink, held_folder, held_text};
+ghost use Rattle.slirp_config.specs.Values.{CanHave};
+ghost use Rattle.slirp_config.specs.declared.options.Kind.TheVariants.{Network};
+ghost use Rattle.slirp_config.specs.Texts.{IsFile, IsNetwork, IsLink, held_folder, held_text};
 
-use address_text::{NoReading, read_address, read_endpoint, read_number, split_at};
+use crate::options::Kind;
+use address_text::{NoReading, read_address, read_endpoint, read_number, read_short, split_at};
 use arrayvec::{ArrayString, ArrayVec};
 use net_octets::Ip4;
 use world_face::LinkAt;
+
+/// The most octets of a file's name.
+const MOST_NAME: usize = 1280;
 
 /// A network and its mask: an address, and how many ones the mask has.
 pub(crate) fn read_network(text: &[u8]) -> Result<(Ip4, Ip4), NoReading>
@@ -66,6 +72,37 @@ pub(crate) fn held_folder(text: &str) -> ArrayString<1024>
             refused.push('\0');
             refused
         }
+    }
+}
+
+/// Whether a word can name a file: it has 1 to 1,280 octets.
+pub(crate) fn is_file_name(word: &str) -> bool
+    ensures { MatchBool result (IsFile word.now) (¬ IsFile word.now) }
+{
+    !word.is_empty() && word.len() <= MOST_NAME
+}
+
+/// Whether an option of this kind can have the value.
+pub(crate) fn can_have(kind: Kind, value: &str) -> bool
+    ensures { MatchBool result (CanHave kind value.now) (¬ CanHave kind value.now) }
+{
+    match kind {
+        Kind::Nothing | Kind::Text => true,
+        Kind::Short => read_short(value.as_bytes()).is_ok(),
+        Kind::Number => read_number(value.as_bytes()).is_ok(),
+        Kind::Address => read_address(value.as_bytes()).is_ok(),
+        Kind::AddressPort => read_endpoint(value.as_bytes()).is_ok(),
+        Kind::Network => is_network(value),
+        Kind::Link => read_link(value).is_ok(),
+    }
+}
+
+fn is_network(value: &str) -> bool
+    ensures { MatchBool result (CanHave Network value.now) (¬ CanHave Network value.now) }
+{
+    match read_network(value.as_bytes()) {
+        Ok(_) => true,
+        Err(_) => false,
     }
 }
 

@@ -4,7 +4,7 @@
 
 use host_policy::{Forward, Proto, SlirpConfig};
 use net_octets::{Endpoint, Ip4};
-use slirp_config::{Command, Tap, WordFault, read_words};
+use slirp_config::{Command, Stop, Tap, WordFault, read_words};
 use std::alloc::{AllocError, Global};
 use std::{env, fs, io};
 use world_face::LinkAt;
@@ -37,10 +37,21 @@ fn meaning_of_words(alloc: Global, words: &Vec<String>) -> Result<String, AllocE
         Ok(Command::Replay(file, config)) => replay_of(alloc, file.as_str(), config),
         Ok(Command::Serve(config, at, tap)) => serve_of(alloc, config, at, *tap),
         Ok(Command::Drive(number, octets)) => format!(in alloc; "drive {number} {octets}"),
-        Err(WordFault::Usage) => "no reading".to_string(alloc),
+        Ok(Command::Help) => "help".to_string(alloc),
+        Ok(Command::Version) => "version".to_string(alloc),
+        Err(WordFault::Usage(Stop::Word(place))) => stopped_at(alloc, words, *place),
+        Err(WordFault::Usage(Stop::End)) => "no reading: a word is missing".to_string(alloc),
         Err(WordFault::BadConfig(field)) => {
             format!(in alloc; "{} is out of its range", field.name())
         }
+    }
+}
+
+// The word at this place, counted from 0, by which no reading can go on.
+fn stopped_at(alloc: Global, words: &[String], place: usize) -> Result<String, AllocError> {
+    match words.get(place) {
+        Some(word) => format!(in alloc; "no reading: word {} {word}", place.saturating_add(1)),
+        None => "no reading of no word".to_string(alloc),
     }
 }
 

@@ -1,8 +1,13 @@
-use Rattle.std.proofs.Common.{List, map, string_bytes, sym, ap, subst}
+use Rattle.std.proofs.Common.{◌≡◌, List, map, Result, Err, string_bytes, sym, ap, subst}
+use Rattle.slirp_config.specs.declared.Command.{Command}
+use Rattle.slirp_config.specs.declared.Stop.{Stop}
+use Rattle.slirp_config.specs.declared.WordFault.{WordFault}
+use Rattle.slirp_config.specs.declared.WordFault.TheVariants.{Usage}
+use Rattle.slirp_config.specs.Stops.{StopsAt}
 use Rattle.slirp_config.specs.Meaning.{Means}
 use Rattle.slirp_config.specs.Options.{Word}
 use Rattle.slirp_config.proofs.Answered.{answered}
-use Rattle.slirp_config.proofs.Commanded.{one_meaning}
+use Rattle.slirp_config.proofs.Commanded.{one_meaning, stopped}
 use Rattle.slirp_config.proofs.read_words.Goals as goal
 
 pub returns-in-Ok-clause-meant : goal.returns-in-Ok-clause-meant
@@ -27,4 +32,12 @@ returns-in-Ok-clause-only c =
     (answered (Means words) (one_meaning words) c.in-Ok.command m.0 means m.2 c.checked.result c.checked.ensures.same c.checked.ensures.sound c.checked.ensures.whole c.checked.ensures.broken).only
 
 pub returns-in-Err-clause-only : goal.returns-in-Err-clause-only
-returns-in-Err-clause-only c = λ meaning m. absurd (c.in-Err.ensures.refused meaning (subst (λ (w : List Word). Means w meaning) (ap (map string_bytes) (sym c.as_slice.ensures.value)) m))
+returns-in-Err-clause-only c = λ meaning m. absurd (stopped (map string_bytes c.as_slice.result.now) _ c.in-Err.ensures.refused (meaning, subst (λ (w : List Word). Means w meaning) (ap (map string_bytes) (sym c.as_slice.ensures.value)) m))
+
+same_stop : (one other : Stop) → ◌≡◌ {A = Result Command WordFault} (Err (Usage one)) (Err (Usage other)) → one ≡ other
+same_stop one other is = cc
+
+pub returns-in-Err-clause-usage : goal.returns-in-Err-clause-usage
+returns-in-Err-clause-usage c = λ stop is.
+    subst (λ (s : Stop). StopsAt (map string_bytes c.args.words.now.items) s) (same_stop c.in-Err.stop stop is)
+    (subst (λ (w : List Word). StopsAt w c.in-Err.stop) (ap (map string_bytes) c.as_slice.ensures.value) c.in-Err.ensures.refused)

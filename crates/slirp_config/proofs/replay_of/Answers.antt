@@ -1,59 +1,82 @@
-use Rattle.std.proofs.Common.{◌<◌, ◌≤◌, length, ◌∷◌, List, map, string_bytes, sym, ◌∙◌, ap, subst, arith}
-use Rattle.std.proofs.lemmas.List.{length-map}
+use Rattle.std.proofs.Common.{◌≡◌, length, take, ◌∷◌, List, map, string_bytes, sym, ◌∙◌, ap, subst, arith}
+use Rattle.std.proofs.lemmas.List.{length-map, length-take}
 use Rattle.std.proofs.lemmas.Result.{err_from_is_err_and}
+use Rattle.host_policy.specs.declared.Forward.{Forward}
+use Rattle.slirp_config.specs.declared.Stop.{Stop}
+use Rattle.slirp_config.specs.declared.options.Verb.{Verb}
 use Rattle.slirp_config.specs.declared.options.Verb.TheVariants.{Replay}
 use Rattle.slirp_config.specs.Meaning.{AreSettings, Replays}
-use Rattle.slirp_config.specs.Options.{Word, value_in}
+use Rattle.slirp_config.specs.Narrowing.{narrowed_settings}
+use Rattle.slirp_config.specs.Options.{Word, Given, value_in}
 use Rattle.slirp_config.specs.Rules.{AreRules}
-use Rattle.slirp_config.specs.Walking.{Walk, walk_of}
-use Rattle.slirp_config.proofs.Meant.{never, one_walk, replay_means, replay_meant}
+use Rattle.slirp_config.specs.Stops.{StopsBehind}
+use Rattle.slirp_config.specs.Walking.{AreWanted, Walk, kept, walk_of}
+use Rattle.slirp_config.proofs.Completing.{replay_begins}
+use Rattle.slirp_config.proofs.Meant.{ReplayMeant, one_walk, replay_means, replay_meant}
 use Rattle.slirp_config.proofs.Only.{tail_of}
 use Rattle.slirp_config.proofs.Ruled.{rule_words}
+use Rattle.slirp_config.proofs.Settled.{with_forwards}
+use Rattle.slirp_config.proofs.Stopping.{replay_stops}
+use Rattle.slirp_config.proofs.Whole.{front_of, rules_front, whole_rules}
 use Rattle.slirp_config.proofs.replay_of.Goals as goal
 
 pub returns-in_err-line-clause-refused : goal.returns-in_err-line-clause-refused
-returns-in_err-line-clause-refused c = let p = err_from_is_err_and c.from_residual.result c.from_residual.ensures.1 in rw (p.1) (λ file config m. let r = replay_meant _ file config m in never _ r.walk c.in_err-line.ensures.refused r.read)
+returns-in_err-line-clause-refused c =
+    let p = err_from_is_err_and c.from_residual.result c.from_residual.ensures.1 in
+    rw (p.1) (subst (λ (stop : Stop). StopsBehind ReplayMeant (map string_bytes c.args.words.now) stop) (sym p.2) (replay_stops (map string_bytes c.args.words.now) _ c.in_err-line.ensures.refused))
 
 pub returns-in_default-clause-refused : goal.returns-in_default-clause-refused
-returns-in_default-clause-refused c = λ file config m.
-    let r = replay_meant _ file config m in
-    let same = one_walk Replay (map string_bytes c.args.words.now) (walk_of c.in_ok-line.line) r.walk c.in_ok-line.ensures.read r.read in
-    let some = ap length (c.alone.ensures ∙ ap (λ (w : Walk). w.alone) same ∙ r.alone) in
-    absurd (omega (arith, c.in_default.ensures.cases, some, length-map c.alone.result.now (λ word. word.now)))
+returns-in_default-clause-refused c = (
+  replay_begins (map string_bytes c.args.words.now) c.in_ok-line.ensures.read.far,
+  (λ read_as.
+      let (file, config, m) = read_as in
+      let r = replay_meant _ file config m in
+      let read = c.in_ok-line.ensures.read in
+      let same = one_walk Replay (map string_bytes c.args.words.now) read.walk r.walk read.walks r.read in
+      let some = ap length (c.alone.ensures ∙ sym (ap (λ (w : Walk). w.alone) read.keeps) ∙ ap (λ (w : Walk). kept w.alone) same ∙ ap kept r.alone) in
+      absurd (omega (arith, c.in_default.ensures.cases, some, length-map c.alone.result.now (λ word. word.now), length-take 33 r.rules))),
+)
 
-pub returns-in_err-file-clause-refused : goal.returns-in_err-file-clause-refused
-returns-in_err-file-clause-refused c = let p = err_from_is_err_and c.from_residual-in_err-file.result c.from_residual-in_err-file.ensures.1 in rw (p.1) (λ file config m.
-    let r = replay_meant _ file config m in
-    let same = one_walk Replay (map string_bytes c.args.words.now) (walk_of c.in_ok-line.line) r.walk c.in_ok-line.ensures.read r.read in
-    let alone = tail_of c.in-Some.file.now.now file (rule_words c.in-Some.rules.now) r.rules (ap rule_words (sym c.in-Some.ensures.cases.0) ∙ c.alone.ensures ∙ ap (λ (w : Walk). w.alone) same ∙ r.alone) in
-    c.in_err-file.ensures.refused (subst (λ (f : Word). (0 < length f) × (length f ≤ 1280)) (sym alone.0) (r.some, r.fits)))
-
-pub returns-in_err-config-clause-refused : goal.returns-in_err-config-clause-refused
-returns-in_err-config-clause-refused c = let p = err_from_is_err_and c.from_residual-in_err-config.result c.from_residual-in_err-config.ensures.1 in rw (p.1) (λ file config m.
-    let r = replay_meant _ file config m in
-    let same = one_walk Replay (map string_bytes c.args.words.now) (walk_of c.in_ok-line.line) r.walk c.in_ok-line.ensures.read r.read in
-    let alone = tail_of c.in-Some.file.now.now file (rule_words c.in-Some.rules.now) r.rules (ap rule_words (sym c.in-Some.ensures.cases.0) ∙ c.alone.ensures ∙ ap (λ (w : Walk). w.alone) same ∙ r.alone) in
-    c.in_err-config.ensures.refused config
-    (subst (λ (w : Walk). AreSettings (value_in w.options) config) (sym same) r.settings)
-    (subst (λ (t : List Word). AreRules t config.dhcp_start config.forwards) (sym alone.1) r.forwards))
+pub returns-in_default-settings-clause-refused : goal.returns-in_default-settings-clause-refused
+returns-in_default-settings-clause-refused c = (
+  replay_begins (map string_bytes c.args.words.now) c.in_ok-line.ensures.read.far,
+  (λ read_as.
+      let (file, config, m) = read_as in
+      let r = replay_meant _ file config m in
+      let read = c.in_ok-line.ensures.read in
+      let same = one_walk Replay (map string_bytes c.args.words.now) read.walk r.walk read.walks r.read in
+      let alone = tail_of c.in-Some.file.now.now file (rule_words c.in-Some.rules.now) (take 33 r.rules)
+      (ap rule_words (sym c.in-Some.ensures.cases.0) ∙ c.alone.ensures ∙ sym (ap (λ (w : Walk). w.alone) read.keeps) ∙ ap (λ (w : Walk). kept w.alone) same ∙ ap kept r.alone) in
+      let options : r.walk.options ≡ (walk_of c.in_ok-line.line).options = sym (ap (λ (w : Walk). w.options) same) ∙ ap (λ (w : Walk). w.options) read.keeps in
+      let front = take 33 config.forwards in
+      c.in_default-settings.ensures.refused (record config { forwards = front })
+      (with_forwards (value_in (walk_of c.in_ok-line.line).options) config front (subst (λ (o : List Given). AreSettings (value_in o) config) options r.settings))
+      (subst (λ (t : List Word). AreRules t config.dhcp_start front) (sym alone.1) (rules_front 33 r.rules config.dhcp_start config.forwards r.forwards))),
+)
 
 pub returns-clause-meant : goal.returns-clause-meant
 returns-clause-meant c =
-    let file = c.in_ok-file.file.bytes in
-    let set = c.in_ok-config.ensures.set in
-    let named = c.in_ok-file.ensures.file in
-    let alone = sym c.alone.ensures ∙ ap rule_words c.in-Some.ensures.cases.0 ∙ ap (λ (f : Word). f ∷ rule_words c.in-Some.rules.now) named.0 in (
+    let file = c.in-Ok.file.bytes in
+    let set = c.in-Ok-settings.ensures.set in
+    let named = c.in-Ok.ensures.file in
+    let read = c.in_ok-line.ensures.read in
+    let front = front_of c.in-Some.file.now.now (rule_words c.in-Some.rules.now) read.walk.alone (ap rule_words (sym c.in-Some.ensures.cases.0) ∙ c.alone.ensures ∙ sym (ap (λ (w : Walk). w.alone) read.keeps)) in
+    let wanted = subst (λ (a : List Word). AreWanted Replay a) front.1 (subst (λ (v : Verb). AreWanted v read.walk.alone) read.verb_is read.good.wanted) in
+    let whole = whole_rules 33 front.0 (rule_words c.in-Some.rules.now) set.0.dhcp_start set.0.forwards (omega arith) front.2 wanted.1 set.2 in
+    let settings = with_forwards (value_in (walk_of c.in_ok-line.line).options) set.0 whole.0 set.1 in
+    let config = record set.0 { forwards = whole.0 } in (
       file,
-      set.0,
-      replay_means (map string_bytes c.args.words.now) file set.0 (record {
-        walk = walk_of c.in_ok-line.line;
-        read = c.in_ok-line.ensures.read;
-        rules = rule_words c.in-Some.rules.now;
-        alone = alone;
+      config,
+      replay_means (map string_bytes c.args.words.now) file config (record {
+        walk = read.walk;
+        read = read.walks;
+        good = read.good;
+        rules = front.0;
+        alone = front.1 ∙ ap (λ (f : Word). f ∷ front.0) named.0;
         some = named.1;
         fits = named.2;
-        forwards = set.2;
-        settings = set.1;
+        forwards = whole.1;
+        settings = subst (λ (o : List Given). AreSettings (value_in o) config) (sym (ap (λ (w : Walk). w.options) read.keeps)) settings;
       }),
-      ap (Replays file) set.3,
+      ap (Replays file) (set.3 ∙ ap (λ (f : List Forward). record (narrowed_settings set.0) { forwards = f }) whole.2),
     )

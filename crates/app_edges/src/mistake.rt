@@ -1,0 +1,113 @@
+// How a mistake in the words, and a port that the host refused, are named.
+#![tactic(auto, using(world_face::proofs::Putting::puts_then, world_face::proofs::Putting::puts_failed, replay::proofs::Putting::added_none))]
+
+ghost use Rattle.std.specs.Prelude.{◌≡◌, ◌++◌, ◌≤◌, ◌+◌, ◌∷◌, [], map, take, codes, decimal};
+ghost use Rattle.std.specs.String.{string_bytes};
+ghost use Rattle.arrayvec.specs.ArrayString.{array_string_len};
+ghost use Rattle.address_text.specs.Texts.{endpoint_text};
+ghost use Rattle.world_face.specs.Puts.{Puts};
+ghost use Rattle.app_edges.specs.Texts.{forward_text, mistake_text, shown, shown_octet, word_text};
+
+use crate::status::tell_number;
+use arrayvec::{ArrayString, ArrayVec};
+use host_policy::{Forward, Proto};
+use itoa::Buffer;
+use net_octets::{Endpoint, Ip4};
+use slirp_config::Stop;
+use world_face::{Failed, Sink};
+
+/// The most octets of a word that are shown.
+const SHOWN: usize = 200;
+
+/// Puts a line that names the word by which no reading goes on, or says that one is missing.
+pub(crate) fn tell_mistake<E: Sink>(err: &mut E, words: &[String], stop: Stop) -> Result<(), Failed>
+    ensures { Puts (E.holds err.old) (E.holds err.new) (E.faults err.old) (E.faults err.new) (mistake_text (map string_bytes words.now) stop ++ 10 ∷ []) result }
+{
+    match stop {
+        Stop::Word(place) => match words.get(place) {
+            Some(word) => tell_word(err, place as u64 + 1, word.as_str().as_bytes()),
+            None => err.put(MISSING),
+        },
+        Stop::End => err.put(MISSING),
+    }
+}
+
+const MISSING: &[u8] = b"slirpd: a word is missing\n";
+
+// Puts the line of a word with its number.
+fn tell_word<E: Sink>(err: &mut E, number: u64, word: &[u8]) -> Result<(), Failed>
+    ensures { Puts (E.holds err.old) (E.holds err.new) (E.faults err.old) (E.faults err.new) (word_text number word.now ++ 10 ∷ []) result }
+{
+    let shown = shown(word);
+    tell_number(err, b"slirpd: word ", number, b": ")?;
+    err.put(shown.as_slice())?;
+    err.put(b"\n")
+}
+
+// A word as it is shown: what is no letter, digit or sign of ASCII is a question mark, and of a longer one the first 200 octets are put.
+fn shown(word: &[u8]) -> ArrayVec<u8, SHOWN>
+    ensures { result.items ≡ shown word.now }
+{
+    let front = &word[..word.len().min(SHOWN)];
+    let mut shown = ArrayVec::new();
+    for octet in front {
+        shown.push(shown_octet(*octet));
+    }
+    shown
+}
+
+fn shown_octet(octet: u8) -> u8
+    ensures { result ≡ shown_octet octet }
+{
+    match octet {
+        0x20..=0x7e => octet,
+        _ => b'?',
+    }
+}
+
+/// Puts a port of the host as RULEs name it.
+pub(crate) fn put_forward<E: Sink>(err: &mut E, forward: &Forward) -> Result<(), Failed>
+    ensures { Puts (E.holds err.old) (E.holds err.new) (E.faults err.old) (E.faults err.new) (forward_text forward.now) result }
+{
+    let at = endpoint_string(forward.host);
+    err.put(match forward.proto {
+        Proto::Tcp => b"tcp ",
+        Proto::Udp => b"udp ",
+    })?;
+    err.put(at.as_str().as_bytes())
+}
+
+#[tactic(auto, unfolding(address_text::specs::Texts::endpoint_text, address_text::specs::Texts::address_text))]
+fn endpoint_string(at: Endpoint) -> ArrayString<21>
+    ensures { result.bytes ≡ endpoint_text at }
+{
+    let Ip4(address) = at.addr;
+    let mut text = ArrayString::new();
+    push_part(&mut text, (address >> 24) as u8);
+    text.push_str(".");
+    push_part(&mut text, (address >> 16 & 0xff) as u8);
+    text.push_str(".");
+    push_part(&mut text, (address >> 8 & 0xff) as u8);
+    text.push_str(".");
+    push_part(&mut text, (address & 0xff) as u8);
+    text.push_str(":");
+    push_port(&mut text, at.port);
+    text
+}
+
+fn push_part(text: &mut ArrayString<21>, part: u8)
+    requires { array_string_len text.old + 3 ≤ 21 }
+    ensures bytes { text.new.bytes ≡ text.old.bytes ++ decimal part }
+    ensures len { array_string_len text.new ≤ array_string_len text.old + 3 }
+{
+    let mut buffer = Buffer::new();
+    text.push_str(buffer.format(part));
+}
+
+fn push_port(text: &mut ArrayString<21>, port: u16)
+    requires { array_string_len text.old + 5 ≤ 21 }
+    ensures { text.new.bytes ≡ text.old.bytes ++ decimal port }
+{
+    let mut buffer = Buffer::new();
+    text.push_str(buffer.format(port));
+}

@@ -1,0 +1,69 @@
+-- What every walk keeps: no option stands twice, each is one of the command's, and one that waits for its value wasn't given.
+use Rattle.std.proofs.Common.{◌≡◌, ◌<◌, ◌≤◌, Bool, true, false, List, [], ◌∷◌, ◌++◌, length, bytes_eq, Option, Some, None, MatchOption, is_some, refl, sym, ap, subst, arith, length-append}
+use Rattle.std.specs.List.{list_any, list_all}
+use Rattle.host_policy.specs.Ranges.{none_twice}
+use Rattle.slirp_config.specs.declared.options.Verb.{Verb}
+use Rattle.slirp_config.specs.Options.{Word, Given, same_name, takes_value, value_in}
+use Rattle.slirp_config.specs.Walking.{IsProper, Walk, fresh, option_names, step}
+use Rattle.address_text.proofs.Parting.{both, pair}
+use Rattle.slirp_config.proofs.Back.{same_walk, stepped, Stepped, Ends, Alone, Joins, Waits, Flags, value_back}
+use Rattle.slirp_config.proofs.Few.{few, once_more}
+use Rattle.slirp_config.proofs.Names.{name_known}
+use Rattle.slirp_config.proofs.Steps.{given}
+
+abbrev is_known : Given → Bool
+is_known g = list_any (λ n. bytes_eq n g.name) option_names
+
+known_more : (o : List Given) (g : Given) → list_all is_known o ≡ true → is_known g ≡ true → list_all is_known (o ++ g ∷ []) ≡ true
+known_more [] g all is = pair (is_known g) true is refl
+known_more (x ∷ xs) g all is =
+    let parts = both (is_known x) (list_all is_known xs) all in
+    pair (is_known x) (list_all is_known (xs ++ g ∷ [])) parts.0 (known_more xs g parts.1 is)
+
+pub fresh_proper : (verb : Verb) → IsProper (fresh verb)
+fresh_proper verb = record { once = refl; known = refl; waiting = tt; quiet = λ ended. absurd (cc ended) }
+
+-- there is room for one that wasn't given
+pub has_room : (verb : Verb) (o : List Given) (name value : Word) (b : Bool) → none_twice same_name o ≡ true → list_all is_known o ≡ true → takes_value verb name ≡ Some b → is_some (value_in o name) ≡ false → length o < 24
+has_room verb o name value b once known takes free =
+    let g = given name value in
+    let more : length (o ++ g ∷ []) ≤ 24 = few option_names (o ++ g ∷ []) (once_more o g once free) (known_more o g known (name_known verb name b takes)) in
+    omega (arith, more, length-append o (g ∷ []))
+
+module _ (verb : Verb) (o : List Given) (a : List Word) (once : none_twice same_name o ≡ true) (known : list_all is_known o ≡ true) where
+  -- between two pieces
+  same_proper : (v : Walk) → v.options ≡ o → v.waits ≡ None → IsProper v
+  same_proper v options waits = record {
+    once = subst (λ (l : List Given). none_twice same_name l ≡ true) (sym options) once;
+    known = subst (λ (l : List Given). list_all is_known l ≡ true) (sym options) known;
+    waiting = subst (λ (t : Option Word). MatchOption t (Unit {0}) (λ name. (takes_value v.verb name ≡ Some true) × (is_some (value_in v.options name) ≡ false))) (sym waits) tt;
+    quiet = λ ended. waits;
+  }
+
+  put_proper : (name value : Word) (b : Bool) → takes_value verb name ≡ Some b → is_some (value_in o name) ≡ false → (v : Walk) → v.options ≡ o ++ given name value ∷ [] → v.waits ≡ None → IsProper v
+  put_proper name value b takes free v options waits = record {
+    once = subst (λ (l : List Given). none_twice same_name l ≡ true) (sym options) (once_more o (given name value) once free);
+    known = subst (λ (l : List Given). list_all is_known l ≡ true) (sym options) (known_more o (given name value) known (name_known verb name b takes));
+    waiting = subst (λ (t : Option Word). MatchOption t (Unit {0}) (λ n. (takes_value v.verb n ≡ Some true) × (is_some (value_in v.options n) ≡ false))) (sym waits) tt;
+    quiet = λ ended. waits;
+  }
+
+  by_form : (word : Word) (v : Walk) → Stepped verb o a word v → IsProper v
+  by_form word v (Ends is after) = same_proper v (ap (λ (w : Walk). w.options) after) (ap (λ (w : Walk). w.waits) after)
+  by_form word v (Alone plain after) = same_proper v (ap (λ (w : Walk). w.options) after) (ap (λ (w : Walk). w.waits) after)
+  by_form word v (Joins name value is takes some free after) = put_proper name value true takes free v (ap (λ (w : Walk). w.options) after) (ap (λ (w : Walk). w.waits) after)
+  by_form word v (Waits takes free after) = subst IsProper (sym after) (record { once = once; known = known; waiting = (takes, free); quiet = λ ended. absurd (cc ended) })
+  by_form word v (Flags takes free after) = put_proper word [] false takes free v (ap (λ (w : Walk). w.options) after) (ap (λ (w : Walk). w.waits) after)
+
+  by_state : (waits : Option Word) (ended : Bool) → IsProper (record { verb = verb; options = o; alone = a; waits = waits; ended = ended }) → (word : Word) (v : Walk)
+      → step (record { verb = verb; options = o; alone = a; waits = waits; ended = ended }) word ≡ Some v → IsProper v
+  by_state waits true is word v h =
+      let same = same_walk (record { verb = verb; options = o; alone = a ++ word ∷ []; waits = waits; ended = true }) v h in
+      subst IsProper same (record { once = is.once; known = is.known; waiting = is.waiting; quiet = is.quiet })
+  by_state None false is word v h = by_form word v (stepped verb o a word v h)
+  by_state (Some name) false is word v h =
+      let put = value_back verb o a name word v h in
+      put_proper name word true is.waiting.0 put.free v (ap (λ (w : Walk). w.options) put.after) (ap (λ (w : Walk). w.waits) put.after)
+
+pub still_proper : (walk next : Walk) (word : Word) → step walk word ≡ Some next → IsProper walk → IsProper next
+still_proper walk next word is proper = by_state walk.verb walk.options walk.alone proper.once proper.known walk.waits walk.ended proper word next is
